@@ -1,0 +1,4 @@
+pub mod Accesses
+pub mod Events
+pub mod Held
+pub mod Schedule

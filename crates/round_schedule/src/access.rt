@@ -1,0 +1,67 @@
+use pages::Width;
+use rv64_decode::{AcquireRelease, FenceMode, FenceSet};
+
+/// What one instruction did to memory, or the fence that it was.
+///
+/// `place` is the number of instructions that the hart had done before this one. `read` and `written`
+/// are the numbers in memory, without any extension.
+#[derive(Clone, Copy, Debug, PartialEq, Eq)]
+pub enum Access {
+    /// A plain load (manual, section 2.6).
+    Load {
+        width: Width,
+        place: u64,
+        address: u64,
+        read: u64,
+    },
+    /// A plain store (manual, section 2.6).
+    Store {
+        width: Width,
+        place: u64,
+        address: u64,
+        written: u64,
+    },
+    /// A load-reserved, LR (manual, section 8.2).
+    LoadReserved {
+        width: Width,
+        ordering: AcquireRelease,
+        place: u64,
+        address: u64,
+        read: u64,
+    },
+    /// A store-conditional, SC (manual, section 8.2): it wrote a value, or it failed.
+    StoreConditional {
+        width: Width,
+        ordering: AcquireRelease,
+        place: u64,
+        address: u64,
+        written: Option<u64>,
+    },
+    /// An atomic memory operation, AMO (manual, section 8.4).
+    Atomic {
+        width: Width,
+        ordering: AcquireRelease,
+        place: u64,
+        address: u64,
+        read: u64,
+        written: u64,
+    },
+    /// A fence, which touches no byte (manual, section 2.7).
+    Fence {
+        before: FenceSet,
+        after: FenceSet,
+        mode: FenceMode,
+        place: u64,
+    },
+}
+
+/// The answer of one instruction.
+#[derive(Clone, Copy, Debug, PartialEq, Eq)]
+pub enum Stepped {
+    /// It is done, and left this access where it made one.
+    Done(Option<Access>),
+    /// It has to wait for the serial phase, and changed nothing.
+    Waits,
+    /// It stopped its hart with this code, and changed nothing else.
+    Stopped(u8),
+}
