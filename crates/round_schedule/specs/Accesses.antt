@@ -1,8 +1,6 @@
 -- What is said of one access, whatever its kind.
-use Rattle.std.specs.Prelude.{◌≡◌, ℕ, ◌+◌, ◌-◌, ◌==◌, ◌&&◌, Bool, true, false, Option, Some, None}
-use Rattle.pages.specs.declared.access.Width.{Width}
+use Rattle.std.specs.Prelude.{ℕ, ◌-◌, ◌&&◌, Bool, true, false, Option, Some, None}
 use Rattle.pages.specs.Memory.{width_bytes, in_range, byte_of}
-use Rattle.rv64_decode.specs.declared.ordering.AcquireRelease.{AcquireRelease}
 use Rattle.rv64_decode.specs.declared.ordering.FenceMode.{FenceMode}
 use Rattle.rv64_decode.specs.declared.ordering.FenceMode.TheVariants.{Normal, Tso}
 use Rattle.rv64_decode.specs.declared.ordering.FenceSet.{FenceSet}

@@ -1,5 +1,5 @@
 -- Events: accesses with their round, hart and phase.
-use Rattle.std.specs.Prelude.{ℕ, List, map, Bool, true, false, ◌&&◌}
+use Rattle.std.specs.Prelude.{ℕ, List, map, Bool, true, false}
 use Rattle.round_schedule.specs.declared.access.Access.{Access}
 use Rattle.round_schedule.specs.declared.event.Event.{Event}
 use Rattle.round_schedule.specs.declared.event.Phase.{Phase}

@@ -1,11 +1,9 @@
 -- Reservations, read off a trace (manual, section 8.2): a hart's is the bytes of its last LR, unless an SC of its own
 -- or a write of another hart to one of these bytes came after.
-use Rattle.std.specs.Prelude.{◌≡◌, ℕ, zero, suc, ◌+◌, ◌==◌, ◌||◌, Bool, true, false, if◌then◌else◌, List, [], ◌∷◌, Option, Some, None}
-use Rattle.pages.specs.declared.access.Width.{Width}
-use Rattle.pages.specs.declared.access.Width.TheVariants.{W1}
+use Rattle.std.specs.Prelude.{ℕ, zero, suc, ◌+◌, ◌==◌, ◌||◌, Bool, false, if◌then◌else◌, List, [], ◌∷◌, Option, Some, None}
 use Rattle.pages.specs.Memory.{width_bytes}
 use Rattle.round_schedule.specs.declared.access.Access.{Access}
-use Rattle.round_schedule.specs.declared.access.Access.TheVariants.{Load, Store, LoadReserved, StoreConditional, Atomic, Fence}
+use Rattle.round_schedule.specs.declared.access.Access.TheVariants.{LoadReserved, StoreConditional}
 use Rattle.round_schedule.specs.declared.event.Event.{Event}
 use Rattle.round_schedule.specs.declared.span.Span.{Span}
 use Rattle.round_schedule.specs.Accesses.{writes}

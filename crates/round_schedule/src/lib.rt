@@ -1,10 +1,14 @@
 //! What a run is: accesses and events, reservations, and the schedule of a round over any set of instructions.
+//!
+//! The definitions stand in `specs/`, and speak of any set of instructions; the laws on them are the contracts of `laws`.
 #![tactic(auto)]
 
 mod access;
 mod event;
+mod laws;
 mod span;
 
 pub use access::{Access, Stepped};
 pub use event::{Event, Phase};
+pub use laws::{commit_is_last_store, hart_round_is_longest};
 pub use span::Span;
