@@ -1,3 +1,6 @@
+ghost use Rattle.std.specs.Prelude.{◌≡◌};
+ghost use Rattle.round_schedule.specs.Accesses.{place_of};
+
 use pages::Width;
 use rv64_decode::{AcquireRelease, FenceMode, FenceSet};
 
@@ -64,4 +67,20 @@ pub enum Stepped {
     Waits,
     /// It stopped its hart with this code, and changed nothing else.
     Stopped(u8),
+}
+
+impl Access {
+    /// How many instructions the hart had done before this one.
+    pub fn place(&self) -> u64
+        ensures { result ≡ place_of self.now }
+    {
+        match *self {
+            Access::Load { place, .. }
+            | Access::Store { place, .. }
+            | Access::LoadReserved { place, .. }
+            | Access::StoreConditional { place, .. }
+            | Access::Atomic { place, .. }
+            | Access::Fence { place, .. } => place,
+        }
+    }
 }
