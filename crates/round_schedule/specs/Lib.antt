@@ -2,3 +2,4 @@ pub mod Accesses
 pub mod Events
 pub mod Held
 pub mod Schedule
+pub mod Tables
