@@ -1,0 +1,107 @@
+ghost use Rattle.std.specs.Prelude.{◌≡◌, ℕ, ◌+◌, ◌≤◌, ◌<◌, List, length, take, Option, None, replicate, ◌==◌, if◌then◌else◌};
+ghost use Rattle.pages.specs.Memory.{in_range, width_bytes};
+ghost use Rattle.round_schedule.specs.declared.span.Span.{Span};
+ghost use Rattle.round_schedule.specs.Held.{unless};
+ghost use Rattle.round_schedule.specs.Tables.{entry, Sets, Drops, Breaks};
+ghost use Rattle.reservations.specs.Broken.{is_span};
+
+use crate::overlap::unless_broken;
+use pages::Width;
+use round_schedule::Span;
+use std::marker::Model;
+
+/// How many harts a table has at most.
+const MOST: usize = 64;
+
+/// The reservation of each hart (manual, section 8.2): the bytes of its last LR, or none.
+#[derive(Drop)]
+pub struct Reservations {
+    entries: [Option<Span>; MOST],
+    harts: usize,
+}
+
+impl Model for Reservations {
+    ghost Value = { List (Option Span) };
+
+    ghost view = { λ r. take r.harts r.entries };
+
+    ghost invariant = { λ r. r.harts ≤ 64 };
+}
+
+impl Reservations {
+    /// No hart of `harts`, 1 to 64, has a reservation.
+    pub fn new(harts: u32) -> Self
+        requires { harts ≤ 64 }
+        ensures { result ≡ replicate harts None }
+    {
+        Reservations {
+            entries: [None; MOST],
+            harts: harts as usize,
+        }
+    }
+
+    /// Gives the hart this reservation, in place of any older one.
+    pub fn set(&mut self, hart: u32, addr: u64, width: Width)
+        requires { hart < length self.old }
+        ensures { Sets hart (record { address = addr; width = width }) self.old self.new }
+    {
+        self.entries[hart as usize] = Some(Span {
+            address: addr,
+            width,
+        });
+    }
+
+    /// Whether the hart has the reservation of just these bytes; it has none afterwards.
+    pub fn take(&mut self, hart: u32, addr: u64, width: Width) -> bool
+        requires { hart < length self.old }
+        ensures answer { result ≡ is_span (entry self.old hart) (record { address = addr; width = width }) }
+        ensures drops { Drops hart self.old self.new }
+    {
+        let held = self.entries[hart as usize];
+        self.entries[hart as usize] = None;
+        held == Some(Span {
+            address: addr,
+            width,
+        })
+    }
+
+    /// Drops the reservations of other harts of which a byte is written.
+    pub fn break_by(&mut self, hart: u32, addr: u64, width: Width)
+        ensures { Breaks hart (record { address = addr; width = width }) self.old self.new }
+    {
+        let span = Span {
+            address: addr,
+            width,
+        };
+        break_others(&mut self.entries[..self.harts], hart as usize, span);
+    }
+
+    /// An equal table.
+    pub fn copy(&self) -> Reservations
+        ensures { result ≡ self.now }
+    {
+        Reservations {
+            entries: self.entries,
+            harts: self.harts,
+        }
+    }
+}
+
+fn break_others(entries: &mut [Option<Span>], hart: usize, span: Span)
+    ensures { Breaks hart span entries.old entries.new }
+{
+    for (other, entry) in entries.iter_mut().enumerate() {
+        *entry = left_after(hart, span, other, *entry);
+    }
+}
+
+/// The entry of hart `other` that is left after a write of `hart`.
+fn left_after(hart: usize, span: Span, other: usize, entry: Option<Span>) -> Option<Span>
+    ensures { result ≡ (if hart == other then entry else unless (in_range span.address (width_bytes span.width)) entry) }
+{
+    if hart == other {
+        entry
+    } else {
+        unless_broken(entry, span)
+    }
+}
