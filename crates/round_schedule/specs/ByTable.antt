@@ -1,0 +1,51 @@
+-- A machine that keeps a table of reservations and never looks at its trace, and what ties it to a run.
+use Rattle.std.specs.Prelude.{◌≡◌, ℕ, zero, suc, ◌+◌, List, [], ◌∷◌, ◌++◌, length, replicate, Option, None}
+use Rattle.pages.specs.Memory.{after}
+use Rattle.round_schedule.specs.declared.event.Event.{Event}
+use Rattle.round_schedule.specs.declared.span.Span.{Span}
+use Rattle.round_schedule.specs.Desk.{Counter, counter_from, log_events}
+use Rattle.round_schedule.specs.Held.{unless}
+use Rattle.round_schedule.specs.Schedule.{Words, HartRound, State, hart_rounds, all_stores, events_from, round_of}
+use Rattle.round_schedule.specs.Tables.{covered_by_others, Tied}
+
+-- the entries of harts h, h + 1, .. after the commit of these rounds
+abbrev pub committed_table : {H : Type 0} → ℕ → List (HartRound H) → List (Option Span) → List (Option Span)
+committed_table h rs [] = []
+committed_table h rs (r ∷ table) = unless (covered_by_others h 0 rs) r ∷ committed_table (suc h) rs table
+
+-- a state with its table
+pub record Tabled (H C : Type 0) : Type 0 where
+  pub state : State H C
+  pub table : List (Option Span)
+
+abbrev pub counter_of : {H C : Type 0} → Tabled H C → List (HartRound H) → Counter H C
+counter_of m rs = record { harts = []; bytes = after m.state.bytes (all_stores rs); console = m.state.console; table = committed_table 0 rs m.table; log = [] }
+
+abbrev pub counted_to : {H C : Type 0} → Tabled H C → List (HartRound H) → Counter H C → Tabled H C
+counted_to m rs c = record {
+  state = record {
+    harts = c.harts;
+    bytes = c.bytes;
+    console = c.console;
+    trace = (m.state.trace ++ events_from (m.state.rounds + 1) 0 rs) ++ log_events (m.state.rounds + 1) 0 c.log;
+    rounds = m.state.rounds + 1;
+  };
+  table = c.table;
+}
+
+-- one round over the table
+unfoldable pub tabled_round : {H C : Type 0} → Words H C → ℕ → (ℕ → List ℕ) → Tabled H C → Tabled H C
+tabled_round w budget quotas m =
+    let rs = hart_rounds w m.state.bytes (quotas m.state.rounds) m.state.harts in
+    counted_to m rs (counter_from w budget (m.state.rounds + 1) 0 rs (counter_of m rs))
+
+-- a round over a table that is what the trace says is a round of a run, and so is the table after it
+pub record RoundByTable {H C : Type 0} (w : Words H C) (budget : ℕ) (quotas : ℕ → List ℕ) (m : Tabled H C) : Type 0 where
+  pub same : (tabled_round w budget quotas m).state ≡ round_of w budget quotas m.state
+  pub tied : Tied (tabled_round w budget quotas m).table (tabled_round w budget quotas m).state.trace
+  pub size : length (tabled_round w budget quotas m).table ≡ length m.table
+
+abbrev pub RoundsByTable : (H C : Type 0) → Type 0
+RoundsByTable H C =
+    (w : Words H C) (budget : ℕ) (quotas : ℕ → List ℕ) (m : Tabled H C) →
+    Tied m.table m.state.trace → length m.table ≡ length m.state.harts → RoundByTable w budget quotas m

@@ -1,0 +1,85 @@
+-- The serial phase over a table of reservations: the same turns as in a run, where the reservations are read off the trace.
+use Rattle.std.specs.Prelude.{◌≡◌, ℕ, zero, suc, ◌+◌, ◌≤◌, ◌==◌, Bool, true, false, if◌then◌else◌, List, [], ◌∷◌, ◌++◌, length, Option, Some, None, option_to_list}
+use Rattle.pages.specs.Memory.{after}
+use Rattle.round_schedule.specs.declared.access.Access.{Access}
+use Rattle.round_schedule.specs.declared.access.Stepped.{Stepped}
+use Rattle.round_schedule.specs.declared.access.Stepped.TheVariants.{Done, Waits, Stopped}
+use Rattle.round_schedule.specs.declared.event.Event.{Event}
+use Rattle.round_schedule.specs.declared.event.Phase.TheVariants.{Serial}
+use Rattle.round_schedule.specs.declared.span.Span.{Span}
+use Rattle.round_schedule.specs.Accesses.{writes}
+use Rattle.round_schedule.specs.Events.{events_of}
+use Rattle.round_schedule.specs.Held.{unless, kept_by_own}
+use Rattle.round_schedule.specs.Schedule.{Words, SerialOutcome, HartRound, State, serial_from}
+use Rattle.round_schedule.specs.Tables.{entry, Tied}
+
+-- the entries of harts j, j + 1, .. after an access of hart i
+abbrev pub updated : ℕ → ℕ → Access → List (Option Span) → List (Option Span)
+updated i j a [] = []
+updated i j a (r ∷ rs) = (if i == j then kept_by_own a r else unless (writes a) r) ∷ updated i (suc j) a rs
+
+abbrev pub updated_by : ℕ → Option Access → List (Option Span) → List (Option Span)
+updated_by i None table = table
+updated_by i (Some a) table = updated i 0 a table
+
+-- a serial turn under way: the hart, memory, the console, the table, and the accesses of the turn so far
+pub record Desk (H C : Type 0) : Type 0 where
+  pub hart : H
+  pub bytes : List ℕ
+  pub console : C
+  pub table : List (Option Span)
+  pub log : List Access
+
+abbrev pub desk_turned : {H C : Type 0} → ℕ → Stepped → Desk H C → SerialOutcome H C → (Desk H C → Desk H C) → Desk H C
+desk_turned i (Done a) p o f = f (record { hart = o.hart; bytes = after p.bytes o.stores; console = o.console; table = updated_by i a p.table; log = p.log ++ option_to_list a })
+desk_turned i Waits p o f = record p { hart = o.hart }
+desk_turned i (Stopped code) p o f = record p { hart = o.hart }
+
+-- the next instruction of hart i in round n
+abbrev pub desk_next : {H C : Type 0} → Words H C → ℕ → ℕ → Desk H C → SerialOutcome H C
+desk_next w n i p = w.serial_step n p.hart p.bytes p.console (entry p.table i)
+
+-- at most k further instructions of hart i's turn in round n
+unfoldable pub desk_from : {H C : Type 0} → Words H C → ℕ → ℕ → ℕ → Desk H C → Desk H C
+desk_from w n i zero p = p
+desk_from w n i (suc k) p = if w.stopped p.hart then p else desk_turned i (desk_next w n i p).answer p (desk_next w n i p) (desk_from w n i k)
+
+-- the serial phase so far: the harts that had their turn, memory, the console, the table, and the accesses of each turn
+pub record Counter (H C : Type 0) : Type 0 where
+  pub harts : List H
+  pub bytes : List ℕ
+  pub console : C
+  pub table : List (Option Span)
+  pub log : List (List Access)
+
+-- the turn of hart i, of budget instructions if it waits and of none else
+abbrev pub desk_of : {H C : Type 0} → Words H C → ℕ → ℕ → Counter H C → ℕ → H → Bool → Desk H C
+desk_of w budget n s i h waits = desk_from w n i (if waits then budget else 0) (record { hart = h; bytes = s.bytes; console = s.console; table = s.table; log = [] })
+
+abbrev pub counter_joined : {H C : Type 0} → Counter H C → Desk H C → Counter H C
+counter_joined s p = record { harts = s.harts ++ p.hart ∷ []; bytes = p.bytes; console = p.console; table = p.table; log = s.log ++ p.log ∷ [] }
+
+-- the turns of the rounds' harts, from hart i on
+abbrev pub counter_from : {H C : Type 0} → Words H C → ℕ → ℕ → ℕ → List (HartRound H) → Counter H C → Counter H C
+counter_from w budget n i [] s = s
+counter_from w budget n i (r ∷ rs) s = counter_from w budget n (suc i) rs (counter_joined s (desk_of w budget n s i r.last.hart r.waits))
+
+-- the serial events of round n, hart by hart from hart i on
+abbrev pub log_events : ℕ → ℕ → List (List Access) → List Event
+log_events n i [] = []
+log_events n i (l ∷ ls) = events_of n i Serial l ++ log_events n (suc i) ls
+
+-- the same in a run, after the trace t
+abbrev pub told : {H C : Type 0} → List Event → ℕ → Counter H C → State H C
+told t n s = record { harts = s.harts; bytes = s.bytes; console = s.console; trace = t ++ log_events n 0 s.log; rounds = n }
+
+-- over a table that is what the trace says, the serial phase is that of a run, and so is the table after it
+pub record SerialByTable {H C : Type 0} (w : Words H C) (budget n i : ℕ) (rs : List (HartRound H)) (t : List Event) (s : Counter H C) : Type 0 where
+  pub same : serial_from w budget i rs (told t n s) ≡ told t n (counter_from w budget n i rs s)
+  pub tied : Tied (counter_from w budget n i rs s).table (t ++ log_events n 0 (counter_from w budget n i rs s).log)
+  pub size : length (counter_from w budget n i rs s).table ≡ length s.table
+
+abbrev pub SerialPhaseByTable : (H C : Type 0) → Type 0
+SerialPhaseByTable H C =
+    (w : Words H C) (budget n i : ℕ) (rs : List (HartRound H)) (t : List Event) (s : Counter H C) →
+    Tied s.table (t ++ log_events n 0 s.log) → length s.log ≡ i → i + length rs ≤ length s.table → SerialByTable w budget n i rs t s
