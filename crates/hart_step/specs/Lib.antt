@@ -1,4 +1,6 @@
 pub mod Amo
+pub mod Answers
+pub mod Buses
 pub mod Console
 pub mod Effect
 pub mod Numbers

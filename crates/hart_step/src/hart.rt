@@ -1,3 +1,8 @@
+ghost use Rattle.std.specs.Prelude.{◌≡◌};
+ghost use Rattle.hart_step.specs.Registers.{reg, set_reg};
+
+use rv64_decode::Reg;
+
 /// Why a hart has stopped, for good.
 #[derive(Clone, Copy, Debug, PartialEq, Eq)]
 pub struct Stop {
@@ -19,4 +24,24 @@ pub struct Hart {
     pub done: u64,
     /// Why the hart has stopped, or `None` while it runs.
     pub stop: Option<Stop>,
+}
+
+impl Hart {
+    /// A register's value; x0 reads 0 (manual, section 2.1).
+    #[inline(always)]
+    pub fn reg(&self, r: Reg) -> u64
+        ensures { result ≡ reg self.now.x r }
+    {
+        if r.index() == 0 { 0 } else { self.x[r.index()] }
+    }
+
+    /// Sets a register; x0 keeps its 0.
+    #[inline(always)]
+    pub fn set_reg(&mut self, r: Reg, value: u64)
+        ensures { self.new ≡ record self.old { x = set_reg self.old.x r value } }
+    {
+        if r.index() != 0 {
+            self.x[r.index()] = value;
+        }
+    }
 }
