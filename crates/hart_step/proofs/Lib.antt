@@ -1,2 +1,5 @@
 pub mod Products
 pub mod Room
+pub mod Shown
+pub mod Turns
+pub mod Untouched

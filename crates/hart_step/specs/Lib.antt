@@ -1,10 +1,12 @@
 pub mod Amo
 pub mod Answers
 pub mod Buses
+pub mod CodeTables
 pub mod Console
 pub mod Effect
 pub mod Numbers
 pub mod Registers
+pub mod Rounds
 pub mod SerialStep
 pub mod Step
 pub mod Words
