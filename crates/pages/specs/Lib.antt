@@ -1,1 +1,7 @@
+pub mod Code
+pub mod Flat
+pub mod Initial
+pub mod Kept
+pub mod Lending
 pub mod Memory
+pub mod Paged

@@ -14,6 +14,24 @@ pub enum Width {
     W8,
 }
 
+impl Width {
+    ghost use Rattle.std.specs.Prelude.{◌≡◌};
+    ghost use Rattle.pages.specs.Memory.{width_bytes};
+
+    /// How many bytes these are.
+    #[inline(always)]
+    pub fn bytes(self) -> u64
+        ensures { result ≡ width_bytes self }
+    {
+        match self {
+            Width::W1 => 1,
+            Width::W2 => 2,
+            Width::W4 => 4,
+            Width::W8 => 8,
+        }
+    }
+}
+
 /// Why an access is not done.
 #[derive(Clone, Copy, Debug, PartialEq, Eq)]
 pub enum Fault {

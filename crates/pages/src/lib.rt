@@ -2,7 +2,16 @@
 #![tactic(auto)]
 
 mod access;
+mod code;
+mod making;
+mod number;
 mod out_of_memory;
+mod pages;
+mod part;
+mod prepare;
 
 pub use access::{Fault, Piece, Range, Store, Width};
+pub use number::{number_in, write_number};
 pub use out_of_memory::OutOfMemory;
+pub use pages::Pages;
+pub use part::Part;

@@ -1,0 +1,2 @@
+mod Page
+mod Numbers

@@ -1,0 +1,26 @@
+-- Guest memory as it begins: the pieces that are laid into it.
+use Rattle.std.specs.Prelude.{ℕ, ◌+◌, ◌-◌, ◌*◌, Bool, false, ◌||◌, if◌then◌else◌, List, [], ◌∷◌, length, map, slice_index}
+use Rattle.std.specs.List.{range_with_len}
+use Rattle.pages.specs.declared.access.Piece.{Piece}
+use Rattle.pages.specs.declared.access.Range.{Range}
+use Rattle.pages.specs.Code.{overlaps}
+use Rattle.pages.specs.Memory.{Memory, in_range}
+use Rattle.pages.specs.Paged.{Paged}
+
+-- the byte at an address: that of the first piece that holds it, else 0
+abbrev pub piece_byte : List Piece → ℕ → ℕ
+piece_byte [] x = 0
+piece_byte (p ∷ ps) x = if in_range p.start (length p.bytes.items) x then slice_index p.bytes.items (x - p.start) else piece_byte ps x
+
+-- whether a piece of the list has a byte in a page
+abbrev pub is_touched : List Piece → ℕ → Bool
+is_touched [] page = false
+is_touched (p ∷ ps) page = overlaps p.start (length p.bytes.items) (4096 * page) 4096 || is_touched ps page
+
+-- so many pages that hold these pieces, with the touched ones ready and none spare
+unfoldable pub initial : ℕ → List Piece → List Range → Paged
+initial count pieces code = record {
+  memory = record { bytes = map (piece_byte pieces) (range_with_len 0 (4096 * count)); code = code };
+  ready = map (is_touched pieces) (range_with_len 0 count);
+  spare = 0;
+}

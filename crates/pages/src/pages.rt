@@ -1,0 +1,240 @@
+ghost use Rattle.std.specs.Prelude.{◌≡◌, ◌+◌, ◌-◌, ◌*◌, ◌/◌, ◌%◌, ◌^◌, ◌<◌, ◌≤◌, ◌⊎◌, ℕ, List, [], true, false, length, slice_index, slice_index_or, map, min, All, IfOk, OnOk, OnErr, MatchResult, Some, None};
+ghost use Rattle.std.specs.Borrow.{sem};
+ghost use Rattle.pages.specs.declared.access.Piece.{Piece as PieceOf};
+ghost use Rattle.pages.specs.declared.access.Range.{Range as RangeOf};
+ghost use Rattle.pages.specs.Flat.{flat, is_ready};
+ghost use Rattle.pages.specs.Initial.{initial};
+ghost use Rattle.pages.specs.Kept.{Kept};
+ghost use Rattle.pages.specs.Lending.{LendsParts};
+ghost use Rattle.pages.specs.Memory.{IsBytes, fetched, loaded, store_fault, width_bytes};
+ghost use Rattle.pages.specs.Paged.{all_ready, applied, count_unready, is_page_ready};
+
+use crate::code::{any_code_at, has_word_at, is_code_at};
+use crate::making::{bounds_of, copies_of, parts_of};
+use crate::prepare::{add_spares, make_all_ready, use_spare};
+use crate::{Fault, OutOfMemory, Part, Piece, Range, Store, Width};
+use std::alloc::Global;
+use std::marker::Model;
+
+/// Guest memory from address 0 on, in pages of 4096 bytes. A page takes memory once it is ready.
+#[derive(Drop)]
+pub struct Pages {
+    parts: Vec<Part>,
+    spares: Vec<Part>,
+    code: Vec<Range>,
+    code_start: u64,
+    code_end: u64,
+}
+
+impl Model for Pages {
+    ghost use Rattle.std.specs.Prelude.{length, map};
+    ghost use Rattle.pages.specs.Paged.{Paged};
+
+    ghost Value = { Paged };
+
+    ghost use Rattle.pages.specs.Flat.{flat, is_ready};
+    ghost use Rattle.pages.specs.Kept.{Kept};
+
+    ghost view = { λ p. record { memory = record { bytes = flat p.parts.items; code = p.code.items }; ready = map is_ready p.parts.items; spare = length p.spares.items } };
+
+    ghost invariant = { λ p. Kept p.parts.items p.spares.items p.code.items p.code_start p.code_end };
+}
+
+impl Pages {
+    /// Guest memory of so many pages, each byte that of the first piece that holds it, else 0. The pages
+    /// that a piece touches are ready.
+    pub fn new(alloc: Global, count: u32, pieces: &[Piece], code: &[Range]) -> Result<Pages, OutOfMemory>
+        requires least { 1 ≤ count }
+        requires most { count ≤ 16384 }
+        requires pieces { All (λ (p : PieceOf). p.start + length p.bytes.items ≤ 4096 * count) pieces.now }
+        requires code { All (λ (r : RangeOf). r.start + r.len ≤ 4096 * count) code.now }
+        ensures { IfOk result (λ p. p ≡ initial count pieces.now code.now) }
+    {
+        let (code_start, code_end) = bounds_of(code);
+        Ok(Pages {
+            parts: parts_of(alloc, count, pieces)?,
+            spares: Vec::new(alloc),
+            code: Vec::from_slice(alloc, code)?,
+            code_start,
+            code_end,
+        })
+    }
+
+    /// Equal guest memory, with no spare page.
+    pub fn copy(&self, alloc: Global) -> Result<Pages, OutOfMemory>
+        ensures memory { IfOk result (λ p. p.memory ≡ self.now.memory) }
+        ensures ready { IfOk result (λ p. p.ready ≡ self.now.ready) }
+        ensures spare { IfOk result (λ p. p.spare ≡ 0) }
+    {
+        Ok(Pages {
+            parts: copies_of(alloc, &self.parts)?,
+            spares: Vec::new(alloc),
+            code: Vec::from_slice(alloc, &self.code)?,
+            code_start: self.code_start,
+            code_end: self.code_end,
+        })
+    }
+
+    /// How many pages there are.
+    #[inline]
+    pub fn count(&self) -> u32
+        ensures pages { result ≡ length self.now.ready }
+        ensures bytes { 4096 * result ≡ length self.now.memory.bytes }
+        ensures most { result ≤ 16384 }
+    {
+        self.parts.len() as u32
+    }
+
+    /// How many spare pages are left.
+    #[inline]
+    pub fn spare(&self) -> u32
+        ensures { result ≡ self.now.spare }
+    {
+        self.spares.len() as u32
+    }
+
+    /// Whether a page is ready. None is past the last.
+    #[inline]
+    pub fn ready(&self, page: u32) -> bool
+        ensures { result ≡ is_page_ready self.now page }
+    {
+        match self.parts.get(page as usize) {
+            Some(part) => part.ready(),
+            None => false,
+        }
+    }
+
+    /// The number of this width at an address, or why it cannot be loaded.
+    #[inline(always)]
+    pub fn read(&self, addr: u64, width: Width) -> Result<u64, Fault>
+        ensures value { result ≡ loaded self.now.memory addr width }
+        ensures fits { IfOk result (λ v. v < 2 ^ (8 * width_bytes width)) }
+    {
+        if addr % width.bytes() != 0 {
+            return Err(Fault::LoadMisaligned);
+        }
+        match self.parts.get((addr / 4096) as usize) {
+            Some(part) => Ok(part.number(addr % 4096, width)),
+            None => Err(Fault::LoadOutside),
+        }
+    }
+
+    /// The byte at an address of guest memory.
+    #[inline]
+    pub fn byte(&self, addr: u64) -> u8
+        requires { addr < length self.now.memory.bytes }
+        ensures { result ≡ slice_index self.now.memory.bytes addr }
+    {
+        self.parts[(addr / 4096) as usize].number(addr % 4096, Width::W1) as u8
+    }
+
+    /// Each byte of guest memory is one.
+    pub fn bytes_fit(&self)
+        ensures { IsBytes self.now.memory.bytes }
+    {
+        let _parts = &self.parts;
+    }
+
+    /// The code ranges.
+    #[inline]
+    pub fn code(&self) -> &[Range]
+        ensures { result.now ≡ self.now.memory.code }
+    {
+        &self.code
+    }
+
+    /// The word at an address, if its four bytes lie in memory and are code.
+    #[inline(always)]
+    pub fn fetch(&self, pc: u64) -> Option<u32>
+        ensures { result ≡ fetched self.now.memory pc }
+    {
+        let place = pc % 4096;
+        if place <= 4092 && has_word_at(&self.code, pc) {
+            return match self.parts.get((pc / 4096) as usize) {
+                Some(part) => Some(part.number(place, Width::W4) as u32),
+                None => None,
+            };
+        }
+        self.fetch_apart(pc)
+    }
+
+    // The same for a word of two pages or of several ranges.
+    #[cold]
+    #[inline(never)]
+    fn fetch_apart(&self, pc: u64) -> Option<u32>
+        ensures { result ≡ fetched self.now.memory pc }
+    {
+        let len = 4096 * self.parts.len() as u64;
+        if pc >= len || len - pc < 4 {
+            return None;
+        }
+        if (0..4).all(|k| is_code_at(&self.code, pc + k)) {
+            Some(u32::from_le_bytes([
+                self.byte(pc),
+                self.byte(pc + 1),
+                self.byte(pc + 2),
+                self.byte(pc + 3),
+            ]))
+        } else {
+            None
+        }
+    }
+
+    /// Whether a store of this width may be done at an address, or its fault.
+    #[inline]
+    pub fn check_store(&self, addr: u64, width: Width) -> Result<(), Fault>
+        ensures { MatchResult result (λ _. store_fault self.now.memory addr width ≡ None) (λ e. store_fault self.now.memory addr width ≡ Some e) }
+    {
+        let count = width.bytes();
+        if addr % count != 0 {
+            return Err(Fault::StoreMisaligned);
+        }
+        if addr / 4096 >= self.parts.len() as u64 {
+            return Err(Fault::StoreOutside);
+        }
+        if addr < self.code_end && addr + count > self.code_start && any_code_at(&self.code, addr, count) {
+            return Err(Fault::StoreToCode);
+        }
+        Ok(())
+    }
+
+    /// Makes these pages ready, and sees that at least `spare` spare pages are left, or as many as there are
+    /// pages that are not ready. Refused, it changes no byte, and pages that were ready stay ready.
+    pub fn prepare(&mut self, alloc: Global, pages: &[u32], spare: u32) -> Result<(), OutOfMemory>
+        requires { All (λ (p : ℕ). p < length self.old.ready) pages.now }
+        ensures memory { self.new.memory ≡ self.old.memory }
+        ensures ready { OnOk result (self.new.ready ≡ all_ready self.old.ready pages.now) }
+        ensures spare { OnOk result (min spare (count_unready self.new.ready) ≤ self.new.spare) }
+        ensures count { length self.new.ready ≡ length self.old.ready }
+        ensures stays { (p : ℕ) → is_page_ready self.old p ≡ true → is_page_ready self.new p ≡ true }
+    {
+        let parts = self.parts.as_mut_slice();
+        make_all_ready(alloc, parts, &mut self.spares, pages)?;
+        add_spares(alloc, parts, &mut self.spares, spare as usize)
+    }
+
+    /// Does a store that has no fault, on a page that is ready or with a spare page left. It takes no memory.
+    #[inline(always)]
+    pub fn apply(&mut self, s: Store)
+        requires accepted { store_fault self.old.memory s.addr s.width ≡ None }
+        requires room { (is_page_ready self.old (s.addr / 4096) ≡ true) ⊎ (0 < self.old.spare) }
+        ensures { self.new ≡ applied self.old s }
+    {
+        let parts = self.parts.as_mut_slice();
+        let page = (s.addr / 4096) as usize;
+        if !parts[page].ready() {
+            use_spare(parts, &mut self.spares, page);
+        }
+        parts[page].apply(s);
+    }
+
+    /// The pages, one part each, in rising order.
+    #[inline]
+    pub fn parts(&mut self) -> &mut [Part]
+        ensures* writes_back { sem 𝓛 (LendsParts self.entry result) }
+        ensures bytes { flat result.now ≡ self.old.memory.bytes }
+        ensures ready { map is_ready result.now ≡ self.old.ready }
+    {
+        self.parts.as_mut_slice()
+    }
+}

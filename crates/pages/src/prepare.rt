@@ -1,0 +1,77 @@
+ghost use Rattle.std.specs.Prelude.{◌≡◌, ◌+◌, ◌<◌, ◌≤◌, ℕ, List, [], true, false, length, slice_index_or, slice_set, map, min, All, OnOk, OnErr, vec_len};
+ghost use Rattle.pages.specs.Flat.{blank, flat, is_ready};
+ghost use Rattle.pages.specs.Kept.{AllBlank};
+ghost use Rattle.pages.specs.Paged.{all_ready, count_unready};
+
+use crate::{OutOfMemory, Part};
+use std::alloc::Global;
+
+/// Makes a page ready with a spare one.
+pub(crate) fn use_spare(parts: &mut [Part], spares: &mut Vec<Part>, page: usize)
+    requires page { page < length parts.old }
+    requires unready { is_ready (slice_index_or parts.old page []) ≡ false }
+    requires room { 0 < vec_len spares.old }
+    requires blank { AllBlank spares.old.items }
+    ensures bytes { flat parts.new ≡ flat parts.old }
+    ensures ready { map is_ready parts.new ≡ slice_set (map is_ready parts.old) page true }
+    ensures spares { vec_len spares.new + 1 ≡ vec_len spares.old }
+    ensures blank { AllBlank spares.new.items }
+{
+    if let Some(spare) = spares.pop() {
+        parts[page] = spare;
+    }
+}
+
+/// Makes a page ready, with a spare one if there is one.
+pub(crate) fn make_ready(alloc: Global, parts: &mut [Part], spares: &mut Vec<Part>, page: usize) -> Result<(), OutOfMemory>
+    requires page { page < length parts.old }
+    requires blank { AllBlank spares.old.items }
+    ensures bytes { flat parts.new ≡ flat parts.old }
+    ensures ready { OnOk result (map is_ready parts.new ≡ slice_set (map is_ready parts.old) page true) }
+    ensures err { OnErr result (map is_ready parts.new ≡ map is_ready parts.old) }
+    ensures spares { vec_len spares.new ≤ vec_len spares.old }
+    ensures blank { AllBlank spares.new.items }
+{
+    if parts[page].ready() {
+        return Ok(());
+    }
+    match spares.pop() {
+        Some(spare) => parts[page] = spare,
+        None => parts[page] = Part::blank(alloc)?,
+    }
+    Ok(())
+}
+
+/// Makes the pages of a list ready.
+pub(crate) fn make_all_ready(alloc: Global, parts: &mut [Part], spares: &mut Vec<Part>, pages: &[u32]) -> Result<(), OutOfMemory>
+    requires pages { All (λ (p : ℕ). p < length parts.old) pages.now }
+    requires blank { AllBlank spares.old.items }
+    ensures bytes { flat parts.new ≡ flat parts.old }
+    ensures ready { OnOk result (map is_ready parts.new ≡ all_ready (map is_ready parts.old) pages.now) }
+    ensures stays { (p : ℕ) → slice_index_or (map is_ready parts.old) p false ≡ true → slice_index_or (map is_ready parts.new) p false ≡ true }
+    ensures spares { vec_len spares.new ≤ vec_len spares.old }
+    ensures blank { AllBlank spares.new.items }
+{
+    for page in pages {
+        make_ready(alloc, parts, spares, *page as usize)?;
+    }
+    Ok(())
+}
+
+/// Adds spare pages until there are so many, or as many as pages that are not ready.
+pub(crate) fn add_spares(alloc: Global, parts: &[Part], spares: &mut Vec<Part>, count: usize) -> Result<(), OutOfMemory>
+    requires few { vec_len spares.old ≤ length parts.now }
+    requires blank { AllBlank spares.old.items }
+    ensures count { OnOk result (min count (count_unready (map is_ready parts.now)) ≤ vec_len spares.new) }
+    ensures few { vec_len spares.new ≤ length parts.now }
+    ensures blank { AllBlank spares.new.items }
+{
+    if spares.len() >= count {
+        return Ok(());
+    }
+    let unready = parts.iter().filter(|part| !part.ready()).count();
+    while spares.len() < unready.min(count) {
+        spares.push(Part::blank(alloc)?)?;
+    }
+    Ok(())
+}
