@@ -1,2 +1,7 @@
-mod Page
+mod Accesses
+mod CodeTests
+mod FlatPages
+mod Lent
 mod Numbers
+mod Page
+mod Readied

@@ -2,6 +2,7 @@
 use Rattle.std.proofs.Common.{◌≡◌, ℕ, zero, suc, ◌+◌, ◌*◌, ◌/◌, ◌%◌, ◌^◌, ◌<◌, ◌≤◌, List, [], ◌∷◌, ◌++◌, length, get_or, set, map, take, drop, replicate, refl, sym, ap, ◌∙◌, arith, ◌⊎◌, ⊎_elim, Bool, true, false, cond, not, nat_eq}
 use Rattle.std.proofs.lemmas.List.{length-append, length-replicate, length-take-le, length-map, get_or-map, get_or-take, get_or_append_left, get_or-append-add, get_or-replicate, get_or_past, take_at, ext_get_or, length-set}
 use Rattle.std.proofs.lemmas.Bool.{cases_lt}
+use Rattle.std.proofs.lemmas.Bool.Decides.{nat_tests}
 use Rattle.std.proofs.Math.Nat.{mod-eq_of_lt}
 use Rattle.pages.specs.declared.access.Width.{Width}
 use Rattle.pages.specs.declared.access.Width.TheVariants.{W1, W2, W4, W8}
@@ -89,3 +90,22 @@ pub put_back : (p w : List ℕ) (s : Store) (n : ℕ) → length p ≡ 4096 → 
 put_back p w s n e m small is =
     let size : length w ≡ n = ap length is ∙ length-written (width_bytes s.width) p (s.addr % 4096) s.value ∙ e ∙ sym m in
     ap full (take_at w (drop (length w) p) n size ∙ is) ∙ put_page p s e small
+
+pub full_blank : full blank ≡ blank
+full_blank = full_ready blank length-blank (λ k. rw (get_or-blank k) (omega arith))
+
+-- a spare page reads as one that is not ready
+pub full_absent : (p : List ℕ) → length p ≡ 0 → full p ≡ full blank
+full_absent p e =
+    ext_get_or 0 (full p) (full blank) (length-full p ∙ sym (length-full blank))
+    (λ k h. get_or-absent p k e ∙ sym (get_or-blank k) ∙ ap (λ q. get_or q k 0) (sym full_blank))
+
+pub ready_blank : is_ready blank ≡ true
+ready_blank = rw length-blank refl
+
+some_ready : (n : ℕ) → not (nat_eq (suc n) 0) ≡ false → ⊥
+some_ready n h = grind (arith, nat_tests)
+
+pub not_ready : (p : List ℕ) → is_ready p ≡ false → length p ≡ 0
+not_ready [] h = refl
+not_ready (x ∷ xs) h = absurd (some_ready (length xs) h)

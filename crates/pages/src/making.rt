@@ -75,7 +75,7 @@ pub(crate) fn bounds_of(code: &[Range]) -> (u64, u64)
     ensures below { result.1 ≤ 2 ^ 26 }
 {
     let mut start = u64::MAX;
-    let mut end = 0;
+    let mut end = 0u64;
     for range in code {
         start = start.min(range.start);
         end = end.max(range.start + range.len);

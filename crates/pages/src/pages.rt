@@ -9,7 +9,7 @@ ghost use Rattle.pages.specs.Lending.{LendsParts};
 ghost use Rattle.pages.specs.Memory.{IsBytes, fetched, loaded, store_fault, width_bytes};
 ghost use Rattle.pages.specs.Paged.{all_ready, applied, count_unready, is_page_ready};
 
-use crate::code::{any_code_at, has_word_at, is_code_at};
+use crate::code::{all_code_at, has_word_at, touches_code};
 use crate::making::{bounds_of, copies_of, parts_of};
 use crate::prepare::{add_spares, make_all_ready, use_spare};
 use crate::{Fault, OutOfMemory, Part, Piece, Range, Store, Width};
@@ -164,20 +164,19 @@ impl Pages {
     fn fetch_apart(&self, pc: u64) -> Option<u32>
         ensures { result ≡ fetched self.now.memory pc }
     {
-        let len = 4096 * self.parts.len() as u64;
+        let len = 4096 * u64::from(self.count());
         if pc >= len || len - pc < 4 {
             return None;
         }
-        if (0..4).all(|k| is_code_at(&self.code, pc + k)) {
-            Some(u32::from_le_bytes([
-                self.byte(pc),
-                self.byte(pc + 1),
-                self.byte(pc + 2),
-                self.byte(pc + 3),
-            ]))
-        } else {
-            None
+        if !all_code_at(&self.code, pc) {
+            return None;
         }
+        Some(u32::from_le_bytes([
+            self.byte(pc),
+            self.byte(pc + 1),
+            self.byte(pc + 2),
+            self.byte(pc + 3),
+        ]))
     }
 
     /// Whether a store of this width may be done at an address, or its fault.
@@ -185,14 +184,13 @@ impl Pages {
     pub fn check_store(&self, addr: u64, width: Width) -> Result<(), Fault>
         ensures { MatchResult result (λ _. store_fault self.now.memory addr width ≡ None) (λ e. store_fault self.now.memory addr width ≡ Some e) }
     {
-        let count = width.bytes();
-        if addr % count != 0 {
+        if addr % width.bytes() != 0 {
             return Err(Fault::StoreMisaligned);
         }
         if addr / 4096 >= self.parts.len() as u64 {
             return Err(Fault::StoreOutside);
         }
-        if addr < self.code_end && addr + count > self.code_start && any_code_at(&self.code, addr, count) {
+        if touches_code(&self.code, self.code_start, self.code_end, addr, width) {
             return Err(Fault::StoreToCode);
         }
         Ok(())

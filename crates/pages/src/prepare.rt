@@ -35,10 +35,10 @@ pub(crate) fn make_ready(alloc: Global, parts: &mut [Part], spares: &mut Vec<Par
     if parts[page].ready() {
         return Ok(());
     }
-    match spares.pop() {
-        Some(spare) => parts[page] = spare,
-        None => parts[page] = Part::blank(alloc)?,
+    if spares.is_empty() {
+        spares.push(Part::blank(alloc)?)?;
     }
+    use_spare(parts, spares, page);
     Ok(())
 }
 
