@@ -1,0 +1,2 @@
+pub mod Roomed
+pub mod Turns

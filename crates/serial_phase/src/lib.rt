@@ -1,0 +1,8 @@
+//! The serial phase of a round: the turns of the waiting harts, in hart order, on memory itself.
+#![tactic(auto)]
+
+mod console;
+mod log;
+
+pub use console::Console;
+pub use log::SerialLog;
