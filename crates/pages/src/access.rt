@@ -1,6 +1,3 @@
-ghost use Rattle.std.specs.Prelude.{◌≡◌};
-ghost use Rattle.pages.specs.Memory.{width_bytes};
-
 /// How many bytes an access touches.
 #[derive(Clone, Copy, Debug, PartialEq, Eq)]
 pub enum Width {
@@ -74,19 +71,4 @@ pub struct Piece {
     pub start: u64,
     /// The bytes, in rising address.
     pub bytes: Vec<u8>,
-}
-
-impl Width {
-    /// The number of bytes: 1, 2, 4 or 8.
-    #[inline(always)]
-    pub fn bytes(self) -> u64
-        ensures { result ≡ width_bytes self }
-    {
-        match self {
-            Width::W1 => 1,
-            Width::W2 => 2,
-            Width::W4 => 4,
-            Width::W8 => 8,
-        }
-    }
 }
