@@ -110,3 +110,19 @@ byte_in_page ps a l = number_in_page 1 ps a l (omega arith) ∙ add-zero (get_or
 -- an address in memory is in one of the pages
 pub page_below : (ps : List (List ℕ)) (a : ℕ) → a < length (flat ps) → a / 4096 < length ps
 page_below ps a h = omega (arith, length-flat ps)
+
+-- four bytes make a word
+pub word_of_bytes : (bs : List ℕ) (pc b0 b1 b2 b3 v : ℕ) → b0 ≡ get_or bs pc 0 → b1 ≡ get_or bs (pc + 1) 0 → b2 ≡ get_or bs (pc + 2) 0 → b3 ≡ get_or bs (pc + 3) 0 → v ≡ b0 + b1 * 256 + b2 * 65536 + b3 * 16777216 → number_at bs pc 4 ≡ v
+word_of_bytes bs pc b0 b1 b2 b3 v e0 e1 e2 e3 e =
+    let two : pc + 1 + 1 ≡ pc + 2 = omega arith in
+    let three : pc + 1 + 1 + 1 ≡ pc + 3 = omega arith in
+    let at_two = ap (λ k. get_or bs k 0) two in
+    let at_three = ap (λ k. get_or bs k 0) three in
+    omega (arith, at_two, at_three)
+
+pub accepted_page : (ps : List (List ℕ)) (code : List Range) (a : ℕ) (w : Width) → store_fault (record { bytes = flat ps; code = code }) a w ≡ None → (a % width_bytes w ≡ 0) × (a / 4096 < length ps)
+accepted_page ps code a w h =
+    let t = store_accepted (record { bytes = flat ps; code = code }) a w h in
+    let some = some_bytes w in
+    let inside : a < length (flat ps) = omega (arith, t.1) in
+    (t.0, page_below ps a inside)

@@ -62,8 +62,8 @@ word_at : (rs : List Range) (a k : ℕ) → k < 4 → list_any (has_word a) rs �
 word_at [] a k l h = h
 word_at (r ∷ rs) a k l h =
     elim (has_word a r) as (λ b. has_word a r ≡ b → (b || list_any (has_word a) rs) ≡ true → is_code (r ∷ rs) (a + k) ≡ true) [
-      true ↦ λ e _. rw (word_tells a k r.start r.len l e) refl
-    | false ↦ λ _ e. or_true (in_range r.start r.len (a + k)) (is_code rs (a + k)) (word_at rs a k l e)
+      | true ↦ λ e _. rw (word_tells a k r.start r.len l e) refl
+      | false ↦ λ _ e. or_true (in_range r.start r.len (a + k)) (is_code rs (a + k)) (word_at rs a k l e)
     ] refl h
 
 -- a word that one range has is code

@@ -29,9 +29,9 @@ drop_front n (suc m) (x ∷ xs) ys e =
 flat-take : (n : ℕ) (ps : List (List ℕ)) → flat (take n ps) ≡ take (4096 * n) (flat ps)
 flat-take zero ps = let none : 0 ≡ 4096 * 0 = omega arith in ap (λ k. take k (flat ps)) none
 flat-take (suc n) [] = sym (ap (λ k. take k (flat [])) (next n))
-    where
-      next : (n : ℕ) → 4096 * suc n ≡ suc (4095 + 4096 * n)
-      next n = omega arith
+  where
+    next : (n : ℕ) → 4096 * suc n ≡ suc (4095 + 4096 * n)
+    next n = omega arith
 flat-take (suc n) (p ∷ ps) =
     let more : 4096 + 4096 * n ≡ 4096 * suc n = omega arith in
     ap (λ r. full p ++ r) (flat-take n ps) ∙ sym (take_front (4096 * n) 4096 (full p) (flat ps) (length-full p)) ∙ ap (λ k. take k (full p ++ flat ps)) more
@@ -39,9 +39,9 @@ flat-take (suc n) (p ∷ ps) =
 flat-drop : (n : ℕ) (ps : List (List ℕ)) → flat (drop n ps) ≡ drop (4096 * n) (flat ps)
 flat-drop zero ps = let none : 0 ≡ 4096 * 0 = omega arith in ap (λ k. drop k (flat ps)) none
 flat-drop (suc n) [] = sym (ap (λ k. drop k (flat [])) (next n))
-    where
-      next : (n : ℕ) → 4096 * suc n ≡ suc (4095 + 4096 * n)
-      next n = omega arith
+  where
+    next : (n : ℕ) → 4096 * suc n ≡ suc (4095 + 4096 * n)
+    next n = omega arith
 flat-drop (suc n) (p ∷ ps) =
     let more : 4096 + 4096 * n ≡ 4096 * suc n = omega arith in
     flat-drop n ps ∙ sym (drop_front (4096 * n) 4096 (full p) (flat ps) (length-full p)) ∙ ap (λ k. drop k (full p ++ flat ps)) more

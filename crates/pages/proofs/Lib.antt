@@ -1,7 +1,9 @@
-mod Accesses
-mod CodeTests
-mod FlatPages
-mod Lent
-mod Numbers
-mod Page
-mod Readied
+pub mod Accesses
+pub mod Applied
+pub mod CodeTests
+pub mod FlatPages
+pub mod Laying
+pub mod Lent
+pub mod Numbers
+pub mod Page
+pub mod Readied

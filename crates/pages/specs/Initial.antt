@@ -17,10 +17,14 @@ abbrev pub is_touched : List Piece → ℕ → Bool
 is_touched [] page = false
 is_touched (p ∷ ps) page = overlaps p.start (length p.bytes.items) (4096 * page) 4096 || is_touched ps page
 
+-- the bytes of n addresses from a on
+unfoldable pub bytes_from : List Piece → ℕ → ℕ → List ℕ
+bytes_from pieces a n = map (piece_byte pieces) (range_with_len a n)
+
 -- so many pages that hold these pieces, with the touched ones ready and none spare
 unfoldable pub initial : ℕ → List Piece → List Range → Paged
 initial count pieces code = record {
-  memory = record { bytes = map (piece_byte pieces) (range_with_len 0 (4096 * count)); code = code };
+  memory = record { bytes = bytes_from pieces 0 (4096 * count); code = code };
   ready = map (is_touched pieces) (range_with_len 0 count);
   spare = 0;
 }

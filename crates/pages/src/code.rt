@@ -15,6 +15,7 @@ pub(crate) fn is_code_at(code: &[Range], addr: u64) -> bool
 }
 
 /// Whether four addresses are code.
+#[tactic(auto, using(crate::proofs::CodeTests::is_code_by_range))]
 pub(crate) fn all_code_at(code: &[Range], addr: u64) -> bool
     requires { addr + 4 < 2 ^ 64 }
     ensures { result ≡ all_code code.now addr 4 }
@@ -30,7 +31,8 @@ pub(crate) fn all_code_at(code: &[Range], addr: u64) -> bool
 pub(crate) fn has_word_at(code: &[Range], addr: u64) -> bool
     ensures { result ≡ list_any (has_word addr) code.now }
 {
-    code.iter().any(|range| range.start <= addr && (range.len >= 4 && addr - range.start <= range.len - 4))
+    code.iter().any(|range| range.start <= addr
+        && (range.len >= 4 && addr - range.start <= range.len - 4))
 }
 
 /// Whether one of `count` addresses, at least one, is code.

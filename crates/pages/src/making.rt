@@ -4,7 +4,7 @@ ghost use Rattle.pages.specs.declared.access.Piece.{Piece as PieceOf};
 ghost use Rattle.pages.specs.declared.access.Range.{Range as RangeOf};
 ghost use Rattle.pages.specs.Code.{overlaps};
 ghost use Rattle.pages.specs.Flat.{flat, full, is_ready};
-ghost use Rattle.pages.specs.Initial.{is_touched, piece_byte};
+ghost use Rattle.pages.specs.Initial.{bytes_from, is_touched};
 ghost use Rattle.pages.specs.Kept.{LiesWithin};
 ghost use Rattle.pages.specs.Memory.{in_range};
 
@@ -12,10 +12,14 @@ use crate::{OutOfMemory, Part, Piece, Range};
 use std::alloc::Global;
 
 /// So many pages that hold these pieces, of which only the touched ones take memory.
-pub(crate) fn parts_of(alloc: Global, count: u32, pieces: &[Piece]) -> Result<Vec<Part>, OutOfMemory>
+pub(crate) fn parts_of(
+    alloc: Global,
+    count: u32,
+    pieces: &[Piece],
+) -> Result<Vec<Part>, OutOfMemory>
     requires most { count ≤ 16384 }
     requires pieces { All (λ (p : PieceOf). p.start + length p.bytes.items ≤ 2 ^ 26) pieces.now }
-    ensures bytes { IfOk result (λ v. flat v.items ≡ map (piece_byte pieces.now) (range_with_len 0 (4096 * count))) }
+    ensures bytes { IfOk result (λ v. flat v.items ≡ bytes_from pieces.now 0 (4096 * count)) }
     ensures ready { IfOk result (λ v. map is_ready v.items ≡ map (is_touched pieces.now) (range_with_len 0 count)) }
 {
     let mut parts = Vec::with_capacity(alloc, count as usize)?;
@@ -40,7 +44,7 @@ pub(crate) fn copies_of(alloc: Global, parts: &[Part]) -> Result<Vec<Part>, OutO
 fn part_of(alloc: Global, page: u32, pieces: &[Piece]) -> Result<Part, OutOfMemory>
     requires page { page < 16384 }
     requires pieces { All (λ (p : PieceOf). p.start + length p.bytes.items ≤ 2 ^ 26) pieces.now }
-    ensures bytes { IfOk result (λ p. full p ≡ map (piece_byte pieces.now) (range_with_len (4096 * page) 4096)) }
+    ensures bytes { IfOk result (λ p. full p ≡ bytes_from pieces.now (4096 * page) 4096) }
     ensures ready { IfOk result (λ p. is_ready p ≡ is_touched pieces.now page) }
 {
     let mut part = Part::absent(alloc);

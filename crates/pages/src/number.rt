@@ -1,5 +1,5 @@
-ghost use Rattle.std.specs.Prelude.{◌≡◌, ◌+◌, ◌*◌, ◌^◌, ◌<◌, ◌≤◌, ℕ, length, slice_index};
-ghost use Rattle.pages.specs.Memory.{value_at, width_bytes, written};
+ghost use Rattle.std.specs.Prelude.{◌≡◌, if◌then◌else◌, ◌-◌, ◌+◌, ◌*◌, ◌^◌, ◌<◌, ◌≤◌, ℕ, length, slice_index};
+ghost use Rattle.pages.specs.Memory.{in_range, value_at, width_bytes, written};
 
 use crate::Width;
 use byteorder::{ByteOrder, LittleEndian};
@@ -35,4 +35,14 @@ pub fn write_number(bytes: &mut [u8], place: usize, width: Width, value: u64)
         Width::W4 => LittleEndian::write_u32(to, (value % 0x1_0000_0000) as u32),
         Width::W8 => LittleEndian::write_u64(to, value),
     }
+}
+
+/// Lays bytes over others from a place on.
+pub(crate) fn lay_over(bytes: &mut [u8], place: usize, part: &[u8])
+    requires { place + length part.now ≤ length bytes.old }
+    ensures laid { (k : ℕ) → slice_index bytes.new k ≡ (if in_range place (length part.now) k then slice_index part.now (k - place) else slice_index bytes.old k) }
+    ensures old_bytes { (k : ℕ) → slice_index bytes.old k < 2 ^ 8 }
+    ensures new_bytes { (k : ℕ) → slice_index bytes.new k < 2 ^ 8 }
+{
+    bytes[place..place + part.len()].copy_from_slice(part);
 }

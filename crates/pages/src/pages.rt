@@ -11,7 +11,7 @@ ghost use Rattle.pages.specs.Paged.{all_ready, applied, count_unready, is_page_r
 
 use crate::code::{all_code_at, has_word_at, touches_code};
 use crate::making::{bounds_of, copies_of, parts_of};
-use crate::prepare::{add_spares, make_all_ready, use_spare};
+use crate::prepare::{add_spares, make_all_ready, put_into, ready_page};
 use crate::{Fault, OutOfMemory, Part, Piece, Range, Store, Width};
 use std::alloc::Global;
 use std::marker::Model;
@@ -43,7 +43,12 @@ impl Model for Pages {
 impl Pages {
     /// Guest memory of so many pages, each byte that of the first piece that holds it, else 0. The pages
     /// that a piece touches are ready.
-    pub fn new(alloc: Global, count: u32, pieces: &[Piece], code: &[Range]) -> Result<Pages, OutOfMemory>
+    pub fn new(
+        alloc: Global,
+        count: u32,
+        pieces: &[Piece],
+        code: &[Range],
+    ) -> Result<Pages, OutOfMemory>
         requires least { 1 ≤ count }
         requires most { count ≤ 16384 }
         requires pieces { All (λ (p : PieceOf). p.start + length p.bytes.items ≤ 4096 * count) pieces.now }
@@ -219,11 +224,8 @@ impl Pages {
         ensures { self.new ≡ applied self.old s }
     {
         let parts = self.parts.as_mut_slice();
-        let page = (s.addr / 4096) as usize;
-        if !parts[page].ready() {
-            use_spare(parts, &mut self.spares, page);
-        }
-        parts[page].apply(s);
+        ready_page(parts, &mut self.spares, (s.addr / 4096) as usize);
+        put_into(parts, s);
     }
 
     /// The pages, one part each, in rising order.

@@ -2,7 +2,7 @@ ghost use Rattle.std.specs.Prelude.{◌≡◌, ◌+◌, ◌-◌, ◌*◌, ◌%�
 ghost use Rattle.pages.specs.Flat.{blank, full, in_page, is_ready};
 ghost use Rattle.pages.specs.Memory.{in_range, put, value_at, width_bytes};
 
-use crate::number::{number_in, write_number};
+use crate::number::{lay_over, number_in, write_number};
 use crate::{OutOfMemory, Store, Width};
 use std::alloc::Global;
 use std::marker::Model;
@@ -53,7 +53,12 @@ impl Part {
     }
 
     /// Lays bytes into the page from a place on, which makes it ready.
-    pub(crate) fn fill(&mut self, alloc: Global, place: usize, bytes: &[u8]) -> Result<(), OutOfMemory>
+    pub(crate) fn fill(
+        &mut self,
+        alloc: Global,
+        place: usize,
+        bytes: &[u8],
+    ) -> Result<(), OutOfMemory>
         requires { place + length bytes.now ≤ 4096 }
         ensures bytes { OnOk result ((k : ℕ) → k < 4096 → slice_index (full self.new) k ≡ (if in_range place (length bytes.now) k then slice_index bytes.now (k - place) else slice_index (full self.old) k)) }
         ensures ready { OnOk result (is_ready self.new ≡ true) }
@@ -61,7 +66,7 @@ impl Part {
         if self.bytes.is_empty() {
             self.bytes = vec![in alloc; 0; PAGE_BYTES]?;
         }
-        self.bytes[place..place + bytes.len()].copy_from_slice(bytes);
+        lay_over(&mut self.bytes, place, bytes);
         Ok(())
     }
 

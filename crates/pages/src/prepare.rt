@@ -1,9 +1,10 @@
-ghost use Rattle.std.specs.Prelude.{◌≡◌, ◌+◌, ◌<◌, ◌≤◌, ℕ, List, [], true, false, length, slice_index_or, slice_set, map, min, All, OnOk, OnErr, vec_len};
+ghost use Rattle.std.specs.Prelude.{◌≡◌, ◌+◌, ◌/◌, ◌%◌, ◌<◌, ◌≤◌, ◌⊎◌, ℕ, List, [], true, false, length, slice_index_or, slice_set, map, min, All, OnOk, OnErr, vec_len};
 ghost use Rattle.pages.specs.Flat.{blank, flat, is_ready};
 ghost use Rattle.pages.specs.Kept.{AllBlank};
-ghost use Rattle.pages.specs.Paged.{all_ready, count_unready};
+ghost use Rattle.pages.specs.Paged.{all_ready, count_unready, spare_after};
+ghost use Rattle.pages.specs.Memory.{put, width_bytes};
 
-use crate::{OutOfMemory, Part};
+use crate::{OutOfMemory, Part, Store};
 use std::alloc::Global;
 
 /// Makes a page ready with a spare one.
@@ -22,8 +23,42 @@ pub(crate) fn use_spare(parts: &mut [Part], spares: &mut Vec<Part>, page: usize)
     }
 }
 
+/// Sees that a page is ready, with a spare one if it is not.
+#[inline(always)]
+pub(crate) fn ready_page(parts: &mut [Part], spares: &mut Vec<Part>, page: usize)
+    requires page { page < length parts.old }
+    requires room { (is_ready (slice_index_or parts.old page []) ≡ true) ⊎ (0 < vec_len spares.old) }
+    requires blank { AllBlank spares.old.items }
+    ensures bytes { flat parts.new ≡ flat parts.old }
+    ensures ready { map is_ready parts.new ≡ slice_set (map is_ready parts.old) page true }
+    ensures spares { vec_len spares.new ≡ spare_after (is_ready (slice_index_or parts.old page [])) (vec_len spares.old) }
+    ensures blank { AllBlank spares.new.items }
+{
+    if parts[page].ready() {
+        return;
+    }
+    use_spare(parts, spares, page);
+}
+
+/// Does a store on its page, which is ready.
+#[inline(always)]
+pub(crate) fn put_into(parts: &mut [Part], s: Store)
+    requires page { s.addr / 4096 < length parts.old }
+    requires ready { is_ready (slice_index_or parts.old (s.addr / 4096) []) ≡ true }
+    requires aligned { s.addr % width_bytes s.width ≡ 0 }
+    ensures bytes { flat parts.new ≡ put (flat parts.old) s }
+    ensures ready { map is_ready parts.new ≡ map is_ready parts.old }
+{
+    parts[(s.addr / 4096) as usize].apply(s);
+}
+
 /// Makes a page ready, with a spare one if there is one.
-pub(crate) fn make_ready(alloc: Global, parts: &mut [Part], spares: &mut Vec<Part>, page: usize) -> Result<(), OutOfMemory>
+pub(crate) fn make_ready(
+    alloc: Global,
+    parts: &mut [Part],
+    spares: &mut Vec<Part>,
+    page: usize,
+) -> Result<(), OutOfMemory>
     requires page { page < length parts.old }
     requires blank { AllBlank spares.old.items }
     ensures bytes { flat parts.new ≡ flat parts.old }
@@ -43,7 +78,12 @@ pub(crate) fn make_ready(alloc: Global, parts: &mut [Part], spares: &mut Vec<Par
 }
 
 /// Makes the pages of a list ready.
-pub(crate) fn make_all_ready(alloc: Global, parts: &mut [Part], spares: &mut Vec<Part>, pages: &[u32]) -> Result<(), OutOfMemory>
+pub(crate) fn make_all_ready(
+    alloc: Global,
+    parts: &mut [Part],
+    spares: &mut Vec<Part>,
+    pages: &[u32],
+) -> Result<(), OutOfMemory>
     requires pages { All (λ (p : ℕ). p < length parts.old) pages.now }
     requires blank { AllBlank spares.old.items }
     ensures bytes { flat parts.new ≡ flat parts.old }
@@ -59,7 +99,12 @@ pub(crate) fn make_all_ready(alloc: Global, parts: &mut [Part], spares: &mut Vec
 }
 
 /// Adds spare pages until there are so many, or as many as pages that are not ready.
-pub(crate) fn add_spares(alloc: Global, parts: &[Part], spares: &mut Vec<Part>, count: usize) -> Result<(), OutOfMemory>
+pub(crate) fn add_spares(
+    alloc: Global,
+    parts: &[Part],
+    spares: &mut Vec<Part>,
+    count: usize,
+) -> Result<(), OutOfMemory>
     requires few { vec_len spares.old ≤ length parts.now }
     requires blank { AllBlank spares.old.items }
     ensures count { OnOk result (min count (count_unready (map is_ready parts.now)) ≤ vec_len spares.new) }

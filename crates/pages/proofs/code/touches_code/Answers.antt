@@ -9,8 +9,8 @@ use Rattle.pages.proofs.code.touches_code.Goals.{then-addr-end-via-then-addr-end
 pub returns-then-addr-end : goal.returns-then-addr-end
 returns-then-addr-end c =
     elim c.then-addr-end.branch [
-      then-addr-end-via-then-addr-end w ↦ sym (no_code_outside (width_bytes c.args.width) c.args.code.now c.args.start c.args.end c.args.addr c.requires.within (inr w.if-addr-end.true))
-    | then-addr-end-via-else-addr-end+then-addr-count w ↦ sym (no_code_outside (width_bytes c.args.width) c.args.code.now c.args.start c.args.end c.args.addr c.requires.within (inl (omega (arith, w.if-addr-count.true, c.bytes-count.ensures))))
+      | then-addr-end-via-then-addr-end w ↦ sym (no_code_outside (width_bytes c.args.width) c.args.code.now c.args.start c.args.end c.args.addr c.requires.within (inr w.if-addr-end.true))
+      | then-addr-end-via-else-addr-end+then-addr-count w ↦ sym (no_code_outside (width_bytes c.args.width) c.args.code.now c.args.start c.args.end c.args.addr c.requires.within (inl (omega (arith, w.if-addr-count.true, c.bytes-count.ensures))))
     ]
 
 pub returns : goal.returns

@@ -1,8 +1,23 @@
-use Rattle.std.proofs.Common.{◌≡◌, ◌<◌, ◌^◌, ◌%◌, ◌/◌, ◌+◌, ◌∙◌, ℕ, ap, sym, refl, arith, rules, length, get_or}
+use Rattle.std.proofs.Common.{◌≡◌, ◌∙◌, ◌*◌, ◌+◌, ℕ, ap, sym, rules, arith, length, get_or, drop, [], List}
+use Rattle.std.proofs.lemmas.List.{drop_all}
+use Rattle.pages.specs.declared.access.Piece.{Piece}
+use Rattle.pages.specs.Flat.{full, is_ready}
+use Rattle.pages.specs.Initial.{is_touched, piece_byte}
+use Rattle.pages.proofs.Laying.{page_from}
+use Rattle.pages.proofs.Page.{get_or-absent}
 use Rattle.pages.proofs.making.part_of.Goals as goal
 
 pub loop-left-init : goal.loop-left-init
-loop-left-init c = ?
+loop-left-init c =
+    let none : drop (length c.args.pieces.now) c.args.pieces.now ≡ [] = drop_all (length c.args.pieces.now) c.args.pieces.now (search rules) in
+    let empty : length c.absent-part.result ≡ 0 = ap length c.absent-part.ensures in
+    record {
+      within = search rules;
+      bytes = λ k h. get_or-absent c.absent-part.result k empty ∙ sym (ap (λ (ps : List Piece). piece_byte ps (4096 * c.args.page + k)) none);
+      ready = ap is_ready c.absent-part.ensures ∙ sym (ap (λ (ps : List Piece). is_touched ps c.args.page) none);
+    }
 
 pub returns-clause-bytes : goal.returns-clause-bytes
-returns-clause-bytes c = ?
+returns-clause-bytes c =
+    let none : c.loop-left.left ≡ 0 = search rules in
+    page_from c.loop-left.part c.args.pieces.now (4096 * c.args.page) (λ k h. c.loop-left.invariant.bytes k h ∙ ap (λ n. piece_byte (drop n c.args.pieces.now) (4096 * c.args.page + k)) none)

@@ -1,8 +1,18 @@
-use Rattle.std.proofs.Common.{◌≡◌, ◌<◌, ◌^◌, ◌%◌, ◌/◌, ◌+◌, ◌∙◌, ℕ, ap, sym, refl, arith, rules, length, get_or}
+use Rattle.std.proofs.Common.{◌≡◌, ◌∙◌, ◌*◌, ◌+◌, ◌++◌, ◌∷◌, ap, sym, rules, arith, map, []}
+use Rattle.pages.specs.Flat.{flat, is_ready}
+use Rattle.pages.proofs.Laying.{bytes_from-none, pages_more, touched_more}
 use Rattle.pages.proofs.making.parts_of.Goals as goal
 
-pub returns-clause-bytes : goal.returns-clause-bytes
-returns-clause-bytes c = ?
+pub loop-page-init : goal.loop-page-init
+loop-page-init c = record {
+  bytes = ap flat c.in_ok-parts.ensures.items ∙ sym (bytes_from-none c.args.pieces.now);
+  ready = ap (map is_ready) c.in_ok-parts.ensures.items;
+}
 
-pub returns-clause-ready : goal.returns-clause-ready
-returns-clause-ready c = ?
+pub loop-page-preserved : goal.loop-page-preserved
+loop-page-preserved c =
+    let pushed : c.push.new.self.items ≡ c.loop-page.parts.items ++ c.in_ok-part_of.field-0 ∷ [] = search rules in
+    record {
+      bytes = ap flat pushed ∙ pages_more c.args.pieces.now c.loop-page.parts.items c.in_ok-part_of.field-0 c.loop-page.page c.loop-page.invariant.bytes c.in_ok-part_of.ensures.bytes;
+      ready = ap (map is_ready) pushed ∙ touched_more c.args.pieces.now c.loop-page.parts.items c.in_ok-part_of.field-0 c.loop-page.page c.loop-page.invariant.ready c.in_ok-part_of.ensures.ready;
+    }

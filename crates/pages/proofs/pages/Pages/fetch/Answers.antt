@@ -16,16 +16,16 @@ returns-then-has_word_at c =
     let code = c.self.inside.code.items in
     let word : list_any (has_word c.args.pc) code ≡ true = search rules in
     elim c.match-get.branch [
-      in-Some w ↦
-        (let inside : c.args.pc / 4096 < length ps = search rules in
-        let part : w.in-Some.part.now ≡ get_or ps (c.args.pc / 4096) [] = search rules in
-        w.result-is
-        ∙ ap (λ v. Some v) (w.number.ensures.value ∙ ap (λ q. number_at (full q) (c.args.pc % 4096) 4) part)
-        ∙ fetch_inside ps code c.args.pc inside (search rules) (all_code_by_word code c.args.pc word)
-        ∙ ap (λ (h : Paged). fetched h.memory c.args.pc) c.self.view_is)
-    | in-None w ↦
-        (let outside : length ps ≤ c.args.pc / 4096 = search rules in
-        w.result-is
-        ∙ fetch_outside (record { bytes = flat ps; code = code }) c.args.pc (outside_page ps c.args.pc outside)
-        ∙ ap (λ (h : Paged). fetched h.memory c.args.pc) c.self.view_is)
+      | in-Some w ↦
+          (let inside : c.args.pc / 4096 < length ps = search rules in
+          let part : w.in-Some.part.now ≡ get_or ps (c.args.pc / 4096) [] = search rules in
+          w.result-is
+          ∙ ap (λ v. Some v) (w.number.ensures.value ∙ ap (λ q. number_at (full q) (c.args.pc % 4096) 4) part)
+          ∙ fetch_inside ps code c.args.pc inside (search rules) (all_code_by_word code c.args.pc word)
+          ∙ ap (λ (h : Paged). fetched h.memory c.args.pc) c.self.view_is)
+      | in-None w ↦
+          (let outside : length ps ≤ c.args.pc / 4096 = search rules in
+          w.result-is
+          ∙ fetch_outside (record { bytes = flat ps; code = code }) c.args.pc (outside_page ps c.args.pc outside)
+          ∙ ap (λ (h : Paged). fetched h.memory c.args.pc) c.self.view_is)
     ]
