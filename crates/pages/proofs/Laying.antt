@@ -7,7 +7,7 @@ use Rattle.std.proofs.lemmas.List.FromFn.{get_or-map-range_with_len, length-map-
 use Rattle.std.specs.List.{range_with_len}
 use Rattle.pages.specs.declared.access.Piece.{Piece}
 use Rattle.pages.specs.Flat.{blank, full, flat, is_ready}
-use Rattle.pages.specs.Initial.{bytes_from, is_touched, piece_byte}
+use Rattle.pages.specs.Initial.{bytes_from, get_or-bytes_from, is_touched, length-bytes_from, piece_byte}
 use Rattle.pages.specs.Memory.{in_range}
 use Rattle.pages.proofs.Page.{full_ready, length-full}
 use Rattle.pages.proofs.Lent.{flat-append}
@@ -61,14 +61,6 @@ laid_piece bs p a from to k x ef et l h =
     (λ (past : to ≤ a + k). ap (λ b. if b then get_or (slice_range bs (from - p) (to - p)) (k - (from - a)) 0 else x) (in_range_no (from - a) (to - from) k (inr (omega arith))) ∙ sym (ap (λ b. if b then get_or bs (a + k - p) 0 else x) (in_range_no p (length bs) (a + k) (inr (omega arith)))))
     (cases_lt (a + k) to))
     (cases_lt (a + k) from)
-
-pub length-bytes_from : (pieces : List Piece) (a n : ℕ) → length (bytes_from pieces a n) ≡ n
-unfolding bytes_from
-length-bytes_from pieces a n = length-map-range_with_len (piece_byte pieces) a n
-
-pub get_or-bytes_from : (pieces : List Piece) (a n k : ℕ) → k < n → get_or (bytes_from pieces a n) k 0 ≡ piece_byte pieces (a + k)
-unfolding bytes_from
-get_or-bytes_from pieces a n k h = get_or-map-range_with_len (piece_byte pieces) a n k (a + k) 0 h refl
 
 -- a page whose bytes are those of the pieces
 pub page_from : (q : List ℕ) (pieces : List Piece) (a : ℕ) → ((k : ℕ) → k < 4096 → get_or (full q) k 0 ≡ piece_byte pieces (a + k)) → full q ≡ bytes_from pieces a 4096

@@ -2,6 +2,8 @@ pub mod Code
 pub mod Flat
 pub mod Initial
 pub mod Kept
+pub mod Laws
 pub mod Lending
 pub mod Memory
 pub mod Paged
+pub mod StoreLaws

@@ -3,6 +3,7 @@
 
 mod access;
 mod code;
+mod laws;
 mod making;
 mod number;
 mod out_of_memory;
@@ -11,6 +12,7 @@ mod part;
 mod prepare;
 
 pub use access::{Fault, Piece, Range, Store, Width};
+pub use laws::{code_stays, last_store_wins};
 pub use number::{number_in, write_number};
 pub use out_of_memory::OutOfMemory;
 pub use pages::Pages;

@@ -1,0 +1,5 @@
+use Rattle.pages.specs.StoreLaws.{fetched_stays}
+use Rattle.pages.proofs.laws.code_stays.Goals as goal
+
+pub returns : goal.returns
+returns c = fetched_stays
