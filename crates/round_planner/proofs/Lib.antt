@@ -1,0 +1,4 @@
+pub mod Checks
+pub mod Found
+pub mod Told
+pub mod Unique

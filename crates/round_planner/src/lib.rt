@@ -1,0 +1,12 @@
+//! Plans of quotas: how many instructions each hart may do in each round, read from a text.
+#![tactic(auto)]
+
+mod plan;
+mod plan_error;
+mod reader;
+
+pub use plan::{Plan, reading_is_unique};
+pub use plan_error::PlanError;
+
+#[cfg(test)]
+mod tests;
