@@ -4,14 +4,18 @@
 mod amo;
 mod answer;
 mod bus;
+mod code_table;
 mod effects;
 mod hart;
 mod numbers;
 mod performing;
+mod rounds;
 mod stepping;
 
 pub use amo::amo_value;
 pub use bus::Bus;
+pub use code_table::CodeTable;
 pub use hart::{Hart, Stop};
 pub use round_schedule::{Access, Span, Stepped};
+pub use rounds::hart_round;
 pub use stepping::step;
