@@ -10,3 +10,4 @@ pub mod Rounds
 pub mod SerialStep
 pub mod Step
 pub mod Words
+pub mod Room

@@ -1,2 +1,4 @@
 pub mod Taken
 pub mod Text
+pub mod Pending
+pub mod Report
