@@ -1,1 +1,4 @@
 pub mod TurnLists
+pub mod TableUpdates
+pub mod ServedWords
+pub mod PlainSteps

@@ -1,2 +1,4 @@
 pub mod Roomed
 pub mod Turns
+pub mod Words
+pub mod Plain

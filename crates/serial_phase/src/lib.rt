@@ -3,6 +3,9 @@
 
 mod console;
 mod log;
+mod plain;
+mod serving;
+mod word;
 
 pub use console::Console;
 pub use log::SerialLog;

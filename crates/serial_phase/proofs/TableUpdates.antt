@@ -1,0 +1,79 @@
+-- The table of reservations after the calls that each access makes.
+use Rattle.std.proofs.Common.{◌≡◌, ℕ, zero, suc, ◌+◌, ◌<◌, ◌==◌, ◌&&◌, ◌||◌, Bool, true, false, cond, List, [], ◌∷◌, length, get_or, Option, Some, None, refl, sym, ap, ◌∙◌, arith}
+use Rattle.std.proofs.lemmas.List.{ext_get_or}
+use Rattle.pages.specs.declared.access.Width.{Width}
+use Rattle.pages.specs.Memory.{width_bytes, in_range}
+use Rattle.rv64_decode.specs.declared.ordering.AcquireRelease.{AcquireRelease}
+use Rattle.round_schedule.specs.declared.access.Access.{Access}
+use Rattle.round_schedule.specs.declared.access.Access.TheVariants.{Load, Store, LoadReserved, StoreConditional, Atomic, Fence}
+use Rattle.round_schedule.specs.declared.span.Span.{Span}
+use Rattle.round_schedule.specs.Accesses.{writes}
+use Rattle.round_schedule.specs.Desk.{updated}
+use Rattle.round_schedule.specs.Held.{any_byte, unless, kept_by_own}
+use Rattle.round_schedule.specs.Tables.{entry, Sets, Drops, Breaks}
+
+length-updated : (i j : ℕ) (a : Access) (table : List (Option Span)) → length (updated i j a table) ≡ length table
+length-updated i j a [] = refl
+length-updated i j a (r ∷ rs) = ap suc (length-updated i (suc j) a rs)
+
+entry-updated : (i j : ℕ) (a : Access) (table : List (Option Span)) (h : ℕ) → h < length table →
+    entry (updated i j a table) h ≡ cond (i == j + h) (kept_by_own a (entry table h)) (unless (writes a) (entry table h))
+entry-updated i j a [] h low = absurd (omega arith)
+entry-updated i j a (r ∷ rs) zero low = ap (λ (k : ℕ). cond (i == k) (kept_by_own a r) (unless (writes a) r)) (omega arith)
+entry-updated i j a (r ∷ rs) (suc h) low =
+    entry-updated i (suc j) a rs h (omega arith)
+    ∙ ap (λ (k : ℕ). cond (i == k) (kept_by_own a (entry rs h)) (unless (writes a) (entry rs h))) (omega arith)
+
+-- a table whose entries are those after an access
+pub updated_is : (i : ℕ) (a : Access) (old new : List (Option Span)) → length new ≡ length old →
+    ((h : ℕ) → h < length old → entry new h ≡ cond (i == h) (kept_by_own a (entry old h)) (unless (writes a) (entry old h))) → new ≡ updated i 0 a old
+updated_is i a old new size each =
+    ext_get_or None new (updated i 0 a old) (size ∙ sym (length-updated i 0 a old)) (λ h low.
+    each h (omega (arith, size))
+    ∙ ap (λ (k : ℕ). cond (i == k) (kept_by_own a (entry old h)) (unless (writes a) (entry old h))) (omega arith)
+    ∙ sym (entry-updated i 0 a old h (omega (arith, size))))
+
+none_passes : (f : ℕ → Bool) (a n : ℕ) → ((x : ℕ) → f x ≡ false) → any_byte f a n ≡ false
+none_passes f a zero h = refl
+none_passes f a (suc n) h = ap (λ (b : Bool). b || any_byte f (a + 1) n) (h a) ∙ none_passes f (a + 1) n h
+
+-- nothing is written, and nothing is broken
+pub quiet : (f : ℕ → Bool) (r : Option Span) → ((x : ℕ) → f x ≡ false) → unless f r ≡ r
+quiet f None h = refl
+quiet f (Some s) h = ap (λ (b : Bool). cond b None (Some s)) (none_passes f s.address (width_bytes s.width) h)
+
+either : {A : Type 0} (b : Bool) (x y z : A) → (y ≡ z) → cond b x y ≡ cond b x z
+either b x y z e = ap (cond b x) e
+
+same_either : {A : Type 0} (b : Bool) (x : A) → cond b x x ≡ x
+same_either true x = refl
+same_either false x = refl
+
+-- an access that writes nothing and is no LR or SC leaves the table
+pub table_stays : (i : ℕ) (a : Access) (table : List (Option Span)) → ((x : ℕ) → writes a x ≡ false) → ((r : Option Span) → kept_by_own a r ≡ r) → table ≡ updated i 0 a table
+table_stays i a table none own = updated_is i a table table refl (λ h low.
+    sym (ap (λ (r : Option Span). cond (i == h) r (unless (writes a) (entry table h))) (own (entry table h))
+    ∙ either (i == h) (entry table h) (unless (writes a) (entry table h)) (entry table h) (quiet (writes a) (entry table h) none)
+    ∙ same_either (i == h) (entry table h)))
+
+pub table_reserved : (i : ℕ) (w : Width) (o : AcquireRelease) (p x v : ℕ) (old new : List (Option Span)) → Sets i (record { address = x; width = w }) old new → new ≡ updated i 0 (LoadReserved w o p x v) old
+table_reserved i w o p x v old new s = updated_is i (LoadReserved w o p x v) old new s.size (λ h low.
+    s.each h low ∙ either (i == h) (Some (record { address = x; width = w })) (entry old h) (unless (writes (LoadReserved w o p x v)) (entry old h)) (sym (quiet (writes (LoadReserved w o p x v)) (entry old h) (λ y. refl))))
+
+pub table_failed : (i : ℕ) (w : Width) (o : AcquireRelease) (p x : ℕ) (old new : List (Option Span)) → Drops i old new → new ≡ updated i 0 (StoreConditional w o p x None) old
+table_failed i w o p x old new d = updated_is i (StoreConditional w o p x None) old new d.size (λ h low.
+    d.each h low ∙ either (i == h) None (entry old h) (unless (writes (StoreConditional w o p x None)) (entry old h)) (sym (quiet (writes (StoreConditional w o p x None)) (entry old h) (λ y. refl))))
+
+pub table_stored : (i : ℕ) (w : Width) (p x v : ℕ) (old new : List (Option Span)) → Breaks i (record { address = x; width = w }) old new → new ≡ updated i 0 (Store w p x v) old
+table_stored i w p x v old new b = updated_is i (Store w p x v) old new b.size b.each
+
+pub table_exchanged : (i : ℕ) (w : Width) (o : AcquireRelease) (p x r v : ℕ) (old new : List (Option Span)) → Breaks i (record { address = x; width = w }) old new → new ≡ updated i 0 (Atomic w o p x r v) old
+table_exchanged i w o p x r v old new b = updated_is i (Atomic w o p x r v) old new b.size b.each
+
+by_owner : (b : Bool) (f : ℕ → Bool) (x y z : Option Span) → y ≡ cond b None x → z ≡ cond b y (unless f y) → z ≡ cond b None (unless f x)
+by_owner true f x y z e g = g ∙ e
+by_owner false f x y z e g = g ∙ ap (unless f) e
+
+pub table_succeeded : (i : ℕ) (w : Width) (o : AcquireRelease) (p x v : ℕ) (old mid new : List (Option Span)) → Drops i old mid → Breaks i (record { address = x; width = w }) mid new → new ≡ updated i 0 (StoreConditional w o p x (Some v)) old
+table_succeeded i w o p x v old mid new d b = updated_is i (StoreConditional w o p x (Some v)) old new (b.size ∙ d.size) (λ h low.
+    by_owner (i == h) (in_range x (width_bytes w)) (entry old h) (entry mid h) (entry new h) (d.each h low) (b.each h (omega (arith, d.size))))

@@ -1,0 +1,14 @@
+use Rattle.std.proofs.Common.{◌≡◌, refl, sym, subst}
+use Rattle.round_schedule.specs.declared.access.Access.{Access}
+use Rattle.round_schedule.specs.Desk.{updated}
+use Rattle.serial_phase.proofs.TableUpdates.{table_stays, table_stored}
+use Rattle.serial_phase.proofs.plain.note.Goals as goal
+
+pub returns-in-Store : goal.returns-in-Store
+returns-in-Store c = subst (λ (a : Access). c.break_by.new.self ≡ updated c.args.hart 0 a c.args.table.now) (sym c.in-Store.is) (table_stored c.args.hart _ _ _ _ _ _ c.break_by.ensures)
+
+pub returns-in-Load : goal.returns-in-Load
+returns-in-Load c = subst (λ (a : Access). c.args.table.now ≡ updated c.args.hart 0 a c.args.table.now) (sym c.in-Load.is) (table_stays c.args.hart _ _ (λ x. refl) (λ r. refl))
+
+pub returns-in-Fence : goal.returns-in-Fence
+returns-in-Fence c = subst (λ (a : Access). c.args.table.now ≡ updated c.args.hart 0 a c.args.table.now) (sym c.in-Fence.is) (table_stays c.args.hart _ _ (λ x. refl) (λ r. refl))

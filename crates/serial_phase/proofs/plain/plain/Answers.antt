@@ -1,0 +1,25 @@
+use Rattle.std.proofs.Common.{◌≡◌, refl, sym, ap, subst, ◌∙◌}
+use Rattle.pages.specs.Paged.{Paged}
+use Rattle.round_schedule.specs.declared.access.Stepped.{Stepped}
+use Rattle.hart_step.specs.Room.{TakesDirectly}
+use Rattle.hart_step.specs.Step.{stepped}
+use Rattle.serial_phase.specs.Plain.{IsPlainAnswer}
+use Rattle.serial_phase.specs.Words.{answered_table}
+use Rattle.serial_phase.proofs.PlainSteps.{good_step, all_room, if_ok, on_ok}
+use Rattle.serial_phase.proofs.plain.plain.Goals as goal
+
+pub unwrap-answer-requires : goal.unwrap-answer-requires
+unwrap-answer-requires c = c.step.ensures.room (all_room c.args.pages.now c.args.h.now _ c.count-pages.ensures.pages c.count-pages.ensures.bytes c.requires.room)
+
+pub note_answer-requires : goal.note_answer-requires
+note_answer-requires c = subst IsPlainAnswer (sym (if_ok _ _ _ c.unwrap-answer.ensures c.step.ensures.answer)) (good_step c.args.pages.now.memory c.args.h.now).plain
+
+pub returns : goal.returns
+returns c =
+    let e = if_ok (λ s. s ≡ (stepped c.args.h.now c.args.pages.now.memory).answer) _ _ c.unwrap-answer.ensures c.step.ensures.answer in
+    record {
+      answer = e;
+      hart = on_ok _ _ _ c.unwrap-answer.ensures c.step.ensures.hart;
+      pages = on_ok _ _ _ c.unwrap-answer.ensures c.step.ensures.takes;
+      table = c.note_answer.ensures ∙ ap (λ (s : Stepped). answered_table c.args.hart s c.args.table.now) e;
+    }

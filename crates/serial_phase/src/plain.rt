@@ -1,0 +1,52 @@
+ghost use Rattle.std.specs.Prelude.{◌≡◌, ◌<◌, length, None};
+ghost use Rattle.hart_step.specs.Room.{HasSpares};
+ghost use Rattle.hart_step.specs.Step.{stepped};
+ghost use Rattle.round_schedule.specs.Desk.{updated};
+ghost use Rattle.serial_phase.specs.Plain.{IsPlain, IsPlainAnswer};
+ghost use Rattle.serial_phase.specs.Words.{Leaves, answered_table};
+
+use hart_step::{Hart, step};
+use pages::Pages;
+use reservations::Reservations;
+use round_schedule::{Access, Stepped};
+
+/// Does an instruction that has no effect of its own in the serial phase, on memory itself. Its store breaks
+/// the reservations of other harts at once.
+pub fn plain(h: &mut Hart, pages: &mut Pages, table: &mut Reservations, hart: u32) -> Stepped
+    requires running { h.old.stop ≡ None }
+    requires room { HasSpares 1 pages.old }
+    ensures { Leaves hart (stepped h.old pages.old.memory) result h.new pages.old pages.new table.old table.new }
+{
+    // A store that has no fault lies in one of these pages.
+    let _pages = pages.count();
+    let answer = step(h, pages).unwrap();
+    note_answer(answer, table, hart);
+    answer
+}
+
+/// Breaks the reservations that a plain instruction breaks.
+fn note_answer(answer: Stepped, table: &mut Reservations, hart: u32)
+    requires { IsPlainAnswer answer }
+    ensures { table.new ≡ answered_table hart answer table.old }
+{
+    match answer {
+        Stepped::Done(Some(access)) => note(access, table, hart),
+        Stepped::Done(None) => {}
+        Stepped::Waits => {}
+        Stepped::Stopped(_) => {}
+    }
+}
+
+fn note(access: Access, table: &mut Reservations, hart: u32)
+    requires { IsPlain access }
+    ensures { table.new ≡ updated hart 0 access table.old }
+{
+    match access {
+        Access::Store { width, address, .. } => table.break_by(hart, address, width),
+        Access::Load { .. } => {}
+        Access::Fence { .. } => {}
+        Access::LoadReserved { .. } => unreachable!(),
+        Access::StoreConditional { .. } => unreachable!(),
+        Access::Atomic { .. } => unreachable!(),
+    }
+}
