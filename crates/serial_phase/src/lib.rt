@@ -5,6 +5,7 @@ mod console;
 mod log;
 mod plain;
 mod serving;
+mod turn;
 mod word;
 
 pub use console::Console;

@@ -1,14 +1,15 @@
 //! What the serial words leave, one function for each kind.
-ghost use Rattle.std.specs.Prelude.{◌≡◌, ℕ, ◌<◌, ◌≤◌, ◌+◌, ◌^◌, if◌then◌else◌, nat_lt, [], ◌∷◌, length, Option, Some, None, IsTrue};
+ghost use Rattle.std.specs.Prelude.{◌≡◌, ℕ, ◌<◌, ◌≤◌, ◌+◌, ◌^◌, if◌then◌else◌, nat_lt, [], ◌∷◌, List, length, Option, Some, None, IsTrue};
 ghost use Rattle.pages.specs.Memory.{loaded, store_fault, value_at};
 ghost use Rattle.round_schedule.specs.declared.access.Stepped.TheVariants.{Done, Stopped};
 ghost use Rattle.round_schedule.specs.Tables.{entry};
+ghost use Rattle.round_schedule.specs.declared.span.Span.{Span as SpanOf};
 ghost use Rattle.hart_step.specs.Amo.{is_amo, amo_value_of};
 ghost use Rattle.hart_step.specs.Room.{HasSpares, TakesDirectly};
 ghost use Rattle.hart_step.specs.SerialStep.{reserved_by, conditional_by, exchanged_by, is_reserved, called};
 ghost use Rattle.hart_step.specs.Step.{went_on, next_pc, stopped_with, fault_code, fenced, width_bits, cut};
 ghost use Rattle.hart_step.specs.Numbers.{sx};
-ghost use Rattle.serial_phase.specs.Words.{Leaves, Succeeds};
+ghost use Rattle.serial_phase.specs.Words.{Leaves, Succeeds, answered_table};
 ghost use Rattle.serial_phase.specs.Roomed.{HasRoom};
 
 use crate::console::Console;
@@ -270,8 +271,10 @@ pub fn call(h: &mut Hart, console: &mut Console, round: u32) -> Stepped
     ensures answer { result ≡ (called round h.old console.old.console).answer }
     ensures hart { h.new ≡ (called round h.old console.old.console).hart }
     ensures stores { (called round h.old console.old.console).stores ≡ [] }
+    ensures table { (i : ℕ) (table : List (Option SpanOf)) → answered_table i (called round h.old console.old.console).answer table ≡ table }
     ensures console { console.new.console ≡ (called round h.old console.old.console).console }
     ensures room { console.old.room ≤ console.new.room + 1 }
+    ensures output { length console.old.console.output ≤ length console.new.console.output }
 {
     let argument = h.reg(Reg::new(10));
     let answer = match h.reg(Reg::new(17)) {
