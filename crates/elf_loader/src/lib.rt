@@ -1,0 +1,13 @@
+//! Loading guest programs: ELF files and flat files, as pieces of guest memory.
+#![tactic(auto)]
+
+mod flat;
+mod image;
+mod load_error;
+
+pub use flat::load_flat;
+pub use image::Image;
+pub use load_error::LoadError;
+
+#[cfg(test)]
+mod tests;
