@@ -1,2 +1,6 @@
 pub mod Causes
+pub mod Elf
+pub mod ElfCauses
+pub mod ElfTests
 pub mod Image
+pub mod Segments
