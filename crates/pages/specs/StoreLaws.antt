@@ -83,7 +83,8 @@ first_byte v a =
     let none : 8 * (a - a) ≡ 0 = omega arith in
     ap (λ x. x % 2 ^ 8) (sym (div-one v)) ∙ ap (λ j. v / 2 ^ j % 2 ^ 8) (sym none)
 
-written_at : (n : ℕ) (bs : List ℕ) (a v k : ℕ) → k < length bs → get_or (written bs a v n) k 0 ≡ (if in_range a n k then byte_of v (k - a) else get_or bs k 0)
+-- a byte after the low bytes of a value are written
+pub written_at : (n : ℕ) (bs : List ℕ) (a v k : ℕ) → k < length bs → get_or (written bs a v n) k 0 ≡ (if in_range a n k then byte_of v (k - a) else get_or bs k 0)
 written_at zero bs a v k h = ap (λ b. if b then byte_of v (k - a) else get_or bs k 0) (sym (none a k))
     where
       none : (a k : ℕ) → in_range a 0 k ≡ false

@@ -1,0 +1,4 @@
+pub mod LineBits
+pub mod LineNumbers
+pub mod LineOrder
+pub mod LoadsOver

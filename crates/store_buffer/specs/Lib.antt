@@ -1,0 +1,4 @@
+pub mod Covered
+pub mod CoveredLaws
+pub mod Held
+pub mod Lines

@@ -1,0 +1,34 @@
+-- The bytes that lines of 64 hold.
+use Rattle.std.specs.Prelude.{ℕ, zero, suc, ◌+◌, ◌*◌, ◌/◌, ◌%◌, ◌^◌, ◌==◌, Bool, true, false, List, [], ◌∷◌, ◌++◌, Option, Some, None, slice_index, unwrap_or}
+use Rattle.store_buffer.specs.declared.line.Line.{Line}
+
+-- a byte, if its bit is set
+abbrev pub byte_if : Bool → ℕ → Option ℕ
+byte_if true b = Some (b % 2 ^ 8)
+byte_if false b = None
+
+-- the byte at a place of a line, if it is covered
+abbrev pub line_at : Line → ℕ → Option ℕ
+line_at l j = byte_if (l.mask / 2 ^ j % 2 == 1) (slice_index l.bytes j)
+
+abbrev pub put_first : ℕ → Option ℕ → List (ℕ × ℕ) → List (ℕ × ℕ)
+put_first a None es = es
+put_first a (Some b) es = (a, b) ∷ es
+
+-- the covered bytes of n places from j on, in a line that starts at a
+abbrev pub line_bytes : ℕ → Line → ℕ → ℕ → List (ℕ × ℕ)
+line_bytes a l j zero = []
+line_bytes a l j (suc n) = put_first (a + j) (line_at l j) (line_bytes a l (j + 1) n)
+
+-- the covered bytes of the line of this number
+unfoldable pub whole_line : ℕ → Line → List (ℕ × ℕ)
+whole_line k l = line_bytes (64 * k) l 0 64
+
+abbrev pub lines_bytes : List (ℕ × Line) → List (ℕ × ℕ)
+lines_bytes [] = []
+lines_bytes (e ∷ es) = whole_line e.0 e.1 ++ lines_bytes es
+
+-- a number of n bytes with the covered bytes of a line in the place of its own
+abbrev pub number_over : Line → ℕ → ℕ → ℕ → ℕ
+number_over l j m zero = 0
+number_over l j m (suc n) = unwrap_or (line_at l j) (m % 2 ^ 8) + 2 ^ 8 * number_over l (j + 1) (m / 2 ^ 8) n

@@ -1,0 +1,84 @@
+ghost use Rattle.std.specs.Prelude.{◌≡◌, ◌/◌, ◌%◌, ℕ, [], OnOk, OnErr, IsOk, IsSome};
+ghost use Rattle.pages.specs.Memory.{loaded, stored, width_bytes};
+ghost use Rattle.store_buffer.specs.Covered.{Rising, byte_at, stores_of, with_store};
+
+use crate::{LINE_BYTES, Line};
+use pages::{Fault, OutOfMemory, Pages, Store, Width};
+use std::alloc::Global;
+use std::collections::BTreeMap;
+use std::marker::Model;
+
+/// The bytes that stores have put, each with its address.
+#[derive(Drop)]
+pub struct StoreBuffer {
+    lines: BTreeMap<u64, Line>,
+}
+
+impl Model for StoreBuffer {
+    ghost use Rattle.std.specs.Prelude.{ℕ, List};
+
+    ghost Value = { List (ℕ × ℕ) };
+
+    ghost use Rattle.store_buffer.specs.Held.{Held};
+    ghost use Rattle.store_buffer.specs.Lines.{lines_bytes};
+
+    ghost view = { λ b. lines_bytes b.lines.entries };
+
+    ghost invariant = { λ b. Held b.lines };
+}
+
+impl StoreBuffer {
+    /// An empty buffer. It takes no memory.
+    pub fn new(alloc: Global) -> StoreBuffer
+        ensures { result ≡ [] }
+    {
+        StoreBuffer {
+            lines: BTreeMap::new(alloc),
+        }
+    }
+
+    /// Puts the bytes of a store over those that are there. A line of 64 bytes that is there takes no memory.
+    #[inline]
+    pub fn put(&mut self, s: Store) -> Result<(), OutOfMemory>
+        requires { s.addr % width_bytes s.width ≡ 0 }
+        ensures ok { OnOk result (self.new ≡ with_store self.old s) }
+        ensures err { OnErr result (self.new ≡ self.old) }
+        ensures room { (x : ℕ) → x / 64 ≡ s.addr / 64 → IsSome (byte_at self.old x) → IsOk result }
+        ensures rising { Rising 0 self.new }
+    {
+        let number = s.addr / LINE_BYTES;
+        match self.lines.get_mut(&number) {
+            Some(line) => {
+                line.put(s.addr % LINE_BYTES, s.width, s.value);
+                return Ok(());
+            }
+            None => {}
+        }
+        let mut line = Line::empty();
+        line.put(s.addr % LINE_BYTES, s.width, s.value);
+        self.lines.insert(number, line)?;
+        Ok(())
+    }
+
+    /// The number of this width at an address of guest memory, with the buffer's bytes over those of memory,
+    /// or why it cannot be loaded.
+    #[inline]
+    pub fn read_over(&self, p: &Pages, addr: u64, width: Width) -> Result<u64, Fault>
+        ensures { result ≡ loaded (stored p.now.memory (stores_of self.now)) addr width }
+    {
+        let number = p.read(addr, width)?;
+        p.bytes_fit();
+        match self.lines.get(&(addr / LINE_BYTES)) {
+            Some(line) => Ok(line.over(number, addr % LINE_BYTES, width)),
+            None => Ok(number),
+        }
+    }
+
+    /// The addresses of the buffer's bytes rise, and each of them is a byte.
+    #[inline(always)]
+    pub fn bytes_rise(&self)
+        ensures { Rising 0 self.now }
+    {
+        let _lines = &self.lines;
+    }
+}
