@@ -1,4 +1,5 @@
 pub mod LineBits
+pub mod LineFirst
 pub mod LineNumbers
 pub mod LineOrder
 pub mod LoadsOver

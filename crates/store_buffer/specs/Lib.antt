@@ -1,4 +1,5 @@
 pub mod Covered
 pub mod CoveredLaws
 pub mod Held
+pub mod Laws
 pub mod Lines

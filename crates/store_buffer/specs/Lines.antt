@@ -1,5 +1,5 @@
 -- The bytes that lines of 64 hold.
-use Rattle.std.specs.Prelude.{ℕ, zero, suc, ◌+◌, ◌*◌, ◌/◌, ◌%◌, ◌^◌, ◌==◌, Bool, true, false, List, [], ◌∷◌, ◌++◌, Option, Some, None, slice_index, unwrap_or}
+use Rattle.std.specs.Prelude.{ℕ, zero, suc, ◌+◌, ◌*◌, ◌/◌, ◌%◌, ◌^◌, ◌==◌, Bool, true, false, List, [], ◌∷◌, ◌++◌, map, Option, Some, None, slice_index, unwrap_or}
 use Rattle.store_buffer.specs.declared.line.Line.{Line}
 
 -- a byte, if its bit is set
@@ -20,13 +20,23 @@ abbrev pub line_bytes : ℕ → Line → ℕ → ℕ → List (ℕ × ℕ)
 line_bytes a l j zero = []
 line_bytes a l j (suc n) = put_first (a + j) (line_at l j) (line_bytes a l (j + 1) n)
 
--- the covered bytes of the line of this number
+-- the covered bytes of a line that starts at an address
 unfoldable pub whole_line : ℕ → Line → List (ℕ × ℕ)
-whole_line k l = line_bytes (64 * k) l 0 64
+whole_line a l = line_bytes a l 0 64
 
+-- the bytes of lines, each with its number
 abbrev pub lines_bytes : List (ℕ × Line) → List (ℕ × ℕ)
 lines_bytes [] = []
-lines_bytes (e ∷ es) = whole_line e.0 e.1 ++ lines_bytes es
+lines_bytes (e ∷ es) = whole_line (64 * e.0) e.1 ++ lines_bytes es
+
+-- the bytes of lines, each with the address of its first byte
+abbrev pub lent_bytes : List (ℕ × Line) → List (ℕ × ℕ)
+lent_bytes [] = []
+lent_bytes (e ∷ es) = whole_line e.0 e.1 ++ lent_bytes es
+
+-- lines with addresses for their numbers
+abbrev pub addressed : List (ℕ × Line) → List (ℕ × Line)
+addressed es = map (λ e. (64 * e.0, e.1)) es
 
 -- a number of n bytes with the covered bytes of a line in the place of its own
 abbrev pub number_over : Line → ℕ → ℕ → ℕ → ℕ

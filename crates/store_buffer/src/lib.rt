@@ -1,8 +1,14 @@
 //! The stores that a hart has done since the round began: bytes over guest memory, in lines of 64.
 #![tactic(auto)]
 
+mod laws;
 mod line;
+mod lines;
 mod store_buffer;
+mod stores;
 
+pub use laws::bytes_keep_history;
 pub use line::{LINE_BYTES, Line};
+pub use lines::Lines;
 pub use store_buffer::StoreBuffer;
+pub use stores::Stores;

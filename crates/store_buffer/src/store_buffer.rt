@@ -1,8 +1,10 @@
-ghost use Rattle.std.specs.Prelude.{◌≡◌, ◌/◌, ◌%◌, ℕ, [], OnOk, OnErr, IsOk, IsSome};
+ghost use Rattle.std.specs.Prelude.{◌≡◌, ◌/◌, ◌%◌, ◌^◌, ◌<◌, ◌↔◌, ℕ, [], All, IsTrue, OnOk, OnErr, IsOk, IsSome};
 ghost use Rattle.pages.specs.Memory.{loaded, stored, width_bytes};
+ghost use Rattle.store_buffer.specs.declared.line.Line.{Line as LineOf};
+ghost use Rattle.store_buffer.specs.Lines.{lent_bytes};
 ghost use Rattle.store_buffer.specs.Covered.{Rising, byte_at, stores_of, with_store};
 
-use crate::{LINE_BYTES, Line};
+use crate::{LINE_BYTES, Line, Lines, Stores};
 use pages::{Fault, OutOfMemory, Pages, Store, Width};
 use std::alloc::Global;
 use std::collections::BTreeMap;
@@ -72,6 +74,37 @@ impl StoreBuffer {
             Some(line) => Ok(line.over(number, addr % LINE_BYTES, width)),
             None => Ok(number),
         }
+    }
+
+    /// Each byte once, as a store of width 1, in rising address.
+    #[inline]
+    pub fn stores(&self) -> Stores<'_>
+        ensures { result ≡ self.now }
+    {
+        Stores::new(self.lines.iter())
+    }
+
+    /// The lines that hold bytes, each with the address of its first, in rising address.
+    #[inline]
+    pub fn lines(&self) -> Lines<'_>
+        ensures bytes { lent_bytes result ≡ self.now }
+        ensures aligned { All (λ (e : ℕ × LineOf). (e.0 % 64 ≡ 0) × (e.0 < 2 ^ 64)) result }
+    {
+        Lines::new(self.lines.iter())
+    }
+
+    /// Whether there are no bytes.
+    pub fn is_empty(&self) -> bool
+        ensures { IsTrue result ↔ (self.now ≡ []) }
+    {
+        self.stores().next().is_none()
+    }
+
+    /// Takes all bytes out.
+    pub fn clear(&mut self)
+        ensures { self.new ≡ [] }
+    {
+        self.lines.clear();
     }
 
     /// The addresses of the buffer's bytes rise, and each of them is a byte.
