@@ -1,11 +1,10 @@
 -- Pages end to end.
-use Rattle.std.proofs.Common.{◌≡◌, ℕ, zero, suc, ◌+◌, ◌-◌, ◌*◌, ◌/◌, ◌%◌, ◌^◌, ◌<◌, ◌≤◌, List, [], ◌∷◌, ◌++◌, length, get_or, set, map, take, drop, refl, sym, ap, ◌∙◌, arith, All, Bool, ◌⊎◌, ⊎_elim}
-use Rattle.std.proofs.lemmas.Bool.{cases_lt}
-use Rattle.std.proofs.lemmas.List.{length-append, length-set, get_or_append_left, get_or-append-add, set-append_left, set-append_right, map-set, get_or_past}
+use Rattle.std.proofs.Common.{◌≡◌, ℕ, zero, suc, ◌+◌, ◌*◌, ◌/◌, ◌%◌, ◌^◌, ◌<◌, ◌≤◌, List, [], ◌∷◌, ◌++◌, length, get_or, set, refl, sym, ap, ◌∙◌, arith}
+use Rattle.std.proofs.lemmas.List.{length-append, length-set, get_or_append_left, get_or-append-add, set-append_left, set-append_right}
 use Rattle.std.proofs.lemmas.List.Elements.{All-from_get_or, All-append, All-nil}
-use Rattle.pages.specs.Flat.{blank, full, flat, is_ready}
-use Rattle.pages.specs.Memory.{number_at, value_at, written, IsBytes}
-use Rattle.pages.proofs.Page.{length-full, get_or-full, length-written}
+use Rattle.pages.specs.Flat.{blank, full, flat}
+use Rattle.pages.specs.Memory.{number_at, written, IsBytes}
+use Rattle.pages.proofs.Page.{length-full, get_or-full}
 
 pub length-flat : (ps : List (List ℕ)) → length (flat ps) ≡ 4096 * length ps
 length-flat [] = refl

@@ -1,12 +1,11 @@
 -- Bytes laid over others, and the pages that pieces make.
-use Rattle.std.proofs.Common.{◌≡◌, ℕ, suc, zero, ◌+◌, ◌-◌, ◌*◌, ◌%◌, ◌^◌, ◌<◌, ◌≤◌, List, [], ◌∷◌, ◌++◌, length, map, take, drop, get_or, set, refl, sym, ap, ◌∙◌, arith, Bool, true, false, ◌||◌, if◌then◌else◌, nat_lt, nat_le, ◌&&◌, ◌⊎◌, ⊎_elim, inl, inr, min, max, slice_range, slice_index}
+use Rattle.std.proofs.Common.{◌≡◌, ℕ, suc, zero, ◌+◌, ◌-◌, ◌*◌, ◌^◌, ◌<◌, ◌≤◌, List, [], ◌∷◌, ◌++◌, length, map, take, drop, get_or, refl, sym, ap, ◌∙◌, arith, true, false, if◌then◌else◌, ◌⊎◌, ⊎_elim, inl, inr, min, max, slice_range, slice_index}
 use Rattle.std.proofs.lemmas.Bool.{cases_lt}
 use Rattle.std.proofs.lemmas.Bool.Decides.{nat_tests}
-use Rattle.std.proofs.lemmas.List.{append-nil, append_assoc, drop_all, drop_more, ext_get_or, get_or-append_right, get_or-drop, get_or-take, get_or_append_left, length-append, length-drop, length-map, length-take, length-take-le, map-append, take_at}
-use Rattle.std.proofs.lemmas.List.FromFn.{get_or-map-range_with_len, length-map-range_with_len}
+use Rattle.std.proofs.lemmas.List.{append-nil, drop_more, ext_get_or, get_or-append_right, get_or-drop, get_or-take, get_or_append_left, length-drop, length-take, length-take-le, map-append, take_at}
 use Rattle.std.specs.List.{range_with_len}
 use Rattle.pages.specs.declared.access.Piece.{Piece}
-use Rattle.pages.specs.Flat.{blank, full, flat, is_ready}
+use Rattle.pages.specs.Flat.{full, flat, is_ready}
 use Rattle.pages.specs.Initial.{bytes_from, get_or-bytes_from, is_touched, length-bytes_from, piece_byte}
 use Rattle.pages.specs.Memory.{in_range}
 use Rattle.pages.proofs.Page.{full_ready, length-full}

@@ -1,9 +1,8 @@
 -- The pages when the parts that they lent come back.
-use Rattle.std.proofs.Common.{◌≡◌, ℕ, suc, zero, ◌+◌, ◌*◌, ◌≤◌, List, [], ◌∷◌, ◌++◌, length, map, take, drop, refl, sym, ap, ◌∙◌, arith}
-use Rattle.std.proofs.lemmas.List.{length-map, drop-map, take-map, map-append, append_assoc, take-append-drop, drop_at, take_at}
+use Rattle.std.proofs.Common.{◌≡◌, ℕ, suc, zero, ◌+◌, ◌*◌, List, [], ◌∷◌, ◌++◌, length, map, take, drop, refl, sym, ap, ◌∙◌, arith}
+use Rattle.std.proofs.lemmas.List.{length-map, drop-map, take-map, map-append, append_assoc}
 use Rattle.pages.specs.declared.access.Range.{Range}
 use Rattle.pages.specs.Flat.{full, flat, is_ready, laid}
-use Rattle.pages.specs.Memory.{Memory}
 use Rattle.pages.specs.Paged.{Paged, with_pages}
 use Rattle.pages.proofs.Page.{length-full}
 use Rattle.pages.proofs.FlatPages.{length-flat}

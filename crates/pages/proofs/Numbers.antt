@@ -1,9 +1,9 @@
 -- Numbers in bytes, written in one step.
-use Rattle.std.proofs.Common.{◌≡◌, ℕ, zero, suc, ◌+◌, ◌-◌, ◌*◌, ◌/◌, ◌%◌, ◌^◌, ◌<◌, ◌≤◌, List, [], ◌∷◌, ◌++◌, length, get_or, set, take, drop, refl, sym, ap, ◌∙◌, arith, slice_set, slice_index}
+use Rattle.std.proofs.Common.{◌≡◌, ℕ, zero, suc, ◌+◌, ◌-◌, ◌/◌, ◌%◌, ◌^◌, ◌≤◌, List, [], ◌∷◌, ◌++◌, length, set, take, drop, refl, sym, ap, ◌∙◌, arith}
 use Rattle.std.proofs.Math.Nat.{div-div-eq-div-mul, div-one, pow-suc}
-use Rattle.std.proofs.lemmas.List.{length-set, take-append-drop, append_assoc, append-nil, take_more_set, drop-set-lt, drop-drop, drop_all, length-drop, length-append, take_rest}
+use Rattle.std.proofs.lemmas.List.{length-set, take-append-drop, append_assoc, append-nil, take_more_set, drop-set-lt, drop-drop, drop_all, length-drop, take_rest}
 use Rattle.std.specs.Int.{byte_at, bytes_low_first}
-use Rattle.pages.specs.Memory.{number_at, written}
+use Rattle.pages.specs.Memory.{written}
 use borrow.Rule.Slice.PartMut.{put_mid}
 
 -- a byte of a number, by its place

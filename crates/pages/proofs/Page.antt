@@ -1,6 +1,6 @@
 -- The 4096 bytes of a page.
-use Rattle.std.proofs.Common.{◌≡◌, ℕ, zero, suc, ◌+◌, ◌*◌, ◌/◌, ◌%◌, ◌^◌, ◌<◌, ◌≤◌, List, [], ◌∷◌, ◌++◌, length, get_or, set, map, take, drop, replicate, refl, sym, ap, ◌∙◌, arith, ◌⊎◌, ⊎_elim, Bool, true, false, cond, not, nat_eq}
-use Rattle.std.proofs.lemmas.List.{length-append, length-replicate, length-take-le, length-map, get_or-map, get_or-take, get_or_append_left, get_or-append-add, get_or-replicate, get_or_past, take_at, ext_get_or, length-set}
+use Rattle.std.proofs.Common.{◌≡◌, ℕ, zero, suc, ◌+◌, ◌/◌, ◌%◌, ◌^◌, ◌<◌, ◌≤◌, List, [], ◌∷◌, ◌++◌, length, get_or, set, take, drop, replicate, refl, sym, ap, ◌∙◌, arith, ⊎_elim, true, false, not, nat_eq}
+use Rattle.std.proofs.lemmas.List.{length-append, length-replicate, length-take-le, length-map, get_or-map, get_or-take, get_or_append_left, get_or-replicate, get_or_past, take_at, ext_get_or, length-set}
 use Rattle.std.proofs.lemmas.Bool.{cases_lt}
 use Rattle.std.proofs.lemmas.Bool.Decides.{nat_tests}
 use Rattle.std.proofs.Math.Nat.{mod-eq_of_lt}

@@ -1,9 +1,8 @@
 -- A spare page in the place of one that is not ready.
-use Rattle.std.proofs.Common.{◌≡◌, ℕ, suc, zero, ◌+◌, ◌<◌, ◌≤◌, List, [], ◌∷◌, ◌++◌, length, map, take, get_or, set, refl, sym, ap, ◌∙◌, arith, Bool, true, false, All}
-use Rattle.std.proofs.lemmas.List.{length-set, length-map, map-set, get_or-map, get_or-set_same, get_or-set_other, set-get_or, get_or_at, length-append, take_more}
+use Rattle.std.proofs.Common.{◌≡◌, ℕ, suc, zero, ◌+◌, ◌<◌, List, [], ◌∷◌, ◌++◌, length, map, take, get_or, set, refl, sym, ap, ◌∙◌, arith, Bool, true, false}
+use Rattle.std.proofs.lemmas.List.{map-set, get_or-map, set-get_or, get_or_at, length-append, take_more}
 use Rattle.std.proofs.lemmas.List.Elements.{All-get_or}
 use Rattle.pages.specs.Kept.{AllBlank}
-use Rattle.std.proofs.lemmas.Bool.{cases_eq}
 use Rattle.pages.specs.Flat.{blank, full, flat, is_ready}
 use Rattle.pages.specs.Paged.{all_ready}
 use Rattle.pages.proofs.Page.{full_absent, not_ready, ready_blank}

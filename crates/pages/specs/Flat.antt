@@ -1,5 +1,5 @@
 -- Pages of 4096 bytes, end to end. A page that is not ready has no bytes of its own, and reads 0.
-use Rattle.std.specs.Prelude.{ℕ, ◌+◌, ◌%◌, ◌^◌, ◌/◌, ◌==◌, List, [], ◌∷◌, ◌++◌, length, map, take, drop, replicate, Bool, nat_eq, not}
+use Rattle.std.specs.Prelude.{ℕ, ◌%◌, ◌^◌, List, [], ◌∷◌, ◌++◌, length, map, take, drop, replicate, Bool, nat_eq, not}
 use Rattle.pages.specs.declared.access.Store.{Store}
 
 -- the bytes of a page that nothing was written to

@@ -5,7 +5,7 @@ use Rattle.std.proofs.lemmas.List.FromFn.{get_or-map-range_with_len, length-map-
 use Rattle.pages.specs.declared.access.Piece.{Piece}
 use Rattle.pages.specs.declared.access.Range.{Range}
 use Rattle.pages.specs.Code.{overlaps}
-use Rattle.pages.specs.Memory.{Memory, in_range}
+use Rattle.pages.specs.Memory.{in_range}
 use Rattle.pages.specs.Paged.{Paged}
 
 -- the byte at an address: that of the first piece that holds it, else 0

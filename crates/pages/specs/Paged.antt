@@ -1,5 +1,5 @@
 -- Guest memory as callers see it: its bytes and code, the pages that are ready, and how many spare pages there are.
-use Rattle.std.specs.Prelude.{◌≡◌, ℕ, ◌-◌, ◌+◌, ◌/◌, ◌*◌, ◌%◌, Bool, true, false, if◌then◌else◌, not, List, [], ◌∷◌, length, map, count_by, slice_index_or, slice_set, fold}
+use Rattle.std.specs.Prelude.{ℕ, ◌-◌, ◌/◌, Bool, true, false, if◌then◌else◌, not, List, [], ◌∷◌, map, count_by, slice_index_or, slice_set}
 use Rattle.pages.specs.declared.access.Store.{Store}
 use Rattle.pages.specs.Memory.{Memory, put}
 use Rattle.pages.specs.Flat.{flat, is_ready, laid}

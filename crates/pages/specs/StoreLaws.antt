@@ -1,5 +1,5 @@
 -- Laws of what a list of stores leaves.
-use Rattle.std.proofs.Common.{◌≡◌, ◌≢◌, ℕ, zero, suc, ◌+◌, ◌-◌, ◌*◌, ◌/◌, ◌%◌, ◌^◌, ◌<◌, ◌≤◌, List, [], ◌∷◌, ◌++◌, length, get_or, set, refl, sym, ap, ◌∙◌, arith, All, Bool, true, false, ◌||◌, if◌then◌else◌, ◌⊎◌, ⊎_elim, inl, inr, slice_index, Option, Some, None, ◌&&◌, nat_le}
+use Rattle.std.proofs.Common.{◌≡◌, ◌≢◌, ℕ, zero, suc, ◌+◌, ◌-◌, ◌*◌, ◌/◌, ◌%◌, ◌^◌, ◌<◌, ◌≤◌, List, [], ◌∷◌, ◌++◌, length, get_or, set, refl, sym, ap, ◌∙◌, arith, All, Bool, true, false, ◌||◌, if◌then◌else◌, ◌⊎◌, ⊎_elim, slice_index, Some, None, ◌&&◌, nat_le}
 use Rattle.std.proofs.Math.Nat.{div-div-eq-div-mul, div-one}
 use Rattle.std.proofs.lemmas.Bool.{and_parts, cases_order, false≢true, leb-true, or_parts}
 use Rattle.std.proofs.lemmas.Bool.Decides.{nat_tests}
@@ -86,9 +86,9 @@ first_byte v a =
 -- a byte after the low bytes of a value are written
 pub written_at : (n : ℕ) (bs : List ℕ) (a v k : ℕ) → k < length bs → get_or (written bs a v n) k 0 ≡ (if in_range a n k then byte_of v (k - a) else get_or bs k 0)
 written_at zero bs a v k h = ap (λ b. if b then byte_of v (k - a) else get_or bs k 0) (sym (none a k))
-    where
-      none : (a k : ℕ) → in_range a 0 k ≡ false
-      none a k = grind (arith, nat_tests)
+  where
+    none : (a k : ℕ) → in_range a 0 k ≡ false
+    none a k = grind (arith, nat_tests)
 written_at (suc n) bs a v k h =
     let b = v % 2 ^ 8 in
     let inside : k < length (set bs a b) = omega (arith, length-set bs a b) in
@@ -147,9 +147,9 @@ last_byte-uncovered b (s ∷ ss) x h =
 
 apart_at : (code : List Range) (n a x : ℕ) → any_code code a n ≡ false → is_code code x ≡ true → in_range a n x ≡ false
 apart_at code zero a x h e = none a x
-    where
-      none : (a k : ℕ) → in_range a 0 k ≡ false
-      none a k = grind (arith, nat_tests)
+  where
+    none : (a k : ℕ) → in_range a 0 k ≡ false
+    none a k = grind (arith, nat_tests)
 apart_at code (suc n) a x h e =
     let parts = or_parts (is_code code a) (any_code code (a + 1) n) h in
     ⊎_elim
@@ -191,7 +191,7 @@ fetched_stays m pc ss h =
     (λ e.
     let parts = and_parts (nat_le (pc + 4) (length m.bytes)) (all_code m.code pc 4) e in
     numbers_agree 4 m.bytes (after m.bytes ss) pc m.code parts.1 (leb-true (pc + 4) (length m.bytes) parts.0) (λ x c l. code_stays m.code m.bytes ss x h c l))
-    where
-      only_if : (b : Bool) (x y : ℕ) → (b ≡ true → x ≡ y) → (if b then Some x else None) ≡ (if b then Some y else None)
-      only_if true x y h = ap (λ v. Some v) (h refl)
-      only_if false x y h = refl
+  where
+    only_if : (b : Bool) (x y : ℕ) → (b ≡ true → x ≡ y) → (if b then Some x else None) ≡ (if b then Some y else None)
+    only_if true x y h = ap (λ v. Some v) (h refl)
+    only_if false x y h = refl

@@ -1,4 +1,4 @@
-use Rattle.std.proofs.Common.{◌≡◌, ◌+◌, ◌≤◌, ◌∙◌, ap, sym, inl, inr, arith, rules}
+use Rattle.std.proofs.Common.{◌∙◌, ap, sym, inl, inr, arith}
 use Rattle.pages.proofs.CodeTests.{any_code_by_width, no_code_outside}
 use Rattle.pages.specs.Memory.{width_bytes}
 use Rattle.std.specs.List.{list_any}

@@ -1,4 +1,4 @@
-use Rattle.std.proofs.Common.{rules, arith}
+use Rattle.std.proofs.Common.{rules}
 use Rattle.pages.proofs.CodeTests.{bounds_more}
 use Rattle.pages.proofs.making.bounds_of.Goals as goal
 

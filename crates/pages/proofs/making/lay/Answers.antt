@@ -1,4 +1,4 @@
-use Rattle.std.proofs.Common.{◌≡◌, ◌∙◌, ◌+◌, ◌-◌, ℕ, List, ap, sym, rules, arith, slice_index, length, get_or, if◌then◌else◌}
+use Rattle.std.proofs.Common.{◌∙◌, ◌+◌, ◌-◌, ℕ, List, ap, rules, slice_index, length, get_or, if◌then◌else◌}
 use Rattle.pages.specs.Flat.{full}
 use Rattle.pages.specs.Memory.{in_range}
 use Rattle.pages.proofs.Laying.{laid_piece}

@@ -1,7 +1,7 @@
-use Rattle.std.proofs.Common.{◌≡◌, ◌∙◌, ◌*◌, ◌+◌, ℕ, ap, sym, rules, arith, length, get_or, drop, [], List}
+use Rattle.std.proofs.Common.{◌≡◌, ◌∙◌, ◌*◌, ◌+◌, ap, sym, rules, length, drop, [], List}
 use Rattle.std.proofs.lemmas.List.{drop_all}
 use Rattle.pages.specs.declared.access.Piece.{Piece}
-use Rattle.pages.specs.Flat.{full, is_ready}
+use Rattle.pages.specs.Flat.{is_ready}
 use Rattle.pages.specs.Initial.{is_touched, piece_byte}
 use Rattle.pages.proofs.Laying.{page_from}
 use Rattle.pages.proofs.Page.{get_or-absent}

@@ -1,4 +1,4 @@
-use Rattle.std.proofs.Common.{◌≡◌, ◌∙◌, ◌*◌, ◌+◌, ◌++◌, ◌∷◌, ap, sym, rules, arith, map, []}
+use Rattle.std.proofs.Common.{◌≡◌, ◌∙◌, ◌++◌, ◌∷◌, ap, sym, rules, map, []}
 use Rattle.pages.specs.Flat.{flat, is_ready}
 use Rattle.pages.proofs.Laying.{bytes_from-none, pages_more, touched_more}
 use Rattle.pages.proofs.making.parts_of.Goals as goal

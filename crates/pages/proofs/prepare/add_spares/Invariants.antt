@@ -1,4 +1,4 @@
-use Rattle.std.proofs.Common.{◌≤◌, ◌-◌, vec_len, min, length}
+use Rattle.std.proofs.Common.{◌≤◌, ◌-◌, vec_len, length}
 use Rattle.pages.specs.Kept.{AllBlank}
 use Rattle.pages.proofs.prepare.add_spares.Given as goal
 

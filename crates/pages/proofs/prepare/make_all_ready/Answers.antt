@@ -1,4 +1,4 @@
-use Rattle.std.proofs.Common.{◌≡◌, ◌∙◌, ap, sym, subst, rules, arith, map, true, false, get_or, Bool, List}
+use Rattle.std.proofs.Common.{◌≡◌, ◌∙◌, ap, sym, subst, rules, map, true, false, get_or, Bool, List}
 use Rattle.std.specs.List.{slice_set}
 use Rattle.pages.specs.Flat.{is_ready}
 use Rattle.pages.proofs.Readied.{ready_next, stays_ready}

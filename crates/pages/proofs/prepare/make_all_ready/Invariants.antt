@@ -1,4 +1,4 @@
-use Rattle.std.proofs.Common.{◌≡◌, ◌≤◌, ℕ, vec_len, length, map, take, true, false, get_or}
+use Rattle.std.proofs.Common.{◌≡◌, ◌≤◌, ℕ, vec_len, map, take, true, false, get_or}
 use Rattle.pages.specs.Flat.{flat, is_ready}
 use Rattle.pages.specs.Kept.{AllBlank}
 use Rattle.pages.specs.Paged.{all_ready}

@@ -1,4 +1,4 @@
-use Rattle.std.proofs.Common.{◌≡◌, ◌∙◌, ◌/◌, ap, sym, get_or, []}
+use Rattle.std.proofs.Common.{◌∙◌, ◌/◌, ap, []}
 use Rattle.std.proofs.lemmas.List.{get_or_default}
 use Rattle.pages.specs.Flat.{full, in_page}
 use Rattle.pages.specs.Memory.{put}

@@ -1,6 +1,5 @@
-use Rattle.std.proofs.Common.{◌≡◌, ◌∙◌, ap, sym, rules, arith, false, []}
-use Rattle.std.proofs.Common.{get_or}
-use Rattle.pages.specs.Flat.{blank, is_ready}
+use Rattle.std.proofs.Common.{◌≡◌, rules}
+use Rattle.pages.specs.Flat.{blank}
 use Rattle.pages.proofs.Readied.{flat-readied, last_blank, ready-readied}
 use Rattle.pages.proofs.prepare.use_spare.Goals as goal
 

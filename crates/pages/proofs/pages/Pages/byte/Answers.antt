@@ -1,4 +1,4 @@
-use Rattle.std.proofs.Common.{◌≡◌, ◌<◌, ◌%◌, ◌/◌, ◌∙◌, ap, sym, subst, arith, rules, length, get_or, []}
+use Rattle.std.proofs.Common.{◌<◌, ◌%◌, ◌/◌, ◌∙◌, ap, sym, subst, rules, length, get_or, []}
 use Rattle.std.proofs.lemmas.List.{get_or_read}
 use Rattle.pages.specs.Flat.{flat, full}
 use Rattle.pages.specs.Memory.{number_at}

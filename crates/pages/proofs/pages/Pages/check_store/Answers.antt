@@ -1,4 +1,4 @@
-use Rattle.std.proofs.Common.{◌≡◌, ◌<◌, ◌≤◌, ◌%◌, ◌/◌, ◌∙◌, ap, sym, arith, rules, length, true, false}
+use Rattle.std.proofs.Common.{◌≡◌, ◌<◌, ◌≤◌, ◌%◌, ◌/◌, ◌∙◌, ap, sym, rules, length, true, false}
 use Rattle.pages.specs.Memory.{any_code, store_fault, width_bytes}
 use Rattle.pages.specs.Paged.{Paged}
 use Rattle.pages.proofs.Accesses.{store_inside, store_misaligned, store_outside}

@@ -1,4 +1,4 @@
-use Rattle.std.proofs.Common.{◌≡◌, ap, length, arith, rules}
+use Rattle.std.proofs.Common.{◌≡◌, ap, length, arith}
 use Rattle.pages.specs.Flat.{flat}
 use Rattle.pages.specs.Paged.{Paged}
 use Rattle.pages.proofs.FlatPages.{length-flat}

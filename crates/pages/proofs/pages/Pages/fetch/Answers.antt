@@ -1,6 +1,5 @@
-use Rattle.std.proofs.Common.{◌≡◌, ◌<◌, ◌≤◌, ◌%◌, ◌/◌, ◌∙◌, Some, true, ap, sym, arith, rules, length, get_or, []}
+use Rattle.std.proofs.Common.{◌≡◌, ◌<◌, ◌≤◌, ◌%◌, ◌/◌, ◌∙◌, Some, true, ap, rules, length, get_or, []}
 use Rattle.std.specs.List.{list_any}
-use Rattle.std.proofs.lemmas.List.{get_or_read}
 use Rattle.pages.specs.Code.{has_word}
 use Rattle.pages.specs.Flat.{flat, full}
 use Rattle.pages.specs.Memory.{fetched, number_at}

@@ -1,5 +1,5 @@
-use Rattle.std.proofs.Common.{◌≡◌, ◌<◌, ◌≤◌, ◌+◌, ◌∙◌, ap, sym, subst, arith, rules, length, true, false, refl}
-use Rattle.pages.specs.Memory.{all_code, fetched, number_at}
+use Rattle.std.proofs.Common.{◌≡◌, ◌≤◌, ◌+◌, subst, arith, rules, length, true, false, refl}
+use Rattle.pages.specs.Memory.{all_code, number_at}
 use Rattle.pages.specs.Paged.{Paged}
 use Rattle.pages.proofs.Accesses.{fetch_apart, fetch_outside, word_of_bytes}
 use Rattle.pages.proofs.pages.Pages.fetch_apart.Goals as goal

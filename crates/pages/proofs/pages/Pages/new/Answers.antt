@@ -1,9 +1,7 @@
-use Rattle.std.proofs.Common.{◌≡◌, ◌≤◌, ◌∙◌, ap, sym, rules, arith, length, map, refl}
+use Rattle.std.proofs.Common.{◌≡◌, ◌∙◌, ap, sym, rules, length, refl}
 use Rattle.std.proofs.lemmas.List.{length-map}
 use Rattle.std.proofs.lemmas.List.FromFn.{length-map-range_with_len}
-use Rattle.std.proofs.lemmas.List.Elements.{All-nil}
-use Rattle.std.specs.List.{range_with_len}
-use Rattle.pages.specs.Flat.{flat, is_ready}
+use Rattle.pages.specs.Flat.{is_ready}
 use Rattle.pages.specs.Initial.{initial, is_touched}
 use Rattle.pages.proofs.pages.Pages.new.Goals as goal
 

@@ -1,4 +1,4 @@
-use Rattle.std.proofs.Common.{◌≡◌, ◌∙◌, ap, map, length, refl, sym, rules}
+use Rattle.std.proofs.Common.{◌≡◌, ◌∙◌, ap, map, length, refl, rules}
 use Rattle.pages.specs.Flat.{flat, is_ready}
 use Rattle.pages.specs.Paged.{Paged, with_pages}
 use Rattle.pages.proofs.Lent.{given_back}

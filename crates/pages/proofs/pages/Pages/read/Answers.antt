@@ -1,5 +1,4 @@
-use Rattle.std.proofs.Common.{◌≡◌, ◌<◌, ◌≤◌, ◌%◌, ◌/◌, ◌∙◌, Ok, ap, arith, rules, length, get_or, []}
-use Rattle.std.proofs.lemmas.List.{get_or_read}
+use Rattle.std.proofs.Common.{◌≡◌, ◌<◌, ◌≤◌, ◌%◌, ◌/◌, ◌∙◌, Ok, ap, rules, length, get_or, []}
 use Rattle.pages.specs.Flat.{full}
 use Rattle.pages.specs.Memory.{loaded, value_at, width_bytes}
 use Rattle.pages.specs.Paged.{Paged}

@@ -1,4 +1,3 @@
-use Rattle.std.proofs.Common.{sym}
 use Rattle.pages.specs.Flat.{blank}
 use Rattle.pages.proofs.part.Part.blank.Goals as goal
 

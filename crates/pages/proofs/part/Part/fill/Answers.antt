@@ -1,5 +1,4 @@
-use Rattle.std.proofs.Common.{◌≡◌, ◌∙◌, ◌<◌, ◌^◌, ℕ, List, ap, sym, refl, rules, arith, length, get_or, replicate}
-use Rattle.std.proofs.lemmas.List.{length-replicate}
+use Rattle.std.proofs.Common.{◌≡◌, ◌∙◌, ℕ, List, ap, sym, rules, length, replicate}
 use Rattle.pages.specs.Flat.{blank, full}
 use Rattle.pages.proofs.Laying.{filled}
 use Rattle.pages.proofs.Page.{full_absent, length-blank}

@@ -1,4 +1,4 @@
-use Rattle.std.proofs.Common.{◌≡◌, ◌<◌, ◌^◌, ℕ, get_or, length, ◌∙◌, ap, sym, arith, eqb-true, rules}
+use Rattle.std.proofs.Common.{◌≡◌, ◌<◌, ◌^◌, ℕ, get_or, length, ◌∙◌, ap, sym, rules}
 use Rattle.pages.proofs.Page.{full_ready, get_or-absent, value_at-zero}
 use Rattle.pages.specs.Flat.{full}
 use Rattle.pages.specs.Memory.{value_at}
