@@ -1,6 +1,5 @@
 pub mod Products
 pub mod Room
 pub mod Shown
-pub mod Turns
-pub mod Untouched
 pub mod Spares
+pub mod Turns

@@ -6,8 +6,8 @@ pub mod Console
 pub mod Effect
 pub mod Numbers
 pub mod Registers
+pub mod Room
 pub mod Rounds
 pub mod SerialStep
 pub mod Step
 pub mod Words
-pub mod Room
