@@ -12,6 +12,8 @@ mod numbers;
 mod performing;
 mod rounds;
 mod stepping;
+#[cfg(test)]
+mod tests;
 
 pub use amo::amo_value;
 pub use bus::Bus;

@@ -1,0 +1,23 @@
+use super::{hart, memory};
+use crate::{CodeTable, hart_round};
+use round_schedule::Access;
+use std::test::Fail;
+
+#[test]
+fn a_round(rt: HostRuntime) -> Result<(), Fail> {
+    let alloc = rt.alloc();
+    // ADDI x1,x1,-1; SD x1,256(x0); BNE x1,x0,-8; ECALL
+    let mut pages = memory(alloc, [0xfff0_8093, 0x1010_3023, 0xfe00_9ce3, 0x0000_0073])?;
+    let mut h = hart(3, 0);
+    let mut log = Vec::new(alloc);
+    let table = CodeTable::new(alloc, &pages, 0, 4)?;
+    // the quota ends the first round
+    assert!(rt; !hart_round(&mut h, &mut pages, &table, 4, &mut log)?);
+    assert_eq!(rt; (h.pc, h.done, h.x[1]), (4, 4, 1));
+    // and the call the second
+    assert!(rt; hart_round(&mut h, &mut pages, &table, 100, &mut log)?);
+    assert_eq!(rt; (h.pc, h.done, h.x[1]), (12, 9, 0));
+    assert_eq!(rt; log.len(), 3);
+    assert_eq!(rt; size_of::<Access>(), 40);
+    Ok(())
+}
