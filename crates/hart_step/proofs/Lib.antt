@@ -3,3 +3,4 @@ pub mod Room
 pub mod Shown
 pub mod Spares
 pub mod Turns
+pub mod Waits

@@ -10,4 +10,5 @@ pub mod Room
 pub mod Rounds
 pub mod SerialStep
 pub mod Step
+pub mod Waiting
 pub mod Words
