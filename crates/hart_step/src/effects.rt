@@ -89,15 +89,11 @@ pub fn branch(h: &mut Hart, taken: bool, target: u64) -> Answer
     ensures hart { h.new ≡ (branched h.old taken target).hart }
     ensures stores { (branched h.old taken target).stores ≡ [] }
 {
-    if !taken {
-        let next = h.pc.wrapping_add(4);
-        go_to(h, next);
-        return Answer::Went;
+    if taken {
+        return jump(h, Reg::new(0), target);
     }
-    if target % 4 != 0 {
-        return halt(h, 4);
-    }
-    go_to(h, target);
+    let next = h.pc.wrapping_add(4);
+    go_to(h, next);
     Answer::Went
 }
 
