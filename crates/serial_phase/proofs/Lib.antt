@@ -4,3 +4,6 @@ pub mod ServedWords
 pub mod PlainSteps
 pub mod WordEffects
 pub mod Served
+pub mod Settled
+pub mod TurnUnderWay
+pub mod PhaseUnderWay

@@ -12,7 +12,7 @@ use Rattle.round_schedule.specs.Desk.{updated}
 use Rattle.round_schedule.specs.Held.{any_byte, unless, kept_by_own}
 use Rattle.round_schedule.specs.Tables.{entry, Sets, Drops, Breaks}
 
-length-updated : (i j : ℕ) (a : Access) (table : List (Option Span)) → length (updated i j a table) ≡ length table
+pub length-updated : (i j : ℕ) (a : Access) (table : List (Option Span)) → length (updated i j a table) ≡ length table
 length-updated i j a [] = refl
 length-updated i j a (r ∷ rs) = ap suc (length-updated i (suc j) a rs)
 

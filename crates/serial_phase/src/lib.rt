@@ -3,6 +3,7 @@
 
 mod console;
 mod log;
+mod phase;
 mod plain;
 mod serving;
 mod turn;
@@ -10,3 +11,4 @@ mod word;
 
 pub use console::Console;
 pub use log::SerialLog;
+pub use phase::serial;
