@@ -1,6 +1,5 @@
 -- Whether a reservation is just these bytes.
-use Rattle.std.specs.Prelude.{ℕ, ◌==◌, ◌&&◌, Bool, true, false, Option, Some, None}
-use Rattle.pages.specs.declared.access.Width.{Width}
+use Rattle.std.specs.Prelude.{◌==◌, ◌&&◌, Bool, false, Option, Some, None}
 use Rattle.pages.specs.Memory.{width_bytes}
 use Rattle.round_schedule.specs.declared.span.Span.{Span}
 

@@ -1,4 +1,4 @@
-ghost use Rattle.std.specs.Prelude.{◌≡◌, ℕ, ◌+◌, ◌≤◌, ◌<◌, List, length, take, Option, None, replicate, ◌==◌, if◌then◌else◌};
+ghost use Rattle.std.specs.Prelude.{◌≡◌, ℕ, ◌+◌, ◌≤◌, ◌<◌, List, length, take, Option, None, replicate, ◌==◌, ◌≢◌, ◌↔◌, IsTrue, if◌then◌else◌};
 ghost use Rattle.pages.specs.Memory.{in_range, width_bytes};
 ghost use Rattle.round_schedule.specs.declared.span.Span.{Span};
 ghost use Rattle.round_schedule.specs.Held.{unless};
@@ -76,6 +76,14 @@ impl Reservations {
         break_others(&mut self.entries[..self.harts], hart as usize, span);
     }
 
+    /// Whether no other hart than this one has a reservation.
+    #[inline]
+    pub fn is_only_of(&self, hart: u32) -> bool
+        ensures { IsTrue result ↔ ((h : ℕ) → h < length self.now → hart ≢ h → entry self.now h ≡ None) }
+    {
+        no_others(&self.entries[..self.harts], hart as usize)
+    }
+
     /// An equal table.
     pub fn copy(&self) -> Reservations
         ensures { result ≡ self.now }
@@ -85,6 +93,17 @@ impl Reservations {
             harts: self.harts,
         }
     }
+}
+
+fn no_others(entries: &[Option<Span>], hart: usize) -> bool
+    ensures { IsTrue result ↔ ((h : ℕ) → h < length entries.now → hart ≢ h → entry entries.now h ≡ None) }
+{
+    for other in 0..entries.len() {
+        if other != hart && entries[other].is_some() {
+            return false;
+        }
+    }
+    true
 }
 
 fn break_others(entries: &mut [Option<Span>], hart: usize, span: Span)

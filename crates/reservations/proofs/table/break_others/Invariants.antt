@@ -1,4 +1,4 @@
-use Rattle.std.proofs.Common.{◌≡◌, ℕ, ◌≤◌, ◌<◌, ◌==◌, length, cond, None}
+use Rattle.std.proofs.Common.{◌≡◌, ℕ, ◌≤◌, ◌<◌, ◌==◌, cond}
 use Rattle.pages.specs.Memory.{in_range, width_bytes}
 use Rattle.round_schedule.specs.Held.{unless}
 use Rattle.round_schedule.specs.Tables.{entry}

@@ -1,0 +1,49 @@
+ghost use Rattle.std.specs.Prelude.{◌≡◌, ℕ, ◌<◌, ◌/◌, ◌==◌, true, if◌then◌else◌, length, All, None};
+ghost use Rattle.pages.specs.declared.access.Width.TheVariants.{W1};
+ghost use Rattle.pages.specs.Memory.{covered, store_fault, stored};
+ghost use Rattle.pages.specs.Paged.{is_page_ready};
+ghost use Rattle.round_schedule.specs.Held.{unless};
+ghost use Rattle.round_schedule.specs.Tables.{entry};
+ghost use Rattle.store_buffer.specs.Covered.{stores_of};
+
+use pages::Pages;
+use reservations::Reservations;
+use store_buffer::StoreBuffer;
+
+/// Writes the bytes of one hart's buffer to guest memory, and breaks the reservations of other harts of which
+/// it writes a byte. Takes no memory.
+pub fn commit_buffer(pages: &mut Pages, table: &mut Reservations, hart: u32, buffer: &StoreBuffer)
+    requires fits { All (λ (e : ℕ × ℕ). store_fault pages.old.memory e.0 W1 ≡ None) buffer.now }
+    requires ready { All (λ (e : ℕ × ℕ). is_page_ready pages.old (e.0 / 4096) ≡ true) buffer.now }
+    ensures memory { pages.new.memory ≡ stored pages.old.memory (stores_of buffer.now) }
+    ensures ready { pages.new.ready ≡ pages.old.ready }
+    ensures spare { pages.new.spare ≡ pages.old.spare }
+    ensures size { length table.new ≡ length table.old }
+    ensures table { (h : ℕ) → h < length table.old → entry table.new h ≡ (if hart == h then entry table.old h else unless (covered (stores_of buffer.now)) (entry table.old h)) }
+{
+    write_bytes(pages, buffer);
+    if !table.is_only_of(hart) {
+        break_others(table, hart, buffer);
+    }
+}
+
+fn write_bytes(pages: &mut Pages, buffer: &StoreBuffer)
+    requires fits { All (λ (e : ℕ × ℕ). store_fault pages.old.memory e.0 W1 ≡ None) buffer.now }
+    requires ready { All (λ (e : ℕ × ℕ). is_page_ready pages.old (e.0 / 4096) ≡ true) buffer.now }
+    ensures memory { pages.new.memory ≡ stored pages.old.memory (stores_of buffer.now) }
+    ensures ready { pages.new.ready ≡ pages.old.ready }
+    ensures spare { pages.new.spare ≡ pages.old.spare }
+{
+    for s in buffer.stores() {
+        pages.apply(s);
+    }
+}
+
+fn break_others(table: &mut Reservations, hart: u32, buffer: &StoreBuffer)
+    ensures size { length table.new ≡ length table.old }
+    ensures table { (h : ℕ) → h < length table.old → entry table.new h ≡ (if hart == h then entry table.old h else unless (covered (stores_of buffer.now)) (entry table.old h)) }
+{
+    for s in buffer.stores() {
+        table.break_by(hart, s.addr, s.width);
+    }
+}

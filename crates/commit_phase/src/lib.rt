@@ -1,0 +1,6 @@
+//! The commit of a round: the bytes that the harts buffered go to guest memory, in hart order.
+#![tactic(auto)]
+
+mod buffer;
+
+pub use buffer::commit_buffer;
