@@ -1,2 +1,3 @@
 pub mod Breaking
 pub mod Writing
+pub mod HartOrder
