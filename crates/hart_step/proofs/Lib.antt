@@ -4,3 +4,7 @@ pub mod Shown
 pub mod Spares
 pub mod Turns
 pub mod Waits
+pub mod Overlays
+pub mod Bytes
+pub mod ByWord
+pub mod Soundness

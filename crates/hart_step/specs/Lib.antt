@@ -1,9 +1,12 @@
 pub mod Amo
 pub mod Answers
+pub mod Buffered
 pub mod Buses
 pub mod CodeTables
 pub mod Console
 pub mod Effect
+pub mod Facts
+pub mod Laws
 pub mod Numbers
 pub mod Registers
 pub mod Room

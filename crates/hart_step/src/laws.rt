@@ -1,8 +1,23 @@
 //! Laws of the effects of instructions, for proofs.
+ghost use Rattle.hart_step.specs.Laws.{IsSound, CountsDone};
 ghost use Rattle.hart_step.specs.Waiting.{WaitsExactly, WaitsUnchanged};
 
 /// In the parallel phase a hart waits exactly before a serial word, and then nothing changes.
 pub fn waits_before_serial_words()
     ensures exactly { WaitsExactly }
     ensures unchanged { WaitsUnchanged }
-{}
+{
+}
+
+/// Each access says what its instruction read and wrote, what has to be serial is done in the serial phase, and
+/// a store-conditional succeeds with the reservation of its bytes alone.
+pub fn instructions_are_sound()
+    ensures { IsSound }
+{
+}
+
+/// `done` counts the instructions of a hart, and an access's place is the count before it.
+pub fn done_counts_instructions()
+    ensures { CountsDone }
+{
+}

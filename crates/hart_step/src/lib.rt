@@ -3,6 +3,7 @@
 
 mod amo;
 mod answer;
+mod buffered;
 mod bus;
 mod code_table;
 mod direct;
@@ -17,11 +18,12 @@ mod stepping;
 mod tests;
 
 pub use amo::amo_value;
+pub use buffered::Buffered;
 pub use bus::Bus;
 pub use code_table::CodeTable;
 pub use direct::Direct;
 pub use hart::{Hart, Stop};
-pub use laws::waits_before_serial_words;
+pub use laws::{done_counts_instructions, instructions_are_sound, waits_before_serial_words};
 pub use round_schedule::{Access, Span, Stepped};
 pub use rounds::hart_round;
 pub use stepping::step;

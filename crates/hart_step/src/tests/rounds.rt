@@ -1,5 +1,6 @@
 use super::{hart, memory};
-use crate::{CodeTable, hart_round};
+use crate::{Buffered, CodeTable, hart_round, step};
+use pages::Width;
 use round_schedule::Access;
 use std::test::Fail;
 
@@ -19,5 +20,23 @@ fn a_round(rt: HostRuntime) -> Result<(), Fail> {
     assert_eq!(rt; (h.pc, h.done, h.x[1]), (12, 9, 0));
     assert_eq!(rt; log.len(), 3);
     assert_eq!(rt; size_of::<Access>(), 40);
+    Ok(())
+}
+
+#[test]
+fn own_stores_are_seen(rt: HostRuntime) -> Result<(), Fail> {
+    let alloc = rt.alloc();
+    // SD x2,256(x0); LD x3,256(x0)
+    let pages = memory(alloc, [0x1020_3023, 0x1000_3183, 0, 0])?;
+    let mut h = hart(0, 0x1234_5678_9abc_def0);
+    let mut bus = Buffered::new(alloc, &pages);
+    let _stored = step(&mut h, &mut bus)?;
+    assert!(rt; h.stop.is_none());
+    let _loaded = step(&mut h, &mut bus)?;
+    assert_eq!(rt; h.x[3], 0x1234_5678_9abc_def0);
+    // the buffer has them, and memory does not
+    let buffer = bus.into_buffer();
+    assert_eq!(rt; buffer.read_over(&pages, 256, Width::W4), Ok(0x9abc_def0));
+    assert_eq!(rt; pages.read(256, Width::W4), Ok(0));
     Ok(())
 }
