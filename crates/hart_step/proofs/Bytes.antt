@@ -1,19 +1,15 @@
 -- Numbers in memory by their bytes, and what an access says of them.
-use Rattle.std.proofs.Common.{◌≡◌, ℕ, zero, suc, ◌+◌, ◌-◌, ◌*◌, ◌/◌, ◌%◌, ◌^◌, ◌<◌, ◌≤◌, ◌==◌, ◌&&◌, ◌||◌, Bool, true, false, if◌then◌else◌, nat_le, List, [], ◌∷◌, length, get_or, slice_index, Option, Some, None, Result, Ok, Err, refl, sym, ap, subst, ◌∙◌, inl, inr, arith}
+use Rattle.std.proofs.Common.{◌≡◌, ℕ, zero, suc, ◌+◌, ◌-◌, ◌*◌, ◌/◌, ◌%◌, ◌^◌, ◌<◌, ◌≤◌, ◌==◌, ◌||◌, Bool, true, false, if◌then◌else◌, nat_le, List, [], ◌∷◌, length, get_or, slice_index, Some, None, Ok, Err, refl, sym, ap, ◌∙◌, inl, inr, arith}
 use Rattle.std.proofs.Math.ListN.{get_or-eq_default}
 use Rattle.std.proofs.Math.Nat.{div-div-eq-div-mul, div-one}
 use Rattle.std.proofs.Math.Pow.{mod-mod-pow}
 use Rattle.std.proofs.lemmas.Bool.Decides.{leb_tells, nat_tests}
 use Rattle.std.proofs.lemmas.Nat.{field_of, pow-add}
 use Rattle.pages.specs.declared.access.Fault.{Fault}
-use Rattle.pages.specs.declared.access.Store.{Store}
 use Rattle.pages.specs.declared.access.Width.{Width}
 use Rattle.pages.specs.declared.access.Width.TheVariants.{W1, W2, W4, W8}
-use Rattle.pages.specs.Memory.{IsBytes, Memory, byte_of, in_range, last_byte, covered, number_at, value_at, width_bytes, loaded, store_fault}
-use Rattle.pages.proofs.Accesses.{store_accepted}
-use Rattle.round_schedule.specs.declared.access.Access.{Access}
+use Rattle.pages.specs.Memory.{IsBytes, Memory, byte_of, in_range, number_at, value_at, width_bytes, loaded}
 use Rattle.round_schedule.specs.declared.access.Access.TheVariants.{Load, Store as StoreAccess, LoadReserved, StoreConditional, Atomic, Fence}
-use Rattle.round_schedule.specs.Accesses.{reads, writes, byte_read, byte_written}
 use Rattle.round_schedule.proofs.Written.{range_within}
 use Rattle.rv64_decode.specs.declared.ordering.AcquireRelease.{AcquireRelease}
 use Rattle.rv64_decode.specs.declared.ordering.FenceMode.{FenceMode}
@@ -31,8 +27,9 @@ byte_next v k =
 
 small_byte : (bs : List ℕ) (k : ℕ) → IsBytes bs → get_or bs k 0 < 2 ^ 8
 small_byte bs k small = elim (leb_tells (k + 1) (length bs)) [
-    inl p ↦ small k 0 (omega (arith, p.1))
-  | inr p ↦ let h : length bs ≤ k = omega (arith, p.1) in omega (arith, get_or-eq_default bs 0 h) ]
+  | inl p ↦ small k 0 (omega (arith, p.1))
+  | inr p ↦ let h : length bs ≤ k = omega (arith, p.1) in omega (arith, get_or-eq_default bs 0 h)
+]
 
 number_byte : (bs : List ℕ) (a n j : ℕ) → IsBytes bs → j < n → byte_of (number_at bs a n) j ≡ get_or bs (a + j) 0
 number_byte bs a zero j small h = absurd (omega arith)

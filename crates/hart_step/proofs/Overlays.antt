@@ -1,11 +1,11 @@
 -- Bytes over guest memory: what code and faults they leave, and one more store.
-use Rattle.std.proofs.Common.{◌≡◌, ℕ, zero, suc, ◌+◌, ◌/◌, ◌%◌, ◌^◌, ◌==◌, ◌||◌, Bool, true, false, if◌then◌else◌, nat_lt, nat_le, List, [], ◌∷◌, length, Option, Some, None, refl, sym, ap, subst, ◌∙◌, arith}
+use Rattle.std.proofs.Common.{◌≡◌, ℕ, zero, suc, ◌+◌, ◌/◌, ◌%◌, ◌^◌, ◌==◌, ◌||◌, Bool, true, false, if◌then◌else◌, nat_lt, List, [], ◌∷◌, Option, None, refl, sym, ap, subst, ◌∙◌, arith}
 use Rattle.std.proofs.lemmas.List.Elements.{All-cons}
 use Rattle.pages.specs.declared.access.Fault.{Fault}
 use Rattle.pages.specs.declared.access.Range.{Range}
 use Rattle.pages.specs.declared.access.Store.{Store}
 use Rattle.pages.specs.declared.access.Width.{Width}
-use Rattle.pages.specs.Memory.{Memory, after, put, stored, is_code, any_code, width_bytes, store_fault, fetched}
+use Rattle.pages.specs.Memory.{Memory, stored, is_code, any_code, width_bytes, store_fault, fetched}
 use Rattle.pages.specs.StoreLaws.{TouchesNoCode, length-after, fetched_stays}
 use Rattle.pages.proofs.Accesses.{store_accepted}
 use Rattle.store_buffer.specs.Covered.{Rising, with_byte, with_bytes, with_store, stores_of}

@@ -1,5 +1,5 @@
 -- The room of the one store that an instruction makes.
-use Rattle.std.proofs.Common.{ℕ, ◌≡◌, List, Option, Some, None}
+use Rattle.std.proofs.Common.{ℕ, ◌≡◌, Option, Some, None}
 use Rattle.pages.specs.declared.access.Fault.{Fault}
 use Rattle.pages.specs.declared.access.Store.{Store}
 use Rattle.pages.specs.declared.access.Width.{Width}

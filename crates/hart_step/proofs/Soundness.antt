@@ -1,10 +1,8 @@
 -- The instructions of RV64IMA are sound, and count what a hart does.
-use Rattle.std.proofs.Common.{◌≡◌, ℕ, ◌+◌, ◌==◌, ◌&&◌, ◌%◌, ◌^◌, ◌≤◌, Bool, true, false, if◌then◌else◌, List, [], ◌∷◌, length, Option, Some, None, Result, Ok, Err, refl, sym, ap, subst, ◌∙◌, arith}
+use Rattle.std.proofs.Common.{◌≡◌, ℕ, ◌==◌, ◌%◌, Bool, true, false, if◌then◌else◌, List, Option, Some, None, Result, Ok, Err, refl, ap, subst, ◌∙◌, arith}
 use Rattle.std.proofs.lemmas.Bool.{and_parts}
 use Rattle.std.proofs.lemmas.Bool.Decides.{nat_tests}
 use Rattle.pages.specs.declared.access.Fault.{Fault}
-use Rattle.pages.specs.declared.access.Range.{Range}
-use Rattle.pages.specs.declared.access.Store.{Store}
 use Rattle.pages.specs.declared.access.Width.{Width}
 use Rattle.pages.specs.declared.access.Width.TheVariants.{W1, W2, W4, W8}
 use Rattle.pages.specs.Memory.{IsBytes, Memory, value_at, width_bytes, loaded, store_fault, fetched}
@@ -15,17 +13,15 @@ use Rattle.round_schedule.specs.declared.access.Stepped.TheVariants.{Done, Waits
 use Rattle.round_schedule.specs.declared.span.Span.{Span}
 use Rattle.round_schedule.specs.Accesses.{is_full_fence}
 use Rattle.round_schedule.specs.Schedule.{Outcome, SerialOutcome}
-use Rattle.rv64_decode.specs.declared.instruction.Instr.{Instr}
 use Rattle.rv64_decode.specs.declared.ordering.AcquireRelease.{AcquireRelease}
 use Rattle.hart_step.specs.declared.hart.Hart.{Hart}
-use Rattle.hart_step.specs.Console.{ConsoleState, Answered}
+use Rattle.hart_step.specs.Console.{ConsoleState}
 use Rattle.hart_step.specs.Effect.{Action, Put, Jump, Branch, Read, Write, Order, Halt, Reserve, Conditional, Exchange, Call, action}
-use Rattle.hart_step.specs.Facts.{Agrees, IsParallel, HasReservation, Sound, counted, IsPlacedAt, Counts}
+use Rattle.hart_step.specs.Facts.{Agrees, IsParallel, HasReservation, counted, IsPlacedAt}
 use Rattle.hart_step.specs.Laws.{IsSound, CountsDone}
 use Rattle.hart_step.specs.Registers.{reg}
-use Rattle.hart_step.specs.SerialStep.{with_console, reserved_by, is_reserved, succeeded, failed, conditional_by, exchanged_by, answered, returned, called, served, serial_stepped}
-use Rattle.hart_step.specs.Step.{performed, stepped, stopped_by, stopped_with, put_to, jumped, branched, read_by, written_by, fenced, ordered, waiting, by_word}
-use Rattle.hart_step.specs.Words.{words_of}
+use Rattle.hart_step.specs.SerialStep.{with_console, reserved_by, is_reserved, conditional_by, exchanged_by, called, served, serial_stepped}
+use Rattle.hart_step.specs.Step.{performed, stepped, stopped_by, put_to, jumped, read_by, written_by, fenced, waiting}
 use Rattle.hart_step.proofs.Bytes.{loaded_within, match_load, match_reserved, match_store, match_success, match_failure, match_atomic, match_fence}
 use Rattle.hart_step.proofs.ByWord.{of_test, of_word}
 

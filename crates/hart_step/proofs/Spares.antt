@@ -1,5 +1,5 @@
 -- What one store on guest memory leaves of ready and spare pages.
-use Rattle.std.proofs.Common.{◌≡◌, ℕ, suc, zero, ◌+◌, ◌-◌, ◌/◌, ◌*◌, ◌<◌, ◌≤◌, ◌⊎◌, inl, inr, List, [], ◌∷◌, length, set, get_or, min, refl, sym, ap, ◌∙◌, subst, arith, Bool, true, false, cond, true≢false, not, None}
+use Rattle.std.proofs.Common.{◌≡◌, ℕ, suc, zero, ◌+◌, ◌/◌, ◌*◌, ◌<◌, ◌≤◌, inl, inr, List, [], ◌∷◌, length, set, get_or, min, refl, sym, ap, ◌∙◌, subst, arith, Bool, true, false, cond, true≢false, not, None}
 use Rattle.std.proofs.lemmas.Bool.Decides.{nat_tests}
 use Rattle.std.proofs.lemmas.List.{length-set}
 use Rattle.std.proofs.lemmas.List.Sums.{sum_by-cons}
@@ -8,7 +8,7 @@ use Rattle.pages.specs.declared.access.Width.{Width}
 use Rattle.pages.specs.declared.access.Width.TheVariants.{W1, W2, W4, W8}
 use Rattle.pages.specs.Memory.{Memory, store_fault, stored, width_bytes}
 use Rattle.pages.specs.Paged.{Paged, applied, is_page_ready, count_unready, spare_after}
-use Rattle.hart_step.specs.Room.{CanTake, CanTakeOn, HasSpares, TakesDirectly, IsRoomier}
+use Rattle.hart_step.specs.Room.{CanTakeOn, HasSpares, TakesDirectly, IsRoomier}
 
 stays_ready : (rs : List Bool) (i p : ℕ) → get_or rs p false ≡ true → get_or (set rs i true) p false ≡ true
 stays_ready [] i p h = h

@@ -1,5 +1,5 @@
 -- What the calls of a program to its environment read and write.
-use Rattle.std.specs.Prelude.{ℕ, ◌+◌, ◌*◌, ◌-◌, ◌%◌, ◌^◌, ◌++◌, if◌then◌else◌, nat_lt, List, [], ◌∷◌, length, slice_index}
+use Rattle.std.specs.Prelude.{ℕ, ◌+◌, ◌-◌, ◌%◌, ◌^◌, ◌++◌, if◌then◌else◌, nat_lt, List, [], ◌∷◌, length, slice_index}
 
 -- the input, how many of its bytes were taken, and the output so far
 pub record ConsoleState : Type 0 where

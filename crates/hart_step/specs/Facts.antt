@@ -1,6 +1,6 @@
 -- Facts of a set of instructions that the laws of the schedule ask: what an instruction's access says of its stores and of memory,
 -- and how the instructions of a hart are counted.
-use Rattle.std.specs.Prelude.{◌≡◌, ℕ, ◌+◌, ◌<◌, ◌%◌, ◌^◌, Bool, true, false, if◌then◌else◌, List, [], length, slice_index, Option, Some, None}
+use Rattle.std.specs.Prelude.{◌≡◌, ℕ, ◌+◌, ◌<◌, ◌%◌, ◌^◌, true, false, if◌then◌else◌, List, [], length, slice_index, Option, Some, None}
 use Rattle.pages.specs.declared.access.Store.{Store}
 use Rattle.pages.specs.Memory.{IsBytes, last_byte, covered}
 use Rattle.round_schedule.specs.declared.access.Access.{Access}

@@ -6,18 +6,15 @@ ghost use Rattle.hart_step.specs.Waiting.{WaitsExactly, WaitsUnchanged};
 pub fn waits_before_serial_words()
     ensures exactly { WaitsExactly }
     ensures unchanged { WaitsUnchanged }
-{
-}
+{}
 
 /// Each access says what its instruction read and wrote, what has to be serial is done in the serial phase, and
 /// a store-conditional succeeds with the reservation of its bytes alone.
 pub fn instructions_are_sound()
     ensures { IsSound }
-{
-}
+{}
 
 /// `done` counts the instructions of a hart, and an access's place is the count before it.
 pub fn done_counts_instructions()
     ensures { CountsDone }
-{
-}
+{}

@@ -26,6 +26,7 @@ returns-in-Err-clause-ok c = (fault_seen c.self.inside.pages.now.memory c.self.i
 pub returns-in_ok-put-in-Ok-clause-ok : goal.returns-in_ok-put-in-Ok-clause-ok
 returns-in_ok-put-in-Ok-clause-ok c =
     let m = c.self.inside.pages.now.memory in
-    let es = c.self.inside.buffer in
-    (fault_seen m es c.args.self.now c.self.view_is c.args.s.addr c.args.s.width None c.in-Ok.ensures,
-    put_seen m es c.args.self.now c.self.view_is c.args.s c.put.new.self c.bytes_rise.ensures c.in_ok-put-in-Ok.ensures.ok)
+    let es = c.self.inside.buffer in (
+      fault_seen m es c.args.self.now c.self.view_is c.args.s.addr c.args.s.width None c.in-Ok.ensures,
+      put_seen m es c.args.self.now c.self.view_is c.args.s c.put.new.self c.bytes_rise.ensures c.in_ok-put-in-Ok.ensures.ok,
+    )

@@ -1,5 +1,5 @@
-use Rattle.std.proofs.Common.{◌≡◌, ◌/◌, ◌<◌, ◌∷◌, [], length, arith, sym, ap, ◌∙◌, subst}
-use Rattle.pages.specs.Paged.{Paged, applied}
+use Rattle.std.proofs.Common.{◌∷◌, [], arith, sym, ap, ◌∙◌, subst}
+use Rattle.pages.specs.Paged.{Paged}
 use Rattle.hart_step.specs.Room.{TakesDirectly}
 use Rattle.hart_step.proofs.Spares.{within_pages, took_after}
 use Rattle.hart_step.proofs.direct.PagesBus.store.Goals as goal
