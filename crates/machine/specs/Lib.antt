@@ -1,4 +1,0 @@
-pub mod Taken
-pub mod Text
-pub mod Pending
-pub mod Report

@@ -1,0 +1,60 @@
+-- The report of a run, as text.
+use Rattle.std.specs.Prelude.{◌≡◌, ℕ, zero, suc, ◌+◌, ◌*◌, ◌/◌, ◌==◌, Bool, true, false, if◌then◌else◌, List, [], ◌∷◌, ◌++◌, length, drop, take, codes}
+use Rattle.std.specs.Fmt.{decimal}
+use Rattle.round_schedule.specs.declared.event.Event.{Event}
+use Rattle.round_schedule.specs.Schedule.{State}
+use Rattle.hart_step.specs.declared.hart.Hart.{Hart}
+use Rattle.hart_step.specs.Console.{ConsoleState}
+use Rattle.report.specs.Text.{hex, hart_text, event_text}
+
+-- bytes, two digits each
+abbrev pub bytes_text : List ℕ → List ℕ
+bytes_text [] = []
+bytes_text (b ∷ bs) = hex 2 b ++ bytes_text bs
+
+abbrev pub all_zero : List ℕ → Bool
+all_zero [] = true
+all_zero (b ∷ bs) = if b == 0 then all_zero bs else false
+
+-- the line of the 16 bytes from an address on, where they are not all 0
+unfoldable pub memory_row : ℕ → List ℕ → List ℕ
+memory_row a row = if all_zero row then [] else hex 8 a ++ codes " " ++ bytes_text row ++ codes "\n"
+
+-- n such lines
+unfoldable pub memory_rows : ℕ → List ℕ → ℕ → List ℕ
+memory_rows a bs zero = []
+memory_rows a bs (suc n) = memory_row a (take 16 bs) ++ memory_rows (a + 16) (drop 16 bs) n
+
+-- `memory` with the number of pages, and the lines of all bytes
+unfoldable pub memory_text : List ℕ → List ℕ
+memory_text bs = codes "memory " ++ decimal (length bs / 4096) ++ codes "\n" ++ memory_rows 0 bs (length bs / 16)
+
+-- n lines of output, 32 bytes each
+unfoldable pub output_rows : List ℕ → ℕ → List ℕ
+output_rows bs zero = []
+output_rows bs (suc n) = bytes_text (take 32 bs) ++ codes "\n" ++ output_rows (drop 32 bs) n
+
+unfoldable pub output_text : List ℕ → List ℕ
+output_text bs = codes "output " ++ decimal (length bs) ++ codes "\n" ++ output_rows bs ((length bs + 31) / 32)
+
+-- the lines of harts i, i + 1, ..
+abbrev pub harts_text : ℕ → List Hart → List ℕ
+harts_text i [] = []
+harts_text i (h ∷ hs) = hart_text i h ++ harts_text (i + 1) hs
+
+abbrev pub events_text : List Event → List ℕ
+events_text [] = []
+events_text (e ∷ es) = event_text e ++ events_text es
+
+unfoldable pub trace_text : List Event → List ℕ
+trace_text es = codes "trace " ++ decimal (length es) ++ codes "\n" ++ events_text es
+
+-- the report of a state of a run
+unfoldable pub report_of : State Hart ConsoleState → List ℕ
+report_of s =
+    codes "rounds " ++ decimal s.rounds ++ codes "\n"
+    ++ harts_text 0 s.harts
+    ++ memory_text s.bytes
+    ++ output_text s.console.output
+    ++ trace_text s.trace
+    ++ codes "end\n"

@@ -1,0 +1,98 @@
+ghost use Rattle.std.specs.Prelude.{◌≡◌, ℕ, ◌+◌, ◌≤◌, ◌<◌, List, [], ◌∷◌, ◌++◌, OnOk, length};
+ghost use Rattle.std.specs.Fmt.{decimal};
+ghost use Rattle.report.specs.Text.{hex, hex_digit};
+
+use pages::OutOfMemory;
+use std::alloc::Global;
+use std::marker::Model;
+
+/// Text on its way to a sink: bytes that are kept until they are taken out.
+#[derive(Drop)]
+pub struct Line {
+    bytes: Vec<u8>,
+}
+
+impl Model for Line {
+    ghost Value = { List ℕ };
+
+    ghost view = { λ l. l.bytes.items };
+}
+
+impl Line {
+    /// No text; this takes no memory.
+    pub fn new(alloc: Global) -> Self
+        ensures { result ≡ [] }
+    {
+        Line {
+            bytes: Vec::new(alloc),
+        }
+    }
+
+    /// Drops the text, and keeps the memory.
+    pub fn clear(&mut self)
+        ensures { self.new ≡ [] }
+    {
+        self.bytes.clear();
+    }
+
+    /// The text so far.
+    pub fn as_bytes(&self) -> &[u8]
+        ensures { result.now ≡ self.now }
+    {
+        self.bytes.as_slice()
+    }
+
+    /// Adds one byte.
+    pub fn byte(&mut self, byte: u8) -> Result<(), OutOfMemory>
+        ensures { OnOk result (self.new ≡ self.old ++ byte ∷ []) }
+    {
+        match self.bytes.push(byte) {
+            Ok(()) => Ok(()),
+            Err(_) => Err(OutOfMemory),
+        }
+    }
+
+    /// Adds text.
+    pub fn text(&mut self, text: &str) -> Result<(), OutOfMemory>
+        ensures { OnOk result (self.new ≡ self.old ++ text.now) }
+    {
+        match self.bytes.extend_from_slice(text.as_bytes()) {
+            Ok(()) => Ok(()),
+            Err(_) => Err(OutOfMemory),
+        }
+    }
+
+    /// Adds a number in decimal, without leading zeros.
+    pub fn decimal(&mut self, number: u64) -> Result<(), OutOfMemory>
+        ensures { OnOk result (self.new ≡ self.old ++ decimal number) }
+    {
+        if number < 10 {
+            return self.byte(b'0' + number as u8);
+        }
+        self.decimal(number / 10)?;
+        self.byte(b'0' + (number % 10) as u8)
+    }
+
+    /// Adds the low digits of a number in hexadecimal, lower case, as many as asked for.
+    #[tactic(auto, unfolding(crate::specs::Text::hex))]
+    pub fn hex(&mut self, number: u64, digits: u32) -> Result<(), OutOfMemory>
+        ensures { OnOk result (self.new ≡ self.old ++ hex digits number) }
+    {
+        if digits == 0 {
+            return Ok(());
+        }
+        self.hex(number / 16, digits - 1)?;
+        self.byte(hex_digit((number % 16) as u8))
+    }
+}
+
+fn hex_digit(digit: u8) -> u8
+    requires { digit < 16 }
+    ensures { result ≡ hex_digit digit }
+{
+    if digit < 10 {
+        b'0' + digit
+    } else {
+        b'a' + (digit - 10)
+    }
+}
