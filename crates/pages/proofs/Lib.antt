@@ -6,4 +6,5 @@ pub mod Laying
 pub mod Lent
 pub mod Numbers
 pub mod Page
+pub mod PageBytes
 pub mod Readied

@@ -1,5 +1,5 @@
 -- Pages of 4096 bytes, end to end. A page that is not ready has no bytes of its own, and reads 0.
-use Rattle.std.specs.Prelude.{ℕ, ◌%◌, ◌^◌, List, [], ◌∷◌, ◌++◌, length, map, take, drop, replicate, Bool, nat_eq, not}
+use Rattle.std.specs.Prelude.{ℕ, ◌*◌, ◌%◌, ◌^◌, List, [], ◌∷◌, ◌++◌, length, map, take, drop, replicate, Bool, nat_eq, not}
 use Rattle.pages.specs.declared.access.Store.{Store}
 
 -- the bytes of a page that nothing was written to
@@ -13,6 +13,10 @@ full p = map (λ b. b % 2 ^ 8) (take 4096 (p ++ blank))
 abbrev pub flat : List (List ℕ) → List ℕ
 flat [] = []
 flat (p ∷ ps) = full p ++ flat ps
+
+-- the bytes of page i
+unfoldable pub page_bytes : List ℕ → ℕ → List ℕ
+page_bytes bs i = take 4096 (drop (4096 * i) bs)
 
 -- whether a page holds bytes of its own
 abbrev pub is_ready : List ℕ → Bool

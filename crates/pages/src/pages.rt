@@ -1,8 +1,8 @@
-ghost use Rattle.std.specs.Prelude.{◌≡◌, ◌+◌, ◌-◌, ◌*◌, ◌/◌, ◌%◌, ◌^◌, ◌<◌, ◌≤◌, ◌⊎◌, ℕ, List, [], true, false, length, slice_index, slice_index_or, map, min, All, IfOk, OnOk, OnErr, MatchResult, Some, None};
+ghost use Rattle.std.specs.Prelude.{◌≡◌, ◌+◌, ◌-◌, ◌*◌, ◌/◌, ◌%◌, ◌^◌, ◌<◌, ◌≤◌, ◌⊎◌, ℕ, List, [], true, false, length, slice_index, slice_index_or, map, min, All, IfOk, OnOk, OnErr, MatchOption, MatchResult, Some, None};
 ghost use Rattle.std.specs.Borrow.{sem};
 ghost use Rattle.pages.specs.declared.access.Piece.{Piece as PieceOf};
 ghost use Rattle.pages.specs.declared.access.Range.{Range as RangeOf};
-ghost use Rattle.pages.specs.Flat.{flat, is_ready};
+ghost use Rattle.pages.specs.Flat.{blank, flat, is_ready, page_bytes};
 ghost use Rattle.pages.specs.Initial.{initial};
 ghost use Rattle.pages.specs.Kept.{Kept};
 ghost use Rattle.pages.specs.Lending.{LendsParts};
@@ -106,6 +106,17 @@ impl Pages {
         match self.parts.get(page as usize) {
             Some(part) => part.ready(),
             None => false,
+        }
+    }
+
+    /// The 4096 bytes of a page that is ready. One that is not ready reads 0.
+    pub fn page(&self, page: u32) -> Option<&[u8]>
+        ensures ready { MatchOption result (is_page_ready self.now page ≡ false) (λ bytes. is_page_ready self.now page ≡ true) }
+        ensures bytes { MatchOption result (page < length self.now.ready → page_bytes self.now.memory.bytes page ≡ blank) (λ bytes. bytes.now ≡ page_bytes self.now.memory.bytes page) }
+    {
+        match self.parts.get(page as usize) {
+            Some(part) => part.bytes(),
+            None => None,
         }
     }
 

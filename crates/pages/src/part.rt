@@ -1,4 +1,4 @@
-ghost use Rattle.std.specs.Prelude.{◌≡◌, ◌+◌, ◌-◌, ◌*◌, ◌%◌, ◌^◌, ◌<◌, ◌≤◌, ◌⊎◌, ℕ, List, [], true, false, length, slice_index, if◌then◌else◌, IfOk, OnOk};
+ghost use Rattle.std.specs.Prelude.{◌≡◌, ◌+◌, ◌-◌, ◌*◌, ◌%◌, ◌^◌, ◌<◌, ◌≤◌, ◌⊎◌, ℕ, List, [], true, false, length, slice_index, if◌then◌else◌, IfOk, MatchOption, OnOk};
 ghost use Rattle.pages.specs.Flat.{blank, full, in_page, is_ready};
 ghost use Rattle.pages.specs.Memory.{in_range, put, value_at, width_bytes};
 
@@ -9,6 +9,17 @@ use std::marker::Model;
 
 /// How many bytes a page has.
 pub(crate) const PAGE_BYTES: usize = 4096;
+
+/// The bytes, if there are some.
+#[inline]
+fn if_some(bytes: &[u8]) -> Option<&[u8]>
+    ensures { MatchOption result (length bytes.now ≡ 0) (λ b. (0 < length bytes.now) × (b.now ≡ bytes.now) × ((k : ℕ) → slice_index bytes.now k < 2 ^ 8)) }
+{
+    if bytes.is_empty() {
+        return None;
+    }
+    Some(bytes)
+}
 
 /// One page of guest memory, which holds no bytes until it is ready.
 #[derive(Drop)]
@@ -76,6 +87,14 @@ impl Part {
         ensures { result ≡ is_ready self.now }
     {
         !self.bytes.is_empty()
+    }
+
+    /// The page's bytes, if it holds bytes of its own.
+    #[inline]
+    pub(crate) fn bytes(&self) -> Option<&[u8]>
+        ensures { MatchOption result (is_ready self.now ≡ false) (λ bytes. (is_ready self.now ≡ true) × (bytes.now ≡ full self.now)) }
+    {
+        if_some(&self.bytes)
     }
 
     /// The number of this width from a place in the page on.

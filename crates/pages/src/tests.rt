@@ -11,6 +11,11 @@ fn spare_pages(rt: HostRuntime) -> Result<(), Fail> {
     let mut p = Pages::new(rt.alloc(), 8, &[piece], &[])?;
     assert_eq!(rt; p.count(), 8);
     assert!(rt; p.ready(0) && !p.ready(5) && !p.ready(8));
+    assert!(rt;
+        p.page(0)
+            .is_some_and(|bytes| bytes.len() == 4096 && bytes[7] == 8)
+    );
+    assert!(rt; p.page(5).is_none() && p.page(8).is_none());
     assert!(rt; p.read(0, Width::W8) == Ok(0x0807_0605_0403_0201));
     assert!(rt; p.read(0x5000, Width::W8) == Ok(0));
     p.prepare(rt.alloc(), &[5], 2)?;
