@@ -32,7 +32,7 @@ fit-append m [] ts f g = g
 fit-append m (s ∷ ss) ts f g = (f.0, fit-append m ss ts f.1 g)
 
 -- a store's fault depends on how long memory is, and on its code
-same_fault : (m n : Memory) (a : ℕ) (w : Width) → length n.bytes ≡ length m.bytes → n.code ≡ m.code → store_fault n a w ≡ store_fault m a w
+pub same_fault : (m n : Memory) (a : ℕ) (w : Width) → length n.bytes ≡ length m.bytes → n.code ≡ m.code → store_fault n a w ≡ store_fault m a w
 unfolding store_fault
 same_fault m n a w e f =
     ap (λ (k : ℕ). cond (a % width_bytes w == 0) (cond (nat_le (a + width_bytes w) k) (cond (any_code n.code a (width_bytes w)) (Some StoreToCode) None) (Some StoreOutside)) (Some StoreMisaligned)) e

@@ -1,8 +1,9 @@
 -- What the rounds of the harts left, as the code keeps it.
-use Rattle.std.specs.Prelude.{◌≡◌, ℕ, List, [], ◌∷◌, Option, None, All}
+use Rattle.std.specs.Prelude.{◌≡◌, ℕ, ◌+◌, ◌*◌, ◌/◌, Bool, true, if◌then◌else◌, List, [], ◌∷◌, length, Option, None, All}
 use Rattle.pages.specs.declared.access.Store.{Store}
 use Rattle.pages.specs.declared.access.Width.TheVariants.{W1}
 use Rattle.pages.specs.Memory.{Memory, store_fault}
+use Rattle.pages.specs.Paged.{Paged, is_page_ready}
 use Rattle.store_buffer.specs.Covered.{with_stores}
 use Rattle.round_schedule.specs.Schedule.{HartRound}
 use Rattle.hart_step.specs.declared.hart.Hart.{Hart}
@@ -26,3 +27,35 @@ AreOutcomes m [] [] = Unit {0}
 AreOutcomes m (r ∷ rs) [] = ⊥
 AreOutcomes m [] (o ∷ os) = ⊥
 AreOutcomes m (r ∷ rs) (o ∷ os) = IsOutcome m r o × AreOutcomes m rs os
+
+-- each byte of a buffer lies on a page that is ready
+abbrev pub AllOnReady : Paged → List (ℕ × ℕ) → Type 0
+AllOnReady p es = All (λ (e : ℕ × ℕ). is_page_ready p (e.0 / 4096) ≡ true) es
+
+-- the same of the buffers of all outcomes
+abbrev pub AreFit : Memory → List Outcome → Type 0
+AreFit m [] = Unit {0}
+AreFit m (o ∷ os) = AllFit m o.buffer × AreFit m os
+
+abbrev pub AreReady : Paged → List Outcome → Type 0
+AreReady p [] = Unit {0}
+AreReady p (o ∷ os) = AllOnReady p o.buffer × AreReady p os
+
+-- memory is as it was, and ready pages stay ready
+pub record KeepsPages (p q : Paged) : Type 0 where
+  pub memory : q.memory ≡ p.memory
+  pub count : length q.ready ≡ length p.ready
+  pub stays : (page : ℕ) → is_page_ready p page ≡ true → is_page_ready q page ≡ true
+
+-- bit i of the number is test i
+abbrev pub mask_of : List Bool → ℕ
+mask_of [] = 0
+mask_of (b ∷ bs) = 2 * mask_of bs + (if b then 1 else 0)
+
+abbrev pub waits_of : List Outcome → List Bool
+waits_of [] = []
+waits_of (o ∷ os) = o.waits ∷ waits_of os
+
+abbrev pub harts_of : List Outcome → List Hart
+harts_of [] = []
+harts_of (o ∷ os) = o.hart ∷ harts_of os

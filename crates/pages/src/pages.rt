@@ -151,6 +151,12 @@ impl Pages {
         let _parts = &self.parts;
     }
 
+    /// The allocator that the pages come from.
+    #[inline]
+    pub fn allocator(&self) -> Global {
+        *self.parts.allocator()
+    }
+
     /// The code ranges.
     #[inline]
     pub fn code(&self) -> &[Range]

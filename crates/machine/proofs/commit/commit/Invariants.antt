@@ -1,0 +1,8 @@
+use Rattle.machine.proofs.Listed.{Committing, SameShape}
+use Rattle.machine.proofs.commit.commit.Given as goal
+
+abbrev pub invariant-loop-number : goal.invariant-loop-number
+invariant-loop-number l = record {
+  shape : SameShape l.fn.pages l.pages;
+  committing : Committing l.number l.fn.pages.memory l.outcomes l.fn.pages l.pages l.fn.table l.table;
+}

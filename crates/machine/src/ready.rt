@@ -1,0 +1,48 @@
+ghost use Rattle.std.specs.Prelude.{◌≡◌, ◌<◌, ◌/◌, OnOk, length, List, true};
+ghost use Rattle.pages.specs.Paged.{is_page_ready};
+ghost use Rattle.machine.specs.Outcomes.{AllFit, AllOnReady, AreFit, AreReady, KeepsPages};
+
+use crate::outcome::Outcome;
+use pages::{OutOfMemory, Pages};
+use store_buffer::StoreBuffer;
+
+/// Makes the pages ready to which the buffers of all harts write. Refused, it changes no byte.
+pub fn make_ready(pages: &mut Pages, outcomes: &[Outcome]) -> Result<(), OutOfMemory>
+    requires { AreFit pages.old.memory outcomes.now }
+    ensures keeps { KeepsPages pages.old pages.new }
+    ensures ready { OnOk result (AreReady pages.new outcomes.now) }
+{
+    for outcome in outcomes {
+        make_buffer_ready(pages, &outcome.buffer)?;
+    }
+    Ok(())
+}
+
+/// Makes the pages ready to which one buffer writes.
+fn make_buffer_ready(pages: &mut Pages, buffer: &StoreBuffer) -> Result<(), OutOfMemory>
+    requires { AllFit pages.old.memory buffer.now }
+    ensures keeps { KeepsPages pages.old pages.new }
+    ensures ready { OnOk result (AllOnReady pages.new buffer.now) }
+{
+    // A byte of guest memory lies in one of these pages.
+    let _pages = pages.count();
+    for store in buffer.stores() {
+        make_page_ready(pages, store.addr)?;
+    }
+    Ok(())
+}
+
+/// Makes the page of an address ready.
+fn make_page_ready(pages: &mut Pages, address: u64) -> Result<(), OutOfMemory>
+    requires { address / 4096 < length pages.old.ready }
+    ensures keeps { KeepsPages pages.old pages.new }
+    ensures ready { OnOk result (is_page_ready pages.new (address / 4096) ≡ true) }
+{
+    let _pages = pages.count();
+    let page = (address / 4096) as u32;
+    if pages.ready(page) {
+        return Ok(());
+    }
+    let alloc = pages.allocator();
+    pages.prepare(alloc, &[page], 0)
+}

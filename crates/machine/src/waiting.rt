@@ -1,0 +1,39 @@
+ghost use Rattle.std.specs.Prelude.{◌≡◌, ◌≤◌, ◌<◌, ◌+◌, ◌^◌, ◌++◌, map, length, IfOk, OnOk, [], ◌∷◌};
+ghost use Rattle.machine.specs.Outcomes.{mask_of, waits_of, harts_of};
+
+use crate::outcome::Outcome;
+use hart_step::Hart;
+use pages::OutOfMemory;
+use std::alloc::Global;
+
+/// The harts that wait for the serial phase: bit h for hart h.
+pub fn waiting_mask(outcomes: &[Outcome]) -> u64
+    requires { length outcomes.now ≤ 64 }
+    ensures mask { result ≡ mask_of (waits_of outcomes.now) }
+    ensures below { result < 2 ^ length outcomes.now }
+{
+    match outcomes {
+        [] => 0,
+        [first, rest @ ..] => 2 * waiting_mask(rest) + u64::from(first.waits),
+    }
+}
+
+/// The harts after their rounds.
+pub fn harts_after(alloc: Global, outcomes: &[Outcome]) -> Result<Vec<Hart>, OutOfMemory>
+    ensures { IfOk result (λ hs. hs.items ≡ harts_of outcomes.now) }
+{
+    let mut harts = Vec::new(alloc);
+    for outcome in outcomes {
+        add(&mut harts, outcome.hart)?;
+    }
+    Ok(harts)
+}
+
+fn add(harts: &mut Vec<Hart>, hart: Hart) -> Result<(), OutOfMemory>
+    ensures { OnOk result (harts.new.items ≡ harts.old.items ++ hart ∷ []) }
+{
+    match harts.push(hart) {
+        Ok(()) => Ok(()),
+        Err(_) => Err(OutOfMemory),
+    }
+}
