@@ -1,5 +1,5 @@
 -- Numbers in memory by their bytes, and what an access says of them.
-use Rattle.std.proofs.Common.{◌≡◌, ℕ, zero, suc, ◌+◌, ◌-◌, ◌*◌, ◌/◌, ◌%◌, ◌^◌, ◌<◌, ◌≤◌, ◌==◌, ◌||◌, Bool, true, false, if◌then◌else◌, nat_le, List, [], ◌∷◌, length, get_or, slice_index, Some, None, Ok, Err, refl, sym, ap, ◌∙◌, inl, inr, arith}
+use Rattle.std.proofs.Common.{subst, ◌≡◌, ℕ, zero, suc, ◌+◌, ◌-◌, ◌*◌, ◌/◌, ◌%◌, ◌^◌, ◌<◌, ◌≤◌, ◌==◌, ◌||◌, Bool, true, false, if◌then◌else◌, nat_le, List, [], ◌∷◌, length, get_or, slice_index, Some, None, Ok, Err, refl, sym, ap, ◌∙◌, inl, inr, arith}
 use Rattle.std.proofs.Math.ListN.{get_or-eq_default}
 use Rattle.std.proofs.Math.Nat.{div-div-eq-div-mul, div-one}
 use Rattle.std.proofs.Math.Pow.{mod-mod-pow}
@@ -54,23 +54,41 @@ cut_byte n v k h =
     let parts : 8 * n ≡ (j + 8) + 8 * k = omega arith in
     ap (λ (e : ℕ). v % 2 ^ e / 2 ^ (8 * k) % 2 ^ 8) parts ∙ ap (λ (x : ℕ). x % 2 ^ 8) (field_of v (j + 8) (8 * k)) ∙ mod-mod-pow (v / 2 ^ (8 * k)) j 8
 
+number_fits : (bs : List ℕ) (a n : ℕ) → IsBytes bs → number_at bs a n < 2 ^ (8 * n)
+number_fits bs a zero small = omega arith
+number_fits bs a (suc n) small =
+    let b : get_or bs a 0 < 2 ^ 8 = small_byte bs a small in
+    let rest : number_at bs (a + 1) n < 2 ^ (8 * n) = number_fits bs (a + 1) n small in
+    let next : 8 + 8 * n ≡ 8 * suc n = omega arith in
+    let power : 2 ^ (8 * suc n) ≡ 2 ^ 8 * 2 ^ (8 * n) = ap (λ (k : ℕ). 2 ^ k) (sym next) ∙ pow-add 2 8 (8 * n) in
+    omega (arith, power)
+
 value_is : (bs : List ℕ) (a : ℕ) (w : Width) → value_at bs a w ≡ number_at bs a (width_bytes w)
 value_is bs a W1 = refl
 value_is bs a W2 = refl
 value_is bs a W4 = refl
 value_is bs a W8 = refl
 
-both_pass : (p q : Bool) (x v : ℕ) (f g : Fault) → (if p then (if q then Ok x else Err f) else Err g) ≡ Ok v → (q ≡ true) × (x ≡ v)
-both_pass true true x v f g e = (refl, cc)
+pub value_fits : (bs : List ℕ) (a : ℕ) (w : Width) → IsBytes bs → value_at bs a w < 2 ^ (8 * width_bytes w)
+value_fits bs a w small = subst (λ (v : ℕ). v < 2 ^ (8 * width_bytes w)) (sym (value_is bs a w)) (number_fits bs a (width_bytes w) small)
+
+both_pass : (p q : Bool) (x v : ℕ) (f g : Fault) → (if p then (if q then Ok x else Err f) else Err g) ≡ Ok v → (p ≡ true) × (q ≡ true) × (x ≡ v)
+both_pass true true x v f g e = (refl, refl, cc)
 both_pass true false x v f g e = absurd (cc e)
 both_pass false q x v f g e = absurd (cc e)
 
-pub loaded_within : (m : Memory) (a : ℕ) (w : Width) (v : ℕ) → loaded m a w ≡ Ok v → (a + width_bytes w ≤ length m.bytes) × (value_at m.bytes a w ≡ v)
+loaded_parts : (m : Memory) (a : ℕ) (w : Width) (v : ℕ) → loaded m a w ≡ Ok v → ((a % width_bytes w == 0) ≡ true) × (nat_le (a + width_bytes w) (length m.bytes) ≡ true) × (value_at m.bytes a w ≡ v)
 unfolding loaded
+loaded_parts m a w v e = both_pass (a % width_bytes w == 0) (nat_le (a + width_bytes w) (length m.bytes)) (value_at m.bytes a w) v _ _ e
+
+pub loaded_within : (m : Memory) (a : ℕ) (w : Width) (v : ℕ) → loaded m a w ≡ Ok v → (a + width_bytes w ≤ length m.bytes) × (value_at m.bytes a w ≡ v)
 loaded_within m a w v e =
-    let p = both_pass (a % width_bytes w == 0) (nat_le (a + width_bytes w) (length m.bytes)) (value_at m.bytes a w) v _ _ e in
-    let t : nat_le (a + width_bytes w) (length m.bytes) ≡ true = p.0 in
-    (grind (arith, nat_tests), p.1)
+    let p = loaded_parts m a w v e in
+    let t : nat_le (a + width_bytes w) (length m.bytes) ≡ true = p.1 in
+    (grind (arith, nat_tests), p.2)
+
+pub loaded_aligned : (m : Memory) (a : ℕ) (w : Width) (v : ℕ) → loaded m a w ≡ Ok v → a % width_bytes w ≡ 0
+loaded_aligned m a w v e = let p = loaded_parts m a w v e in let t : (a % width_bytes w == 0) ≡ true = p.0 in grind (arith, nat_tests)
 
 within : (bs : List ℕ) (a n x : ℕ) → a + n ≤ length bs → in_range a n x ≡ true → x < length bs
 within bs a n x h r = let q = range_within a n x r in omega (arith, q.1)

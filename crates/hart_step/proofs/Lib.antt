@@ -8,3 +8,4 @@ pub mod Overlays
 pub mod Bytes
 pub mod ByWord
 pub mod Soundness
+pub mod Formation

@@ -6,6 +6,7 @@ pub mod CodeTables
 pub mod Console
 pub mod Effect
 pub mod Facts
+pub mod Forms
 pub mod Laws
 pub mod Numbers
 pub mod Registers

@@ -1,5 +1,5 @@
 //! Laws of the effects of instructions, for proofs.
-ghost use Rattle.hart_step.specs.Laws.{IsSound, CountsDone};
+ghost use Rattle.hart_step.specs.Laws.{IsSound, CountsDone, HasForms};
 ghost use Rattle.hart_step.specs.Waiting.{WaitsExactly, WaitsUnchanged};
 
 /// In the parallel phase a hart waits exactly before a serial word, and then nothing changes.
@@ -17,4 +17,10 @@ pub fn instructions_are_sound()
 /// `done` counts the instructions of a hart, and an access's place is the count before it.
 pub fn done_counts_instructions()
     ensures { CountsDone }
+{}
+
+/// Each access has the form of its kind: its address is a multiple of its width and lies in memory, its numbers
+/// fit the width, and an LR, an SC and an AMO have a word or a doubleword.
+pub fn accesses_have_their_forms()
+    ensures { HasForms }
 {}

@@ -23,7 +23,10 @@ pub use bus::Bus;
 pub use code_table::CodeTable;
 pub use direct::Direct;
 pub use hart::{Hart, Stop};
-pub use laws::{done_counts_instructions, instructions_are_sound, waits_before_serial_words};
+pub use laws::{
+    accesses_have_their_forms, done_counts_instructions, instructions_are_sound,
+    waits_before_serial_words,
+};
 pub use round_schedule::{Access, Span, Stepped};
 pub use rounds::hart_round;
 pub use stepping::step;
