@@ -14,7 +14,7 @@ use Rattle.round_schedule.proofs.Written.{range_within}
 use Rattle.rv64_decode.specs.declared.ordering.AcquireRelease.{AcquireRelease}
 use Rattle.rv64_decode.specs.declared.ordering.FenceMode.{FenceMode}
 use Rattle.rv64_decode.specs.declared.ordering.FenceSet.{FenceSet}
-use Rattle.hart_step.specs.Facts.{Matches}
+use Rattle.round_schedule.specs.Sound.{Matches}
 use Rattle.hart_step.specs.Step.{cut}
 
 byte_first : (v : ℕ) → byte_of v 0 ≡ v % 2 ^ 8

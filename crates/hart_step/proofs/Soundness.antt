@@ -17,7 +17,7 @@ use Rattle.rv64_decode.specs.declared.ordering.AcquireRelease.{AcquireRelease}
 use Rattle.hart_step.specs.declared.hart.Hart.{Hart}
 use Rattle.hart_step.specs.Console.{ConsoleState}
 use Rattle.hart_step.specs.Effect.{Action, Put, Jump, Branch, Read, Write, Order, Halt, Reserve, Conditional, Exchange, Call, action}
-use Rattle.hart_step.specs.Facts.{Agrees, IsParallel, HasReservation, counted, IsPlacedAt}
+use Rattle.round_schedule.specs.Sound.{Agrees, IsParallel, HasReservation, counted, IsPlacedAt}
 use Rattle.hart_step.specs.Laws.{IsSound, CountsDone}
 use Rattle.hart_step.specs.Registers.{reg}
 use Rattle.hart_step.specs.SerialStep.{with_console, reserved_by, is_reserved, conditional_by, exchanged_by, called, served, serial_stepped}

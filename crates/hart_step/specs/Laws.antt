@@ -2,7 +2,7 @@
 use Rattle.std.specs.Prelude.{List}
 use Rattle.pages.specs.declared.access.Range.{Range}
 use Rattle.hart_step.specs.declared.hart.Hart.{Hart}
-use Rattle.hart_step.specs.Facts.{Sound, Counts}
+use Rattle.round_schedule.specs.Sound.{Sound, Counts}
 use Rattle.hart_step.specs.Forms.{Forms}
 use Rattle.hart_step.specs.Words.{words_of}
 

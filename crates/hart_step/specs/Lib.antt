@@ -5,7 +5,6 @@ pub mod Buses
 pub mod CodeTables
 pub mod Console
 pub mod Effect
-pub mod Facts
 pub mod Forms
 pub mod Laws
 pub mod Numbers

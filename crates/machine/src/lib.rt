@@ -2,10 +2,13 @@
 #![tactic(auto)]
 
 mod commit;
+mod machine;
+mod opening;
 mod outcome;
 mod ready;
 mod trace;
 mod waiting;
 
+pub use machine::Machine;
 pub use outcome::Outcome;
 pub use trace::Trace;

@@ -1,2 +1,6 @@
+pub mod Folds
+pub mod Holding
+pub mod Local
 pub mod Longest
-pub mod Written
+pub mod Phases
+pub mod Runs

@@ -1,7 +1,6 @@
 -- A machine that keeps a table of reservations and never looks at its trace, and what ties it to a run.
-use Rattle.std.specs.Prelude.{◌≡◌, ℕ, zero, suc, ◌+◌, List, [], ◌∷◌, ◌++◌, length, replicate, Option, None}
+use Rattle.std.specs.Prelude.{◌≡◌, ℕ, suc, ◌+◌, List, [], ◌∷◌, ◌++◌, length, Option}
 use Rattle.pages.specs.Memory.{after}
-use Rattle.round_schedule.specs.declared.event.Event.{Event}
 use Rattle.round_schedule.specs.declared.span.Span.{Span}
 use Rattle.round_schedule.specs.Desk.{Counter, counter_from, log_events}
 use Rattle.round_schedule.specs.Held.{unless}

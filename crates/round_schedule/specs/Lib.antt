@@ -1,7 +1,12 @@
 pub mod Accesses
+pub mod ByTable
+pub mod Desk
 pub mod Events
 pub mod Held
+pub mod HeldBy
+pub mod Positions
+pub mod RoundTrace
 pub mod Schedule
+pub mod Sound
+pub mod Spans
 pub mod Tables
-pub mod Desk
-pub mod ByTable

@@ -1,6 +1,5 @@
 -- A table of reservations, one entry a hart, kept beside a trace, and what calls, a commit and a serial access do to it.
-use Rattle.std.specs.Prelude.{◌≡◌, ℕ, suc, ◌<◌, ◌==◌, ◌||◌, Bool, true, false, if◌then◌else◌, List, [], ◌∷◌, length, slice_index_or, Option, Some, None}
-use Rattle.pages.specs.declared.access.Width.{Width}
+use Rattle.std.specs.Prelude.{◌≡◌, ℕ, suc, ◌<◌, ◌==◌, ◌||◌, Bool, false, if◌then◌else◌, List, [], ◌∷◌, length, slice_index_or, Option, Some, None}
 use Rattle.pages.specs.Memory.{width_bytes, in_range, covered}
 use Rattle.round_schedule.specs.declared.access.Access.{Access}
 use Rattle.round_schedule.specs.declared.event.Event.{Event}

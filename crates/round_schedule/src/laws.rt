@@ -1,4 +1,8 @@
+//! Laws of the definitions, each the contract of a function that does nothing.
+
+ghost use Rattle.round_schedule.specs.HeldBy.{HeldIsByLastReserve};
 ghost use Rattle.round_schedule.specs.Schedule.{CommitIsLastStore, HartRoundIsLongest};
+ghost use Rattle.round_schedule.specs.Sound.{TracesAreRoundTraces};
 
 /// A hart's round is the one longest sequence of its instructions.
 ///
@@ -12,4 +16,20 @@ pub fn hart_round_is_longest<H, C>()
 /// Each byte after the commit is that of the last store to it in hart order, and else the byte of the round's start.
 pub fn commit_is_last_store<H, C>()
     ensures { CommitIsLastStore H C }
+{}
+
+/// The reservation that a trace leaves a hart is that of its last LR, where no SC of the hart and no write of another
+/// hart to its bytes came after; and where there is such an LR, the hart has its reservation.
+pub fn held_is_by_last_reserve()
+    ensures { HeldIsByLastReserve }
+{}
+
+/// The trace of every run over sound instructions is a round trace, whose opening bytes are those of the run's start.
+///
+/// Events go round by round, in a round the parallel ones first, and in a phase hart by hart. A parallel load returns
+/// the last write among those of earlier rounds and its hart's own earlier ones; a serial load the last write of all
+/// before it. LR, SC, AMO and fences that order stores before loads are serial, a turn has at most the budget's events,
+/// and an SC that writes has its hart's reservation.
+pub fn traces_are_round_traces<H, C>()
+    ensures { TracesAreRoundTraces H C }
 {}

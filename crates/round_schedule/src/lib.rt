@@ -10,5 +10,7 @@ mod span;
 
 pub use access::{Access, Stepped};
 pub use event::{Event, Phase};
-pub use laws::{commit_is_last_store, hart_round_is_longest};
+pub use laws::{
+    commit_is_last_store, hart_round_is_longest, held_is_by_last_reserve, traces_are_round_traces,
+};
 pub use span::Span;

@@ -1,0 +1,117 @@
+ghost use Rattle.std.specs.Prelude.{◌≡◌, ◌<◌, ◌≤◌, length, slice_index, Some, None, IfOk, IfErr};
+ghost use Rattle.host_io.specs.declared.error.RunError.TheVariants as refusals;
+ghost use Rattle.hart_step.specs.CodeTables.{Shows};
+ghost use Rattle.machine.specs.Machine.{opening};
+
+use crate::opening::opening_harts;
+use crate::trace::Trace;
+use elf_loader::Image;
+use hart_step::{CodeTable, Hart};
+use host_io::RunError;
+use pages::{OutOfMemory, Pages};
+use reservations::Reservations;
+use round_planner::Plan;
+use round_schedule::Event;
+use serial_phase::{Console, SerialLog};
+use std::alloc::Global;
+use std::marker::Model;
+
+/// A guest program between two rounds.
+#[derive(Drop)]
+pub struct Machine {
+    pub(crate) harts: Vec<Hart>,
+    pub(crate) pages: Pages,
+    pub(crate) table: CodeTable,
+    pub(crate) reservations: Reservations,
+    pub(crate) console: Console,
+    pub(crate) log: SerialLog,
+    pub(crate) trace: Trace,
+    pub(crate) plan: Plan,
+    pub(crate) rounds: u32,
+}
+
+impl Model for Machine {
+    ghost use Rattle.machine.specs.Machine.{Running};
+    ghost use Rattle.machine.specs.Held.{HoldsTogether};
+
+    ghost Value = { Running };
+
+    ghost view = { λ m. record { state = record { harts = m.harts.items; bytes = m.pages.memory.bytes; console = m.console.console; trace = m.trace.events; rounds = m.rounds }; code = m.pages.memory.code; plan = m.plan } };
+
+    ghost invariant = { λ m. HoldsTogether m.harts.items m.plan.harts m.pages.memory m.table m.reservations m.trace.events };
+}
+
+impl Machine {
+    /// The machine of an image, an input and a plan, before the first round.
+    ///
+    /// # Errors
+    ///
+    /// `OutOfMemory` alone.
+    pub fn new(
+        alloc: Global,
+        image: Image,
+        input: Vec<u8>,
+        plan: Plan,
+    ) -> Result<Machine, RunError>
+        ensures machine { IfOk result (λ m. m ≡ opening image input.items plan) }
+        ensures refused { IfErr result (λ e. e ≡ refusals.OutOfMemory) }
+    {
+        let pages = Pages::new(alloc, image.pages(), image.pieces(), image.code())?;
+        let entry = image.entry();
+        let table = code_table(alloc, &pages)?;
+        let harts = opening_harts(alloc, entry, plan.harts())?;
+        Ok(Machine {
+            reservations: Reservations::new(plan.harts()),
+            harts,
+            pages,
+            table,
+            console: Console::new(alloc, input),
+            log: SerialLog::new(alloc),
+            trace: Trace::new(alloc),
+            plan,
+            rounds: 0,
+        })
+    }
+
+    /// The harts, in hart order.
+    pub fn harts(&self) -> &[Hart]
+        ensures { result.now ≡ self.now.state.harts }
+    {
+        self.harts.as_slice()
+    }
+
+    /// The byte at an address, or `None` outside guest memory.
+    pub fn byte(&self, addr: u64) -> Option<u8>
+        ensures inside { addr < length self.now.state.bytes → result ≡ Some (slice_index self.now.state.bytes addr) }
+        ensures outside { length self.now.state.bytes ≤ addr → result ≡ None }
+    {
+        if addr >= 4096 * u64::from(self.pages.count()) {
+            return None;
+        }
+        Some(self.pages.byte(addr))
+    }
+
+    /// The output so far.
+    pub fn output(&self) -> &[u8]
+        ensures { result.now ≡ self.now.state.console.output }
+    {
+        self.console.output()
+    }
+
+    /// The events so far.
+    pub fn trace(&self) -> &[Event]
+        ensures { result.now ≡ self.now.state.trace }
+    {
+        self.trace.events()
+    }
+}
+
+/// The decoded words of the first code range.
+fn code_table(alloc: Global, pages: &Pages) -> Result<CodeTable, OutOfMemory>
+    ensures { IfOk result (λ t. Shows pages.now.memory t.first t.instructions) }
+{
+    match pages.code() {
+        [] => CodeTable::new(alloc, pages, 0, 0),
+        [first, ..] => CodeTable::new(alloc, pages, first.start, (first.len / 4) as usize),
+    }
+}
