@@ -10,12 +10,14 @@ use Rattle.pages.specs.declared.access.Width.{Width}
 use Rattle.pages.specs.declared.access.Width.TheVariants.{W1, W2, W4, W8}
 use Rattle.pages.specs.Memory.{IsBytes, Memory, byte_of, in_range, number_at, value_at, width_bytes, loaded}
 use Rattle.round_schedule.specs.declared.access.Access.TheVariants.{Load, Store as StoreAccess, LoadReserved, StoreConditional, Atomic, Fence}
-use Rattle.round_schedule.proofs.Written.{range_within}
 use Rattle.rv64_decode.specs.declared.ordering.AcquireRelease.{AcquireRelease}
 use Rattle.rv64_decode.specs.declared.ordering.FenceMode.{FenceMode}
 use Rattle.rv64_decode.specs.declared.ordering.FenceSet.{FenceSet}
 use Rattle.round_schedule.specs.Sound.{Matches}
 use Rattle.hart_step.specs.Step.{cut}
+
+range_within : (a n k : ℕ) → in_range a n k ≡ true → (a ≤ k) × (k < a + n)
+range_within a n k e = grind (arith, nat_tests)
 
 byte_first : (v : ℕ) → byte_of v 0 ≡ v % 2 ^ 8
 byte_first v = ap (λ (m : ℕ). m % 2 ^ 8) (div-one v)

@@ -10,13 +10,15 @@ use Rattle.pages.specs.StoreLaws.{byte_after as byte_stored, bytes_after, last_b
 use Rattle.round_schedule.specs.declared.access.Access.{Access}
 use Rattle.round_schedule.specs.declared.access.Access.TheVariants.{Load, Store as StoreAccess, LoadReserved, StoreConditional, Atomic, Fence}
 use Rattle.round_schedule.specs.declared.event.Event.{Event}
+use Rattle.round_schedule.specs.declared.span.Span.{Span}
 use Rattle.round_schedule.specs.declared.event.Phase.{Phase}
 use Rattle.round_schedule.specs.declared.event.Phase.TheVariants.{Parallel, Serial}
-use Rattle.round_schedule.specs.Accesses.{byte_written, is_sc, must_be_serial, writes}
+use Rattle.round_schedule.specs.Accesses.{byte_written, is_sc, must_be_serial, stores, writes}
 use Rattle.round_schedule.specs.Events.{event_of, events_of, is_serial}
 use Rattle.round_schedule.specs.Held.{held}
 use Rattle.round_schedule.specs.RoundTrace.{Follows, in_turn, phase_number}
 use Rattle.round_schedule.specs.Sound.{Agrees, HasReservation, Matches, IsParallel}
+use Rattle.round_schedule.specs.Spans.{span_of}
 use Rattle.round_schedule.proofs.Folds.{byte_after, byte_push}
 use Rattle.round_schedule.proofs.Local.{AllRight, every, one_more, seen, turn_parts}
 
