@@ -1,6 +1,11 @@
+pub mod Desks
 pub mod Folds
+pub mod Forms
 pub mod Holding
 pub mod Local
 pub mod Longest
+pub mod Machines
 pub mod Phases
+pub mod Rising
 pub mod Runs
+pub mod Tabling

@@ -1,10 +1,12 @@
 -- A machine that keeps a table of reservations and never looks at its trace, and what ties it to a run.
-use Rattle.std.specs.Prelude.{◌≡◌, ℕ, suc, ◌+◌, List, [], ◌∷◌, ◌++◌, length, Option}
-use Rattle.pages.specs.Memory.{after}
+use Rattle.std.specs.Prelude.{◌≡◌, ℕ, zero, suc, ◌+◌, List, [], ◌∷◌, ◌++◌, length, replicate, slice_index, Option, None}
+use Rattle.pages.specs.Memory.{IsBytes, after}
 use Rattle.round_schedule.specs.declared.span.Span.{Span}
 use Rattle.round_schedule.specs.Desk.{Counter, counter_from, log_events}
 use Rattle.round_schedule.specs.Held.{unless}
-use Rattle.round_schedule.specs.Schedule.{Words, HartRound, State, hart_rounds, all_stores, events_from, round_of}
+use Rattle.round_schedule.specs.RoundTrace.{IsRoundTrace}
+use Rattle.round_schedule.specs.Schedule.{Words, HartRound, State, hart_rounds, all_stores, events_from, opening_state, round_of, run_of}
+use Rattle.round_schedule.specs.Sound.{Sound}
 use Rattle.round_schedule.specs.Tables.{covered_by_others, Tied}
 
 -- the entries of harts h, h + 1, .. after the commit of these rounds
@@ -43,8 +45,30 @@ pub record RoundByTable {H C : Type 0} (w : Words H C) (budget : ℕ) (quotas : 
   pub same : (tabled_round w budget quotas m).state ≡ round_of w budget quotas m.state
   pub tied : Tied (tabled_round w budget quotas m).table (tabled_round w budget quotas m).state.trace
   pub size : length (tabled_round w budget quotas m).table ≡ length m.table
+  pub harts : length (tabled_round w budget quotas m).state.harts ≡ length m.state.harts
+  pub bytes : IsBytes (tabled_round w budget quotas m).state.bytes
 
 abbrev pub RoundsByTable : (H C : Type 0) → Type 0
 RoundsByTable H C =
     (w : Words H C) (budget : ℕ) (quotas : ℕ → List ℕ) (m : Tabled H C) →
-    Tied m.table m.state.trace → length m.table ≡ length m.state.harts → RoundByTable w budget quotas m
+    Sound w → IsBytes m.state.bytes → Tied m.table m.state.trace → length m.table ≡ length m.state.harts → RoundByTable w budget quotas m
+
+-- n rounds over the table
+unfoldable pub tabled_run : {H C : Type 0} → Words H C → ℕ → (ℕ → List ℕ) → ℕ → Tabled H C → Tabled H C
+tabled_run w budget quotas zero m = m
+tabled_run w budget quotas (suc n) m = tabled_run w budget quotas n (tabled_round w budget quotas m)
+
+-- before the first round no hart has a reservation
+abbrev pub opening_tabled : {H C : Type 0} → List H → List ℕ → C → Tabled H C
+opening_tabled hs bs c = record { state = opening_state hs bs c; table = replicate (length hs) None }
+
+-- a run over the table is the run, its table is what the trace says, and its trace is a round trace
+pub record RunByTable {H C : Type 0} (w : Words H C) (budget : ℕ) (quotas : ℕ → List ℕ) (n : ℕ) (hs : List H) (bs : List ℕ) (c : C) : Type 0 where
+  pub same : (tabled_run w budget quotas n (opening_tabled hs bs c)).state ≡ run_of w budget quotas n (opening_state hs bs c)
+  pub tied : Tied (tabled_run w budget quotas n (opening_tabled hs bs c)).table (tabled_run w budget quotas n (opening_tabled hs bs c)).state.trace
+  pub size : length (tabled_run w budget quotas n (opening_tabled hs bs c)).table ≡ length hs
+  pub round_trace : IsRoundTrace (tabled_run w budget quotas n (opening_tabled hs bs c)).state.trace (λ x. slice_index bs x) budget
+
+abbrev pub RunsByTable : (H C : Type 0) → Type 0
+RunsByTable H C =
+    (w : Words H C) → Sound w → (budget : ℕ) (quotas : ℕ → List ℕ) (n : ℕ) (hs : List H) (bs : List ℕ) (c : C) → IsBytes bs → RunByTable w budget quotas n hs bs c

@@ -1,6 +1,9 @@
 //! Laws of the definitions, each the contract of a function that does nothing.
 
 ghost use Rattle.round_schedule.specs.HeldBy.{HeldIsByLastReserve};
+ghost use Rattle.round_schedule.specs.ByTable.{RoundsByTable, RunsByTable};
+ghost use Rattle.round_schedule.specs.Desk.{SerialPhaseByTable};
+ghost use Rattle.round_schedule.specs.Places.{EventsPass, PlacesOfRunsRise};
 ghost use Rattle.round_schedule.specs.Schedule.{CommitIsLastStore, HartRoundIsLongest};
 ghost use Rattle.round_schedule.specs.Sound.{TracesAreRoundTraces};
 
@@ -32,4 +35,35 @@ pub fn held_is_by_last_reserve()
 /// and an SC that writes has its hart's reservation.
 pub fn traces_are_round_traces<H, C>()
     ensures { TracesAreRoundTraces H C }
+{}
+
+/// Where a table of reservations is what the trace says, the serial phase over the table is that over the trace, and the
+/// table after it is what the trace after it says.
+pub fn serial_phase_by_table<H, C>()
+    ensures { SerialPhaseByTable H C }
+{}
+
+/// Over sound instructions, and where the table is what the trace says, a round over the table is the round over the
+/// trace: it ends in the same state, and the table after it is what the trace after it says.
+///
+/// It leaves bytes below 256, and as many harts and entries as there were, so that the law applies to the next round.
+pub fn rounds_by_table<H, C>()
+    ensures { RoundsByTable H C }
+{}
+
+/// Over sound instructions, a run over a table that begins empty is the run over the trace. Its table is what the trace
+/// says at its end, and its trace is a round trace.
+pub fn runs_by_table<H, C>()
+    ensures { RunsByTable H C }
+{}
+
+/// Where `done` counts a hart's instructions and a run is too short for the counts to wrap, the places of a hart's
+/// accesses rise through the trace.
+pub fn places_of_runs_rise<H, C>()
+    ensures { PlacesOfRunsRise H C }
+{}
+
+/// What each access that an instruction leaves passes, the access of each event of a run passes.
+pub fn events_pass<H, C>()
+    ensures { EventsPass H C }
 {}

@@ -11,6 +11,8 @@ mod span;
 pub use access::{Access, Stepped};
 pub use event::{Event, Phase};
 pub use laws::{
-    commit_is_last_store, hart_round_is_longest, held_is_by_last_reserve, traces_are_round_traces,
+    commit_is_last_store, events_pass, hart_round_is_longest, held_is_by_last_reserve,
+    places_of_runs_rise, rounds_by_table, runs_by_table, serial_phase_by_table,
+    traces_are_round_traces,
 };
 pub use span::Span;

@@ -1,0 +1,5 @@
+use Rattle.round_schedule.proofs.Desks.{serial_by_table}
+use Rattle.round_schedule.proofs.laws.serial_phase_by_table.Goals as goal
+
+pub returns : goal.returns
+returns g c = serial_by_table _ _
