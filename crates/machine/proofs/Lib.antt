@@ -1,3 +1,4 @@
 pub mod Fits
 pub mod RoundsOfHarts
 pub mod Listed
+pub mod Opened

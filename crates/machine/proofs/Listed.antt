@@ -164,3 +164,13 @@ harts-push (x ∷ os) o = ap (λ (hs : List Hart). x.hart ∷ hs) (harts-push os
 pub harts_more : (os : List Outcome) (i : ℕ) (o : Outcome) (hs new : List Hart) → i < length os → o ≡ get_or os i o → new ≡ hs ++ o.hart ∷ [] → hs ≡ harts_of (take i os) → new ≡ harts_of (take (i + 1) os)
 harts_more os i o hs new low here more e =
     more ∙ ap (λ (x : List Hart). x ++ o.hart ∷ []) e ∙ sym (harts-push (take i os) o) ∙ ap harts_of (sym (take_more os i o low ∙ ap (λ (x : Outcome). take i os ++ x ∷ []) (sym here)))
+
+pub ready_kept : (p q : Paged) (os : List Outcome) → KeepsPages p q → AreReady p os → AreReady q os
+ready_kept p q [] k f = tt
+ready_kept p q (o ∷ os) k f = (still_on p q o.buffer k f.0, ready_kept p q os k f.1)
+
+pub are_fit : (m : Memory) (rs : List (HartRound Hart)) (os : List Outcome) → AreOutcomes m rs os → AreFit m os
+are_fit m [] [] a = tt
+are_fit m (r ∷ rs) [] a = absurd a
+are_fit m [] (o ∷ os) a = absurd a
+are_fit m (r ∷ rs) (o ∷ os) a = (a.0.fits, are_fit m rs os a.1)

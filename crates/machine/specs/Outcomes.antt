@@ -1,10 +1,14 @@
 -- What the rounds of the harts left, as the code keeps it.
-use Rattle.std.specs.Prelude.{◌≡◌, ℕ, ◌+◌, ◌*◌, ◌/◌, Bool, true, if◌then◌else◌, List, [], ◌∷◌, length, Option, None, All}
+use Rattle.std.specs.Prelude.{◌≡◌, ℕ, suc, ◌+◌, ◌*◌, ◌/◌, Bool, true, if◌then◌else◌, List, [], ◌∷◌, ◌++◌, length, Option, None, All}
 use Rattle.pages.specs.declared.access.Store.{Store}
 use Rattle.pages.specs.declared.access.Width.TheVariants.{W1}
 use Rattle.pages.specs.Memory.{Memory, store_fault}
 use Rattle.pages.specs.Paged.{Paged, is_page_ready}
 use Rattle.store_buffer.specs.Covered.{with_stores}
+use Rattle.round_schedule.specs.declared.access.Access.{Access}
+use Rattle.round_schedule.specs.declared.event.Event.{Event}
+use Rattle.round_schedule.specs.declared.event.Phase.TheVariants.{Parallel}
+use Rattle.round_schedule.specs.Events.{events_of}
 use Rattle.round_schedule.specs.Schedule.{HartRound}
 use Rattle.hart_step.specs.declared.hart.Hart.{Hart}
 use Rattle.machine.specs.declared.outcome.Outcome.{Outcome}
@@ -59,3 +63,21 @@ waits_of (o ∷ os) = o.waits ∷ waits_of os
 abbrev pub harts_of : List Outcome → List Hart
 harts_of [] = []
 harts_of (o ∷ os) = o.hart ∷ harts_of os
+
+-- the events of outcomes in round n, hart by hart from hart i on
+abbrev pub outcome_events : ℕ → ℕ → List Outcome → List Event
+outcome_events n i [] = []
+outcome_events n i (o ∷ os) = events_of n i Parallel o.accesses.items ++ outcome_events n (suc i) os
+
+abbrev pub count_accesses : List Outcome → ℕ
+count_accesses [] = 0
+count_accesses (o ∷ os) = length o.accesses.items + count_accesses os
+
+-- how many instructions the serial turns may do together
+abbrev pub turns_of : ℕ → List Bool → ℕ
+turns_of budget [] = 0
+turns_of budget (b ∷ bs) = (if b then budget else 0) + turns_of budget bs
+
+abbrev pub count_log : List (List Access) → ℕ
+count_log [] = 0
+count_log (l ∷ ls) = length l + count_log ls

@@ -2,10 +2,12 @@
 #![tactic(auto)]
 
 mod commit;
+mod events;
 mod machine;
 mod opening;
 mod outcome;
 mod ready;
+mod room;
 mod trace;
 mod waiting;
 

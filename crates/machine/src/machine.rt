@@ -47,12 +47,7 @@ impl Machine {
     /// # Errors
     ///
     /// `OutOfMemory` alone.
-    pub fn new(
-        alloc: Global,
-        image: Image,
-        input: Vec<u8>,
-        plan: Plan,
-    ) -> Result<Machine, RunError>
+    pub fn new(alloc: Global, image: Image, input: Vec<u8>, plan: Plan) -> Result<Machine, RunError>
         ensures machine { IfOk result (λ m. m ≡ opening image input.items plan) }
         ensures refused { IfErr result (λ e. e ≡ refusals.OutOfMemory) }
     {

@@ -1,0 +1,35 @@
+-- The parts of a machine before the first round.
+use Rattle.std.proofs.Common.{◌≡◌, ℕ, zero, suc, ◌+◌, ◌*◌, ◌<◌, List, [], ◌∷◌, length, get_or, replicate, Option, Some, None, refl, sym, ap, ◌∙◌, subst, arith}
+use Rattle.pages.specs.declared.access.Piece.{Piece}
+use Rattle.pages.specs.declared.access.Range.{Range}
+use Rattle.pages.specs.Initial.{initial, bytes_from}
+use Rattle.pages.specs.Paged.{Paged}
+use Rattle.round_schedule.specs.declared.span.Span.{Span}
+use Rattle.round_schedule.specs.Held.{held}
+use Rattle.round_schedule.specs.Tables.{Tied, entry}
+use Rattle.hart_step.specs.declared.hart.Hart.{Hart}
+use Rattle.machine.specs.Machine.{opening_harts}
+
+pub length-opening : (e n i k : ℕ) → length (opening_harts e n i k) ≡ k
+length-opening e n i zero = refl
+length-opening e n i (suc k) = ap suc (length-opening e n (suc i) k)
+
+none_held : (h : ℕ) → None ≡ held h []
+unfolding held
+none_held h = refl
+
+none_at : (n h : ℕ) → get_or (replicate {A = Option Span} n None) h None ≡ None
+none_at zero h = refl
+none_at (suc n) zero = refl
+none_at (suc n) (suc h) = none_at n h
+
+pub tied_first : (n : ℕ) (table : List (Option Span)) → table ≡ replicate n None → Tied table []
+tied_first n table e = record { each = λ h low. ap (λ (t : List (Option Span)). entry t h) e ∙ none_at n h ∙ none_held h }
+
+pub initial_bytes : (count : ℕ) (pieces : List Piece) (code : List Range) (p : Paged) → p ≡ initial count pieces code → p.memory.bytes ≡ bytes_from pieces 0 (4096 * count)
+unfolding initial
+initial_bytes count pieces code p e = ap (λ (q : Paged). q.memory.bytes) e
+
+pub initial_code : (count : ℕ) (pieces : List Piece) (code : List Range) (p : Paged) → p ≡ initial count pieces code → p.memory.code ≡ code
+unfolding initial
+initial_code count pieces code p e = ap (λ (q : Paged). q.memory.code) e

@@ -1,0 +1,37 @@
+use Rattle.std.proofs.Common.{◌≡◌, ◌*◌, ℕ, List, [], length, sym, ap, ◌∙◌, subst}
+use Rattle.std.proofs.lemmas.List.{length-replicate}
+use Rattle.pages.specs.declared.access.Range.{Range}
+use Rattle.pages.specs.Initial.{bytes_from}
+use Rattle.round_schedule.specs.declared.event.Event.{Event}
+use Rattle.round_schedule.specs.Schedule.{State}
+use Rattle.round_schedule.specs.Tables.{Tied}
+use Rattle.hart_step.specs.declared.hart.Hart.{Hart}
+use Rattle.hart_step.specs.Console.{ConsoleState}
+use Rattle.machine.specs.Machine.{Running, opening_harts}
+use Rattle.machine.proofs.Opened.{length-opening, tied_first, initial_bytes, initial_code}
+use Rattle.machine.proofs.machine.Machine.new.Goals as goal
+
+pub invariant_of-result : goal.invariant_of-result
+invariant_of-result c = record {
+  harts = ap length c.in_ok-harts.ensures ∙ length-opening c.entry-entry.result c.harts.result 0 c.harts.result ∙ c.harts.ensures.harts;
+  size = ap length c.new-2.ensures ∙ length-replicate c.harts-2.result _ ∙ c.harts-2.ensures.harts ∙ sym (ap length c.in_ok-harts.ensures ∙ length-opening c.entry-entry.result c.harts.result 0 c.harts.result ∙ c.harts.ensures.harts);
+  tied = subst (λ (t : List Event). Tied c.new-2.result t) (sym c.new-5.ensures) (tied_first c.harts-2.result c.new-2.result c.new-2.ensures);
+  shows = c.in_ok-table.ensures;
+}
+
+pub returns-clause-machine : goal.returns-clause-machine
+returns-clause-machine c =
+    let p = c.in_ok-pages.pages in
+    let bytes : p.memory.bytes ≡ c.args.image.bytes = initial_bytes c.pages.result c.pieces.result.now c.code.result.now p c.in_ok-pages.ensures ∙ ap (λ (n : ℕ). bytes_from c.pieces.result.now 0 (4096 * n)) c.pages.ensures.pages ∙ c.pieces.ensures.bytes in
+    let code : p.memory.code ≡ c.args.image.code = initial_code c.pages.result c.pieces.result.now c.code.result.now p c.in_ok-pages.ensures ∙ c.code.ensures.code in
+    let harts : c.in_ok-harts.harts.items ≡ opening_harts c.args.image.entry c.args.plan.harts 0 c.args.plan.harts =
+    c.in_ok-harts.ensures ∙ ap (λ (n : ℕ). opening_harts c.entry-entry.result n 0 n) c.harts.ensures.harts ∙ ap (λ (e : ℕ). opening_harts e c.args.plan.harts 0 c.args.plan.harts) c.entry-entry.ensures.entry in
+    let console : c.new-3.result.console ≡ record { input = c.args.input.items; place = 0; output = [] } =
+    ap (λ (x : List ℕ). record { input = x; place = c.new-3.result.console.place; output = c.new-3.result.console.output }) c.new-3.ensures.input
+    ∙ ap (λ (x : ℕ). record { input = c.args.input.items; place = x; output = c.new-3.result.console.output }) c.new-3.ensures.place
+    ∙ ap (λ (x : List ℕ). record { input = c.args.input.items; place = 0; output = x }) c.new-3.ensures.output in
+    ap (λ (x : List Hart). record { state = record { harts = x; bytes = p.memory.bytes; console = c.new-3.result.console; trace = c.new-5.result.events; rounds = 0 }; code = p.memory.code; plan = c.args.plan }) harts
+    ∙ ap (λ (x : List ℕ). record { state = record { harts = opening_harts c.args.image.entry c.args.plan.harts 0 c.args.plan.harts; bytes = x; console = c.new-3.result.console; trace = c.new-5.result.events; rounds = 0 }; code = p.memory.code; plan = c.args.plan }) bytes
+    ∙ ap (λ (x : ConsoleState). record { state = record { harts = opening_harts c.args.image.entry c.args.plan.harts 0 c.args.plan.harts; bytes = c.args.image.bytes; console = x; trace = c.new-5.result.events; rounds = 0 }; code = p.memory.code; plan = c.args.plan }) console
+    ∙ ap (λ (x : List Event). record { state = record { harts = opening_harts c.args.image.entry c.args.plan.harts 0 c.args.plan.harts; bytes = c.args.image.bytes; console = record { input = c.args.input.items; place = 0; output = [] }; trace = x; rounds = 0 }; code = p.memory.code; plan = c.args.plan }) c.new-5.ensures
+    ∙ ap (λ (x : List Range). record { state = record { harts = opening_harts c.args.image.entry c.args.plan.harts 0 c.args.plan.harts; bytes = c.args.image.bytes; console = record { input = c.args.input.items; place = 0; output = [] }; trace = []; rounds = 0 }; code = x; plan = c.args.plan }) code
