@@ -1,3 +1,5 @@
 pub mod Breaking
 pub mod Writing
 pub mod HartOrder
+pub mod Lined
+pub mod Fitting

@@ -1,13 +1,35 @@
 -- What the commit of one buffer does to memory and the reservations, and how far the commit of a round has come.
-use Rattle.std.specs.Prelude.{◌≡◌, ℕ, ◌<◌, ◌==◌, if◌then◌else◌, List, length, take, Option}
-use Rattle.pages.specs.Memory.{covered, stored}
-use Rattle.pages.specs.Paged.{Paged}
+use Rattle.std.specs.Prelude.{◌≡◌, ℕ, ◌+◌, ◌/◌, ◌<◌, ◌==◌, true, if◌then◌else◌, List, [], length, take, Option, None, All}
+use Rattle.pages.specs.declared.access.Width.TheVariants.{W1}
+use Rattle.pages.specs.Memory.{covered, store_fault, stored}
+use Rattle.pages.specs.Paged.{Paged, is_page_ready}
 use Rattle.round_schedule.specs.declared.span.Span.{Span}
 use Rattle.round_schedule.specs.ByTable.{committed_table}
 use Rattle.round_schedule.specs.Held.{unless}
 use Rattle.round_schedule.specs.Schedule.{HartRound, all_stores}
 use Rattle.round_schedule.specs.Tables.{Commits, covered_by_others, entry}
 use Rattle.store_buffer.specs.Covered.{stores_of}
+use Rattle.store_buffer.specs.Lines.{line_at, line_bytes, put_first}
+use Rattle.store_buffer.specs.declared.line.Line.{Line}
+
+-- these are bytes of guest memory that are not code, on pages that are ready
+pub record Writable (p : Paged) (es : List (ℕ × ℕ)) : Type 0 where
+  pub fits : All (λ (e : ℕ × ℕ). store_fault p.memory e.0 W1 ≡ None) es
+  pub ready : All (λ (e : ℕ × ℕ). is_page_ready p (e.0 / 4096) ≡ true) es
+
+-- they are in memory, and nothing else is changed
+pub record Written (es : List (ℕ × ℕ)) (p q : Paged) : Type 0 where
+  pub memory : q.memory ≡ stored p.memory (stores_of es)
+  pub ready : q.ready ≡ p.ready
+  pub spare : q.spare ≡ p.spare
+
+-- the covered bytes of eight places of a line that starts at a
+unfoldable pub word_bytes : ℕ → Line → ℕ → List (ℕ × ℕ)
+word_bytes a l j = line_bytes a l j 8
+
+-- the byte of one place, if it is covered
+abbrev pub place_bytes : ℕ → Line → ℕ → List (ℕ × ℕ)
+place_bytes a l j = put_first (a + j) (line_at l j) []
 
 -- the bytes of hart i's buffer are in memory, and no other hart has a reservation of one of them
 pub record CommitsBuffer (i : ℕ) (es : List (ℕ × ℕ)) (p q : Paged) (old new : List (Option Span)) : Type 0 where

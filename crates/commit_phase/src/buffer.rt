@@ -6,6 +6,7 @@ ghost use Rattle.round_schedule.specs.Held.{unless};
 ghost use Rattle.round_schedule.specs.Tables.{entry};
 ghost use Rattle.store_buffer.specs.Covered.{stores_of};
 
+use crate::bytes::write_bytes;
 use pages::Pages;
 use reservations::Reservations;
 use store_buffer::StoreBuffer;
@@ -27,23 +28,12 @@ pub fn commit_buffer(pages: &mut Pages, table: &mut Reservations, hart: u32, buf
     }
 }
 
-fn write_bytes(pages: &mut Pages, buffer: &StoreBuffer)
-    requires fits { All (λ (e : ℕ × ℕ). store_fault pages.old.memory e.0 W1 ≡ None) buffer.now }
-    requires ready { All (λ (e : ℕ × ℕ). is_page_ready pages.old (e.0 / 4096) ≡ true) buffer.now }
-    ensures memory { pages.new.memory ≡ stored pages.old.memory (stores_of buffer.now) }
-    ensures ready { pages.new.ready ≡ pages.old.ready }
-    ensures spare { pages.new.spare ≡ pages.old.spare }
-{
-    for s in buffer.stores() {
-        pages.apply(s);
-    }
-}
-
+/// Breaks the reservations of other harts of which the buffer has a byte.
 fn break_others(table: &mut Reservations, hart: u32, buffer: &StoreBuffer)
     ensures size { length table.new ≡ length table.old }
     ensures table { (h : ℕ) → h < length table.old → entry table.new h ≡ (if hart == h then entry table.old h else unless (covered (stores_of buffer.now)) (entry table.old h)) }
 {
-    for s in buffer.stores() {
-        table.break_by(hart, s.addr, s.width);
+    for byte in buffer.stores() {
+        table.break_by(hart, byte.addr, byte.width);
     }
 }

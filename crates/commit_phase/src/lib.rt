@@ -2,5 +2,9 @@
 #![tactic(auto)]
 
 mod buffer;
+mod bytes;
 
 pub use buffer::commit_buffer;
+
+#[cfg(test)]
+mod tests;

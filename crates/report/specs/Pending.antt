@@ -1,15 +1,30 @@
 -- Text that goes to a sink by way of a line, which is put where it is long.
-use Rattle.std.specs.Prelude.{◌≡◌, ℕ, ◌≤◌, List, ◌++◌, length, take, drop, Result, MatchResult}
-use Rattle.host_io.specs.Taken.{BeganText}
+use Rattle.std.specs.Prelude.{◌≡◌, ℕ, ◌<◌, ◌⊎◌, List, ◌++◌, Result, MatchResult}
+use Rattle.host_io.specs.declared.error.RunError.{RunError}
+use Rattle.host_io.specs.declared.error.RunError.TheVariants.{OutOfMemory, SinkFailed}
 
--- of a text, a beginning came to the sink after what was there, and the line has the rest
-pub record Pending (old out text rest : List ℕ) : Type 0 where
-  pub count : ℕ
-  pub within : count ≤ length text
-  pub line : rest ≡ drop count text
-  pub took : out ≡ old ++ take count text
+-- what the sink took, how often it failed, and the text that is still to be put
+pub record Way : Type 0 where
+  pub took : List ℕ
+  pub failures : ℕ
+  pub line : List ℕ
 
--- a call adds this text: with Ok it is pending; and else a beginning of it all is out
-abbrev pub Adds : {E : Type 0} → List ℕ → List ℕ → List ℕ → Result (Unit {0}) E → List ℕ → List ℕ → Type 0
-Adds text took line result took' line' =
-    (old before : List ℕ) → Pending old took before line → MatchResult result (λ _. Pending old took' (before ++ text) line') (λ _. BeganText old took' (before ++ text))
+abbrev pub way : List ℕ → ℕ → List ℕ → Way
+way took failures line = record { took = took; failures = failures; line = line }
+
+-- of a text, a beginning came to the sink after what was there, and the rest is not put
+pub record Split (old new text rest : List ℕ) : Type 0 where
+  pub gone : List ℕ
+  pub out : new ≡ old ++ gone
+  pub text_is : text ≡ gone ++ rest
+
+-- a refusal of memory, or a failure of the sink, which counts it
+abbrev pub Refused : RunError → ℕ → ℕ → Type 0
+Refused e old new = ((e ≡ OutOfMemory) × (new ≡ old)) ⊎ ((e ≡ SinkFailed) × (old < new))
+
+-- a call adds this text: with Ok it is in the sink or in the line; and else a beginning of it all is in the sink
+unfoldable pub Wrote : List ℕ → Way → Result (Unit {0}) RunError → Way → Type 0
+Wrote text old result new =
+    MatchResult result
+    (λ _. (new.failures ≡ old.failures) × Split old.took new.took (old.line ++ text) new.line)
+    (λ e. Refused e old.failures new.failures × ((rest : List ℕ) × Split old.took new.took (old.line ++ text) rest))

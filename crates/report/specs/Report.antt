@@ -1,6 +1,7 @@
 -- The report of a run, as text.
-use Rattle.std.specs.Prelude.{◌≡◌, ℕ, zero, suc, ◌+◌, ◌*◌, ◌/◌, ◌==◌, Bool, true, false, if◌then◌else◌, List, [], ◌∷◌, ◌++◌, length, drop, take, codes}
+use Rattle.std.specs.Prelude.{ℕ, zero, suc, ◌+◌, ◌/◌, ◌==◌, Bool, if◌then◌else◌, List, [], ◌∷◌, ◌++◌, length, drop, take, codes}
 use Rattle.std.specs.Fmt.{decimal}
+use Rattle.std.specs.List.{list_all}
 use Rattle.round_schedule.specs.declared.event.Event.{Event}
 use Rattle.round_schedule.specs.Schedule.{State}
 use Rattle.hart_step.specs.declared.hart.Hart.{Hart}
@@ -13,8 +14,7 @@ bytes_text [] = []
 bytes_text (b ∷ bs) = hex 2 b ++ bytes_text bs
 
 abbrev pub all_zero : List ℕ → Bool
-all_zero [] = true
-all_zero (b ∷ bs) = if b == 0 then all_zero bs else false
+all_zero bs = list_all (λ b. b == 0) bs
 
 -- the line of the 16 bytes from an address on, where they are not all 0
 unfoldable pub memory_row : ℕ → List ℕ → List ℕ
@@ -49,12 +49,16 @@ events_text (e ∷ es) = event_text e ++ events_text es
 unfoldable pub trace_text : List Event → List ℕ
 trace_text es = codes "trace " ++ decimal (length es) ++ codes "\n" ++ events_text es
 
--- the report of a state of a run
-unfoldable pub report_of : State Hart ConsoleState → List ℕ
-report_of s =
-    codes "rounds " ++ decimal s.rounds ++ codes "\n"
-    ++ harts_text 0 s.harts
-    ++ memory_text s.bytes
-    ++ output_text s.console.output
-    ++ trace_text s.trace
+-- the report of so many rounds, these harts, these bytes of memory, this output and these events
+unfoldable pub report_text : ℕ → List Hart → List ℕ → List ℕ → List Event → List ℕ
+report_text rounds harts bytes output events =
+    codes "rounds " ++ decimal rounds ++ codes "\n"
+    ++ harts_text 0 harts
+    ++ memory_text bytes
+    ++ output_text output
+    ++ trace_text events
     ++ codes "end\n"
+
+-- the report of a state of a run
+abbrev pub report_of : State Hart ConsoleState → List ℕ
+report_of s = report_text s.rounds s.harts s.bytes s.console.output s.trace

@@ -192,11 +192,11 @@ fn stop_state(line: &mut Line, stop: Option<Stop>) -> Result<(), OutOfMemory>
 }
 
 #[tactic(auto, unfolding(crate::specs::Text::hart_line))]
-fn hart_line(line: &mut Line, number: u32, hart: &Hart) -> Result<(), OutOfMemory>
+fn hart_line(line: &mut Line, number: u64, hart: &Hart) -> Result<(), OutOfMemory>
     ensures { OnOk result (line.new ≡ line.old ++ hart_line number hart.now) }
 {
     line.text("hart ")?;
-    line.decimal(number as u64)?;
+    line.decimal(number)?;
     line.text(" pc ")?;
     line.hex(hart.pc, 16)?;
     line.text(" done ")?;
@@ -235,7 +235,7 @@ fn register_lines(line: &mut Line, first: u64, values: &[u64]) -> Result<(), Out
 
 /// A hart's lines.
 #[tactic(auto, unfolding(crate::specs::Text::hart_text))]
-pub fn hart_lines(line: &mut Line, number: u32, hart: &Hart) -> Result<(), OutOfMemory>
+pub fn hart_lines(line: &mut Line, number: u64, hart: &Hart) -> Result<(), OutOfMemory>
     ensures { OnOk result (line.new ≡ line.old ++ hart_text number hart.now) }
 {
     hart_line(line, number, hart)?;
@@ -255,7 +255,7 @@ pub fn write_hart<S: Sink>(
     ensures memory { result ≡ Err RunError.OutOfMemory → S.took out.new ≡ S.took out.old }
 {
     let mut line = Line::new(alloc);
-    hart_lines(&mut line, number, hart)?;
+    hart_lines(&mut line, number as u64, hart)?;
     put_all(out, line.as_bytes())
 }
 

@@ -29,6 +29,7 @@ mod tests {
         // Another hart's write breaks it only where they share a byte.
         let mut beside = Reservations::new(2);
         beside.set(0, 0x100, W8);
+        assert!(rt; beside.is_only_of(0) && !beside.is_only_of(1));
         beside.break_by(1, 0x108, W8);
         let equal = beside.copy();
         beside.break_by(1, 0x107, W1);

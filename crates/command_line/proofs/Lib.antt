@@ -1,0 +1,4 @@
+mod Chains
+mod Lines
+mod Numbers
+mod Texts

@@ -1,0 +1,191 @@
+-- The bytes that a line covers, written eight at a time.
+use Rattle.std.proofs.Common.{◌≡◌, ℕ, zero, suc, ◌+◌, ◌*◌, ◌/◌, ◌%◌, ◌^◌, ◌<◌, ◌≤◌, Bool, true, false, List, [], ◌∷◌, ◌++◌, length, Option, Some, None, refl, sym, ap, ◌∙◌, arith, All, set, subst, slice_index, ◌||◌, ◌-◌, bit_and}
+use Rattle.std.proofs.lemmas.Bool.{eq-eqb, le-leb, ne_eqb, or_parts}
+use Rattle.std.proofs.lemmas.List.Elements.{All-head, All-tail}
+use Rattle.std.proofs.lemmas.Nat.Bits.{shr_and_one}
+use Rattle.std.proofs.Math.Nat.{mod-eq_of_lt}
+use Rattle.pages.specs.declared.access.Range.{Range}
+use Rattle.pages.specs.declared.access.Width.TheVariants.{W1, W8}
+use Rattle.pages.specs.Memory.{Memory, after, any_code, is_code, number_at, put, store_fault, stored, written}
+use Rattle.pages.specs.Paged.{Paged, applied, is_page_ready}
+use Rattle.pages.proofs.Accesses.{store_accepted}
+use Rattle.store_buffer.specs.declared.line.Line.{Line}
+use Rattle.store_buffer.specs.Covered.{one_byte, stores_of}
+use Rattle.store_buffer.specs.Lines.{byte_if, line_at, line_bytes, put_first, whole_line}
+use Rattle.store_buffer.proofs.LineBits.{all_covered, none_covered}
+use Rattle.commit_phase.specs.Commit.{Writable, Written, place_bytes, word_bytes}
+use Rattle.commit_phase.proofs.Writing.{applied_ready}
+
+put_first-append : (a : ℕ) (o : Option ℕ) (es fs : List (ℕ × ℕ)) → put_first a o (es ++ fs) ≡ put_first a o es ++ fs
+put_first-append a None es fs = refl
+put_first-append a (Some b) es fs = refl
+
+-- the covered bytes of some places, and of those after them
+pub line_bytes-split : (m n k : ℕ) (a : ℕ) (l : Line) (j i : ℕ) → k ≡ m + n → i ≡ j + m → line_bytes a l j k ≡ line_bytes a l j m ++ line_bytes a l i n
+line_bytes-split zero n k a l j i e f =
+    let here : j ≡ i = omega arith in
+    let all : k ≡ n = omega arith in
+    ap (λ (x : ℕ). line_bytes a l j x) all ∙ ap (λ (x : ℕ). line_bytes a l x n) here
+line_bytes-split (suc m) n zero a l j i e f = absurd (omega arith)
+line_bytes-split (suc m) n (suc k) a l j i e f =
+    ap (put_first (a + j) (line_at l j)) (line_bytes-split m n k a l (j + 1) i (omega arith) (omega arith))
+    ∙ put_first-append (a + j) (line_at l j) (line_bytes a l (j + 1) m) (line_bytes a l i n)
+
+-- places of which none is covered
+pub line_bytes-none : (n a : ℕ) (l : Line) (j : ℕ) → ((i : ℕ) → i < n → line_at l (j + i) ≡ None) → line_bytes a l j n ≡ []
+line_bytes-none zero a l j h = refl
+line_bytes-none (suc n) a l j h =
+    let here : line_at l j ≡ None = ap (line_at l) (omega arith) ∙ h 0 (omega arith) in
+    ap (λ (o : Option ℕ). put_first (a + j) o (line_bytes a l (j + 1) n)) here
+    ∙ line_bytes-none n a l (j + 1) (λ i q. ap (line_at l) (omega arith) ∙ h (suc i) (omega arith))
+
+-- places of which each is covered
+abbrev pub AllCovered : Line → ℕ → ℕ → Type 0
+AllCovered l j n = (i : ℕ) → i < n → line_at l (j + i) ≡ Some (slice_index l.bytes (j + i) % 2 ^ 8)
+
+first_covered : (n : ℕ) (l : Line) (j : ℕ) → AllCovered l j (suc n) → line_at l j ≡ Some (slice_index l.bytes j % 2 ^ 8)
+first_covered n l j h =
+    let z : j ≡ j + 0 = omega arith in
+    ap (line_at l) z ∙ h 0 (omega arith) ∙ ap (λ (x : ℕ). Some (slice_index l.bytes x % 2 ^ 8)) (sym z)
+
+next_covered : (n : ℕ) (l : Line) (j : ℕ) → AllCovered l j (suc n) → AllCovered l (j + 1) n
+next_covered n l j h i q =
+    let s : j + 1 + i ≡ j + suc i = omega arith in
+    ap (line_at l) s ∙ h (suc i) (omega arith) ∙ ap (λ (x : ℕ). Some (slice_index l.bytes x % 2 ^ 8)) (sym s)
+
+pub line_bytes-first : (n a : ℕ) (l : Line) (j : ℕ) → AllCovered l j (suc n) → line_bytes a l j (suc n) ≡ (a + j, slice_index l.bytes j % 2 ^ 8) ∷ line_bytes a l (j + 1) n
+line_bytes-first n a l j h = ap (λ (o : Option ℕ). put_first (a + j) o (line_bytes a l (j + 1) n)) (first_covered n l j h)
+
+put_one : (bs : List ℕ) (e : ℕ × ℕ) → put bs (one_byte e) ≡ set bs e.0 (e.1 % 2 ^ 8)
+unfolding put
+put_one bs e = refl
+
+low : (b r : ℕ) → b < 2 ^ 8 → (b + 2 ^ 8 * r) % 2 ^ 8 ≡ b
+low b r h = omega arith
+
+high : (b r : ℕ) → b < 2 ^ 8 → (b + 2 ^ 8 * r) / 2 ^ 8 ≡ r
+high b r h = omega arith
+
+-- the bytes one by one leave what one number leaves
+pub after_covered : (n a : ℕ) (l : Line) (j : ℕ) (bs : List ℕ) → ((k : ℕ) → slice_index l.bytes k < 2 ^ 8) → AllCovered l j n →
+    after bs (stores_of (line_bytes a l j n)) ≡ written bs (a + j) (number_at l.bytes j n) n
+after_covered zero a l j bs small h = refl
+after_covered (suc n) a l j bs small h =
+    let b = slice_index l.bytes j in
+    let rest = number_at l.bytes (j + 1) n in
+    let fits : b % 2 ^ 8 ≡ b = mod-eq_of_lt (small j) in
+    let byte : b % 2 ^ 8 % 2 ^ 8 ≡ (b + 2 ^ 8 * rest) % 2 ^ 8 = ap (λ (x : ℕ). x % 2 ^ 8) fits ∙ fits ∙ sym (low b rest (small j)) in
+    let place : a + (j + 1) ≡ a + j + 1 = omega arith in
+    ap (λ (es : List (ℕ × ℕ)). after bs (stores_of es)) (line_bytes-first n a l j h)
+    ∙ ap (λ (cs : List ℕ). after cs (stores_of (line_bytes a l (j + 1) n))) (put_one bs (a + j, b % 2 ^ 8) ∙ ap (set bs (a + j)) byte)
+    ∙ after_covered n a l (j + 1) (set bs (a + j) ((b + 2 ^ 8 * rest) % 2 ^ 8)) small (next_covered n l j h)
+    ∙ ap (λ (x : ℕ). written (set bs (a + j) ((b + 2 ^ 8 * rest) % 2 ^ 8)) x rest n) place
+    ∙ ap (λ (v : ℕ). written (set bs (a + j) ((b + 2 ^ 8 * rest) % 2 ^ 8)) (a + j + 1) v n) (sym (high b rest (small j)))
+
+-- what holds of each covered byte holds of each place
+pub each_place : (P : ℕ → Type 0) (n a : ℕ) (l : Line) (j : ℕ) → AllCovered l j n → All (λ (e : ℕ × ℕ). P e.0) (line_bytes a l j n) → (i : ℕ) → i < n → P (a + j + i)
+each_place P zero a l j h all i q = absurd (omega arith)
+each_place P (suc n) a l j h all zero q =
+    let es = subst (λ (es : List (ℕ × ℕ)). All (λ (e : ℕ × ℕ). P e.0) es) (line_bytes-first n a l j h) all in
+    let z : a + j ≡ a + j + 0 = omega arith in
+    subst P z (All-head (λ (e : ℕ × ℕ). P e.0) (a + j, slice_index l.bytes j % 2 ^ 8) (line_bytes a l (j + 1) n) es)
+each_place P (suc n) a l j h all (suc i) q =
+    let es = subst (λ (es : List (ℕ × ℕ)). All (λ (e : ℕ × ℕ). P e.0) es) (line_bytes-first n a l j h) all in
+    let s : a + (j + 1) + i ≡ a + j + suc i = omega arith in
+    subst P s (each_place P n a l (j + 1) (next_covered n l j h) (All-tail (λ (e : ℕ × ℕ). P e.0) (a + j, slice_index l.bytes j % 2 ^ 8) (line_bytes a l (j + 1) n) es) i (omega arith))
+
+no_code : (code : List Range) (n a : ℕ) → ((i : ℕ) → i < n → any_code code (a + i) 1 ≡ false) → any_code code a n ≡ false
+no_code code zero a h = refl
+no_code code (suc n) a h =
+    let z : a ≡ a + 0 = omega arith in
+    let here : is_code code a ≡ false = (or_parts (is_code code a) false (ap (λ (x : ℕ). any_code code x 1) z ∙ h 0 (omega arith))).0 in
+    ap (λ (b : Bool). b || any_code code (a + 1) n) here
+    ∙ no_code code n (a + 1) (λ i q. let s : a + 1 + i ≡ a + suc i = omega arith in ap (λ (x : ℕ). any_code code x 1) s ∙ h (suc i) (omega arith))
+
+-- eight bytes that may be written one by one may be written at once
+pub fits_at_once : (m : Memory) (a : ℕ) → a % 8 ≡ 0 → ((i : ℕ) → i < 8 → store_fault m (a + i) W1 ≡ None) → store_fault m a W8 ≡ None
+unfolding store_fault
+fits_at_once m a aligned h =
+    let last = store_accepted m (a + 7) W1 (h 7 (omega arith)) in
+    let end : a + 8 ≤ length m.bytes = omega (arith, last.1) in
+    let code : any_code m.code a 8 ≡ false = no_code m.code 8 a (λ i q. (store_accepted m (a + i) W1 (h i q)).2) in
+    rw (eq-eqb (a % 8) 0 aligned, le-leb (a + 8) (length m.bytes) end, code) refl
+
+-- ---- the steps of the loops over a line
+
+-- the places from the eight at k on
+pub words_first : (a : ℕ) (l : Line) → whole_line a l ≡ line_bytes a l (8 * 0) (64 - 8 * 0)
+unfolding whole_line
+words_first a l = refl
+
+pub words_next : (a : ℕ) (l : Line) (k : ℕ) → k < 8 → line_bytes a l (8 * k) (64 - 8 * k) ≡ word_bytes a l (8 * k) ++ line_bytes a l (8 * (k + 1)) (64 - 8 * (k + 1))
+unfolding word_bytes
+words_next a l k h = line_bytes-split 8 (64 - 8 * (k + 1)) (64 - 8 * k) a l (8 * k) (8 * (k + 1)) (omega arith) (omega arith)
+
+-- the places from j on, of eight
+pub places_first : (a : ℕ) (l : Line) (p : ℕ) → word_bytes a l p ≡ line_bytes a l p (p + 8 - p)
+unfolding word_bytes
+places_first a l p = let e : 8 ≡ p + 8 - p = omega arith in ap (λ (n : ℕ). line_bytes a l p n) e
+
+pub places_next : (a : ℕ) (l : Line) (p j : ℕ) → j < p + 8 → line_bytes a l j (p + 8 - j) ≡ place_bytes a l j ++ line_bytes a l (j + 1) (p + 8 - (j + 1))
+places_next a l p j h = line_bytes-split 1 (p + 8 - (j + 1)) (p + 8 - j) a l j (j + 1) (omega arith) (omega arith)
+
+pub none_left : (a : ℕ) (l : Line) (j n : ℕ) → n ≡ 0 → line_bytes a l j n ≡ []
+none_left a l j n e = ap (λ (x : ℕ). line_bytes a l j x) e
+
+pub word_none : (a : ℕ) (l : Line) (p : ℕ) → bit_and (l.mask / 2 ^ p) 255 ≡ 0 → word_bytes a l p ≡ []
+unfolding word_bytes
+word_none a l p e = line_bytes-none 8 a l p (none_covered l p 8 e)
+
+pub place_none : (a : ℕ) (l : Line) (j : ℕ) → (bit_and (l.mask / 2 ^ j) 1 ≡ 1 → ⊥) → place_bytes a l j ≡ []
+place_none a l j h =
+    ap (λ (t : Bool). put_first (a + j) (byte_if t (slice_index l.bytes j)) []) (ne_eqb (l.mask / 2 ^ j % 2) 1 (λ e. h (shr_and_one l.mask j ∙ e)))
+
+pub place_covered : (a : ℕ) (l : Line) (j : ℕ) → bit_and (l.mask / 2 ^ j) 1 ≡ 1 → place_bytes a l j ≡ (a + j, slice_index l.bytes j % 2 ^ 8) ∷ []
+place_covered a l j h =
+    ap (λ (t : Bool). put_first (a + j) (byte_if t (slice_index l.bytes j)) []) (eq-eqb (l.mask / 2 ^ j % 2) 1 (sym (shr_and_one l.mask j) ∙ h))
+
+-- one store of eight bytes on their page
+pub word_fits : (p : Paged) (a : ℕ) (l : Line) (j : ℕ) → (a + j) % 8 ≡ 0 → bit_and (l.mask / 2 ^ j) 255 ≡ 255 → Writable p (word_bytes a l j) →
+    (store_fault p.memory (a + j) W8 ≡ None) × (is_page_ready p ((a + j) / 4096) ≡ true)
+unfolding word_bytes
+word_fits p a l j aligned e w =
+    let all : AllCovered l j 8 = all_covered l j 8 e in
+    let z : a + j + 0 ≡ a + j = omega arith in (
+      fits_at_once p.memory (a + j) aligned (each_place (λ (x : ℕ). store_fault p.memory x W1 ≡ None) 8 a l j all w.fits),
+      ap (λ (x : ℕ). is_page_ready p (x / 4096)) (sym z) ∙ each_place (λ (x : ℕ). is_page_ready p (x / 4096) ≡ true) 8 a l j all w.ready 0 (omega arith),
+    )
+
+pub word_written : (p q : Paged) (a : ℕ) (l : Line) (j v : ℕ) → bit_and (l.mask / 2 ^ j) 255 ≡ 255 → ((k : ℕ) → slice_index l.bytes k < 2 ^ 8) → v ≡ number_at l.bytes j 8 → is_page_ready p ((a + j) / 4096) ≡ true →
+    q ≡ applied p (record { addr = a + j; width = W8; value = v }) → Written (word_bytes a l j) p q
+unfolding word_bytes put
+word_written p q a l j v e small is ready done =
+    let same : q ≡ record p { memory = record p.memory { bytes = written p.memory.bytes (a + j) v 8 } } = done ∙ applied_ready p (record { addr = a + j; width = W8; value = v }) ready in
+    record {
+      memory = ap (λ (x : Paged). x.memory) same ∙ ap (λ (bs : List ℕ). record p.memory { bytes = bs }) (ap (λ (n : ℕ). written p.memory.bytes (a + j) n 8) is ∙ sym (after_covered 8 a l j p.memory.bytes small (all_covered l j 8 e)));
+      ready = ap (λ (x : Paged). x.ready) same;
+      spare = ap (λ (x : Paged). x.spare) same;
+    }
+
+-- one byte
+pub place_fits : (p : Paged) (a : ℕ) (l : Line) (j : ℕ) → bit_and (l.mask / 2 ^ j) 1 ≡ 1 → Writable p (place_bytes a l j) → (store_fault p.memory (a + j) W1 ≡ None) × (is_page_ready p ((a + j) / 4096) ≡ true)
+place_fits p a l j e w =
+    let one : ℕ × ℕ = (a + j, slice_index l.bytes j % 2 ^ 8) in
+    let x : Writable p (one ∷ []) = subst (λ (es : List (ℕ × ℕ)). Writable p es) (place_covered a l j e) w in
+    (All-head (λ (e : ℕ × ℕ). store_fault p.memory e.0 W1 ≡ None) one [] x.fits, All-head (λ (e : ℕ × ℕ). is_page_ready p (e.0 / 4096) ≡ true) one [] x.ready)
+
+pub place_written : (p q : Paged) (a : ℕ) (l : Line) (j v : ℕ) → bit_and (l.mask / 2 ^ j) 1 ≡ 1 → v ≡ slice_index l.bytes j → v < 2 ^ 8 → is_page_ready p ((a + j) / 4096) ≡ true →
+    q ≡ applied p (record { addr = a + j; width = W1; value = v }) → Written (place_bytes a l j) p q
+place_written p q a l j v e is small ready done =
+    let value : v ≡ slice_index l.bytes j % 2 ^ 8 = sym (mod-eq_of_lt small) ∙ ap (λ (x : ℕ). x % 2 ^ 8) is in
+    let same : q ≡ record p { memory = record p.memory { bytes = put p.memory.bytes (record { addr = a + j; width = W1; value = v }) } } = done ∙ applied_ready p (record { addr = a + j; width = W1; value = v }) ready in
+    record {
+      memory = ap (λ (x : Paged). x.memory) same
+          ∙ ap (λ (n : ℕ). record p.memory { bytes = put p.memory.bytes (record { addr = a + j; width = W1; value = n }) }) value
+          ∙ ap (λ (es : List (ℕ × ℕ)). stored p.memory (stores_of es)) (sym (place_covered a l j e));
+      ready = ap (λ (x : Paged). x.ready) same;
+      spare = ap (λ (x : Paged). x.spare) same;
+    }
+
+pub nothing_written : (p : Paged) (es : List (ℕ × ℕ)) → es ≡ [] → Written es p p
+nothing_written p es e = record { memory = ap (λ (fs : List (ℕ × ℕ)). stored p.memory (stores_of fs)) (sym e); ready = refl; spare = refl }

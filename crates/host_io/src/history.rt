@@ -1,0 +1,31 @@
+ghost use Rattle.std.specs.Prelude.{◌≡◌, ℕ, List, [], ◌++◌};
+ghost use Rattle.std.specs.Borrow.{ftrue};
+
+use std::marker::{Model, PhantomData};
+
+/// Bytes that only contracts see. They take no memory, and the methods do nothing at run time.
+#[derive(Drop)]
+pub struct History {
+    marker: PhantomData<u8>,
+    pub ghost bytes: { List ℕ },
+}
+
+impl Model for History {
+    ghost also_owns = { λ _. ftrue };
+}
+
+impl History {
+    /// No bytes yet.
+    pub fn new() -> History
+        ensures { result.bytes ≡ [] }
+    {
+        History {
+            marker: PhantomData,
+        }
+    }
+
+    /// Adds bytes.
+    pub fn note(&mut self, _bytes: &[u8])
+        ensures { self.new.bytes ≡ self.old.bytes ++ _bytes.now }
+    {}
+}

@@ -1,0 +1,169 @@
+ghost use Rattle.std.specs.Prelude.{◌≡◌, ◌⊎◌, ◌<◌, ◌≤◌, ◌+◌, ◌*◌, ◌/◌, ◌^◌, ◌++◌, [], OnOk, OnErr, IfErr, Err, codes, drop, take, length};
+ghost use Rattle.std.specs.Fmt.{decimal};
+ghost use Rattle.host_io.specs.Taken.{BeganText};
+ghost use Rattle.pages.specs.Flat.{page_bytes};
+ghost use Rattle.report.specs.Pending.{Wrote, way};
+ghost use Rattle.report.specs.Report.{bytes_text, events_text, harts_text, memory_text, output_rows, output_text, report_text, trace_text, memory_rows};
+ghost use Rattle.report.specs.Text.{event_text, hart_text};
+
+use crate::line::Line;
+use crate::rows::{count_line, output_row, page_rows};
+use crate::text::{event_line, hart_lines};
+use crate::writer::{put_line, put_long};
+use hart_step::Hart;
+use host_io::{RunError, Sink};
+use pages::Pages;
+use round_schedule::Event;
+use std::alloc::Global;
+
+fn put_count<S: Sink>(out: &mut S, line: &mut Line, word: &str, count: u64) -> Result<(), RunError>
+    ensures { Wrote (word.now ++ decimal count ++ codes "\n") (way (S.took out.old) (S.failures out.old) line.old) result (way (S.took out.new) (S.failures out.new) line.new) }
+{
+    count_line(line, word, count)?;
+    put_long(out, line)
+}
+
+fn put_hart<S: Sink>(out: &mut S, line: &mut Line, number: u64, hart: &Hart) -> Result<(), RunError>
+    ensures { Wrote (hart_text number hart.now) (way (S.took out.old) (S.failures out.old) line.old) result (way (S.took out.new) (S.failures out.new) line.new) }
+{
+    hart_lines(line, number, hart)?;
+    put_long(out, line)
+}
+
+fn put_event<S: Sink>(out: &mut S, line: &mut Line, event: &Event) -> Result<(), RunError>
+    ensures { Wrote (event_text event.now) (way (S.took out.old) (S.failures out.old) line.old) result (way (S.took out.new) (S.failures out.new) line.new) }
+{
+    event_line(line, event)?;
+    put_long(out, line)
+}
+
+fn put_events<S: Sink>(out: &mut S, line: &mut Line, events: &[Event]) -> Result<(), RunError>
+    ensures { Wrote (events_text events.now) (way (S.took out.old) (S.failures out.old) line.old) result (way (S.took out.new) (S.failures out.new) line.new) }
+{
+    for event in events {
+        put_event(out, line, event)?;
+    }
+    Ok(())
+}
+
+fn put_trace<S: Sink>(out: &mut S, line: &mut Line, events: &[Event]) -> Result<(), RunError>
+    ensures { Wrote (trace_text events.now) (way (S.took out.old) (S.failures out.old) line.old) result (way (S.took out.new) (S.failures out.new) line.new) }
+{
+    put_count(out, line, "trace ", events.len() as u64)?;
+    put_events(out, line, events)
+}
+
+fn put_harts<S: Sink>(out: &mut S, line: &mut Line, harts: &[Hart]) -> Result<(), RunError>
+    ensures { Wrote (harts_text 0 harts.now) (way (S.took out.old) (S.failures out.old) line.old) result (way (S.took out.new) (S.failures out.new) line.new) }
+{
+    for (number, hart) in harts.iter().enumerate() {
+        put_hart(out, line, number as u64, hart)?;
+    }
+    Ok(())
+}
+
+fn put_page<S: Sink>(out: &mut S, line: &mut Line, pages: &Pages, page: u32) -> Result<(), RunError>
+    requires page { page < length pages.now.ready }
+    requires bytes { 4096 * page + 4096 ≤ length pages.now.memory.bytes }
+    ensures { Wrote (memory_rows (4096 * page) (page_bytes pages.now.memory.bytes page) 256) (way (S.took out.old) (S.failures out.old) line.old) result (way (S.took out.new) (S.failures out.new) line.new) }
+{
+    match pages.page(page) {
+        Some(bytes) => {
+            page_rows(line, 4096 * page as u64, bytes)?;
+            put_long(out, line)
+        }
+        None => Ok(()),
+    }
+}
+
+fn put_pages<S: Sink>(out: &mut S, line: &mut Line, pages: &Pages) -> Result<(), RunError>
+    ensures { Wrote (memory_rows 0 pages.now.memory.bytes (length pages.now.memory.bytes / 16)) (way (S.took out.old) (S.failures out.old) line.old) result (way (S.took out.new) (S.failures out.new) line.new) }
+{
+    for page in 0..pages.count() {
+        put_page(out, line, pages, page)?;
+    }
+    Ok(())
+}
+
+fn put_memory<S: Sink>(out: &mut S, line: &mut Line, pages: &Pages) -> Result<(), RunError>
+    ensures { Wrote (memory_text pages.now.memory.bytes) (way (S.took out.old) (S.failures out.old) line.old) result (way (S.took out.new) (S.failures out.new) line.new) }
+{
+    put_count(out, line, "memory ", pages.count() as u64)?;
+    put_pages(out, line, pages)
+}
+
+fn put_row<S: Sink>(out: &mut S, line: &mut Line, output: &[u8]) -> Result<(), RunError>
+    ensures { Wrote (bytes_text (take 32 output.now) ++ codes "\n") (way (S.took out.old) (S.failures out.old) line.old) result (way (S.took out.new) (S.failures out.new) line.new) }
+{
+    output_row(line, output)?;
+    put_long(out, line)
+}
+
+fn put_rows<S: Sink>(out: &mut S, line: &mut Line, output: &[u8]) -> Result<(), RunError>
+    ensures { Wrote (output_rows output.now ((length output.now + 31) / 32)) (way (S.took out.old) (S.failures out.old) line.old) result (way (S.took out.new) (S.failures out.new) line.new) }
+{
+    for row in 0..(output.len() + 31) / 32 {
+        put_row(out, line, &output[32 * row..])?;
+    }
+    Ok(())
+}
+
+fn put_output<S: Sink>(out: &mut S, line: &mut Line, output: &[u8]) -> Result<(), RunError>
+    ensures { Wrote (output_text output.now) (way (S.took out.old) (S.failures out.old) line.old) result (way (S.took out.new) (S.failures out.new) line.new) }
+{
+    put_count(out, line, "output ", output.len() as u64)?;
+    put_rows(out, line, output)
+}
+
+fn put_end<S: Sink>(out: &mut S, line: &mut Line) -> Result<(), RunError>
+    ensures wrote { Wrote (codes "end\n") (way (S.took out.old) (S.failures out.old) line.old) result (way (S.took out.new) (S.failures out.new) line.new) }
+    ensures empty { OnOk result (line.new ≡ []) }
+{
+    line.text("end\n")?;
+    put_line(out, line)
+}
+
+fn put_state<S: Sink>(
+    out: &mut S,
+    line: &mut Line,
+    rounds: u32,
+    harts: &[Hart],
+    pages: &Pages,
+    output: &[u8],
+    events: &[Event],
+) -> Result<(), RunError>
+    ensures wrote { Wrote (report_text rounds harts.now pages.now.memory.bytes output.now events.now) (way (S.took out.old) (S.failures out.old) line.old) result (way (S.took out.new) (S.failures out.new) line.new) }
+    ensures empty { OnOk result (line.new ≡ []) }
+{
+    put_count(out, line, "rounds ", rounds as u64)?;
+    put_harts(out, line, harts)?;
+    put_memory(out, line, pages)?;
+    put_output(out, line, output)?;
+    put_trace(out, line, events)?;
+    put_end(out, line)
+}
+
+/// Writes the report of a state: the harts, memory, the console's output and the events, in pieces, so that no
+/// second copy of a large report is made.
+///
+/// # Errors
+///
+/// `OutOfMemory` where a line found no memory, and `SinkFailed` where the sink failed. A beginning of the
+/// report is out then.
+pub fn write_state<S: Sink>(
+    alloc: Global,
+    rounds: u32,
+    harts: &[Hart],
+    pages: &Pages,
+    output: &[u8],
+    events: &[Event],
+    out: &mut S,
+) -> Result<(), RunError>
+    ensures ok { OnOk result (S.took out.new ≡ S.took out.old ++ report_text rounds harts.now pages.now.memory.bytes output.now events.now) }
+    ensures begun { OnErr result (BeganText (S.took out.old) (S.took out.new) (report_text rounds harts.now pages.now.memory.bytes output.now events.now)) }
+    ensures sink { result ≡ Err RunError.SinkFailed → S.failures out.old < S.failures out.new }
+    ensures errors { IfErr result (λ e. (e ≡ RunError.OutOfMemory) ⊎ (e ≡ RunError.SinkFailed)) }
+{
+    let mut line = Line::new(alloc);
+    put_state(out, &mut line, rounds, harts, pages, output, events)
+}
