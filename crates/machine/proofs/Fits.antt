@@ -1,8 +1,7 @@
 -- The stores of a hart's round lie in memory and touch no code, and so does each byte of its buffer.
-use Rattle.std.proofs.Common.{◌≡◌, ℕ, zero, suc, ◌+◌, ◌-◌, ◌/◌, ◌%◌, ◌^◌, ◌<◌, ◌≤◌, ◌==◌, ◌||◌, Bool, true, false, cond, List, [], ◌∷◌, ◌++◌, length, get_or, Option, Some, None, is_some, refl, sym, ap, ◌∙◌, subst, arith, All}
+use Rattle.std.proofs.Common.{◌≡◌, ℕ, zero, suc, ◌+◌, ◌/◌, ◌%◌, ◌^◌, ◌≤◌, ◌==◌, ◌||◌, Bool, true, false, cond, List, [], ◌∷◌, ◌++◌, length, Some, None, is_some, refl, sym, ap, ◌∙◌, subst, arith}
 use Rattle.std.proofs.lemmas.Bool.Decides.{nat_tests}
-use Rattle.std.specs.Prelude.{nat_lt, nat_le, option_to_list}
-use Rattle.pages.specs.declared.access.Fault.{Fault}
+use Rattle.std.specs.Prelude.{nat_lt, nat_le}
 use Rattle.pages.specs.declared.access.Fault.TheVariants.{StoreToCode, StoreOutside, StoreMisaligned}
 use Rattle.pages.specs.declared.access.Range.{Range}
 use Rattle.pages.specs.declared.access.Store.{Store}
@@ -10,13 +9,11 @@ use Rattle.pages.specs.declared.access.Width.{Width}
 use Rattle.pages.specs.declared.access.Width.TheVariants.{W1}
 use Rattle.pages.specs.Memory.{Memory, store_fault, stored, after, is_code, any_code, width_bytes}
 use Rattle.pages.specs.StoreLaws.{length-after}
-use Rattle.round_schedule.specs.declared.access.Access.{Access}
 use Rattle.round_schedule.specs.declared.access.Stepped.{Stepped}
 use Rattle.round_schedule.specs.declared.access.Stepped.TheVariants.{Done, Waits, Stopped}
-use Rattle.round_schedule.specs.Schedule.{Words, Outcome, Progress, HartRound, round_from, by_answer, next_of, went, ended, halted, began}
+use Rattle.round_schedule.specs.Schedule.{Outcome, Progress, HartRound, round_from, by_answer, next_of, went, began}
 use Rattle.store_buffer.specs.Covered.{with_byte, with_bytes, with_store, with_stores}
 use Rattle.hart_step.specs.declared.hart.Hart.{Hart}
-use Rattle.hart_step.specs.Console.{ConsoleState}
 use Rattle.hart_step.specs.Step.{stepped}
 use Rattle.hart_step.specs.Words.{words_of}
 use Rattle.serial_phase.proofs.PlainSteps.{Quiet, none, one, good_step}

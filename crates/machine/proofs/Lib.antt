@@ -2,3 +2,4 @@ pub mod Fits
 pub mod RoundsOfHarts
 pub mod Listed
 pub mod Opened
+pub mod RoundDone

@@ -1,14 +1,14 @@
 -- Facts of the outcomes, by their places.
-use Rattle.std.proofs.Common.{◌≡◌, ℕ, zero, suc, ◌+◌, ◌*◌, ◌-◌, ◌/◌, ◌<◌, ◌≤◌, List, [], ◌∷◌, ◌++◌, length, take, get_or, Bool, true, false, Option, Some, None, refl, sym, ap, ◌∙◌, subst, arith, add-one, All, below_more, append_assoc, append-nil}
-use Rattle.std.proofs.lemmas.List.{take_more, take_all, get_or_default, length-map}
+use Rattle.std.proofs.Common.{◌≡◌, ℕ, zero, suc, ◌+◌, ◌*◌, ◌/◌, ◌<◌, ◌≤◌, List, [], ◌∷◌, ◌++◌, length, take, get_or, Bool, true, false, Option, None, refl, sym, ap, ◌∙◌, subst, arith, All, below_more, append_assoc, append-nil}
+use Rattle.std.proofs.lemmas.List.{take_more, get_or_default, length-map}
 use Rattle.std.proofs.Math.ListN.{get_or-map}
 use Rattle.std.proofs.lemmas.List.Elements.{All-map}
 use Rattle.pages.specs.declared.access.Store.{Store}
 use Rattle.pages.specs.declared.access.Width.TheVariants.{W1}
-use Rattle.pages.specs.Memory.{Memory, store_fault, stored, after}
+use Rattle.pages.specs.Memory.{Memory, store_fault, stored}
 use Rattle.pages.specs.Paged.{Paged, is_page_ready}
 use Rattle.pages.specs.StoreLaws.{length-after}
-use Rattle.store_buffer.specs.Covered.{stores_of, with_stores, one_byte}
+use Rattle.store_buffer.specs.Covered.{stores_of, one_byte}
 use Rattle.round_schedule.specs.declared.span.Span.{Span}
 use Rattle.round_schedule.specs.Schedule.{HartRound, began}
 use Rattle.commit_phase.specs.Commit.{CommitsBuffer, CommittedTo, Committed}

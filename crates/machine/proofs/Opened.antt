@@ -1,5 +1,5 @@
 -- The parts of a machine before the first round.
-use Rattle.std.proofs.Common.{◌≡◌, ℕ, zero, suc, ◌+◌, ◌*◌, ◌<◌, List, [], ◌∷◌, length, get_or, replicate, Option, Some, None, refl, sym, ap, ◌∙◌, subst, arith}
+use Rattle.std.proofs.Common.{◌≡◌, ℕ, zero, suc, ◌*◌, List, [], length, get_or, replicate, Option, None, refl, ap, ◌∙◌}
 use Rattle.pages.specs.declared.access.Piece.{Piece}
 use Rattle.pages.specs.declared.access.Range.{Range}
 use Rattle.pages.specs.Initial.{initial, bytes_from}
@@ -7,7 +7,6 @@ use Rattle.pages.specs.Paged.{Paged}
 use Rattle.round_schedule.specs.declared.span.Span.{Span}
 use Rattle.round_schedule.specs.Held.{held}
 use Rattle.round_schedule.specs.Tables.{Tied, entry}
-use Rattle.hart_step.specs.declared.hart.Hart.{Hart}
 use Rattle.machine.specs.Machine.{opening_harts}
 
 pub length-opening : (e n i k : ℕ) → length (opening_harts e n i k) ≡ k

@@ -2,3 +2,4 @@ pub mod Outcomes
 pub mod Traced
 pub mod Machine
 pub mod Held
+pub mod Rounds

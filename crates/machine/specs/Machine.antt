@@ -1,7 +1,7 @@
 -- A machine as callers see it: the state of a run, the code, and the plan.
-use Rattle.std.specs.Prelude.{◌≡◌, ℕ, zero, suc, ◌+◌, ◌≤◌, ◌<◌, Bool, if◌then◌else◌, is_some, List, [], ◌∷◌, length, replicate, slice_set, Option, None}
+use Rattle.std.specs.Prelude.{ℕ, zero, suc, ◌+◌, if◌then◌else◌, is_some, List, [], ◌∷◌, replicate, slice_set, None}
 use Rattle.pages.specs.declared.access.Range.{Range}
-use Rattle.round_schedule.specs.Schedule.{State, Words, HartRound, opening_state, round_of, run_of}
+use Rattle.round_schedule.specs.Schedule.{State, HartRound, opening_state, round_of, run_of}
 use Rattle.round_planner.specs.Quotas.{Planned, quotas_of}
 use Rattle.elf_loader.specs.Image.{Loaded}
 use Rattle.hart_step.specs.declared.hart.Hart.{Hart}

@@ -1,6 +1,5 @@
 -- What the rounds of the harts left, as the code keeps it.
-use Rattle.std.specs.Prelude.{◌≡◌, ℕ, suc, ◌+◌, ◌*◌, ◌/◌, Bool, true, if◌then◌else◌, List, [], ◌∷◌, ◌++◌, length, Option, None, All}
-use Rattle.pages.specs.declared.access.Store.{Store}
+use Rattle.std.specs.Prelude.{◌≡◌, ℕ, suc, ◌+◌, ◌*◌, ◌/◌, Bool, true, if◌then◌else◌, List, [], ◌∷◌, ◌++◌, length, None, All}
 use Rattle.pages.specs.declared.access.Width.TheVariants.{W1}
 use Rattle.pages.specs.Memory.{Memory, store_fault}
 use Rattle.pages.specs.Paged.{Paged, is_page_ready}
@@ -81,3 +80,7 @@ turns_of budget (b ∷ bs) = (if b then budget else 0) + turns_of budget bs
 abbrev pub count_log : List (List Access) → ℕ
 count_log [] = 0
 count_log (l ∷ ls) = length l + count_log ls
+
+abbrev pub count_true : List Bool → ℕ
+count_true [] = 0
+count_true (b ∷ bs) = (if b then 1 else 0) + count_true bs

@@ -14,7 +14,10 @@ pub fn commit(pages: &mut Pages, table: &mut Reservations, outcomes: &[Outcome])
     requires few { length outcomes.now ≤ 64 }
     requires fits { AreFit pages.old.memory outcomes.now }
     requires ready { AreReady pages.old outcomes.now }
-    ensures { (rs : List (HartRound Hart)) → AreOutcomes pages.old.memory rs outcomes.now → Committed rs pages.old pages.new table.old table.new }
+    ensures ready { pages.new.ready ≡ pages.old.ready }
+    ensures spare { pages.new.spare ≡ pages.old.spare }
+    ensures size { length table.new ≡ length table.old }
+    ensures committed { (rs : List (HartRound Hart)) → AreOutcomes pages.old.memory rs outcomes.now → Committed rs pages.old pages.new table.old table.new }
 {
     for (number, outcome) in outcomes.iter().enumerate() {
         commit_buffer(pages, table, number as u32, &outcome.buffer);

@@ -8,9 +8,12 @@ mod opening;
 mod outcome;
 mod ready;
 mod room;
+mod round;
+mod running;
 mod trace;
 mod waiting;
 
 pub use machine::Machine;
 pub use outcome::Outcome;
+pub use running::RoundNote;
 pub use trace::Trace;

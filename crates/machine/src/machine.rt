@@ -1,14 +1,13 @@
 ghost use Rattle.std.specs.Prelude.{◌≡◌, ◌<◌, ◌≤◌, length, slice_index, Some, None, IfOk, IfErr};
 ghost use Rattle.host_io.specs.declared.error.RunError.TheVariants as refusals;
-ghost use Rattle.hart_step.specs.CodeTables.{Shows};
 ghost use Rattle.machine.specs.Machine.{opening};
 
 use crate::opening::opening_harts;
 use crate::trace::Trace;
 use elf_loader::Image;
-use hart_step::{CodeTable, Hart};
+use hart_step::Hart;
 use host_io::RunError;
-use pages::{OutOfMemory, Pages};
+use pages::Pages;
 use reservations::Reservations;
 use round_planner::Plan;
 use round_schedule::Event;
@@ -21,7 +20,6 @@ use std::marker::Model;
 pub struct Machine {
     pub(crate) harts: Vec<Hart>,
     pub(crate) pages: Pages,
-    pub(crate) table: CodeTable,
     pub(crate) reservations: Reservations,
     pub(crate) console: Console,
     pub(crate) log: SerialLog,
@@ -38,7 +36,7 @@ impl Model for Machine {
 
     ghost view = { λ m. record { state = record { harts = m.harts.items; bytes = m.pages.memory.bytes; console = m.console.console; trace = m.trace.events; rounds = m.rounds }; code = m.pages.memory.code; plan = m.plan } };
 
-    ghost invariant = { λ m. HoldsTogether m.harts.items m.plan.harts m.pages.memory m.table m.reservations m.trace.events };
+    ghost invariant = { λ m. HoldsTogether m.harts.items m.plan.harts m.reservations m.trace.events };
 }
 
 impl Machine {
@@ -53,13 +51,11 @@ impl Machine {
     {
         let pages = Pages::new(alloc, image.pages(), image.pieces(), image.code())?;
         let entry = image.entry();
-        let table = code_table(alloc, &pages)?;
         let harts = opening_harts(alloc, entry, plan.harts())?;
         Ok(Machine {
             reservations: Reservations::new(plan.harts()),
             harts,
             pages,
-            table,
             console: Console::new(alloc, input),
             log: SerialLog::new(alloc),
             trace: Trace::new(alloc),
@@ -98,15 +94,5 @@ impl Machine {
         ensures { result.now ≡ self.now.state.trace }
     {
         self.trace.events()
-    }
-}
-
-/// The decoded words of the first code range.
-fn code_table(alloc: Global, pages: &Pages) -> Result<CodeTable, OutOfMemory>
-    ensures { IfOk result (λ t. Shows pages.now.memory t.first t.instructions) }
-{
-    match pages.code() {
-        [] => CodeTable::new(alloc, pages, 0, 0),
-        [first, ..] => CodeTable::new(alloc, pages, first.start, (first.len / 4) as usize),
     }
 }

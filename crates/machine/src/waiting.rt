@@ -1,5 +1,5 @@
 ghost use Rattle.std.specs.Prelude.{◌≡◌, ◌≤◌, ◌<◌, ◌+◌, ◌^◌, ◌++◌, map, length, IfOk, OnOk, [], ◌∷◌};
-ghost use Rattle.machine.specs.Outcomes.{mask_of, waits_of, harts_of};
+ghost use Rattle.machine.specs.Outcomes.{count_true, mask_of, waits_of, harts_of};
 
 use crate::outcome::Outcome;
 use hart_step::Hart;
@@ -15,6 +15,18 @@ pub fn waiting_mask(outcomes: &[Outcome]) -> u64
     match outcomes {
         [] => 0,
         [first, rest @ ..] => 2 * waiting_mask(rest) + u64::from(first.waits),
+    }
+}
+
+/// How many harts wait.
+pub fn waiting_count(outcomes: &[Outcome]) -> u32
+    requires { length outcomes.now ≤ 64 }
+    ensures count { result ≡ count_true (waits_of outcomes.now) }
+    ensures most { result ≤ length outcomes.now }
+{
+    match outcomes {
+        [] => 0,
+        [first, rest @ ..] => u32::from(first.waits) + waiting_count(rest),
     }
 }
 

@@ -1,4 +1,4 @@
-use Rattle.std.proofs.Common.{◌≡◌, sym, subst}
+use Rattle.std.proofs.Common.{◌∙◌, sym, subst}
 use Rattle.store_buffer.specs.Covered.{stores_of}
 use Rattle.machine.specs.declared.outcome.Outcome.{Outcome}
 use Rattle.machine.specs.Outcomes.{AllFit, AllOnReady}
@@ -21,6 +21,8 @@ loop-number-preserved c =
     let e = c.commit_buffer.ensures in
     record {
       shape = shape_more c.args.pages.now c.loop-number.pages c.commit_buffer.new.pages (stores_of c.index-outcomes-number.result.buffer) e.memory e.ready c.loop-number.invariant.shape;
+      spare = e.spare ∙ c.loop-number.invariant.spare;
+      size = e.size ∙ c.loop-number.invariant.size;
       committing = committing_more c.loop-number.number c.args.pages.now.memory c.args.outcomes.now c.args.pages.now c.loop-number.pages c.commit_buffer.new.pages c.args.table.now c.loop-number.table c.commit_buffer.new.table c.index-outcomes-number.result c.loop-number-test.true
           (subst (λ (x : Outcome). CommitsBuffer c.loop-number.number x.buffer c.loop-number.pages c.commit_buffer.new.pages c.loop-number.table c.commit_buffer.new.table) c.index-outcomes-number.is
           (record { memory = e.memory; ready = e.ready; spare = e.spare; size = e.size; table = e.table }))
@@ -28,4 +30,9 @@ loop-number-preserved c =
     }
 
 pub returns : goal.returns
-returns c = committing_over c.loop-number.number c.args.pages.now.memory c.args.outcomes.now c.args.pages.now c.loop-number.pages c.args.table.now c.loop-number.table c.loop-number-test.false c.loop-number.invariant.committing
+returns c = record {
+  ready = c.loop-number.invariant.shape.ready;
+  spare = c.loop-number.invariant.spare;
+  size = c.loop-number.invariant.size;
+  committed = committing_over c.loop-number.number c.args.pages.now.memory c.args.outcomes.now c.args.pages.now c.loop-number.pages c.args.table.now c.loop-number.table c.loop-number-test.false c.loop-number.invariant.committing;
+}

@@ -1,4 +1,4 @@
-use Rattle.std.proofs.Common.{◌≡◌, subst, sym, [], ℕ, List}
+use Rattle.std.proofs.Common.{subst, sym, ℕ, List}
 use Rattle.machine.specs.Outcomes.{AllFit}
 use Rattle.machine.proofs.Fits.{buffer_fits}
 use Rattle.machine.proofs.RoundsOfHarts.{parts_of}

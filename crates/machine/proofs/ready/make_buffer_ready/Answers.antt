@@ -1,4 +1,4 @@
-use Rattle.std.proofs.Common.{◌≡◌, ◌∷◌, List, sym, ap, ◌∙◌, subst}
+use Rattle.std.proofs.Common.{◌≡◌, List, sym, ap, ◌∙◌, subst}
 use Rattle.pages.specs.declared.access.Store.{Store}
 use Rattle.store_buffer.specs.Covered.{stores_of}
 use Rattle.machine.proofs.Listed.{Readying, next_page, readying_first, readying_more, readying_over}

@@ -3,11 +3,10 @@ use Rattle.std.proofs.lemmas.List.{length-replicate}
 use Rattle.pages.specs.declared.access.Range.{Range}
 use Rattle.pages.specs.Initial.{bytes_from}
 use Rattle.round_schedule.specs.declared.event.Event.{Event}
-use Rattle.round_schedule.specs.Schedule.{State}
 use Rattle.round_schedule.specs.Tables.{Tied}
 use Rattle.hart_step.specs.declared.hart.Hart.{Hart}
 use Rattle.hart_step.specs.Console.{ConsoleState}
-use Rattle.machine.specs.Machine.{Running, opening_harts}
+use Rattle.machine.specs.Machine.{opening_harts}
 use Rattle.machine.proofs.Opened.{length-opening, tied_first, initial_bytes, initial_code}
 use Rattle.machine.proofs.machine.Machine.new.Goals as goal
 
@@ -16,7 +15,6 @@ invariant_of-result c = record {
   harts = ap length c.in_ok-harts.ensures ∙ length-opening c.entry-entry.result c.harts.result 0 c.harts.result ∙ c.harts.ensures.harts;
   size = ap length c.new-2.ensures ∙ length-replicate c.harts-2.result _ ∙ c.harts-2.ensures.harts ∙ sym (ap length c.in_ok-harts.ensures ∙ length-opening c.entry-entry.result c.harts.result 0 c.harts.result ∙ c.harts.ensures.harts);
   tied = subst (λ (t : List Event). Tied c.new-2.result t) (sym c.new-5.ensures) (tied_first c.harts-2.result c.new-2.result c.new-2.ensures);
-  shows = c.in_ok-table.ensures;
 }
 
 pub returns-clause-machine : goal.returns-clause-machine

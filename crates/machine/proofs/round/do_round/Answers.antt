@@ -1,0 +1,50 @@
+use Rattle.std.proofs.Common.{◌≡◌, ◌-◌, ◌+◌, ◌++◌, ℕ, List, length, take, drop, sym, ap, ◌∙◌, subst, arith}
+use Rattle.std.proofs.lemmas.List.{take_at}
+use Rattle.round_schedule.specs.Schedule.{hart_rounds}
+use Rattle.round_planner.specs.Quotas.{quotas_of}
+use Rattle.hart_step.specs.declared.hart.Hart.{Hart}
+use Rattle.hart_step.specs.Words.{words_of}
+use Rattle.machine.specs.declared.outcome.Outcome.{Outcome}
+use Rattle.machine.specs.Outcomes.{AreFit, AreOutcomes, harts_of}
+use Rattle.machine.specs.Rounds.{IsFinished, IsRoundDone, next_parts}
+use Rattle.machine.proofs.Listed.{are_fit, same_length}
+use Rattle.machine.proofs.RoundDone.{finished_done, length-rounds, waited_is}
+use Rattle.machine.proofs.round.do_round.Goals as goal
+
+pub finish-requires : goal.finish-requires
+finish-requires c =
+    let m = c.args.pages.now.memory in
+    let os = c.in_ok-outcomes.outcomes.items in
+    let same : c.deref-3.result.now ≡ os = c.deref-3.ensures.value in
+    let a = c.in_ok-outcomes.ensures in
+    let size : length c.deref.result.now ≡ length os = sym (length-rounds (words_of m.code) m.bytes (quotas_of c.args.plan.now (c.args.done + 1 - 1)) c.deref.result.now) ∙ same_length m _ os a in
+    let harts : length os ≡ length c.args.harts.now.items = sym size ∙ ap length c.deref.ensures.value in
+    record {
+      few = omega (arith, ap length same, harts, c.requires.harts, c.harts-harts.ensures.harts, c.harts-harts.ensures.few_harts);
+      fits = subst (λ (x : List Outcome). AreFit m x) (sym same) (are_fit m _ os a);
+      harts = c.deref_mut.ensures.value ∙ c.in_ok-turned.ensures ∙ ap harts_of (c.deref-2.ensures.value ∙ sym same);
+      size = c.requires.size ∙ sym harts ∙ sym (ap length same);
+      budget = c.budget-budget.ensures.few_budget;
+    }
+
+pub returns-clause-ok : goal.returns-clause-ok
+returns-clause-ok c =
+    let m = c.args.pages.now.memory in
+    let os = c.in_ok-outcomes.outcomes.items in
+    let less : c.args.done + 1 - 1 ≡ c.args.done = omega arith in
+    let a = subst (λ (hs : List Hart). AreOutcomes m (hart_rounds (words_of m.code) m.bytes (quotas_of c.args.plan.now c.args.done) hs) c.deref-3.result.now) c.deref.ensures.value
+    (subst (λ (n : ℕ). AreOutcomes m (hart_rounds (words_of m.code) m.bytes (quotas_of c.args.plan.now n) c.deref.result.now) c.deref-3.result.now) less
+    (subst (λ (x : List Outcome). AreOutcomes m (hart_rounds (words_of m.code) m.bytes (quotas_of c.args.plan.now (c.args.done + 1 - 1)) c.deref.result.now) x) (sym c.deref-3.ensures.value) c.in_ok-outcomes.ensures)) in
+    let finished = subst (λ (b : ℕ). IsFinished b (c.args.done + 1) c.deref-3.result.now c.finish.new.harts c.args.pages.now c.finish.new.pages c.args.reservations.now c.finish.new.reservations c.args.console.now.console c.finish.new.console.console c.args.trace.now.events c.finish.new.trace.events) c.budget-budget.ensures.budget c.in_ok-waited.ensures.ok in
+    let whole : take c.in_ok-turned.turned.len (c.finish.new.harts ++ drop (length c.finish.new.harts) c.in_ok-turned.turned.items) ≡ c.finish.new.harts = take_at c.finish.new.harts _ c.in_ok-turned.turned.len (omega (arith, c.finish.auto.harts, c.deref_mut.ensures.len, ap length c.deref_mut.ensures.value)) in
+    subst (λ (gs : List Hart). IsRoundDone (next_parts c.args.plan.now c.args.done c.args.harts.now.items c.args.pages.now c.args.reservations.now c.args.console.now.console c.args.trace.now.events) gs c.args.pages.now c.finish.new.pages c.finish.new.reservations c.finish.new.console.console c.finish.new.trace.events) (sym whole)
+    (finished_done c.args.plan.now c.args.done c.args.harts.now.items c.finish.new.harts c.args.pages.now c.finish.new.pages c.args.reservations.now c.finish.new.reservations c.args.console.now.console c.finish.new.console.console c.args.trace.now.events c.finish.new.trace.events c.deref-3.result.now a finished)
+
+pub returns-clause-waited : goal.returns-clause-waited
+returns-clause-waited c =
+    let m = c.args.pages.now.memory in
+    let less : c.args.done + 1 - 1 ≡ c.args.done = omega arith in
+    let a = subst (λ (hs : List Hart). AreOutcomes m (hart_rounds (words_of m.code) m.bytes (quotas_of c.args.plan.now c.args.done) hs) c.deref-3.result.now) c.deref.ensures.value
+    (subst (λ (n : ℕ). AreOutcomes m (hart_rounds (words_of m.code) m.bytes (quotas_of c.args.plan.now n) c.deref.result.now) c.deref-3.result.now) less
+    (subst (λ (x : List Outcome). AreOutcomes m (hart_rounds (words_of m.code) m.bytes (quotas_of c.args.plan.now (c.args.done + 1 - 1)) c.deref.result.now) x) (sym c.deref-3.ensures.value) c.in_ok-outcomes.ensures)) in
+    c.in_ok-waited.ensures.waited ∙ waited_is m _ c.deref-3.result.now a

@@ -1,0 +1,108 @@
+ghost use Rattle.std.specs.Prelude.{◌≡◌, ◌<◌, ◌≤◌, ◌+◌, ◌-◌, ◌^◌, length, IfOk, OnOk, OnErr};
+ghost use Rattle.round_schedule.specs.Schedule.{hart_rounds};
+ghost use Rattle.round_planner.specs.Quotas.{quotas_of};
+ghost use Rattle.hart_step.specs.Words.{words_of};
+ghost use Rattle.machine.specs.Machine.{count_waiting};
+ghost use Rattle.hart_step.specs.CodeTables.{Shows};
+ghost use Rattle.machine.specs.Outcomes.{AreFit, count_true, harts_of, waits_of};
+ghost use Rattle.machine.specs.Rounds.{IsAsBefore, IsFinished, IsRoundDone, next_parts};
+
+use crate::commit::commit;
+use crate::events::{add_parallel, add_serial, turns_needed};
+use crate::outcome::{Outcome, outcomes_of};
+use crate::room::make_room;
+use crate::trace::Trace;
+use crate::waiting::{harts_after, waiting_count, waiting_mask};
+use hart_step::{CodeTable, Hart};
+use pages::{OutOfMemory, Pages};
+use reservations::Reservations;
+use round_planner::Plan;
+use serial_phase::{Console, SerialLog, serial};
+
+/// Does the round after `done` rounds on the parts of a machine: the rounds of the harts, the commit, the serial
+/// turns. Answers how many harts waited.
+///
+/// All that can be refused is asked for before the commit, so that a refusal leaves all as it was.
+pub fn do_round(
+    pages: &mut Pages,
+    table: &CodeTable,
+    reservations: &mut Reservations,
+    console: &mut Console,
+    log: &mut SerialLog,
+    trace: &mut Trace,
+    harts: &mut Vec<Hart>,
+    plan: &Plan,
+    done: u32,
+) -> Result<u32, OutOfMemory>
+    requires shows { Shows pages.old.memory table.now.first table.now.instructions }
+    requires harts { length harts.old.items ≡ plan.now.harts }
+    requires size { length reservations.old ≡ length harts.old.items }
+    requires done { done + 1 < 2 ^ 32 }
+    ensures ok { OnOk result (IsRoundDone (next_parts plan.now done harts.old.items pages.old reservations.old console.old.console trace.old.events) harts.new.items pages.old pages.new reservations.new console.new.console trace.new.events) }
+    ensures waited { IfOk result (λ n. n ≡ count_waiting (hart_rounds (words_of pages.old.memory.code) pages.old.memory.bytes (quotas_of plan.now done) harts.old.items)) }
+    ensures err { OnErr result (IsAsBefore harts.old.items harts.new.items pages.old pages.new reservations.old reservations.new console.old.console console.new.console trace.old.events trace.new.events) }
+{
+    let alloc = pages.allocator();
+    let round = done + 1;
+    let budget = plan.budget();
+    // At most 64.
+    let _harts = plan.harts();
+    let outcomes = outcomes_of(alloc, pages, table, harts, plan, round)?;
+    let mut turned = harts_after(alloc, &outcomes)?;
+    let waited = finish(
+        pages,
+        reservations,
+        console,
+        log,
+        trace,
+        &outcomes,
+        &mut turned,
+        budget,
+        round,
+    )?;
+    *harts = turned;
+    Ok(waited)
+}
+
+/// Goes on from the rounds of the harts: the commit, the serial turns and the events.
+fn finish(
+    pages: &mut Pages,
+    reservations: &mut Reservations,
+    console: &mut Console,
+    log: &mut SerialLog,
+    trace: &mut Trace,
+    outcomes: &[Outcome],
+    harts: &mut [Hart],
+    budget: u32,
+    round: u32,
+) -> Result<u32, OutOfMemory>
+    requires few { length outcomes.now ≤ 64 }
+    requires fits { AreFit pages.old.memory outcomes.now }
+    requires harts { harts.old ≡ harts_of outcomes.now }
+    requires size { length reservations.old ≡ length outcomes.now }
+    requires budget { budget ≤ 1000 }
+    ensures ok { OnOk result (IsFinished budget round outcomes.now harts.new pages.old pages.new reservations.old reservations.new console.old.console console.new.console trace.old.events trace.new.events) }
+    ensures waited { IfOk result (λ n. n ≡ count_true (waits_of outcomes.now)) }
+    ensures memory { OnErr result (pages.new.memory ≡ pages.old.memory) }
+    ensures reservations { OnErr result (reservations.new ≡ reservations.old) }
+    ensures console { OnErr result (console.new.console ≡ console.old.console) }
+    ensures trace { OnErr result (trace.new.events ≡ trace.old.events) }
+{
+    let waiting = waiting_mask(outcomes);
+    let turns = turns_needed(outcomes, budget);
+    make_room(pages, console, log, trace, outcomes, turns)?;
+    commit(pages, reservations, outcomes);
+    serial(
+        pages,
+        reservations,
+        console,
+        harts,
+        waiting,
+        round,
+        budget,
+        log,
+    );
+    add_parallel(trace, round, 0, outcomes);
+    add_serial(trace, round, 0, outcomes.len() as u32, log);
+    Ok(waiting_count(outcomes))
+}

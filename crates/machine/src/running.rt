@@ -1,0 +1,84 @@
+ghost use Rattle.std.specs.Prelude.{◌≡◌, ◌<◌, ◌≤◌, ◌+◌, ◌-◌, ◌^◌, ◌⊎◌, ◌↔◌, ℕ, length, Err, IfOk, IfErr, OnOk, OnErr};
+ghost use Rattle.host_io.specs.declared.error.RunError.TheVariants as refusals;
+ghost use Rattle.round_schedule.specs.Schedule.{hart_rounds};
+ghost use Rattle.round_planner.specs.Quotas.{quotas_of};
+ghost use Rattle.hart_step.specs.Words.{words_of};
+ghost use Rattle.machine.specs.Machine.{after_round, after_rounds, count_stopped, count_waiting};
+
+use crate::machine::Machine;
+use crate::round::do_round;
+use hart_step::{CodeTable, Hart};
+use host_io::RunError;
+
+/// The most workers of a run.
+const MOST_WORKERS: u32 = 16;
+
+/// What a round was.
+#[derive(Clone, Copy, Debug, PartialEq, Eq)]
+pub struct RoundNote {
+    /// The round's number; the first is 1.
+    pub round: u32,
+    /// How many harts waited for the serial phase.
+    pub waited: u32,
+    /// How many harts are stopped after the round.
+    pub stopped: u32,
+}
+
+impl Machine {
+    /// Does one round, on 1 to 16 workers.
+    ///
+    /// # Errors
+    ///
+    /// `WorkersOutOfRange`, `RoundsExhausted` where 4,294,967,295 rounds were done before, and `OutOfMemory`.
+    /// The machine is as it was then.
+    pub fn round(&mut self, workers: u32) -> Result<RoundNote, RunError>
+        ensures ok { OnOk result (self.new ≡ after_round self.old) }
+        ensures round { IfOk result (λ n. n.round ≡ self.new.state.rounds) }
+        ensures waited { IfOk result (λ n. n.waited ≡ count_waiting (hart_rounds (words_of self.old.code) self.old.state.bytes (quotas_of self.old.plan self.old.state.rounds) self.old.state.harts)) }
+        ensures stopped { IfOk result (λ n. n.stopped ≡ count_stopped self.new.state.harts) }
+        ensures err { OnErr result (self.new ≡ self.old) }
+        ensures workers { (workers < 1) ⊎ (16 < workers) → result ≡ Err refusals.WorkersOutOfRange }
+        ensures exhausted { 1 ≤ workers → workers ≤ 16 → self.old.state.rounds + 1 ≡ 2 ^ 32 → result ≡ Err refusals.RoundsExhausted }
+        ensures refused { 1 ≤ workers → workers ≤ 16 → self.old.state.rounds + 1 < 2 ^ 32 → IfErr result (λ e. e ≡ refusals.OutOfMemory) }
+    {
+        if workers < 1 || workers > MOST_WORKERS {
+            return Err(RunError::WorkersOutOfRange);
+        }
+        if self.rounds == u32::MAX {
+            return Err(RunError::RoundsExhausted);
+        }
+        self.pages.bytes_fit();
+        // At most 64.
+        let _harts = self.plan.harts();
+        let table = CodeTable::new(self.pages.allocator(), &self.pages, 0, 0)?;
+        let waited = do_round(
+            &mut self.pages,
+            &table,
+            &mut self.reservations,
+            &mut self.console,
+            &mut self.log,
+            &mut self.trace,
+            &mut self.harts,
+            &self.plan,
+            self.rounds,
+        )?;
+        self.rounds += 1;
+        Ok(RoundNote {
+            round: self.rounds,
+            waited,
+            stopped: stopped_count(&self.harts),
+        })
+    }
+}
+
+/// How many harts have stopped.
+fn stopped_count(harts: &[Hart]) -> u32
+    requires { length harts.now ≤ 64 }
+    ensures count { result ≡ count_stopped harts.now }
+    ensures most { result ≤ length harts.now }
+{
+    match harts {
+        [] => 0,
+        [first, rest @ ..] => u32::from(first.stop.is_some()) + stopped_count(rest),
+    }
+}
