@@ -3,3 +3,4 @@ pub mod RoundsOfHarts
 pub mod Listed
 pub mod Opened
 pub mod RoundDone
+pub mod Repeated

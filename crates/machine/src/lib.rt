@@ -2,18 +2,23 @@
 #![tactic(auto)]
 
 mod commit;
+mod emulation;
 mod events;
 mod machine;
 mod opening;
 mod outcome;
+mod prepare;
 mod ready;
 mod room;
 mod round;
 mod running;
+mod settings;
 mod trace;
 mod waiting;
 
+pub use emulation::emulate;
 pub use machine::Machine;
 pub use outcome::Outcome;
 pub use running::RoundNote;
+pub use settings::{Format, Settings};
 pub use trace::Trace;

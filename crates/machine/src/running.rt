@@ -11,7 +11,7 @@ use hart_step::{CodeTable, Hart};
 use host_io::RunError;
 
 /// The most workers of a run.
-const MOST_WORKERS: u32 = 16;
+pub(crate) const MOST_WORKERS: u32 = 16;
 
 /// What a round was.
 #[derive(Clone, Copy, Debug, PartialEq, Eq)]
@@ -34,6 +34,7 @@ impl Machine {
     pub fn round(&mut self, workers: u32) -> Result<RoundNote, RunError>
         ensures ok { OnOk result (self.new ≡ after_round self.old) }
         ensures round { IfOk result (λ n. n.round ≡ self.new.state.rounds) }
+        ensures one_more { OnOk result (self.new.state.rounds ≡ self.old.state.rounds + 1) }
         ensures waited { IfOk result (λ n. n.waited ≡ count_waiting (hart_rounds (words_of self.old.code) self.old.state.bytes (quotas_of self.old.plan self.old.state.rounds) self.old.state.harts)) }
         ensures stopped { IfOk result (λ n. n.stopped ≡ count_stopped self.new.state.harts) }
         ensures err { OnErr result (self.new ≡ self.old) }
@@ -68,6 +69,31 @@ impl Machine {
             waited,
             stopped: stopped_count(&self.harts),
         })
+    }
+
+    /// Does so many rounds, on 1 to 16 workers.
+    ///
+    /// # Errors
+    ///
+    /// `WorkersOutOfRange`, and `RoundsExhausted` where there would be more than 4,294,967,295 rounds: the machine is as
+    /// it was then. `OutOfMemory`: fewer rounds are done, each of them whole.
+    pub fn run(&mut self, rounds: u32, workers: u32) -> Result<(), RunError>
+        ensures ok { OnOk result (self.new ≡ after_rounds rounds self.old) }
+        ensures err { OnErr result ((k : ℕ) × (k ≤ rounds) × (self.new ≡ after_rounds k self.old)) }
+        ensures workers { (workers < 1) ⊎ (16 < workers) → result ≡ Err refusals.WorkersOutOfRange }
+        ensures exhausted { 1 ≤ workers → workers ≤ 16 → 2 ^ 32 ≤ self.old.state.rounds + rounds → result ≡ Err refusals.RoundsExhausted }
+        ensures as_before { IfErr result (λ e. (e ≡ refusals.OutOfMemory) ⊎ (self.new ≡ self.old)) }
+    {
+        if workers < 1 || workers > MOST_WORKERS {
+            return Err(RunError::WorkersOutOfRange);
+        }
+        if rounds > u32::MAX - self.rounds {
+            return Err(RunError::RoundsExhausted);
+        }
+        for done in 0..rounds {
+            self.round(workers)?;
+        }
+        Ok(())
     }
 }
 

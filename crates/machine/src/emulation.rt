@@ -1,0 +1,66 @@
+ghost use Rattle.std.specs.Prelude.{◌≡◌, ◌⊎◌, ◌≤◌, ◌<◌, ◌++◌, Some, None, Err, IfErr, OnOk, OnErr};
+ghost use Rattle.elf_loader.specs.Causes.{IsLeast as IsLeastOfImage};
+ghost use Rattle.elf_loader.specs.declared.load_error.LoadError.{LoadError as ImageCause};
+ghost use Rattle.round_planner.specs.Quotas.{Planned};
+ghost use Rattle.host_io.specs.Taken.{BeganText};
+ghost use Rattle.host_io.specs.declared.error.RunError.{RunError as Refusal};
+ghost use Rattle.host_io.specs.declared.error.RunError.TheVariants as refusals;
+ghost use Rattle.report.specs.Report.{report_of};
+ghost use Rattle.machine.specs.Settings.{IsPlanOf, StandsIn, image_of, report_after, settings_fault};
+
+use crate::machine::Machine;
+use crate::prepare::prepare;
+use crate::settings::Settings;
+use host_io::{RunError, Sink};
+use report::write_state;
+use std::alloc::Global;
+
+/// Runs a guest program for a number of rounds, and writes the report of the state after them.
+///
+/// # Errors
+///
+/// The refusals of the settings, then of the image, then of the plan; `OutOfMemory`; `SinkFailed`. Nothing is written
+/// before all rounds are done.
+pub fn emulate<S: Sink>(
+    alloc: Global,
+    image: &[u8],
+    input: &[u8],
+    settings: &Settings<'_>,
+    out: &mut S,
+) -> Result<(), RunError>
+    // The sink took the report of the run that the definitions name.
+    ensures reports { OnOk result ((plan : Planned) × IsPlanOf settings.now.harts settings.now.plan.now settings.now.budget plan × (S.took out.new ≡ S.took out.old ++ report_after settings.now.rounds (image_of settings.now.format image.now settings.now.pages) input.now plan)) }
+    // Else it took nothing, or a beginning of that report.
+    ensures begun { OnErr result ((S.took out.new ≡ S.took out.old) ⊎ ((plan : Planned) × IsPlanOf settings.now.harts settings.now.plan.now settings.now.budget plan × BeganText (S.took out.old) (S.took out.new) (report_after settings.now.rounds (image_of settings.now.format image.now settings.now.pages) input.now plan))) }
+    // Numbers out of range are refused first, and then an image.
+    ensures settings { (e : Refusal) → settings_fault settings.now.harts settings.now.pages settings.now.workers settings.now.budget ≡ Some e → result ≡ Err e }
+    ensures image { (cause : ImageCause) → settings_fault settings.now.harts settings.now.pages settings.now.workers settings.now.budget ≡ None → IsLeastOfImage (StandsIn settings.now.format image.now settings.now.pages) cause → (result ≡ Err (refusals.Image cause)) ⊎ (result ≡ Err refusals.OutOfMemory) }
+{
+    let mut machine = prepare(alloc, image, input, settings)?;
+    machine.run(settings.rounds, settings.workers)?;
+    machine.report(alloc, out)
+}
+
+impl Machine {
+    /// Writes the report of the state.
+    ///
+    /// # Errors
+    ///
+    /// `OutOfMemory` and `SinkFailed`; a beginning of the report is written then.
+    pub fn report<S: Sink>(&self, alloc: Global, out: &mut S) -> Result<(), RunError>
+        ensures ok { OnOk result (S.took out.new ≡ S.took out.old ++ report_of self.now.state) }
+        ensures begun { OnErr result (BeganText (S.took out.old) (S.took out.new) (report_of self.now.state)) }
+        ensures sink { result ≡ Err RunError.SinkFailed → S.failures out.old < S.failures out.new }
+        ensures errors { IfErr result (λ e. (e ≡ RunError.OutOfMemory) ⊎ (e ≡ RunError.SinkFailed)) }
+    {
+        write_state(
+            alloc,
+            self.rounds,
+            &self.harts,
+            &self.pages,
+            self.console.output(),
+            self.trace.events(),
+            out,
+        )
+    }
+}

@@ -1,0 +1,83 @@
+ghost use Rattle.std.specs.Prelude.{◌≡◌, ◌⊎◌, ◌≤◌, Some, None, Err, IfOk, IfErr};
+ghost use Rattle.elf_loader.specs.Causes.{IsLeast as IsLeastOfImage};
+ghost use Rattle.elf_loader.specs.declared.load_error.LoadError.{LoadError as ImageCause};
+ghost use Rattle.round_planner.specs.Causes.{IsLeast as IsLeastOfPlan};
+ghost use Rattle.round_planner.specs.Quotas.{Planned};
+ghost use Rattle.round_planner.specs.declared.plan_error.PlanError.{PlanError as PlanCause};
+ghost use Rattle.host_io.specs.declared.error.RunError.{RunError as Refusal};
+ghost use Rattle.host_io.specs.declared.error.RunError.TheVariants as refusals;
+ghost use Rattle.machine.specs.Machine.{opening};
+ghost use Rattle.machine.specs.Settings.{IsPlanOf, StandsIn, image_of, settings_fault};
+
+use crate::machine::Machine;
+use crate::settings::{Format, Settings, check_settings};
+use elf_loader::{Image, LoadError, load_elf, load_flat};
+use host_io::RunError;
+use round_planner::{Plan, PlanError};
+use std::alloc::Global;
+
+/// The machine that the settings ask for, before the first round.
+pub fn prepare(
+    alloc: Global,
+    image: &[u8],
+    input: &[u8],
+    settings: &Settings<'_>,
+) -> Result<Machine, RunError>
+    ensures machine { IfOk result (λ m. (plan : Planned) × IsPlanOf settings.now.harts settings.now.plan.now settings.now.budget plan × (m ≡ opening (image_of settings.now.format image.now settings.now.pages) input.now plan)) }
+    ensures settings { (e : Refusal) → settings_fault settings.now.harts settings.now.pages settings.now.workers settings.now.budget ≡ Some e → result ≡ Err e }
+    ensures workers { IfOk result (λ _. (1 ≤ settings.now.workers) × (settings.now.workers ≤ 16)) }
+    ensures image { (cause : ImageCause) → settings_fault settings.now.harts settings.now.pages settings.now.workers settings.now.budget ≡ None → IsLeastOfImage (StandsIn settings.now.format image.now settings.now.pages) cause → (result ≡ Err (refusals.Image cause)) ⊎ (result ≡ Err refusals.OutOfMemory) }
+{
+    check_settings(settings)?;
+    let image = load(alloc, settings.format, image, settings.pages)?;
+    let plan = read_plan(alloc, settings.plan, settings.harts, settings.budget)?;
+    Machine::new(alloc, image, copied(alloc, input)?, plan)
+}
+
+/// The bytes of the input.
+fn copied(alloc: Global, input: &[u8]) -> Result<Vec<u8>, RunError>
+    ensures ok { IfOk result (λ v. v.items ≡ input.now) }
+    ensures err { IfErr result (λ e. e ≡ refusals.OutOfMemory) }
+{
+    match Vec::from_slice(alloc, input) {
+        Ok(bytes) => Ok(bytes),
+        Err(_) => Err(RunError::OutOfMemory),
+    }
+}
+
+/// The image of a file.
+fn load(alloc: Global, format: Format, file: &[u8], pages: u32) -> Result<Image, RunError>
+    requires some_pages { 1 ≤ pages }
+    requires few_pages { pages ≤ 16384 }
+    ensures image { IfOk result (λ i. i ≡ image_of format file.now pages) }
+    ensures refused { (cause : ImageCause) → IsLeastOfImage (StandsIn format file.now pages) cause → (result ≡ Err (refusals.Image cause)) ⊎ (result ≡ Err refusals.OutOfMemory) }
+{
+    let loaded = match format {
+        Format::Elf => load_elf(alloc, file, pages),
+        Format::Flat => load_flat(alloc, file, pages),
+    };
+    match loaded {
+        Ok(image) => Ok(image),
+        Err(LoadError::OutOfMemory) => Err(RunError::OutOfMemory),
+        Err(cause) => Err(RunError::Image(cause)),
+    }
+}
+
+/// The plan of a text.
+fn read_plan(alloc: Global, text: &[u8], harts: u32, budget: u32) -> Result<Plan, RunError>
+    requires some_harts { 1 ≤ harts }
+    requires few_harts { harts ≤ 64 }
+    requires some_budget { 1 ≤ budget }
+    requires few_budget { budget ≤ 1000 }
+    ensures plan { IfOk result (λ p. IsPlanOf harts text.now budget p) }
+    ensures refused { (cause : PlanCause) → IsLeastOfPlan harts text.now cause → (result ≡ Err (refusals.Plan cause)) ⊎ (result ≡ Err refusals.OutOfMemory) }
+{
+    match Plan::parse(alloc, text, harts) {
+        Ok(mut plan) => {
+            plan.set_budget(budget);
+            Ok(plan)
+        }
+        Err(PlanError::OutOfMemory) => Err(RunError::OutOfMemory),
+        Err(cause) => Err(RunError::Plan(cause)),
+    }
+}
