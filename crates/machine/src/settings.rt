@@ -14,6 +14,7 @@ pub enum Format {
 }
 
 /// What a run is asked for.
+#[derive(Drop)]
 pub struct Settings<'a> {
     /// How the image is read.
     pub format: Format,

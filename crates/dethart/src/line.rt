@@ -1,0 +1,44 @@
+ghost use Rattle.std.specs.Prelude.{◌≡◌, ◌≢◌, Err, IfErr, IfOk, map};
+ghost use Rattle.clap.specs.Words.{kind_of};
+ghost use Rattle.dethart.specs.declared.failure.Failure.TheVariants as failures;
+
+use crate::failure::Failure;
+use clap::error::ErrorKind;
+use host_io::RunError;
+use std::alloc::{AllocError, Global};
+use std::{env, io};
+
+/// The arguments of the program, of which the first is its name.
+pub(crate) fn arguments(rt: &HostRuntime) -> Result<Vec<String>, Failure> {
+    match env::args(rt) {
+        Ok(arguments) => Ok(arguments.collect(rt.alloc())?),
+        Err(error) => Err(match error.kind() {
+            io::ErrorKind::OutOfMemory => Failure::Refused(RunError::OutOfMemory),
+            _ => Failure::NotText,
+        }),
+    }
+}
+
+/// The texts, in the same order.
+pub(crate) fn texts_of<'a>(
+    alloc: Global,
+    strings: &'a [String],
+) -> Result<Vec<&'a str>, AllocError> {
+    strings.iter().map(|string| string.as_str()).collect(alloc)
+}
+
+/// Answers a line that `clap` doesn't take: prints the help that was asked for, and else says what fails.
+pub(crate) fn answer_line(rt: &HostRuntime, error: clap::Error) -> Result<(), Failure>
+    ensures memory { kind_of error ≡ ErrorKind.OutOfMemory → result ≡ Err (failures.Refused RunError.OutOfMemory) }
+    ensures help { kind_of error ≡ ErrorKind.DisplayHelp → IfErr result (λ failure. failure ≡ failures.Refused RunError.SinkFailed) }
+    ensures bad { kind_of error ≢ ErrorKind.OutOfMemory → kind_of error ≢ ErrorKind.DisplayHelp → result ≡ Err (failures.Line error) }
+{
+    match error.kind() {
+        ErrorKind::OutOfMemory => Err(Failure::Refused(RunError::OutOfMemory)),
+        ErrorKind::DisplayHelp => match error.print(rt) {
+            Ok(()) => Ok(()),
+            Err(_) => Err(Failure::Refused(RunError::SinkFailed)),
+        },
+        _ => Err(Failure::Line(error)),
+    }
+}

@@ -1,0 +1,33 @@
+//! Runs a guest program as the command line says, and prints the report.
+#![tactic(auto)]
+
+mod failure;
+mod files;
+mod line;
+mod run;
+
+use command_line::{Command, parse_line};
+use failure::Failure;
+use line::{answer_line, arguments, texts_of};
+use std::process::ExitCode;
+
+fn main(rt: HostRuntime) -> ExitCode {
+    match start(&rt) {
+        Ok(()) => ExitCode::SUCCESS,
+        Err(failure) => {
+            // There is nobody left to tell where standard error takes nothing.
+            let _unwritten = failure.print(&rt);
+            ExitCode::from(failure.status())
+        }
+    }
+}
+
+/// Does what the command line says.
+fn start(rt: &HostRuntime) -> Result<(), Failure> {
+    let arguments = arguments(rt)?;
+    let words = texts_of(rt.alloc(), arguments.as_slice())?;
+    match parse_line(rt.alloc(), words.as_slice()) {
+        Ok(Command::Run(run)) => Ok(run::report(rt, &run)?),
+        Err(error) => answer_line(rt, error),
+    }
+}

@@ -1,0 +1,75 @@
+ghost use Rattle.std.specs.Prelude.{◌≡◌, ◌++◌, ◌∷◌, [], IfOk, if◌then◌else◌};
+
+use crate::files::read_file;
+use command_line::Run;
+use host_io::{RunError, WriteSink};
+use machine::{Format, Settings, emulate};
+use pages::OutOfMemory;
+use std::alloc::Global;
+use std::io::{self, BufWriter, Write};
+
+/// Runs the guest program, and prints the report to standard output.
+pub(crate) fn report(rt: &HostRuntime, run: &Run<'_>) -> Result<(), RunError> {
+    let image = read_file(rt, run.image)?;
+    let plan = match run.plan {
+        Some(path) => read_file(rt, path)?,
+        None => row_of(rt.alloc(), run.quota)?,
+    };
+    let input = match run.input {
+        Some(path) => read_file(rt, path)?,
+        None => Vec::new(rt.alloc()),
+    };
+    let settings = settings_of(run, plan.as_slice());
+    print_report(rt, image.as_slice(), input.as_slice(), &settings)
+}
+
+/// The plan of one row.
+fn row_of(alloc: Global, quota: &str) -> Result<Vec<u8>, OutOfMemory>
+    ensures { IfOk result (λ row. row.items ≡ quota.now ++ 10 ∷ []) }
+{
+    let mut row = Vec::new(alloc);
+    row.extend_from_slice(quota.as_bytes())?;
+    row.push(b'\n')?;
+    Ok(row)
+}
+
+/// What the command line says of the run, with the text of its plan.
+fn settings_of<'a>(run: &Run<'_>, plan: &'a [u8]) -> Settings<'a>
+    ensures format { result.format ≡ (if run.now.flat then Format.Flat else Format.Elf) }
+    ensures machine { (result.harts ≡ run.now.harts) × (result.pages ≡ run.now.pages) }
+    ensures rounds { (result.rounds ≡ run.now.rounds) × (result.budget ≡ run.now.budget) × (result.workers ≡ run.now.workers) }
+    ensures plan { result.plan.now ≡ plan.now }
+{
+    Settings {
+        format: if run.flat { Format::Flat } else { Format::Elf },
+        harts: run.harts,
+        pages: run.pages,
+        rounds: run.rounds,
+        workers: run.workers,
+        budget: run.budget,
+        plan,
+    }
+}
+
+/// Emulates the guest program, and prints the report to standard output.
+fn print_report(
+    rt: &HostRuntime,
+    image: &[u8],
+    input: &[u8],
+    settings: &Settings<'_>,
+) -> Result<(), RunError> {
+    let Ok(mut out) = BufWriter::new(rt.alloc(), io::writer(rt)) else {
+        return Err(RunError::OutOfMemory);
+    };
+    emulate(
+        rt.alloc(),
+        image,
+        input,
+        settings,
+        &mut WriteSink::new(&mut out),
+    )?;
+    match out.flush() {
+        Ok(()) => Ok(()),
+        Err(_) => Err(RunError::SinkFailed),
+    }
+}
