@@ -2,6 +2,7 @@ ghost use Rattle.std.specs.Prelude.{◌≡◌, ◌<◌, ◌≤◌, ◌+◌, ◌-
 ghost use Rattle.host_io.specs.declared.error.RunError.TheVariants as refusals;
 ghost use Rattle.round_schedule.specs.Schedule.{hart_rounds};
 ghost use Rattle.round_planner.specs.Quotas.{quotas_of};
+ghost use Rattle.hart_step.specs.CodeTables.{Shows};
 ghost use Rattle.hart_step.specs.Words.{words_of};
 ghost use Rattle.machine.specs.Machine.{after_round, after_rounds, count_stopped, count_waiting};
 
@@ -9,6 +10,7 @@ use crate::machine::Machine;
 use crate::round::do_round;
 use hart_step::{CodeTable, Hart};
 use host_io::RunError;
+use pages::{OutOfMemory, Pages};
 
 /// The most workers of a run.
 pub(crate) const MOST_WORKERS: u32 = 16;
@@ -51,7 +53,7 @@ impl Machine {
         self.pages.bytes_fit();
         // At most 64.
         let _harts = self.plan.harts();
-        let table = CodeTable::new(self.pages.allocator(), &self.pages, 0, 0)?;
+        let table = round_table(&self.pages, self.plan.quota(self.rounds + 1, 0))?;
         let waited = do_round(
             &mut self.pages,
             &table,
@@ -106,5 +108,21 @@ fn stopped_count(harts: &[Hart]) -> u32
     match harts {
         [] => 0,
         [first, rest @ ..] => u32::from(first.stop.is_some()) + stopped_count(rest),
+    }
+}
+
+/// The decoded words of the first code range, where a hart may do as many instructions in this round as there are words;
+/// else no words, since a table would cost more than it saves.
+fn round_table(pages: &Pages, quota: u32) -> Result<CodeTable, OutOfMemory>
+    ensures { IfOk result (λ t. Shows pages.now.memory t.first t.instructions) }
+{
+    match pages.code() {
+        [first, ..] if first.len / 4 <= u64::from(quota) => CodeTable::new(
+            pages.allocator(),
+            pages,
+            first.start,
+            (first.len / 4) as usize,
+        ),
+        _ => CodeTable::new(pages.allocator(), pages, 0, 0),
     }
 }
