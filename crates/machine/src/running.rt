@@ -84,6 +84,7 @@ impl Machine {
         ensures err { OnErr result ((k : ℕ) × (k ≤ rounds) × (self.new ≡ after_rounds k self.old)) }
         ensures workers { (workers < 1) ⊎ (16 < workers) → result ≡ Err refusals.WorkersOutOfRange }
         ensures exhausted { 1 ≤ workers → workers ≤ 16 → 2 ^ 32 ≤ self.old.state.rounds + rounds → result ≡ Err refusals.RoundsExhausted }
+        ensures refused { 1 ≤ workers → workers ≤ 16 → self.old.state.rounds + rounds < 2 ^ 32 → IfErr result (λ e. e ≡ refusals.OutOfMemory) }
         ensures as_before { IfErr result (λ e. (e ≡ refusals.OutOfMemory) ⊎ (self.new ≡ self.old)) }
     {
         if workers < 1 || workers > MOST_WORKERS {
