@@ -26,6 +26,7 @@ pub fn prepare(
     ensures machine { IfOk result (λ m. (plan : Planned) × IsPlanOf settings.now.harts settings.now.plan.now settings.now.budget plan × (m ≡ opening (image_of settings.now.format image.now settings.now.pages) input.now plan)) }
     ensures settings { (e : Refusal) → settings_fault settings.now.harts settings.now.pages settings.now.workers settings.now.budget ≡ Some e → result ≡ Err e }
     ensures workers { IfOk result (λ _. (1 ≤ settings.now.workers) × (settings.now.workers ≤ 16)) }
+    ensures errors { settings_fault settings.now.harts settings.now.pages settings.now.workers settings.now.budget ≡ None → IfErr result (λ e. (e ≡ refusals.OutOfMemory) ⊎ ((cause : ImageCause) × IsLeastOfImage (StandsIn settings.now.format image.now settings.now.pages) cause × (e ≡ refusals.Image cause)) ⊎ ((cause : PlanCause) × IsLeastOfPlan settings.now.harts settings.now.plan.now cause × (e ≡ refusals.Plan cause))) }
     ensures image { (cause : ImageCause) → settings_fault settings.now.harts settings.now.pages settings.now.workers settings.now.budget ≡ None → IsLeastOfImage (StandsIn settings.now.format image.now settings.now.pages) cause → (result ≡ Err (refusals.Image cause)) ⊎ (result ≡ Err refusals.OutOfMemory) }
 {
     check_settings(settings)?;
@@ -50,6 +51,7 @@ fn load(alloc: Global, format: Format, file: &[u8], pages: u32) -> Result<Image,
     requires some_pages { 1 ≤ pages }
     requires few_pages { pages ≤ 16384 }
     ensures image { IfOk result (λ i. i ≡ image_of format file.now pages) }
+    ensures errors { IfErr result (λ e. (e ≡ refusals.OutOfMemory) ⊎ ((cause : ImageCause) × IsLeastOfImage (StandsIn format file.now pages) cause × (e ≡ refusals.Image cause))) }
     ensures refused { (cause : ImageCause) → IsLeastOfImage (StandsIn format file.now pages) cause → (result ≡ Err (refusals.Image cause)) ⊎ (result ≡ Err refusals.OutOfMemory) }
 {
     let loaded = match format {
@@ -70,6 +72,7 @@ fn read_plan(alloc: Global, text: &[u8], harts: u32, budget: u32) -> Result<Plan
     requires some_budget { 1 ≤ budget }
     requires few_budget { budget ≤ 1000 }
     ensures plan { IfOk result (λ p. IsPlanOf harts text.now budget p) }
+    ensures errors { IfErr result (λ e. (e ≡ refusals.OutOfMemory) ⊎ ((cause : PlanCause) × IsLeastOfPlan harts text.now cause × (e ≡ refusals.Plan cause))) }
     ensures refused { (cause : PlanCause) → IsLeastOfPlan harts text.now cause → (result ≡ Err (refusals.Plan cause)) ⊎ (result ≡ Err refusals.OutOfMemory) }
 {
     match Plan::parse(alloc, text, harts) {
