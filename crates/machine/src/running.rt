@@ -82,6 +82,7 @@ impl Machine {
     pub fn run(&mut self, rounds: u32, workers: u32) -> Result<(), RunError>
         ensures ok { OnOk result (self.new ≡ after_rounds rounds self.old) }
         ensures err { OnErr result ((k : ℕ) × (k ≤ rounds) × (self.new ≡ after_rounds k self.old)) }
+        ensures fewer { result ≡ Err refusals.OutOfMemory → (k : ℕ) × (k < rounds) × (self.new ≡ after_rounds k self.old) }
         ensures workers { (workers < 1) ⊎ (16 < workers) → result ≡ Err refusals.WorkersOutOfRange }
         ensures exhausted { 1 ≤ workers → workers ≤ 16 → 2 ^ 32 ≤ self.old.state.rounds + rounds → result ≡ Err refusals.RoundsExhausted }
         ensures refused { 1 ≤ workers → workers ≤ 16 → self.old.state.rounds + rounds < 2 ^ 32 → IfErr result (λ e. e ≡ refusals.OutOfMemory) }
