@@ -76,3 +76,8 @@ nothing_left false r = unless_never (covered []) r (λ x. refl)
 
 pub breaking_over : (i : ℕ) (ss : List Store) (old now : List (Option Span)) → Breaking i ss [] old now → (h : ℕ) → h < length old → entry now h ≡ left_of i ss h (entry old h)
 breaking_over i ss old now k h low = sym (nothing_left (i == h) (entry now h)) ∙ k.each h low
+
+-- what a buffer breaks, and then those after it
+pub one_buffer : (t : Bool) (f g : ℕ → Bool) (r : Option Span) → unless g (cond t r (unless f r)) ≡ unless (λ x. cond t false (f x) || g x) r
+one_buffer true f g r = refl
+one_buffer false f g r = unless_unless f g r

@@ -1,12 +1,10 @@
 -- The commit of a round, hart by hart: what a loop over the harts' buffers keeps, and what it leaves.
-use Rattle.std.proofs.Common.{◌≡◌, ℕ, zero, suc, ◌+◌, ◌<◌, ◌≤◌, ◌==◌, ◌||◌, ◌/◌, Bool, true, false, cond, List, [], ◌∷◌, ◌++◌, length, take, get_or, Option, None, refl, sym, ap, ◌∙◌, arith, add-one, append_assoc, take-suc}
+use Rattle.std.proofs.Common.{◌≡◌, ℕ, zero, suc, ◌+◌, ◌<◌, ◌≤◌, ◌==◌, ◌||◌, Bool, true, false, cond, List, [], ◌∷◌, ◌++◌, length, take, get_or, Option, None, refl, sym, ap, ◌∙◌, arith, add-one, append_assoc, take-suc}
 use Rattle.std.proofs.lemmas.List.{append-nil, ext_get_or, length-take-le, take_all}
-use Rattle.std.proofs.lemmas.List.Elements.{All-weaker}
 use Rattle.pages.specs.declared.access.Store.{Store}
-use Rattle.pages.specs.declared.access.Width.TheVariants.{W1}
-use Rattle.pages.specs.Memory.{Memory, after, covered, store_fault, stored}
-use Rattle.pages.specs.Paged.{Paged, is_page_ready}
-use Rattle.pages.specs.StoreLaws.{after-append, length-after}
+use Rattle.pages.specs.Memory.{Memory, after, covered, stored}
+use Rattle.pages.specs.Paged.{Paged}
+use Rattle.pages.specs.StoreLaws.{after-append}
 use Rattle.round_schedule.specs.declared.span.Span.{Span}
 use Rattle.round_schedule.specs.ByTable.{committed_table}
 use Rattle.round_schedule.specs.Held.{unless}
@@ -14,9 +12,8 @@ use Rattle.round_schedule.specs.Schedule.{HartRound, all_stores}
 use Rattle.round_schedule.specs.Tables.{covered_by_others, entry}
 use Rattle.store_buffer.specs.Covered.{stores_of, with_stores}
 use Rattle.store_buffer.specs.CoveredLaws.{after_with_stores, covered-with_stores}
-use Rattle.commit_phase.specs.Commit.{Committed, CommittedTo, CommitsBuffer, Writable}
+use Rattle.commit_phase.specs.Commit.{Committed, CommittedTo, CommitsBuffer}
 use Rattle.commit_phase.proofs.Breaking.{unless_never, unless_same, unless_unless}
-use Rattle.commit_phase.proofs.Writing.{fault_stays}
 
 or_none : (p : Bool) → (p || false) ≡ p
 or_none true = refl
@@ -113,12 +110,3 @@ module _ {H : Type 0} where
             each h inside ∙ ap (λ (n : ℕ). unless (covered_by_others n 0 rs) (entry old h)) (omega arith) ∙ sym (entry-committed 0 rs old h inside));
         commits = record { size = k.size; each = each };
       }
-
-  -- what the next hart's buffer needs is there, as it was at the start
-  pub still_writable : (i : ℕ) (rs : List (HartRound H)) (es : List (ℕ × ℕ)) (p q : Paged) (old now : List (Option Span)) → CommittedTo i rs p q old now → Writable p es → Writable q es
-  still_writable i rs es p q old now k w = record {
-    fits = All-weaker (λ (e : ℕ × ℕ). store_fault p.memory e.0 W1 ≡ None) (λ (e : ℕ × ℕ). store_fault q.memory e.0 W1 ≡ None)
-        (λ e f. ap (λ (m : Memory). store_fault m e.0 W1) k.memory ∙ fault_stays p.memory (after p.memory.bytes (all_stores (take i rs))) e.0 W1 (length-after p.memory.bytes (all_stores (take i rs))) ∙ f) es w.fits;
-    ready = All-weaker (λ (e : ℕ × ℕ). is_page_ready p (e.0 / 4096) ≡ true) (λ (e : ℕ × ℕ). is_page_ready q (e.0 / 4096) ≡ true)
-        (λ e f. ap (λ (ready : List Bool). get_or ready (e.0 / 4096) false) k.ready ∙ f) es w.ready;
-  }

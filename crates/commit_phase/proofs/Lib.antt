@@ -2,4 +2,4 @@ pub mod Breaking
 pub mod Writing
 pub mod HartOrder
 pub mod Lined
-pub mod Fitting
+pub mod Sharding

@@ -1,20 +1,18 @@
 -- The bytes that a line covers, written eight at a time.
-use Rattle.std.proofs.Common.{◌≡◌, ℕ, zero, suc, ◌+◌, ◌*◌, ◌/◌, ◌%◌, ◌^◌, ◌<◌, ◌≤◌, Bool, true, false, List, [], ◌∷◌, ◌++◌, length, Option, Some, None, refl, sym, ap, ◌∙◌, arith, All, set, subst, slice_index, ◌||◌, ◌-◌, bit_and}
-use Rattle.std.proofs.lemmas.Bool.{eq-eqb, le-leb, ne_eqb, or_parts}
+use Rattle.std.proofs.Common.{◌≡◌, ℕ, zero, suc, ◌+◌, ◌*◌, ◌/◌, ◌%◌, ◌^◌, ◌<◌, Bool, true, List, [], ◌∷◌, ◌++◌, Option, Some, None, refl, sym, ap, ◌∙◌, arith, All, set, subst, slice_index, ◌-◌, bit_and}
+use Rattle.std.proofs.lemmas.Bool.{eq-eqb, ne_eqb}
 use Rattle.std.proofs.lemmas.List.Elements.{All-head, All-tail}
 use Rattle.std.proofs.lemmas.Nat.Bits.{shr_and_one}
 use Rattle.std.proofs.Math.Nat.{mod-eq_of_lt}
-use Rattle.pages.specs.declared.access.Range.{Range}
+use Rattle.pages.specs.declared.access.Width.{Width}
 use Rattle.pages.specs.declared.access.Width.TheVariants.{W1, W8}
-use Rattle.pages.specs.Memory.{Memory, after, any_code, is_code, number_at, put, store_fault, stored, written}
-use Rattle.pages.specs.Paged.{Paged, applied, is_page_ready}
-use Rattle.pages.proofs.Accesses.{store_accepted}
+use Rattle.pages.specs.Flat.{full, in_page, is_ready}
+use Rattle.pages.specs.Memory.{after, number_at, put, written}
 use Rattle.store_buffer.specs.declared.line.Line.{Line}
 use Rattle.store_buffer.specs.Covered.{one_byte, stores_of}
 use Rattle.store_buffer.specs.Lines.{byte_if, line_at, line_bytes, put_first, whole_line}
 use Rattle.store_buffer.proofs.LineBits.{all_covered, none_covered}
-use Rattle.commit_phase.specs.Commit.{Writable, Written, place_bytes, word_bytes}
-use Rattle.commit_phase.proofs.Writing.{applied_ready}
+use Rattle.commit_phase.specs.Writing.{Writable, Written, place_bytes, word_bytes}
 
 put_first-append : (a : ℕ) (o : Option ℕ) (es fs : List (ℕ × ℕ)) → put_first a o (es ++ fs) ≡ put_first a o es ++ fs
 put_first-append a None es fs = refl
@@ -94,23 +92,6 @@ each_place P (suc n) a l j h all (suc i) q =
     let s : a + (j + 1) + i ≡ a + j + suc i = omega arith in
     subst P s (each_place P n a l (j + 1) (next_covered n l j h) (All-tail (λ (e : ℕ × ℕ). P e.0) (a + j, slice_index l.bytes j % 2 ^ 8) (line_bytes a l (j + 1) n) es) i (omega arith))
 
-no_code : (code : List Range) (n a : ℕ) → ((i : ℕ) → i < n → any_code code (a + i) 1 ≡ false) → any_code code a n ≡ false
-no_code code zero a h = refl
-no_code code (suc n) a h =
-    let z : a ≡ a + 0 = omega arith in
-    let here : is_code code a ≡ false = (or_parts (is_code code a) false (ap (λ (x : ℕ). any_code code x 1) z ∙ h 0 (omega arith))).0 in
-    ap (λ (b : Bool). b || any_code code (a + 1) n) here
-    ∙ no_code code n (a + 1) (λ i q. let s : a + 1 + i ≡ a + suc i = omega arith in ap (λ (x : ℕ). any_code code x 1) s ∙ h (suc i) (omega arith))
-
--- eight bytes that may be written one by one may be written at once
-pub fits_at_once : (m : Memory) (a : ℕ) → a % 8 ≡ 0 → ((i : ℕ) → i < 8 → store_fault m (a + i) W1 ≡ None) → store_fault m a W8 ≡ None
-unfolding store_fault
-fits_at_once m a aligned h =
-    let last = store_accepted m (a + 7) W1 (h 7 (omega arith)) in
-    let end : a + 8 ≤ length m.bytes = omega (arith, last.1) in
-    let code : any_code m.code a 8 ≡ false = no_code m.code 8 a (λ i q. (store_accepted m (a + i) W1 (h i q)).2) in
-    rw (eq-eqb (a % 8) 0 aligned, le-leb (a + 8) (length m.bytes) end, code) refl
-
 -- ---- the steps of the loops over a line
 
 -- the places from the eight at k on
@@ -145,47 +126,39 @@ pub place_covered : (a : ℕ) (l : Line) (j : ℕ) → bit_and (l.mask / 2 ^ j) 
 place_covered a l j h =
     ap (λ (t : Bool). put_first (a + j) (byte_if t (slice_index l.bytes j)) []) (eq-eqb (l.mask / 2 ^ j % 2) 1 (sym (shr_and_one l.mask j) ∙ h))
 
--- one store of eight bytes on their page
-pub word_fits : (p : Paged) (a : ℕ) (l : Line) (j : ℕ) → (a + j) % 8 ≡ 0 → bit_and (l.mask / 2 ^ j) 255 ≡ 255 → Writable p (word_bytes a l j) →
-    (store_fault p.memory (a + j) W8 ≡ None) × (is_page_ready p ((a + j) / 4096) ≡ true)
-unfolding word_bytes
-word_fits p a l j aligned e w =
-    let all : AllCovered l j 8 = all_covered l j 8 e in
-    let z : a + j + 0 ≡ a + j = omega arith in (
-      fits_at_once p.memory (a + j) aligned (each_place (λ (x : ℕ). store_fault p.memory x W1 ≡ None) 8 a l j all w.fits),
-      ap (λ (x : ℕ). is_page_ready p (x / 4096)) (sym z) ∙ each_place (λ (x : ℕ). is_page_ready p (x / 4096) ≡ true) 8 a l j all w.ready 0 (omega arith),
-    )
+-- a store whose address is a place in a page
+in_place : (a v : ℕ) (w : Width) → a < 4096 → in_page (record { addr = a; width = w; value = v }) ≡ record { addr = a; width = w; value = v }
+in_place a v w h = ap (λ (x : ℕ). record { addr = x; width = w; value = v }) (mod-eq_of_lt h)
 
-pub word_written : (p q : Paged) (a : ℕ) (l : Line) (j v : ℕ) → bit_and (l.mask / 2 ^ j) 255 ≡ 255 → ((k : ℕ) → slice_index l.bytes k < 2 ^ 8) → v ≡ number_at l.bytes j 8 → is_page_ready p ((a + j) / 4096) ≡ true →
-    q ≡ applied p (record { addr = a + j; width = W8; value = v }) → Written (word_bytes a l j) p q
+-- one store of eight bytes
+pub word_ready : (p : List ℕ) (a : ℕ) (l : Line) (j : ℕ) → bit_and (l.mask / 2 ^ j) 255 ≡ 255 → Writable p (word_bytes a l j) → is_ready p ≡ true
+unfolding word_bytes
+word_ready p a l j e w = each_place (λ (x : ℕ). is_ready p ≡ true) 8 a l j (all_covered l j 8 e) w 0 (omega arith)
+
+pub word_written : (p q : List ℕ) (a : ℕ) (l : Line) (j v : ℕ) → bit_and (l.mask / 2 ^ j) 255 ≡ 255 → ((k : ℕ) → slice_index l.bytes k < 2 ^ 8) → v ≡ number_at l.bytes j 8 → a + j < 4096 → is_ready p ≡ true →
+    full q ≡ put (full p) (in_page (record { addr = a + j; width = W8; value = v })) → is_ready q ≡ true → Written (word_bytes a l j) p q
 unfolding word_bytes put
-word_written p q a l j v e small is ready done =
-    let same : q ≡ record p { memory = record p.memory { bytes = written p.memory.bytes (a + j) v 8 } } = done ∙ applied_ready p (record { addr = a + j; width = W8; value = v }) ready in
-    record {
-      memory = ap (λ (x : Paged). x.memory) same ∙ ap (λ (bs : List ℕ). record p.memory { bytes = bs }) (ap (λ (n : ℕ). written p.memory.bytes (a + j) n 8) is ∙ sym (after_covered 8 a l j p.memory.bytes small (all_covered l j 8 e)));
-      ready = ap (λ (x : Paged). x.ready) same;
-      spare = ap (λ (x : Paged). x.spare) same;
-    }
+word_written p q a l j v e small is inside before done behind = record {
+  bytes = done ∙ ap (put (full p)) (in_place (a + j) v W8 inside) ∙ ap (λ (n : ℕ). written (full p) (a + j) n 8) is ∙ sym (after_covered 8 a l j (full p) small (all_covered l j 8 e));
+  ready = behind ∙ sym before;
+}
 
 -- one byte
-pub place_fits : (p : Paged) (a : ℕ) (l : Line) (j : ℕ) → bit_and (l.mask / 2 ^ j) 1 ≡ 1 → Writable p (place_bytes a l j) → (store_fault p.memory (a + j) W1 ≡ None) × (is_page_ready p ((a + j) / 4096) ≡ true)
-place_fits p a l j e w =
+pub place_ready : (p : List ℕ) (a : ℕ) (l : Line) (j : ℕ) → bit_and (l.mask / 2 ^ j) 1 ≡ 1 → Writable p (place_bytes a l j) → is_ready p ≡ true
+place_ready p a l j e w =
     let one : ℕ × ℕ = (a + j, slice_index l.bytes j % 2 ^ 8) in
-    let x : Writable p (one ∷ []) = subst (λ (es : List (ℕ × ℕ)). Writable p es) (place_covered a l j e) w in
-    (All-head (λ (e : ℕ × ℕ). store_fault p.memory e.0 W1 ≡ None) one [] x.fits, All-head (λ (e : ℕ × ℕ). is_page_ready p (e.0 / 4096) ≡ true) one [] x.ready)
+    All-head (λ (e : ℕ × ℕ). is_ready p ≡ true) one [] (subst (λ (es : List (ℕ × ℕ)). Writable p es) (place_covered a l j e) w)
 
-pub place_written : (p q : Paged) (a : ℕ) (l : Line) (j v : ℕ) → bit_and (l.mask / 2 ^ j) 1 ≡ 1 → v ≡ slice_index l.bytes j → v < 2 ^ 8 → is_page_ready p ((a + j) / 4096) ≡ true →
-    q ≡ applied p (record { addr = a + j; width = W1; value = v }) → Written (place_bytes a l j) p q
-place_written p q a l j v e is small ready done =
+pub place_written : (p q : List ℕ) (a : ℕ) (l : Line) (j v : ℕ) → bit_and (l.mask / 2 ^ j) 1 ≡ 1 → v ≡ slice_index l.bytes j → v < 2 ^ 8 → a + j < 4096 → is_ready p ≡ true →
+    full q ≡ put (full p) (in_page (record { addr = a + j; width = W1; value = v })) → is_ready q ≡ true → Written (place_bytes a l j) p q
+place_written p q a l j v e is small inside before done behind =
     let value : v ≡ slice_index l.bytes j % 2 ^ 8 = sym (mod-eq_of_lt small) ∙ ap (λ (x : ℕ). x % 2 ^ 8) is in
-    let same : q ≡ record p { memory = record p.memory { bytes = put p.memory.bytes (record { addr = a + j; width = W1; value = v }) } } = done ∙ applied_ready p (record { addr = a + j; width = W1; value = v }) ready in
     record {
-      memory = ap (λ (x : Paged). x.memory) same
-          ∙ ap (λ (n : ℕ). record p.memory { bytes = put p.memory.bytes (record { addr = a + j; width = W1; value = n }) }) value
-          ∙ ap (λ (es : List (ℕ × ℕ)). stored p.memory (stores_of es)) (sym (place_covered a l j e));
-      ready = ap (λ (x : Paged). x.ready) same;
-      spare = ap (λ (x : Paged). x.spare) same;
+      bytes = done ∙ ap (put (full p)) (in_place (a + j) v W1 inside)
+          ∙ ap (λ (n : ℕ). put (full p) (record { addr = a + j; width = W1; value = n })) value
+          ∙ ap (λ (es : List (ℕ × ℕ)). after (full p) (stores_of es)) (sym (place_covered a l j e));
+      ready = behind ∙ sym before;
     }
 
-pub nothing_written : (p : Paged) (es : List (ℕ × ℕ)) → es ≡ [] → Written es p p
-nothing_written p es e = record { memory = ap (λ (fs : List (ℕ × ℕ)). stored p.memory (stores_of fs)) (sym e); ready = refl; spare = refl }
+pub nothing_written : (p : List ℕ) (es : List (ℕ × ℕ)) → es ≡ [] → Written es p p
+nothing_written p es e = record { bytes = ap (λ (fs : List (ℕ × ℕ)). after (full p) (stores_of fs)) (sym e); ready = refl }

@@ -1,5 +1,6 @@
 -- What the commit of one buffer does to memory and the reservations, and how far the commit of a round has come.
-use Rattle.std.specs.Prelude.{◌≡◌, ℕ, ◌+◌, ◌/◌, ◌<◌, ◌==◌, true, if◌then◌else◌, List, [], length, take, Option, None, All}
+use Rattle.std.specs.Prelude.{◌≡◌, ℕ, suc, ◌/◌, ◌<◌, ◌==◌, ◌||◌, Bool, true, false, if◌then◌else◌, List, [], ◌∷◌, ◌++◌, length, take, Option, None, All}
+use Rattle.pages.specs.declared.access.Store.{Store}
 use Rattle.pages.specs.declared.access.Width.TheVariants.{W1}
 use Rattle.pages.specs.Memory.{covered, store_fault, stored}
 use Rattle.pages.specs.Paged.{Paged, is_page_ready}
@@ -9,27 +10,21 @@ use Rattle.round_schedule.specs.Held.{unless}
 use Rattle.round_schedule.specs.Schedule.{HartRound, all_stores}
 use Rattle.round_schedule.specs.Tables.{Commits, covered_by_others, entry}
 use Rattle.store_buffer.specs.Covered.{stores_of}
-use Rattle.store_buffer.specs.Lines.{line_at, line_bytes, put_first}
-use Rattle.store_buffer.specs.declared.line.Line.{Line}
 
 -- these are bytes of guest memory that are not code, on pages that are ready
-pub record Writable (p : Paged) (es : List (ℕ × ℕ)) : Type 0 where
+pub record IsWritable (p : Paged) (es : List (ℕ × ℕ)) : Type 0 where
   pub fits : All (λ (e : ℕ × ℕ). store_fault p.memory e.0 W1 ≡ None) es
   pub ready : All (λ (e : ℕ × ℕ). is_page_ready p (e.0 / 4096) ≡ true) es
 
--- they are in memory, and nothing else is changed
-pub record Written (es : List (ℕ × ℕ)) (p q : Paged) : Type 0 where
-  pub memory : q.memory ≡ stored p.memory (stores_of es)
-  pub ready : q.ready ≡ p.ready
-  pub spare : q.spare ≡ p.spare
+-- the stores of the harts' buffers, hart by hart
+abbrev pub all_buffered : List (List (ℕ × ℕ)) → List Store
+all_buffered [] = []
+all_buffered (es ∷ bs) = stores_of es ++ all_buffered bs
 
--- the covered bytes of eight places of a line that starts at a
-unfoldable pub word_bytes : ℕ → Line → ℕ → List (ℕ × ℕ)
-word_bytes a l j = line_bytes a l j 8
-
--- the byte of one place, if it is covered
-abbrev pub place_bytes : ℕ → Line → ℕ → List (ℕ × ℕ)
-place_bytes a l j = put_first (a + j) (line_at l j) []
+-- whether the buffer of a hart other than h has the byte, the first buffer being hart i's
+abbrev pub covered_from : ℕ → ℕ → List (List (ℕ × ℕ)) → ℕ → Bool
+covered_from i h [] x = false
+covered_from i h (es ∷ bs) x = (if i == h then false else covered (stores_of es) x) || covered_from (suc i) h bs x
 
 -- the bytes of hart i's buffer are in memory, and no other hart has a reservation of one of them
 pub record CommitsBuffer (i : ℕ) (es : List (ℕ × ℕ)) (p q : Paged) (old new : List (Option Span)) : Type 0 where

@@ -1,1 +1,3 @@
 pub mod Commit
+pub mod Writing
+pub mod Shards

@@ -6,7 +6,7 @@ ghost use Rattle.round_schedule.specs.Held.{unless};
 ghost use Rattle.round_schedule.specs.Tables.{entry};
 ghost use Rattle.store_buffer.specs.Covered.{stores_of};
 
-use crate::bytes::write_bytes;
+use crate::shard::write_shard;
 use pages::Pages;
 use reservations::Reservations;
 use store_buffer::StoreBuffer;
@@ -22,17 +22,18 @@ pub fn commit_buffer(pages: &mut Pages, table: &mut Reservations, hart: u32, buf
     ensures size { length table.new ≡ length table.old }
     ensures table { (h : ℕ) → h < length table.old → entry table.new h ≡ (if hart == h then entry table.old h else unless (covered (stores_of buffer.now)) (entry table.old h)) }
 {
-    write_bytes(pages, buffer);
-    if !table.is_only_of(hart) {
-        break_others(table, hart, buffer);
-    }
+    write_shard(pages.parts(), 0, buffer);
+    break_others(table, hart, buffer);
 }
 
-/// Breaks the reservations of other harts of which the buffer has a byte.
-fn break_others(table: &mut Reservations, hart: u32, buffer: &StoreBuffer)
+/// Breaks the reservations of other harts of which the buffer has a byte, if there are some.
+pub(crate) fn break_others(table: &mut Reservations, hart: u32, buffer: &StoreBuffer)
     ensures size { length table.new ≡ length table.old }
     ensures table { (h : ℕ) → h < length table.old → entry table.new h ≡ (if hart == h then entry table.old h else unless (covered (stores_of buffer.now)) (entry table.old h)) }
 {
+    if table.is_only_of(hart) {
+        return;
+    }
     for byte in buffer.stores() {
         table.break_by(hart, byte.addr, byte.width);
     }

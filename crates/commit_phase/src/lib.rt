@@ -2,9 +2,16 @@
 #![tactic(auto)]
 
 mod buffer;
-mod bytes;
+mod buffered;
+mod gate;
+mod part;
+mod shard;
+mod sharing;
 
 pub use buffer::commit_buffer;
+pub use buffered::Buffered;
+pub use gate::{OpenShards, ShardGate};
+pub use sharing::commit_on;
 
 #[cfg(test)]
 mod tests;

@@ -3,6 +3,8 @@ ghost use Rattle.pages.specs.declared.access.Width.TheVariants.{W1};
 ghost use Rattle.pages.specs.Memory.{store_fault, width_bytes};
 ghost use Rattle.pages.specs.Paged.{is_page_ready};
 
+mod shards;
+
 use crate::commit_buffer;
 use pages::{OutOfMemory, Pages, Piece, Store, Width};
 use reservations::Reservations;
@@ -28,15 +30,16 @@ fn buffer_of(alloc: Global, addr: u64, width: Width, value: u64) -> Result<Store
     Ok(buffer)
 }
 
-/// Whether a store has no fault and is to the first page, which is ready.
+/// Whether a store has no fault, and its page is ready.
 fn is_writable(pages: &Pages, s: Store) -> bool
     ensures fits { IsTrue result → store_fault pages.now.memory s.addr s.width ≡ None }
     ensures ready { IsTrue result → is_page_ready pages.now (s.addr / 4096) ≡ true }
 {
-    s.addr / 4096 == 0 && pages.ready(0) && pages.check_store(s.addr, s.width).is_ok()
+    let page = s.addr / 4096;
+    page < 16_384 && pages.ready(page as u32) && pages.check_store(s.addr, s.width).is_ok()
 }
 
-/// Whether the bytes of a buffer lie in the first page, which is ready, and are not code.
+/// Whether the bytes of a buffer lie on pages that are ready, and are not code.
 fn fits(pages: &Pages, buffer: &StoreBuffer) -> bool
     ensures fits { IsTrue result → All (λ (e : ℕ × ℕ). store_fault pages.now.memory e.0 W1 ≡ None) buffer.now }
     ensures ready { IsTrue result → All (λ (e : ℕ × ℕ). is_page_ready pages.now (e.0 / 4096) ≡ true) buffer.now }

@@ -28,3 +28,7 @@ StandsInFlat file pages _ = ⊥
 pub record IsLeast (Stands : LoadError → Type 0) (cause : LoadError) : Type 0 where
   pub stands : Stands cause
   pub least : (other : LoadError) → error_number other < error_number cause → Stands other → ⊥
+
+-- no cause stands
+abbrev pub IsGood : (LoadError → Type 0) → Type 0
+IsGood Stands = (cause : LoadError) → Stands cause → ⊥

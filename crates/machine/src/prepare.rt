@@ -1,5 +1,5 @@
 ghost use Rattle.std.specs.Prelude.{◌≡◌, ◌⊎◌, ◌≤◌, Some, None, Err, IfOk, IfErr};
-ghost use Rattle.elf_loader.specs.Causes.{IsLeast as IsLeastOfImage};
+ghost use Rattle.elf_loader.specs.Causes.{IsGood, IsLeast as IsLeastOfImage};
 ghost use Rattle.elf_loader.specs.declared.load_error.LoadError.{LoadError as ImageCause};
 ghost use Rattle.round_planner.specs.Causes.{IsLeast as IsLeastOfPlan};
 ghost use Rattle.round_planner.specs.Quotas.{Planned};
@@ -28,6 +28,7 @@ pub fn prepare(
     ensures workers { IfOk result (λ _. (1 ≤ settings.now.workers) × (settings.now.workers ≤ 16)) }
     ensures errors { settings_fault settings.now.harts settings.now.pages settings.now.workers settings.now.budget ≡ None → IfErr result (λ e. (e ≡ refusals.OutOfMemory) ⊎ ((cause : ImageCause) × IsLeastOfImage (StandsIn settings.now.format image.now settings.now.pages) cause × (e ≡ refusals.Image cause)) ⊎ ((cause : PlanCause) × IsLeastOfPlan settings.now.harts settings.now.plan.now cause × (e ≡ refusals.Plan cause))) }
     ensures image { (cause : ImageCause) → settings_fault settings.now.harts settings.now.pages settings.now.workers settings.now.budget ≡ None → IsLeastOfImage (StandsIn settings.now.format image.now settings.now.pages) cause → (result ≡ Err (refusals.Image cause)) ⊎ (result ≡ Err refusals.OutOfMemory) }
+    ensures plan { (cause : PlanCause) → settings_fault settings.now.harts settings.now.pages settings.now.workers settings.now.budget ≡ None → IsGood (StandsIn settings.now.format image.now settings.now.pages) → IsLeastOfPlan settings.now.harts settings.now.plan.now cause → (result ≡ Err (refusals.Plan cause)) ⊎ (result ≡ Err refusals.OutOfMemory) }
 {
     check_settings(settings)?;
     let image = load(alloc, settings.format, image, settings.pages)?;
@@ -53,6 +54,7 @@ fn load(alloc: Global, format: Format, file: &[u8], pages: u32) -> Result<Image,
     ensures image { IfOk result (λ i. i ≡ image_of format file.now pages) }
     ensures errors { IfErr result (λ e. (e ≡ refusals.OutOfMemory) ⊎ ((cause : ImageCause) × IsLeastOfImage (StandsIn format file.now pages) cause × (e ≡ refusals.Image cause))) }
     ensures refused { (cause : ImageCause) → IsLeastOfImage (StandsIn format file.now pages) cause → (result ≡ Err (refusals.Image cause)) ⊎ (result ≡ Err refusals.OutOfMemory) }
+    ensures taken { IsGood (StandsIn format file.now pages) → IfErr result (λ e. e ≡ refusals.OutOfMemory) }
 {
     let loaded = match format {
         Format::Elf => load_elf(alloc, file, pages),

@@ -11,7 +11,7 @@ length-flat [] = refl
 length-flat (p ∷ ps) = omega (arith, length-append (full p) (flat ps), length-full p, length-flat ps)
 
 -- a byte of a page
-flat_at : (ps : List (List ℕ)) (i k : ℕ) → i < length ps → k < 4096 → get_or (flat ps) (4096 * i + k) 0 ≡ get_or (full (get_or ps i [])) k 0
+pub flat_at : (ps : List (List ℕ)) (i k : ℕ) → i < length ps → k < 4096 → get_or (flat ps) (4096 * i + k) 0 ≡ get_or (full (get_or ps i [])) k 0
 flat_at [] i k l h = absurd (omega arith)
 flat_at (p ∷ ps) zero k l h =
     let place : 4096 * 0 + k ≡ k = omega arith in

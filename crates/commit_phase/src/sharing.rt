@@ -1,0 +1,105 @@
+ghost use Rattle.std.specs.Prelude.{◌≡◌, ℕ, ◌<◌, ◌≤◌, ◌+◌, length, map, All};
+ghost use Rattle.pages.specs.Memory.{stored};
+ghost use Rattle.round_schedule.specs.Held.{unless};
+ghost use Rattle.round_schedule.specs.Tables.{entry};
+ghost use Rattle.commit_phase.specs.Commit.{IsWritable, all_buffered, covered_from};
+ghost use Rattle.commit_phase.specs.Shards.{IsShardReady, ShardWritten};
+
+use crate::buffer::break_others;
+use crate::buffered::Buffered;
+use crate::gate::ShardGate;
+use crate::shard::write_all;
+use pages::{Pages, Part};
+use reservations::Reservations;
+use std::thread::{Threads, for_each_chunk_mut};
+
+/// Commits the buffers of all harts in hart order, as `commit_buffer` does one after another, with so many workers.
+///
+/// Each worker has a shard of guest memory, some pages in a row, and writes the bytes of all buffers that lie in it.
+/// With z the least whole number that is not under the number of pages divided by the number of workers, shard k is
+/// pages k z to (k + 1) z - 1, as far as they exist. The calling thread is a worker, and does the shards of which no
+/// thread could be started. Takes no memory.
+pub fn commit_on<R: Threads + Sync, B: Buffered + Sync, G: ShardGate + Sync>(
+    rt: &R,
+    pages: &mut Pages,
+    table: &mut Reservations,
+    rounds: &[B],
+    workers: u32,
+    gate: &G,
+)
+    requires some_workers { 1 ≤ workers }
+    requires few { length rounds.now ≤ 64 }
+    requires writable { All (IsWritable pages.old) (map B.bytes rounds.now) }
+    ensures memory { pages.new.memory ≡ stored pages.old.memory (all_buffered (map B.bytes rounds.now)) }
+    ensures ready { pages.new.ready ≡ pages.old.ready }
+    ensures spare { pages.new.spare ≡ pages.old.spare }
+    ensures size { length table.new ≡ length table.old }
+    ensures table { (h : ℕ) → h < length table.old → entry table.new h ≡ unless (covered_from 0 h (map B.bytes rounds.now)) (entry table.old h) }
+{
+    let count = pages.count();
+    let size = count.div_ceil(workers).max(1);
+    write_shards(rt, pages.parts(), size as usize, rounds, gate);
+    pass_empty(count.div_ceil(size), workers, gate);
+    break_all(table, rounds);
+}
+
+/// Writes the bytes of all buffers, shard by shard, each on a thread of its own where one can be started.
+fn write_shards<R: Threads + Sync, B: Buffered + Sync, G: ShardGate + Sync>(
+    rt: &R,
+    parts: &mut [Part],
+    size: usize,
+    rounds: &[B],
+    gate: &G,
+)
+    requires size { 0 < size }
+    requires few { length parts.old ≤ 16384 }
+    requires ready { All (IsShardReady 0 parts.old) (map B.bytes rounds.now) }
+    ensures { ShardWritten 0 (all_buffered (map B.bytes rounds.now)) parts.old parts.new }
+{
+    for_each_chunk_mut(
+        rt,
+        parts,
+        size,
+        &|start, shard| { write_one(shard, start, size, rounds, gate) },
+    );
+}
+
+/// Writes the bytes of all buffers that lie in one shard, between the gate's two calls.
+fn write_one<B: Buffered, G: ShardGate>(
+    shard: &mut [Part],
+    start: usize,
+    size: usize,
+    rounds: &[B],
+    gate: &G,
+)
+    requires size { 0 < size }
+    requires few { start + length shard.old ≤ 16384 }
+    requires ready { All (IsShardReady start shard.old) (map B.bytes rounds.now) }
+    ensures { ShardWritten start (all_buffered (map B.bytes rounds.now)) shard.old shard.new }
+{
+    let number = (start / size) as u32;
+    gate.pass(number);
+    write_all(shard, start as u64, rounds);
+    gate.done(number);
+}
+
+/// Tells the gate of the shards that have no page.
+fn pass_empty<G: ShardGate>(first: u32, workers: u32, gate: &G) {
+    for number in first..workers {
+        gate.pass(number);
+        gate.done(number);
+    }
+}
+
+/// Breaks the reservations of which the buffer of another hart has a byte.
+fn break_all<B: Buffered>(table: &mut Reservations, rounds: &[B])
+    requires few { length rounds.now ≤ 64 }
+    ensures size { length table.new ≡ length table.old }
+    ensures table { (h : ℕ) → h < length table.old → entry table.new h ≡ unless (covered_from 0 h (map B.bytes rounds.now)) (entry table.old h) }
+{
+    let mut hart = 0;
+    for round in rounds {
+        break_others(table, hart, round.buffer());
+        hart += 1;
+    }
+}
