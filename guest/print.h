@@ -4,13 +4,13 @@
 
 #include "dethart.h"
 
-static void print_text(const char *text)
+static inline void print_text(const char *text)
 {
     for (; *text; text++)
         put_byte(*text);
 }
 
-static void print_number(uint64_t number)
+static inline void print_number(uint64_t number)
 {
     if (number >= 10)
         print_number(number / 10);
