@@ -1,0 +1,5 @@
+pub mod Operations
+pub mod Orders
+pub mod ProgramOrder
+pub mod RoundOrder
+pub mod Rvwmo
