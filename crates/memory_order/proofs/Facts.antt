@@ -10,6 +10,7 @@ use Rattle.round_schedule.specs.Positions.{event, no_event}
 use Rattle.round_schedule.proofs.Folds.{event_past}
 use Rattle.memory_order.specs.Operations.{fence_orders, is_acquire, is_amo, is_load, is_operation, is_plain_store, is_release, is_store}
 use Rattle.memory_order.specs.ProgramOrder.{is_plain_load}
+use Rattle.memory_order.specs.RoundOrder.{rank}
 
 -- a store is a plain one, or has to be serial
 pub store_cases : (a : Access) → stores a ≡ true → (is_plain_store a ≡ true) ⊎ (must_be_serial a ≡ true)
@@ -148,3 +149,11 @@ within t i h = elim (cases_lt i (length t)) [
   | inl l ↦ l
   | inr g ↦ let e = none_past t i g in cc
 ]
+
+rank_of_none : rank no_event ≡ 0
+unfolding no_event
+rank_of_none = refl
+
+-- past the end of a trace the rank is 0
+pub rank_past : (t : List Event) (i : ℕ) → length t ≤ i → rank (event t i) ≡ 0
+rank_past t i h = ap rank (event_past t i h) ∙ rank_of_none

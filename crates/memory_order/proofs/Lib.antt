@@ -1,3 +1,4 @@
 pub mod Facts
 pub mod RoundOrders
 pub mod Placing
+pub mod Sorting

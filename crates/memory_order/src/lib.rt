@@ -2,6 +2,8 @@
 #![tactic(auto)]
 
 mod operation;
+mod order;
 
 pub use operation::is_operation;
+pub use order::Order;
 pub use round_schedule::{Access, Event, Phase};
