@@ -1,5 +1,5 @@
--- Each event of a run has the form of its kind.
-use Rattle.std.proofs.Common.{◌≡◌, ℕ, zero, suc, ◌+◌, ◌≤◌, Bool, true, false, if◌then◌else◌, List, [], ◌∷◌, ◌++◌, length, All, Option, Some, None, option_to_list, refl, ◌∙◌, subst, arith}
+-- Each event of a run has the form of its kind, and places rise.
+use Rattle.std.proofs.Common.{◌<◌, ◌^◌, ◌*◌, ◌≡◌, ℕ, zero, suc, ◌+◌, ◌≤◌, Bool, true, false, if◌then◌else◌, List, [], ◌∷◌, ◌++◌, length, All, Option, Some, None, option_to_list, refl, ◌∙◌, subst, arith}
 use Rattle.std.proofs.lemmas.List.Elements.{All-append, All-cons, All-head, All-push}
 use Rattle.pages.specs.declared.access.Store.{Store}
 use Rattle.pages.specs.Memory.{IsBytes, after}
@@ -14,7 +14,11 @@ use Rattle.round_schedule.specs.declared.event.Phase.TheVariants.{Parallel, Seri
 use Rattle.round_schedule.specs.Events.{event_of, events_of}
 use Rattle.round_schedule.specs.Held.{held}
 use Rattle.round_schedule.specs.Schedule.{HartRound, Progress, State, Turn, Words, all_stores, began, by_answer, committed, ended, events_from, first_or_zero, hart_round_of, hart_rounds, joined, next_of, opening_state, rest_of, round_from, round_of, run_of, serial_from, serial_next, turn_from, turn_of, turned, went}
+use Rattle.round_schedule.specs.Sound.{Counts}
+use Rattle.round_schedule.proofs.Phases.{All-weaker}
+use Rattle.round_schedule.proofs.Rising.{rising}
 use Rattle.hart_step.specs.Forms.{Formed, Forms}
+use Rattle.memory_order.specs.Traced.{HasForm, IsTrace}
 
 -- an access below a limit is one below a greater limit
 pub formed_below : (limit most : ℕ) → limit ≤ most → (a : Access) → Formed limit a → Formed most a
@@ -148,3 +152,12 @@ module _ {H C : Type 0} (w : Words H C) (forms : Forms w) (limit : ℕ) where
 pub run_forms : {H C : Type 0} (w : Words H C) → Forms w → (budget : ℕ) (quotas : ℕ → List ℕ) (n : ℕ) (hs : List H) (bs : List ℕ) (c : C) → IsBytes bs →
     All (λ (e : Event). Formed (length bs) e.access) (run_of w budget quotas n (opening_state hs bs c)).trace
 run_forms w forms budget quotas n hs bs c bytes = whole_run_formed w forms (length bs) budget quotas n hs bs c bytes refl
+
+-- what Trace::of takes
+pub leaves_trace : {H C : Type 0} (w : Words H C) (done : H → ℕ) → Forms w → Counts w done → (budget most : ℕ) (quotas : ℕ → List ℕ) → ((m : ℕ) → All (λ q. q ≤ most) (quotas m)) →
+    (n : ℕ) (hs : List H) (bs : List ℕ) (c : C) → IsBytes bs → length bs ≤ 2 ^ 32 → All (λ h. done h ≡ 0) hs → n * (most + budget) < 2 ^ 64 →
+    IsTrace (run_of w budget quotas n (opening_state hs bs c)).trace
+leaves_trace {H} {C} w done forms counts budget most quotas low n hs bs c bytes size none small = record {
+  formed = All-weaker (λ (e : Event). Formed (length bs) e.access) HasForm (λ e h. formed_below (length bs) (2 ^ 32) size e.access h) (run_of w budget quotas n (opening_state hs bs c)).trace (run_forms w forms budget quotas n hs bs c bytes);
+  rising = rising H C w done counts budget most quotas low n hs bs c none small;
+}

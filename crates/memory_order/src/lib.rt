@@ -8,7 +8,7 @@ mod order;
 mod rising;
 mod trace;
 
-pub use laws::orders_of_runs_meet_rvwmo;
+pub use laws::{orders_of_runs_meet_rvwmo, runs_leave_traces};
 pub use operation::is_operation;
 pub use order::{Order, memory_order};
 pub use round_schedule::{Access, Event, Phase};
