@@ -4,5 +4,6 @@ pub mod RunForms
 pub mod Growing
 pub mod Lasting
 pub mod Meeting
+pub mod Openings
 pub mod Placing
 pub mod Sorting

@@ -346,8 +346,7 @@ module _ {H C : Type 0} (w : Words H C) (done : H → ℕ) (counts : Counts w do
   unfolding Linked
   linked_from most d i [] same low = tt
   linked_from most d i (h ∷ hs) same low =
-      let here : i + 0 ≡ i = omega arith in
-      (
+      let here : i + 0 ≡ i = omega arith in (
         sym (ap d here) ∙ same 0,
         All-head (λ (x : H). done x ≤ most) h hs low,
         linked_from most d (suc i) hs (λ k. let next : suc i + k ≡ i + suc k = omega arith in ap d next ∙ same (suc k)) (All-tail (λ (x : H). done x ≤ most) h hs low),
