@@ -4,3 +4,5 @@ pub mod Listed
 pub mod Opened
 pub mod RoundDone
 pub mod Repeated
+pub mod SizeKept
+pub mod TraceKept

@@ -1,0 +1,7 @@
+use Rattle.std.proofs.Common.{sym, arith}
+use Rattle.std.proofs.lemmas.Bool.Decides.{nat_tests}
+use Rattle.memory_order.proofs.Facts.{none_past}
+use Rattle.memory_order.proofs.operation.is_operation_at.Goals as goal
+
+pub returns-in-None : goal.returns-in-None
+returns-in-None c = sym (none_past c.args.events.now c.args.place (grind (arith, nat_tests, c.in-None.ensures.lookup.0)))

@@ -1,0 +1,8 @@
+pub mod LastPlaces
+pub mod Operations
+pub mod Orders
+pub mod ProgramOrder
+pub mod RoundOrder
+pub mod Runs
+pub mod Rvwmo
+pub mod Traced

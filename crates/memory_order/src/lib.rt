@@ -1,0 +1,18 @@
+//! The global memory order of a run's trace, and the memory model RVWMO that it meets.
+#![tactic(auto)]
+
+mod form;
+mod laws;
+mod operation;
+mod order;
+mod rising;
+mod trace;
+
+pub use laws::{orders_of_runs_meet_rvwmo, runs_leave_traces};
+pub use operation::is_operation;
+pub use order::{Order, memory_order};
+pub use round_schedule::{Access, Event, Phase};
+pub use trace::Trace;
+
+#[cfg(test)]
+mod tests;

@@ -1,0 +1,55 @@
+ghost use Rattle.std.specs.Prelude.{◌≡◌, ℕ, IfOk, length, filter};
+ghost use Rattle.std.specs.List.{range_with_len};
+ghost use Rattle.round_schedule.specs.Positions.{event};
+ghost use Rattle.round_schedule.specs.RoundTrace.{IsRoundTrace};
+ghost use Rattle.memory_order.specs.Operations.{is_operation};
+ghost use Rattle.memory_order.specs.Orders.{ListsOperations, place};
+ghost use Rattle.memory_order.specs.ProgramOrder.{KeepsProgramOrder};
+ghost use Rattle.memory_order.specs.RoundOrder.{IsRoundOrder};
+ghost use Rattle.memory_order.specs.Rvwmo.{MeetsRvwmo};
+
+use crate::operation::{is_operation_at, rank_at};
+use crate::trace::Trace;
+use pages::OutOfMemory;
+use round_schedule::Event;
+use std::alloc::Global;
+
+/// Places in a trace, in an order of its memory operations.
+#[derive(Debug, PartialEq, Eq, Drop)]
+pub struct Order(pub Vec<usize>);
+
+/// An order of the memory operations of a trace that meets RVWMO where the trace is that of a run in rounds.
+///
+/// It takes the parallel loads of each round, then its parallel stores, and then its serial operations, each as they
+/// stand in the trace. So of a hart's operations it exchanges only a store with a later load of one parallel phase.
+///
+/// # Errors
+///
+/// `OutOfMemory` alone.
+pub fn memory_order(alloc: Global, trace: &Trace) -> Result<Order, OutOfMemory>
+    ensures ordered { IfOk result (λ o. IsRoundOrder trace.now.events o.0.items) }
+    ensures lists { IfOk result (λ o. ListsOperations trace.now.events o.0.items) }
+    ensures meets { IfOk result (λ o. (opening : ℕ → ℕ) (budget : ℕ) → IsRoundTrace trace.now.events opening budget → MeetsRvwmo trace.now.events opening o.0.items) }
+    ensures program { IfOk result (λ o. (opening : ℕ → ℕ) (budget : ℕ) → IsRoundTrace trace.now.events opening budget → KeepsProgramOrder trace.now.events (place o.0.items)) }
+{
+    Ok(Order(by_rounds(alloc, trace.events())?))
+}
+
+/// The order by rounds of the memory operations of a list of events.
+pub(crate) fn by_rounds(alloc: Global, events: &[Event]) -> Result<Vec<usize>, OutOfMemory>
+    ensures { IfOk result (λ v. IsRoundOrder events.now v.items) }
+{
+    let mut order = operations(alloc, events)?;
+    order.sort_by_key(|place| rank_at(events, *place))?;
+    Ok(order)
+}
+
+/// The places of the memory operations, in rising order.
+fn operations(alloc: Global, events: &[Event]) -> Result<Vec<usize>, OutOfMemory>
+    ensures { IfOk result (λ v. v.items ≡ filter (λ i. is_operation (event events.now i)) (range_with_len 0 (length events.now))) }
+{
+    let places: Vec<usize> = (0..events.len())
+        .filter(|place| is_operation_at(events, *place))
+        .collect(alloc)?;
+    Ok(places)
+}

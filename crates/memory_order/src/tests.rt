@@ -1,0 +1,177 @@
+use super::*;
+use pages::Piece;
+use pages::Width::W8;
+use rv64_decode::{AcquireRelease, FenceMode, FenceSet};
+use std::alloc::Global;
+
+const PLAIN: AcquireRelease = AcquireRelease {
+    acquire: false,
+    release: false,
+};
+
+const BOTH: FenceSet = FenceSet {
+    reads: true,
+    writes: true,
+};
+
+fn event(round: u32, hart: u32, phase: Phase, access: Access) -> Event {
+    Event {
+        access,
+        round,
+        hart,
+        phase,
+    }
+}
+
+fn store(place: u64, address: u64, written: u64) -> Access {
+    Access::Store {
+        width: W8,
+        place,
+        address,
+        written,
+    }
+}
+
+fn load(place: u64, address: u64, read: u64) -> Access {
+    Access::Load {
+        width: W8,
+        place,
+        address,
+        read,
+    }
+}
+
+fn full_fence(place: u64) -> Access {
+    Access::Fence {
+        before: BOTH,
+        after: BOTH,
+        mode: FenceMode::Normal,
+        place,
+    }
+}
+
+// Whether the memory order of these events is of these places.
+fn is_ordered(alloc: Global, events: &[Event], places: &[usize]) -> bool {
+    let Ok(events) = Vec::from_slice(alloc, events) else {
+        return false;
+    };
+    let Some(trace) = Trace::of(Vec::new(alloc), events) else {
+        return false;
+    };
+    match memory_order(alloc, &trace) {
+        Ok(Order(order)) => order.as_slice() == places,
+        Err(_) => false,
+    }
+}
+
+#[test]
+fn two_harts_store_and_load_the_other_ones_place(rt: HostRuntime) {
+    let events = [
+        event(1, 0, Phase::Parallel, store(3, 0x100, 1)),
+        event(1, 0, Phase::Parallel, load(4, 0x108, 0)),
+        event(1, 1, Phase::Parallel, store(3, 0x108, 1)),
+        event(1, 1, Phase::Parallel, load(4, 0x100, 0)),
+    ];
+    assert!(rt; is_ordered(rt.alloc(), &events, &[1, 3, 0, 2]));
+}
+
+#[test]
+fn two_harts_load_what_they_stored(rt: HostRuntime) {
+    let events = [
+        event(1, 0, Phase::Parallel, store(1, 0x100, 5)),
+        event(1, 0, Phase::Parallel, load(2, 0x100, 5)),
+        event(1, 1, Phase::Parallel, store(1, 0x100, 6)),
+        event(1, 1, Phase::Parallel, load(2, 0x100, 6)),
+    ];
+    assert!(rt; is_ordered(rt.alloc(), &events, &[1, 3, 0, 2]));
+}
+
+#[test]
+fn an_sc_that_failed_is_not_in_the_order(rt: HostRuntime) {
+    let reserve = Access::LoadReserved {
+        width: W8,
+        ordering: PLAIN,
+        place: 2,
+        address: 0x100,
+        read: 0,
+    };
+    let conditional = Access::StoreConditional {
+        width: W8,
+        ordering: PLAIN,
+        place: 3,
+        address: 0x100,
+        written: None,
+    };
+    let events = [
+        event(1, 0, Phase::Serial, reserve),
+        event(2, 1, Phase::Parallel, store(2, 0x100, 0x100)),
+        event(2, 0, Phase::Serial, conditional),
+    ];
+    assert!(rt; is_ordered(rt.alloc(), &events, &[0, 1]));
+}
+
+#[test]
+fn serial_loads_come_after_the_stores_of_their_round(rt: HostRuntime) {
+    let events = [
+        event(1, 0, Phase::Parallel, store(3, 0x100, 1)),
+        event(1, 1, Phase::Parallel, store(3, 0x108, 1)),
+        event(1, 0, Phase::Serial, full_fence(4)),
+        event(1, 0, Phase::Serial, load(5, 0x108, 1)),
+        event(1, 1, Phase::Serial, full_fence(4)),
+        event(1, 1, Phase::Serial, load(5, 0x100, 1)),
+    ];
+    assert!(rt; is_ordered(rt.alloc(), &events, &[0, 1, 3, 5]));
+}
+
+#[test]
+fn a_trace_takes_rising_places_and_right_forms(rt: HostRuntime) {
+    let alloc = rt.alloc();
+    let first = event(1, 0, Phase::Parallel, store(3, 0x100, 1));
+    let other = event(1, 70, Phase::Parallel, store(3, 0x100, 1));
+    let later = event(1, 0, Phase::Parallel, load(4, 0x108, 0));
+    let odd = event(1, 1, Phase::Parallel, load(4, 0x104, 0));
+    let far = event(1, 1, Phase::Parallel, load(4, 1 << 32, 0));
+    assert!(rt; is_trace(alloc, &[first, other, later]));
+    assert!(rt; !is_trace(alloc, &[later, other, first]));
+    assert!(rt; !is_trace(alloc, &[other, first, other]));
+    assert!(rt; !is_trace(alloc, &[first, odd]));
+    assert!(rt; !is_trace(alloc, &[first, far]));
+}
+
+fn is_trace(alloc: Global, events: &[Event]) -> bool {
+    match Vec::from_slice(alloc, events) {
+        Ok(events) => Trace::of(Vec::new(alloc), events).is_some(),
+        Err(_) => false,
+    }
+}
+
+#[test]
+fn a_trace_grows_and_is_copied(rt: HostRuntime) {
+    let alloc = rt.alloc();
+    let piece = Piece {
+        start: 0x100,
+        bytes: vec![in alloc; 7, 8].expect(&rt, "memory"),
+    };
+    let pieces = vec![in alloc; piece].expect(&rt, "memory");
+    let mut trace = Trace::new(alloc, pieces);
+    let fence = Event {
+        access: Access::Fence {
+            before: BOTH,
+            after: BOTH,
+            mode: FenceMode::Normal,
+            place: 4,
+        },
+        round: 2,
+        hart: 0,
+        phase: Phase::Serial,
+    };
+    trace.reserve(1).expect(&rt, "memory");
+    trace.push(fence);
+    let copy = trace.copy(alloc).expect(&rt, "memory");
+    assert!(rt; copy.events() == [fence].as_slice());
+    assert!(rt;
+        is_operation(&event(1, 0, Phase::Parallel, store(3, 0x100, 1))) && !is_operation(&fence)
+    );
+    assert!(rt; copy.opening_byte(0x101) == 8);
+    assert!(rt; copy.opening_byte(0x102) == 0);
+}
