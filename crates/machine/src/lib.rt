@@ -22,3 +22,6 @@ pub use outcome::Outcome;
 pub use running::RoundNote;
 pub use settings::{Format, Settings};
 pub use trace::Trace;
+
+#[cfg(test)]
+mod tests;
