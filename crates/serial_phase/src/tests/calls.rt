@@ -1,6 +1,10 @@
-use super::{begin, hart, turns};
+ghost use Rattle.std.specs.Prelude.{◌≡◌, length};
+
+use super::{Shared, begin, hart, turns};
 use crate::Console;
 use hart_step::{Hart, Stop};
+use pages::OutOfMemory;
+use std::alloc::Global;
 use std::test::Fail;
 
 /// ECALL.
@@ -53,17 +57,25 @@ fn the_exit_call(rt: HostRuntime) -> Result<(), Fail> {
     Ok(())
 }
 
+/// The answers of three harts, of which the first and the last take a byte, and the second puts a Z.
+fn answers(alloc: Global, shared: &mut Shared) -> Result<[u64; 3], OutOfMemory>
+    requires { length shared.old.table ≡ 3 }
+    ensures { length shared.new.table ≡ 3 }
+{
+    let mut harts = [caller(2, 0), caller(1, 0x5a), caller(2, 0)];
+    turns(alloc, shared, &mut harts, 0b111, 1)?;
+    Ok([harts[0].x[10], harts[1].x[10], harts[2].x[10]])
+}
+
 #[test]
 fn input_is_taken_byte_by_byte(rt: HostRuntime) -> Result<(), Fail> {
     let mut shared = begin(rt.alloc(), [CALL, 0, 0, 0], 3, &[0x41, 0xff, 0x43])?;
-    for answers in [[0x41, 0, 0xff], [0x43, 0, ONES], [ONES, 0, ONES]] {
-        // hart 1 puts, the others get
-        let mut harts = [caller(2, 0), caller(1, 0x5a), caller(2, 0)];
-        turns(rt.alloc(), &mut shared, &mut harts, 0b111, 1)?;
-        for (hart, answer) in harts.iter().zip(answers) {
-            assert_eq!(rt; hart.x[10], answer);
-        }
-    }
+    let first = answers(rt.alloc(), &mut shared)?;
+    let second = answers(rt.alloc(), &mut shared)?;
+    let third = answers(rt.alloc(), &mut shared)?;
+    assert_eq!(rt; first, [0x41, 0, 0xff]);
+    assert_eq!(rt; second, [0x43, 0, ONES]);
+    assert_eq!(rt; third, [ONES, 0, ONES]);
     assert_eq!(rt; shared.console.output(), b"ZZZ".as_slice());
     Ok(())
 }
