@@ -5,6 +5,8 @@ mod failure;
 mod files;
 mod line;
 mod run;
+#[cfg(test)]
+mod tests;
 
 use command_line::{Command, parse_line};
 use failure::Failure;

@@ -24,7 +24,7 @@ pub(crate) fn report(rt: &HostRuntime, run: &Run<'_>) -> Result<(), RunError> {
 }
 
 /// The plan of one row.
-fn row_of(alloc: Global, quota: &str) -> Result<Vec<u8>, OutOfMemory>
+pub(crate) fn row_of(alloc: Global, quota: &str) -> Result<Vec<u8>, OutOfMemory>
     ensures { IfOk result (λ row. row.items ≡ quota.now ++ 10 ∷ []) }
 {
     let mut row = Vec::new(alloc);
@@ -34,7 +34,7 @@ fn row_of(alloc: Global, quota: &str) -> Result<Vec<u8>, OutOfMemory>
 }
 
 /// What the command line says of the run, with the text of its plan.
-fn settings_of<'a>(run: &Run<'_>, plan: &'a [u8]) -> Settings<'a>
+pub(crate) fn settings_of<'a>(run: &Run<'_>, plan: &'a [u8]) -> Settings<'a>
     ensures format { result.format ≡ (if run.now.flat then Format.Flat else Format.Elf) }
     ensures machine { (result.harts ≡ run.now.harts) × (result.pages ≡ run.now.pages) }
     ensures rounds { (result.rounds ≡ run.now.rounds) × (result.budget ≡ run.now.budget) × (result.workers ≡ run.now.workers) }

@@ -16,7 +16,10 @@ pub struct WriteSink<W> {
 
 impl<W: Write> WriteSink<W> {
     /// A sink that took nothing yet.
-    pub fn new(writer: W) -> WriteSink<W> {
+    pub fn new(writer: W) -> WriteSink<W>
+        ensures took { ⟦<WriteSink<W> as Sink>⟧.took result ≡ [] }
+        ensures failures { ⟦<WriteSink<W> as Sink>⟧.failures result ≡ 0 }
+    {
         WriteSink {
             writer,
             taken: History::new(),
@@ -60,7 +63,11 @@ pub struct ReadSource<R> {
 
 impl<R: Read> ReadSource<R> {
     /// A source that gave nothing yet.
-    pub fn new(reader: R) -> ReadSource<R> {
+    pub fn new(reader: R) -> ReadSource<R>
+        ensures gave { ⟦<ReadSource<R> as Source>⟧.gave result ≡ [] }
+        ensures ends { ⟦<ReadSource<R> as Source>⟧.ends result ≡ 0 }
+        ensures failures { ⟦<ReadSource<R> as Source>⟧.failures result ≡ 0 }
+    {
         ReadSource {
             reader,
             given: History::new(),

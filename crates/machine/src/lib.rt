@@ -21,3 +21,6 @@ pub use memory_order::Trace;
 pub use outcome::Outcome;
 pub use running::RoundNote;
 pub use settings::{Format, Settings};
+
+#[cfg(test)]
+mod tests;

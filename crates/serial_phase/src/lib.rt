@@ -12,3 +12,6 @@ mod word;
 pub use console::Console;
 pub use log::SerialLog;
 pub use phase::serial;
+
+#[cfg(test)]
+mod tests;

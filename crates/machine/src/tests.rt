@@ -1,0 +1,79 @@
+ghost use Rattle.std.specs.Prelude.{◌≤◌};
+
+mod budgets;
+mod images;
+mod memory;
+mod refusals;
+mod reports;
+mod rounds;
+
+use crate::{Format, Machine, Settings, emulate};
+use elf_loader::load_flat;
+use host_io::{RunError, WriteSink};
+use pages::OutOfMemory;
+use round_planner::Plan;
+use std::alloc::Global;
+use std::test::Fail;
+
+/// The flat image of these words.
+fn flat(alloc: Global, words: &[u32]) -> Result<Vec<u8>, OutOfMemory> {
+    let mut image = Vec::new(alloc);
+    for word in words {
+        image.extend_from_slice(&word.to_le_bytes())?;
+    }
+    Ok(image)
+}
+
+/// A flat image on one page, with one worker and a budget of 1.
+fn settings(harts: u32, rounds: u32, plan: &[u8]) -> Settings<'_> {
+    Settings {
+        format: Format::Flat,
+        harts,
+        pages: 1,
+        rounds,
+        workers: 1,
+        budget: 1,
+        plan,
+    }
+}
+
+/// The report of a run of these words.
+fn report(
+    alloc: Global,
+    words: &[u32],
+    input: &[u8],
+    settings: &Settings<'_>,
+) -> Result<Vec<u8>, Fail> {
+    let image = flat(alloc, words)?;
+    let mut text = Vec::new(alloc);
+    emulate(
+        alloc,
+        &image,
+        input,
+        settings,
+        &mut WriteSink::new(&mut text),
+    )?;
+    Ok(text)
+}
+
+/// The machine of these words on one page, without input.
+fn machine(alloc: Global, words: &[u32], harts: u32, plan: &[u8]) -> Result<Machine, RunError>
+    requires some_harts { 1 ≤ harts }
+    requires few_harts { harts ≤ 64 }
+{
+    let image = match load_flat(alloc, &flat(alloc, words)?, 1) {
+        Ok(image) => image,
+        Err(error) => return Err(RunError::Image(error)),
+    };
+    match Plan::parse(alloc, plan, harts) {
+        Ok(plan) => Machine::new(alloc, image, Vec::new(alloc), plan),
+        Err(error) => Err(RunError::Plan(error)),
+    }
+}
+
+/// The report of a machine.
+fn text_of(alloc: Global, machine: &Machine) -> Result<Vec<u8>, RunError> {
+    let mut text = Vec::new(alloc);
+    machine.report(alloc, &mut WriteSink::new(&mut text))?;
+    Ok(text)
+}
