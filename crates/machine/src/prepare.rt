@@ -56,6 +56,17 @@ fn load(alloc: Global, format: Format, file: &[u8], pages: u32) -> Result<Image,
     ensures refused { (cause : ImageCause) → IsLeastOfImage (StandsIn format file.now pages) cause → (result ≡ Err (refusals.Image cause)) ⊎ (result ≡ Err refusals.OutOfMemory) }
     ensures taken { IsGood (StandsIn format file.now pages) → IfErr result (λ e. e ≡ refusals.OutOfMemory) }
 {
+    load_as(alloc, format, file, pages)
+}
+
+/// The same, by the format's own loader.
+fn load_as(alloc: Global, format: Format, file: &[u8], pages: u32) -> Result<Image, RunError>
+    requires some_pages { 1 ≤ pages }
+    requires few_pages { pages ≤ 16384 }
+    ensures image { IfOk result (λ i. i ≡ image_of format file.now pages) }
+    ensures errors { IfErr result (λ e. (e ≡ refusals.OutOfMemory) ⊎ ((cause : ImageCause) × IsLeastOfImage (StandsIn format file.now pages) cause × (e ≡ refusals.Image cause))) }
+    ensures refused { (cause : ImageCause) → IsLeastOfImage (StandsIn format file.now pages) cause → (result ≡ Err (refusals.Image cause)) ⊎ (result ≡ Err refusals.OutOfMemory) }
+{
     let loaded = match format {
         Format::Elf => load_elf(alloc, file, pages),
         Format::Flat => load_flat(alloc, file, pages),
