@@ -6,3 +6,4 @@ pub mod RoundDone
 pub mod Repeated
 pub mod SizeKept
 pub mod TraceKept
+pub mod TracedRun
