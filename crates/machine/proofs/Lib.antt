@@ -7,3 +7,4 @@ pub mod Repeated
 pub mod SizeKept
 pub mod TraceKept
 pub mod Good
+pub mod TracedRun

@@ -13,6 +13,7 @@ mod room;
 mod round;
 mod running;
 mod settings;
+mod tracing;
 mod waiting;
 
 pub use emulation::emulate;
@@ -21,6 +22,7 @@ pub use memory_order::Trace;
 pub use outcome::Outcome;
 pub use running::RoundNote;
 pub use settings::{Format, Settings};
+pub use tracing::trace_run;
 
 #[cfg(test)]
 mod tests;

@@ -1,4 +1,5 @@
 ghost use Rattle.std.specs.Prelude.{◌≡◌, ℕ, ◌<◌, ◌≤◌, length, slice_index, Some, None, IfOk, IfErr};
+ghost use Rattle.pages.specs.Memory.{IsBytes};
 ghost use Rattle.host_io.specs.declared.error.RunError.TheVariants as refusals;
 ghost use Rattle.memory_order.specs.Traced.{opening_at};
 ghost use Rattle.machine.specs.Machine.{opening};
@@ -97,5 +98,21 @@ impl Machine {
         ensures opening { (x : ℕ) → opening_at result.now.opening x ≡ slice_index self.now.opening x }
     {
         &self.trace
+    }
+
+    /// The same trace, handed over.
+    pub fn into_trace(self) -> Trace
+        ensures events { result.events ≡ self.state.trace }
+        ensures opening { (x : ℕ) → opening_at result.opening x ≡ slice_index self.opening x }
+    {
+        let Machine { trace, .. } = self;
+        trace
+    }
+
+    /// Each byte of memory is a byte.
+    pub(crate) fn bytes_fit(&self)
+        ensures { IsBytes self.now.state.bytes }
+    {
+        self.pages.bytes_fit();
     }
 }

@@ -3,6 +3,7 @@ ghost use Rattle.std.specs.Prelude.{◌≤◌};
 mod budgets;
 mod images;
 mod memory;
+mod orders;
 mod refusals;
 mod reports;
 mod rounds;
