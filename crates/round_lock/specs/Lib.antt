@@ -1,0 +1,6 @@
+pub mod Lists
+pub mod Sitters
+pub mod Histories
+pub mod Rule
+pub mod Known
+pub mod Seats
