@@ -4,7 +4,7 @@ pub mod Views
 pub mod Claiming
 pub mod Locking
 pub mod Meeting
-pub mod Opening
+pub mod Beginning
 pub mod Ending
 pub mod Moves
 pub mod Putting

@@ -4,3 +4,5 @@ pub mod Histories
 pub mod Rule
 pub mod Known
 pub mod Seats
+pub mod Starts
+pub mod Rounds

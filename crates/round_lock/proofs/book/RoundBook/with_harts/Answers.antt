@@ -3,7 +3,7 @@ use Rattle.atomic_table.specs.Table.{opening}
 use Rattle.round_lock.specs.declared.sitter.Size.{Size}
 use Rattle.round_lock.specs.Rule.{Kept}
 use Rattle.round_lock.specs.Sitters.{newcomers}
-use Rattle.round_lock.proofs.Opening.{opens}
+use Rattle.round_lock.proofs.Beginning.{opens}
 use Rattle.round_lock.proofs.book.RoundBook.with_harts.Goals as goal
 
 pub new-requires : goal.new-requires
