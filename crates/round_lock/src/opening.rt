@@ -8,12 +8,10 @@ use crate::hart_round::HartRound;
 use crate::seat::Seat;
 use crate::start::{BookStart, RoundStart};
 use pages::OutOfMemory;
-use std::alloc::Global;
 
 impl<B: BookStart> RoundBook<HartRound<B>> {
     /// Opens the book of a round, with 1 to 16 seats. All its memory is taken here.
     pub fn open(
-        alloc: Global,
         start: &RoundStart<'_>,
         seats: u32,
     ) -> Result<(RoundBook<HartRound<B>>, Vec<Seat<HartRound<B>>>), OutOfMemory>
@@ -23,6 +21,6 @@ impl<B: BookStart> RoundBook<HartRound<B>> {
         ensures seats { IfOk result (λ r. r.1.items ≡ fresh_seats r.0.table (length start.now.harts) seats) }
     {
         let harts = start.harts().len() as u32;
-        RoundBook::with_harts(alloc, harts, seats).map_err(|_| OutOfMemory)
+        RoundBook::with_harts(start.pages().allocator(), harts, seats).map_err(|_| OutOfMemory)
     }
 }

@@ -8,6 +8,7 @@ use std::marker::{Brand, Model};
 
 /// What the parallel phase of a round starts from: guest memory with a table of its decoded words, and the state and the
 /// quota of each hart. The phase only reads it.
+#[derive(Drop)]
 pub struct RoundStart<'a> {
     pages: &'a Pages,
     table: &'a CodeTable,
