@@ -1,0 +1,2 @@
+pub mod HartRounds
+pub mod Gatherings

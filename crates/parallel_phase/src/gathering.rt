@@ -1,0 +1,37 @@
+ghost use Rattle.std.specs.Prelude.{◌≡◌, ◌≤◌, IfOk};
+ghost use Rattle.round_lock.specs.Rounds.{IsTable};
+
+use crate::gate::Gate;
+use crate::working::work_all;
+use pages::OutOfMemory;
+use round_lock::{BookStart, Gathered, HartRound, RoundBook, RoundStart};
+use std::sync::Wait;
+use std::thread::Threads;
+
+/// Gathers the rounds of all harts, by 1 to 16 workers. The calling thread is one of them.
+///
+/// With Ok each hart stands in the history once, with its round from this start. How many workers there were, and which of
+/// them did which hart, makes no difference to it. It may wait.
+///
+/// # Errors
+///
+/// A worker was refused memory. The start is only read.
+pub fn gather<B: BookStart + Send + Sync, G: Gate + Sync, R: Threads + Wait + Sync>(
+    rt: &R,
+    start: &RoundStart<'_>,
+    workers: u32,
+    gate: &G,
+) -> Result<Gathered<HartRound<B>>, OutOfMemory>
+    requires start { start.now ≡ B.start }
+    requires workers { (1 ≤ workers) × (workers ≤ 16) }
+    ensures { IfOk result (λ g. IsTable start.now g) }
+{
+    let (book, mut seats) = RoundBook::<HartRound<B>>::open(start, workers)?;
+    work_all(rt, start, &book, gate, seats.as_mut_slice());
+    let gathered = book.close(seats);
+    if gathered.is_complete() {
+        Ok(gathered)
+    } else {
+        Err(OutOfMemory)
+    }
+}

@@ -1,0 +1,20 @@
+ghost use Rattle.std.specs.Prelude.{◌≡◌, Some};
+ghost use Rattle.round_lock.specs.Starts.{content_from, round_at};
+
+use crate::start::BookStart;
+use crate::ticket::Ticket;
+use hart_step::{Access, Hart};
+use std::marker::PhantomData;
+use store_buffer::StoreBuffer;
+
+/// The round of one hart: what the ticket's hart comes to from the start of the book. Its type keeps that it is that.
+#[derive(Drop)]
+pub struct HartRound<B: BookStart> {
+    pub(crate) ticket: Ticket,
+    pub(crate) hart: Hart,
+    pub(crate) buffer: StoreBuffer,
+    pub(crate) accesses: Vec<Access>,
+    pub(crate) waits: bool,
+    pub(crate) of: PhantomData<B>,
+    ghost content: { round_at B.start ticket.hart ≡ Some (content_from hart buffer accesses.items waits) },
+}
