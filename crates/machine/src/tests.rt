@@ -2,6 +2,8 @@ ghost use Rattle.std.specs.Prelude.{◌≤◌};
 
 mod budgets;
 mod images;
+mod lost_update;
+mod lost_update_file;
 mod memory;
 mod orders;
 mod refusals;
