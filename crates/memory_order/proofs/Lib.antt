@@ -5,3 +5,5 @@ pub mod Lasting
 pub mod Meeting
 pub mod Placing
 pub mod Sorting
+mod Ranking
+mod Bounding

@@ -1,3 +1,4 @@
+pub mod Checking
 pub mod LastPlaces
 pub mod Operations
 pub mod Orders

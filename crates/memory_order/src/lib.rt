@@ -1,6 +1,7 @@
 //! The global memory order of a run's trace, and the memory model RVWMO that it meets.
 #![tactic(auto)]
 
+mod checking;
 mod form;
 mod laws;
 mod operation;

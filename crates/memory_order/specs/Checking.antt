@@ -1,0 +1,33 @@
+-- What the checker of orders keeps: bounds of positions, in maps from pairs of numbers.
+use Rattle.std.specs.Prelude.{◌≡◌, ℕ, ◌+◌, ◌<◌, ◌⊎◌, ◌==◌, ◌&&◌, max, if◌then◌else◌, List, length, slice_index, unwrap_or}
+use Rattle.std.specs.Ordering.{nat_cmp, ordering_then}
+use Rattle.std.specs.declared.cmp.Ordering.{Ordering}
+use Rattle.std.specs.BTreeMap.{BTreeMap, get}
+use Rattle.round_schedule.specs.declared.event.Event.{Event}
+use Rattle.pages.specs.Memory.{in_range}
+use Rattle.memory_order.specs.Orders.{place}
+
+-- the list r has the position of each event of the trace in the order
+abbrev pub IsRanking : List Event → List ℕ → List ℕ → Type 0
+IsRanking t g r = (length r ≡ length t) × ((i : ℕ) → i < length t → slice_index r i ≡ place g i)
+
+-- v is one more than the greatest position of the places that P holds of; 0 where there is none
+pub record IsMax (pos : ℕ → ℕ) (P : ℕ → Type 0) (v : ℕ) : Type 0 where
+  pub upper : (a : ℕ) → P a → pos a < v
+  pub attained : (v ≡ 0) ⊎ ((a : ℕ) × P a × (pos a + 1 ≡ v))
+
+abbrev pub pair_cmp : ℕ × ℕ → ℕ × ℕ → Ordering
+pair_cmp x y = ordering_then (nat_cmp x.0 y.0) (nat_cmp x.1 y.1)
+
+-- what the map holds at a pair; 0 where nothing
+abbrev pub bound : BTreeMap (ℕ × ℕ) ℕ → ℕ → ℕ → ℕ
+bound m h x = unwrap_or (get pair_cmp m (h, x)) 0
+
+-- the number at one pair is raised to v
+abbrev pub Raises : BTreeMap (ℕ × ℕ) ℕ → BTreeMap (ℕ × ℕ) ℕ → ℕ → ℕ → ℕ → Type 0
+Raises old new a y v = (h x : ℕ) → bound new h x ≡ (if h == a && x == y then max (bound old h x) v else bound old h x)
+
+-- the numbers at a and each byte of a range are raised to those of a function
+abbrev pub RaisesBytes : BTreeMap (ℕ × ℕ) ℕ → BTreeMap (ℕ × ℕ) ℕ → ℕ → ℕ → ℕ → (ℕ → ℕ) → Type 0
+RaisesBytes old new a address n f =
+    (h x : ℕ) → bound new h x ≡ (if h == a && in_range address n x then max (bound old h x) (f x) else bound old h x)

@@ -1,0 +1,4 @@
+//! The checker of orders.
+
+mod bounds;
+mod positions;
