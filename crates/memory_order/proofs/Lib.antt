@@ -7,3 +7,4 @@ pub mod Placing
 pub mod Sorting
 mod Ranking
 mod Bounding
+mod ProgramBounds

@@ -1,5 +1,5 @@
 -- The inverse of an order: which list of positions the test for orders keeps.
-use Rattle.std.proofs.Common.{◌≡◌, ◌≢◌, ℕ, suc, ◌+◌, ◌<◌, ◌==◌, ◌⊎◌, Bool, true, false, if◌then◌else◌, List, [], ◌∷◌, length, get_or, set, replicate, refl, sym, ap, ◌∙◌, subst, inl, inr, arith, Contains, length-set, get_or-set_same, get_or-set_other}
+use Rattle.std.proofs.Common.{◌≡◌, ◌≢◌, ℕ, suc, ◌+◌, ◌<◌, ◌≤◌, ◌==◌, ◌⊎◌, Bool, true, false, if◌then◌else◌, List, [], ◌∷◌, length, get_or, set, replicate, refl, sym, ap, ◌∙◌, subst, inl, inr, arith, Contains, length-set, get_or-set_same, get_or-set_other}
 use Rattle.std.proofs.lemmas.Bool.{cases_lt, cases_eq}
 use Rattle.std.proofs.lemmas.Bool.Decides.{nat_tests}
 use Rattle.std.proofs.lemmas.List.{get_or-replicate, get_or_default, length-replicate}
@@ -19,6 +19,15 @@ absent_step b a g false e n h = ap suc h
 pub place_absent : (g : List ℕ) (a : ℕ) → ((k : ℕ) → k < length g → get_or g k 0 ≢ a) → place g a ≡ length g
 place_absent [] a h = refl
 place_absent (b ∷ g) a h = absent_step b a g (b == a) refl (h 0 (omega arith)) (place_absent g a (λ k l. h (suc k) (omega (arith, l))))
+
+-- no place is past the order's length
+length_step : (b a : ℕ) (g : List ℕ) (t : Bool) → place g a ≤ length g → (if t then 0 else suc (place g a)) ≤ suc (length g)
+length_step b a g true h = omega arith
+length_step b a g false h = omega arith
+
+pub place_at_most : (g : List ℕ) (a : ℕ) → place g a ≤ length g
+place_at_most [] a = omega arith
+place_at_most (b ∷ g) a = length_step b a g (b == a) (place_at_most g a)
 
 -- the list r inverts the first p entries of the order g
 pub record Met (t : List Event) (g : List ℕ) (p : ℕ) (r : List ℕ) : Type 0 where

@@ -1,4 +1,5 @@
 pub mod Checking
+pub mod CheckingProgram
 pub mod LastPlaces
 pub mod Operations
 pub mod Orders

@@ -1,4 +1,6 @@
 //! The checker of orders.
 
 mod bounds;
+mod kinds;
 mod positions;
+mod program;
