@@ -6,7 +6,7 @@ use Rattle.std.specs.BTreeMap.{is_at}
 use Rattle.pages.specs.Memory.{in_range}
 use Rattle.round_schedule.specs.declared.event.Event.{Event}
 use Rattle.round_schedule.specs.Positions.{event}
-use Rattle.memory_order.specs.Checking.{IsMax, pair_cmp}
+use Rattle.memory_order.specs.Checking.{Below, Earlier, IsMax, pair_cmp}
 
 pub pair_at : (a b h x : ℕ) → is_at (pair_cmp (a, b)) (h, x) ≡ (h == a && x == b)
 pair_at a b h x = grind (arith, nat_tests)
@@ -63,7 +63,7 @@ max_one pos i next e = record { upper = λ a s. let p = ap pos s in omega (arith
 pub max_alike : (pos : ℕ → ℕ) (P Q : ℕ → Type 0) (v : ℕ) → ((a : ℕ) → P a → Q a) → ((a : ℕ) → Q a → P a) → IsMax pos P v → IsMax pos Q v
 max_alike pos P Q v to from x = record {
   upper = λ a q. x.upper a (from a q);
-  attained = elim x.attained [ | inl z ↦ inl z | inr s ↦ inr (s.0, to s.0 s.1, s.2) ];
+  attained = elim x.attained [ inl z ↦ inl z | inr s ↦ inr (s.0, to s.0 s.1, s.2) ];
 }
 
 pub max_join : (pos : ℕ → ℕ) (P Q R : ℕ → Type 0) (u v : ℕ) → ((a : ℕ) → P a → R a) → ((a : ℕ) → Q a → R a) → ((a : ℕ) → R a → P a ⊎ Q a) →
@@ -92,14 +92,11 @@ max_join pos P Q R u v left right split x y = record { upper = upper; attained =
 pub max_join_if : (pos : ℕ → ℕ) (P Q R : ℕ → Type 0) (u v : ℕ) (r : Bool) → ((a : ℕ) → P a → R a) → (r ≡ true → (a : ℕ) → Q a → R a) →
     ((a : ℕ) → R a → P a ⊎ (Q a × (r ≡ true))) → IsMax pos P u → (r ≡ true → IsMax pos Q v) → IsMax pos R (if r then max u v else u)
 max_join_if pos P Q R u v true left right split x y =
-    max_join pos P Q R u v left (right refl) (λ a h. elim (split a h) [ | inl p ↦ inl p | inr q ↦ inr q.0 ]) x (y refl)
+    max_join pos P Q R u v left (right refl) (λ a h. elim (split a h) [ inl p ↦ inl p | inr q ↦ inr q.0 ]) x (y refl)
 max_join_if pos P Q R u v false left right split x y =
-    max_alike pos P R u left (λ a h. elim (split a h) [ | inl p ↦ p | inr q ↦ let f = q.1 in absurd (cc) ]) x
+    max_alike pos P R u left (λ a h. elim (split a h) [ inl p ↦ p | inr q ↦ let f = q.1 in absurd (cc) ]) x
 
 -- ---- the events before a place of the trace, on one hart, that pass a test
-
-abbrev pub Earlier : (Event → Bool) → List Event → ℕ → ℕ → ℕ → Type 0
-Earlier q t h i a = (a < i) × ((event t a).hart ≡ h) × (q (event t a) ≡ true)
 
 pub earlier_none : (q : Event → Bool) (t : List Event) (pos : ℕ → ℕ) (h : ℕ) → IsMax pos (Earlier q t h 0) 0
 earlier_none q t pos h = max_none pos (Earlier q t h 0) (λ a p. omega (arith, p.0))
@@ -118,3 +115,22 @@ earlier_step q t pos h i v next r to from at x =
           inr (s, from (sym (ap (λ n. (event t n).hart) s) ∙ p.1) (sym (ap (λ n. q (event t n)) s) ∙ p.2))
     ])
     x (λ e. max_one pos i next (at e))
+
+-- ---- the events below a position of the order that pass a test
+
+pub below_none : (q : Event → Bool) (t : List Event) (pos : ℕ → ℕ) → IsMax pos (Below q t pos 0) 0
+below_none q t pos = max_none pos (Below q t pos 0) (λ a p. omega (arith, p.1))
+
+pub below_step : (q : Event → Bool) (t : List Event) (pos : ℕ → ℕ) (i p v next : ℕ) (r : Bool) → q (event t i) ≡ r → pos i ≡ p → next ≡ p + 1 →
+    ((a : ℕ) → q (event t a) ≡ true → pos a ≡ p → a ≡ i) → IsMax pos (Below q t pos p) v → IsMax pos (Below q t pos (p + 1)) (if r then max v next else v)
+below_step q t pos i p v next r test at n one x =
+    max_join_if pos (Below q t pos p) (λ a. a ≡ i) (Below q t pos (p + 1)) v next r
+    (λ a b. (b.0, omega (arith, b.1)))
+    (λ e a s. (ap (λ k. q (event t k)) s ∙ test ∙ e, let f = ap pos s in omega (arith, f, at)))
+    (λ a b. elim (cases_lt (pos a) p) [
+      | inl l ↦ inl (b.0, l)
+      | inr l ↦
+          let s : a ≡ i = one a b.0 (omega (arith, l, b.1)) in
+          inr (s, sym test ∙ sym (ap (λ k. q (event t k)) s) ∙ b.0)
+    ])
+    x (λ e. max_one pos i next (omega (arith, n, at)))

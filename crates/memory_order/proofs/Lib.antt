@@ -7,4 +7,6 @@ pub mod Placing
 pub mod Sorting
 mod Ranking
 mod Bounding
+mod Forms
 mod ProgramBounds
+mod Sourcing

@@ -9,9 +9,9 @@ use Rattle.round_schedule.specs.Accesses.{loads, stores}
 use Rattle.round_schedule.specs.Positions.{event}
 use Rattle.memory_order.specs.declared.checking.program.HartBounds.{HartBounds}
 use Rattle.memory_order.specs.Operations.{fence_orders, is_operation, is_plain_store, is_release}
-use Rattle.memory_order.specs.Checking.{IsMax}
+use Rattle.memory_order.specs.Checking.{Earlier, IsMax}
 use Rattle.memory_order.specs.CheckingProgram.{Allowed, KeptAt, RuleButOverlap, bounds_after, by-fence, by-other, by-release, no_bounds, orders_loads, orders_stores}
-use Rattle.memory_order.proofs.Bounding.{Earlier, below_max, earlier_none, earlier_step, max_alike, max_below, max_join_if, max_none}
+use Rattle.memory_order.proofs.Bounding.{below_max, earlier_none, earlier_step, max_alike, max_below, max_join_if, max_none}
 
 -- ---- kinds
 
@@ -39,7 +39,7 @@ plain_kinds (Fence b c m p) h = cc
 
 normal : (br bw ar aw la sa lb sb : Bool) → ((br && la && ar && lb) || (br && la && aw && sb) || (bw && sa && aw && sb) || (bw && sa && ar && lb && true)) ≡ true → la ≡ false →
     (((bw && ar && true) ≡ true) × (lb ≡ true)) ⊎ (((bw && aw) ≡ true) × (sb ≡ true))
-normal br bw ar aw la sa true sb h l = elim (cases_Bool (bw && ar && true)) [ | inl a ↦ inl (a, refl) | inr n ↦ inr (grind arith, grind arith) ]
+normal br bw ar aw la sa true sb h l = elim (cases_Bool (bw && ar && true)) [ inl a ↦ inl (a, refl) | inr n ↦ inr (grind arith, grind arith) ]
 normal br bw ar aw la sa false sb h l = inr (grind arith, grind arith)
 
 total : (br bw ar aw la sa lb sb : Bool) → ((br && la && ar && lb) || (br && la && aw && sb) || (bw && sa && aw && sb) || (bw && sa && ar && lb && false)) ≡ true → la ≡ false →
@@ -161,8 +161,8 @@ pub bounded_step : (t : List Event) (pos : ℕ → ℕ) (i next : ℕ) (e : Even
 bounded_step t pos i next e b old new is at known set x h = elim (cases_eq h e.hart) [
   | inl same ↦
       let n : new h ≡ bounds_after (old h) (event t i) next =
-          set h ∙ cond-true (h == e.hart) (bounds_after b e next) (old h) (eq-eqb h e.hart same)
-          ∙ ap (λ c. bounds_after c e next) (known ∙ ap old (sym same)) ∙ ap (λ f. bounds_after (old h) f next) is in
+      set h ∙ cond-true (h == e.hart) (bounds_after b e next) (old h) (eq-eqb h e.hart same)
+      ∙ ap (λ c. bounds_after c e next) (known ∙ ap old (sym same)) ∙ ap (λ f. bounds_after (old h) f next) is in
       subst (Bounded t pos h (i + 1)) (sym n) (bounded_more t pos h i next (old h) (ap (λ (f : Event). f.hart) (sym is) ∙ sym same) at (x h))
   | inr other ↦
       let n : new h ≡ old h = set h ∙ cond-false (h == e.hart) (bounds_after b e next) (old h) (ne_eqb h e.hart other) in
@@ -195,11 +195,11 @@ kept_from_allowed t pos b p e d is at x allowed a op before rule = by_kind (case
     plain h (by-fence f af fb o) = elim (fence_split (event t f).access (event t a).access (event t b).access o (plain_kinds (event t a).access h).0) [
       | inl s ↦
           let l = below_max pos (Behind orders_loads t e.hart b) d.before_loads p x.before_loads (allowed.1 (ap loads access ∙ s.1)) a
-              (f, fb.earlier, fb.same_hart ∙ ap (λ (g : Event). g.hart) (sym is), s.0, (af.earlier, hart, h)) in
+          (f, fb.earlier, fb.same_hart ∙ ap (λ (g : Event). g.hart) (sym is), s.0, (af.earlier, hart, h)) in
           omega (arith, l, at)
       | inr s ↦
           let l = below_max pos (Behind orders_stores t e.hart b) d.before_stores p x.before_stores (allowed.2 (ap stores access ∙ s.1)) a
-              (f, fb.earlier, fb.same_hart ∙ ap (λ (g : Event). g.hart) (sym is), s.0, (af.earlier, hart, h)) in
+          (f, fb.earlier, fb.same_hart ∙ ap (λ (g : Event). g.hart) (sym is), s.0, (af.earlier, hart, h)) in
           omega (arith, l, at)
     ]
     plain h (by-release r) =

@@ -1,15 +1,16 @@
 -- The inverse of an order: which list of positions the test for orders keeps.
 use Rattle.std.proofs.Common.{◌≡◌, ◌≢◌, ℕ, suc, ◌+◌, ◌<◌, ◌≤◌, ◌==◌, ◌⊎◌, Bool, true, false, if◌then◌else◌, List, [], ◌∷◌, length, get_or, set, replicate, refl, sym, ap, ◌∙◌, subst, inl, inr, arith, Contains, length-set, get_or-set_same, get_or-set_other}
-use Rattle.std.proofs.lemmas.Bool.{cases_lt, cases_eq}
+use Rattle.std.proofs.lemmas.Bool.{cases_eq, cases_lt, cases_order}
 use Rattle.std.proofs.lemmas.Bool.Decides.{nat_tests}
 use Rattle.std.proofs.lemmas.List.{get_or-replicate, get_or_default, length-replicate}
+use Rattle.std.specs.List.{AllPairs}
 use Rattle.round_schedule.specs.declared.event.Event.{Event}
 use Rattle.round_schedule.specs.Positions.{event}
 use Rattle.memory_order.specs.Operations.{is_operation}
 use Rattle.memory_order.specs.Orders.{ListsOperations, place}
 use Rattle.memory_order.specs.Checking.{IsRanking}
 use Rattle.memory_order.proofs.Facts.{within}
-use Rattle.memory_order.proofs.Placing.{place_of_contained}
+use Rattle.memory_order.proofs.Placing.{place_found, place_of_contained}
 
 absent_step : (b a : ℕ) (g : List ℕ) (t : Bool) → (b == a) ≡ t → b ≢ a → place g a ≡ length g → (if t then 0 else suc (place g a)) ≡ suc (length g)
 absent_step b a g true e n h = absurd (n (grind (arith, nat_tests)))
@@ -119,4 +120,16 @@ met_all t g r m none = (record { only = only; each = each; once = once }, (m.len
       | inr b ↦
           let f = place_of_contained g i (get_or r i 0, b.0, get_or_default g (get_or r i 0) i 0 b.0 ∙ b.1) in
           sym (ap (λ n. get_or r n 0) f.1) ∙ (m.forth (place g i) f.0).2
+    ]
+
+-- an order that lists each place once has at each position the place of that position
+pub place_at : (g : List ℕ) → AllPairs (λ a b. a ≢ b) g → (k : ℕ) → k < length g → place g (get_or g k 0) ≡ k
+place_at g once k l =
+    let f = place_found g (get_or g k 0) k l refl in
+    elim (cases_order (place g (get_or g k 0)) k) [
+      | inl e ↦ e
+      | inr o ↦ elim o [
+        | inl b ↦ absurd (once (place g (get_or g k 0)) k 0 b l f.1)
+        | inr a ↦ absurd (once k (place g (get_or g k 0)) 0 a f.0 (sym f.1))
+      ]
     ]

@@ -1,9 +1,11 @@
 -- What the checker of orders keeps: bounds of positions, in maps from pairs of numbers.
-use Rattle.std.specs.Prelude.{◌≡◌, ℕ, ◌+◌, ◌<◌, ◌⊎◌, ◌==◌, ◌&&◌, max, if◌then◌else◌, List, length, slice_index, unwrap_or}
+use Rattle.std.specs.Prelude.{◌≡◌, ℕ, ◌+◌, ◌<◌, ◌⊎◌, ◌==◌, ◌&&◌, Bool, true, max, if◌then◌else◌, List, length, slice_index, unwrap_or}
 use Rattle.std.specs.Ordering.{nat_cmp, ordering_then}
 use Rattle.std.specs.declared.cmp.Ordering.{Ordering}
 use Rattle.std.specs.BTreeMap.{BTreeMap, get}
 use Rattle.round_schedule.specs.declared.event.Event.{Event}
+use Rattle.round_schedule.specs.Accesses.{writes}
+use Rattle.round_schedule.specs.Positions.{event}
 use Rattle.pages.specs.Memory.{in_range}
 use Rattle.memory_order.specs.Orders.{place}
 
@@ -15,6 +17,18 @@ IsRanking t g r = (length r ≡ length t) × ((i : ℕ) → i < length t → sli
 pub record IsMax (pos : ℕ → ℕ) (P : ℕ → Type 0) (v : ℕ) : Type 0 where
   pub upper : (a : ℕ) → P a → pos a < v
   pub attained : (v ≡ 0) ⊎ ((a : ℕ) × P a × (pos a + 1 ≡ v))
+
+-- the events before place i of the trace, on hart h, that pass a test
+abbrev pub Earlier : (Event → Bool) → List Event → ℕ → ℕ → ℕ → Type 0
+Earlier q t h i a = (a < i) × ((event t a).hart ≡ h) × (q (event t a) ≡ true)
+
+-- the events below position p of the order that pass a test
+abbrev pub Below : (Event → Bool) → List Event → (ℕ → ℕ) → ℕ → ℕ → Type 0
+Below q t pos p a = (q (event t a) ≡ true) × (pos a < p)
+
+-- the hart's stores to byte x before the one at r in the program
+abbrev pub OwnWrite : List Event → ℕ → ℕ → ℕ → Type 0
+OwnWrite t r x = Earlier (λ e. writes e.access x) t (event t r).hart r
 
 abbrev pub pair_cmp : ℕ × ℕ → ℕ × ℕ → Ordering
 pair_cmp x y = ordering_then (nat_cmp x.0 y.0) (nat_cmp x.1 y.1)

@@ -2,5 +2,8 @@
 
 mod bounds;
 mod kinds;
+mod noting;
+mod own_stores;
 mod positions;
 mod program;
+mod sources;

@@ -1,10 +1,11 @@
 //! What the checker asks of one event.
 
-ghost use Rattle.std.specs.Prelude.{◌≡◌, ◌+◌, ◌^◌, ◌<◌, length};
-ghost use Rattle.round_schedule.specs.Accesses.{is_sc, loads, stores};
+ghost use Rattle.std.specs.Prelude.{◌≡◌, ◌+◌, ◌^◌, ◌<◌, All, length, slice_index, true};
+ghost use Rattle.round_schedule.specs.Accesses.{address_of, bytes_of, is_sc, loads, stores};
 ghost use Rattle.round_schedule.specs.Positions.{event};
-ghost use Rattle.memory_order.specs.Operations.{is_lr_or_sc, is_normal, is_plain_store, is_release};
-ghost use Rattle.memory_order.specs.Orders.{place};
+ghost use Rattle.memory_order.specs.Operations.{is_lr_or_sc, is_normal, is_operation, is_plain_store, is_release};
+ghost use Rattle.memory_order.specs.Orders.{ListsOperations, place};
+ghost use Rattle.memory_order.specs.Traced.{HasForm};
 ghost use Rattle.memory_order.specs.Checking.{IsRanking};
 ghost use Rattle.memory_order.specs.CheckingProgram.{orders_loads, orders_stores};
 
@@ -13,8 +14,10 @@ use rv64_decode::FenceMode;
 
 /// The event at a place of the trace.
 pub(crate) fn event_at(events: &[Event], place: usize) -> Event
-    requires { place < length events.now }
-    ensures { result ≡ event events.now place }
+    requires within { place < length events.now }
+    requires formed { All HasForm events.now }
+    ensures at { result ≡ event events.now place }
+    ensures fits { address_of result.access + bytes_of result.access < 2 ^ 64 }
 {
     events[place]
 }
@@ -28,6 +31,47 @@ pub(crate) fn position_of(events: &[Event], order: &[usize], ranks: &[usize], i:
 {
     let _events = events;
     ranks[i].min(order.len())
+}
+
+/// The place of the trace that stands at a position of the order.
+pub(crate) fn listed(events: &[Event], order: &[usize], p: usize) -> usize
+    requires within { p < length order.now }
+    requires lists { ListsOperations events.now order.now }
+    ensures at { result ≡ slice_index order.now p }
+    ensures within { result < length events.now }
+    ensures operation { is_operation (event events.now result) ≡ true }
+    ensures position { place order.now result ≡ p }
+{
+    let _events = events;
+    order[p]
+}
+
+/// The first byte's address; 0 for a fence.
+pub(crate) fn address(access: &Access) -> u64
+    ensures { result ≡ address_of access.now }
+{
+    match *access {
+        Access::Load { address, .. }
+        | Access::Store { address, .. }
+        | Access::LoadReserved { address, .. }
+        | Access::StoreConditional { address, .. }
+        | Access::Atomic { address, .. } => address,
+        Access::Fence { .. } => 0,
+    }
+}
+
+/// How many bytes there are; none for a fence.
+pub(crate) fn width(access: &Access) -> u64
+    ensures { result ≡ bytes_of access.now }
+{
+    match *access {
+        Access::Load { width, .. }
+        | Access::Store { width, .. }
+        | Access::LoadReserved { width, .. }
+        | Access::StoreConditional { width, .. }
+        | Access::Atomic { width, .. } => width.bytes(),
+        Access::Fence { .. } => 0,
+    }
 }
 
 pub(crate) fn loads(access: &Access) -> bool

@@ -1,5 +1,6 @@
-ghost use Rattle.std.specs.Prelude.{◌≡◌, ◌==◌, ◌↔◌, ℕ, max, if◌then◌else◌, IsTrue, IfOk, OnOk};
-ghost use Rattle.memory_order.specs.Orders.{ListsOperations, place};
+ghost use Rattle.std.specs.Prelude.{◌≡◌, ◌==◌, ◌↔◌, ℕ, All, max, if◌then◌else◌, IsTrue, IfOk, OnOk};
+ghost use Rattle.memory_order.specs.Orders.{place};
+ghost use Rattle.memory_order.specs.Traced.{HasForm};
 ghost use Rattle.memory_order.specs.Checking.{IsRanking};
 ghost use Rattle.memory_order.specs.CheckingProgram.{Allowed, KeptButOverlap, bounds_after, bounds_of};
 
@@ -32,7 +33,7 @@ pub(crate) fn keeps_but_overlap(
     order: &[usize],
     ranks: &[usize],
 ) -> Result<bool, OutOfMemory>
-    requires lists { ListsOperations events.now order.now }
+    requires formed { All HasForm events.now }
     requires ranked { IsRanking events.now order.now ranks.now }
     ensures { IfOk result (λ yes. IsTrue yes ↔ KeptButOverlap events.now (place order.now)) }
 {
