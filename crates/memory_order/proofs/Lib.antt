@@ -8,5 +8,7 @@ pub mod Sorting
 mod Ranking
 mod Bounding
 mod Forms
+mod Pairing
 mod ProgramBounds
 mod Sourcing
+mod Valuing

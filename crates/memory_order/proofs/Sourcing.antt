@@ -124,7 +124,7 @@ may_join t pos r x u v own seen =
     max_join pos (OwnWrite t r x) (Below (λ f. writes f.access x) t pos (pos r)) (MaySee t pos r x) u v
     (λ a o. (o.2, inr (record { earlier = o.0; same_hart = o.1 })))
     (λ a b. (b.0, inl b.1))
-    (λ a m. elim m.1 [ | inl l ↦ inr (m.0, l) | inr q ↦ inl (q.earlier, q.same_hart, m.0) ])
+    (λ a m. elim m.1 [ inl l ↦ inr (m.0, l) | inr q ↦ inl (q.earlier, q.same_hart, m.0) ])
     own seen
 
 pub sourced_step : (t : List Event) (g : List ℕ) (i p : ℕ) (e : Event) (seen : ℕ → ℕ) (old new : ℕ → ℕ → ℕ) → ListsOperations t g → e ≡ event t i → is_operation (event t i) ≡ true → place g i ≡ p →

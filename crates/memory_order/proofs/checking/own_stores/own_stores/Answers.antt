@@ -30,6 +30,7 @@ loop-i-preserved c =
     }
 
 pub returns : goal.returns
-returns c =
-    (λ a b x before wa wb. let l = within c.args.events.now b (store_at c.args.events.now b x wb) in c.loop-i.invariant.kept b (omega (arith, l)) a x before wa wb,
-    λ r x h. let l = within c.args.events.now r (load_at c.args.events.now r x h) in c.loop-i.invariant.sources.noted r x h (omega (arith, l)))
+returns c = (
+  λ a b x before wa wb. let l = within c.args.events.now b (store_at c.args.events.now b x wb) in c.loop-i.invariant.kept b (omega (arith, l)) a x before wa wb,
+  λ r x h. let l = within c.args.events.now r (load_at c.args.events.now r x h) in c.loop-i.invariant.sources.noted r x h (omega (arith, l)),
+)
