@@ -6,9 +6,12 @@ pub mod Meeting
 pub mod Placing
 pub mod Sorting
 mod Ranking
+mod Atomicity
 mod Bounding
+mod Composing
 mod Forms
 mod Pairing
+mod Preserving
 mod ProgramBounds
 mod Sourcing
 mod Valuing

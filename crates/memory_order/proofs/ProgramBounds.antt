@@ -29,7 +29,7 @@ plain_operation (StoreConditional w o p x v) h = cc
 plain_operation (Atomic w o p x r v) h = cc
 plain_operation (Fence b c m p) h = cc
 
-plain_kinds : (a : Access) → is_plain_store a ≡ true → (loads a ≡ false) × (stores a ≡ true)
+pub plain_kinds : (a : Access) → is_plain_store a ≡ true → (loads a ≡ false) × (stores a ≡ true)
 plain_kinds (Load w p x r) h = cc
 plain_kinds (Store w p x v) h = (refl, refl)
 plain_kinds (LoadReserved w o p x r) h = cc

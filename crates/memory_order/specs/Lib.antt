@@ -1,4 +1,5 @@
 pub mod Checking
+pub mod CheckingAtomic
 pub mod CheckingProgram
 pub mod LastPlaces
 pub mod Operations

@@ -107,5 +107,9 @@ fn number_written(access: &Access) -> u64
 fn byte_of(number: u64, k: u64) -> u8
     ensures { result ≡ byte_of number k }
 {
-    if k < 8 { ((number >> (8 * k)) % 256) as u8 } else { 0 }
+    if k < 8 {
+        ((number >> (8 * k)) % 256) as u8
+    } else {
+        0
+    }
 }

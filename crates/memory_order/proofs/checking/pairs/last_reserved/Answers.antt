@@ -14,8 +14,8 @@ loop-i-preserved c =
     let e = c.event_at-event.result in
     let hart : c.from-hart.result ≡ (event c.args.events.now c.loop-i.i).hart = c.from-hart.ensures ∙ ap (λ (f : Event). f.hart) c.event_at-event.ensures.at in
     let now : IsMax (λ j. j) (Earlier is_reserving c.args.events.now (event c.args.events.now c.loop-i.i).hart c.loop-i.i) c.bound.result =
-        subst (IsMax (λ j. j) (Earlier is_reserving c.args.events.now (event c.args.events.now c.loop-i.i).hart c.loop-i.i))
-        (sym (c.bound.ensures ∙ ap (λ h. bound c.loop-i.last h 0) hart)) (c.loop-i.invariant.last (event c.args.events.now c.loop-i.i).hart) in
+    subst (IsMax (λ j. j) (Earlier is_reserving c.args.events.now (event c.args.events.now c.loop-i.i).hart c.loop-i.i))
+    (sym (c.bound.ensures ∙ ap (λ h. bound c.loop-i.last h 0) hart)) (c.loop-i.invariant.last (event c.args.events.now c.loop-i.i).hart) in
     let next : c.if-is_lr_or_sc.next ≡ (if is_lr_or_sc c.event_at-event.result.access then c.loop-i.i + 1 else 0) = elim c.if-is_lr_or_sc.branch [
       | then-is_lr_or_sc w ↦ w.next-is ∙ ap (λ b. if b then c.loop-i.i + 1 else 0) (sym w.if-is_lr_or_sc.true ∙ c.is_lr_or_sc.ensures)
       | else-is_lr_or_sc w ↦ w.next-is ∙ ap (λ b. if b then c.loop-i.i + 1 else 0) (sym w.if-is_lr_or_sc.false ∙ c.is_lr_or_sc.ensures)

@@ -2,7 +2,7 @@ use Rattle.std.proofs.Common.{◌≡◌, ◌≢◌, ℕ, ◌<◌, true, length, 
 use Rattle.round_schedule.specs.Positions.{event}
 use Rattle.memory_order.specs.Operations.{is_operation}
 use Rattle.memory_order.proofs.Ranking.{Met}
-use Rattle.memory_order.proofs.checking.positions.positions.Given as goal
+use Rattle.memory_order.proofs.checking.ranks.positions.Given as goal
 
 abbrev pub invariant-loop-p : goal.invariant-loop-p
 invariant-loop-p l = Met l.events l.order l.p l.ranks.items

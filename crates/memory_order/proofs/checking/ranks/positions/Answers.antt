@@ -4,8 +4,8 @@ use Rattle.round_schedule.specs.Positions.{event}
 use Rattle.memory_order.specs.Operations.{is_operation}
 use Rattle.memory_order.proofs.Facts.{within}
 use Rattle.memory_order.proofs.Ranking.{Met, met_all, met_more, met_other, met_twice}
-use Rattle.memory_order.proofs.checking.positions.positions.Goals as goal
-use Rattle.memory_order.proofs.checking.positions.positions.Goals.{then-not-is_operation_at-via-then-not-is_operation_at, then-not-is_operation_at-via-else-not-is_operation_at+then-index-absent}
+use Rattle.memory_order.proofs.checking.ranks.positions.Goals as goal
+use Rattle.memory_order.proofs.checking.ranks.positions.Goals.{then-not-is_operation_at-via-then-not-is_operation_at, then-not-is_operation_at-via-else-not-is_operation_at+then-index-absent}
 
 pub index-requires : goal.index-requires
 index-requires c =

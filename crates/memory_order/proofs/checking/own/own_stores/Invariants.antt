@@ -3,7 +3,7 @@ use Rattle.round_schedule.specs.Positions.{ProgramBefore, writes_at}
 use Rattle.memory_order.specs.Orders.{place}
 use Rattle.memory_order.specs.Checking.{bound}
 use Rattle.memory_order.proofs.Sourcing.{Noted, OwnStores}
-use Rattle.memory_order.proofs.checking.own_stores.own_stores.Given as goal
+use Rattle.memory_order.proofs.checking.own.own_stores.Given as goal
 
 abbrev pub invariant-loop-i : goal.invariant-loop-i
 invariant-loop-i l = record {

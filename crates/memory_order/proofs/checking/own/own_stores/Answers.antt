@@ -4,7 +4,7 @@ use Rattle.memory_order.specs.Orders.{place}
 use Rattle.memory_order.specs.Checking.{bound}
 use Rattle.memory_order.proofs.Facts.{within}
 use Rattle.memory_order.proofs.Sourcing.{kept_here, load_at, noted_step, own_step, store_at}
-use Rattle.memory_order.proofs.checking.own_stores.own_stores.Goals as goal
+use Rattle.memory_order.proofs.checking.own.own_stores.Goals as goal
 
 pub loop-i-preserved : goal.loop-i-preserved
 loop-i-preserved c =
