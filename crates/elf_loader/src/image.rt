@@ -42,6 +42,15 @@ impl Image {
         self.pieces.as_slice()
     }
 
+    /// The same bytes, handed over.
+    pub fn into_pieces(self) -> Vec<Piece>
+        ensures bytes { bytes_from result.items 0 (4096 * self.pages) ≡ self.bytes }
+        ensures within { All (λ (p : PieceOf). p.start + length p.bytes.items ≤ 4096 * self.pages) result.items }
+    {
+        let Image { pieces, .. } = self;
+        pieces
+    }
+
     /// The addresses that are code.
     pub fn code(&self) -> &[Range]
         ensures code { result.now ≡ self.now.code }

@@ -4,3 +4,6 @@ pub mod Listed
 pub mod Opened
 pub mod RoundDone
 pub mod Repeated
+pub mod SizeKept
+pub mod TraceKept
+pub mod TracedRun

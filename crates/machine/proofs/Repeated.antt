@@ -8,8 +8,8 @@ use Rattle.hart_step.specs.declared.hart.Hart.{Hart}
 use Rattle.hart_step.specs.Console.{ConsoleState}
 use Rattle.machine.specs.Machine.{Running, after_round, after_rounds}
 
-abbrev running : State Hart ConsoleState → List Range → Planned → Running
-running s rs plan = record { state = s; code = rs; plan = plan }
+abbrev running : State Hart ConsoleState → List Range → Planned → List ℕ → Running
+running s rs plan bs = record { state = s; code = rs; plan = plan; opening = bs }
 
 pub no_rounds : (m : Running) → m ≡ after_rounds 0 m
 unfolding run_of
@@ -22,5 +22,5 @@ one_more W budget quotas (suc n) s = one_more W budget quotas n (round_of W budg
 
 pub next_round : (n : ℕ) (m : Running) → after_round (after_rounds n m) ≡ after_rounds (n + 1) m
 next_round n m =
-    ap (λ (s : State Hart ConsoleState). running s m.code m.plan) (one_more (words_of m.code) m.plan.budget (quotas_of m.plan) n m.state)
+    ap (λ (s : State Hart ConsoleState). running s m.code m.plan m.opening) (one_more (words_of m.code) m.plan.budget (quotas_of m.plan) n m.state)
     ∙ ap (λ (k : ℕ). after_rounds k m) (omega arith)

@@ -252,3 +252,23 @@ round_over plan n hs gs p s t v c d es fs small tied size x =
       size = ap length x.table ∙ one.size;
       harts = ap length x.harts ∙ one.harts;
     }
+
+-- a round that goes on so is finished
+pub finished_from : (budget n : ℕ) (os : List Outcome) (gs : List Hart) (p ready after' s : Paged) (t u v : List (Option Span)) (c : ConsoleState) (es : List Event) (before behind : Roomed) (log : Turns) →
+    ready.memory ≡ p.memory → ((rs : List (HartRound Hart)) → AreOutcomes p.memory rs os → Committed rs ready after' t u) → before.console ≡ c →
+    TakesTurns (serial_done budget n (mask_of (waits_of os)) (harts_of os) after' u before) gs after' s v behind log →
+    IsFinished budget n os gs p s t v c behind.console es ((es ++ outcome_events n 0 os) ++ log_events n 0 log.closed)
+finished_from budget n os gs p ready after' s t u v c es before behind log kept committed console served = record {
+  ready = ready;
+  after = after';
+  table = u;
+  before = before;
+  behind = behind;
+  log = log;
+  kept = kept;
+  committed = committed;
+  console = console;
+  served = served;
+  shown = refl;
+  events = refl;
+}

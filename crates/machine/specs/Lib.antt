@@ -1,5 +1,4 @@
 pub mod Outcomes
-pub mod Traced
 pub mod Machine
 pub mod Held
 pub mod Rounds

@@ -8,10 +8,12 @@ use Rattle.hart_step.specs.declared.hart.Hart.{Hart}
 use Rattle.hart_step.specs.Console.{ConsoleState}
 use Rattle.hart_step.specs.Words.{words_of}
 
+-- the state, the ranges of code, the plan, and the bytes that memory opened with
 pub record Running : Type 0 where
   pub state : State Hart ConsoleState
   pub code : List Range
   pub plan : Planned
+  pub opening : List ℕ
 
 -- hart i of n before the first round: it begins at the entry, x10 is its number, x11 is the number of harts
 abbrev pub opening_hart : ℕ → ℕ → ℕ → Hart
@@ -28,6 +30,7 @@ opening image input plan = record {
   state = opening_state (opening_harts image.entry plan.harts 0 plan.harts) image.bytes (record { input = input; place = 0; output = [] });
   code = image.code;
   plan = plan;
+  opening = image.bytes;
 }
 
 -- the machine after one more round, and after n more

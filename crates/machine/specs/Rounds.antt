@@ -14,6 +14,7 @@ use Rattle.hart_step.specs.Words.{words_of}
 use Rattle.serial_phase.specs.Phase.{TakesTurns, serial_done}
 use Rattle.serial_phase.specs.Roomed.{Roomed}
 use Rattle.serial_phase.specs.Turns.{Turns}
+use Rattle.memory_order.specs.Traced.{IsTrace}
 use Rattle.machine.specs.declared.outcome.Outcome.{Outcome}
 use Rattle.machine.specs.Outcomes.{AreOutcomes, harts_of, mask_of, outcome_events, waits_of}
 
@@ -56,3 +57,8 @@ pub record IsFinished (budget n : ℕ) (os : List Outcome) (gs : List Hart) (p s
   pub served : TakesTurns (serial_done budget n (mask_of (waits_of os)) (harts_of os) after table before) gs after s v behind log
   pub shown : behind.console ≡ d
   pub events : fs ≡ (es ++ outcome_events n 0 os) ++ log_events n 0 log.closed
+
+-- whatever events a round ends with that goes on from these outcomes, they are a trace
+abbrev pub LeavesTrace : ℕ → ℕ → List Outcome → Paged → List (Option Span) → ConsoleState → List Event → Type 0
+LeavesTrace budget n os p t c es =
+    (gs : List Hart) (s : Paged) (v : List (Option Span)) (d : ConsoleState) (fs : List Event) → IsFinished budget n os gs p s t v c d es fs → IsTrace fs

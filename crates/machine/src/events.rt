@@ -1,9 +1,10 @@
 ghost use Rattle.std.specs.Prelude.{◌≡◌, ◌+◌, ◌*◌, ◌≤◌, ◌++◌, [], length, IfSome, drop};
 ghost use Rattle.round_schedule.specs.Desk.{log_events};
+ghost use Rattle.memory_order.specs.Traced.{IsTrace};
 ghost use Rattle.machine.specs.Outcomes.{count_accesses, count_log, outcome_events, turns_of, waits_of};
 
 use crate::outcome::Outcome;
-use crate::trace::Trace;
+use memory_order::Trace;
 use round_schedule::Phase;
 use serial_phase::SerialLog;
 
@@ -34,7 +35,9 @@ pub fn turns_needed(outcomes: &[Outcome], budget: u32) -> u32
 pub fn add_parallel(trace: &mut Trace, round: u32, first: u32, outcomes: &[Outcome])
     requires harts { first + length outcomes.now ≤ 64 }
     requires room { count_accesses outcomes.now ≤ trace.old.room }
+    requires sound { IsTrace (trace.old.events ++ outcome_events round first outcomes.now) }
     ensures events { trace.new.events ≡ trace.old.events ++ outcome_events round first outcomes.now }
+    ensures opening { trace.new.opening ≡ trace.old.opening }
     ensures room { trace.old.room ≤ trace.new.room + count_accesses outcomes.now }
 {
     match outcomes {
@@ -51,7 +54,9 @@ pub fn add_serial(trace: &mut Trace, round: u32, first: u32, left: u32, log: &Se
     requires harts { first + left ≡ length log.now.closed }
     requires few { length log.now.closed ≤ 64 }
     requires room { count_log (drop first log.now.closed) ≤ trace.old.room }
+    requires sound { IsTrace (trace.old.events ++ log_events round first (drop first log.now.closed)) }
     ensures events { trace.new.events ≡ trace.old.events ++ log_events round first (drop first log.now.closed) }
+    ensures opening { trace.new.opening ≡ trace.old.opening }
 {
     if left == 0 {
         return;

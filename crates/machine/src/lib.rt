@@ -13,12 +13,16 @@ mod room;
 mod round;
 mod running;
 mod settings;
-mod trace;
+mod tracing;
 mod waiting;
 
 pub use emulation::emulate;
 pub use machine::Machine;
+pub use memory_order::Trace;
 pub use outcome::Outcome;
 pub use running::RoundNote;
 pub use settings::{Format, Settings};
-pub use trace::Trace;
+pub use tracing::trace_run;
+
+#[cfg(test)]
+mod tests;

@@ -1,16 +1,17 @@
-ghost use Rattle.std.specs.Prelude.{◌≡◌, ◌<◌, ◌≤◌, length, slice_index, Some, None, IfOk, IfErr};
+ghost use Rattle.std.specs.Prelude.{◌≡◌, ℕ, ◌<◌, ◌≤◌, length, slice_index, Some, None, IfOk, IfErr};
+ghost use Rattle.pages.specs.Memory.{IsBytes};
 ghost use Rattle.host_io.specs.declared.error.RunError.TheVariants as refusals;
+ghost use Rattle.memory_order.specs.Traced.{opening_at};
 ghost use Rattle.machine.specs.Machine.{opening};
 
 use crate::opening::opening_harts;
-use crate::trace::Trace;
 use elf_loader::Image;
 use hart_step::Hart;
 use host_io::RunError;
+use memory_order::Trace;
 use pages::Pages;
 use reservations::Reservations;
 use round_planner::Plan;
-use round_schedule::Event;
 use serial_phase::{Console, SerialLog};
 use std::alloc::Global;
 use std::marker::Model;
@@ -29,14 +30,16 @@ pub struct Machine {
 }
 
 impl Model for Machine {
+    ghost use Rattle.std.specs.Prelude.{length};
     ghost use Rattle.machine.specs.Machine.{Running};
+    ghost use Rattle.memory_order.specs.Traced.{opening_bytes};
     ghost use Rattle.machine.specs.Held.{HoldsTogether};
 
     ghost Value = { Running };
 
-    ghost view = { λ m. record { state = record { harts = m.harts.items; bytes = m.pages.memory.bytes; console = m.console.console; trace = m.trace.events; rounds = m.rounds }; code = m.pages.memory.code; plan = m.plan } };
+    ghost view = { λ m. record { state = record { harts = m.harts.items; bytes = m.pages.memory.bytes; console = m.console.console; trace = m.trace.events; rounds = m.rounds }; code = m.pages.memory.code; plan = m.plan; opening = opening_bytes m.trace.opening (length m.pages.memory.bytes) } };
 
-    ghost invariant = { λ m. HoldsTogether m.harts.items m.plan.harts m.reservations m.trace.events };
+    ghost invariant = { λ m. HoldsTogether m.harts.items m.plan.harts m.reservations m.trace.events m.trace.opening (length m.pages.memory.bytes) m.rounds };
 }
 
 impl Machine {
@@ -58,7 +61,7 @@ impl Machine {
             pages,
             console: Console::new(alloc, input),
             log: SerialLog::new(alloc),
-            trace: Trace::new(alloc),
+            trace: Trace::new(alloc, image.into_pieces()),
             plan,
             rounds: 0,
         })
@@ -89,10 +92,27 @@ impl Machine {
         self.console.output()
     }
 
-    /// The events so far.
-    pub fn trace(&self) -> &[Event]
-        ensures { result.now ≡ self.now.state.trace }
+    /// The trace so far, over the bytes that memory opened with.
+    pub fn trace(&self) -> &Trace
+        ensures events { result.now.events ≡ self.now.state.trace }
+        ensures opening { (x : ℕ) → opening_at result.now.opening x ≡ slice_index self.now.opening x }
     {
-        self.trace.events()
+        &self.trace
+    }
+
+    /// The same trace, handed over.
+    pub fn into_trace(self) -> Trace
+        ensures events { result.events ≡ self.state.trace }
+        ensures opening { (x : ℕ) → opening_at result.opening x ≡ slice_index self.opening x }
+    {
+        let Machine { trace, .. } = self;
+        trace
+    }
+
+    /// Each byte of memory is a byte.
+    pub(crate) fn bytes_fit(&self)
+        ensures { IsBytes self.now.state.bytes }
+    {
+        self.pages.bytes_fit();
     }
 }

@@ -6,7 +6,7 @@ ghost use Rattle.machine.specs.Outcomes.{AreFit, AreReady, KeepsPages, count_acc
 use crate::events::total_accesses;
 use crate::outcome::Outcome;
 use crate::ready::make_ready;
-use crate::trace::Trace;
+use memory_order::Trace;
 use pages::{OutOfMemory, Pages};
 use serial_phase::{Console, SerialLog};
 
@@ -24,6 +24,7 @@ pub fn make_room(
     ensures keeps { KeepsPages pages.old pages.new }
     ensures console { console.new.console ≡ console.old.console }
     ensures trace { trace.new.events ≡ trace.old.events }
+    ensures opening { trace.new.opening ≡ trace.old.opening }
     ensures ready { OnOk result (AreReady pages.new outcomes.now) }
     ensures spares { OnOk result (HasSpares turns pages.new) }
     ensures output { OnOk result (HasRoom turns console.new) }

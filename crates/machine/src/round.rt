@@ -5,15 +5,16 @@ ghost use Rattle.hart_step.specs.Words.{words_of};
 ghost use Rattle.machine.specs.Machine.{count_waiting};
 ghost use Rattle.hart_step.specs.CodeTables.{Shows};
 ghost use Rattle.machine.specs.Outcomes.{AreFit, count_true, harts_of, waits_of};
-ghost use Rattle.machine.specs.Rounds.{IsAsBefore, IsFinished, IsRoundDone, next_parts};
+ghost use Rattle.memory_order.specs.Traced.{IsTrace};
+ghost use Rattle.machine.specs.Rounds.{IsAsBefore, IsFinished, IsRoundDone, LeavesTrace, next_parts};
 
 use crate::commit::commit;
 use crate::events::{add_parallel, add_serial, turns_needed};
 use crate::outcome::{Outcome, outcomes_of};
 use crate::room::make_room;
-use crate::trace::Trace;
 use crate::waiting::{harts_after, waiting_count, waiting_mask};
 use hart_step::{CodeTable, Hart};
+use memory_order::Trace;
 use pages::{OutOfMemory, Pages};
 use reservations::Reservations;
 use round_planner::Plan;
@@ -38,7 +39,9 @@ pub fn do_round(
     requires harts { length harts.old.items ≡ plan.now.harts }
     requires size { length reservations.old ≡ length harts.old.items }
     requires done { done + 1 < 2 ^ 32 }
+    requires sound { IsTrace (next_parts plan.now done harts.old.items pages.old reservations.old console.old.console trace.old.events).state.trace }
     ensures ok { OnOk result (IsRoundDone (next_parts plan.now done harts.old.items pages.old reservations.old console.old.console trace.old.events) harts.new.items pages.old pages.new reservations.new console.new.console trace.new.events) }
+    ensures opening { trace.new.opening ≡ trace.old.opening }
     ensures waited { IfOk result (λ n. n ≡ count_waiting (hart_rounds (words_of pages.old.memory.code) pages.old.memory.bytes (quotas_of plan.now done) harts.old.items)) }
     ensures err { OnErr result (IsAsBefore harts.old.items harts.new.items pages.old pages.new reservations.old reservations.new console.old.console console.new.console trace.old.events trace.new.events) }
 {
@@ -81,7 +84,9 @@ fn finish(
     requires harts { harts.old ≡ harts_of outcomes.now }
     requires size { length reservations.old ≡ length outcomes.now }
     requires budget { budget ≤ 1000 }
+    requires sound { LeavesTrace budget round outcomes.now pages.old reservations.old console.old.console trace.old.events }
     ensures ok { OnOk result (IsFinished budget round outcomes.now harts.new pages.old pages.new reservations.old reservations.new console.old.console console.new.console trace.old.events trace.new.events) }
+    ensures opening { trace.new.opening ≡ trace.old.opening }
     ensures waited { IfOk result (λ n. n ≡ count_true (waits_of outcomes.now)) }
     ensures memory { OnErr result (pages.new.memory ≡ pages.old.memory) }
     ensures reservations { OnErr result (reservations.new ≡ reservations.old) }

@@ -51,8 +51,12 @@ impl Machine {
             return Err(RunError::RoundsExhausted);
         }
         self.pages.bytes_fit();
-        // At most 64.
+        // The types keep: at most 64 harts with quotas in range, a budget of at most 1,000, at most 16,384 pages, and
+        // events that are a trace.
         let _harts = self.plan.harts();
+        let _budget = self.plan.budget();
+        let _pages = self.pages.count();
+        let _events = self.trace.events();
         let table = round_table(&self.pages, self.plan.quota(self.rounds + 1, 0))?;
         let waited = do_round(
             &mut self.pages,

@@ -1,8 +1,10 @@
 pub mod Facts
 pub mod RoundOrders
 pub mod RunForms
+pub mod Growing
 pub mod Lasting
 pub mod Meeting
+pub mod Openings
 pub mod Placing
 pub mod Sorting
 mod Ranking

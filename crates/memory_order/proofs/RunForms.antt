@@ -1,5 +1,5 @@
 -- Each event of a run has the form of its kind, and places rise.
-use Rattle.std.proofs.Common.{◌<◌, ◌^◌, ◌*◌, ◌≡◌, ℕ, zero, suc, ◌+◌, ◌≤◌, Bool, true, false, if◌then◌else◌, List, [], ◌∷◌, ◌++◌, length, All, Option, Some, None, option_to_list, refl, ◌∙◌, subst, arith}
+use Rattle.std.proofs.Common.{◌<◌, ◌^◌, ◌*◌, ◌≡◌, ℕ, zero, suc, ◌+◌, ◌≤◌, Bool, true, false, if◌then◌else◌, List, [], ◌∷◌, ◌++◌, length, All, Option, Some, None, option_to_list, refl, subst, arith}
 use Rattle.std.proofs.lemmas.List.Elements.{All-append, All-cons, All-head, All-push}
 use Rattle.pages.specs.declared.access.Store.{Store}
 use Rattle.pages.specs.Memory.{IsBytes, after}
@@ -14,11 +14,11 @@ use Rattle.round_schedule.specs.declared.event.Phase.TheVariants.{Parallel, Seri
 use Rattle.round_schedule.specs.Events.{event_of, events_of}
 use Rattle.round_schedule.specs.Held.{held}
 use Rattle.round_schedule.specs.Schedule.{HartRound, Progress, State, Turn, Words, all_stores, began, by_answer, committed, ended, events_from, first_or_zero, hart_round_of, hart_rounds, joined, next_of, opening_state, rest_of, round_from, round_of, run_of, serial_from, serial_next, turn_from, turn_of, turned, went}
+use Rattle.round_schedule.specs.Places.{Placed}
 use Rattle.round_schedule.specs.Sound.{Counts}
-use Rattle.round_schedule.proofs.Phases.{All-weaker}
-use Rattle.round_schedule.proofs.Rising.{rising}
+use Rattle.round_schedule.proofs.Rising.{places_kept, rising}
 use Rattle.hart_step.specs.Forms.{Formed, Forms}
-use Rattle.memory_order.specs.Traced.{HasForm, IsTrace}
+use Rattle.memory_order.specs.Traced.{IsTrace}
 
 -- an access below a limit is one below a greater limit
 pub formed_below : (limit most : ℕ) → limit ≤ most → (a : Access) → Formed limit a → Formed most a
@@ -36,13 +36,13 @@ module _ {H C : Type 0} (w : Words H C) (forms : Forms w) (limit : ℕ) where
   AreFormed : List Access → Type 0
   AreFormed as' = All (λ (a : Access). Formed limit a) as'
 
-  -- so many bytes
+  -- bytes, at most so many
   record Sized (bs : List ℕ) : Type 0 where
     pub bytes : IsBytes bs
-    pub size : length bs ≡ limit
+    pub size : length bs ≤ limit
 
   sized_after : (bs : List ℕ) (ss : List Store) → Sized bs → Sized (after bs ss)
-  sized_after bs ss h = record { bytes = bytes_after bs ss h.bytes; size = length-after bs ss ∙ h.size }
+  sized_after bs ss h = record { bytes = bytes_after bs ss h.bytes; size = omega (arith, length-after bs ss, h.size) }
 
   one_formed : (as' : List Access) (a : Option Access) → AreFormed as' → ((b : Access) → a ≡ Some b → Formed limit b) → AreFormed (as' ++ option_to_list a)
   unfolding AreFormed
@@ -61,7 +61,7 @@ module _ {H C : Type 0} (w : Words H C) (forms : Forms w) (limit : ℕ) where
       ((q : Progress H) → AreFormed q.accesses → AreFormed (f q).last.accesses) → AreFormed p.accesses → AreFormed (by_answer y p (next_of w bs p) f).last.accesses
   round_answered bs sized p f (Done a) is rest h =
       let now : Sized (after bs p.stores) = sized_after bs p.stores sized in
-      rest (went p (next_of w bs p) a) (one_formed p.accesses a h (λ b e. subst (λ l. Formed l b) now.size
+      rest (went p (next_of w bs p) a) (one_formed p.accesses a h (λ b e. formed_below (length (after bs p.stores)) limit now.size b
       (forms.step_forms p.hart (after bs p.stores) b now.bytes (subst (λ (o : Option Access). (next_of w bs p).answer ≡ Done o) e is))))
   round_answered bs sized p f Waits is rest h = h
   round_answered bs sized p f (Stopped code) is rest h = h
@@ -103,7 +103,7 @@ module _ {H C : Type 0} (w : Words H C) (forms : Forms w) (limit : ℕ) where
       rest _ (record {
         formed = All-append (λ (e : Event). Formed limit e.access) p.trace (events_of n i Serial (option_to_list a)) h.formed
             (events_formed n i Serial (option_to_list a)
-            (one_formed [] a none_formed (λ b e. subst (λ l. Formed l b) h.sized.size
+            (one_formed [] a none_formed (λ b e. formed_below (length p.bytes) limit h.sized.size b
             (forms.serial_forms n p.hart p.bytes p.console (held i p.trace) b h.sized.bytes (subst (λ (o : Option Access). (serial_next w n i p).answer ≡ Done o) e is)))));
         sized = sized_after p.bytes (serial_next w n i p).stores h.sized;
       })
@@ -143,21 +143,27 @@ module _ {H C : Type 0} (w : Words H C) (forms : Forms w) (limit : ℕ) where
   run_formed budget quotas zero s h = h
   run_formed budget quotas (suc n) s h = run_formed budget quotas n (round_of w budget quotas s) (one_round_formed budget quotas s h)
 
-  whole_run_formed : (budget : ℕ) (quotas : ℕ → List ℕ) (n : ℕ) (hs : List H) (bs : List ℕ) (c : C) → IsBytes bs → length bs ≡ limit →
-      All (λ (e : Event). Formed limit e.access) (run_of w budget quotas n (opening_state hs bs c)).trace
-  unfolding AllFormed
-  whole_run_formed budget quotas n hs bs c bytes size =
-      (run_formed budget quotas n (opening_state hs bs c) (record { formed = λ k d l. absurd (omega (arith, l)); sized = record { bytes = bytes; size = size } })).formed
-
-pub run_forms : {H C : Type 0} (w : Words H C) → Forms w → (budget : ℕ) (quotas : ℕ → List ℕ) (n : ℕ) (hs : List H) (bs : List ℕ) (c : C) → IsBytes bs →
-    All (λ (e : Event). Formed (length bs) e.access) (run_of w budget quotas n (opening_state hs bs c)).trace
-run_forms w forms budget quotas n hs bs c bytes = whole_run_formed w forms (length bs) budget quotas n hs bs c bytes refl
+pub run_forms : {H C : Type 0} (w : Words H C) → Forms w → (limit budget : ℕ) (quotas : ℕ → List ℕ) (n : ℕ) (hs : List H) (bs : List ℕ) (c : C) → IsBytes bs → length bs ≤ limit →
+    All (λ (e : Event). Formed limit e.access) (run_of w budget quotas n (opening_state hs bs c)).trace
+unfolding AllFormed
+run_forms w forms limit budget quotas n hs bs c bytes size =
+    (run_formed w forms limit budget quotas n (opening_state hs bs c) (record { formed = λ k d l. absurd (omega (arith, l)); sized = record { bytes = bytes; size = size } })).formed
 
 -- what Trace::of takes
 pub leaves_trace : {H C : Type 0} (w : Words H C) (done : H → ℕ) → Forms w → Counts w done → (budget most : ℕ) (quotas : ℕ → List ℕ) → ((m : ℕ) → All (λ q. q ≤ most) (quotas m)) →
     (n : ℕ) (hs : List H) (bs : List ℕ) (c : C) → IsBytes bs → length bs ≤ 2 ^ 32 → All (λ h. done h ≡ 0) hs → n * (most + budget) < 2 ^ 64 →
     IsTrace (run_of w budget quotas n (opening_state hs bs c)).trace
 leaves_trace {H} {C} w done forms counts budget most quotas low n hs bs c bytes size none small = record {
-  formed = All-weaker (λ (e : Event). Formed (length bs) e.access) HasForm (λ e h. formed_below (length bs) (2 ^ 32) size e.access h) (run_of w budget quotas n (opening_state hs bs c)).trace (run_forms w forms budget quotas n hs bs c bytes);
+  formed = run_forms w forms (2 ^ 32) budget quotas n hs bs c bytes size;
   rising = rising H C w done counts budget most quotas low n hs bs c none small;
+}
+
+-- the same of one more round
+pub round_leaves_trace : {H C : Type 0} (w : Words H C) (done : H → ℕ) → Forms w → Counts w done → (last most budget : ℕ) (quotas : ℕ → List ℕ) (s : State H C) →
+    ((m : ℕ) → All (λ q. q ≤ most) (quotas m)) → last + most + budget < 2 ^ 64 → IsBytes s.bytes → length s.bytes ≤ 2 ^ 32 → IsTrace s.trace → Placed done last s.harts s.trace →
+    IsTrace (round_of w budget quotas s).trace
+unfolding AllFormed
+round_leaves_trace w done forms counts last most budget quotas s low small bytes size t p = record {
+  formed = (one_round_formed w forms (2 ^ 32) budget quotas s (record { formed = t.formed; sized = record { bytes = bytes; size = size } })).formed;
+  rising = (places_kept w done counts last most budget quotas s low small p).rising;
 }

@@ -1,5 +1,6 @@
 -- Traces as callers see them: events whose accesses have their forms and whose places rise, over opening bytes.
-use Rattle.std.specs.Prelude.{◌≡◌, ℕ, ◌-◌, ◌<◌, ◌^◌, if◌then◌else◌, List, [], ◌∷◌, length, slice_index, All}
+use Rattle.std.specs.Prelude.{◌≡◌, ℕ, ◌-◌, ◌<◌, ◌^◌, if◌then◌else◌, List, [], ◌∷◌, length, map, slice_index, All}
+use Rattle.std.specs.List.{range_with_len}
 use Rattle.pages.specs.declared.access.Piece.{Piece}
 use Rattle.pages.specs.Memory.{in_range}
 use Rattle.round_schedule.specs.declared.event.Event.{Event}
@@ -20,6 +21,10 @@ laid p = record { start = p.start; bytes = p.bytes.items }
 abbrev pub opening_at : List Laid → ℕ → ℕ
 opening_at [] x = 0
 opening_at (p ∷ ps) x = if in_range p.start (length p.bytes) x then slice_index p.bytes (x - p.start) else opening_at ps x
+
+-- the bytes of the first n addresses
+unfoldable pub opening_bytes : List Laid → ℕ → List ℕ
+opening_bytes ps n = map (opening_at ps) (range_with_len 0 n)
 
 -- the bytes that memory opened with, the events so far, and the room that is reserved for more
 pub record Traced : Type 0 where

@@ -153,7 +153,7 @@ fn a_trace_grows_and_is_copied(rt: HostRuntime) {
         bytes: vec![in alloc; 7, 8].expect(&rt, "memory"),
     };
     let pieces = vec![in alloc; piece].expect(&rt, "memory");
-    let mut trace = Trace::of(pieces, Vec::new(alloc)).expect(&rt, "a trace");
+    let mut trace = Trace::new(alloc, pieces);
     let fence = Event {
         access: Access::Fence {
             before: BOTH,

@@ -1,11 +1,12 @@
 ghost use Rattle.std.specs.Prelude.{◌≡◌, ℕ, ◌-◌, ◌+◌, ◌<◌, ◌≤◌, ◌↔◌, [], ◌∷◌, ◌++◌, length, map, slice_index, true, false, MatchOption, IfOk, IfSome, IsSome, OnOk};
 ghost use Rattle.pages.specs.Memory.{in_range};
+ghost use Rattle.round_schedule.specs.Events.{events_of};
 ghost use Rattle.memory_order.specs.Traced.{HasForm, IsTrace, StandsAbove, laid, opening_at};
 
 use crate::form::all_have_forms;
 use crate::rising::places_rise;
 use pages::{OutOfMemory, Piece};
-use round_schedule::Event;
+use round_schedule::{Access, Event, Phase};
 use std::alloc::Global;
 use std::marker::Model;
 
@@ -47,6 +48,17 @@ impl Trace {
         }
     }
 
+    /// The trace that has no event yet, over memory that opened with these pieces. This takes no memory.
+    pub fn new(alloc: Global, opening: Vec<Piece>) -> Trace
+        ensures events { result.events ≡ [] }
+        ensures opening { result.opening ≡ map laid opening.items }
+    {
+        Trace {
+            opening,
+            events: Vec::new(alloc),
+        }
+    }
+
     /// Makes room for so many further events.
     pub fn reserve(&mut self, n: usize) -> Result<(), OutOfMemory>
         ensures events { self.new.events ≡ self.old.events }
@@ -69,6 +81,24 @@ impl Trace {
         ensures room { self.old.room ≤ self.new.room + 1 }
     {
         self.events.push(event).unwrap();
+    }
+
+    /// Adds the accesses of a hart in one phase of a round.
+    pub fn extend(&mut self, round: u32, hart: u32, phase: Phase, accesses: &[Access])
+        requires room { length accesses.now ≤ self.old.room }
+        requires sound { IsTrace (self.old.events ++ events_of round hart phase accesses.now) }
+        ensures events { self.new.events ≡ self.old.events ++ events_of round hart phase accesses.now }
+        ensures opening { self.new.opening ≡ self.old.opening }
+        ensures room { self.old.room ≤ self.new.room + length accesses.now }
+    {
+        for access in accesses {
+            self.push(Event {
+                access: *access,
+                round,
+                hart,
+                phase,
+            });
+        }
     }
 
     /// The events so far.

@@ -2,7 +2,7 @@
 use Rattle.std.proofs.Common.{◌≡◌, ◌≢◌, ℕ, zero, suc, ◌+◌, ◌*◌, ◌%◌, ◌^◌, ◌<◌, ◌≤◌, ◌==◌, Bool, true, false, if◌then◌else◌, List, [], ◌∷◌, ◌++◌, length, All, Option, Some, None, option_to_list, refl, sym, ◌∙◌, ap, subst, inl, inr, ◌⊎◌, arith, append_assoc, append-nil}
 use Rattle.std.proofs.lemmas.Bool.{cases_lt, cases_eq}
 use Rattle.std.proofs.lemmas.Bool.Decides.{nat_tests}
-use Rattle.std.proofs.lemmas.List.Elements.{All-head, All-push}
+use Rattle.std.proofs.lemmas.List.Elements.{All-cons, All-head, All-push}
 use Rattle.pages.specs.Memory.{after}
 use Rattle.round_schedule.specs.declared.access.Access.{Access}
 use Rattle.round_schedule.specs.declared.access.Stepped.{Stepped}
@@ -13,7 +13,7 @@ use Rattle.round_schedule.specs.declared.event.Phase.TheVariants.{Parallel, Seri
 use Rattle.round_schedule.specs.Accesses.{place_of}
 use Rattle.round_schedule.specs.Events.{event_of, events_of}
 use Rattle.round_schedule.specs.Held.{held}
-use Rattle.round_schedule.specs.Places.{PlacesOfRunsRise, PlacesRise}
+use Rattle.round_schedule.specs.Places.{Placed, PlacesOfRunsRise, PlacesRise, count_at}
 use Rattle.round_schedule.specs.Positions.{event, no_event}
 use Rattle.round_schedule.specs.Schedule.{HartRound, Progress, State, Turn, Words, began, by_answer, committed, ended, events_from, first_or_zero, hart_round_of, hart_rounds, joined, next_of, opening_state, rest_of, round_from, round_of, run_of, serial_from, serial_next, turn_from, turned, went}
 use Rattle.round_schedule.specs.Sound.{Counts, IsPlacedAt, counted}
@@ -181,6 +181,7 @@ module _ {H C : Type 0} (w : Words H C) (done : H → ℕ) (counts : Counts w do
     steady : Steady t counts_now
     rounds : Rounds last counts_now i rs
     before : (j : ℕ) → j < i → counts_now j ≡ d j
+    beyond : (j : ℕ) → i + length rs ≤ j → counts_now j ≡ d j
 
   set_back : (d : ℕ → ℕ) (i v : ℕ) (t : List Event) → d i ≡ v → Steady t d → Steady t (set_at d i v)
   set_back d i v t e s = steady_grows t d (set_at d i v) (λ j. by_hart j (cases_eq j i)) s
@@ -200,7 +201,7 @@ module _ {H C : Type 0} (w : Words H C) (done : H → ℕ) (counts : Counts w do
   rounds_rise : (bs : List ℕ) (last most : ℕ) (d : ℕ → ℕ) (t : List Event) (n i : ℕ) (qs : List ℕ) (hs : List H) → last + most < 2 ^ 64 → All (λ q. q ≤ most) qs → Steady t d → Linked last d i hs →
       Rose (last + most) d (t ++ events_from n i (hart_rounds w bs qs hs)) i (hart_rounds w bs qs hs)
   unfolding Linked Rounds
-  rounds_rise bs last most d t n i qs [] small low s l = record { counts_now = d; steady = subst (λ (x : List Event). Steady x d) (sym (append-nil t)) s; rounds = tt; before = λ j k. refl }
+  rounds_rise bs last most d t n i qs [] small low s l = record { counts_now = d; steady = subst (λ (x : List Event). Steady x d) (sym (append-nil t)) s; rounds = tt; before = λ j k. refl; beyond = λ j k. refl }
   rounds_rise bs last most d t n i qs (h ∷ hs) small low s l =
       let one : HartRound H = hart_round_of w bs (first_or_zero qs) h in
       let v : ℕ = done one.last.hart in
@@ -219,6 +220,7 @@ module _ {H C : Type 0} (w : Words H C) (done : H → ℕ) (counts : Counts w do
         steady = subst (λ (x : List Event). Steady x rest.counts_now) (append_assoc t es (events_from n (suc i) (hart_rounds w bs (rest_of qs) hs))) rest.steady;
         rounds = (rest.before i (omega arith) ∙ at_same d i v i refl, omega (arith, went_on.room), rest.rounds);
         before = λ j k. rest.before j (omega (arith, k)) ∙ at_other d i v j (λ o. absurd (omega (arith, k, o)));
+        beyond = λ j k. rest.beyond j (omega (arith, k)) ∙ at_other d i v j (λ o. absurd (omega (arith, k, o)));
       }
 
   -- ---- the serial phase
@@ -265,6 +267,7 @@ module _ {H C : Type 0} (w : Words H C) (done : H → ℕ) (counts : Counts w do
     counts_now : ℕ → ℕ
     steady : Steady s.trace counts_now
     linked : Linked last counts_now 0 s.harts
+    past : (j : ℕ) → length s.harts ≤ j → counts_now j ≡ 0
 
   within_budget : (budget : ℕ) (b : Bool) → (if b then budget else 0) ≤ budget
   within_budget budget true = omega arith
@@ -275,10 +278,10 @@ module _ {H C : Type 0} (w : Words H C) (done : H → ℕ) (counts : Counts w do
   length_pushed (y ∷ ys) x = ap (λ (j : ℕ). suc j) (length_pushed ys x)
 
   serial_rises : (last budget i : ℕ) (rs : List (HartRound H)) (s : State H C) (d : ℕ → ℕ) → last + budget < 2 ^ 64 → length s.harts ≡ i → Steady s.trace d → Linked (last + budget) d 0 s.harts → Rounds last d i rs →
-      Kept (last + budget) (serial_from w budget i rs s)
+      ((j : ℕ) → i + length rs ≤ j → d j ≡ 0) → Kept (last + budget) (serial_from w budget i rs s)
   unfolding Rounds
-  serial_rises last budget i [] s d small many st l r = record { counts_now = d; steady = st; linked = l }
-  serial_rises last budget i (r ∷ rs) s d small many st l rd =
+  serial_rises last budget i [] s d small many st l r none = record { counts_now = d; steady = st; linked = l; past = λ j m. none j (omega (arith, m, many)) }
+  serial_rises last budget i (r ∷ rs) s d small many st l rd none =
       let k : ℕ = if r.waits then budget else 0 in
       let start : Turn H C = record { hart = r.last.hart; bytes = s.bytes; console = s.console; trace = s.trace } in
       let p : Turn H C = turn_from w s.rounds i k start in
@@ -289,12 +292,17 @@ module _ {H C : Type 0} (w : Words H C) (done : H → ℕ) (counts : Counts w do
       (linked_push (last + budget) e 0 s.harts p.hart (linked_same (last + budget) d e 0 s.harts (λ j m o. at_other d i (done p.hart) j (λ x. absurd (omega (arith, o, x, many)))) l)
       (at_same d i (done p.hart) (0 + length s.harts) (omega (arith, many))) (omega (arith, g.room)))
       (rounds_same last d e (suc i) rs (λ j m. at_other d i (done p.hart) j (λ x. absurd (omega (arith, m, x)))) rd.2)
+      (λ j m. at_other d i (done p.hart) j (λ x. absurd (omega (arith, m, x))) ∙ none j (omega (arith, m)))
 
   -- ---- rounds and runs
 
   no_harts : (most : ℕ) (d : ℕ → ℕ) → Linked most d 0 []
   unfolding Linked
   no_harts most d = tt
+
+  length-rounds : (bs qs : List ℕ) (hs : List H) → length (hart_rounds w bs qs hs) ≡ length hs
+  length-rounds bs qs [] = refl
+  length-rounds bs qs (h ∷ hs) = ap (λ (j : ℕ). suc j) (length-rounds bs (rest_of qs) hs)
 
   round_kept : (last most budget : ℕ) (quotas : ℕ → List ℕ) (s : State H C) → ((m : ℕ) → All (λ q. q ≤ most) (quotas m)) → last + most + budget < 2 ^ 64 → Kept last s →
       Kept (last + most + budget) (round_of w budget quotas s)
@@ -304,6 +312,7 @@ module _ {H C : Type 0} (w : Words H C) (done : H → ℕ) (counts : Counts w do
       let rose : Rose (last + most) k.counts_now (s.trace ++ events_from (s.rounds + 1) 0 rs) 0 rs =
       rounds_rise s.bytes last most k.counts_now s.trace (s.rounds + 1) 0 (quotas s.rounds) s.harts (omega (arith, small)) (low s.rounds) k.steady k.linked in
       serial_rises (last + most) budget 0 rs (committed s rs) rose.counts_now small refl rose.steady (no_harts (last + most + budget) rose.counts_now) rose.rounds
+      (λ j m. rose.beyond j m ∙ k.past j (omega (arith, m, length-rounds s.bytes (quotas s.rounds) s.harts)))
 
   run_rises : (last most budget : ℕ) (quotas : ℕ → List ℕ) (n : ℕ) (s : State H C) → ((m : ℕ) → All (λ q. q ≤ most) (quotas m)) → last + n * (most + budget) < 2 ^ 64 → Kept last s →
       PlacesRise (run_of w budget quotas n s).trace
@@ -328,7 +337,59 @@ module _ {H C : Type 0} (w : Words H C) (done : H → ℕ) (counts : Counts w do
         counts_now = λ j. 0;
         steady = record { rises = λ i j l m. absurd (omega (arith, m)); below = λ k d l. absurd (omega (arith, l)) };
         linked = linked_start 0 hs zero_done;
+        past = λ j l. refl;
       })
+
+  -- ---- the same, told by the harts alone
+
+  linked_from : (most : ℕ) (d : ℕ → ℕ) (i : ℕ) (hs : List H) → ((k : ℕ) → d (i + k) ≡ count_at done hs k) → All (λ (h : H). done h ≤ most) hs → Linked most d i hs
+  unfolding Linked
+  linked_from most d i [] same low = tt
+  linked_from most d i (h ∷ hs) same low =
+      let here : i + 0 ≡ i = omega arith in (
+        sym (ap d here) ∙ same 0,
+        All-head (λ (x : H). done x ≤ most) h hs low,
+        linked_from most d (suc i) hs (λ k. let next : suc i + k ≡ i + suc k = omega arith in ap d next ∙ same (suc k)) (All-tail (λ (x : H). done x ≤ most) h hs low),
+      )
+
+  linked_at : (most : ℕ) (d : ℕ → ℕ) (i : ℕ) (hs : List H) → Linked most d i hs → ((j : ℕ) → i + length hs ≤ j → d j ≡ 0) → (k : ℕ) → d (i + k) ≡ count_at done hs k
+  unfolding Linked
+  linked_at most d i [] l none k = none (i + k) (omega arith)
+  linked_at most d i (h ∷ hs) l none zero = let here : i + 0 ≡ i = omega arith in ap d here ∙ l.0
+  linked_at most d i (h ∷ hs) l none (suc k) =
+      let next : i + suc k ≡ suc i + k = omega arith in ap d next ∙ linked_at most d (suc i) hs l.2 (λ j m. none j (omega (arith, m))) k
+
+  linked_low : (most : ℕ) (d : ℕ → ℕ) (i : ℕ) (hs : List H) → Linked most d i hs → All (λ (h : H). done h ≤ most) hs
+  unfolding Linked
+  linked_low most d i [] l = λ k x m. absurd (omega (arith, m))
+  linked_low most d i (h ∷ hs) l = All-cons (λ (x : H). done x ≤ most) h hs l.1 (linked_low most d (suc i) hs l.2)
+
+  none_past : (hs : List H) (j : ℕ) → length hs ≤ j → count_at done hs j ≡ 0
+  none_past [] j m = refl
+  none_past (h ∷ hs) zero m = absurd (omega (arith, m))
+  none_past (h ∷ hs) (suc j) m = none_past hs j (omega (arith, m))
+
+  kept_placed : (last most budget : ℕ) (quotas : ℕ → List ℕ) (s : State H C) → ((m : ℕ) → All (λ q. q ≤ most) (quotas m)) → last + most + budget < 2 ^ 64 → Placed done last s.harts s.trace →
+      Placed done (last + most + budget) (round_of w budget quotas s).harts (round_of w budget quotas s).trace
+  kept_placed last most budget quotas s low small p =
+      let k : Kept (last + most + budget) (round_of w budget quotas s) = round_kept last most budget quotas s low small (record {
+        counts_now = count_at done s.harts;
+        steady = record { rises = p.rising; below = p.below };
+        linked = linked_from last (count_at done s.harts) 0 s.harts (λ j. ap (count_at done s.harts) (omega arith)) p.counts;
+        past = none_past s.harts;
+      }) in
+      let same : (j : ℕ) → k.counts_now j ≡ count_at done (round_of w budget quotas s).harts j = λ j. ap k.counts_now (omega arith) ∙ linked_at (last + most + budget) k.counts_now 0 (round_of w budget quotas s).harts k.linked (λ i m. k.past i (omega (arith, m))) j in
+      record {
+        rising = k.steady.rises;
+        below = All-weaker (λ (f : Event). place_of f.access < k.counts_now f.hart) (λ (f : Event). place_of f.access < count_at done (round_of w budget quotas s).harts f.hart)
+            (λ f h. omega (arith, h, same f.hart)) (round_of w budget quotas s).trace k.steady.below;
+        counts = linked_low (last + most + budget) k.counts_now 0 (round_of w budget quotas s).harts k.linked;
+      }
+
+-- places stay below their harts' counts over a round
+pub places_kept : {H C : Type 0} (w : Words H C) (done : H → ℕ) → Counts w done → (last most budget : ℕ) (quotas : ℕ → List ℕ) (s : State H C) → ((m : ℕ) → All (λ q. q ≤ most) (quotas m)) →
+    last + most + budget < 2 ^ 64 → Placed done last s.harts s.trace → Placed done (last + most + budget) (round_of w budget quotas s).harts (round_of w budget quotas s).trace
+places_kept w done counts last most budget quotas s low small p = kept_placed w done counts last most budget quotas s low small p
 
 pub rising : (H C : Type 0) → PlacesOfRunsRise H C
 rising H C = λ w done counts budget most quotas low n hs bs c zero_done small. places w done counts budget most quotas low n hs bs c zero_done small

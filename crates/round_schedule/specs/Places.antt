@@ -1,5 +1,5 @@
 -- What the events of a run keep beside being a round trace: places rise, and each access is as its instruction left it.
-use Rattle.std.specs.Prelude.{◌≡◌, ℕ, ◌+◌, ◌*◌, ◌^◌, ◌<◌, ◌≤◌, Bool, true, List, length, All, Option, Some}
+use Rattle.std.specs.Prelude.{◌≡◌, ℕ, zero, suc, ◌+◌, ◌*◌, ◌^◌, ◌<◌, ◌≤◌, Bool, true, List, [], ◌∷◌, length, All, Option, Some}
 use Rattle.round_schedule.specs.declared.access.Access.{Access}
 use Rattle.round_schedule.specs.declared.access.Stepped.TheVariants.{Done}
 use Rattle.round_schedule.specs.declared.event.Event.{Event}
@@ -20,6 +20,18 @@ PlacesOfRunsRise H C =
     (w : Words H C) (done : H → ℕ) → Counts w done → (budget most : ℕ) (quotas : ℕ → List ℕ) → ((m : ℕ) → All (λ q. q ≤ most) (quotas m)) →
     (n : ℕ) (hs : List H) (bs : List ℕ) (c : C) → All (λ h. done h ≡ 0) hs → n * (most + budget) < 2 ^ 64 →
     PlacesRise (run_of w budget quotas n (opening_state hs bs c)).trace
+
+-- a hart's count by its number; 0 where there is no such hart
+abbrev pub count_at : {H : Type 0} → (H → ℕ) → List H → ℕ → ℕ
+count_at done [] j = 0
+count_at done (h ∷ hs) zero = done h
+count_at done (h ∷ hs) (suc j) = count_at done hs j
+
+-- places rise, each is below its hart's count, and no count is above the bound
+pub record Placed {H : Type 0} (done : H → ℕ) (most : ℕ) (hs : List H) (t : List Event) : Type 0 where
+  pub rising : PlacesRise t
+  pub below : All (λ (f : Event). place_of f.access < count_at done hs f.hart) t
+  pub counts : All (λ (h : H). done h ≤ most) hs
 
 -- each access that an instruction leaves passes the test
 pub record AllPass {H C : Type 0} (w : Words H C) (test : Access → Bool) : Type 0 where

@@ -4,6 +4,7 @@ use Rattle.round_schedule.specs.Schedule.{hart_rounds}
 use Rattle.round_planner.specs.Quotas.{quotas_of}
 use Rattle.hart_step.specs.declared.hart.Hart.{Hart}
 use Rattle.hart_step.specs.Words.{words_of}
+use Rattle.memory_order.specs.Traced.{IsTrace}
 use Rattle.machine.specs.declared.outcome.Outcome.{Outcome}
 use Rattle.machine.specs.Outcomes.{AreFit, AreOutcomes, harts_of}
 use Rattle.machine.specs.Rounds.{IsFinished, IsRoundDone, next_parts}
@@ -19,12 +20,18 @@ finish-requires c =
     let a = c.in_ok-outcomes.ensures in
     let size : length c.deref.result.now ≡ length os = sym (length-rounds (words_of m.code) m.bytes (quotas_of c.args.plan.now (c.args.done + 1 - 1)) c.deref.result.now) ∙ same_length m _ os a in
     let harts : length os ≡ length c.args.harts.now.items = sym size ∙ ap length c.deref.ensures.value in
+    let less : c.args.done + 1 - 1 ≡ c.args.done = omega arith in
+    let rounds = subst (λ (hs : List Hart). AreOutcomes m (hart_rounds (words_of m.code) m.bytes (quotas_of c.args.plan.now c.args.done) hs) c.deref-3.result.now) c.deref.ensures.value
+    (subst (λ (n : ℕ). AreOutcomes m (hart_rounds (words_of m.code) m.bytes (quotas_of c.args.plan.now n) c.deref.result.now) c.deref-3.result.now) less
+    (subst (λ (x : List Outcome). AreOutcomes m (hart_rounds (words_of m.code) m.bytes (quotas_of c.args.plan.now (c.args.done + 1 - 1)) c.deref.result.now) x) (sym c.deref-3.ensures.value) c.in_ok-outcomes.ensures)) in
     record {
       few = omega (arith, ap length same, harts, c.requires.harts, c.harts-harts.ensures.harts, c.harts-harts.ensures.few_harts);
       fits = subst (λ (x : List Outcome). AreFit m x) (sym same) (are_fit m _ os a);
       harts = c.deref_mut.ensures.value ∙ c.in_ok-turned.ensures ∙ ap harts_of (c.deref-2.ensures.value ∙ sym same);
       size = c.requires.size ∙ sym harts ∙ sym (ap length same);
       budget = c.budget-budget.ensures.few_budget;
+      sound = λ gs s v d fs f. subst IsTrace (sym (finished_done c.args.plan.now c.args.done c.args.harts.now.items gs c.args.pages.now s c.args.reservations.now v c.args.console.now.console d c.args.trace.now.events fs c.deref-3.result.now rounds
+          (subst (λ (b : ℕ). IsFinished b (c.args.done + 1) c.deref-3.result.now gs c.args.pages.now s c.args.reservations.now v c.args.console.now.console d c.args.trace.now.events fs) c.budget-budget.ensures.budget f)).trace) c.requires.sound;
     }
 
 pub returns-clause-ok : goal.returns-clause-ok

@@ -6,7 +6,9 @@ use Rattle.hart_step.specs.declared.hart.Hart.{Hart}
 use Rattle.serial_phase.specs.Phase.{TakesTurns, serial_done, budget_from}
 use Rattle.serial_phase.specs.Roomed.{HasRoom}
 use Rattle.machine.specs.Outcomes.{AreFit, AreOutcomes, mask_of, waits_of, harts_of, outcome_events, turns_of}
-use Rattle.machine.proofs.RoundDone.{needed_is, length-waits, length-harts, spares_left, LogFits, log_of}
+use Rattle.memory_order.specs.Traced.{IsTrace}
+use Rattle.memory_order.proofs.Growing.{beginning}
+use Rattle.machine.proofs.RoundDone.{finished_from, needed_is, length-waits, length-harts, spares_left, LogFits, log_of}
 use Rattle.machine.proofs.round.finish.Goals as goal
 
 pub commit-requires : goal.commit-requires
@@ -34,7 +36,19 @@ serial-requires c =
     }
 
 pub add_parallel-requires : goal.add_parallel-requires
-add_parallel-requires c = record { harts = omega (arith, c.requires.few); room = omega (arith, c.in_ok-make_room.ensures.events) }
+add_parallel-requires c =
+    let os = c.args.outcomes.now in
+    let by_mask = subst (λ (w : ℕ). TakesTurns (serial_done c.args.budget c.args.round w c.args.harts.now c.commit.new.pages c.commit.new.table c.make_room.new.console) c.serial.new.harts c.commit.new.pages c.serial.new.pages c.serial.new.table c.serial.new.console c.serial.new.log) c.waiting_mask-waiting.ensures.mask c.serial.ensures.turns in
+    let served = subst (λ (hs : List Hart). TakesTurns (serial_done c.args.budget c.args.round (mask_of (waits_of os)) hs c.commit.new.pages c.commit.new.table c.make_room.new.console) c.serial.new.harts c.commit.new.pages c.serial.new.pages c.serial.new.table c.serial.new.console c.serial.new.log) c.requires.harts by_mask in
+    let es = c.args.trace.now.events in
+    let whole = c.requires.sound c.serial.new.harts c.serial.new.pages c.serial.new.table c.serial.new.console.console ((es ++ outcome_events c.args.round 0 os) ++ log_events c.args.round 0 c.serial.new.log.closed)
+    (finished_from c.args.budget c.args.round os c.serial.new.harts c.args.pages.now c.make_room.new.pages c.commit.new.pages c.serial.new.pages c.args.reservations.now c.commit.new.table c.serial.new.table c.args.console.now.console es c.make_room.new.console c.serial.new.console c.serial.new.log
+    c.in_ok-make_room.ensures.keeps.memory (λ rs a. c.commit.ensures.committed rs (subst (λ (m : Memory). AreOutcomes m rs os) (sym c.in_ok-make_room.ensures.keeps.memory) a)) c.in_ok-make_room.ensures.console served) in
+    record {
+      harts = omega (arith, c.requires.few);
+      room = omega (arith, c.in_ok-make_room.ensures.events);
+      sound = subst (λ (x : List Event). IsTrace (x ++ outcome_events c.args.round 0 os)) (sym c.in_ok-make_room.ensures.trace) (beginning (es ++ outcome_events c.args.round 0 os) _ whole);
+    }
 
 pub add_serial-requires : goal.add_serial-requires
 add_serial-requires c =
@@ -43,10 +57,16 @@ add_serial-requires c =
     let served = subst (λ (hs : List Hart). TakesTurns (serial_done c.args.budget c.args.round (mask_of (waits_of os)) hs c.commit.new.pages c.commit.new.table c.make_room.new.console) c.serial.new.harts c.commit.new.pages c.serial.new.pages c.serial.new.table c.serial.new.console c.serial.new.log) c.requires.harts by_mask in
     let fits : LogFits (turns_of c.args.budget (waits_of os)) (length (harts_of os)) c.serial.new.log =
     log_of c.args.budget c.args.round (waits_of os) (harts_of os) c.serial.new.harts c.commit.new.pages c.serial.new.pages c.commit.new.table c.serial.new.table c.make_room.new.console c.serial.new.console c.serial.new.log (length-waits os ∙ sym (length-harts os)) served in
+    let es = c.args.trace.now.events in
+    let whole = c.requires.sound c.serial.new.harts c.serial.new.pages c.serial.new.table c.serial.new.console.console ((es ++ outcome_events c.args.round 0 os) ++ log_events c.args.round 0 c.serial.new.log.closed)
+    (finished_from c.args.budget c.args.round os c.serial.new.harts c.args.pages.now c.make_room.new.pages c.commit.new.pages c.serial.new.pages c.args.reservations.now c.commit.new.table c.serial.new.table c.args.console.now.console es c.make_room.new.console c.serial.new.console c.serial.new.log
+    c.in_ok-make_room.ensures.keeps.memory (λ rs a. c.commit.ensures.committed rs (subst (λ (m : Memory). AreOutcomes m rs os) (sym c.in_ok-make_room.ensures.keeps.memory) a)) c.in_ok-make_room.ensures.console served) in
     record {
       harts = omega (arith, fits.length, length-harts os);
       few = omega (arith, fits.length, length-harts os, c.requires.few);
       room = omega (arith, fits.fits, c.turns_needed-turns.ensures.needed, c.in_ok-make_room.ensures.events, c.add_parallel.ensures.room);
+      sound = subst (λ (x : List Event). IsTrace (x ++ log_events c.args.round 0 c.serial.new.log.closed))
+          (sym (c.add_parallel.ensures.events ∙ ap (λ (x : List Event). x ++ outcome_events c.args.round 0 os) c.in_ok-make_room.ensures.trace)) whole;
     }
 
 pub returns-clause-ok : goal.returns-clause-ok

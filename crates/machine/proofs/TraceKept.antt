@@ -1,0 +1,114 @@
+-- The events of a machine stay a trace over a round.
+use Rattle.std.proofs.Common.{◌≡◌, ℕ, zero, suc, ◌+◌, ◌-◌, ◌*◌, ◌^◌, ◌<◌, ◌≤◌, List, [], ◌∷◌, ◌++◌, length, get_or, take, drop, All, Option, sym, ap, ◌∙◌, subst, arith, append_assoc, drop-cons, take_all}
+use Rattle.std.proofs.lemmas.List.Elements.{All-cons}
+use Rattle.pages.specs.Memory.{IsBytes}
+use Rattle.pages.specs.Paged.{Paged}
+use Rattle.round_schedule.specs.declared.event.Event.{Event}
+use Rattle.round_schedule.specs.declared.span.Span.{Span}
+use Rattle.round_schedule.specs.declared.access.Access.{Access}
+use Rattle.round_schedule.specs.declared.event.Phase.TheVariants.{Parallel, Serial}
+use Rattle.round_schedule.specs.ByTable.{RoundByTable}
+use Rattle.round_schedule.specs.Desk.{log_events}
+use Rattle.round_schedule.specs.Events.{events_of}
+use Rattle.round_schedule.specs.Places.{Placed}
+use Rattle.round_schedule.specs.Schedule.{State, round_of}
+use Rattle.round_schedule.specs.Tables.{Tied}
+use Rattle.round_schedule.proofs.Machines.{rounds_by_table}
+use Rattle.round_schedule.proofs.Phases.{All-weaker}
+use Rattle.round_schedule.proofs.Rising.{places_kept}
+use Rattle.round_planner.specs.Quotas.{IsQuota, Planned, quotas_of}
+use Rattle.hart_step.specs.declared.hart.Hart.{Hart}
+use Rattle.hart_step.specs.Console.{ConsoleState}
+use Rattle.hart_step.specs.Words.{words_of}
+use Rattle.hart_step.proofs.Formation.{has_forms}
+use Rattle.hart_step.proofs.Soundness.{counts_done, sound}
+use Rattle.memory_order.specs.Traced.{IsTrace}
+use Rattle.memory_order.proofs.RunForms.{round_leaves_trace}
+use Rattle.machine.specs.Held.{most_of_round}
+use Rattle.machine.specs.Machine.{opening_hart, opening_harts}
+use Rattle.machine.specs.declared.outcome.Outcome.{Outcome}
+use Rattle.machine.specs.Outcomes.{outcome_events}
+use Rattle.machine.specs.Rounds.{next_parts, parts_after}
+
+-- no hart has done anything before the first round
+pub placed_first : (entry n i k : ℕ) → Placed (λ (h : Hart). h.done) 0 (opening_harts entry n i k) []
+placed_first entry n i k = record {
+  rising = λ a b l m. absurd (omega (arith, m));
+  below = λ a d l. absurd (omega (arith, l));
+  counts = none_done i k;
+}
+  where
+    none_done : (i k : ℕ) → All (λ (h : Hart). h.done ≤ 0) (opening_harts entry n i k)
+    none_done i zero = λ a d l. absurd (omega (arith, l))
+    none_done i (suc k) = All-cons (λ (h : Hart). h.done ≤ 0) (opening_hart entry n i) (opening_harts entry n (suc i) k) (omega arith) (none_done (suc i) k)
+
+low : (plan : Planned) → ((m : ℕ) → All IsQuota (quotas_of plan m)) → (m : ℕ) → All (λ q. q ≤ 1000000) (quotas_of plan m)
+low plan quotas m = All-weaker IsQuota (λ q. q ≤ 1000000) (λ q h. h.1) (quotas_of plan m) (quotas m)
+
+-- after one more round
+pub next_is_trace : (plan : Planned) (n : ℕ) (hs : List Hart) (p : Paged) (t : List (Option Span)) (c : ConsoleState) (es : List Event) →
+    IsBytes p.memory.bytes → length p.memory.bytes ≤ 2 ^ 26 → Tied t es → length t ≡ length hs → ((m : ℕ) → All IsQuota (quotas_of plan m)) → plan.budget ≤ 1000 → n + 1 < 2 ^ 32 →
+    IsTrace es → Placed (λ (h : Hart). h.done) (most_of_round * n) hs es → IsTrace (next_parts plan n hs p t c es).state.trace
+next_is_trace plan n hs p t c es small size tied table quotas budget few tr placed =
+    let W = words_of p.memory.code in
+    let m = parts_after n hs p t c es in
+    let one : RoundByTable W plan.budget (quotas_of plan) m = rounds_by_table Hart ConsoleState W plan.budget (quotas_of plan) m (sound p.memory.code) small tied table in
+    subst (λ (s : State Hart ConsoleState). IsTrace s.trace) (sym one.same)
+    (round_leaves_trace W (λ (h : Hart). h.done) (has_forms p.memory.code) (counts_done p.memory.code) (most_of_round * n) 1000000 plan.budget (quotas_of plan) m.state (low plan quotas)
+    (omega (arith, budget, few)) small (omega (arith, size)) tr placed)
+
+placed_more : (a b : ℕ) (hs : List Hart) (t : List Event) → a ≤ b → Placed (λ (h : Hart). h.done) a hs t → Placed (λ (h : Hart). h.done) b hs t
+placed_more a b hs t l p = record {
+  rising = p.rising;
+  below = p.below;
+  counts = All-weaker (λ (h : Hart). h.done ≤ a) (λ (h : Hart). h.done ≤ b) (λ h m. omega (arith, l, m)) hs p.counts;
+}
+
+pub next_placed : (plan : Planned) (n : ℕ) (hs : List Hart) (p : Paged) (t : List (Option Span)) (c : ConsoleState) (es : List Event) (s : State Hart ConsoleState) →
+    s ≡ round_of (words_of p.memory.code) plan.budget (quotas_of plan) (parts_after n hs p t c es).state →
+    ((m : ℕ) → All IsQuota (quotas_of plan m)) → plan.budget ≤ 1000 → n + 1 < 2 ^ 32 →
+    Placed (λ (h : Hart). h.done) (most_of_round * n) hs es → Placed (λ (h : Hart). h.done) (most_of_round * (n + 1)) s.harts s.trace
+next_placed plan n hs p t c es s same quotas budget few placed =
+    let W = words_of p.memory.code in
+    let m = (parts_after n hs p t c es).state in
+    subst (λ (z : State Hart ConsoleState). Placed (λ (h : Hart). h.done) (most_of_round * (n + 1)) z.harts z.trace) (sym same)
+    (placed_more (most_of_round * n + 1000000 + plan.budget) (most_of_round * (n + 1)) (round_of W plan.budget (quotas_of plan) m).harts (round_of W plan.budget (quotas_of plan) m).trace (omega (arith, budget))
+    (places_kept W (λ (h : Hart). h.done) (counts_done p.memory.code) (most_of_round * n) 1000000 plan.budget (quotas_of plan) m (low plan quotas) (omega (arith, budget, few)) placed))
+
+-- ---- the events of a round, hart by hart
+
+split_first : (es : List Event) (u v w : List Event) → w ≡ u ++ v → IsTrace (es ++ w) → IsTrace ((es ++ u) ++ v)
+split_first es u v w e h = subst IsTrace (ap (λ (x : List Event). es ++ x) e ∙ sym (append_assoc es u v)) h
+
+pub turn_first : (es : List Event) (n i : ℕ) (closed : List (List Access)) (as' : List Access) → i < length closed → as' ≡ get_or closed i [] →
+    IsTrace (es ++ log_events n i (drop i closed)) → IsTrace ((es ++ events_of n i Serial as') ++ log_events n (i + 1) (drop (i + 1) closed))
+turn_first es n i closed as' l e h = split_first es (events_of n i Serial as') (log_events n (i + 1) (drop (i + 1) closed)) (log_events n i (drop i closed)) parts h
+  where
+    parts : log_events n i (drop i closed) ≡ events_of n i Serial as' ++ log_events n (i + 1) (drop (i + 1) closed)
+    parts =
+        ap (log_events n i) (drop-cons closed i [] l)
+        ∙ ap (λ (bs : List Access). events_of n i Serial bs ++ log_events n (suc i) (drop (suc i) closed)) (sym e)
+        ∙ joined
+      where
+        joined : events_of n i Serial as' ++ log_events n (suc i) (drop (suc i) closed) ≡ events_of n i Serial as' ++ log_events n (i + 1) (drop (i + 1) closed)
+        joined = let k : suc i ≡ i + 1 = omega arith in ap (λ (j : ℕ). events_of n i Serial as' ++ log_events n (suc i) (drop j closed)) k ∙ ap (λ (j : ℕ). events_of n i Serial as' ++ log_events n j (drop (i + 1) closed)) k
+
+pub outcome_first : (es : List Event) (n i : ℕ) (os : List Outcome) (o : Outcome) (as' : List Access) → 0 < length os → o ≡ get_or os 0 o → as' ≡ o.accesses.items →
+    IsTrace (es ++ outcome_events n i os) → IsTrace ((es ++ events_of n i Parallel as') ++ outcome_events n (i + 1) (take (length os - 1) (drop 1 os)))
+outcome_first es n i [] o as' l e a h = absurd (omega (arith, l))
+outcome_first es n i (p ∷ os) o as' l e a h = split_first es (events_of n i Parallel as') _ (outcome_events n i (p ∷ os)) parts h
+  where
+    take_whole : (xs : List Outcome) (m : ℕ) → m ≡ length xs → take m xs ≡ xs
+    take_whole xs m e = ap (λ (k : ℕ). take k xs) e ∙ take_all (length xs) xs (omega arith)
+
+    rest : take (length (p ∷ os) - 1) (drop 1 (p ∷ os)) ≡ os
+    rest = take_whole os (suc (length os) - 1) (omega arith)
+
+    next : suc i ≡ i + 1
+    next = omega arith
+
+    parts : outcome_events n i (p ∷ os) ≡ events_of n i Parallel as' ++ outcome_events n (i + 1) (take (length (p ∷ os) - 1) (drop 1 (p ∷ os)))
+    parts =
+        ap (λ (bs : List Access). events_of n i Parallel bs ++ outcome_events n (suc i) os) (sym (a ∙ ap (λ (q : Outcome). q.accesses.items) e))
+        ∙ ap (λ (k : ℕ). events_of n i Parallel as' ++ outcome_events n k os) next
+        ∙ ap (λ (qs : List Outcome). events_of n i Parallel as' ++ outcome_events n (i + 1) qs) (sym rest)

@@ -1,0 +1,49 @@
+ghost use Rattle.std.specs.Prelude.{◌≡◌, ℕ, ◌⊎◌, List, Some, None, Err, IfOk, IfErr, slice_index};
+ghost use Rattle.elf_loader.specs.Causes.{IsLeast as IsLeastOfImage};
+ghost use Rattle.elf_loader.specs.declared.load_error.LoadError.{LoadError as ImageCause};
+ghost use Rattle.round_planner.specs.Causes.{IsLeast as IsLeastOfPlan};
+ghost use Rattle.round_planner.specs.Quotas.{Planned};
+ghost use Rattle.round_planner.specs.declared.plan_error.PlanError.{PlanError as PlanCause};
+ghost use Rattle.host_io.specs.declared.error.RunError.{RunError as Refusal};
+ghost use Rattle.host_io.specs.declared.error.RunError.TheVariants as refusals;
+ghost use Rattle.round_schedule.specs.RoundTrace.{IsRoundTrace};
+ghost use Rattle.memory_order.specs.RoundOrder.{IsRoundOrder};
+ghost use Rattle.memory_order.specs.Rvwmo.{MeetsRvwmo};
+ghost use Rattle.memory_order.specs.Traced.{opening_at};
+ghost use Rattle.machine.specs.Machine.{after_rounds, opening};
+ghost use Rattle.machine.specs.Settings.{IsPlanOf, StandsIn, image_of, settings_fault};
+
+use crate::prepare::prepare;
+use crate::settings::Settings;
+use host_io::RunError;
+use memory_order::Trace;
+use std::alloc::Global;
+
+/// Runs a guest program for a number of rounds, and hands its trace over.
+///
+/// It is the trace of a run in rounds over the bytes of the image, so that its memory order meets RVWMO.
+///
+/// # Errors
+///
+/// The refusals of the settings, then of the image, then of the plan; `OutOfMemory`.
+pub fn trace_run(
+    alloc: Global,
+    image: &[u8],
+    input: &[u8],
+    settings: &Settings<'_>,
+) -> Result<Trace, RunError>
+    // It has the events of the run that the definitions name.
+    ensures events { IfOk result (λ t. (plan : Planned) × IsPlanOf settings.now.harts settings.now.plan.now settings.now.budget plan × (t.events ≡ (after_rounds settings.now.rounds (opening (image_of settings.now.format image.now settings.now.pages) input.now plan)).state.trace)) }
+    ensures opening { IfOk result (λ t. (x : ℕ) → opening_at t.opening x ≡ slice_index (image_of settings.now.format image.now settings.now.pages).bytes x) }
+    ensures rounds { IfOk result (λ t. IsRoundTrace t.events (opening_at t.opening) settings.now.budget) }
+    // The order by rounds, which `memory_order` gives, meets RVWMO.
+    ensures rvwmo { IfOk result (λ t. (g : List ℕ) → IsRoundOrder t.events g → MeetsRvwmo t.events (opening_at t.opening) g) }
+    ensures settings { (e : Refusal) → settings_fault settings.now.harts settings.now.pages settings.now.workers settings.now.budget ≡ Some e → result ≡ Err e }
+    ensures errors { settings_fault settings.now.harts settings.now.pages settings.now.workers settings.now.budget ≡ None → IfErr result (λ e. (e ≡ refusals.OutOfMemory) ⊎ ((cause : ImageCause) × IsLeastOfImage (StandsIn settings.now.format image.now settings.now.pages) cause × (e ≡ refusals.Image cause)) ⊎ ((cause : PlanCause) × IsLeastOfPlan settings.now.harts settings.now.plan.now cause × (e ≡ refusals.Plan cause))) }
+    ensures image { (cause : ImageCause) → settings_fault settings.now.harts settings.now.pages settings.now.workers settings.now.budget ≡ None → IsLeastOfImage (StandsIn settings.now.format image.now settings.now.pages) cause → (result ≡ Err (refusals.Image cause)) ⊎ (result ≡ Err refusals.OutOfMemory) }
+{
+    let mut machine = prepare(alloc, image, input, settings)?;
+    machine.bytes_fit();
+    machine.run(settings.rounds, settings.workers)?;
+    Ok(machine.into_trace())
+}
