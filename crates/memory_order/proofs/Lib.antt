@@ -7,3 +7,13 @@ pub mod Meeting
 pub mod Openings
 pub mod Placing
 pub mod Sorting
+mod Ranking
+mod Atomicity
+mod Bounding
+mod Composing
+mod Forms
+mod Pairing
+mod Preserving
+mod ProgramBounds
+mod Sourcing
+mod Valuing

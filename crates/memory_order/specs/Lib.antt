@@ -1,3 +1,6 @@
+pub mod Checking
+pub mod CheckingAtomic
+pub mod CheckingProgram
 pub mod LastPlaces
 pub mod Operations
 pub mod Orders

@@ -1,6 +1,8 @@
 //! The global memory order of a run's trace, and the memory model RVWMO that it meets.
 #![tactic(auto)]
 
+mod check;
+mod checking;
 mod form;
 mod laws;
 mod operation;
@@ -8,6 +10,7 @@ mod order;
 mod rising;
 mod trace;
 
+pub use check::check_order;
 pub use laws::{orders_of_runs_meet_rvwmo, runs_leave_traces};
 pub use operation::is_operation;
 pub use order::{Order, memory_order};

@@ -4,17 +4,17 @@ use pages::Width::W8;
 use rv64_decode::{AcquireRelease, FenceMode, FenceSet};
 use std::alloc::Global;
 
-const PLAIN: AcquireRelease = AcquireRelease {
+pub(crate) const PLAIN: AcquireRelease = AcquireRelease {
     acquire: false,
     release: false,
 };
 
-const BOTH: FenceSet = FenceSet {
+pub(crate) const BOTH: FenceSet = FenceSet {
     reads: true,
     writes: true,
 };
 
-fn event(round: u32, hart: u32, phase: Phase, access: Access) -> Event {
+pub(crate) fn event(round: u32, hart: u32, phase: Phase, access: Access) -> Event {
     Event {
         access,
         round,
@@ -23,7 +23,7 @@ fn event(round: u32, hart: u32, phase: Phase, access: Access) -> Event {
     }
 }
 
-fn store(place: u64, address: u64, written: u64) -> Access {
+pub(crate) fn store(place: u64, address: u64, written: u64) -> Access {
     Access::Store {
         width: W8,
         place,
@@ -32,7 +32,7 @@ fn store(place: u64, address: u64, written: u64) -> Access {
     }
 }
 
-fn load(place: u64, address: u64, read: u64) -> Access {
+pub(crate) fn load(place: u64, address: u64, read: u64) -> Access {
     Access::Load {
         width: W8,
         place,
@@ -41,7 +41,7 @@ fn load(place: u64, address: u64, read: u64) -> Access {
     }
 }
 
-fn full_fence(place: u64) -> Access {
+pub(crate) fn full_fence(place: u64) -> Access {
     Access::Fence {
         before: BOTH,
         after: BOTH,
