@@ -9,3 +9,6 @@ mod working;
 pub use gate::{Gate, Open};
 pub use gathering::gather;
 pub use rounds::hart_round;
+
+#[cfg(test)]
+mod tests;

@@ -25,18 +25,6 @@ pub fn hart_round<B: BookStart>(
     let alloc = pages.allocator();
     let mut view = Buffered::new(alloc, pages);
     let mut accesses = Vec::new(alloc);
-    let waits = hart_step::hart_round(
-        &mut hart,
-        &mut view,
-        start.table(),
-        quota,
-        &mut accesses,
-    )?;
-    Ok(HartRound::new(
-        ticket,
-        hart,
-        view.into_buffer(),
-        accesses,
-        waits,
-    ))
+    let waits = hart_step::hart_round(&mut hart, &mut view, start.table(), quota, &mut accesses)?;
+    Ok(HartRound::new(ticket, hart, view.into_buffer(), accesses, waits))
 }

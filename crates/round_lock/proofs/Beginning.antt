@@ -37,16 +37,19 @@ module _ (E : Type 0) where
 module _ {S E : Type 0} (items : S → List E) (room : S → ℕ) (hart seat : E → ℕ) (size : Size) where
   new_fits : (a n : ℕ) → a + n ≡ size.seats → Each (Fits items room hart seat size [] [] 0 0) (newcomers_from size.harts a n)
   new_fits a zero e = tt
-  new_fits a (suc n) e = (record {
-    harts_are = refl;
-    below = omega arith;
-    claimed = λ h is. absurd (true≢false (sym is));
-    knows = λ h o. absurd (some-ne-none a (sym o));
-    seen_is = ([], refl);
-    own_is = refl;
-    end_is = λ h. absurd (true≢false (sym h));
-    holds = λ h. absurd (true≢false (sym h));
-  }, new_fits (suc a) n (omega arith))
+  new_fits a (suc n) e = (
+    record {
+      harts_are = refl;
+      below = omega arith;
+      claimed = λ h is. absurd (true≢false (sym is));
+      knows = λ h o. absurd (some-ne-none a (sym o));
+      seen_is = ([], refl);
+      own_is = refl;
+      end_is = λ h. absurd (true≢false (sym h));
+      holds = λ h. absurd (true≢false (sym h));
+    },
+    new_fits (suc a) n (omega arith),
+  )
 
   first_fits : (vs : View E) (j : ℕ) (v : View E) → Each (Fits items room hart seat size [] [] 0 0) vs → get_elem? (vs ∷ []) j ≡ some v → Each (Fits items room hart seat size [] [] 0 0) v
   first_fits vs zero v e at = subst (Each (Fits items room hart seat size [] [] 0 0)) (some-injective vs v at) e

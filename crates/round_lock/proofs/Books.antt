@@ -55,9 +55,9 @@ module _ {S E : Type 0} (items : S → List E) (room : S → ℕ) (hart seat : E
   all_claimed_of ks log c = each_map (λ k. (Begins k.seen log) × (k.own ≡ of_seat hart seat k.number log) × (k.ended ≡ true → length c.owners ≡ size.harts))
       (λ k. k.ended ≡ true → (h : ℕ) → h < size.harts → claimed_by ks h ≡ true) ks
       (λ k f end h lt.
-          let long = f.2 end in
-          let o = elem_there c.owners h (omega arith) in
-          claimed_from c.owners ks h o.0 c.owns o.1 (elem_each (λ n. has (numbers ks) n ≡ true) c.owners h o.0 c.owned o.1))
+      let long = f.2 end in
+      let o = elem_there c.owners h (omega arith) in
+      claimed_from c.owners ks h o.0 c.owns o.1 (elem_each (λ n. has (numbers ks) n ≡ true) c.owners h o.0 c.owned o.1))
       c.fits
 
   pub made_of : (right : E → Type 0) → ((e : E) → right e) → (ks : List (Known E)) (log : List E) → Closing items room hart seat size ks log → IsMade hart seat right size.harts ks log

@@ -96,45 +96,46 @@ module _ {S E : Type 0} (items : S → List E) (room : S → ℕ) (hart seat : E
       let word : get_or (set s.words 1 (n + 1)) 1 0 ≡ n + 1 = get_or-set_same s.words 1 (n + 1) 0 (omega arith) in
       let before = k.counted in
       let one_more : sum_of late (set s.views id (y ∷ [])) ≡ sum_of late s.views + 1 =
-          (let t = sum_set late s.views id (x ∷ []) (y ∷ []) at in let u = late_by x false live in omega arith) in
+      (let t = sum_set late s.views id (x ∷ []) (y ∷ []) at in let u = late_by x false live in omega arith) in
       let all_same = same_sum one s.views id (x ∷ []) (y ∷ []) at refl in
       let most = sum_le late one late_one (set s.views id (y ∷ [])) in
       let all = k.all in
       let small = k.small in
       let P : Sitter E → Type 0 = Fits items room hart seat size k.owners k.log (get_or s.words 0 0) k.who in
-      let Q : ℕ → Sitter E → Type 0 = λ l. Fits items room hart seat size k.owners k.log l k.who in
-      (omega arith,
-      record {
-        owners = k.owners;
-        log = k.log;
-        who = k.who;
-        wide = length-set s.words 1 (n + 1) ∙ wide;
-        low = low;
-        counts = λ l. absurd (omega arith);
-        counted = omega arith;
-        over = λ l. omega arith;
-        small = small;
-        owned = k.owned;
-        entries = k.entries;
-        apart = k.apart;
-        free = λ z. k.free (sym lock ∙ z);
-        locked = lock ∙ (k.locked ∙ sym (same_sum held s.views id (x ∷ []) (y ∷ []) at refl));
-        seats = λ o b. same_sum (numbered o) s.views id (x ∷ []) (y ∷ []) at refl ∙ k.seats o b;
-        all = all_same ∙ all;
-        fits = subst (λ (l : ℕ). (j : ℕ) (v : View E) → get_elem? (set s.views id (y ∷ [])) j ≡ some v → Each (Q l) v) (sym lock)
-            (refit items room hart seat size P (Q (get_or s.words 0 0)) s k id x y at f.below k.fits
-            record {
-              harts_are = f.harts_are;
-              below = f.below;
-              claimed = f.claimed;
-              knows = f.knows;
-              seen_is = f.seen_is;
-              own_is = f.own_is;
-              end_is = λ e. omega arith;
-              holds = f.holds;
-            }
-            (λ z p ne. p));
-      })
+      let Q : ℕ → Sitter E → Type 0 = λ l. Fits items room hart seat size k.owners k.log l k.who in (
+        omega arith,
+        record {
+          owners = k.owners;
+          log = k.log;
+          who = k.who;
+          wide = length-set s.words 1 (n + 1) ∙ wide;
+          low = low;
+          counts = λ l. absurd (omega arith);
+          counted = omega arith;
+          over = λ l. omega arith;
+          small = small;
+          owned = k.owned;
+          entries = k.entries;
+          apart = k.apart;
+          free = λ z. k.free (sym lock ∙ z);
+          locked = lock ∙ (k.locked ∙ sym (same_sum held s.views id (x ∷ []) (y ∷ []) at refl));
+          seats = λ o b. same_sum (numbered o) s.views id (x ∷ []) (y ∷ []) at refl ∙ k.seats o b;
+          all = all_same ∙ all;
+          fits = subst (λ (l : ℕ). (j : ℕ) (v : View E) → get_elem? (set s.views id (y ∷ [])) j ≡ some v → Each (Q l) v) (sym lock)
+              (refit items room hart seat size P (Q (get_or s.words 0 0)) s k id x y at f.below k.fits
+              record {
+                harts_are = f.harts_are;
+                below = f.below;
+                claimed = f.claimed;
+                knows = f.knows;
+                seen_is = f.seen_is;
+                own_is = f.own_is;
+                end_is = λ e. omega arith;
+                holds = f.holds;
+              }
+              (λ z p ne. p));
+        },
+      )
 
   pub claims : (slots id : ℕ) (m : Me S (View E)) → AtRest m → (sitter m.0).ended ≡ false
       → Allows (Kept items room hart seat size) slots id m 1 (λ n. (n + 1) % 2 ^ 64) (Claimed items room hart seat (step slots 1 1 0 none) m)
@@ -147,10 +148,21 @@ module _ {S E : Type 0} (items : S → List E) (room : S → ℕ) (hart seat : E
       let K : Sitter E → ℕ → Type 0 = λ y w. Kept items room hart seat size (stepped s 1 w id m.1 (y ∷ []) keeps) in
       dite (dec_le size.harts n)
       (λ le. let r = claim_none s k id x n at' refl le live m.1 in
-          (with_end x ∷ [], keeps, tt, subst (K (with_end x)) (sym (mod-eq_of_lt r.0)) r.1, (refl, (λ lt. absurd (let h = f.harts_are in omega arith)), (λ _. refl))))
+      (with_end x ∷ [], keeps, tt, subst (K (with_end x)) (sym (mod-eq_of_lt r.0)) r.1, (refl, (λ lt. absurd (let h = f.harts_are in omega arith)), (λ _. refl))))
       (λ gt. let lt : n < size.harts = lt_of_not-le gt in
-          let wrap : n + 1 < 2 ^ 64 = omega arith in
-          (with_claim n x ∷ [], keeps, tt, subst (K (with_claim n x)) (sym (mod-eq_of_lt wrap)) (claim_one s k id x n at' refl lt m.1),
-            (refl, (λ _. (refl, lacks_from x.claims n (λ is. let b = elem_below k.owners n x.number (f.claimed n is) in
+      let wrap : n + 1 < 2 ^ 64 = omega arith in (
+        with_claim n x ∷ [],
+        keeps,
+        tt,
+        subst (K (with_claim n x)) (sym (mod-eq_of_lt wrap)) (claim_one s k id x n at' refl lt m.1),
+        (
+          refl,
+          (λ _. (
+            refl,
+            lacks_from x.claims n (λ is. let b = elem_below k.owners n x.number (f.claimed n is) in
                 let open_still : length k.owners < size.harts = lt_of_not-le (λ le. let o = k.over le in omega arith) in
-                let count = k.counts open_still in omega arith))), (λ le. absurd (let h = f.harts_are in omega arith)))))
+                let count = k.counts open_still in omega arith),
+          )),
+          (λ le. absurd (let h = f.harts_are in omega arith)),
+        ),
+      ))

@@ -68,13 +68,14 @@ module _ {E : Type 0} where
       let a = numbered_self (seated k) in
       let b = le k.number in
       let others : Each (λ z. z.number ≢ k.number) (map seated ks) = none_numbered k.number (map seated ks) (omega arith) in
-      let others' : Each (λ l. l.number ≢ k.number) ks = each_unmapped seated (λ z. z.number ≢ k.number) ks others in
-      (each_both (λ l. l.number ≢ k.number) (Owns owners) (Parted k) ks
-        (λ l ne o. record {
-          numbers = λ e. ne (sym e);
-          claims = λ h is. lacks_from l.claims h (λ too. ne (elem_one owners h l.number k.number (o.claimed h too) (es.0.claimed h is)));
-        }) others' es.1,
-        parted owners ks es.1 (λ n. let c = le n in omega arith))
+      let others' : Each (λ l. l.number ≢ k.number) ks = each_unmapped seated (λ z. z.number ≢ k.number) ks others in (
+        each_both (λ l. l.number ≢ k.number) (Owns owners) (Parted k) ks
+            (λ l ne o. record {
+              numbers = λ e. ne (sym e);
+              claims = λ h is. lacks_from l.claims h (λ too. ne (elem_one owners h l.number k.number (o.claimed h too) (es.0.claimed h is)));
+            }) others' es.1,
+        parted owners ks es.1 (λ n. let c = le n in omega arith),
+      )
 
 module _ {S E : Type 0} (items : S → List E) (room : S → ℕ) (hart seat : E → ℕ) (size : Size) where
   -- what is known of a closed book with the history in v and these seats

@@ -157,9 +157,10 @@ has_each P (x ∷ xs) n e h = ⊎_elim (λ (i : n ≡ x). subst P (sym i) e.0) (
 
 pub apart_snoc : (xs : List ℕ) (n : ℕ) → Apart xs → has xs n ≡ false → Apart (xs ++ n ∷ [])
 apart_snoc [] n a l = (refl, tt)
-apart_snoc (x ∷ xs) n a l =
-    (lacks_from (xs ++ n ∷ []) x (λ h. ⊎_elim (λ t. never (has xs x) t a.0) (λ e. lacks_head x n xs l (sym e)) (has_snoc xs n x h)),
-      apart_snoc xs n a.1 (lacks_tail x n xs l))
+apart_snoc (x ∷ xs) n a l = (
+  lacks_from (xs ++ n ∷ []) x (λ h. ⊎_elim (λ t. never (has xs x) t a.0) (λ e. lacks_head x n xs l (sym e)) (has_snoc xs n x h)),
+  apart_snoc xs n a.1 (lacks_tail x n xs l),
+)
 
 all_other : (xs : List ℕ) (n : ℕ) → has xs n ≡ false → AllByRecursion (λ y. eqb n y ≡ false) xs
 all_other [] n h = tt
@@ -178,7 +179,7 @@ any_has (x ∷ xs) n = ap (λ (b : Bool). eqb n x || b) (any_has xs n)
 pub fewer_than : (xs : List ℕ) (n h : ℕ) → Apart xs → Each (λ x. x < n) xs → h < n → has xs h ≡ false → length xs < n
 fewer_than xs n h a below lt lacks =
     let le = length-le_from_distinct_below (h ∷ xs) n (distinct (h ∷ xs) (lacks, a))
-        (λ q is. has_each (λ x. x < n) (h ∷ xs) q (lt, below) (any_has (h ∷ xs) q ∙ is)) in
+    (λ q is. has_each (λ x. x < n) (h ∷ xs) q (lt, below) (any_has (h ∷ xs) q ∙ is)) in
     omega arith
 
 pub times_lacking : (xs : List ℕ) (n : ℕ) → has xs n ≡ false → times n xs ≡ 0

@@ -47,7 +47,7 @@ module _ {S E : Type 0} (items : S → List E) (room : S → ℕ) (hart seat : E
       let lock : get_or (set s.words 0 1) 0 0 ≡ 1 = get_or-set_same s.words 0 1 0 (omega arith) in
       let word : get_or (set s.words 0 1) 1 0 ≡ get_or s.words 1 0 = get_or-set_other s.words 0 1 1 0 (λ e. omega arith) in
       let held_more : sum_of held (set s.views id (y ∷ [])) ≡ 1 =
-          (let t = sum_set held s.views id (x ∷ []) (y ∷ []) at in let u = held_by x false idle in let l = k.locked in omega arith) in
+      (let t = sum_set held s.views id (x ∷ []) (y ∷ []) at in let u = held_by x false idle in let l = k.locked in omega arith) in
       let late_same = same_sum late s.views id (x ∷ []) (y ∷ []) at refl in
       let counted = k.counted in
       let P : Sitter E → Type 0 = Fits items room hart seat size k.owners k.log (get_or s.words 0 0) k.who in
@@ -124,14 +124,21 @@ module _ {S E : Type 0} (items : S → List E) (room : S → ℕ) (hart seat : E
       let at' : get_elem? s.views id ≡ some (x ∷ []) = at ∙ ap some rest.alone in
       let f = (k.fits id (x ∷ []) at').0 in
       dite (ℕ_discrete n 0)
-      (λ z. let h = k.free z in
-          (with_lock (items h.0) x ∷ [], takes 0 h.0, h.1,
-            subst (λ (b : Bool). Kept items room hart seat size (stepped s 0 (either b 1 n) id m.1 (with_lock (items h.0) x ∷ []) (takes 0 h.0))) (sym (eq-eqb n 0 z))
+      (λ z. let h = k.free z in (
+        with_lock (items h.0) x ∷ [],
+        takes 0 h.0,
+        h.1,
+        subst (λ (b : Bool). Kept items room hart seat size (stepped s 0 (either b 1 n) id m.1 (with_lock (items h.0) x ∷ []) (takes 0 h.0))) (sym (eq-eqb n 0 z))
             (acquire_free s k id x h.0 m.1 at' z h.2 rest.idle),
-            ((λ _. told s k m x h.0 f h.2 h.3), (λ ne. absurd (ne z)))))
-      (λ taken. (m.0, keeps, tt,
+        ((λ _. told s k m x h.0 f h.2 h.3), (λ ne. absurd (ne z))),
+      ))
+      (λ taken. (
+        m.0,
+        keeps,
+        tt,
         subst (λ (b : Bool). Kept items room hart seat size (stepped s 0 (either b 1 n) id m.1 m.0 keeps)) (sym (ne_eqb n 0 taken)) (unmoved s k id n m.0 m.1 at refl),
-        ((λ z. absurd (taken z)), (λ _. refl))))
+        ((λ z. absurd (taken z)), (λ _. refl)),
+      ))
 
   -- what the holder brings: one entry more in the slot, of a hart that it claimed and has not put
   pub record Ready (x : Sitter E) (v : S) (e : E) : Type 0 where
@@ -146,7 +153,7 @@ module _ {S E : Type 0} (items : S → List E) (room : S → ℕ) (hart seat : E
   release_one : (s : State S (View E)) (k : Kept items room hart seat size s) (id : ℕ) (x : Sitter E) (v : S) (e : E) → get_elem? s.views id ≡ some (x ∷ [])
       → length s.homes ≡ 1 → Ready x v e
       → Kept items room hart seat size (stepped s 0 0 id ((0, v) ∷ []) (with_puts (items v) x ∷ []) gives)
-        × IsHistory hart seat x.number x.claims (items v)
+      × IsHistory hart seat x.number x.claims (items v)
   release_one s k id x v e at long ready =
       let holding = ready.holding in
       let pushed = ready.pushed in
@@ -162,72 +169,77 @@ module _ {S E : Type 0} (items : S → List E) (room : S → ℕ) (hart seat : E
       let lock : get_or (set s.words 0 0) 0 0 ≡ 0 = get_or-set_same s.words 0 0 0 (omega arith) in
       let word : get_or (set s.words 0 0) 1 0 ≡ get_or s.words 1 0 = get_or-set_other s.words 0 1 0 0 (λ z. omega arith) in
       let held_less : sum_of held (set s.views id (y ∷ [])) ≡ 0 =
-          (let t = sum_set held s.views id (x ∷ []) (y ∷ []) at in let u = held_by x true holding in let l = k.locked in let one_word = held_facts.0 in omega arith) in
+      (let t = sum_set held s.views id (x ∷ []) (y ∷ []) at in let u = held_by x true holding in let l = k.locked in let one_word = held_facts.0 in omega arith) in
       let late_same = same_sum late s.views id (x ∷ []) (y ∷ []) at refl in
       let counted = k.counted in
       let own_place = f.claimed (hart e) claimed in
       let missing : has (harts_of hart seat k.log) (hart e) ≡ false = not_put hart seat k.owners k.log x.own x.number (hart e) k.entries own_place f.own_is lacks in
       let entered : Each (λ a. get_elem? k.owners (hart a) ≡ some (seat a)) log =
-          each_append (λ a. get_elem? k.owners (hart a) ≡ some (seat a)) k.log (e ∷ []) k.entries (own_place ∙ ap some (sym mine), tt) in
+      each_append (λ a. get_elem? k.owners (hart a) ≡ some (seat a)) k.log (e ∷ []) k.entries (own_place ∙ ap some (sym mine), tt) in
       let apart : Apart (harts_of hart seat log) = subst Apart (sym (map-append hart k.log (e ∷ []))) (apart_snoc (harts_of hart seat k.log) (hart e) k.apart missing) in
       let added : drop (length x.seen) (items v) ≡ e ∷ [] = ap (drop (length x.seen)) pushed ∙ drop_begin x.seen (e ∷ []) in
       let P : Sitter E → Type 0 = Fits items room hart seat size k.owners k.log (get_or s.words 0 0) k.who in
-      let Q : ℕ → Sitter E → Type 0 = λ l. Fits items room hart seat size k.owners log l k.who in
-      (record {
-        owners = k.owners;
-        log = log;
-        who = k.who;
-        wide = length-set s.words 0 0 ∙ wide;
-        low = k.low;
-        counts = λ l. word ∙ k.counts l;
-        counted = omega arith;
-        over = λ l. let o = k.over l in omega arith;
-        small = k.small;
-        owned = k.owned;
-        entries = entered;
-        apart = apart;
-        free = λ z. (v, set_here s.homes 0 (some v) (omega arith), log_is, (let h = f.harts_are in let r = ready.wide_room in omega arith));
-        locked = lock ∙ sym held_less;
-        seats = λ o b. same_sum (numbered o) s.views id (x ∷ []) (y ∷ []) at refl ∙ k.seats o b;
-        all = same_sum one s.views id (x ∷ []) (y ∷ []) at refl ∙ k.all;
-        fits = subst (λ (l : ℕ). (j : ℕ) (w : View E) → get_elem? (set s.views id (y ∷ [])) j ≡ some w → Each (Q l) w) (sym lock)
-            (refit items room hart seat size P (Q 0) s k id x y at f.below k.fits
-            record {
-              harts_are = f.harts_are;
-              below = f.below;
-              claimed = f.claimed;
-              knows = f.knows;
-              seen_is = subst (λ (l : List E). Begins l log) (sym log_is) (begins_same log);
-              own_is = ap (λ (l : List E). x.own ++ l) added ∙ (ap (λ (l : List E). l ++ e ∷ []) f.own_is
-                  ∙ sym (of_seat_append hart seat x.number k.log (e ∷ []) ∙ ap (λ (l : List E). of_seat hart seat x.number k.log ++ l) (of_seat_mine hart seat x.number e [] mine)));
-              end_is = f.end_is;
-              holds = λ h. absurd (true≢false (sym h));
-            }
-            (λ z p ne. record {
-              harts_are = p.harts_are;
-              below = p.below;
-              claimed = p.claimed;
-              knows = p.knows;
-              seen_is = begins_more z.seen k.log (e ∷ []) p.seen_is;
-              own_is = p.own_is ∙ sym (of_seat_append hart seat z.number k.log (e ∷ [])
-                  ∙ (ap (λ (l : List E). of_seat hart seat z.number k.log ++ l) (of_seat_other hart seat z.number e [] (λ same. ne (sym same ∙ mine)))
-                  ∙ append-nil (of_seat hart seat z.number k.log)));
-              end_is = p.end_is;
-              holds = λ h. absurd (ne (sym (p.holds h).1 ∙ held_facts.1));
-            }));
-      },
-        subst (λ (l : List E). IsHistory hart seat x.number x.claims l) (sym log_is) (is_history hart seat k.owners x.claims log x.number apart entered f.knows))
+      let Q : ℕ → Sitter E → Type 0 = λ l. Fits items room hart seat size k.owners log l k.who in (
+        record {
+          owners = k.owners;
+          log = log;
+          who = k.who;
+          wide = length-set s.words 0 0 ∙ wide;
+          low = k.low;
+          counts = λ l. word ∙ k.counts l;
+          counted = omega arith;
+          over = λ l. let o = k.over l in omega arith;
+          small = k.small;
+          owned = k.owned;
+          entries = entered;
+          apart = apart;
+          free = λ z. (v, set_here s.homes 0 (some v) (omega arith), log_is, (let h = f.harts_are in let r = ready.wide_room in omega arith));
+          locked = lock ∙ sym held_less;
+          seats = λ o b. same_sum (numbered o) s.views id (x ∷ []) (y ∷ []) at refl ∙ k.seats o b;
+          all = same_sum one s.views id (x ∷ []) (y ∷ []) at refl ∙ k.all;
+          fits = subst (λ (l : ℕ). (j : ℕ) (w : View E) → get_elem? (set s.views id (y ∷ [])) j ≡ some w → Each (Q l) w) (sym lock)
+              (refit items room hart seat size P (Q 0) s k id x y at f.below k.fits
+              record {
+                harts_are = f.harts_are;
+                below = f.below;
+                claimed = f.claimed;
+                knows = f.knows;
+                seen_is = subst (λ (l : List E). Begins l log) (sym log_is) (begins_same log);
+                own_is = ap (λ (l : List E). x.own ++ l) added ∙ (ap (λ (l : List E). l ++ e ∷ []) f.own_is
+                    ∙ sym (of_seat_append hart seat x.number k.log (e ∷ []) ∙ ap (λ (l : List E). of_seat hart seat x.number k.log ++ l) (of_seat_mine hart seat x.number e [] mine)));
+                end_is = f.end_is;
+                holds = λ h. absurd (true≢false (sym h));
+              }
+              (λ z p ne. record {
+                harts_are = p.harts_are;
+                below = p.below;
+                claimed = p.claimed;
+                knows = p.knows;
+                seen_is = begins_more z.seen k.log (e ∷ []) p.seen_is;
+                own_is = p.own_is ∙ sym (of_seat_append hart seat z.number k.log (e ∷ [])
+                    ∙ (ap (λ (l : List E). of_seat hart seat z.number k.log ++ l) (of_seat_other hart seat z.number e [] (λ same. ne (sym same ∙ mine)))
+                    ∙ append-nil (of_seat hart seat z.number k.log)));
+                end_is = p.end_is;
+                holds = λ h. absurd (ne (sym (p.holds h).1 ∙ held_facts.1));
+              }));
+        },
+        subst (λ (l : List E). IsHistory hart seat x.number x.claims l) (sym log_is) (is_history hart seat k.owners x.claims log x.number apart entered f.knows),
+      )
 
   pub releases : (slots id : ℕ) (m : Me S (View E)) (x : Sitter E) (v : S) (e : E) → slots ≡ 1 → m.0 ≡ x ∷ [] → m.1 ≡ (0, v) ∷ [] → Ready x v e
       → Allows (Kept items room hart seat size) slots id m 0 (λ _. 0) (λ _. Released items room hart seat (step slots 0 0 0 none) m 0)
   releases slots id m x v e single alone carries ready s k long at fits_word =
       let at' : get_elem? s.views id ≡ some (x ∷ []) = at ∙ ap some alone in
       let is : x ≡ sitter m.0 = sym (ap sitter alone) in
-      let r = release_one s k id x v e at' (long ∙ single) ready in
-      (with_puts (items v) x ∷ [], gives, tt,
+      let r = release_one s k id x v e at' (long ∙ single) ready in (
+        with_puts (items v) x ∷ [],
+        gives,
+        tt,
         subst (λ (cs : List (ℕ × S)). Kept items room hart seat size (stepped s 0 0 id cs (with_puts (items v) x ∷ []) gives)) (sym carries) r.0,
-        (λ w has_w. let same : v ≡ w = value_same v w (sym carries ∙ has_w) in
-          (subst (λ (z : Sitter E). with_puts (items v) x ∷ [] ≡ with_puts (items v) z ∷ []) is refl ∙ ap (λ (u : S). with_puts (items u) (sitter m.0) ∷ []) same,
-            ap (λ (cs : List (ℕ × S)). rest cs) carries,
-            subst (λ (u : S). IsHistory hart seat (sitter m.0).number (sitter m.0).claims (items u)) same
-            (subst (λ (z : Sitter E). IsHistory hart seat z.number z.claims (items v)) is r.1))))
+        (λ w has_w. let same : v ≡ w = value_same v w (sym carries ∙ has_w) in (
+          subst (λ (z : Sitter E). with_puts (items v) x ∷ [] ≡ with_puts (items v) z ∷ []) is refl ∙ ap (λ (u : S). with_puts (items u) (sitter m.0) ∷ []) same,
+          ap (λ (cs : List (ℕ × S)). rest cs) carries,
+          subst (λ (u : S). IsHistory hart seat (sitter m.0).number (sitter m.0).claims (items u)) same
+              (subst (λ (z : Sitter E). IsHistory hart seat z.number z.claims (items v)) is r.1),
+        )),
+      )

@@ -74,12 +74,12 @@ module _ {S E : Type 0} (items : S → List E) (room : S → ℕ) (hart seat : E
       let whole : Each P (left ++ right) = subst (Each P) (sym e) (k.fits id v at) in
       resight s k (set s.views id left ++ right ∷ []) (by_each (set s.views id left ++ right ∷ []) s.views (λ f. sum_split f s.views id v left right at e))
       (λ j u there. ⊎_elim
-          (λ (t : get_elem? (set s.views id left) j ≡ some u). ⊎_elim
-              (λ (here : (j ≡ id) × (left ≡ u)). subst (Each P) here.1 (each_left P left right whole))
-              (λ (else : (j ≢ id) × (get_elem? s.views j ≡ some u)). k.fits j u else.1)
-              (at_set s.views id j left u t))
-          (λ (t : right ≡ u). subst (Each P) t (each_right P left right whole))
-          (at_snoc (set s.views id left) right u j there))
+      (λ (t : get_elem? (set s.views id left) j ≡ some u). ⊎_elim
+      (λ (here : (j ≡ id) × (left ≡ u)). subst (Each P) here.1 (each_left P left right whole))
+      (λ (else : (j ≢ id) × (get_elem? s.views j ≡ some u)). k.fits j u else.1)
+      (at_set s.views id j left u t))
+      (λ (t : right ≡ u). subst (Each P) t (each_right P left right whole))
+      (at_snoc (set s.views id left) right u j there))
 
   pub joins : (id : ℕ) (v : View E) (other : ℕ) (w : View E) → Joins (Kept items room hart seat size) id v other w (v ++ w) []
   joins id v other w s k at apart there =
@@ -87,12 +87,12 @@ module _ {S E : Type 0} (items : S → List E) (room : S → ℕ) (hart seat : E
       let before : get_elem? s.views other ≡ some w = sym (set_else s.views id other (v ++ w) apart) ∙ there in
       resight s k (set (set s.views id (v ++ w)) other []) (by_each (set (set s.views id (v ++ w)) other []) s.views (λ f. sum_join f s.views id other v w at there))
       (λ j u here. ⊎_elim
-          (λ (t : (j ≡ other) × ([] ≡ u)). subst (Each P) t.1 tt)
-          (λ (t : (j ≢ other) × (get_elem? (set s.views id (v ++ w)) j ≡ some u)). ⊎_elim
-              (λ (both : (j ≡ id) × ((v ++ w) ≡ u)). subst (Each P) both.1 (each_append P v w (k.fits id v at) (k.fits other w before)))
-              (λ (else : (j ≢ id) × (get_elem? s.views j ≡ some u)). k.fits j u else.1)
-              (at_set s.views id j (v ++ w) u t.1))
-          (at_set (set s.views id (v ++ w)) other j [] u here))
+      (λ (t : (j ≡ other) × ([] ≡ u)). subst (Each P) t.1 tt)
+      (λ (t : (j ≢ other) × (get_elem? (set s.views id (v ++ w)) j ≡ some u)). ⊎_elim
+      (λ (both : (j ≡ id) × ((v ++ w) ≡ u)). subst (Each P) both.1 (each_append P v w (k.fits id v at) (k.fits other w before)))
+      (λ (else : (j ≢ id) × (get_elem? s.views j ≡ some u)). k.fits j u else.1)
+      (at_set s.views id j (v ++ w) u t.1))
+      (at_set (set s.views id (v ++ w)) other j [] u here))
 
   -- the two sitters of a view both see the longer of what they saw
   meet_one : (s : State S (View E)) (k : Kept items room hart seat size s) (id w : ℕ) (x y : Sitter E) (es : List E) (cs : List (ℕ × S)) → get_elem? s.views id ≡ some (x ∷ y ∷ [])
@@ -121,9 +121,9 @@ module _ {S E : Type 0} (items : S → List E) (room : S → ℕ) (hart seat : E
         numbered_are = λ n. same_sum (numbered n) s.views id (x ∷ y ∷ []) v at refl;
       }
       (λ j u there. ⊎_elim
-          (λ (t : (j ≡ id) × (v ≡ u)). subst (Each P) t.1 (seen x f.0 idle_x, (seen y f.1.0 idle_y, tt)))
-          (λ (t : (j ≢ id) × (get_elem? s.views j ≡ some u)). k.fits j u t.1)
-          (at_set s.views id j v u there)))
+      (λ (t : (j ≡ id) × (v ≡ u)). subst (Each P) t.1 (seen x f.0 idle_x, (seen y f.1.0 idle_y, tt)))
+      (λ (t : (j ≢ id) × (get_elem? s.views j ≡ some u)). k.fits j u t.1)
+      (at_set s.views id j v u there)))
 
   met : (s : State S (View E)) (k : Kept items room hart seat size s) (id w : ℕ) (x y : Sitter E) (es : List E) (m : Me S (View E)) → get_elem? s.views id ≡ some (x ∷ y ∷ [])
       → Begins x.seen es → Begins y.seen es → (es ≡ x.seen) ⊎ (es ≡ y.seen) → Met items room hart seat x y m (with_seen es x ∷ with_seen es y ∷ [], m.1)

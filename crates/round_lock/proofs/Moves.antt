@@ -35,7 +35,7 @@ module _ {E : Type 0} (hart seat : E → ℕ) where
   found (e ∷ es) h is = dite (ℕ_discrete (hart e) h)
       (λ here. (e, ap (λ (b : Bool). cond b (Some e) (entry_of hart seat h es)) (eq-eqb (hart e) h here), here))
       (λ else. let r = found es h (⊎_elim (λ (i : h ≡ hart e). absurd (else (sym i))) (λ t. t) (has_cases (hart e) h (harts_of hart seat es) is)) in
-          (r.0, ap (λ (b : Bool). cond b (Some e) (entry_of hart seat h es)) (ne_eqb (hart e) h else) ∙ r.1, r.2))
+      (r.0, ap (λ (b : Bool). cond b (Some e) (entry_of hart seat h es)) (ne_eqb (hart e) h else) ∙ r.1, r.2))
 
   -- no entry of a hart that does not stand in the history
   pub missing : (es : List E) (h : ℕ) → has (harts_of hart seat es) h ≡ false → entry_of hart seat h es ≡ None
@@ -107,7 +107,8 @@ module _ {E : Type 0} (hart seat : E → ℕ) where
         → Made hart seat right harts owners es
     made is_right owners es le entries apart =
         let a = claims_may [] owners le in
-        let b = puts_may is_right owners [] es entries apart in
-        (claim_moves owners ++ put_moves es,
+        let b = puts_may is_right owners [] es entries apart in (
+          claim_moves owners ++ put_moves es,
           may_append opening (claim_moves owners) (put_moves es) a.0 (subst (λ (m : Gathering E). AllMay hart seat right harts m (put_moves es)) (sym a.1) b.0),
-          after_append opening (claim_moves owners) (put_moves es) ∙ (ap (λ (m : Gathering E). after_moves m (put_moves es)) a.1 ∙ b.1))
+          after_append opening (claim_moves owners) (put_moves es) ∙ (ap (λ (m : Gathering E). after_moves m (put_moves es)) a.1 ∙ b.1),
+        )

@@ -62,7 +62,7 @@ module _ {S E : Type 0} (items : S → List E) (room : S → ℕ) (hart seat : E
       let at_y : y ≡ sitter p.0 = sym (ap sitter at) in
       let own_is : own ≡ length x.own = c.own_is ∙ ap (λ (z : Sitter E). length z.own) (sym is) in
       let more : length y.own ≡ own + 1 =
-          (let a : length y.own ≡ length (x.own ++ e ∷ []) = ap (λ (l : List E). length l) (own_after x now w e pushed) in let b = length-append x.own (e ∷ []) in omega arith) in
+      (let a : length y.own ≡ length (x.own ++ e ∷ []) = ap (λ (l : List E). length l) (own_after x now w e pushed) in let b = length-append x.own (e ∷ []) in omega arith) in
       record {
         rest = record {
           alone = at ∙ sym (ap (λ (v : View E). sitter v ∷ []) at);

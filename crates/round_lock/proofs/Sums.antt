@@ -15,7 +15,6 @@ bit_le true = omega arith
 bit_le false = omega arith
 
 module _ {E : Type 0} where
-
   pub sum_in_append : (f : Sitter E → ℕ) (v w : View E) → sum_in f (v ++ w) ≡ sum_in f v + sum_in f w
   sum_in_append f [] w = omega arith
   sum_in_append f (x ∷ v) w = let r = sum_in_append f v w in omega arith

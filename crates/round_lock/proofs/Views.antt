@@ -46,10 +46,10 @@ module _ {E : Type 0} (hart seat : E → ℕ) where
       let P : List E → Type 0 = λ l. has (harts_of hart seat l) h ≡ true in
       ⊎_elim
       (λ (here : h ≡ hart e). let mine : seat e ≡ n = elem_one owners h (seat e) n (subst (λ (k : ℕ). get_elem? owners k ≡ some (seat e)) (sym here) es.0) at in
-          subst P (sym (of_seat_mine n e log mine)) (has_head (hart e) h (harts_of hart seat (of_seat hart seat n log)) here))
+      subst P (sym (of_seat_mine n e log mine)) (has_head (hart e) h (harts_of hart seat (of_seat hart seat n log)) here))
       (λ (there : has (harts_of hart seat log) h ≡ true). let r = own_has owners log n h es.1 at there in dite (ℕ_discrete (seat e) n)
-          (λ mine. subst P (sym (of_seat_mine n e log mine)) (has_tail (hart e) h (harts_of hart seat (of_seat hart seat n log)) r))
-          (λ not_mine. subst P (sym (of_seat_other n e log not_mine)) r))
+      (λ mine. subst P (sym (of_seat_mine n e log mine)) (has_tail (hart e) h (harts_of hart seat (of_seat hart seat n log)) r))
+      (λ not_mine. subst P (sym (of_seat_other n e log not_mine)) r))
       (has_cases (hart e) h (harts_of hart seat log) is)
 
   -- so what a seat claimed and has not put stands nowhere in the history
@@ -97,5 +97,5 @@ module _ {S E : Type 0} (items : S → List E) (room : S → ℕ) (hart seat : E
   refit P Q s k id x y at below before mine others j v e = ⊎_elim
       (λ (t : (j ≡ id) × ((y ∷ []) ≡ v)). subst (Each Q) t.1 (mine, tt))
       (λ (t : (j ≢ id) × (get_elem? s.views j ≡ some v)).
-          each_both P (λ z. z.number ≢ x.number) Q v others (before j v t.1) (others_differ s k id j x v at below t.0 t.1))
+      each_both P (λ z. z.number ≢ x.number) Q v others (before j v t.1) (others_differ s k id j x v at below t.0 t.1))
       (at_set s.views id j (y ∷ []) v e)

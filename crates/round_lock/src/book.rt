@@ -72,10 +72,7 @@ impl<E: Entry> RoundBook<E> {
         if s.ended {
             return None;
         }
-        let found = self
-            .table
-            .shared
-            .fetch_add::<Claims>(&mut s.place, 1, 1);
+        let found = self.table.shared.fetch_add::<Claims>(&mut s.place, 1, 1);
         if found < u64::from(s.harts) {
             Some(Ticket {
                 hart: found as u32,

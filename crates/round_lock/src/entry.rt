@@ -4,10 +4,12 @@ ghost use Rattle.std.specs.Prelude.{◌≡◌, ℕ};
 pub trait Entry: Drop {
     // The hart that the entry is of, and the seat that claimed it.
     ghost hart: { Self → ℕ };
+
     ghost seat: { Self → ℕ };
 
     // Its content is what it has to be, and two entries have one content.
     ghost right: { Self → Type 0 };
+
     ghost same: { Self → Self → Type 0 };
 
     /// The hart that the entry is of.
@@ -16,5 +18,6 @@ pub trait Entry: Drop {
 
     // The type keeps the content, so that entries of one hart are the same.
     ghost is_right: { (e : Self) → right e };
+
     ghost is_same: { (e f : Self) → hart e ≡ hart f → same e f };
 }

@@ -14,9 +14,9 @@ close-gathered-requires-clause-all g c =
     let seats = c.in_ok-book.seats in
     let same : length c.work_all.new.seats ≡ length seats.items = c.work_all.auto.seats ∙ ap (λ (ks : List (Known (HartRound g.row.B.Denot g.B.BookStart))). length ks) c.as_mut_slice.ensures.value in
     let many : length seats.items ≡ c.args.workers = ap (λ (ks : List (Known (HartRound g.row.B.Denot g.B.BookStart))). length ks) c.in_ok-book.ensures.seats
-        ∙ as_many (HartRound g.row.B.Denot g.B.BookStart) c.in_ok-book.book.table (length c.args.start.now.harts) c.args.workers in
+    ∙ as_many (HartRound g.row.B.Denot g.B.BookStart) c.in_ok-book.book.table (length c.args.start.now.harts) c.args.workers in
     ap (λ (ks : List (Known (HartRound g.row.B.Denot g.B.BookStart))). length ks) (written_over c.work_all.new.seats seats.items seats.len same seats.ok.0)
-      ∙ (same ∙ (many ∙ sym c.in_ok-book.ensures.book.1))
+    ∙ (same ∙ (many ∙ sym c.in_ok-book.ensures.book.1))
 
 pub close-gathered-requires-clause-table : goal.close-gathered-requires-clause-table
 close-gathered-requires-clause-table g c =

@@ -12,4 +12,4 @@ new-requires g c =
     let history : Vec g.row.E.Denot Global = c.in_ok-history.history in
     let slots : c.push_reserved.new.self.items ≡ history ∷ [] = c.push_reserved.ensures.items ∙ ap (λ (l : List (Vec g.row.E.Denot Global)). l ++ history ∷ []) c.in_ok-slots.ensures.items in
     subst (λ (l : List (Vec g.row.E.Denot Global)). Kept (λ (v : Vec g.row.E.Denot Global). v.items) (λ (v : Vec g.row.E.Denot Global). vec_capacity v) g.E.Entry.hart g.E.Entry.seat size (opening (0 ∷ 0 ∷ []) l (newcomers c.args.harts c.args.seats))) (sym slots)
-      (opens (λ (v : Vec g.row.E.Denot Global). v.items) (λ (v : Vec g.row.E.Denot Global). vec_capacity v) g.E.Entry.hart g.E.Entry.seat size (omega arith) (omega arith) history c.in_ok-history.ensures.items c.in_ok-history.ensures.capacity)
+    (opens (λ (v : Vec g.row.E.Denot Global). v.items) (λ (v : Vec g.row.E.Denot Global). vec_capacity v) g.E.Entry.hart g.E.Entry.seat size (omega arith) (omega arith) history c.in_ok-history.ensures.items c.in_ok-history.ensures.capacity)
