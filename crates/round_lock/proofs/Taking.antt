@@ -1,6 +1,6 @@
 -- An entry is taken out of a history, and the last one takes its place.
-use Rattle.std.proofs.Common.{◌≡◌, ◌≢◌, ℕ, zero, suc, ◌+◌, ◌<◌, eqb, true, false, List, [], ◌∷◌, ◌++◌, map, length, get_or, take, swap_remove, IsPermutation, refl, sym, ap, ◌∙◌, subst, arith, eq-eqb, ne_eqb, add-one}
-use Rattle.std.specs.List.{AllByRecursion, IsDistinct, list_any}
+use Rattle.std.proofs.Common.{◌≡◌, ◌≢◌, ℕ, zero, suc, ◌+◌, ◌<◌, eqb, true, false, List, [], ◌∷◌, ◌++◌, length, get_or, take, swap_remove, IsPermutation, refl, sym, ap, ◌∙◌, subst, arith, eq-eqb, ne_eqb, add-one}
+use Rattle.std.specs.List.{AllByRecursion, IsDistinct}
 use Rattle.std.proofs.lemmas.List.Sorted.{IsPermutation-map, IsPermutation-swap_remove, list_any-IsPermutation}
 use Rattle.std.proofs.lemmas.Map.Keys.{IsDistinct-IsPermutation}
 use mathlib.Core.List.{map-append}
@@ -8,7 +8,7 @@ use mathlib.Core.Logic.{dite}
 use native.Mathlib.Decide.{ℕ_discrete}
 use Rattle.round_lock.specs.Histories.{harts_of}
 use Rattle.round_lock.specs.Lists.{Apart, has}
-use Rattle.round_lock.proofs.Lists.{any_has, distinct, has_head, has_skip, lacks_from, lacks_snoc, or_false}
+use Rattle.round_lock.proofs.Lists.{any_has, distinct, has_head, has_skip, lacks_snoc, or_false}
 
 flips : (x y : ℕ) → eqb x y ≡ eqb y x
 flips x y = dite (ℕ_discrete x y) (λ e. eq-eqb x y e ∙ sym (eq-eqb y x (sym e))) (λ ne. ne_eqb x y ne ∙ sym (ne_eqb y x (λ e. ne (sym e))))

@@ -1,4 +1,4 @@
-use Rattle.std.proofs.Common.{◌≢◌, sym, ◌∙◌}
+use Rattle.std.proofs.Common.{◌∙◌}
 use Rattle.round_lock.proofs.Taking.{lacks_next}
 use Rattle.round_lock.proofs.gathered.place_of.Goals as goal
 

@@ -1,4 +1,4 @@
-use Rattle.std.proofs.Common.{◌≡◌, ℕ, false, take}
+use Rattle.std.proofs.Common.{◌≡◌, false, take}
 use Rattle.round_lock.specs.Histories.{harts_of}
 use Rattle.round_lock.specs.Lists.{has}
 use Rattle.round_lock.proofs.gathered.place_of.Given as goal

@@ -1,7 +1,7 @@
-use Rattle.std.proofs.Common.{◌≡◌, ◌≢◌, ◌<◌, ℕ, List, length, get_or, sym, ap, ◌∙◌, subst}
+use Rattle.std.proofs.Common.{◌≡◌, ◌<◌, List, length, get_or, sym, ap, ◌∙◌, subst}
 use Rattle.round_lock.specs.Histories.{harts_of}
 use Rattle.round_lock.specs.Known.{Collected}
-use Rattle.round_lock.specs.Lists.{Apart, has}
+use Rattle.round_lock.specs.Lists.{has}
 use Rattle.round_lock.proofs.Taking.{taken_out}
 use Rattle.round_lock.proofs.gathered.Gathered.take.Goals as goal
 
