@@ -1,15 +1,14 @@
 -- A new book keeps the rule: all seats in one view, nothing claimed and nothing put.
-use Rattle.std.proofs.Common.{◌≡◌, ◌≢◌, ℕ, zero, suc, ◌+◌, ◌^◌, ◌<◌, ◌≤◌, true, false, List, [], ◌∷◌, length, refl, sym, ap, subst, arith, true≢false}
+use Rattle.std.proofs.Common.{◌≡◌, ℕ, zero, suc, ◌+◌, ◌^◌, ◌<◌, ◌≤◌, List, [], ◌∷◌, refl, sym, subst, arith, true≢false}
 use mathlib.Core.Option.{some, some-injective, some-ne-none}
 use mathlib.Core.Logic.{dite}
 use native.Mathlib.Decide.{ℕ_discrete}
 use lib.ListN.{get_elem?}
 use Rattle.atomic_table.specs.Table.{opening}
-use Rattle.round_lock.specs.declared.sitter.Sitter.{Sitter}
 use Rattle.round_lock.specs.declared.sitter.Size.{Size}
 use Rattle.round_lock.specs.Lists.{Each}
 use Rattle.round_lock.specs.Rule.{Fits, Kept, View}
-use Rattle.round_lock.specs.Sitters.{held, late, newcomer, newcomers, newcomers_from, numbered, one, sum_in}
+use Rattle.round_lock.specs.Sitters.{held, newcomer, newcomers, newcomers_from, numbered, one, sum_in}
 use Rattle.round_lock.proofs.Sums.{numbered_at, numbered_other}
 
 module _ (E : Type 0) where

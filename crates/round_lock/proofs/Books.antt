@@ -1,6 +1,5 @@
 -- What a closed book promises, and what the loops of opening and closing keep.
-use Rattle.std.proofs.Common.{◌≡◌, ℕ, zero, suc, ◌+◌, ◌<◌, ◌≤◌, true, false, true≢false, lt_of_not-le, add-one, ap₂, List, [], ◌∷◌, ◌++◌, map, length, refl, sym, ap, ◌∙◌, subst, arith, append_assoc}
-use mathlib.Core.List.{map-append}
+use Rattle.std.proofs.Common.{◌≡◌, ℕ, zero, suc, ◌+◌, ◌<◌, true, false, true≢false, lt_of_not-le, add-one, ap₂, List, [], ◌∷◌, ◌++◌, map, length, refl, sym, ap, ◌∙◌, subst, arith, append_assoc}
 use mathlib.Core.Option.{some}
 use mathlib.Core.Logic.{dite}
 use native.Mathlib.Decide.{dec_le}
@@ -9,12 +8,12 @@ use Rattle.atomic_table.specs.Seated.{TableId}
 use Rattle.atomic_table.specs.Table.{Final, Me, Seen}
 use Rattle.round_lock.specs.declared.sitter.Sitter.{Sitter}
 use Rattle.round_lock.specs.declared.sitter.Size.{Size}
-use Rattle.round_lock.specs.Histories.{harts_of, of_seat}
-use Rattle.round_lock.specs.Known.{AllParted, IsMade, Known, Owns, claimed_by, known, numbers, seated}
+use Rattle.round_lock.specs.Histories.{of_seat}
+use Rattle.round_lock.specs.Known.{AllParted, IsMade, Known, claimed_by, known, numbers, seated}
 use Rattle.round_lock.specs.Lists.{Begins, Each, has}
-use Rattle.round_lock.specs.Rule.{AtRest, Kept, View}
+use Rattle.round_lock.specs.Rule.{Kept, View}
 use Rattle.round_lock.specs.Seats.{Counted}
-use Rattle.round_lock.specs.Sitters.{first_of, newcomer, newcomers, newcomers_from, sitter}
+use Rattle.round_lock.specs.Sitters.{first_of, newcomer, newcomers_from, sitter}
 use Rattle.round_lock.proofs.Ending.{Closing, claimed_from, closes, parted}
 use Rattle.round_lock.proofs.Lists.{each_map, elem_each, elem_there}
 use Rattle.round_lock.proofs.Moves.{made}

@@ -1,5 +1,5 @@
 -- A claim keeps the rule.
-use Rattle.std.proofs.Common.{◌≡◌, ◌≢◌, ℕ, ◌+◌, ◌%◌, ◌^◌, ◌<◌, ◌≤◌, true, false, List, [], ◌∷◌, ◌++◌, length, set, get_or, refl, sym, ap, ◌∙◌, subst, ⊎_elim, arith, true≢false, lt_of_not-le, mod-eq_of_lt, length-append, length-set, get_or-set_other, get_or-set_same}
+use Rattle.std.proofs.Common.{◌≡◌, ℕ, ◌+◌, ◌%◌, ◌^◌, ◌<◌, ◌≤◌, true, false, List, [], ◌∷◌, ◌++◌, length, set, get_or, refl, sym, ap, ◌∙◌, subst, ⊎_elim, arith, lt_of_not-le, mod-eq_of_lt, length-append, length-set, get_or-set_other, get_or-set_same}
 use mathlib.Core.Option.{none, some}
 use mathlib.Core.Logic.{dite}
 use native.Mathlib.Decide.{dec_le}

@@ -1,10 +1,10 @@
 -- The round of one hart among the rounds of all.
-use Rattle.std.proofs.Common.{◌≡◌, ℕ, zero, suc, false, List, [], ◌∷◌, Option, Some, option_map, slice_get, get_or, length, ◌<◌, refl, sym, ap, ap₂, arith}
+use Rattle.std.proofs.Common.{◌≡◌, ℕ, zero, suc, false, List, [], ◌∷◌, Some, option_map, slice_get, get_or, length, ◌<◌, sym, ap, ap₂, arith}
 use Rattle.round_schedule.specs.Schedule.{Words, hart_round_of, hart_rounds, round_from}
 use Rattle.hart_step.specs.declared.hart.Hart.{Hart}
 use Rattle.hart_step.specs.Console.{ConsoleState}
 use Rattle.hart_step.specs.Words.{words_of}
-use Rattle.round_lock.specs.Starts.{Content, Start, content_from, content_of, round_at}
+use Rattle.round_lock.specs.Starts.{Start, content_from, content_of, round_at}
 
 rounds_get : (w : Words Hart ConsoleState) (bs qs : List ℕ) (hs : List Hart) (i q : ℕ) (h : Hart) → slice_get hs i ≡ Some h → slice_get qs i ≡ Some q
     → slice_get (hart_rounds w bs qs hs) i ≡ Some (hart_round_of w bs q h)

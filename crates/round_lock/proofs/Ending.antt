@@ -1,5 +1,5 @@
 -- What the rule says once all seats lie in one view, at the closing of a book.
-use Rattle.std.proofs.Common.{◌≡◌, ◌≢◌, ℕ, ◌+◌, ◌<◌, ◌≤◌, ◌||◌, Bool, true, false, List, [], ◌∷◌, ◌++◌, map, length, set, get_or, refl, sym, ap, ◌∙◌, subst, ⊎_elim, arith, lt_of_not-le}
+use Rattle.std.proofs.Common.{◌≡◌, ◌≢◌, ℕ, ◌<◌, ◌≤◌, ◌||◌, Bool, true, false, List, [], ◌∷◌, map, length, set, get_or, refl, sym, ap, ◌∙◌, subst, ⊎_elim, arith, lt_of_not-le}
 use mathlib.Core.Option.{some, some-injective}
 use mathlib.Core.Logic.{dite}
 use native.Mathlib.Decide.{ℕ_discrete, dec_le}
@@ -12,7 +12,7 @@ use Rattle.round_lock.specs.Known.{AllParted, Known, Owns, Parted, claimed_by, n
 use Rattle.round_lock.specs.Lists.{Apart, Begins, Each, has}
 use Rattle.round_lock.specs.Rule.{Fits, Kept, View}
 use Rattle.round_lock.specs.Sitters.{held, numbered, one, sum_in, sum_of}
-use Rattle.round_lock.proofs.Lists.{each_both, each_map, each_unmapped, elem_each, elem_one, elem_there, has_head, has_tail, has_cases, lacks_from}
+use Rattle.round_lock.proofs.Lists.{each_both, each_map, each_unmapped, elem_one, has_head, has_tail, has_cases, lacks_from}
 use Rattle.round_lock.proofs.Sums.{held_one, length_in, none_numbered, numbered_at, numbered_other, numbered_self, sum_le, sum_set}
 
 or_true : (a b : Bool) → b ≡ true → (a || b) ≡ true

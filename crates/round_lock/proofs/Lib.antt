@@ -11,3 +11,4 @@ pub mod Putting
 pub mod Books
 pub mod Contents
 pub mod Using
+pub mod Taking

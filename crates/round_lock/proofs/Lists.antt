@@ -1,5 +1,5 @@
 -- Lemmas on the lists of the rule: beginnings, membership, numbers apart, elements by place.
-use Rattle.std.proofs.Common.{◌≡◌, ◌≢◌, ℕ, zero, suc, ◌+◌, ◌<◌, ◌≤◌, ◌==◌, ◌||◌, ◌⊎◌, Bool, true, false, eqb, List, [], ◌∷◌, ◌++◌, map, length, drop, refl, sym, ap, ◌∙◌, subst, inl, inr, ⊎_elim, true≢false, append_assoc, append-nil, arith, eq-eqb, ne_eqb, eqb-true}
+use Rattle.std.proofs.Common.{◌≡◌, ◌≢◌, ℕ, zero, suc, ◌<◌, ◌≤◌, ◌||◌, ◌⊎◌, Bool, true, false, eqb, List, [], ◌∷◌, ◌++◌, map, length, drop, refl, sym, ap, ◌∙◌, subst, inl, inr, ⊎_elim, true≢false, append_assoc, append-nil, arith, eq-eqb, ne_eqb}
 use Rattle.std.specs.List.{list_any, IsDistinct, AllByRecursion}
 use Rattle.std.proofs.lemmas.Map.Steps.{length-le_from_distinct_below}
 use mathlib.Core.Option.{some, some-injective, some-ne-none}
@@ -108,7 +108,7 @@ or_right : (a b : Bool) → (a || b) ≡ false → b ≡ false
 or_right true b e = absurd (true≢false e)
 or_right false b e = e
 
-or_false : (a b : Bool) → a ≡ false → b ≡ false → (a || b) ≡ false
+pub or_false : (a b : Bool) → a ≡ false → b ≡ false → (a || b) ≡ false
 or_false true b e f = e
 or_false false b e f = f
 
@@ -166,12 +166,12 @@ all_other : (xs : List ℕ) (n : ℕ) → has xs n ≡ false → AllByRecursion 
 all_other [] n h = tt
 all_other (x ∷ xs) n h = (or_left (eqb n x) (has xs n) h, all_other xs n (lacks_tail x n xs h))
 
-distinct : (xs : List ℕ) → Apart xs → IsDistinct eqb xs
+pub distinct : (xs : List ℕ) → Apart xs → IsDistinct eqb xs
 unfolding IsDistinct
 distinct [] a = tt
 distinct (x ∷ xs) a = (all_other xs x a.0, distinct xs a.1)
 
-any_has : (xs : List ℕ) (n : ℕ) → has xs n ≡ list_any (eqb n) xs
+pub any_has : (xs : List ℕ) (n : ℕ) → has xs n ≡ list_any (eqb n) xs
 any_has [] n = refl
 any_has (x ∷ xs) n = ap (λ (b : Bool). eqb n x || b) (any_has xs n)
 
@@ -198,3 +198,6 @@ has_from_times xs n e = go (has xs n) refl
     go : (b : Bool) → has xs n ≡ b → has xs n ≡ true
     go true h = h
     go false h = let z = times_lacking xs n h in absurd (omega arith)
+
+pub lacks_snoc : (xs : List ℕ) (m n : ℕ) → has xs n ≡ false → n ≢ m → has (xs ++ m ∷ []) n ≡ false
+lacks_snoc xs m n lacks ne = lacks_from (xs ++ m ∷ []) n (λ h. ⊎_elim (λ t. never (has xs n) t lacks) ne (has_snoc xs m n h))

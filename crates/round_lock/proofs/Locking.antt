@@ -1,6 +1,6 @@
 -- A try at the lock and a release keep the rule.
-use Rattle.std.proofs.Common.{◌≡◌, ◌≢◌, ℕ, eqb, ◌+◌, ◌<◌, ◌≤◌, Bool, true, false, List, [], ◌∷◌, ◌++◌, map, drop, length, set, get_or, refl, sym, ap, ◌∙◌, subst, arith, true≢false, append-nil, length-set, get_or-set_other, get_or-set_same, eq-eqb, ne_eqb}
-use mathlib.Core.Option.{none, some, some-injective, some-ne-none}
+use Rattle.std.proofs.Common.{◌≡◌, ℕ, eqb, ◌≤◌, Bool, true, false, List, [], ◌∷◌, ◌++◌, drop, length, set, get_or, refl, sym, ap, ◌∙◌, subst, arith, true≢false, append-nil, length-set, get_or-set_other, get_or-set_same, eq-eqb, ne_eqb}
+use mathlib.Core.Option.{none, some}
 use mathlib.Core.Logic.{dite}
 use mathlib.Core.List.{map-append}
 use native.Mathlib.Decide.{ℕ_discrete}

@@ -1,5 +1,5 @@
 -- A meeting, the cutting of a view and the joining of two keep the rule.
-use Rattle.std.proofs.Common.{◌≡◌, ◌≢◌, ℕ, ◌+◌, ◌<◌, ◌≤◌, ◌⊎◌, Bool, true, false, List, [], ◌∷◌, ◌++◌, length, set, get_or, refl, sym, ap, ◌∙◌, subst, ⊎_elim, inl, inr, arith, true≢false, lt_of_not-le, le_of_lt, append-nil}
+use Rattle.std.proofs.Common.{◌≡◌, ◌≢◌, ℕ, ◌⊎◌, false, List, [], ◌∷◌, ◌++◌, length, set, get_or, refl, sym, ap, ◌∙◌, subst, ⊎_elim, inl, inr, arith, true≢false, lt_of_not-le, le_of_lt}
 use mathlib.Core.Option.{none, some}
 use mathlib.Core.Logic.{dite}
 use native.Mathlib.Decide.{dec_le}
@@ -9,7 +9,7 @@ use Rattle.atomic_table.specs.Table.{State, Me, step, keeps, stepped, Allows, Sp
 use Rattle.atomic_table.proofs.Lists.{at_set, at_snoc, set_else}
 use Rattle.round_lock.specs.declared.sitter.Sitter.{Sitter}
 use Rattle.round_lock.specs.declared.sitter.Size.{Size}
-use Rattle.round_lock.specs.Lists.{Begins, Each, has}
+use Rattle.round_lock.specs.Lists.{Begins, Each}
 use Rattle.round_lock.specs.Rule.{Compared, Fits, Kept, Met, View}
 use Rattle.round_lock.specs.Sitters.{first_of, held, late, numbered, one, others_of, sitter, sum_in, sum_of, with_seen}
 use Rattle.round_lock.proofs.Lists.{begins_longer, begins_same, each_append, each_left, each_right, elem_one, lacks_from}

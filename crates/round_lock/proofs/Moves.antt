@@ -1,11 +1,11 @@
 -- Legal lists of moves: one leaves the history of a closed book, and complete ones leave the same entries.
-use Rattle.std.proofs.Common.{◌≡◌, ◌≢◌, ℕ, ◌+◌, ◌<◌, ◌≤◌, ◌==◌, cond, Bool, true, false, List, [], ◌∷◌, ◌++◌, map, length, Option, Some, None, is_some, option_map, refl, sym, ap, ◌∙◌, subst, ⊎_elim, arith, true≢false, append_assoc, append-nil, length-append, eq-eqb, ne_eqb, eqb}
+use Rattle.std.proofs.Common.{◌≡◌, ◌≢◌, ℕ, ◌≤◌, cond, Bool, true, false, List, [], ◌∷◌, ◌++◌, map, length, Option, Some, None, is_some, option_map, refl, sym, ap, ◌∙◌, subst, ⊎_elim, arith, true≢false, append_assoc, append-nil, length-append, eq-eqb, ne_eqb}
 use mathlib.Core.Option.{some}
 use mathlib.Core.Logic.{dite}
 use mathlib.Core.List.{map-append}
 use native.Mathlib.Decide.{ℕ_discrete}
 use lib.ListN.{get_elem?}
-use Rattle.round_lock.specs.Histories.{AllMay, Complete, Gathering, Made, May, Move, SameTable, after_move, after_moves, claims, entry_of, harts_of, opening, puts, releases, takes}
+use Rattle.round_lock.specs.Histories.{AllMay, Gathering, Made, Move, SameTable, after_move, after_moves, claims, entry_of, harts_of, opening, puts, releases, takes}
 use Rattle.round_lock.specs.Lists.{Apart, Each, has}
 use Rattle.round_lock.proofs.Lists.{has_cases, has_from_times, has_head, has_skip, has_tail, lacks_head, lacks_tail, never}
 

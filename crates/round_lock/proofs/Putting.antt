@@ -4,9 +4,9 @@ use Rattle.atomic_table.specs.Seated.{TableId}
 use Rattle.atomic_table.specs.Table.{Me, rest}
 use Rattle.round_lock.specs.declared.sitter.Sitter.{Sitter}
 use Rattle.round_lock.specs.Histories.{IsHistory, harts_of, of_seat}
-use Rattle.round_lock.specs.Known.{Known, Puts, known}
+use Rattle.round_lock.specs.Known.{Puts, known}
 use Rattle.round_lock.specs.Lists.{Begins, has}
-use Rattle.round_lock.specs.Rule.{AtRest, GotLock, View}
+use Rattle.round_lock.specs.Rule.{GotLock, View}
 use Rattle.round_lock.specs.Seats.{Counted}
 use Rattle.round_lock.specs.Sitters.{sitter, with_lock, with_puts}
 use Rattle.round_lock.proofs.Lists.{drop_begin, each_of_all}

@@ -1,5 +1,5 @@
 -- For callers of a book: the seats of a new one, and what a claim leaves.
-use Rattle.std.proofs.Common.{◌≡◌, ℕ, zero, suc, ◌+◌, List, [], ◌∷◌, ◌++◌, map, true, length, refl, sym, ap, subst, arith}
+use Rattle.std.proofs.Common.{◌≡◌, ℕ, zero, suc, [], ◌∷◌, ◌++◌, map, true, length, refl, sym, subst, arith}
 use Rattle.atomic_table.specs.Seated.{TableId}
 use Rattle.round_lock.specs.Known.{Known, Named, fresh_seats, known}
 use Rattle.round_lock.specs.Lists.{Each, has}

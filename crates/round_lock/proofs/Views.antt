@@ -1,5 +1,5 @@
 -- What the rule knows of all views, when one of them changes.
-use Rattle.std.proofs.Common.{◌≡◌, ◌≢◌, ℕ, ◌+◌, ◌<◌, ◌≤◌, true, false, if◌then◌else◌, Bool, List, [], ◌∷◌, ◌++◌, length, map, set, get_or, refl, sym, ap, ◌∙◌, subst, ⊎_elim, arith, eq-eqb, ne_eqb}
+use Rattle.std.proofs.Common.{◌≡◌, ◌≢◌, ℕ, ◌<◌, ◌≤◌, true, false, if◌then◌else◌, Bool, List, [], ◌∷◌, ◌++◌, length, set, refl, sym, ap, ◌∙◌, subst, ⊎_elim, arith, eq-eqb, ne_eqb}
 use mathlib.Core.Option.{some}
 use mathlib.Core.Logic.{dite}
 use native.Mathlib.Decide.{ℕ_discrete}
@@ -10,8 +10,8 @@ use Rattle.round_lock.specs.declared.sitter.Sitter.{Sitter}
 use Rattle.round_lock.specs.declared.sitter.Size.{Size}
 use Rattle.round_lock.specs.Lists.{Each, has, Apart}
 use Rattle.round_lock.specs.Histories.{IsHistory, harts_of, of_seat}
-use Rattle.round_lock.specs.Rule.{Fits, Kept, View}
-use Rattle.round_lock.specs.Sitters.{numbered, sum_in, sum_of}
+use Rattle.round_lock.specs.Rule.{Kept, View}
+use Rattle.round_lock.specs.Sitters.{numbered}
 use Rattle.round_lock.proofs.Lists.{each_map, each_both, each_mapped, elem_below, elem_one, fewer_than, has_cases, has_head, has_tail, lacks_from, never}
 use Rattle.round_lock.proofs.Sums.{none_numbered, numbered_self, sum_two}
 

@@ -1,10 +1,10 @@
 -- What callers see of a seat, of a book and of a closed book, and what the calls promise.
-use Rattle.std.specs.Prelude.{◌≡◌, ℕ, ◌<◌, ◌||◌, true, false, Bool, List, [], ◌∷◌, ◌++◌, map, length}
+use Rattle.std.specs.Prelude.{◌≡◌, ℕ, ◌||◌, true, false, Bool, List, [], ◌∷◌, ◌++◌, map}
 use mathlib.Core.Option.{some}
 use lib.ListN.{get_elem?}
 use Rattle.atomic_table.specs.Seated.{TableId}
 use Rattle.round_lock.specs.declared.sitter.Sitter.{Sitter}
-use Rattle.round_lock.specs.Lists.{Begins, Each, has}
+use Rattle.round_lock.specs.Lists.{Each, has}
 use Rattle.round_lock.specs.Sitters.{newcomers}
 use Rattle.round_lock.specs.Histories.{IsHistory, Made, of_seat}
 

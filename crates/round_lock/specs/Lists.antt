@@ -1,5 +1,5 @@
 -- Lists of numbers and of entries: what begins what, what stands in a list, and sums.
-use Rattle.std.specs.Prelude.{◌≡◌, ℕ, ◌+◌, ◌==◌, ◌||◌, Bool, true, false, if◌then◌else◌, List, [], ◌∷◌, ◌++◌}
+use Rattle.std.specs.Prelude.{◌≡◌, ℕ, ◌+◌, ◌==◌, ◌||◌, Bool, false, if◌then◌else◌, List, [], ◌∷◌, ◌++◌}
 
 -- the second list begins with the first
 abbrev pub Begins : {A : Type 0} → List A → List A → Type 0

@@ -1,5 +1,6 @@
-ghost use Rattle.std.specs.Prelude.{◌≡◌, ◌↔◌, IfSome, IsTrue, option_map};
-ghost use Rattle.round_lock.specs.Histories.{Complete, SameTable, entry_of};
+ghost use Rattle.std.specs.Prelude.{◌≡◌, ◌↔◌, ◌≢◌, ◌<◌, ℕ, false, length, IfNone, IfSome, IsTrue, is_some, option_map, slice_index_or};
+ghost use Rattle.round_lock.specs.Lists.{has};
+ghost use Rattle.round_lock.specs.Histories.{Complete, SameTable, entry_of, harts_of};
 
 use crate::entry::Entry;
 use std::marker::Model;
@@ -32,6 +33,18 @@ impl<E: Entry> Gathered<E> {
         self.history.iter().find(|e| e.hart_number() == hart)
     }
 
+    /// Takes the entry of a hart out, if it was put. The entries of other harts stay.
+    pub fn take(&mut self, hart: u32) -> Option<E>
+        ensures taken { is_some result ≡ has (harts_of E.hart E.seat self.old.history) hart }
+        ensures hart { IfSome result (λ e. E.hart e ≡ hart) }
+        ensures right { IfSome result (λ e. E.right e) }
+        ensures others { (h : ℕ) → h ≢ hart → has (harts_of E.hart E.seat self.new.history) h ≡ has (harts_of E.hart E.seat self.old.history) h }
+        ensures harts { self.new.harts ≡ self.old.harts }
+    {
+        let place = place_of(&self.history, hart)?;
+        Some(self.history.swap_remove(place))
+    }
+
     /// Whether each hart was put. Any two complete legal histories of one start leave the same entries.
     pub fn is_complete(&self) -> bool
         ensures complete { IsTrue result ↔ Complete E.hart E.seat self.now.harts self.now.history }
@@ -44,4 +57,17 @@ impl<E: Entry> Gathered<E> {
         }
         true
     }
+}
+
+/// Where the entry of a hart stands, if it was put.
+fn place_of<E: Entry>(history: &[E], hart: u32) -> Option<usize>
+    ensures none { IfNone result (has (harts_of E.hart E.seat history.now) hart ≡ false) }
+    ensures some { IfSome result (λ i. (i < length history.now) × ((d : E) → E.hart (slice_index_or history.now i d) ≡ hart)) }
+{
+    for (i, entry) in history.iter().enumerate() {
+        if entry.hart_number() == hart {
+            return Some(i);
+        }
+    }
+    None
 }

@@ -80,4 +80,18 @@ impl<B: BookStart> HartRound<B> {
     {
         self.waits
     }
+
+    /// The hart after its round, the bytes that it stored, its accesses in program order, and whether it waits.
+    pub fn into_parts(self) -> (Hart, StoreBuffer, Vec<Access>, bool)
+        ensures { content_in self ≡ content_from result.0 result.1 result.2.items result.3 }
+    {
+        let HartRound {
+            hart,
+            buffer,
+            accesses,
+            waits,
+            ..
+        } = self;
+        (hart, buffer, accesses, waits)
+    }
 }

@@ -138,12 +138,18 @@ fn two_meet<B: BookStart, R: Abort + Wait>(rt: &R, alloc: Global, start: &RoundS
     book.meet(&mut first, &mut second);
     assert!(rt; first.seen() == 2 && second.seen() == 2);
     assert!(rt; first.own() == 1 && second.own() == 1);
-    let gathered = close_two(rt, alloc, book, first, second);
+    let mut gathered = close_two(rt, alloc, book, first, second);
     assert!(rt; gathered.is_complete());
     let last = gathered.get(1).expect(rt, "the hart was put");
     assert!(rt; last.hart().x[5] == 7 && !last.waits());
     assert!(rt; last.accesses().is_empty() && last.buffer().stores().next().is_none());
     assert!(rt; gathered.get(2).is_none());
+    let taken = gathered.take(0).expect(rt, "the hart was put");
+    let (hart, buffer, accesses, waits) = taken.into_parts();
+    assert!(rt; hart.x[5] == 6 && !waits);
+    assert!(rt; accesses.is_empty() && buffer.stores().next().is_none());
+    assert!(rt; gathered.get(0).is_none() && gathered.get(1).is_some());
+    assert!(rt; gathered.take(0).is_none() && !gathered.is_complete());
 }
 
 /// Two threads put all harts between them.

@@ -1,4 +1,4 @@
-use Rattle.std.proofs.Common.{◌≡◌, ℕ, ◌+◌, ◌<◌, Vec, Global, sym, refl, ap, ◌∙◌, arith, vec_capacity, List, [], ◌∷◌, ◌++◌, map, subst}
+use Rattle.std.proofs.Common.{◌+◌, Vec, Global, ap, ◌∙◌, arith, vec_capacity}
 use Rattle.round_lock.specs.Sitters.{first_of, newcomers_from, others_of, sitter}
 use Rattle.round_lock.proofs.Books.{counted_new, deal_one, new_sitter, next_sitters, one_less}
 use Rattle.round_lock.proofs.Meeting.{rejoined, splits}

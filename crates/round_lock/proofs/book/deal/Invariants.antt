@@ -1,4 +1,4 @@
-use Rattle.std.proofs.Common.{◌≡◌, ℕ, ◌+◌, ◌≤◌, List, [], ◌∷◌, ◌++◌, map, vec_capacity, vec_len}
+use Rattle.std.proofs.Common.{◌≡◌, ℕ, ◌+◌, ◌≤◌, [], ◌++◌, map, vec_capacity, vec_len}
 use Rattle.round_lock.specs.Known.{known}
 use Rattle.round_lock.specs.Sitters.{newcomers, newcomers_from}
 use Rattle.round_lock.proofs.book.deal.Given as goal

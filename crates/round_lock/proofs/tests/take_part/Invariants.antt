@@ -1,4 +1,4 @@
-use Rattle.std.proofs.Common.{◌≡◌, ℕ}
+use Rattle.std.proofs.Common.{◌≡◌}
 use Rattle.round_lock.specs.Rounds.{harts_put}
 use Rattle.round_lock.proofs.tests.take_part.Given as goal
 

@@ -1,4 +1,4 @@
-use Rattle.std.proofs.Common.{◌≡◌, ℕ, Vec, Global, sym, ap, ◌∙◌, arith, vec_capacity}
+use Rattle.std.proofs.Common.{Vec, Global, sym, ap, ◌∙◌, arith, vec_capacity}
 use Rattle.round_lock.proofs.Claiming.{claims}
 use Rattle.round_lock.proofs.book.RoundBook.claim.Goals as goal
 

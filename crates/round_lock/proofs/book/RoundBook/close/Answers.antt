@@ -1,4 +1,4 @@
-use Rattle.std.proofs.Common.{◌≡◌, ℕ, ◌<◌, Vec, Global, sym, refl, ap, ◌∙◌, arith, vec_capacity, vec_len, true, List, [], ◌∷◌, ◌++◌, map, subst}
+use Rattle.std.proofs.Common.{◌≡◌, ℕ, ◌<◌, Vec, Global, sym, ap, ◌∙◌, arith, vec_capacity, vec_len, true, [], ◌∷◌, ◌++◌, subst}
 use Rattle.std.specs.Slots.{slots_items}
 use Rattle.round_lock.specs.Known.{IsMade, Known, claimed_by, seated}
 use Rattle.round_lock.specs.Lists.{Each}

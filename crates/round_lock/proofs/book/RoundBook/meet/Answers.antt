@@ -1,5 +1,5 @@
-use Rattle.std.proofs.Common.{◌≡◌, ℕ, Vec, Global, sym, refl, ap, ◌∙◌, arith, vec_capacity, List, [], ◌∷◌, ◌++◌, subst}
-use Rattle.round_lock.specs.Sitters.{first_of, others_of, sitter}
+use Rattle.std.proofs.Common.{Vec, Global, sym, refl, ap, ◌∙◌, arith, vec_capacity, [], ◌++◌}
+use Rattle.round_lock.specs.Sitters.{first_of, others_of}
 use Rattle.round_lock.proofs.Meeting.{compares, joins, rejoined, splits, two_of}
 use Rattle.round_lock.proofs.book.RoundBook.meet.Goals as goal
 

@@ -1,4 +1,4 @@
-use Rattle.std.proofs.Common.{◌≡◌, ℕ, ◌≤◌, ◌<◌, Vec, Global, sym, refl, ap, ◌∙◌, arith, vec_capacity, true, false, List, [], ◌∷◌, subst, length}
+use Rattle.std.proofs.Common.{◌≡◌, Vec, Global, sym, refl, ap, ◌∙◌, arith, vec_capacity, true, false, ◌∷◌, subst}
 use Rattle.atomic_table.specs.Table.{Me, rest}
 use Rattle.round_lock.specs.Histories.{harts_of}
 use Rattle.round_lock.specs.Known.{Known, Puts, known}

@@ -1,4 +1,4 @@
-use Rattle.std.proofs.Common.{◌≡◌, ℕ, ◌<◌, ◌^◌, Vec, Global, sym, ap, ◌∙◌, arith, vec_capacity, List, [], ◌∷◌, ◌++◌, subst}
+use Rattle.std.proofs.Common.{◌≡◌, Vec, Global, sym, ap, ◌∙◌, arith, vec_capacity, List, [], ◌∷◌, ◌++◌, subst}
 use Rattle.atomic_table.specs.Table.{opening}
 use Rattle.round_lock.specs.declared.sitter.Size.{Size}
 use Rattle.round_lock.specs.Rule.{Kept}

@@ -1,7 +1,7 @@
-use Rattle.std.proofs.Common.{◌≡◌, ℕ, ◌+◌, ◌<◌, true, false, sym, refl, ap, ◌∙◌, below_more, arith, subst}
+use Rattle.std.proofs.Common.{refl, ap, below_more, arith, subst}
 use Rattle.round_lock.specs.Histories.{harts_of}
 use Rattle.round_lock.specs.Known.{Collected}
-use Rattle.round_lock.specs.Lists.{Apart, has}
+use Rattle.round_lock.specs.Lists.{Apart}
 use Rattle.round_lock.proofs.Lists.{has_from_times, never, times_once}
 use Rattle.round_lock.proofs.Moves.{entry_from_has, has_from_entry, same_table}
 use Rattle.round_lock.proofs.gathered.Gathered.is_complete.Goals as goal
