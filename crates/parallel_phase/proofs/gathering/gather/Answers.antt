@@ -1,4 +1,4 @@
-use Rattle.std.proofs.Common.{◌≡◌, ℕ, List, length, subst, sym, refl, ap, ◌∙◌, arith}
+use Rattle.std.proofs.Common.{◌≡◌, List, length, sym, refl, ap, ◌∙◌}
 use Rattle.round_lock.specs.declared.hart_round.HartRound.{HartRound}
 use Rattle.round_lock.specs.Known.{Known}
 use Rattle.round_lock.proofs.Using.{as_many}

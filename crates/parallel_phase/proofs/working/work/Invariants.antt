@@ -1,4 +1,4 @@
-use Rattle.std.proofs.Common.{◌≡◌, ℕ, length}
+use Rattle.std.proofs.Common.{length}
 use Rattle.parallel_phase.specs.Seats.{IsReady}
 use Rattle.parallel_phase.proofs.working.work.Given as goal
 
