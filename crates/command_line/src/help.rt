@@ -8,7 +8,8 @@ Example:
   dethart run guest.elf --harts 4 --quota 1
   dethart order guest.elf --harts 4 --quota 1
 
-dethart run --help lists the options, and what each error N means. dethart order takes the same options.
+dethart run --help lists the options, and what each error N means. dethart order takes the same
+options.
 
 Exit status: 0 the report, the order or a help text was printed, 1 a refusal (error N), 2 a bad command line.";
 
@@ -58,9 +59,9 @@ pub(crate) const ORDER_AFTER_HELP: &str = "\
 Example:
   dethart order guest.elf --harts 4
 
-The line 'order N' comes first, then the N memory operations in an order that meets the memory model
-RVWMO, each as in the report's trace, and then 'checked yes' where a checker found that the order meets
-RVWMO, or else 'checked no'.
+The line 'order N' comes first, and then the N memory operations in their order in global memory,
+each as in the report's trace. The last line is 'checked yes' where a checker found that the order
+meets the memory model RVWMO, and else 'checked no'.
 
 A plan is one or more rows of quotas; rounds take its rows in turn. A row is one number, which is
 the quota of each hart, or one for each hart with one space between. A quota is 1 to 1000000.

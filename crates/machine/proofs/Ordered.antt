@@ -1,5 +1,5 @@
 -- Round traces over opening bytes that are the same at each address.
-use Rattle.std.proofs.Common.{◌≡◌, ℕ, ◌∙◌, List, Option, Some, None, Result, Ok, Err, OnOk, refl}
+use Rattle.std.proofs.Common.{◌≡◌, ℕ, ◌∙◌, List, Option, Some, None, Result, Ok, Err, OnErr, OnOk, refl}
 use Rattle.host_io.specs.declared.error.RunError.{RunError}
 use Rattle.round_schedule.specs.declared.event.Event.{Event}
 use Rattle.round_schedule.specs.Positions.{source_byte}
@@ -22,3 +22,7 @@ same_opening t f g budget e h = record {
 pub where_done : (r : Result (Unit {0}) RunError) (P Q : Type 0) → (P → Q) → OnOk r P → OnOk r Q
 where_done (Ok v) P Q f h = f h
 where_done (Err e) P Q f h = tt
+
+pub where_refused : (r : Result (Unit {0}) RunError) (P Q : Type 0) → (P → Q) → OnErr r P → OnErr r Q
+where_refused (Ok v) P Q f h = tt
+where_refused (Err e) P Q f h = f h
