@@ -1,7 +1,7 @@
 use Rattle.std.proofs.Common.{◌≡◌, ◌∙◌, ◌<◌, ℕ, All, Bool, List, true, inr, length, refl, sym, ap, subst}
 use Rattle.round_schedule.specs.declared.event.Event.{Event}
 use Rattle.report.specs.Order.{IsCheckedOrder, order_text}
-use Rattle.report.specs.Pending.{Wrote, way}
+use Rattle.report.specs.Pending.{way}
 use Rattle.report.proofs.Orders.{listed_within, on_err, on_ok}
 use Rattle.report.proofs.Writing.{begun_of, errors_of, same_text, sink_of, whole_of}
 use Rattle.report.proofs.order.write_order.Goals as goal
