@@ -1,4 +1,4 @@
-use Rattle.std.proofs.Common.{◌≡◌, ◌∙◌, ⊎_elim, inl, inr, ℕ, ◌++◌, Bool, List, ap, slice_index, subst, true}
+use Rattle.std.proofs.Common.{◌∙◌, ⊎_elim, inl, inr, ℕ, ◌++◌, Bool, List, ap, slice_index, subst, true}
 use Rattle.round_schedule.specs.declared.event.Event.{Event}
 use Rattle.host_io.specs.Taken.{BeganText}
 use Rattle.memory_order.proofs.Meeting.{meets_rvwmo}
