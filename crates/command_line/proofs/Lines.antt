@@ -1,5 +1,5 @@
--- A line that clap takes has met the subcommand `run`.
-use Rattle.std.proofs.Common.{◌≡◌, cond, Bool, true, false, true≢false, refl, sym, ap, List, [], ◌∷◌, Option, Some, None, is_some, codes, option_map, unwrap_or}
+-- A line that clap takes has met a subcommand of `dethart`.
+use Rattle.std.proofs.Common.{◌≡◌, ◌⊎◌, inl, inr, cond, Bool, true, false, true≢false, refl, sym, ap, List, [], ◌∷◌, Option, Some, None, is_some, codes, option_map, unwrap_or}
 use Rattle.std.specs.List.{slice_index_or}
 use Rattle.clap.specs.Simple.{Shape, argument_words, built, entered, help_shape, is_simple, label_of, names_of, rows_at}
 use Rattle.clap.specs.Faults.{check_fault, defaults_fault, entered_fault, fault_of, is_simple_and_free, settle_fault, walk_fault}
@@ -22,22 +22,31 @@ wants_subcommand : (rows : List Row) (has : Bool) → check_fault (built dethart
 wants_subcommand rows true e = refl
 wants_subcommand rows false e = cc
 
--- `run` with the words after it
+-- a subcommand of `dethart`, with the values after it
+pub record Met (o : Option (Text × List Row)) : Type 0 where
+  pub name : Text
+  pub rows : List Row
+  pub is : o ≡ Some (name, rows)
+  pub known : (name ≡ codes "run") ⊎ (name ≡ codes "order")
+
 abbrev run_shape : Shape
 run_shape = slice_index_or (built dethart_app).subs 0 help_shape
 
-one_name : (answers : Bool) (words : List Text) → is_some (option_map (λ s. rows_at s words) (cond answers (Some run_shape) None)) ≡ true
-    → (rows : List Row) × (option_map (λ s. rows_at s words) (cond answers (Some run_shape) None) ≡ Some (codes "run", rows))
-one_name true words e = (rows_after run_shape.rules [] words, refl)
-one_name false words e = absurd (true≢false (sym e))
+abbrev order_shape : Shape
+order_shape = slice_index_or (built dethart_app).subs 1 help_shape
 
-enters_run : (stop : Option (Text × List Text)) → is_some (entered (built dethart_app) stop) ≡ true
-    → (rows : List Row) × (entered (built dethart_app) stop ≡ Some (codes "run", rows))
-enters_run None e = absurd (true≢false (sym e))
-enters_run (Some p) e = one_name (answers_to p.0 (label_of run_shape)) p.1 e
+one_name : (run order : Bool) (words : List Text) → is_some (option_map (λ s. rows_at s words) (cond run (Some run_shape) (cond order (Some order_shape) None))) ≡ true
+    → Met (option_map (λ s. rows_at s words) (cond run (Some run_shape) (cond order (Some order_shape) None)))
+one_name true order words e = record { name = codes "run"; rows = rows_after run_shape.rules [] words; is = refl; known = inl refl }
+one_name false true words e = record { name = codes "order"; rows = rows_after order_shape.rules [] words; is = refl; known = inr refl }
+one_name false false words e = absurd (true≢false (sym e))
 
-pub takes_run : (words : List Text) → fault_of dethart_app words ≡ [] → (rows : List Row) × (subcommand_of dethart_app words ≡ Some (codes "run", rows))
-takes_run words none =
+enters_one : (stop : Option (Text × List Text)) → is_some (entered (built dethart_app) stop) ≡ true → Met (entered (built dethart_app) stop)
+enters_one None e = absurd (true≢false (sym e))
+enters_one (Some p) e = one_name (answers_to p.0 (label_of run_shape)) (answers_to p.0 (label_of order_shape)) p.1 e
+
+pub takes_one : (words : List Text) → fault_of dethart_app words ≡ [] → Met (subcommand_of dethart_app words)
+takes_one words none =
     let top = (built dethart_app).top in
     let names = names_of (built dethart_app) in
     let end = walk top.rules names nothing_held (argument_words dethart_app words) in
@@ -45,7 +54,7 @@ takes_run words none =
     let settling = second_empty (entered_fault (built dethart_app) end.stopped) _ below in
     let defaulting = second_empty (settle_fault top.rules top.args_override_self end.held) _ settling in
     let checking = second_empty (defaults_fault (settled top.rules end.held).rows top.rules) _ defaulting in
-    enters_run end.stopped (wants_subcommand (finished top.rules end.held) (is_some (entered (built dethart_app) end.stopped)) checking)
+    enters_one end.stopped (wants_subcommand (finished top.rules end.held) (is_some (entered (built dethart_app) end.stopped)) checking)
 
 -- the name of the subcommand, by its rows
 pub name_of : {X : Type 0} (f : X → Text × List Row) (o : Option X) → option_map (λ x. (f x).0) o ≡ option_map (λ p. p.0) (option_map f o)

@@ -25,7 +25,7 @@ abbrev pub number_rule : Text → Text → Rule
 number_rule name default =
     record (defaulted_rule name default) { parser = Some (parser.Signed (pos 0) (pos 4294967295)) }
 
--- what `run` takes
+-- what `run` and `order` take
 abbrev pub run_rules : List Rule
 run_rules =
     image_rule
@@ -40,12 +40,14 @@ run_rules =
     ∷ text_rule (codes "input")
     ∷ []
 
-abbrev pub run_app : App
-run_app = record { top = record (new_app (codes "run")).top { rules = run_rules }; subs = [] }
+-- a subcommand that runs a guest program
+abbrev pub program_app : Text → App
+program_app name = record { top = record (new_app name).top { rules = run_rules }; subs = [] }
 
--- `dethart` itself, which must be given a subcommand
+-- `dethart` itself, which must be given one of its subcommands
 abbrev pub dethart_app : App
 dethart_app = with_subcommand
+    (with_subcommand
     (record {
       top = record (new_app (codes "dethart")).top {
         subcommand_required = true;
@@ -53,4 +55,5 @@ dethart_app = with_subcommand
       };
       subs = [];
     })
-    run_app.top
+    (program_app (codes "run")).top)
+    (program_app (codes "order")).top

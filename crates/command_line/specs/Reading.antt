@@ -6,7 +6,7 @@ use Rattle.std.specs.Char.{digit_value}
 use Rattle.std.specs.Str.Parse.{digits_value, without_leading_plus}
 use Rattle.clap.specs.Words.{Row, Text, first_of, one_of}
 use Rattle.command_line.specs.declared.settings.Command.{Command}
-use Rattle.command_line.specs.declared.settings.Command.TheVariants.{Run as RunCommand}
+use Rattle.command_line.specs.declared.settings.Command.TheVariants.{Order as OrderCommand, Run as RunCommand}
 use Rattle.command_line.specs.declared.settings.Run.{Run}
 
 -- the text is one or more decimal digits, after a plus that may be there, of a number of 32 bits
@@ -37,7 +37,8 @@ pub record HoldsRun (rows : List Row) (run : Run) : Type 0 where
   pub budget : run.budget ≡ number_or 1 (one_of (codes "budget") rows)
   pub input : option_map (λ s. s.now) run.input ≡ first_of (codes "input") rows
 
--- the subcommand is `run`, and the line holds its values
+-- the subcommand is the one that the line is of, and the line holds its values
 abbrev pub HoldsLine : Option (Text × List Row) → Command → Type 0
 HoldsLine None line = ⊥
 HoldsLine (Some met) (RunCommand run) = (met.0 ≡ codes "run") × HoldsRun met.1 run
+HoldsLine (Some met) (OrderCommand run) = (met.0 ≡ codes "order") × HoldsRun met.1 run

@@ -6,10 +6,12 @@ pub(crate) const ABOUT: &str =
 pub(crate) const AFTER_HELP: &str = "\
 Example:
   dethart run guest.elf --harts 4 --quota 1
+  dethart order guest.elf --harts 4 --quota 1
 
-dethart run --help lists the options, and what each error N means.
+dethart run --help lists the options, and what each error N means. dethart order takes the same
+options.
 
-Exit status: 0 the report or a help text was printed, 1 a refusal (error N), 2 a bad command line.";
+Exit status: 0 the report, the order or a help text was printed, 1 a refusal (error N), 2 a bad command line.";
 
 pub(crate) const RUN_ABOUT: &str = "Runs the program in the file IMAGE, and prints the report.";
 
@@ -49,3 +51,22 @@ A refusal is the line 'error N' on standard error, with the exit status 1:
   61  a file couldn't be opened or read
 
 Exit status: 0 the report was printed, 1 a refusal, 2 a bad command line.";
+
+pub(crate) const ORDER_ABOUT: &str =
+    "Runs the program in the file IMAGE, and prints the order of its memory operations.";
+
+pub(crate) const ORDER_AFTER_HELP: &str = "\
+Example:
+  dethart order guest.elf --harts 4
+
+The line 'order N' comes first, and then the N memory operations in their order in global memory,
+each as in the report's trace. The last line is 'checked yes' where a checker found that the order
+meets the memory model RVWMO, and else 'checked no'.
+
+A plan is one or more rows of quotas; rounds take its rows in turn. A row is one number, which is
+the quota of each hart, or one for each hart with one space between. A quota is 1 to 1000000.
+
+A refusal is the line 'error N' on standard error, with the exit status 1; dethart run --help lists
+what each N means.
+
+Exit status: 0 the order was printed, 1 a refusal, 2 a bad command line.";

@@ -2,10 +2,10 @@
 ghost use Rattle.std.specs.Prelude.{◌≡◌, IfOk};
 ghost use Rattle.clap.specs.Words.{app_of, rule_of};
 ghost use Rattle.clap.specs.declared.builder.command.Command.TheViews.{out-Command};
-ghost use Rattle.command_line.specs.Options.{defaulted_rule, dethart_app, flat_rule, image_rule, number_rule, run_app, text_rule};
+ghost use Rattle.command_line.specs.Options.{defaulted_rule, dethart_app, flat_rule, image_rule, number_rule, program_app, text_rule};
 ghost use Rattle.std.specs.Prelude.{codes, false};
 
-use crate::help::{ABOUT, AFTER_HELP, RUN_ABOUT, RUN_AFTER_HELP};
+use crate::help::{ABOUT, AFTER_HELP, ORDER_ABOUT, ORDER_AFTER_HELP, RUN_ABOUT, RUN_AFTER_HELP};
 use clap::{Arg, ArgAction, Command, value_parser};
 use std::alloc::{AllocError, Global};
 
@@ -19,17 +19,23 @@ pub(crate) fn dethart_command<'a>(alloc: Global) -> Result<Command<'a>, AllocErr
         .after_help(AFTER_HELP)
         .subcommand_required(true)
         .disable_help_subcommand(true)
-        .subcommand(run_command(alloc)?)
+        .subcommand(program_command(alloc, "run", RUN_ABOUT, RUN_AFTER_HELP)?)?
+        .subcommand(program_command(alloc, "order", ORDER_ABOUT, ORDER_AFTER_HELP)?)
 }
 
-/// The subcommand `run`.
-fn run_command<'a>(alloc: Global) -> Result<Command<'a>, AllocError>
-    ensures app { IfOk result (λ command. app_of command ≡ run_app) }
+/// A subcommand that runs a guest program: the image and the options of the run.
+fn program_command<'a>(
+    alloc: Global,
+    name: &'a str,
+    about: &'a str,
+    after_help: &'a str,
+) -> Result<Command<'a>, AllocError>
+    ensures app { IfOk result (λ command. app_of command ≡ program_app name.entry.now) }
     ensures local { IfOk result (λ command. (out-Command command).has_globals ≡ false) }
 {
-    Command::new(alloc, "run")
-        .about(RUN_ABOUT)
-        .after_help(RUN_AFTER_HELP)
+    Command::new(alloc, name)
+        .about(about)
+        .after_help(after_help)
         .arg(image(alloc))?
         .arg(flat(alloc))?
         .arg(number(alloc, "harts", "1", "Harts: 1 to 64"))?

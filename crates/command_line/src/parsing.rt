@@ -16,14 +16,19 @@ pub fn parse_line<'a>(alloc: Global, words: &'a [&'a str]) -> Result<Command<'a>
     ensures fails { FailsBy (fault_of dethart_app (map (λ s. s.now) words.entry.now)) result }
 {
     let matches = dethart_command(alloc)?.try_get_matches_from(words)?;
-    // `clap` refuses a line without a subcommand, and there is no other than `run`.
-    let Some((_run, matches_of_run)) = matches.subcommand() else {
+    // `clap` refuses a line without a subcommand.
+    let Some((name, found)) = matches.subcommand() else {
         unreachable!()
     };
-    Ok(Command::Run(run_of(matches_of_run)))
+    // There is no other than `run` and `order`.
+    if name == "run" {
+        Ok(Command::Run(run_of(found)))
+    } else {
+        Ok(Command::Order(run_of(found)))
+    }
 }
 
-/// What the matches of `run` say.
+/// What the matches of `run` or `order` say.
 fn run_of<'a>(matches: &ArgMatches<'a>) -> Run<'a>
     ensures { HoldsRun (rows_of (found_of matches.now)) result }
 {

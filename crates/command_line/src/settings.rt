@@ -3,9 +3,11 @@
 pub enum Command<'a> {
     /// `run IMAGE`: run a guest program, and print the report.
     Run(Run<'a>),
+    /// `order IMAGE`: run it, and print the order of its memory operations.
+    Order(Run<'a>),
 }
 
-/// The words after `run`. The numbers are as they were given: their ranges are not tested here.
+/// The words after `run` or `order`. The numbers are as they were given: their ranges are not tested here.
 #[derive(Clone, Copy, Debug, PartialEq, Eq, Drop)]
 pub struct Run<'a> {
     /// The path of the image.

@@ -54,6 +54,9 @@ fn reads_options_and_defaults(rt: HostRuntime) -> Result<(), Fail> {
     assert!(rt;
         parse_line(rt.alloc(), &["dethart", "run", "guest.elf"])? == Command::Run(defaults)
     );
+    assert!(rt;
+        parse_line(rt.alloc(), &["dethart", "order", "guest.elf"])? == Command::Order(defaults)
+    );
     Ok(())
 }
 
@@ -109,12 +112,14 @@ fn refuses_bad_lines(rt: HostRuntime) {
         )
     );
     assert!(rt; is_refused(&rt, &["dethart", "--help"], ErrorKind::DisplayHelp, 0));
-    assert!(rt;
-        is_refused(
-            &rt,
-            &["dethart", "run", "--help"],
-            ErrorKind::DisplayHelp,
-            0
-        )
-    );
+    for command in ["run", "order"] {
+        assert!(rt;
+            is_refused(
+                &rt,
+                &["dethart", command, "--help"],
+                ErrorKind::DisplayHelp,
+                0
+            )
+        );
+    }
 }

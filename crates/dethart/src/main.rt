@@ -1,4 +1,4 @@
-//! Runs a guest program as the command line says, and prints the report.
+//! Runs a guest program as the command line says, and prints the report or the order of its memory operations.
 #![tactic(auto)]
 
 mod failure;
@@ -11,6 +11,7 @@ mod tests;
 use command_line::{Command, parse_line};
 use failure::Failure;
 use line::{answer_line, arguments, texts_of};
+use run::{Asked, print_run};
 use std::process::ExitCode;
 
 fn main(rt: HostRuntime) -> ExitCode {
@@ -29,7 +30,8 @@ fn start(rt: &HostRuntime) -> Result<(), Failure> {
     let arguments = arguments(rt)?;
     let words = texts_of(rt.alloc(), arguments.as_slice())?;
     match parse_line(rt.alloc(), words.as_slice()) {
-        Ok(Command::Run(run)) => Ok(run::report(rt, &run)?),
+        Ok(Command::Run(run)) => Ok(print_run(rt, &run, Asked::Report)?),
+        Ok(Command::Order(run)) => Ok(print_run(rt, &run, Asked::Order)?),
         Err(error) => answer_line(rt, error),
     }
 }

@@ -3,13 +3,22 @@ ghost use Rattle.std.specs.Prelude.{◌≡◌, ◌++◌, ◌∷◌, [], IfOk, if
 use crate::files::read_file;
 use command_line::Run;
 use host_io::{RunError, WriteSink};
-use machine::{Format, Settings, emulate};
+use machine::{Format, Settings, emulate, order_run};
 use pages::OutOfMemory;
 use std::alloc::Global;
 use std::io::{self, BufWriter, Write};
 
-/// Runs the guest program, and prints the report to standard output.
-pub(crate) fn report(rt: &HostRuntime, run: &Run<'_>) -> Result<(), RunError> {
+/// What is printed of a run.
+#[derive(Clone, Copy, Debug, PartialEq, Eq)]
+pub(crate) enum Asked {
+    /// The report of the state after it.
+    Report,
+    /// The order of its memory operations.
+    Order,
+}
+
+/// Runs the guest program, and prints what is asked for to standard output.
+pub(crate) fn print_run(rt: &HostRuntime, run: &Run<'_>, asked: Asked) -> Result<(), RunError> {
     let image = read_file(rt, run.image)?;
     let plan = match run.plan {
         Some(path) => read_file(rt, path)?,
@@ -20,7 +29,7 @@ pub(crate) fn report(rt: &HostRuntime, run: &Run<'_>) -> Result<(), RunError> {
         None => Vec::new(rt.alloc()),
     };
     let settings = settings_of(run, plan.as_slice());
-    print_report(rt, image.as_slice(), input.as_slice(), &settings)
+    print_outcome(rt, image.as_slice(), input.as_slice(), &settings, asked)
 }
 
 /// The plan of one row.
@@ -51,23 +60,22 @@ pub(crate) fn settings_of<'a>(run: &Run<'_>, plan: &'a [u8]) -> Settings<'a>
     }
 }
 
-/// Emulates the guest program, and prints the report to standard output.
-fn print_report(
+/// Emulates the guest program, and prints what is asked for to standard output.
+fn print_outcome(
     rt: &HostRuntime,
     image: &[u8],
     input: &[u8],
     settings: &Settings<'_>,
+    asked: Asked,
 ) -> Result<(), RunError> {
     let Ok(mut out) = BufWriter::new(rt.alloc(), io::writer(rt)) else {
         return Err(RunError::OutOfMemory);
     };
-    emulate(
-        rt.alloc(),
-        image,
-        input,
-        settings,
-        &mut WriteSink::new(&mut out),
-    )?;
+    let mut sink = WriteSink::new(&mut out);
+    match asked {
+        Asked::Report => emulate(rt.alloc(), image, input, settings, &mut sink)?,
+        Asked::Order => order_run(rt.alloc(), image, input, settings, &mut sink)?,
+    }
     match out.flush() {
         Ok(()) => Ok(()),
         Err(_) => Err(RunError::SinkFailed),

@@ -21,10 +21,12 @@ fn status_after(rt: &HostRuntime, words: &[&str]) -> u8 {
 #[test]
 fn statuses_of_lines(rt: HostRuntime) {
     assert_eq!(rt; status_after(&rt, &["dethart", "run", "a"]), 0);
+    assert_eq!(rt; status_after(&rt, &["dethart", "order", "a"]), 0);
     assert_eq!(rt; status_after(&rt, &["dethart", "--help"]), 0);
     assert_eq!(rt; status_after(&rt, &["dethart", "run", "--help"]), 0);
     assert_eq!(rt; status_after(&rt, &["dethart"]), 2);
     assert_eq!(rt; status_after(&rt, &["dethart", "run"]), 2);
+    assert_eq!(rt; status_after(&rt, &["dethart", "order"]), 2);
     assert_eq!(rt; status_after(&rt, &["dethart", "walk", "a"]), 2);
     assert_eq!(rt; status_after(&rt, &["dethart", "run", "a", "b"]), 2);
     assert_eq!(rt;

@@ -8,3 +8,4 @@ pub mod SizeKept
 pub mod TraceKept
 pub mod Good
 pub mod TracedRun
+pub mod Ordered

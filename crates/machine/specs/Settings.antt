@@ -9,6 +9,7 @@ use Rattle.elf_loader.specs.Image.{Loaded, flat_image}
 use Rattle.elf_loader.specs.declared.load_error.LoadError.{LoadError}
 use Rattle.round_planner.specs.Grammar.{IsPlanText, numbers_of}
 use Rattle.round_planner.specs.Quotas.{Planned}
+use Rattle.round_schedule.specs.declared.event.Event.{Event}
 use Rattle.report.specs.Report.{report_of}
 use Rattle.machine.specs.Machine.{opening, after_rounds}
 use Rattle.machine.specs.declared.settings.Format.{Format}
@@ -51,6 +52,10 @@ plan_of harts rows budget = record { harts = harts; rows = numbers_of rows; budg
 -- the report after so many rounds of an image, an input and a plan
 abbrev pub report_after : ℕ → Loaded → List ℕ → Planned → List ℕ
 report_after rounds image input plan = report_of (after_rounds rounds (opening image input plan)).state
+
+-- the events of such a run
+abbrev pub trace_after : ℕ → Loaded → List ℕ → Planned → List Event
+trace_after rounds image input plan = (after_rounds rounds (opening image input plan)).state.trace
 
 -- the plan is what a text says, for so many harts and this budget
 pub record IsPlanOf (harts : ℕ) (text : List ℕ) (budget : ℕ) (plan : Planned) : Type 0 where

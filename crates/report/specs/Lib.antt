@@ -1,3 +1,4 @@
 pub mod Text
 pub mod Pending
 pub mod Report
+pub mod Order

@@ -1,12 +1,14 @@
-//! The report of a run: the text of harts, memory, output and events, written to a sink.
+//! The report of a run: the text of harts, memory, output and events, and that of the order of its memory operations.
 #![tactic(auto)]
 
 mod line;
+mod order;
 mod rows;
 mod state;
 mod text;
 mod writer;
 
+pub use order::write_order;
 pub use state::write_state;
 pub use text::{write_event, write_hart};
 

@@ -16,7 +16,12 @@ use pages::Pages;
 use round_schedule::Event;
 use std::alloc::Global;
 
-fn put_count<S: Sink>(out: &mut S, line: &mut Line, word: &str, count: u64) -> Result<(), RunError>
+pub(crate) fn put_count<S: Sink>(
+    out: &mut S,
+    line: &mut Line,
+    word: &str,
+    count: u64,
+) -> Result<(), RunError>
     ensures { Wrote (word.now ++ decimal count ++ codes "\n") (way (S.took out.old) (S.failures out.old) line.old) result (way (S.took out.new) (S.failures out.new) line.new) }
 {
     count_line(line, word, count)?;
@@ -30,7 +35,11 @@ fn put_hart<S: Sink>(out: &mut S, line: &mut Line, number: u64, hart: &Hart) -> 
     put_long(out, line)
 }
 
-fn put_event<S: Sink>(out: &mut S, line: &mut Line, event: &Event) -> Result<(), RunError>
+pub(crate) fn put_event<S: Sink>(
+    out: &mut S,
+    line: &mut Line,
+    event: &Event,
+) -> Result<(), RunError>
     ensures { Wrote (event_text event.now) (way (S.took out.old) (S.failures out.old) line.old) result (way (S.took out.new) (S.failures out.new) line.new) }
 {
     event_line(line, event)?;

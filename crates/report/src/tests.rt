@@ -1,9 +1,11 @@
-use crate::{write_event, write_hart, write_state};
+use crate::{write_event, write_hart, write_order, write_state};
 use hart_step::{Hart, Stop};
 use host_io::{History, RunError, Sink, SinkFault, WriteSink};
+use memory_order::Trace;
 use pages::{Pages, Piece, Width};
 use round_schedule::{Access, Event, Phase};
 use rv64_decode::{AcquireRelease, FenceMode, FenceSet};
+use std::alloc::Global;
 use std::test::Fail;
 
 /// A sink that takes one byte a call.
@@ -185,5 +187,63 @@ fn reports(rt: HostRuntime) -> Result<(), Fail> {
     );
     assert!(rt; answer == Err(RunError::SinkFailed));
     assert!(rt; room.as_slice() == b"rounds 1\nh".as_slice());
+    Ok(())
+}
+
+fn store(place: u64, address: u64, written: u64) -> Access {
+    Access::Store {
+        width: Width::W8,
+        place,
+        address,
+        written,
+    }
+}
+
+fn load(place: u64, address: u64, read: u64) -> Access {
+    Access::Load {
+        width: Width::W8,
+        place,
+        address,
+        read,
+    }
+}
+
+/// Whether the order of these events, over memory of zeros, has this text.
+fn is_order_text(alloc: Global, events: &[Event], order: &str) -> Result<bool, Fail> {
+    match Trace::of(Vec::new(alloc), events.to_vec(alloc)?) {
+        Some(trace) => {
+            let mut text = Vec::new(alloc);
+            write_order(alloc, &trace, &mut WriteSink::new(&mut text))?;
+            Ok(text.as_slice() == order.as_bytes())
+        }
+        None => Ok(false),
+    }
+}
+
+#[test]
+fn an_order_takes_loads_before_stores(rt: HostRuntime) -> Result<(), Fail> {
+    let events = [
+        event(1, 0, Phase::Parallel, store(3, 0x100, 1)),
+        event(1, 0, Phase::Parallel, load(4, 0x108, 0)),
+        event(1, 1, Phase::Parallel, store(3, 0x108, 1)),
+        event(1, 1, Phase::Parallel, load(4, 0x100, 0)),
+    ];
+    let order = "order 4\n\
+                 1 0 4 p load - 00000108 8 0000000000000000 -\n\
+                 1 1 4 p load - 00000100 8 0000000000000000 -\n\
+                 1 0 3 p store - 00000100 8 - 0000000000000001\n\
+                 1 1 3 p store - 00000108 8 - 0000000000000001\n\
+                 checked yes\n";
+    assert!(rt; is_order_text(rt.alloc(), &events, order)?);
+    Ok(())
+}
+
+#[test]
+fn a_load_of_what_nobody_stored_is_told(rt: HostRuntime) -> Result<(), Fail> {
+    let events = [event(1, 0, Phase::Parallel, load(2, 0x100, 7))];
+    let order = "order 1\n\
+                 1 0 2 p load - 00000100 8 0000000000000007 -\n\
+                 checked no\n";
+    assert!(rt; is_order_text(rt.alloc(), &events, order)?);
     Ok(())
 }

@@ -1,6 +1,8 @@
-use crate::{Format, Settings, trace_run};
+use crate::{Format, Settings, order_run, trace_run};
+use host_io::WriteSink;
 use memory_order::{Order, memory_order};
 use std::alloc::Global;
+use std::test::Fail;
 
 // Both harts store to a place of their own and load that of the other.
 const STORE_AND_LOAD: [u8; 20] = [
@@ -66,4 +68,33 @@ fn serial_loads_come_after_the_stores_of_their_round(rt: HostRuntime) {
 #[test]
 fn a_store_between_lr_and_sc_is_ordered_after_the_lr(rt: HostRuntime) {
     assert!(rt; is_ordered(rt.alloc(), &RESERVE_AND_STORE, b"3 2\n3 3\n", 2, 1, &[0, 1]));
+}
+
+#[test]
+fn an_order_is_written_and_checked(rt: HostRuntime) -> Result<(), Fail> {
+    let settings = Settings {
+        format: Format::Flat,
+        harts: 2,
+        pages: 1,
+        rounds: 1,
+        workers: 1,
+        plan: b"5\n",
+        budget: 1,
+    };
+    let mut text = Vec::new(rt.alloc());
+    order_run(
+        rt.alloc(),
+        &STORE_AND_LOAD,
+        &[],
+        &settings,
+        &mut WriteSink::new(&mut text),
+    )?;
+    let order = "order 4\n\
+                 1 0 4 p load - 00000108 8 0000000000000000 -\n\
+                 1 1 4 p load - 00000100 8 0000000000000000 -\n\
+                 1 0 3 p store - 00000100 8 - 0000000000000001\n\
+                 1 1 3 p store - 00000108 8 - 0000000000000001\n\
+                 checked yes\n";
+    assert!(rt; text.as_slice() == order.as_bytes());
+    Ok(())
 }

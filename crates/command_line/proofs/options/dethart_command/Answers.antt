@@ -1,8 +1,10 @@
-use Rattle.std.proofs.Common.{◌≡◌, ◌∙◌, ◌||◌, ap, ap₂, codes, true, false}
+use Rattle.std.proofs.Common.{◌≡◌, ◌∙◌, ap, codes, true, false}
 use Rattle.std.proofs.lemmas.Result.{IfOk-weaker}
 use Rattle.clap.specs.Simple.{app_of_fields}
 use Rattle.clap.specs.Words.{AddsSubcommand, App, app_of, new_app, with_subcommand}
 use Rattle.clap.specs.declared.builder.command.Command.TheViews.{out-Command}
+use Rattle.command_line.specs.Options.{program_app}
+use Rattle.command_line.proofs.Chains.{Stands, one_command}
 use Rattle.command_line.proofs.options.dethart_command.Goals as goal
 
 pub returns-clause-app : goal.returns-clause-app
@@ -18,8 +20,13 @@ returns-clause-app c =
     let local : (out-Command c.disable_help_subcommand.result).has_globals ≡ false =
     ap (λ f. f.has_globals) c.disable_help_subcommand.ensures ∙ (ap (λ f. f.has_globals) c.subcommand_required.ensures
     ∙ (ap (λ f. f.has_globals) c.after_help.ensures ∙ (ap (λ f. f.has_globals) c.about.ensures ∙ c.new.ensures.local))) in
-    let run = c.in_ok-run_command.field-0 in
-    IfOk-weaker c.subcommand.result (AddsSubcommand c.disable_help_subcommand.result run) _ (λ r added. added.shape c.in_ok-run_command.ensures.local ∙ ap₂ with_subcommand told (ap (λ (a : App). a.top) c.in_ok-run_command.ensures.app)) c.subcommand.ensures
+    let a0 : App = wanting bare in
+    let s0 : Stands c.disable_help_subcommand.result a0 = record { shape = told; local = local } in
+    let run : Stands c.in_ok-program_command.field-0 (program_app (codes "run")) = record { shape = c.in_ok-program_command.ensures.app; local = c.in_ok-program_command.ensures.local } in
+    let a1 : App = with_subcommand a0 (program_app (codes "run")).top in
+    let s1 : Stands c.in_ok-subcommand.field-0 a1 = one_command c.disable_help_subcommand.result c.in_ok-program_command.field-0 c.in_ok-subcommand.field-0 a0 (program_app (codes "run")) s0 run c.in_ok-subcommand.ensures in
+    let order : Stands c.in_ok-program_command-2.field-0 (program_app (codes "order")) = record { shape = c.in_ok-program_command-2.ensures.app; local = c.in_ok-program_command-2.ensures.local } in
+    IfOk-weaker c.subcommand-2.result (AddsSubcommand c.in_ok-subcommand.field-0 c.in_ok-program_command-2.field-0) _ (λ r added. (one_command c.in_ok-subcommand.field-0 c.in_ok-program_command-2.field-0 r a1 (program_app (codes "order")) s1 order added).shape) c.subcommand-2.ensures
 
 pub returns-clause-local : goal.returns-clause-local
 returns-clause-local c =
@@ -34,5 +41,10 @@ returns-clause-local c =
     let local : (out-Command c.disable_help_subcommand.result).has_globals ≡ false =
     ap (λ f. f.has_globals) c.disable_help_subcommand.ensures ∙ (ap (λ f. f.has_globals) c.subcommand_required.ensures
     ∙ (ap (λ f. f.has_globals) c.after_help.ensures ∙ (ap (λ f. f.has_globals) c.about.ensures ∙ c.new.ensures.local))) in
-    let run = c.in_ok-run_command.field-0 in
-    IfOk-weaker c.subcommand.result (AddsSubcommand c.disable_help_subcommand.result run) _ (λ r added. added.globals ∙ ap₂ (λ a b. a || b) local c.in_ok-run_command.ensures.local) c.subcommand.ensures
+    let a0 : App = wanting bare in
+    let s0 : Stands c.disable_help_subcommand.result a0 = record { shape = told; local = local } in
+    let run : Stands c.in_ok-program_command.field-0 (program_app (codes "run")) = record { shape = c.in_ok-program_command.ensures.app; local = c.in_ok-program_command.ensures.local } in
+    let a1 : App = with_subcommand a0 (program_app (codes "run")).top in
+    let s1 : Stands c.in_ok-subcommand.field-0 a1 = one_command c.disable_help_subcommand.result c.in_ok-program_command.field-0 c.in_ok-subcommand.field-0 a0 (program_app (codes "run")) s0 run c.in_ok-subcommand.ensures in
+    let order : Stands c.in_ok-program_command-2.field-0 (program_app (codes "order")) = record { shape = c.in_ok-program_command-2.ensures.app; local = c.in_ok-program_command-2.ensures.local } in
+    IfOk-weaker c.subcommand-2.result (AddsSubcommand c.in_ok-subcommand.field-0 c.in_ok-program_command-2.field-0) _ (λ r added. (one_command c.in_ok-subcommand.field-0 c.in_ok-program_command-2.field-0 r a1 (program_app (codes "order")) s1 order added).local) c.subcommand-2.ensures

@@ -4,11 +4,11 @@ use Rattle.clap.specs.Simple.{app_of_fields}
 use Rattle.clap.specs.Words.{AddsArg, App, new_app, with_rule}
 use Rattle.command_line.proofs.Chains.{Stands, one_more}
 use Rattle.command_line.specs.Options.{defaulted_rule, flat_rule, image_rule, number_rule, text_rule}
-use Rattle.command_line.proofs.options.run_command.Goals as goal
+use Rattle.command_line.proofs.options.program_command.Goals as goal
 
 pub returns-clause-app : goal.returns-clause-app
 returns-clause-app c =
-    let a0 : App = new_app (codes "run") in
+    let a0 : App = new_app c.args.name.now in
     let s0 : Stands c.after_help.result a0 = record { shape = ap app_of_fields c.after_help.ensures ∙ (ap app_of_fields c.about.ensures ∙ c.new.ensures.app); local = ap (λ x. x.has_globals) c.after_help.ensures ∙ (ap (λ x. x.has_globals) c.about.ensures ∙ c.new.ensures.local) } in
     let a1 : App = with_rule a0 image_rule in
     let s1 : Stands c.in_ok-arg.field-0 a1 = one_more c.after_help.result c.image.result c.in_ok-arg.field-0 a0 image_rule s0 c.image.ensures.rule c.image.ensures.local c.in_ok-arg.ensures in
@@ -32,7 +32,7 @@ returns-clause-app c =
 
 pub returns-clause-local : goal.returns-clause-local
 returns-clause-local c =
-    let a0 : App = new_app (codes "run") in
+    let a0 : App = new_app c.args.name.now in
     let s0 : Stands c.after_help.result a0 = record { shape = ap app_of_fields c.after_help.ensures ∙ (ap app_of_fields c.about.ensures ∙ c.new.ensures.app); local = ap (λ x. x.has_globals) c.after_help.ensures ∙ (ap (λ x. x.has_globals) c.about.ensures ∙ c.new.ensures.local) } in
     let a1 : App = with_rule a0 image_rule in
     let s1 : Stands c.in_ok-arg.field-0 a1 = one_more c.after_help.result c.image.result c.in_ok-arg.field-0 a0 image_rule s0 c.image.ensures.rule c.image.ensures.local c.in_ok-arg.ensures in
