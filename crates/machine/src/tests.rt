@@ -16,7 +16,6 @@ use host_io::{RunError, WriteSink};
 use pages::OutOfMemory;
 use round_planner::Plan;
 use std::alloc::Global;
-use std::test::Fail;
 
 /// The flat image of these words.
 fn flat(alloc: Global, words: &[u32]) -> Result<Vec<u8>, OutOfMemory> {
@@ -40,23 +39,56 @@ fn settings(harts: u32, rounds: u32, plan: &[u8]) -> Settings<'_> {
     }
 }
 
+/// The report of a run of an image.
+fn report_of(
+    alloc: Global,
+    image: &[u8],
+    input: &[u8],
+    settings: &Settings<'_>,
+) -> Result<Vec<u8>, RunError> {
+    let mut text = Vec::new(alloc);
+    emulate(
+        alloc,
+        image,
+        input,
+        settings,
+        &mut WriteSink::new(&mut text),
+    )?;
+    Ok(text)
+}
+
 /// The report of a run of these words.
 fn report(
     alloc: Global,
     words: &[u32],
     input: &[u8],
     settings: &Settings<'_>,
-) -> Result<Vec<u8>, Fail> {
-    let image = flat(alloc, words)?;
+) -> Result<Vec<u8>, RunError> {
+    report_of(alloc, &flat(alloc, words)?, input, settings)
+}
+
+/// Whether the report of a run of these words is this one.
+fn report_is(
+    alloc: Global,
+    words: &[u32],
+    input: &[u8],
+    settings: &Settings<'_>,
+    wanted: &str,
+) -> bool {
+    match report(alloc, words, input, settings) {
+        Ok(text) => text.as_slice() == wanted.as_bytes(),
+        Err(_) => false,
+    }
+}
+
+/// The number of the refusal of a run, or 0, and how many bytes the sink took.
+fn answer(alloc: Global, image: &[u8], settings: &Settings<'_>) -> (u32, usize) {
     let mut text = Vec::new(alloc);
-    emulate(
-        alloc,
-        &image,
-        input,
-        settings,
-        &mut WriteSink::new(&mut text),
-    )?;
-    Ok(text)
+    let answer = emulate(alloc, image, &[], settings, &mut WriteSink::new(&mut text));
+    match answer {
+        Ok(()) => (0, text.len()),
+        Err(error) => (error.number(), text.len()),
+    }
 }
 
 /// The machine of these words on one page, without input.

@@ -58,50 +58,60 @@ fn sure_image(alloc: Global) -> Result<Vec<u8>, OutOfMemory> {
     }
 }
 
+/// Does a round and gives its number. Where memory is refused, the report has to be as before and the round is asked for
+/// again; else there is no number.
+fn sure_round(alloc: Global, machine: &mut Machine) -> Result<Option<u32>, RunError> {
+    let before = sure_text(alloc, machine)?;
+    let error = match machine.round(4) {
+        Ok(note) => return Ok(Some(note.round)),
+        Err(error) => error,
+    };
+    let after = sure_text(alloc, machine)?;
+    if error.number() != 20 || after.as_slice() != before.as_slice() {
+        return Ok(None);
+    }
+    Ok(Some(machine.round(4)?.round))
+}
+
 #[test]
 fn a_refused_round_changes_nothing(rt: HostRuntime) -> Result<(), Fail> {
     let mut machine = sure_machine(rt.alloc())?;
-    for number in [1, 2] {
-        let before = sure_text(rt.alloc(), &machine)?;
-        let note = match machine.round(4) {
-            Ok(note) => note,
-            Err(error) => {
-                assert_eq!(rt; error.number(), 20);
-                let after = sure_text(rt.alloc(), &machine)?;
-                assert_eq!(rt; after.as_slice(), before.as_slice());
-                machine.round(4)?
-            }
-        };
-        assert_eq!(rt; note.round, number);
-    }
-    assert_eq!(rt; sure_text(rt.alloc(), &machine)?.as_slice(), WANTED);
+    assert!(rt; sure_round(rt.alloc(), &mut machine)? == Some(1));
+    assert!(rt; sure_round(rt.alloc(), &mut machine)? == Some(2));
+    assert!(rt; sure_text(rt.alloc(), &machine)?.as_slice() == WANTED);
     Ok(())
+}
+
+/// Whether a run on so many workers writes the report, or, where memory is refused, a beginning of it.
+fn runs_or_is_refused(alloc: Global, image: &[u8], workers: u32) -> bool {
+    let asked = Settings {
+        workers,
+        ..settings(2, 2, b"6\n")
+    };
+    let mut room = [0u8; 1000];
+    let answer = emulate(
+        alloc,
+        image,
+        &[],
+        &asked,
+        &mut WriteSink::new(room.as_mut_slice()),
+    );
+    match answer {
+        Ok(()) => room.starts_with(WANTED),
+        Err(error) => error == RunError::OutOfMemory && begins_wanted(&room),
+    }
+}
+
+/// Whether the bytes before the first 0 are a beginning of the report.
+fn begins_wanted(room: &[u8]) -> bool {
+    let taken = room.iter().position(|byte| *byte == 0).unwrap_or(0);
+    WANTED.starts_with(&room[..taken])
 }
 
 #[test]
 fn a_refused_run_writes_no_other_report(rt: HostRuntime) -> Result<(), Fail> {
     let image = sure_image(rt.alloc())?;
-    for workers in [1, 4] {
-        let asked = Settings {
-            workers,
-            ..settings(2, 2, b"6\n")
-        };
-        let mut room = [0u8; 1000];
-        let answer = emulate(
-            rt.alloc(),
-            &image,
-            &[],
-            &asked,
-            &mut WriteSink::new(room.as_mut_slice()),
-        );
-        match answer {
-            Ok(()) => assert!(rt; room.starts_with(WANTED)),
-            Err(error) => {
-                assert_eq!(rt; error, RunError::OutOfMemory);
-                let taken = room.iter().position(|byte| *byte == 0).unwrap_or(0);
-                assert!(rt; WANTED.starts_with(&room[..taken]));
-            }
-        }
-    }
+    assert!(rt; runs_or_is_refused(rt.alloc(), &image, 1));
+    assert!(rt; runs_or_is_refused(rt.alloc(), &image, 4));
     Ok(())
 }

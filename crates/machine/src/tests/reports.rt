@@ -2,13 +2,13 @@ use super::images::{
     ADDED, CROSSED, CROSSED_AND_FENCED, ECHO, EXIT, MISALIGNED, OWN_STORE, RESERVED,
     STORE_THEN_LOAD,
 };
-use super::{report, settings};
-use crate::{Format, Settings, emulate};
-use host_io::WriteSink;
+use super::{answer, report, report_is, report_of, settings};
+use crate::{Format, Settings};
+use std::alloc::Global;
 use std::test::Fail;
 
 #[test]
-fn store_then_load(rt: HostRuntime) -> Result<(), Fail> {
+fn store_then_load(rt: HostRuntime) {
     let wanted = "rounds 1\n\
                   hart 0 pc 0000000000000014 done 5 exit 0000000000000000\n\
                   x5 0000000000000005\n\
@@ -37,10 +37,8 @@ fn store_then_load(rt: HostRuntime) -> Result<(), Fail> {
             workers,
             ..settings(2, 1, b"6\n")
         };
-        let text = report(rt.alloc(), &STORE_THEN_LOAD, &[], &asked)?;
-        assert_eq!(rt; text.as_slice(), wanted.as_bytes());
+        assert!(rt; report_is(rt.alloc(), &STORE_THEN_LOAD, &[], &asked, wanted));
     }
-    Ok(())
 }
 
 /// Both harts have done the exit call.
@@ -55,25 +53,27 @@ const EXITED: &str = "hart 0 pc 0000000000000004 done 1 exit 0000000000000000\n\
                       trace 0\n\
                       end\n";
 
+/// Whether the report of a run of the exit call is this line, and then that both harts have done the call.
+fn exits(alloc: Global, settings: &Settings<'_>, line: &str) -> bool {
+    match report(alloc, &EXIT, &[], settings) {
+        Ok(text) => text.strip_prefix(line.as_bytes()) == Some(EXITED.as_bytes()),
+        Err(_) => false,
+    }
+}
+
 #[test]
-fn exit_in_one_round(rt: HostRuntime) -> Result<(), Fail> {
+fn exit_in_one_round(rt: HostRuntime) {
     for workers in 1..17 {
         let asked = Settings {
             workers,
             ..settings(2, 1, b"4\n")
         };
-        let text = report(rt.alloc(), &EXIT, &[], &asked)?;
-        assert_eq!(rt;
-            text.strip_prefix(b"rounds 1\n".as_slice()),
-            Some(EXITED.as_bytes())
-        );
+        assert!(rt; exits(rt.alloc(), &asked, "rounds 1\n"));
     }
-    Ok(())
 }
 
 #[test]
-fn exit_by_quota(rt: HostRuntime) -> Result<(), Fail> {
-    let text = report(rt.alloc(), &EXIT, &[], &settings(2, 1, b"1\n"))?;
+fn exit_by_quota(rt: HostRuntime) {
     let begun = "rounds 1\n\
                  hart 0 pc 0000000000000004 done 1 running\n\
                  x11 0000000000000002\n\
@@ -85,18 +85,12 @@ fn exit_by_quota(rt: HostRuntime) -> Result<(), Fail> {
                  output 0\n\
                  trace 0\n\
                  end\n";
-    assert_eq!(rt; text.as_slice(), begun.as_bytes());
-    let text = report(rt.alloc(), &EXIT, &[], &settings(2, 2, b"1\n"))?;
-    assert_eq!(rt;
-        text.strip_prefix(b"rounds 2\n".as_slice()),
-        Some(EXITED.as_bytes())
-    );
-    Ok(())
+    assert!(rt; report_is(rt.alloc(), &EXIT, &[], &settings(2, 1, b"1\n"), begun));
+    assert!(rt; exits(rt.alloc(), &settings(2, 2, b"1\n"), "rounds 2\n"));
 }
 
 #[test]
-fn no_rounds(rt: HostRuntime) -> Result<(), Fail> {
-    let text = report(rt.alloc(), &EXIT, &[], &settings(2, 0, b"4\n"))?;
+fn no_rounds(rt: HostRuntime) {
     let wanted = "rounds 0\n\
                   hart 0 pc 0000000000000000 done 0 running\n\
                   x11 0000000000000002\n\
@@ -108,13 +102,11 @@ fn no_rounds(rt: HostRuntime) -> Result<(), Fail> {
                   output 0\n\
                   trace 0\n\
                   end\n";
-    assert_eq!(rt; text.as_slice(), wanted.as_bytes());
-    Ok(())
+    assert!(rt; report_is(rt.alloc(), &EXIT, &[], &settings(2, 0, b"4\n"), wanted));
 }
 
 #[test]
-fn stores_that_cross(rt: HostRuntime) -> Result<(), Fail> {
-    let text = report(rt.alloc(), &CROSSED, &[], &settings(2, 1, b"5\n"))?;
+fn stores_that_cross(rt: HostRuntime) {
     let wanted = "rounds 1\n\
                   hart 0 pc 0000000000000014 done 5 running\n\
                   x6 0000000000000008\n\
@@ -136,18 +128,11 @@ fn stores_that_cross(rt: HostRuntime) -> Result<(), Fail> {
                   1 1 3 p store - 00000108 8 - 0000000000000001\n\
                   1 1 4 p load - 00000100 8 0000000000000000 -\n\
                   end\n";
-    assert_eq!(rt; text.as_slice(), wanted.as_bytes());
-    Ok(())
+    assert!(rt; report_is(rt.alloc(), &CROSSED, &[], &settings(2, 1, b"5\n"), wanted));
 }
 
 #[test]
-fn stores_that_cross_with_a_fence(rt: HostRuntime) -> Result<(), Fail> {
-    let text = report(
-        rt.alloc(),
-        &CROSSED_AND_FENCED,
-        &[],
-        &settings(2, 2, b"6\n"),
-    )?;
+fn stores_that_cross_with_a_fence(rt: HostRuntime) {
     let wanted = "rounds 2\n\
                   hart 0 pc 0000000000000018 done 6 stop 3\n\
                   x6 0000000000000008\n\
@@ -173,13 +158,19 @@ fn stores_that_cross_with_a_fence(rt: HostRuntime) -> Result<(), Fail> {
                   2 0 5 p load - 00000108 8 0000000000000001 -\n\
                   2 1 5 p load - 00000100 8 0000000000000001 -\n\
                   end\n";
-    assert_eq!(rt; text.as_slice(), wanted.as_bytes());
-    Ok(())
+    assert!(rt;
+        report_is(
+            rt.alloc(),
+            &CROSSED_AND_FENCED,
+            &[],
+            &settings(2, 2, b"6\n"),
+            wanted
+        )
+    );
 }
 
 #[test]
-fn own_stores(rt: HostRuntime) -> Result<(), Fail> {
-    let text = report(rt.alloc(), &OWN_STORE, &[], &settings(2, 1, b"3\n"))?;
+fn own_stores(rt: HostRuntime) {
     let wanted = "rounds 1\n\
                   hart 0 pc 000000000000000c done 3 running\n\
                   x5 0000000000000005\n\
@@ -200,13 +191,11 @@ fn own_stores(rt: HostRuntime) -> Result<(), Fail> {
                   1 1 1 p store - 00000100 8 - 0000000000000006\n\
                   1 1 2 p load - 00000100 8 0000000000000006 -\n\
                   end\n";
-    assert_eq!(rt; text.as_slice(), wanted.as_bytes());
-    Ok(())
+    assert!(rt; report_is(rt.alloc(), &OWN_STORE, &[], &settings(2, 1, b"3\n"), wanted));
 }
 
 #[test]
-fn sc_after_the_store_of_another_hart(rt: HostRuntime) -> Result<(), Fail> {
-    let text = report(rt.alloc(), &RESERVED, &[], &settings(2, 2, b"3 2\n3 3\n"))?;
+fn sc_after_the_store_of_another_hart(rt: HostRuntime) {
     let wanted = "rounds 2\n\
                   hart 0 pc 0000000000000010 done 4 running\n\
                   x5 0000000000000100\n\
@@ -226,13 +215,19 @@ fn sc_after_the_store_of_another_hart(rt: HostRuntime) -> Result<(), Fail> {
                   2 1 2 p store - 00000100 8 - 0000000000000100\n\
                   2 0 3 s sc - 00000100 8 - -\n\
                   end\n";
-    assert_eq!(rt; text.as_slice(), wanted.as_bytes());
-    Ok(())
+    assert!(rt;
+        report_is(
+            rt.alloc(),
+            &RESERVED,
+            &[],
+            &settings(2, 2, b"3 2\n3 3\n"),
+            wanted
+        )
+    );
 }
 
 #[test]
-fn three_harts_add(rt: HostRuntime) -> Result<(), Fail> {
-    let text = report(rt.alloc(), &ADDED, &[], &settings(3, 1, b"6\n"))?;
+fn three_harts_add(rt: HostRuntime) {
     let wanted = "rounds 1\n\
                   hart 0 pc 0000000000000018 done 6 running\n\
                   x5 0000000000000100\n\
@@ -264,13 +259,11 @@ fn three_harts_add(rt: HostRuntime) -> Result<(), Fail> {
                   1 1 5 s amo - 00000100 4 80000000 80000001\n\
                   1 2 5 s amo - 00000100 4 80000001 80000002\n\
                   end\n";
-    assert_eq!(rt; text.as_slice(), wanted.as_bytes());
-    Ok(())
+    assert!(rt; report_is(rt.alloc(), &ADDED, &[], &settings(3, 1, b"6\n"), wanted));
 }
 
 #[test]
-fn a_stop_keeps_what_was_stored(rt: HostRuntime) -> Result<(), Fail> {
-    let text = report(rt.alloc(), &MISALIGNED, &[], &settings(1, 1, b"9\n"))?;
+fn a_stop_keeps_what_was_stored(rt: HostRuntime) {
     let wanted = "rounds 1\n\
                   hart 0 pc 0000000000000008 done 2 stop 5\n\
                   x5 0000000000000007\n\
@@ -282,13 +275,19 @@ fn a_stop_keeps_what_was_stored(rt: HostRuntime) -> Result<(), Fail> {
                   trace 1\n\
                   1 0 1 p store - 00000100 8 - 0000000000000007\n\
                   end\n";
-    assert_eq!(rt; text.as_slice(), wanted.as_bytes());
-    Ok(())
+    assert!(rt;
+        report_is(
+            rt.alloc(),
+            &MISALIGNED,
+            &[],
+            &settings(1, 1, b"9\n"),
+            wanted
+        )
+    );
 }
 
 #[test]
-fn input_and_output(rt: HostRuntime) -> Result<(), Fail> {
-    let text = report(rt.alloc(), &ECHO, b"A", &settings(2, 2, b"4\n"))?;
+fn input_and_output(rt: HostRuntime) {
     let wanted = "rounds 2\n\
                   hart 0 pc 0000000000000010 done 4 running\n\
                   x11 0000000000000002\n\
@@ -302,37 +301,32 @@ fn input_and_output(rt: HostRuntime) -> Result<(), Fail> {
                   41ff\n\
                   trace 0\n\
                   end\n";
-    assert_eq!(rt; text.as_slice(), wanted.as_bytes());
-    Ok(())
+    assert!(rt; report_is(rt.alloc(), &ECHO, b"A", &settings(2, 2, b"4\n"), wanted));
 }
 
 /// A header, one program header (X and R, 8 bytes from offset 120 to address 0x1000), then ADDI x17,x0,0 and ECALL.
-const ELF_EXIT: [u8; 128] = [
-    0x7f, 0x45, 0x4c, 0x46, 0x02, 0x01, 0x01, 0x00, 0x00, 0x00, 0x00, 0x00, 0x00, 0x00, 0x00, 0x00,
-    0x02, 0x00, 0xf3, 0x00, 0x01, 0x00, 0x00, 0x00, 0x00, 0x10, 0x00, 0x00, 0x00, 0x00, 0x00, 0x00,
-    0x40, 0x00, 0x00, 0x00, 0x00, 0x00, 0x00, 0x00, 0x00, 0x00, 0x00, 0x00, 0x00, 0x00, 0x00, 0x00,
-    0x00, 0x00, 0x00, 0x00, 0x40, 0x00, 0x38, 0x00, 0x01, 0x00, 0x00, 0x00, 0x00, 0x00, 0x00, 0x00,
-    0x01, 0x00, 0x00, 0x00, 0x05, 0x00, 0x00, 0x00, 0x78, 0x00, 0x00, 0x00, 0x00, 0x00, 0x00, 0x00,
-    0x00, 0x10, 0x00, 0x00, 0x00, 0x00, 0x00, 0x00, 0x00, 0x10, 0x00, 0x00, 0x00, 0x00, 0x00, 0x00,
-    0x08, 0x00, 0x00, 0x00, 0x00, 0x00, 0x00, 0x00, 0x08, 0x00, 0x00, 0x00, 0x00, 0x00, 0x00, 0x00,
-    0x00, 0x10, 0x00, 0x00, 0x00, 0x00, 0x00, 0x00, 0x93, 0x08, 0x00, 0x00, 0x73, 0x00, 0x00, 0x00,
-];
+const ELF_EXIT: &[u8] = b"\
+    \x7f\x45\x4c\x46\x02\x01\x01\x00\x00\x00\x00\x00\x00\x00\x00\x00\
+    \x02\x00\xf3\x00\x01\x00\x00\x00\x00\x10\x00\x00\x00\x00\x00\x00\
+    \x40\x00\x00\x00\x00\x00\x00\x00\x00\x00\x00\x00\x00\x00\x00\x00\
+    \x00\x00\x00\x00\x40\x00\x38\x00\x01\x00\x00\x00\x00\x00\x00\x00\
+    \x01\x00\x00\x00\x05\x00\x00\x00\x78\x00\x00\x00\x00\x00\x00\x00\
+    \x00\x10\x00\x00\x00\x00\x00\x00\x00\x10\x00\x00\x00\x00\x00\x00\
+    \x08\x00\x00\x00\x00\x00\x00\x00\x08\x00\x00\x00\x00\x00\x00\x00\
+    \x00\x10\x00\x00\x00\x00\x00\x00\x93\x08\x00\x00\x73\x00\x00\x00";
+
+/// One hart that runs an ELF file on so many pages.
+fn elf(pages: u32) -> Settings<'static> {
+    Settings {
+        format: Format::Elf,
+        pages,
+        ..settings(1, 1, b"4\n")
+    }
+}
 
 #[test]
 fn an_elf_file(rt: HostRuntime) -> Result<(), Fail> {
-    let asked = Settings {
-        format: Format::Elf,
-        pages: 2,
-        ..settings(1, 1, b"4\n")
-    };
-    let mut text = Vec::new(rt.alloc());
-    emulate(
-        rt.alloc(),
-        &ELF_EXIT,
-        &[],
-        &asked,
-        &mut WriteSink::new(&mut text),
-    )?;
+    let text = report_of(rt.alloc(), ELF_EXIT, &[], &elf(2))?;
     let wanted = "rounds 1\n\
                   hart 0 pc 0000000000001004 done 1 exit 0000000000000000\n\
                   x11 0000000000000001\n\
@@ -341,24 +335,12 @@ fn an_elf_file(rt: HostRuntime) -> Result<(), Fail> {
                   output 0\n\
                   trace 0\n\
                   end\n";
-    assert_eq!(rt; text.as_slice(), wanted.as_bytes());
-    let answers = [(63, 2, 1), (128, 1, 8)];
-    for (length, pages, number) in answers {
-        let asked = Settings {
-            format: Format::Elf,
-            pages,
-            ..settings(1, 1, b"4\n")
-        };
-        let mut text = Vec::new(rt.alloc());
-        let answer = emulate(
-            rt.alloc(),
-            &ELF_EXIT[..length],
-            &[],
-            &asked,
-            &mut WriteSink::new(&mut text),
-        );
-        assert_eq!(rt; answer.err().map(|error| error.number()), Some(number));
-        assert!(rt; text.is_empty());
-    }
+    assert!(rt; text.as_slice() == wanted.as_bytes());
     Ok(())
+}
+
+#[test]
+fn elf_files_that_are_refused(rt: HostRuntime) {
+    assert!(rt; answer(rt.alloc(), &ELF_EXIT[..63], &elf(2)) == (1, 0));
+    assert!(rt; answer(rt.alloc(), ELF_EXIT, &elf(1)) == (8, 0));
 }

@@ -1,41 +1,63 @@
 use super::images::{CROSSED, ECHO, EXIT};
 use super::{flat, machine, text_of};
-use crate::{Machine, RoundNote};
+use crate::Machine;
 use elf_loader::load_flat;
 use hart_step::Stop;
-use host_io::{RunError, WriteSink};
+use host_io::RunError;
 use pages::Width;
 use round_planner::Plan;
 use round_schedule::{Access, Event, Phase};
+use std::alloc::Global;
 use std::test::Fail;
+
+/// Whether each hart is at the start, with its number and the count of harts.
+fn are_at_start(machine: &Machine) -> bool {
+    let mut number = 0u64;
+    for hart in machine.harts() {
+        if hart.pc != 0
+            || hart.done != 0
+            || hart.stop.is_some()
+            || hart.x[10] != number
+            || hart.x[11] != 2
+        {
+            return false;
+        }
+        number = number.wrapping_add(1);
+    }
+    number == 2
+}
+
+/// Whether each hart has done one instruction, and has then exited with its number or runs.
+fn have_done_one(machine: &Machine, exited: bool) -> bool {
+    let mut value = 0u64;
+    for hart in machine.harts() {
+        let stop = if exited {
+            Some(Stop { code: 1, value })
+        } else {
+            None
+        };
+        if hart.pc != 4 || hart.done != 1 || hart.stop != stop {
+            return false;
+        }
+        value = value.wrapping_add(1);
+    }
+    value == 2
+}
+
+/// What the next round was.
+fn noted(machine: &mut Machine, workers: u32) -> Result<(u32, u32, u32), RunError> {
+    let note = machine.round(workers)?;
+    Ok((note.round, note.waited, note.stopped))
+}
 
 #[test]
 fn rounds_one_by_one(rt: HostRuntime) -> Result<(), Fail> {
     let mut machine = machine(rt.alloc(), &EXIT, 2, b"1\n")?;
-    assert_eq!(rt; machine.harts().len(), 2);
-    for (number, hart) in machine.harts().iter().enumerate() {
-        assert_eq!(rt; (hart.pc, hart.done, hart.stop), (0, 0, None));
-        assert_eq!(rt; (hart.x[10], hart.x[11]), (number as u64, 2));
-    }
+    assert!(rt; are_at_start(&machine));
     // the quota ends both, the call makes both wait, and then nothing is left to do
-    for (round, waited, stopped) in [(1, 0, 0), (2, 2, 2), (3, 0, 2)] {
-        let note = machine.round(4)?;
-        assert_eq!(rt;
-            note,
-            RoundNote {
-                round,
-                waited,
-                stopped
-            }
-        );
-        for (number, hart) in machine.harts().iter().enumerate() {
-            assert_eq!(rt; (hart.pc, hart.done), (4, 1));
-            let exit = Stop {
-                code: 1,
-                value: number as u64,
-            };
-            assert_eq!(rt; hart.stop, if round == 1 { None } else { Some(exit) });
-        }
+    for asked in [(1, 0, 0), (2, 2, 2), (3, 0, 2)] {
+        assert!(rt; noted(&mut machine, 4)? == asked);
+        assert!(rt; have_done_one(&machine, asked.0 != 1));
     }
     Ok(())
 }
@@ -69,15 +91,54 @@ fn loaded(hart: u32, place: u64, address: u64, read: u64) -> Event {
     }
 }
 
+/// Whether the trace is that of the stores that cross.
+fn has_crossed(machine: &Machine) -> bool {
+    let events = [
+        stored(0, 3, 0x100, 1),
+        loaded(0, 4, 0x108, 0),
+        stored(1, 3, 0x108, 1),
+        loaded(1, 4, 0x100, 0),
+    ];
+    machine.trace().events() == events.as_slice()
+}
+
+/// Whether both harts have done the five instructions.
+fn have_done_five(machine: &Machine) -> bool {
+    for hart in machine.harts() {
+        if hart.pc != 0x14 || hart.done != 5 || hart.x[28] != 0 {
+            return false;
+        }
+    }
+    true
+}
+
+/// Whether the machine has this byte there, or none.
+fn shows(machine: &Machine, address: u64, byte: Option<u8>) -> bool {
+    machine.byte(address) == byte
+}
+
+/// Whether the machine has this output.
+fn has_put(machine: &Machine, output: &[u8]) -> bool {
+    machine.output() == output
+}
+
+/// Whether the trace has no event.
+fn is_untraced(machine: &Machine) -> bool {
+    machine.trace().events().is_empty()
+}
+
+/// Does rounds.
+pub(super) fn run(machine: &mut Machine, rounds: u32, workers: u32) -> Result<(), RunError> {
+    machine.run(rounds, workers)
+}
+
 #[test]
 fn what_a_machine_shows(rt: HostRuntime) -> Result<(), Fail> {
     let mut machine = machine(rt.alloc(), &CROSSED, 2, b"5\n")?;
-    assert!(rt; machine.trace().events().is_empty());
-    assert_eq!(rt; machine.byte(0x100), Some(0));
-    machine.run(1, 16)?;
-    for hart in machine.harts() {
-        assert_eq!(rt; (hart.pc, hart.done, hart.x[28]), (0x14, 5, 0));
-    }
+    assert!(rt; is_untraced(&machine));
+    assert!(rt; shows(&machine, 0x100, Some(0)));
+    run(&mut machine, 1, 16)?;
+    assert!(rt; have_done_five(&machine));
     for (address, byte) in [
         (0, Some(0x93)),
         (0x12, Some(0x03)),
@@ -89,48 +150,48 @@ fn what_a_machine_shows(rt: HostRuntime) -> Result<(), Fail> {
         (0x1000, None),
         (0xffff_ffff_ffff_ffff, None),
     ] {
-        assert_eq!(rt; machine.byte(address), byte, "at {address}");
+        assert!(rt; shows(&machine, address, byte), "at {address}");
     }
-    let events = [
-        stored(0, 3, 0x100, 1),
-        loaded(0, 4, 0x108, 0),
-        stored(1, 3, 0x108, 1),
-        loaded(1, 4, 0x100, 0),
-    ];
-    assert_eq!(rt; machine.trace().events(), events.as_slice());
-    assert!(rt; machine.output().is_empty());
+    assert!(rt; has_crossed(&machine));
+    assert!(rt; has_put(&machine, b""));
     Ok(())
+}
+
+/// The machine of the echo with this input.
+fn echo(alloc: Global, input: Vec<u8>) -> Result<Machine, RunError> {
+    let image = match load_flat(alloc, &flat(alloc, &ECHO)?, 1) {
+        Ok(image) => image,
+        Err(error) => return Err(RunError::Image(error)),
+    };
+    match Plan::parse(alloc, b"4\n", 2) {
+        Ok(plan) => Machine::new(alloc, image, input, plan),
+        Err(error) => Err(RunError::Plan(error)),
+    }
 }
 
 #[test]
 fn output_of_a_machine(rt: HostRuntime) -> Result<(), Fail> {
-    let alloc = rt.alloc();
-    let image = load_flat(alloc, &flat(alloc, &ECHO)?, 1)?;
-    let plan = Plan::parse(alloc, b"4\n", 2)?;
-    let mut machine = Machine::new(alloc, image, b"A".to_vec(alloc)?, plan)?;
-    machine.run(1, 1)?;
-    assert!(rt; machine.output().is_empty());
-    machine.run(1, 1)?;
-    assert_eq!(rt; machine.output(), b"A\xff".as_slice());
+    let mut machine = echo(rt.alloc(), b"A".to_vec(rt.alloc())?)?;
+    run(&mut machine, 1, 1)?;
+    assert!(rt; has_put(&machine, b""));
+    run(&mut machine, 1, 1)?;
+    assert!(rt; has_put(&machine, b"A\xff"));
     Ok(())
 }
 
 #[test]
 fn refused_rounds(rt: HostRuntime) -> Result<(), Fail> {
     let mut machine = machine(rt.alloc(), &EXIT, 2, b"1\n")?;
-    machine.run(1, 1)?;
+    run(&mut machine, 1, 1)?;
     let before = text_of(rt.alloc(), &machine)?;
     for workers in [0, 17] {
-        let answer = machine.round(workers);
-        assert_eq!(rt; answer, Err(RunError::WorkersOutOfRange));
-        let answer = machine.run(4_294_967_295, workers);
-        assert_eq!(rt; answer, Err(RunError::WorkersOutOfRange));
+        assert!(rt; noted(&mut machine, workers) == Err(RunError::WorkersOutOfRange));
+        assert!(rt; run(&mut machine, 4_294_967_295, workers) == Err(RunError::WorkersOutOfRange));
     }
     // one round was done before
-    let answer = machine.run(4_294_967_295, 16);
-    assert_eq!(rt; answer, Err(RunError::RoundsExhausted));
+    assert!(rt; run(&mut machine, 4_294_967_295, 16) == Err(RunError::RoundsExhausted));
     assert_eq!(rt; RunError::RoundsExhausted.number(), 54);
     let after = text_of(rt.alloc(), &machine)?;
-    assert_eq!(rt; after.as_slice(), before.as_slice());
+    assert!(rt; after.as_slice() == before.as_slice());
     Ok(())
 }
