@@ -117,6 +117,19 @@ fn shows(machine: &Machine, address: u64, byte: Option<u8>) -> bool {
     machine.byte(address) == byte
 }
 
+/// Whether the machine shows the ends of its code, what was stored, and nothing outside memory.
+fn shows_its_bytes(machine: &Machine) -> bool {
+    shows(machine, 0, Some(0x93))
+        && shows(machine, 0x12, Some(0x03))
+        && shows(machine, 0x13, Some(0x10))
+        && shows(machine, 0x100, Some(1))
+        && shows(machine, 0x101, Some(0))
+        && shows(machine, 0x108, Some(1))
+        && shows(machine, 0xfff, Some(0))
+        && shows(machine, 0x1000, None)
+        && shows(machine, 0xffff_ffff_ffff_ffff, None)
+}
+
 /// Whether the machine has this output.
 fn has_put(machine: &Machine, output: &[u8]) -> bool {
     machine.output() == output
@@ -139,19 +152,7 @@ fn what_a_machine_shows(rt: HostRuntime) -> Result<(), Fail> {
     assert!(rt; shows(&machine, 0x100, Some(0)));
     run(&mut machine, 1, 16)?;
     assert!(rt; have_done_five(&machine));
-    for (address, byte) in [
-        (0, Some(0x93)),
-        (0x12, Some(0x03)),
-        (0x13, Some(0x10)),
-        (0x100, Some(1)),
-        (0x101, Some(0)),
-        (0x108, Some(1)),
-        (0xfff, Some(0)),
-        (0x1000, None),
-        (0xffff_ffff_ffff_ffff, None),
-    ] {
-        assert!(rt; shows(&machine, address, byte), "at {address}");
-    }
+    assert!(rt; shows_its_bytes(&machine));
     assert!(rt; has_crossed(&machine));
     assert!(rt; has_put(&machine, b""));
     Ok(())
