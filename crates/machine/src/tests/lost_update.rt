@@ -1,14 +1,9 @@
-ghost use Rattle.std.specs.Prelude.{◌≤◌};
-
 use super::lost_update_file::LOST_UPDATE;
-use super::rounds::run;
-use super::{report_of, settings};
-use crate::{Machine, Settings};
+use crate::{Format, Machine, Settings, emulate};
 use elf_loader::load_elf;
 use hart_step::Stop;
-use host_io::RunError;
+use host_io::WriteSink;
 use round_planner::Plan;
-use std::alloc::Global;
 use std::test::Fail;
 
 /// Each hart adds 1 to address 256 by a load and a store and to address 264 by an AMO, and exits with its number:
@@ -49,54 +44,46 @@ end
 #[test]
 fn an_update_is_lost_without_an_atomic_instruction(rt: HostRuntime) -> Result<(), Fail> {
     for workers in [1, 4] {
-        let asked = Settings {
+        let settings = Settings {
+            format: Format::Flat,
+            harts: 2,
+            pages: 1,
+            rounds: 2,
             workers,
-            ..settings(2, 2, b"8\n")
+            budget: 1,
+            plan: b"8\n",
         };
-        let text = report_of(rt.alloc(), TWO_COUNTERS, b"", &asked)?;
+        let mut text = Vec::new(rt.alloc());
+        emulate(
+            rt.alloc(),
+            TWO_COUNTERS,
+            b"",
+            &settings,
+            &mut WriteSink::new(&mut text),
+        )?;
         assert!(rt; text.as_slice() == LOST);
     }
     Ok(())
 }
 
-/// The machine of the guest in C after its run, with this quota for each hart.
-fn counted(alloc: Global, harts: u32, quota: &[u8]) -> Result<Machine, RunError>
-    requires some_harts { 1 ≤ harts }
-    requires few_harts { harts ≤ 64 }
-{
-    let image = match load_elf(alloc, LOST_UPDATE, 256) {
-        Ok(image) => image,
-        Err(error) => return Err(RunError::Image(error)),
-    };
-    let plan = match Plan::parse(alloc, quota, harts) {
-        Ok(plan) => plan,
-        Err(error) => return Err(RunError::Plan(error)),
-    };
-    let mut machine = Machine::new(alloc, image, Vec::new(alloc), plan)?;
-    run(&mut machine, 100, 1)?;
-    Ok(machine)
-}
-
-/// Whether the machine has this output and these counts, and each hart has exited with the difference of the two.
-fn counts_are(machine: &Machine, output: &[u8], plain: u8, atomic: u8) -> bool {
-    let value = u64::from(atomic.wrapping_sub(plain));
-    for hart in machine.harts() {
-        if hart.stop != Some(Stop { code: 1, value }) {
-            return false;
-        }
-    }
-    machine.output() == output
-        && machine.byte(0x20000) == Some(plain)
-        && machine.byte(0x20008) == Some(atomic)
-}
-
 #[test]
 fn a_guest_in_c_counts_its_lost_updates(rt: HostRuntime) -> Result<(), Fail> {
-    let machine = counted(rt.alloc(), 1, b"1000\n")?;
-    assert!(rt; counts_are(&machine, b"plain 10, atomic 10\n", 10, 10));
-    let machine = counted(rt.alloc(), 2, b"1000\n")?;
-    assert!(rt; counts_are(&machine, b"plain 10, atomic 20\n", 10, 20));
-    let machine = counted(rt.alloc(), 4, b"7\n")?;
-    assert!(rt; counts_are(&machine, b"plain 10, atomic 40\n", 10, 40));
+    for (harts, quota, output, plain, atomic) in [
+        (1, "1000\n", "plain 10, atomic 10\n", 10, 10),
+        (2, "1000\n", "plain 10, atomic 20\n", 10, 20),
+        (4, "7\n", "plain 10, atomic 40\n", 10, 40),
+    ] {
+        let plan = Plan::parse(rt.alloc(), quota.as_bytes(), harts)?;
+        let image = load_elf(rt.alloc(), &LOST_UPDATE, 256)?;
+        let mut machine = Machine::new(rt.alloc(), image, Vec::new(rt.alloc()), plan)?;
+        machine.run(100, 1)?;
+        assert!(rt; machine.output() == output.as_bytes());
+        assert_eq!(rt; machine.byte(0x20000), Some(plain));
+        assert_eq!(rt; machine.byte(0x20008), Some(atomic));
+        let value = u64::from(atomic - plain);
+        for hart in machine.harts() {
+            assert!(rt; hart.stop == Some(Stop { code: 1, value }));
+        }
+    }
     Ok(())
 }
