@@ -1,18 +1,12 @@
 -- Bytes of a line that are written in turn to their page.
-use Rattle.std.proofs.Common.{◌≡◌, ℕ, true, List, [], ◌∷◌, ◌++◌, length, refl, sym, ap, ◌∙◌, All, subst}
+use Rattle.std.proofs.Common.{◌≡◌, ℕ, true, List, [], ◌∷◌, ◌++◌, refl, sym, ap, ◌∙◌, All, subst}
 use Rattle.std.proofs.lemmas.List.{map-append}
 use Rattle.std.proofs.lemmas.List.Elements.{All-cons, All-head, All-nil, All-tail, All-weaker}
-use Rattle.pages.specs.declared.access.Width.{Width}
 use Rattle.pages.specs.Flat.{full, is_ready}
-use Rattle.pages.specs.Memory.{Memory, after, store_fault}
+use Rattle.pages.specs.Memory.{after}
 use Rattle.pages.specs.StoreLaws.{after-append}
 use Rattle.store_buffer.specs.Covered.{one_byte, stores_of}
 use Rattle.commit_phase.specs.Writing.{Writable, Written}
-
--- the fault of a store looks at the number of bytes only
-pub fault_stays : (m : Memory) (bs : List ℕ) (a : ℕ) (w : Width) → length bs ≡ length m.bytes → store_fault (record m { bytes = bs }) a w ≡ store_fault m a w
-unfolding store_fault
-fault_stays m bs a w e = rw e
 
 pub All-before : {X : Type 0} (P : X → Type 0) (ss ts : List X) → All P (ss ++ ts) → All P ss
 All-before P [] ts h = All-nil P

@@ -8,6 +8,7 @@ use Rattle.round_schedule.specs.Positions.{event}
 use Rattle.memory_order.specs.Operations.{is_lr_or_sc}
 use Rattle.memory_order.specs.Checking.{AreReserved, Earlier, IsMax}
 use Rattle.memory_order.proofs.Bounding.{earlier_step}
+use Rattle.memory_order.proofs.Sourcing.{same_number}
 
 abbrev pub is_reserving : Event → Bool
 is_reserving e = is_lr_or_sc e.access
@@ -26,9 +27,6 @@ reserved_more t i b v w e was now = (long, each)
           subst (λ k. IsMax (λ j. j) (Earlier is_reserving t (event t k).hart k) (get_or w k 0)) (sym s)
           (subst (IsMax (λ j. j) (Earlier is_reserving t (event t i).hart i)) (sym (ap (λ u. get_or u i 0) e ∙ get_or_push v b 0 i was.0)) now)
     ]
-
-same_number : (a b : ℕ) → (a == b) ≡ true → a ≡ b
-same_number a b h = grind (arith, nat_tests)
 
 nothing : (r : Bool) (old next : ℕ) → next ≡ 0 → (if r then max old next else old) ≡ old
 nothing true old next z = omega (arith, z)

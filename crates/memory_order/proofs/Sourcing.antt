@@ -14,7 +14,7 @@ use Rattle.memory_order.proofs.Bounding.{below_max, below_none, below_step, earl
 use Rattle.memory_order.proofs.Facts.{load_is_operation, store_is_operation}
 use Rattle.memory_order.proofs.Placing.{same_by_places}
 
-same_number : (a b : ℕ) → (a == b) ≡ true → a ≡ b
+pub same_number : (a b : ℕ) → (a == b) ≡ true → a ≡ b
 same_number a b h = grind (arith, nat_tests)
 
 pub store_at : (t : List Event) (a x : ℕ) → writes_at t a x ≡ true → is_operation (event t a) ≡ true
