@@ -13,9 +13,11 @@ use failure::Failure;
 use line::{answer_line, arguments, texts_of};
 use run::{Asked, print_run};
 use std::process::ExitCode;
+use std::sync::Wait;
+use std::thread::Threads;
 
 fn main(rt: HostRuntime) -> ExitCode {
-    match start(&rt) {
+    match start(&rt, &rt) {
         Ok(()) => ExitCode::SUCCESS,
         Err(failure) => {
             // There is nobody left to tell where standard error takes nothing.
@@ -25,13 +27,13 @@ fn main(rt: HostRuntime) -> ExitCode {
     }
 }
 
-/// Does what the command line says.
-fn start(rt: &HostRuntime) -> Result<(), Failure> {
+/// Does what the command line says, on the threads that `threads` starts.
+fn start<R: Threads + Wait + Sync>(rt: &HostRuntime, threads: &R) -> Result<(), Failure> {
     let arguments = arguments(rt)?;
     let words = texts_of(rt.alloc(), arguments.as_slice())?;
     match parse_line(rt.alloc(), words.as_slice()) {
-        Ok(Command::Run(run)) => Ok(print_run(rt, &run, Asked::Report)?),
-        Ok(Command::Order(run)) => Ok(print_run(rt, &run, Asked::Order)?),
+        Ok(Command::Run(run)) => Ok(print_run(rt, threads, &run, Asked::Report)?),
+        Ok(Command::Order(run)) => Ok(print_run(rt, threads, &run, Asked::Order)?),
         Err(error) => answer_line(rt, error),
     }
 }

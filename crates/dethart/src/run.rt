@@ -7,6 +7,8 @@ use machine::{Format, Settings, emulate, order_run};
 use pages::OutOfMemory;
 use std::alloc::Global;
 use std::io::{self, BufWriter, Write};
+use std::sync::Wait;
+use std::thread::Threads;
 
 /// What is printed of a run.
 #[derive(Clone, Copy, Debug, PartialEq, Eq)]
@@ -17,8 +19,13 @@ pub(crate) enum Asked {
     Order,
 }
 
-/// Runs the guest program, and prints what is asked for to standard output.
-pub(crate) fn print_run(rt: &HostRuntime, run: &Run<'_>, asked: Asked) -> Result<(), RunError> {
+/// Runs the guest program on the threads that `threads` starts, and prints what is asked for to standard output.
+pub(crate) fn print_run<R: Threads + Wait + Sync>(
+    rt: &HostRuntime,
+    threads: &R,
+    run: &Run<'_>,
+    asked: Asked,
+) -> Result<(), RunError> {
     let image = read_file(rt, run.image)?;
     let plan = match run.plan {
         Some(path) => read_file(rt, path)?,
@@ -29,7 +36,8 @@ pub(crate) fn print_run(rt: &HostRuntime, run: &Run<'_>, asked: Asked) -> Result
         None => Vec::new(rt.alloc()),
     };
     let settings = settings_of(run, plan.as_slice());
-    print_outcome(rt, image.as_slice(), input.as_slice(), &settings, asked)
+    let image = image.as_slice();
+    print_outcome(rt, threads, image, input.as_slice(), &settings, asked)
 }
 
 /// The plan of one row.
@@ -61,8 +69,9 @@ pub(crate) fn settings_of<'a>(run: &Run<'_>, plan: &'a [u8]) -> Settings<'a>
 }
 
 /// Emulates the guest program, and prints what is asked for to standard output.
-fn print_outcome(
+fn print_outcome<R: Threads + Wait + Sync>(
     rt: &HostRuntime,
+    threads: &R,
     image: &[u8],
     input: &[u8],
     settings: &Settings<'_>,
@@ -73,8 +82,8 @@ fn print_outcome(
     };
     let mut sink = WriteSink::new(&mut out);
     match asked {
-        Asked::Report => emulate(rt.alloc(), image, input, settings, &mut sink)?,
-        Asked::Order => order_run(rt.alloc(), image, input, settings, &mut sink)?,
+        Asked::Report => emulate(threads, rt.alloc(), image, input, settings, &mut sink)?,
+        Asked::Order => order_run(threads, rt.alloc(), image, input, settings, &mut sink)?,
     }
     match out.flush() {
         Ok(()) => Ok(()),

@@ -97,7 +97,7 @@ in_memory : (m : Memory) (a : ℕ) (w : Width) → store_fault m a w ≡ None �
 unfolding store_fault
 in_memory m a w ok = grind (arith, nat_tests)
 
-no_code : (m : Memory) (a : ℕ) (w : Width) → store_fault m a w ≡ None → any_code m.code a (width_bytes w) ≡ false
+pub no_code : (m : Memory) (a : ℕ) (w : Width) → store_fault m a w ≡ None → any_code m.code a (width_bytes w) ≡ false
 unfolding store_fault
 no_code m a w ok = grind (arith, nat_tests)
 

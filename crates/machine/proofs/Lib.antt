@@ -1,6 +1,8 @@
 pub mod Fits
+pub mod CodeKept
 pub mod RoundsOfHarts
 pub mod Listed
+pub mod CommittedAtOnce
 pub mod Opened
 pub mod RoundDone
 pub mod Repeated

@@ -1,17 +1,16 @@
--- The rounds of the harts, one after another.
-use Rattle.std.proofs.Common.{◌≡◌, ℕ, zero, suc, ◌+◌, ◌<◌, List, [], ◌∷◌, ◌++◌, length, take, get_or, refl, sym, ap, ◌∙◌, subst, arith, add-one, Bool}
-use Rattle.pages.specs.declared.access.Store.{Store}
+-- The rounds of the harts, gathered and put in hart order.
+use Rattle.std.proofs.Common.{◌≡◌, ℕ, zero, suc, ◌+◌, ◌<◌, List, [], ◌∷◌, ◌++◌, length, take, get_or, Some, refl, sym, ap, ap₂, ◌∙◌, subst, arith, add-one}
 use Rattle.pages.specs.Memory.{Memory}
-use Rattle.store_buffer.specs.Covered.{with_stores}
-use Rattle.round_schedule.specs.declared.access.Access.{Access}
-use Rattle.round_schedule.specs.Schedule.{Words, HartRound, hart_rounds, hart_round_of, first_or_zero, rest_of, round_from}
+use Rattle.round_schedule.specs.Schedule.{Words, HartRound, hart_rounds, hart_round_of, first_or_zero, rest_of}
 use Rattle.hart_step.specs.declared.hart.Hart.{Hart}
 use Rattle.hart_step.specs.Console.{ConsoleState}
-use Rattle.hart_step.specs.Buffered.{Overlay, Puts, seen_through}
-use Rattle.hart_step.specs.Rounds.{Leaves}
 use Rattle.hart_step.specs.Words.{words_of}
 use Rattle.machine.specs.declared.outcome.Outcome.{Outcome}
-use Rattle.machine.specs.Outcomes.{IsOutcome, AreOutcomes}
+use Rattle.round_lock.specs.Starts.{Content, Start, content_from, content_of, round_at}
+use Rattle.round_lock.proofs.Contents.{round_at_is}
+use Rattle.parallel_phase.proofs.HartRounds.{indexed}
+use Rattle.machine.specs.Outcomes.{AllFit, AreOutcomes, IsOutcome}
+use Rattle.machine.proofs.Fits.{buffer_fits}
 
 first_is : (qs : List ℕ) → first_or_zero qs ≡ get_or qs 0 0
 first_is [] = refl
@@ -44,19 +43,28 @@ outcomes_more m qs hs i d q os ps o low e more a b =
     (sym (ap (λ (k : ℕ). hart_rounds (words_of m.code) m.bytes qs (take k hs)) (add-one i) ∙ rounds_next (words_of m.code) m.bytes qs hs i d low))
     (outcomes-push m _ os _ o a (subst (λ (x : ℕ). IsOutcome m (hart_round_of (words_of m.code) m.bytes x (get_or hs i d)) o) e b)))
 
--- a hart's round, part by part
-pub record Parts (r : HartRound Hart) (g : Hart) (bytes : List (ℕ × ℕ)) (log : List Access) (w : Bool) : Type 0 where
-  pub hart : g ≡ r.last.hart
-  pub buffer : bytes ≡ with_stores [] r.last.stores
-  pub accesses : log ≡ r.last.accesses
-  pub waits : w ≡ r.waits
+-- the rounds of all harts depend on the quota of each
+pub same_rounds : (w : Words Hart ConsoleState) (bs qs ps : List ℕ) (hs : List Hart) → ((k : ℕ) → k < length hs → get_or qs k 0 ≡ get_or ps k 0) → hart_rounds w bs qs hs ≡ hart_rounds w bs ps hs
+same_rounds w bs qs ps [] f = refl
+same_rounds w bs qs ps (h ∷ hs) f =
+    ap₂ (λ (q : ℕ) (rs : List (HartRound Hart)). hart_round_of w bs q h ∷ rs) (first_is qs ∙ f 0 (omega arith) ∙ sym (first_is ps))
+    (same_rounds w bs (rest_of qs) (rest_of ps) hs (λ k low. rest_is qs k ∙ f (suc k) (omega arith) ∙ sym (rest_is ps k)))
 
--- a round through a store buffer that was empty
-pub parts_of : (m : Memory) (v x : Overlay) (quota : ℕ) (h g : Hart) (before log : List Access) (w : Bool) (bytes : List (ℕ × ℕ)) →
-    v ≡ record { base = m; bytes = [] } → before ≡ [] →
-    Leaves (λ (ss : List Store) (b : Overlay). Puts v ss b) (λ (b : Overlay). seen_through b) (seen_through v) (round_from (words_of (seen_through v).code) (seen_through v).bytes quota (record { hart = h; stores = []; accesses = before })) g log w x →
-    bytes ≡ x.bytes → Parts (hart_round_of (words_of m.code) m.bytes quota h) g bytes log w
-parts_of m v x quota h g before log w bytes e f l b =
-    let at_first = subst (λ (y : Overlay). Leaves (λ (ss : List Store) (c : Overlay). Puts y ss c) (λ (c : Overlay). seen_through c) (seen_through y) (round_from (words_of (seen_through y).code) (seen_through y).bytes quota (record { hart = h; stores = []; accesses = before })) g log w x) e l in
-    let k = subst (λ (z : List Access). Leaves (λ (ss : List Store) (c : Overlay). Puts (record { base = m; bytes = [] }) ss c) (λ (c : Overlay). seen_through c) m (round_from (words_of m.code) m.bytes quota (record { hart = h; stores = []; accesses = z })) g log w x) f at_first in
-    record { hart = k.hart; buffer = b ∙ k.stores.bytes; accesses = k.accesses; waits = k.waits }
+-- the round of a hart, as it was gathered
+pub is_outcome : (s : Start) (n : ℕ) (d : Hart) (c : Content) (o : Outcome) → n < length s.harts → length s.quotas ≡ length s.harts → round_at s n ≡ Some c →
+    c ≡ content_from o.hart o.buffer o.accesses.items o.waits →
+    IsOutcome s.memory (hart_round_of (words_of s.memory.code) s.memory.bytes (get_or s.quotas n 0) (get_or s.harts n d)) o
+is_outcome s n d c o low sized at parts =
+    let q = get_or s.quotas n 0 in
+    let h = get_or s.harts n d in
+    let r = hart_round_of (words_of s.memory.code) s.memory.bytes q h in
+    let both : Some (content_of r) ≡ Some c = sym (round_at_is s n q h (indexed s.harts n d low) (indexed s.quotas n 0 (omega (arith, sized, low)))) ∙ at in
+    let here : content_of r ≡ c = cc in
+    let same : content_of r ≡ content_from o.hart o.buffer o.accesses.items o.waits = here ∙ parts in
+    record {
+      hart = sym (ap (λ (x : Content). x.hart) same);
+      buffer = sym (ap (λ (x : Content). x.buffer) same);
+      accesses = sym (ap (λ (x : Content). x.accesses) same);
+      waits = sym (ap (λ (x : Content). x.waits) same);
+      fits = subst (λ (es : List (ℕ × ℕ)). AllFit s.memory es) (ap (λ (x : Content). x.buffer) same) (buffer_fits s.memory q h);
+    }

@@ -4,13 +4,53 @@ ghost use Rattle.commit_phase.specs.Commit.{Committed};
 ghost use Rattle.hart_step.specs.declared.hart.Hart.{Hart};
 ghost use Rattle.machine.specs.Outcomes.{AreFit, AreOutcomes, AreReady};
 
+use crate::crew::Crew;
 use crate::outcome::Outcome;
-use commit_phase::commit_buffer;
+use commit_phase::{OpenShards, commit_buffer, commit_on};
 use pages::Pages;
 use reservations::Reservations;
+use std::thread::Threads;
 
-/// Commits the stores of all harts, in hart order. Takes no memory.
-pub fn commit(pages: &mut Pages, table: &mut Reservations, outcomes: &[Outcome])
+/// How many lines of 64 bytes are worth starting threads for.
+const MANY_LINES: usize = 16_384;
+
+/// Commits the stores of all harts, in hart order. Where they are many, each worker of the crew writes those of a part of
+/// memory. Takes no memory.
+pub fn commit<G, R: Threads + Sync>(
+    crew: &Crew<'_, G, R>,
+    pages: &mut Pages,
+    table: &mut Reservations,
+    outcomes: &[Outcome],
+)
+    requires workers { 1 ≤ crew.now.workers }
+    requires few { length outcomes.now ≤ 64 }
+    requires fits { AreFit pages.old.memory outcomes.now }
+    requires ready { AreReady pages.old outcomes.now }
+    ensures ready { pages.new.ready ≡ pages.old.ready }
+    ensures spare { pages.new.spare ≡ pages.old.spare }
+    ensures size { length table.new ≡ length table.old }
+    ensures committed { (rs : List (HartRound Hart)) → AreOutcomes pages.old.memory rs outcomes.now → Committed rs pages.old pages.new table.old table.new }
+{
+    if crew.workers > 1 && line_count(outcomes) >= MANY_LINES {
+        commit_on(crew.rt, pages, table, outcomes, crew.workers, &OpenShards);
+    } else {
+        commit_in_turn(pages, table, outcomes);
+    }
+}
+
+/// How many lines the harts stored to, each hart's counted.
+fn line_count(outcomes: &[Outcome]) -> usize {
+    let mut count: usize = 0;
+    for outcome in outcomes {
+        for _line in outcome.buffer.lines() {
+            count = count.saturating_add(1);
+        }
+    }
+    count
+}
+
+/// The same on the calling thread, buffer by buffer.
+fn commit_in_turn(pages: &mut Pages, table: &mut Reservations, outcomes: &[Outcome])
     requires few { length outcomes.now ≤ 64 }
     requires fits { AreFit pages.old.memory outcomes.now }
     requires ready { AreReady pages.old outcomes.now }

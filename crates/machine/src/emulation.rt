@@ -16,6 +16,8 @@ use crate::settings::Settings;
 use host_io::{RunError, Sink};
 use report::write_state;
 use std::alloc::Global;
+use std::sync::Wait;
+use std::thread::Threads;
 
 /// Runs a guest program for a number of rounds, and writes the report of the state after them.
 ///
@@ -23,7 +25,8 @@ use std::alloc::Global;
 ///
 /// The refusals of the settings, then of the image, then of the plan; `OutOfMemory`; `SinkFailed`. Nothing is written
 /// before all rounds are done.
-pub fn emulate<S: Sink>(
+pub fn emulate<S: Sink, R: Threads + Wait + Sync>(
+    rt: &R,
     alloc: Global,
     image: &[u8],
     input: &[u8],
@@ -43,7 +46,7 @@ pub fn emulate<S: Sink>(
     ensures plan { (cause : PlanCause) → settings_fault settings.now.harts settings.now.pages settings.now.workers settings.now.budget ≡ None → IsGood (StandsIn settings.now.format image.now settings.now.pages) → IsLeastOfPlan settings.now.harts settings.now.plan.now cause → (result ≡ Err (refusals.Plan cause)) ⊎ (result ≡ Err refusals.OutOfMemory) }
 {
     let mut machine = prepare(alloc, image, input, settings)?;
-    machine.run(settings.rounds, settings.workers)?;
+    machine.run(rt, settings.rounds, settings.workers)?;
     machine.report(alloc, out)
 }
 

@@ -2,6 +2,8 @@
 #![tactic(auto)]
 
 mod commit;
+mod crew;
+mod decoding;
 mod emulation;
 mod events;
 mod machine;
@@ -22,6 +24,7 @@ pub use machine::Machine;
 pub use memory_order::Trace;
 pub use ordering::order_run;
 pub use outcome::Outcome;
+pub use parallel_phase::{Gate, Open};
 pub use running::RoundNote;
 pub use settings::{Format, Settings};
 pub use tracing::trace_run;

@@ -4,9 +4,10 @@ ghost use Rattle.host_io.specs.declared.error.RunError.TheVariants as refusals;
 ghost use Rattle.memory_order.specs.Traced.{opening_at};
 ghost use Rattle.machine.specs.Machine.{opening};
 
+use crate::decoding::decode_code;
 use crate::opening::opening_harts;
 use elf_loader::Image;
-use hart_step::Hart;
+use hart_step::{CodeTable, Hart};
 use host_io::RunError;
 use memory_order::Trace;
 use pages::Pages;
@@ -21,6 +22,7 @@ use std::marker::Model;
 pub struct Machine {
     pub(crate) harts: Vec<Hart>,
     pub(crate) pages: Pages,
+    pub(crate) table: CodeTable,
     pub(crate) reservations: Reservations,
     pub(crate) console: Console,
     pub(crate) log: SerialLog,
@@ -39,7 +41,7 @@ impl Model for Machine {
 
     ghost view = { λ m. record { state = record { harts = m.harts.items; bytes = m.pages.memory.bytes; console = m.console.console; trace = m.trace.events; rounds = m.rounds }; code = m.pages.memory.code; plan = m.plan; opening = opening_bytes m.trace.opening (length m.pages.memory.bytes) } };
 
-    ghost invariant = { λ m. HoldsTogether m.harts.items m.plan.harts m.reservations m.trace.events m.trace.opening (length m.pages.memory.bytes) m.rounds };
+    ghost invariant = { λ m. HoldsTogether m.harts.items m.plan.harts m.reservations m.trace.events m.trace.opening m.pages.memory m.table m.rounds };
 }
 
 impl Machine {
@@ -54,11 +56,13 @@ impl Machine {
     {
         let pages = Pages::new(alloc, image.pages(), image.pieces(), image.code())?;
         let entry = image.entry();
+        let table = decode_code(alloc, &pages, entry)?;
         let harts = opening_harts(alloc, entry, plan.harts())?;
         Ok(Machine {
             reservations: Reservations::new(plan.harts()),
             harts,
             pages,
+            table,
             console: Console::new(alloc, input),
             log: SerialLog::new(alloc),
             trace: Trace::new(alloc, image.into_pieces()),

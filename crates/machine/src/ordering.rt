@@ -17,6 +17,8 @@ use crate::tracing::trace_run;
 use host_io::{RunError, Sink};
 use report::write_order;
 use std::alloc::Global;
+use std::sync::Wait;
+use std::thread::Threads;
 
 /// Runs a guest program for a number of rounds, and writes the order of its memory operations, with `checked yes`.
 ///
@@ -24,7 +26,8 @@ use std::alloc::Global;
 ///
 /// The refusals of the settings, then of the image, then of the plan; `OutOfMemory`; `SinkFailed`. Nothing is written
 /// before all rounds are done.
-pub fn order_run<S: Sink>(
+pub fn order_run<S: Sink, R: Threads + Wait + Sync>(
+    rt: &R,
     alloc: Global,
     image: &[u8],
     input: &[u8],
@@ -40,6 +43,6 @@ pub fn order_run<S: Sink>(
     // What is refused then is for a reason that stands.
     ensures errors { settings_fault settings.now.harts settings.now.pages settings.now.workers settings.now.budget ≡ None → IfErr result (λ e. (e ≡ refusals.OutOfMemory) ⊎ ((e ≡ refusals.SinkFailed) × (S.failures out.old < S.failures out.new)) ⊎ ((cause : ImageCause) × IsLeastOfImage (StandsIn settings.now.format image.now settings.now.pages) cause × (e ≡ refusals.Image cause)) ⊎ ((cause : PlanCause) × IsLeastOfPlan settings.now.harts settings.now.plan.now cause × (e ≡ refusals.Plan cause))) }
 {
-    let trace = trace_run(alloc, image, input, settings)?;
+    let trace = trace_run(rt, alloc, image, input, settings)?;
     write_order(alloc, &trace, out)
 }

@@ -1,15 +1,23 @@
-ghost use Rattle.std.specs.Prelude.{◌≡◌, ◌<◌, ◌≤◌, ◌+◌, ◌-◌, IfOk, OnOk, length, ℕ, [], ◌∷◌, ◌++◌};
-ghost use Rattle.round_schedule.specs.Schedule.{hart_round_of, hart_rounds};
-ghost use Rattle.round_planner.specs.Quotas.{quotas_of};
+ghost use Rattle.std.specs.Prelude.{◌≡◌, ◌<◌, ◌≤◌, ◌+◌, ◌-◌, IfOk, OnOk, length, ℕ, [], ◌∷◌, ◌++◌, slice_index};
+ghost use Rattle.round_schedule.specs.Schedule.{hart_rounds};
+ghost use Rattle.round_planner.specs.Quotas.{quota_of, quotas_of};
 ghost use Rattle.hart_step.specs.CodeTables.{Shows};
 ghost use Rattle.hart_step.specs.Words.{words_of};
-ghost use Rattle.machine.specs.Outcomes.{IsOutcome, AreOutcomes};
+ghost use Rattle.round_lock.specs.Starts.{rounds_of};
+ghost use Rattle.machine.specs.Outcomes.{AreOutcomes};
 
-use hart_step::{Buffered, CodeTable, Hart, hart_round};
+use crate::crew::Crew;
+use commit_phase::Buffered;
+use hart_step::{CodeTable, Hart};
 use pages::{OutOfMemory, Pages};
+use parallel_phase::{Gate, gather};
+use round_lock::{BookStart, RoundStart};
 use round_planner::Plan;
 use round_schedule::Access;
 use std::alloc::Global;
+use std::marker::Brand;
+use std::sync::Wait;
+use std::thread::Threads;
 use store_buffer::StoreBuffer;
 
 /// What the round of one hart left: the hart, its stores, its accesses in program order, and whether it waits
@@ -26,49 +34,76 @@ pub struct Outcome {
     pub waits: bool,
 }
 
-/// Does the round of one hart on memory as it is.
-pub fn outcome_of(
-    alloc: Global,
-    pages: &Pages,
-    table: &CodeTable,
-    hart: &Hart,
-    quota: u32,
-) -> Result<Outcome, OutOfMemory>
-    requires { Shows pages.now.memory table.now.first table.now.instructions }
-    ensures { IfOk result (λ o. IsOutcome pages.now.memory (hart_round_of (words_of pages.now.memory.code) pages.now.memory.bytes quota hart.now) o) }
-{
-    let mut hart = *hart;
-    let mut view = Buffered::new(alloc, pages);
-    let mut accesses = Vec::new(alloc);
-    let waits = hart_round(&mut hart, &mut view, table, quota, &mut accesses)?;
-    Ok(Outcome {
-        hart,
-        buffer: view.into_buffer(),
-        accesses,
-        waits,
-    })
+impl Buffered for Outcome {
+    ghost bytes = { λ o. o.buffer };
+
+    fn buffer(&self) -> &StoreBuffer {
+        &self.buffer
+    }
 }
 
-/// Does the rounds of all harts, each on memory as it is.
-pub fn outcomes_of(
-    alloc: Global,
+/// Does the rounds of all harts, each on memory as it is, by the workers of a crew.
+pub fn outcomes_of<G: Gate + Sync, R: Threads + Wait + Sync>(
+    crew: &Crew<'_, G, R>,
     pages: &Pages,
     table: &CodeTable,
     harts: &[Hart],
     plan: &Plan,
     round: u32,
 ) -> Result<Vec<Outcome>, OutOfMemory>
+    requires workers { (1 ≤ crew.now.workers) × (crew.now.workers ≤ 16) }
     requires shows { Shows pages.now.memory table.now.first table.now.instructions }
     requires harts { length harts.now ≡ plan.now.harts }
     requires round { 1 ≤ round }
     ensures { IfOk result (λ os. AreOutcomes pages.now.memory (hart_rounds (words_of pages.now.memory.code) pages.now.memory.bytes (quotas_of plan.now (round - 1)) harts.now) os.items) }
 {
-    // At most 64, so that each has a number.
+    // At most 64.
     let _harts = plan.harts();
-    let mut outcomes = Vec::new(alloc);
-    for (number, hart) in harts.iter().enumerate() {
-        let quota = plan.quota(round, number as u32);
-        let outcome = outcome_of(alloc, pages, table, hart, quota)?;
+    let quotas = quotas_in(pages.allocator(), plan, round)?;
+    let start = RoundStart::new(pages, table, harts, &quotas);
+    gather_outcomes::<Brand, G, R>(crew, &start)
+}
+
+/// How many instructions each hart may do in a round.
+fn quotas_in(alloc: Global, plan: &Plan, round: u32) -> Result<Vec<u32>, OutOfMemory>
+    requires round { 1 ≤ round }
+    ensures sized { IfOk result (λ qs. length qs.items ≡ plan.now.harts) }
+    ensures quotas { IfOk result (λ qs. (h : ℕ) → h < plan.now.harts → slice_index qs.items h ≡ quota_of plan.now round h) }
+{
+    let mut quotas = Vec::new(alloc);
+    for hart in 0..plan.harts() {
+        match quotas.push(plan.quota(round, hart)) {
+            Ok(()) => {}
+            Err(_) => return Err(OutOfMemory),
+        }
+    }
+    Ok(quotas)
+}
+
+/// Gathers the rounds of all harts, and puts them in hart order.
+fn gather_outcomes<B: BookStart + Send + Sync, G: Gate + Sync, R: Threads + Wait + Sync>(
+    crew: &Crew<'_, G, R>,
+    start: &RoundStart<'_>,
+) -> Result<Vec<Outcome>, OutOfMemory>
+    requires workers { (1 ≤ crew.now.workers) × (crew.now.workers ≤ 16) }
+    requires start { start.now ≡ B.start }
+    requires sized { length start.now.quotas ≡ length start.now.harts }
+    ensures { IfOk result (λ os. AreOutcomes start.now.memory (rounds_of start.now) os.items) }
+{
+    let mut gathered = gather::<B, G, R>(crew.rt, start, crew.workers, crew.gate)?;
+    let mut outcomes = Vec::new(start.pages().allocator());
+    for number in 0..start.harts().len() {
+        // The history is complete.
+        let Some(round) = gathered.take(number as u32) else {
+            unreachable!()
+        };
+        let (hart, buffer, accesses, waits) = round.into_parts();
+        let outcome = Outcome {
+            hart,
+            buffer,
+            accesses,
+            waits,
+        };
         add(&mut outcomes, outcome)?;
     }
     Ok(outcomes)

@@ -9,6 +9,7 @@ ghost use Rattle.memory_order.specs.Traced.{IsTrace};
 ghost use Rattle.machine.specs.Rounds.{IsAsBefore, IsFinished, IsRoundDone, LeavesTrace, next_parts};
 
 use crate::commit::commit;
+use crate::crew::Crew;
 use crate::events::{add_parallel, add_serial, turns_needed};
 use crate::outcome::{Outcome, outcomes_of};
 use crate::room::make_room;
@@ -16,15 +17,19 @@ use crate::waiting::{harts_after, waiting_count, waiting_mask};
 use hart_step::{CodeTable, Hart};
 use memory_order::Trace;
 use pages::{OutOfMemory, Pages};
+use parallel_phase::Gate;
 use reservations::Reservations;
 use round_planner::Plan;
 use serial_phase::{Console, SerialLog, serial};
+use std::sync::Wait;
+use std::thread::Threads;
 
 /// Does the round after `done` rounds on the parts of a machine: the rounds of the harts, the commit, the serial
 /// turns. Answers how many harts waited.
 ///
 /// All that can be refused is asked for before the commit, so that a refusal leaves all as it was.
-pub fn do_round(
+pub fn do_round<G: Gate + Sync, R: Threads + Wait + Sync>(
+    crew: &Crew<'_, G, R>,
     pages: &mut Pages,
     table: &CodeTable,
     reservations: &mut Reservations,
@@ -35,6 +40,7 @@ pub fn do_round(
     plan: &Plan,
     done: u32,
 ) -> Result<u32, OutOfMemory>
+    requires workers { (1 ≤ crew.now.workers) × (crew.now.workers ≤ 16) }
     requires shows { Shows pages.old.memory table.now.first table.now.instructions }
     requires harts { length harts.old.items ≡ plan.now.harts }
     requires size { length reservations.old ≡ length harts.old.items }
@@ -50,9 +56,10 @@ pub fn do_round(
     let budget = plan.budget();
     // At most 64.
     let _harts = plan.harts();
-    let outcomes = outcomes_of(alloc, pages, table, harts, plan, round)?;
+    let outcomes = outcomes_of(crew, pages, table, harts, plan, round)?;
     let mut turned = harts_after(alloc, &outcomes)?;
     let waited = finish(
+        crew,
         pages,
         reservations,
         console,
@@ -68,7 +75,8 @@ pub fn do_round(
 }
 
 /// Goes on from the rounds of the harts: the commit, the serial turns and the events.
-fn finish(
+fn finish<G, R: Threads + Sync>(
+    crew: &Crew<'_, G, R>,
     pages: &mut Pages,
     reservations: &mut Reservations,
     console: &mut Console,
@@ -79,6 +87,7 @@ fn finish(
     budget: u32,
     round: u32,
 ) -> Result<u32, OutOfMemory>
+    requires workers { 1 ≤ crew.now.workers }
     requires few { length outcomes.now ≤ 64 }
     requires fits { AreFit pages.old.memory outcomes.now }
     requires harts { harts.old ≡ harts_of outcomes.now }
@@ -96,7 +105,7 @@ fn finish(
     let waiting = waiting_mask(outcomes);
     let turns = turns_needed(outcomes, budget);
     make_room(pages, console, log, trace, outcomes, turns)?;
-    commit(pages, reservations, outcomes);
+    commit(crew, pages, reservations, outcomes);
     serial(
         pages,
         reservations,

@@ -2,18 +2,23 @@ ghost use Rattle.std.specs.Prelude.{◌≡◌, ◌<◌, ◌≤◌, ◌+◌, ◌-
 ghost use Rattle.host_io.specs.declared.error.RunError.TheVariants as refusals;
 ghost use Rattle.round_schedule.specs.Schedule.{hart_rounds};
 ghost use Rattle.round_planner.specs.Quotas.{quotas_of};
-ghost use Rattle.hart_step.specs.CodeTables.{Shows};
 ghost use Rattle.hart_step.specs.Words.{words_of};
 ghost use Rattle.machine.specs.Machine.{after_round, after_rounds, count_stopped, count_waiting};
 
+use crate::crew::Crew;
 use crate::machine::Machine;
 use crate::round::do_round;
-use hart_step::{CodeTable, Hart};
+use hart_step::Hart;
 use host_io::RunError;
-use pages::{OutOfMemory, Pages};
+use parallel_phase::{Gate, Open};
+use std::sync::Wait;
+use std::thread::Threads;
 
 /// The most workers of a run.
 pub(crate) const MOST_WORKERS: u32 = 16;
+
+/// How many instructions are worth a worker: starting its thread takes about as long as they do.
+const WORTH_A_WORKER: u64 = 16_384;
 
 /// What a round was.
 #[derive(Clone, Copy, Debug, PartialEq, Eq)]
@@ -27,13 +32,20 @@ pub struct RoundNote {
 }
 
 impl Machine {
-    /// Does one round, on 1 to 16 workers.
+    /// Does one round, on 1 to 16 workers, which call the gate around the round of each hart. It may wait.
+    ///
+    /// How many workers there are makes no difference to the machine. Where all harts have stopped, no thread is started.
     ///
     /// # Errors
     ///
     /// `WorkersOutOfRange`, `RoundsExhausted` where 4,294,967,295 rounds were done before, and `OutOfMemory`.
     /// The machine is as it was then.
-    pub fn round(&mut self, workers: u32) -> Result<RoundNote, RunError>
+    pub fn round<G: Gate + Sync, R: Threads + Wait + Sync>(
+        &mut self,
+        rt: &R,
+        workers: u32,
+        gate: &G,
+    ) -> Result<RoundNote, RunError>
         ensures ok { OnOk result (self.new ≡ after_round self.old) }
         ensures round { IfOk result (λ n. n.round ≡ self.new.state.rounds) }
         ensures one_more { OnOk result (self.new.state.rounds ≡ self.old.state.rounds + 1) }
@@ -57,10 +69,16 @@ impl Machine {
         let _budget = self.plan.budget();
         let _pages = self.pages.count();
         let _events = self.trace.events();
-        let table = round_table(&self.pages, self.plan.quota(self.rounds + 1, 0))?;
+        let running = self.harts.iter().any(|hart| hart.stop.is_none());
+        let crew = Crew {
+            rt,
+            workers: if running { workers } else { 1 },
+            gate,
+        };
         let waited = do_round(
+            &crew,
             &mut self.pages,
-            &table,
+            &self.table,
             &mut self.reservations,
             &mut self.console,
             &mut self.log,
@@ -77,13 +95,21 @@ impl Machine {
         })
     }
 
-    /// Does so many rounds, on 1 to 16 workers.
+    /// Does so many rounds, on 1 to 16 workers. It may wait.
+    ///
+    /// How many workers there are makes no difference to the machine. A round in which there is little to do stays on the
+    /// calling thread.
     ///
     /// # Errors
     ///
     /// `WorkersOutOfRange`, and `RoundsExhausted` where there would be more than 4,294,967,295 rounds: the machine is as
     /// it was then. `OutOfMemory`: fewer rounds are done, each of them whole.
-    pub fn run(&mut self, rounds: u32, workers: u32) -> Result<(), RunError>
+    pub fn run<R: Threads + Wait + Sync>(
+        &mut self,
+        rt: &R,
+        rounds: u32,
+        workers: u32,
+    ) -> Result<(), RunError>
         ensures ok { OnOk result (self.new ≡ after_rounds rounds self.old) }
         ensures err { OnErr result ((k : ℕ) × (k ≤ rounds) × (self.new ≡ after_rounds k self.old)) }
         ensures fewer { result ≡ Err refusals.OutOfMemory → (k : ℕ) × (k < rounds) × (self.new ≡ after_rounds k self.old) }
@@ -98,10 +124,51 @@ impl Machine {
         if rounds > u32::MAX - self.rounds {
             return Err(RunError::RoundsExhausted);
         }
+        // A round has about as much to do as the one before; the first, as much as the plan allows.
+        let mut work = self.most_work();
         for done in 0..rounds {
-            self.round(workers)?;
+            let before = self.instructions_done();
+            self.round(rt, workers_for(work, workers), &Open)?;
+            work = self.instructions_done().wrapping_sub(before);
         }
         Ok(())
+    }
+
+    /// How many instructions the harts have done together.
+    fn instructions_done(&self) -> u64 {
+        let mut done: u64 = 0;
+        for hart in &self.harts {
+            done = done.wrapping_add(hart.done);
+        }
+        done
+    }
+
+    /// How many instructions the harts may do together in the next round, outside their serial turns.
+    fn most_work(&self) -> u64 {
+        if self.rounds == u32::MAX {
+            return 0;
+        }
+        let mut work: u64 = 0;
+        for hart in 0..self.plan.harts() {
+            work = work.wrapping_add(u64::from(self.plan.quota(self.rounds + 1, hart)));
+        }
+        work
+    }
+}
+
+/// How many workers so much work is worth, of these at most.
+fn workers_for(work: u64, workers: u32) -> u32
+    requires { 1 ≤ workers }
+    ensures some { 1 ≤ result }
+    ensures most { result ≤ workers }
+{
+    let worth = work / WORTH_A_WORKER;
+    if worth <= 1 {
+        1
+    } else if worth < u64::from(workers) {
+        worth as u32
+    } else {
+        workers
     }
 }
 
@@ -114,21 +181,5 @@ fn stopped_count(harts: &[Hart]) -> u32
     match harts {
         [] => 0,
         [first, rest @ ..] => u32::from(first.stop.is_some()) + stopped_count(rest),
-    }
-}
-
-/// The decoded words of the first code range, where a hart may do as many instructions in this round as there are words;
-/// else no words, since a table would cost more than it saves.
-fn round_table(pages: &Pages, quota: u32) -> Result<CodeTable, OutOfMemory>
-    ensures { IfOk result (λ t. Shows pages.now.memory t.first t.instructions) }
-{
-    match pages.code() {
-        [first, ..] if first.len / 4 <= u64::from(quota) => CodeTable::new(
-            pages.allocator(),
-            pages,
-            first.start,
-            (first.len / 4) as usize,
-        ),
-        _ => CodeTable::new(pages.allocator(), pages, 0, 0),
     }
 }

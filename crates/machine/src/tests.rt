@@ -9,6 +9,7 @@ mod orders;
 mod refusals;
 mod reports;
 mod rounds;
+mod workers;
 
 use crate::{Format, Machine, Settings, emulate};
 use elf_loader::load_flat;
@@ -16,6 +17,8 @@ use host_io::{RunError, WriteSink};
 use pages::OutOfMemory;
 use round_planner::Plan;
 use std::alloc::Global;
+use std::sync::Wait;
+use std::thread::Threads;
 
 /// The flat image of these words.
 fn flat(alloc: Global, words: &[u32]) -> Result<Vec<u8>, OutOfMemory> {
@@ -40,7 +43,8 @@ fn settings(harts: u32, rounds: u32, plan: &[u8]) -> Settings<'_> {
 }
 
 /// The report of a run of an image.
-fn report_of(
+fn report_of<R: Threads + Wait + Sync>(
+    rt: &R,
     alloc: Global,
     image: &[u8],
     input: &[u8],
@@ -48,6 +52,7 @@ fn report_of(
 ) -> Result<Vec<u8>, RunError> {
     let mut text = Vec::new(alloc);
     emulate(
+        rt,
         alloc,
         image,
         input,
@@ -58,33 +63,47 @@ fn report_of(
 }
 
 /// The report of a run of these words.
-fn report(
+fn report<R: Threads + Wait + Sync>(
+    rt: &R,
     alloc: Global,
     words: &[u32],
     input: &[u8],
     settings: &Settings<'_>,
 ) -> Result<Vec<u8>, RunError> {
-    report_of(alloc, &flat(alloc, words)?, input, settings)
+    report_of(rt, alloc, &flat(alloc, words)?, input, settings)
 }
 
 /// Whether the report of a run of these words is this one.
-fn report_is(
+fn report_is<R: Threads + Wait + Sync>(
+    rt: &R,
     alloc: Global,
     words: &[u32],
     input: &[u8],
     settings: &Settings<'_>,
     wanted: &str,
 ) -> bool {
-    match report(alloc, words, input, settings) {
+    match report(rt, alloc, words, input, settings) {
         Ok(text) => text.as_slice() == wanted.as_bytes(),
         Err(_) => false,
     }
 }
 
 /// The number of the refusal of a run, or 0, and how many bytes the sink took.
-fn answer(alloc: Global, image: &[u8], settings: &Settings<'_>) -> (u32, usize) {
+fn answer<R: Threads + Wait + Sync>(
+    rt: &R,
+    alloc: Global,
+    image: &[u8],
+    settings: &Settings<'_>,
+) -> (u32, usize) {
     let mut text = Vec::new(alloc);
-    let answer = emulate(alloc, image, &[], settings, &mut WriteSink::new(&mut text));
+    let answer = emulate(
+        rt,
+        alloc,
+        image,
+        &[],
+        settings,
+        &mut WriteSink::new(&mut text),
+    );
     match answer {
         Ok(()) => (0, text.len()),
         Err(error) => (error.number(), text.len()),

@@ -18,6 +18,8 @@ use crate::settings::Settings;
 use host_io::RunError;
 use memory_order::Trace;
 use std::alloc::Global;
+use std::sync::Wait;
+use std::thread::Threads;
 
 /// Runs a guest program for a number of rounds, and hands its trace over.
 ///
@@ -26,7 +28,8 @@ use std::alloc::Global;
 /// # Errors
 ///
 /// The refusals of the settings, then of the image, then of the plan; `OutOfMemory`.
-pub fn trace_run(
+pub fn trace_run<R: Threads + Wait + Sync>(
+    rt: &R,
     alloc: Global,
     image: &[u8],
     input: &[u8],
@@ -44,6 +47,6 @@ pub fn trace_run(
 {
     let mut machine = prepare(alloc, image, input, settings)?;
     machine.bytes_fit();
-    machine.run(settings.rounds, settings.workers)?;
+    machine.run(rt, settings.rounds, settings.workers)?;
     Ok(machine.into_trace())
 }

@@ -2,9 +2,16 @@ use super::images::{CROSSED_AND_FENCED, ECHO, RESERVED};
 use super::{report_is, settings};
 use crate::Settings;
 use std::alloc::Global;
+use std::sync::Wait;
+use std::thread::Threads;
 
 /// Whether both harts do the echo in one turn of this budget, and are then in this state.
-fn echoes_in_one_turn(alloc: Global, budget: u32, state: &str) -> bool {
+fn echoes_in_one_turn<R: Threads + Wait + Sync>(
+    rt: &R,
+    alloc: Global,
+    budget: u32,
+    state: &str,
+) -> bool {
     let asked = Settings {
         budget,
         ..settings(2, 1, b"4\n")
@@ -25,7 +32,7 @@ fn echoes_in_one_turn(alloc: Global, budget: u32, state: &str) -> bool {
          end\n"
     );
     match wanted {
-        Ok(wanted) => report_is(alloc, &ECHO, b"A", &asked, wanted.as_str()),
+        Ok(wanted) => report_is(rt, alloc, &ECHO, b"A", &asked, wanted.as_str()),
         Err(_) => false,
     }
 }
@@ -33,8 +40,8 @@ fn echoes_in_one_turn(alloc: Global, budget: u32, state: &str) -> bool {
 #[test]
 fn echo_in_one_turn(rt: HostRuntime) {
     // the turn ends by the budget, or by a fetch past the code
-    assert!(rt; echoes_in_one_turn(rt.alloc(), 3, "running"));
-    assert!(rt; echoes_in_one_turn(rt.alloc(), 4, "stop 3"));
+    assert!(rt; echoes_in_one_turn(&rt, rt.alloc(), 3, "running"));
+    assert!(rt; echoes_in_one_turn(&rt, rt.alloc(), 4, "stop 3"));
 }
 
 #[test]
@@ -53,7 +60,16 @@ fn echo_begins(rt: HostRuntime) {
                   output 0\n\
                   trace 0\n\
                   end\n";
-    assert!(rt; report_is(rt.alloc(), &ECHO, b"A", &settings(2, 1, b"4\n"), wanted));
+    assert!(rt;
+        report_is(
+            &rt,
+            rt.alloc(),
+            &ECHO,
+            b"A",
+            &settings(2, 1, b"4\n"),
+            wanted
+        )
+    );
 }
 
 #[test]
@@ -78,7 +94,7 @@ fn lr_and_sc_in_one_turn(rt: HostRuntime) {
                   1 0 2 s lr - 00000100 8 0000000000000000 -\n\
                   1 0 3 s sc - 00000100 8 - 0000000000000000\n\
                   end\n";
-    assert!(rt; report_is(rt.alloc(), &RESERVED, &[], &asked, wanted));
+    assert!(rt; report_is(&rt, rt.alloc(), &RESERVED, &[], &asked, wanted));
 }
 
 #[test]
@@ -112,5 +128,5 @@ fn fence_and_load_in_one_turn(rt: HostRuntime) {
                   1 1 4 s fence 3 3 normal\n\
                   1 1 5 s load - 00000100 8 0000000000000001 -\n\
                   end\n";
-    assert!(rt; report_is(rt.alloc(), &CROSSED_AND_FENCED, &[], &asked, wanted));
+    assert!(rt; report_is(&rt, rt.alloc(), &CROSSED_AND_FENCED, &[], &asked, wanted));
 }

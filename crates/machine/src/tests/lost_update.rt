@@ -55,6 +55,7 @@ fn an_update_is_lost_without_an_atomic_instruction(rt: HostRuntime) -> Result<()
         };
         let mut text = Vec::new(rt.alloc());
         emulate(
+            &rt,
             rt.alloc(),
             TWO_COUNTERS,
             b"",
@@ -76,7 +77,7 @@ fn a_guest_in_c_counts_its_lost_updates(rt: HostRuntime) -> Result<(), Fail> {
         let plan = Plan::parse(rt.alloc(), quota.as_bytes(), harts)?;
         let image = load_elf(rt.alloc(), &LOST_UPDATE, 256)?;
         let mut machine = Machine::new(rt.alloc(), image, Vec::new(rt.alloc()), plan)?;
-        machine.run(100, 1)?;
+        machine.run(&rt, 100, 1)?;
         assert!(rt; machine.output() == output.as_bytes());
         assert_eq!(rt; machine.byte(0x20000), Some(plain));
         assert_eq!(rt; machine.byte(0x20008), Some(atomic));

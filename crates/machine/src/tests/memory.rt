@@ -3,11 +3,13 @@
 
 use super::images::CROSSED_AND_FENCED;
 use super::{flat, machine, settings, text_of};
-use crate::{Machine, Settings, emulate};
+use crate::{Machine, Open, Settings, emulate};
 use host_io::{RunError, WriteSink};
 use pages::OutOfMemory;
 use std::alloc::Global;
+use std::sync::Wait;
 use std::test::Fail;
+use std::thread::Threads;
 
 /// The report after both rounds.
 const WANTED: &[u8] = b"rounds 2\n\
@@ -60,9 +62,13 @@ fn sure_image(alloc: Global) -> Result<Vec<u8>, OutOfMemory> {
 
 /// Does a round and gives its number. Where memory is refused, the report has to be as before and the round is asked for
 /// again; else there is no number.
-fn sure_round(alloc: Global, machine: &mut Machine) -> Result<Option<u32>, RunError> {
+fn sure_round<R: Threads + Wait + Sync>(
+    rt: &R,
+    alloc: Global,
+    machine: &mut Machine,
+) -> Result<Option<u32>, RunError> {
     let before = sure_text(alloc, machine)?;
-    let error = match machine.round(4) {
+    let error = match machine.round(rt, 4, &Open) {
         Ok(note) => return Ok(Some(note.round)),
         Err(error) => error,
     };
@@ -70,26 +76,32 @@ fn sure_round(alloc: Global, machine: &mut Machine) -> Result<Option<u32>, RunEr
     if error.number() != 20 || after.as_slice() != before.as_slice() {
         return Ok(None);
     }
-    Ok(Some(machine.round(4)?.round))
+    Ok(Some(machine.round(rt, 4, &Open)?.round))
 }
 
 #[test]
 fn a_refused_round_changes_nothing(rt: HostRuntime) -> Result<(), Fail> {
     let mut machine = sure_machine(rt.alloc())?;
-    assert!(rt; sure_round(rt.alloc(), &mut machine)? == Some(1));
-    assert!(rt; sure_round(rt.alloc(), &mut machine)? == Some(2));
+    assert!(rt; sure_round(&rt, rt.alloc(), &mut machine)? == Some(1));
+    assert!(rt; sure_round(&rt, rt.alloc(), &mut machine)? == Some(2));
     assert!(rt; sure_text(rt.alloc(), &machine)?.as_slice() == WANTED);
     Ok(())
 }
 
 /// Whether a run on so many workers writes the report, or, where memory is refused, a beginning of it.
-fn runs_or_is_refused(alloc: Global, image: &[u8], workers: u32) -> bool {
+fn runs_or_is_refused<R: Threads + Wait + Sync>(
+    rt: &R,
+    alloc: Global,
+    image: &[u8],
+    workers: u32,
+) -> bool {
     let asked = Settings {
         workers,
         ..settings(2, 2, b"6\n")
     };
     let mut room = [0u8; 1000];
     let answer = emulate(
+        rt,
         alloc,
         image,
         &[],
@@ -111,7 +123,7 @@ fn begins_wanted(room: &[u8]) -> bool {
 #[test]
 fn a_refused_run_writes_no_other_report(rt: HostRuntime) -> Result<(), Fail> {
     let image = sure_image(rt.alloc())?;
-    assert!(rt; runs_or_is_refused(rt.alloc(), &image, 1));
-    assert!(rt; runs_or_is_refused(rt.alloc(), &image, 4));
+    assert!(rt; runs_or_is_refused(&rt, rt.alloc(), &image, 1));
+    assert!(rt; runs_or_is_refused(&rt, rt.alloc(), &image, 4));
     Ok(())
 }

@@ -2,7 +2,9 @@ use crate::{Format, Settings, order_run, trace_run};
 use host_io::WriteSink;
 use memory_order::{Order, memory_order};
 use std::alloc::Global;
+use std::sync::Wait;
 use std::test::Fail;
+use std::thread::Threads;
 
 // Both harts store to a place of their own and load that of the other.
 const STORE_AND_LOAD: [u8; 20] = [
@@ -28,7 +30,8 @@ const RESERVE_AND_STORE: [u8; 28] = [
 ];
 
 // Whether the memory order of a run of two harts is of these places.
-fn is_ordered(
+fn is_ordered<R: Threads + Wait + Sync>(
+    rt: &R,
     alloc: Global,
     image: &[u8],
     plan: &[u8],
@@ -45,7 +48,7 @@ fn is_ordered(
         plan,
         budget,
     };
-    let Ok(trace) = trace_run(alloc, image, &[], &settings) else {
+    let Ok(trace) = trace_run(rt, alloc, image, &[], &settings) else {
         return false;
     };
     match memory_order(alloc, &trace) {
@@ -56,18 +59,58 @@ fn is_ordered(
 
 #[test]
 fn parallel_loads_come_before_the_stores_of_their_round(rt: HostRuntime) {
-    assert!(rt; is_ordered(rt.alloc(), &STORE_AND_LOAD, b"5\n", 1, 1, &[1, 3, 0, 2]));
-    assert!(rt; is_ordered(rt.alloc(), &STORE_AND_LOAD_OWN, b"3\n", 1, 1, &[1, 3, 0, 2]));
+    assert!(rt;
+        is_ordered(
+            &rt,
+            rt.alloc(),
+            &STORE_AND_LOAD,
+            b"5\n",
+            1,
+            1,
+            &[1, 3, 0, 2]
+        )
+    );
+    assert!(rt;
+        is_ordered(
+            &rt,
+            rt.alloc(),
+            &STORE_AND_LOAD_OWN,
+            b"3\n",
+            1,
+            1,
+            &[1, 3, 0, 2]
+        )
+    );
 }
 
 #[test]
 fn serial_loads_come_after_the_stores_of_their_round(rt: HostRuntime) {
-    assert!(rt; is_ordered(rt.alloc(), &STORE_FENCE_LOAD, b"6\n", 1, 2, &[0, 1, 3, 5]));
+    assert!(rt;
+        is_ordered(
+            &rt,
+            rt.alloc(),
+            &STORE_FENCE_LOAD,
+            b"6\n",
+            1,
+            2,
+            &[0, 1, 3, 5]
+        )
+    );
 }
 
 #[test]
 fn a_store_between_lr_and_sc_is_ordered_after_the_lr(rt: HostRuntime) {
-    assert!(rt; is_ordered(rt.alloc(), &RESERVE_AND_STORE, b"3 2\n3 3\n", 2, 1, &[0, 1]));
+    assert!(rt;
+        is_ordered(
+            &rt,
+            rt.alloc(),
+            &RESERVE_AND_STORE,
+            b"3 2\n3 3\n",
+            2,
+            1,
+            &[0, 1]
+        )
+    );
 }
 
 #[test]
@@ -83,6 +126,7 @@ fn an_order_is_written_and_checked(rt: HostRuntime) -> Result<(), Fail> {
     };
     let mut text = Vec::new(rt.alloc());
     order_run(
+        &rt,
         rt.alloc(),
         &STORE_AND_LOAD,
         &[],

@@ -3,7 +3,9 @@ use super::{answer, flat, report, settings};
 use crate::{Format, Settings, emulate};
 use host_io::{RunError, WriteSink};
 use std::alloc::Global;
+use std::sync::Wait;
 use std::test::Fail;
+use std::thread::Threads;
 
 /// ADDI x17,x0,0 and ECALL.
 const CODE: &[u8] = b"\x93\x08\x00\x00\x73\x00\x00\x00";
@@ -32,23 +34,22 @@ fn settings_come_first(rt: HostRuntime) {
             budget,
             ..settings(harts, 1, b"\n")
         };
-        assert_eq!(rt; answer(rt.alloc(), b"", &asked), (number, 0));
+        assert_eq!(rt; answer(&rt, rt.alloc(), b"", &asked), (number, 0));
     }
 }
 
 #[test]
 fn images_come_before_plans(rt: HostRuntime) {
-    let alloc = rt.alloc();
     for plan in [b"\n".as_slice(), b"0\n", b"4 4 4\n"] {
         let flat = settings(2, 1, plan);
-        assert_eq!(rt; answer(alloc, &[0; 4100], &flat), (8, 0));
-        assert_eq!(rt; answer(alloc, b"\x93\x08", &flat), (12, 0));
+        assert_eq!(rt; answer(&rt, rt.alloc(), &[0; 4100], &flat), (8, 0));
+        assert_eq!(rt; answer(&rt, rt.alloc(), b"\x93\x08", &flat), (12, 0));
         let elf = Settings {
             format: Format::Elf,
             ..settings(2, 1, plan)
         };
-        assert_eq!(rt; answer(alloc, CODE, &elf), (1, 0));
-        assert_eq!(rt; answer(alloc, &[0; 64], &elf), (2, 0));
+        assert_eq!(rt; answer(&rt, rt.alloc(), CODE, &elf), (1, 0));
+        assert_eq!(rt; answer(&rt, rt.alloc(), &[0; 64], &elf), (2, 0));
     }
 }
 
@@ -70,7 +71,7 @@ fn plans_come_last(rt: HostRuntime) -> Result<(), Fail> {
         (rows.as_slice(), 34),
     ] {
         assert_eq!(rt;
-            answer(rt.alloc(), CODE, &settings(2, 1, plan)),
+            answer(&rt, rt.alloc(), CODE, &settings(2, 1, plan)),
             (number, 0)
         );
     }
@@ -79,12 +80,13 @@ fn plans_come_last(rt: HostRuntime) -> Result<(), Fail> {
 
 /// Whether a run of the exit call says that the sink failed, which has room for a beginning of the report and has it
 /// then.
-fn begins(alloc: Global, image: &[u8], beginning: &[u8]) -> bool {
+fn begins<R: Threads + Wait + Sync>(rt: &R, alloc: Global, image: &[u8], beginning: &[u8]) -> bool {
     let mut room = [0u8; 400];
     let Some(taken) = room.get_mut(..beginning.len()) else {
         return false;
     };
     let answer = emulate(
+        rt,
         alloc,
         image,
         &[],
@@ -98,11 +100,11 @@ fn begins(alloc: Global, image: &[u8], beginning: &[u8]) -> bool {
 fn a_sink_that_fails(rt: HostRuntime) -> Result<(), Fail> {
     assert_eq!(rt; RunError::SinkFailed.number(), 21);
     let image = flat(rt.alloc(), &EXIT)?;
-    assert!(rt; begins(rt.alloc(), &image, b"rounds 1\nh"));
+    assert!(rt; begins(&rt, rt.alloc(), &image, b"rounds 1\nh"));
     // wherever it fails, a beginning of the report is out
-    let text = report(rt.alloc(), &EXIT, &[], &settings(2, 1, b"4\n"))?;
+    let text = report(&rt, rt.alloc(), &EXIT, &[], &settings(2, 1, b"4\n"))?;
     for length in 0..text.len() {
-        assert!(rt; begins(rt.alloc(), &image, &text[..length]));
+        assert!(rt; begins(&rt, rt.alloc(), &image, &text[..length]));
     }
     Ok(())
 }

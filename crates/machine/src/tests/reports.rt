@@ -5,7 +5,9 @@ use super::images::{
 use super::{answer, report, report_is, report_of, settings};
 use crate::{Format, Settings};
 use std::alloc::Global;
+use std::sync::Wait;
 use std::test::Fail;
+use std::thread::Threads;
 
 #[test]
 fn store_then_load(rt: HostRuntime) {
@@ -37,7 +39,7 @@ fn store_then_load(rt: HostRuntime) {
             workers,
             ..settings(2, 1, b"6\n")
         };
-        assert!(rt; report_is(rt.alloc(), &STORE_THEN_LOAD, &[], &asked, wanted));
+        assert!(rt; report_is(&rt, rt.alloc(), &STORE_THEN_LOAD, &[], &asked, wanted));
     }
 }
 
@@ -54,8 +56,13 @@ const EXITED: &str = "hart 0 pc 0000000000000004 done 1 exit 0000000000000000\n\
                       end\n";
 
 /// Whether the report of a run of the exit call is this line, and then that both harts have done the call.
-fn exits(alloc: Global, settings: &Settings<'_>, line: &str) -> bool {
-    match report(alloc, &EXIT, &[], settings) {
+fn exits<R: Threads + Wait + Sync>(
+    rt: &R,
+    alloc: Global,
+    settings: &Settings<'_>,
+    line: &str,
+) -> bool {
+    match report(rt, alloc, &EXIT, &[], settings) {
         Ok(text) => text.strip_prefix(line.as_bytes()) == Some(EXITED.as_bytes()),
         Err(_) => false,
     }
@@ -68,7 +75,7 @@ fn exit_in_one_round(rt: HostRuntime) {
             workers,
             ..settings(2, 1, b"4\n")
         };
-        assert!(rt; exits(rt.alloc(), &asked, "rounds 1\n"));
+        assert!(rt; exits(&rt, rt.alloc(), &asked, "rounds 1\n"));
     }
 }
 
@@ -85,8 +92,8 @@ fn exit_by_quota(rt: HostRuntime) {
                  output 0\n\
                  trace 0\n\
                  end\n";
-    assert!(rt; report_is(rt.alloc(), &EXIT, &[], &settings(2, 1, b"1\n"), begun));
-    assert!(rt; exits(rt.alloc(), &settings(2, 2, b"1\n"), "rounds 2\n"));
+    assert!(rt; report_is(&rt, rt.alloc(), &EXIT, &[], &settings(2, 1, b"1\n"), begun));
+    assert!(rt; exits(&rt, rt.alloc(), &settings(2, 2, b"1\n"), "rounds 2\n"));
 }
 
 #[test]
@@ -102,7 +109,7 @@ fn no_rounds(rt: HostRuntime) {
                   output 0\n\
                   trace 0\n\
                   end\n";
-    assert!(rt; report_is(rt.alloc(), &EXIT, &[], &settings(2, 0, b"4\n"), wanted));
+    assert!(rt; report_is(&rt, rt.alloc(), &EXIT, &[], &settings(2, 0, b"4\n"), wanted));
 }
 
 #[test]
@@ -128,7 +135,16 @@ fn stores_that_cross(rt: HostRuntime) {
                   1 1 3 p store - 00000108 8 - 0000000000000001\n\
                   1 1 4 p load - 00000100 8 0000000000000000 -\n\
                   end\n";
-    assert!(rt; report_is(rt.alloc(), &CROSSED, &[], &settings(2, 1, b"5\n"), wanted));
+    assert!(rt;
+        report_is(
+            &rt,
+            rt.alloc(),
+            &CROSSED,
+            &[],
+            &settings(2, 1, b"5\n"),
+            wanted
+        )
+    );
 }
 
 #[test]
@@ -160,6 +176,7 @@ fn stores_that_cross_with_a_fence(rt: HostRuntime) {
                   end\n";
     assert!(rt;
         report_is(
+            &rt,
             rt.alloc(),
             &CROSSED_AND_FENCED,
             &[],
@@ -191,7 +208,16 @@ fn own_stores(rt: HostRuntime) {
                   1 1 1 p store - 00000100 8 - 0000000000000006\n\
                   1 1 2 p load - 00000100 8 0000000000000006 -\n\
                   end\n";
-    assert!(rt; report_is(rt.alloc(), &OWN_STORE, &[], &settings(2, 1, b"3\n"), wanted));
+    assert!(rt;
+        report_is(
+            &rt,
+            rt.alloc(),
+            &OWN_STORE,
+            &[],
+            &settings(2, 1, b"3\n"),
+            wanted
+        )
+    );
 }
 
 #[test]
@@ -217,6 +243,7 @@ fn sc_after_the_store_of_another_hart(rt: HostRuntime) {
                   end\n";
     assert!(rt;
         report_is(
+            &rt,
             rt.alloc(),
             &RESERVED,
             &[],
@@ -259,7 +286,16 @@ fn three_harts_add(rt: HostRuntime) {
                   1 1 5 s amo - 00000100 4 80000000 80000001\n\
                   1 2 5 s amo - 00000100 4 80000001 80000002\n\
                   end\n";
-    assert!(rt; report_is(rt.alloc(), &ADDED, &[], &settings(3, 1, b"6\n"), wanted));
+    assert!(rt;
+        report_is(
+            &rt,
+            rt.alloc(),
+            &ADDED,
+            &[],
+            &settings(3, 1, b"6\n"),
+            wanted
+        )
+    );
 }
 
 #[test]
@@ -277,6 +313,7 @@ fn a_stop_keeps_what_was_stored(rt: HostRuntime) {
                   end\n";
     assert!(rt;
         report_is(
+            &rt,
             rt.alloc(),
             &MISALIGNED,
             &[],
@@ -301,7 +338,16 @@ fn input_and_output(rt: HostRuntime) {
                   41ff\n\
                   trace 0\n\
                   end\n";
-    assert!(rt; report_is(rt.alloc(), &ECHO, b"A", &settings(2, 2, b"4\n"), wanted));
+    assert!(rt;
+        report_is(
+            &rt,
+            rt.alloc(),
+            &ECHO,
+            b"A",
+            &settings(2, 2, b"4\n"),
+            wanted
+        )
+    );
 }
 
 /// A header, one program header (X and R, 8 bytes from offset 120 to address 0x1000), then ADDI x17,x0,0 and ECALL.
@@ -326,7 +372,7 @@ fn elf(pages: u32) -> Settings<'static> {
 
 #[test]
 fn an_elf_file(rt: HostRuntime) -> Result<(), Fail> {
-    let text = report_of(rt.alloc(), ELF_EXIT, &[], &elf(2))?;
+    let text = report_of(&rt, rt.alloc(), ELF_EXIT, &[], &elf(2))?;
     let wanted = "rounds 1\n\
                   hart 0 pc 0000000000001004 done 1 exit 0000000000000000\n\
                   x11 0000000000000001\n\
@@ -341,6 +387,6 @@ fn an_elf_file(rt: HostRuntime) -> Result<(), Fail> {
 
 #[test]
 fn elf_files_that_are_refused(rt: HostRuntime) {
-    assert!(rt; answer(rt.alloc(), &ELF_EXIT[..63], &elf(2)) == (1, 0));
-    assert!(rt; answer(rt.alloc(), ELF_EXIT, &elf(1)) == (8, 0));
+    assert!(rt; answer(&rt, rt.alloc(), &ELF_EXIT[..63], &elf(2)) == (1, 0));
+    assert!(rt; answer(&rt, rt.alloc(), ELF_EXIT, &elf(1)) == (8, 0));
 }

@@ -1,6 +1,6 @@
 use super::images::{CROSSED, ECHO, EXIT};
 use super::{flat, machine, text_of};
-use crate::Machine;
+use crate::{Machine, Open};
 use elf_loader::load_flat;
 use hart_step::Stop;
 use host_io::RunError;
@@ -8,7 +8,9 @@ use pages::Width;
 use round_planner::Plan;
 use round_schedule::{Access, Event, Phase};
 use std::alloc::Global;
+use std::sync::Wait;
 use std::test::Fail;
+use std::thread::Threads;
 
 /// Whether each hart is at the start, with its number and the count of harts.
 fn are_at_start(machine: &Machine) -> bool {
@@ -45,8 +47,12 @@ fn have_done_one(machine: &Machine, exited: bool) -> bool {
 }
 
 /// What the next round was.
-fn noted(machine: &mut Machine, workers: u32) -> Result<(u32, u32, u32), RunError> {
-    let note = machine.round(workers)?;
+fn noted<R: Threads + Wait + Sync>(
+    rt: &R,
+    machine: &mut Machine,
+    workers: u32,
+) -> Result<(u32, u32, u32), RunError> {
+    let note = machine.round(rt, workers, &Open)?;
     Ok((note.round, note.waited, note.stopped))
 }
 
@@ -56,7 +62,7 @@ fn rounds_one_by_one(rt: HostRuntime) -> Result<(), Fail> {
     assert!(rt; are_at_start(&machine));
     // the quota ends both, the call makes both wait, and then nothing is left to do
     for asked in [(1, 0, 0), (2, 2, 2), (3, 0, 2)] {
-        assert!(rt; noted(&mut machine, 4)? == asked);
+        assert!(rt; noted(&rt, &mut machine, 4)? == asked);
         assert!(rt; have_done_one(&machine, asked.0 != 1));
     }
     Ok(())
@@ -141,8 +147,13 @@ fn is_untraced(machine: &Machine) -> bool {
 }
 
 /// Does rounds.
-pub(super) fn run(machine: &mut Machine, rounds: u32, workers: u32) -> Result<(), RunError> {
-    machine.run(rounds, workers)
+pub(super) fn run<R: Threads + Wait + Sync>(
+    rt: &R,
+    machine: &mut Machine,
+    rounds: u32,
+    workers: u32,
+) -> Result<(), RunError> {
+    machine.run(rt, rounds, workers)
 }
 
 #[test]
@@ -150,7 +161,7 @@ fn what_a_machine_shows(rt: HostRuntime) -> Result<(), Fail> {
     let mut machine = machine(rt.alloc(), &CROSSED, 2, b"5\n")?;
     assert!(rt; is_untraced(&machine));
     assert!(rt; shows(&machine, 0x100, Some(0)));
-    run(&mut machine, 1, 16)?;
+    run(&rt, &mut machine, 1, 16)?;
     assert!(rt; have_done_five(&machine));
     assert!(rt; shows_its_bytes(&machine));
     assert!(rt; has_crossed(&machine));
@@ -173,9 +184,9 @@ fn echo(alloc: Global, input: Vec<u8>) -> Result<Machine, RunError> {
 #[test]
 fn output_of_a_machine(rt: HostRuntime) -> Result<(), Fail> {
     let mut machine = echo(rt.alloc(), b"A".to_vec(rt.alloc())?)?;
-    run(&mut machine, 1, 1)?;
+    run(&rt, &mut machine, 1, 1)?;
     assert!(rt; has_put(&machine, b""));
-    run(&mut machine, 1, 1)?;
+    run(&rt, &mut machine, 1, 1)?;
     assert!(rt; has_put(&machine, b"A\xff"));
     Ok(())
 }
@@ -183,14 +194,16 @@ fn output_of_a_machine(rt: HostRuntime) -> Result<(), Fail> {
 #[test]
 fn refused_rounds(rt: HostRuntime) -> Result<(), Fail> {
     let mut machine = machine(rt.alloc(), &EXIT, 2, b"1\n")?;
-    run(&mut machine, 1, 1)?;
+    run(&rt, &mut machine, 1, 1)?;
     let before = text_of(rt.alloc(), &machine)?;
     for workers in [0, 17] {
-        assert!(rt; noted(&mut machine, workers) == Err(RunError::WorkersOutOfRange));
-        assert!(rt; run(&mut machine, 4_294_967_295, workers) == Err(RunError::WorkersOutOfRange));
+        assert!(rt; noted(&rt, &mut machine, workers) == Err(RunError::WorkersOutOfRange));
+        assert!(rt;
+            run(&rt, &mut machine, 4_294_967_295, workers) == Err(RunError::WorkersOutOfRange)
+        );
     }
     // one round was done before
-    assert!(rt; run(&mut machine, 4_294_967_295, 16) == Err(RunError::RoundsExhausted));
+    assert!(rt; run(&rt, &mut machine, 4_294_967_295, 16) == Err(RunError::RoundsExhausted));
     assert_eq!(rt; RunError::RoundsExhausted.number(), 54);
     let after = text_of(rt.alloc(), &machine)?;
     assert!(rt; after.as_slice() == before.as_slice());

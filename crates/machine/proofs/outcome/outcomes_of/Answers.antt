@@ -1,12 +1,19 @@
-use Rattle.std.proofs.Common.{arith}
-use Rattle.machine.proofs.RoundsOfHarts.{outcomes_more}
+use Rattle.std.proofs.Common.{◌≡◌, ◌-◌, ◌∙◌, ℕ, IfOk, List, get_or, sym, ap, subst, arith}
+use Rattle.round_schedule.specs.Schedule.{HartRound}
+use Rattle.round_planner.specs.Quotas.{quotas_of}
+use Rattle.hart_step.specs.declared.hart.Hart.{Hart}
+use Rattle.hart_step.specs.Words.{words_of}
+use Rattle.round_lock.specs.Starts.{Start, rounds_of}
+use Rattle.machine.specs.Outcomes.{AreOutcomes}
+use Rattle.machine.proofs.RoundsOfHarts.{same_rounds}
 use Rattle.machine.proofs.outcome.outcomes_of.Goals as goal
 
-pub overflow_cast-number : goal.overflow_cast-number
-overflow_cast-number c = omega (arith, c.requires.harts, c.harts-harts.ensures.harts, c.harts-harts.ensures.few_harts)
-
-pub loop-number-preserved : goal.loop-number-preserved
-loop-number-preserved c = record {
-  rounds = outcomes_more c.args.pages.now.memory _ c.args.harts.now c.loop-number.number _ c.quota-quota.result c.loop-number.outcomes.items c.add.new.outcomes.items c.in_ok-outcome.outcome
-      c.loop-number-test.true c.quota-quota.ensures.quota c.in_ok-add.ensures c.loop-number.invariant.rounds c.in_ok-outcome.ensures;
-}
+pub returns : goal.returns
+returns g c =
+    let m = c.args.pages.now.memory in
+    let plan = c.args.plan.now in
+    let started = subst (λ (s : Start). IfOk c.gather_outcomes.result (λ os. AreOutcomes s.memory (rounds_of s) os.items)) c.new-start.ensures c.gather_outcomes.ensures in
+    subst (λ (rs : List (HartRound Hart)). IfOk c.gather_outcomes.result (λ os. AreOutcomes m rs os.items))
+    (same_rounds (words_of m.code) m.bytes c.deref.result.now (quotas_of plan (c.args.round - 1)) c.args.harts.now (λ k low.
+    ap (λ (qs : List ℕ). get_or qs k 0) c.deref.ensures.value ∙ c.in_ok-quotas.ensures.quotas k (omega (arith, low, c.requires.harts))))
+    started

@@ -12,30 +12,55 @@ use Rattle.machine.proofs.Listed.{are_fit, same_length}
 use Rattle.machine.proofs.RoundDone.{finished_done, length-rounds, waited_is}
 use Rattle.machine.proofs.round.do_round.Goals as goal
 
-pub finish-requires : goal.finish-requires
-finish-requires c =
+pub finish-requires-clause-few : goal.finish-requires-clause-few
+finish-requires-clause-few g c = λ lifetimes within.
     let m = c.args.pages.now.memory in
     let os = c.in_ok-outcomes.outcomes.items in
     let same : c.deref-3.result.now ≡ os = c.deref-3.ensures.value in
     let a = c.in_ok-outcomes.ensures in
     let size : length c.deref.result.now ≡ length os = sym (length-rounds (words_of m.code) m.bytes (quotas_of c.args.plan.now (c.args.done + 1 - 1)) c.deref.result.now) ∙ same_length m _ os a in
     let harts : length os ≡ length c.args.harts.now.items = sym size ∙ ap length c.deref.ensures.value in
+    omega (arith, ap length same, harts, c.requires.harts, c.harts-harts.ensures.harts, c.harts-harts.ensures.few_harts)
+
+pub finish-requires-clause-fits : goal.finish-requires-clause-fits
+finish-requires-clause-fits g c = λ lifetimes within.
+    let m = c.args.pages.now.memory in
+    let os = c.in_ok-outcomes.outcomes.items in
+    let same : c.deref-3.result.now ≡ os = c.deref-3.ensures.value in
+    let a = c.in_ok-outcomes.ensures in
+    subst (λ (x : List Outcome). AreFit m x) (sym same) (are_fit m _ os a)
+
+pub finish-requires-clause-harts : goal.finish-requires-clause-harts
+finish-requires-clause-harts g c = λ lifetimes within.
+    let os = c.in_ok-outcomes.outcomes.items in
+    let same : c.deref-3.result.now ≡ os = c.deref-3.ensures.value in
+    c.deref_mut.ensures.value ∙ c.in_ok-turned.ensures ∙ ap harts_of (c.deref-2.ensures.value ∙ sym same)
+
+pub finish-requires-clause-size : goal.finish-requires-clause-size
+finish-requires-clause-size g c = λ lifetimes within.
+    let m = c.args.pages.now.memory in
+    let os = c.in_ok-outcomes.outcomes.items in
+    let same : c.deref-3.result.now ≡ os = c.deref-3.ensures.value in
+    let a = c.in_ok-outcomes.ensures in
+    let size : length c.deref.result.now ≡ length os = sym (length-rounds (words_of m.code) m.bytes (quotas_of c.args.plan.now (c.args.done + 1 - 1)) c.deref.result.now) ∙ same_length m _ os a in
+    let harts : length os ≡ length c.args.harts.now.items = sym size ∙ ap length c.deref.ensures.value in
+    c.requires.size ∙ sym harts ∙ sym (ap length same)
+
+pub finish-requires-clause-budget : goal.finish-requires-clause-budget
+finish-requires-clause-budget g c = λ lifetimes within. c.budget-budget.ensures.few_budget
+
+pub finish-requires-clause-sound : goal.finish-requires-clause-sound
+finish-requires-clause-sound g c = λ lifetimes within.
+    let m = c.args.pages.now.memory in
     let less : c.args.done + 1 - 1 ≡ c.args.done = omega arith in
     let rounds = subst (λ (hs : List Hart). AreOutcomes m (hart_rounds (words_of m.code) m.bytes (quotas_of c.args.plan.now c.args.done) hs) c.deref-3.result.now) c.deref.ensures.value
     (subst (λ (n : ℕ). AreOutcomes m (hart_rounds (words_of m.code) m.bytes (quotas_of c.args.plan.now n) c.deref.result.now) c.deref-3.result.now) less
     (subst (λ (x : List Outcome). AreOutcomes m (hart_rounds (words_of m.code) m.bytes (quotas_of c.args.plan.now (c.args.done + 1 - 1)) c.deref.result.now) x) (sym c.deref-3.ensures.value) c.in_ok-outcomes.ensures)) in
-    record {
-      few = omega (arith, ap length same, harts, c.requires.harts, c.harts-harts.ensures.harts, c.harts-harts.ensures.few_harts);
-      fits = subst (λ (x : List Outcome). AreFit m x) (sym same) (are_fit m _ os a);
-      harts = c.deref_mut.ensures.value ∙ c.in_ok-turned.ensures ∙ ap harts_of (c.deref-2.ensures.value ∙ sym same);
-      size = c.requires.size ∙ sym harts ∙ sym (ap length same);
-      budget = c.budget-budget.ensures.few_budget;
-      sound = λ gs s v d fs f. subst IsTrace (sym (finished_done c.args.plan.now c.args.done c.args.harts.now.items gs c.args.pages.now s c.args.reservations.now v c.args.console.now.console d c.args.trace.now.events fs c.deref-3.result.now rounds
-          (subst (λ (b : ℕ). IsFinished b (c.args.done + 1) c.deref-3.result.now gs c.args.pages.now s c.args.reservations.now v c.args.console.now.console d c.args.trace.now.events fs) c.budget-budget.ensures.budget f)).trace) c.requires.sound;
-    }
+    λ gs s v d fs f. subst IsTrace (sym (finished_done c.args.plan.now c.args.done c.args.harts.now.items gs c.args.pages.now s c.args.reservations.now v c.args.console.now.console d c.args.trace.now.events fs c.deref-3.result.now rounds
+    (subst (λ (b : ℕ). IsFinished b (c.args.done + 1) c.deref-3.result.now gs c.args.pages.now s c.args.reservations.now v c.args.console.now.console d c.args.trace.now.events fs) c.budget-budget.ensures.budget f)).trace) c.requires.sound
 
 pub returns-clause-ok : goal.returns-clause-ok
-returns-clause-ok c =
+returns-clause-ok g c =
     let m = c.args.pages.now.memory in
     let os = c.in_ok-outcomes.outcomes.items in
     let less : c.args.done + 1 - 1 ≡ c.args.done = omega arith in
@@ -48,7 +73,7 @@ returns-clause-ok c =
     (finished_done c.args.plan.now c.args.done c.args.harts.now.items c.finish.new.harts c.args.pages.now c.finish.new.pages c.args.reservations.now c.finish.new.reservations c.args.console.now.console c.finish.new.console.console c.args.trace.now.events c.finish.new.trace.events c.deref-3.result.now a finished)
 
 pub returns-clause-waited : goal.returns-clause-waited
-returns-clause-waited c =
+returns-clause-waited g c =
     let m = c.args.pages.now.memory in
     let less : c.args.done + 1 - 1 ≡ c.args.done = omega arith in
     let a = subst (λ (hs : List Hart). AreOutcomes m (hart_rounds (words_of m.code) m.bytes (quotas_of c.args.plan.now c.args.done) hs) c.deref-3.result.now) c.deref.ensures.value

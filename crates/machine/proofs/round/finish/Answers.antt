@@ -11,15 +11,17 @@ use Rattle.memory_order.proofs.Growing.{beginning}
 use Rattle.machine.proofs.RoundDone.{finished_from, needed_is, length-waits, length-harts, spares_left, LogFits, log_of}
 use Rattle.machine.proofs.round.finish.Goals as goal
 
-pub commit-requires : goal.commit-requires
-commit-requires c = record {
-  few = c.requires.few;
-  fits = subst (λ (m : Memory). AreFit m c.args.outcomes.now) (sym c.in_ok-make_room.ensures.keeps.memory) c.requires.fits;
-  ready = c.in_ok-make_room.ensures.ready;
-}
+pub commit-requires-clause-few : goal.commit-requires-clause-few
+commit-requires-clause-few g c = λ lifetimes within. c.requires.few
+
+pub commit-requires-clause-fits : goal.commit-requires-clause-fits
+commit-requires-clause-fits g c = λ lifetimes within. subst (λ (m : Memory). AreFit m c.args.outcomes.now) (sym c.in_ok-make_room.ensures.keeps.memory) c.requires.fits
+
+pub commit-requires-clause-ready : goal.commit-requires-clause-ready
+commit-requires-clause-ready g c = λ lifetimes within. c.in_ok-make_room.ensures.ready
 
 pub serial-requires : goal.serial-requires
-serial-requires c =
+serial-requires g c =
     let os = c.args.outcomes.now in
     let size : length c.args.harts.now ≡ length os = ap length c.requires.harts ∙ length-harts os in
     let need : budget_from c.waiting_mask-waiting.result c.args.budget 0 (length c.args.harts.now) ≡ c.turns_needed-turns.result =
@@ -36,7 +38,7 @@ serial-requires c =
     }
 
 pub add_parallel-requires : goal.add_parallel-requires
-add_parallel-requires c =
+add_parallel-requires g c =
     let os = c.args.outcomes.now in
     let by_mask = subst (λ (w : ℕ). TakesTurns (serial_done c.args.budget c.args.round w c.args.harts.now c.commit.new.pages c.commit.new.table c.make_room.new.console) c.serial.new.harts c.commit.new.pages c.serial.new.pages c.serial.new.table c.serial.new.console c.serial.new.log) c.waiting_mask-waiting.ensures.mask c.serial.ensures.turns in
     let served = subst (λ (hs : List Hart). TakesTurns (serial_done c.args.budget c.args.round (mask_of (waits_of os)) hs c.commit.new.pages c.commit.new.table c.make_room.new.console) c.serial.new.harts c.commit.new.pages c.serial.new.pages c.serial.new.table c.serial.new.console c.serial.new.log) c.requires.harts by_mask in
@@ -51,7 +53,7 @@ add_parallel-requires c =
     }
 
 pub add_serial-requires : goal.add_serial-requires
-add_serial-requires c =
+add_serial-requires g c =
     let os = c.args.outcomes.now in
     let by_mask = subst (λ (w : ℕ). TakesTurns (serial_done c.args.budget c.args.round w c.args.harts.now c.commit.new.pages c.commit.new.table c.make_room.new.console) c.serial.new.harts c.commit.new.pages c.serial.new.pages c.serial.new.table c.serial.new.console c.serial.new.log) c.waiting_mask-waiting.ensures.mask c.serial.ensures.turns in
     let served = subst (λ (hs : List Hart). TakesTurns (serial_done c.args.budget c.args.round (mask_of (waits_of os)) hs c.commit.new.pages c.commit.new.table c.make_room.new.console) c.serial.new.harts c.commit.new.pages c.serial.new.pages c.serial.new.table c.serial.new.console c.serial.new.log) c.requires.harts by_mask in
@@ -70,7 +72,7 @@ add_serial-requires c =
     }
 
 pub returns-clause-ok : goal.returns-clause-ok
-returns-clause-ok c =
+returns-clause-ok g c =
     let os = c.args.outcomes.now in
     let by_mask = subst (λ (w : ℕ). TakesTurns (serial_done c.args.budget c.args.round w c.args.harts.now c.commit.new.pages c.commit.new.table c.make_room.new.console) c.serial.new.harts c.commit.new.pages c.serial.new.pages c.serial.new.table c.serial.new.console c.serial.new.log) c.waiting_mask-waiting.ensures.mask c.serial.ensures.turns in
     let served = subst (λ (hs : List Hart). TakesTurns (serial_done c.args.budget c.args.round (mask_of (waits_of os)) hs c.commit.new.pages c.commit.new.table c.make_room.new.console) c.serial.new.harts c.commit.new.pages c.serial.new.pages c.serial.new.table c.serial.new.console c.serial.new.log) c.requires.harts by_mask in

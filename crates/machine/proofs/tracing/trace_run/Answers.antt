@@ -8,7 +8,7 @@ use Rattle.machine.proofs.TracedRun.{traced_run}
 use Rattle.machine.proofs.tracing.trace_run.Goals as goal
 
 pub returns-clause-rounds : goal.returns-clause-rounds
-returns-clause-rounds c =
+returns-clause-rounds g c =
     let s = c.args.settings.now in
     let made = c.in_ok-machine.ensures.machine in
     let t = c.into_trace.result in
@@ -16,4 +16,4 @@ returns-clause-rounds c =
     (traced_run (image_of s.format c.args.image.now s.pages) c.args.input.now made.0 s.rounds c.in_ok-machine.machine c.run.new.self t made.2 c.in_ok-run.ensures.ok c.bytes_fit.ensures c.into_trace.ensures.events c.into_trace.ensures.opening)
 
 pub returns-clause-rvwmo : goal.returns-clause-rvwmo
-returns-clause-rvwmo c = λ g o. meets_rvwmo _ g o (opening_at c.into_trace.result.opening) c.args.settings.now.budget (returns-clause-rounds c)
+returns-clause-rvwmo g c = λ order o. meets_rvwmo _ order o (opening_at c.into_trace.result.opening) c.args.settings.now.budget (returns-clause-rounds g c)

@@ -21,6 +21,7 @@ invariant_of-result c = record {
   tied = subst (λ (t : List Event). Tied c.new-2.result t) (sym c.new-5.ensures.events) (tied_first c.harts-2.result c.new-2.result c.new-2.ensures);
   placed = subst (λ (es : List Event). Placed (λ (h : Hart). h.done) 0 c.in_ok-harts.harts.items es) (sym c.new-5.ensures.events)
       (subst (λ (hs : List Hart). Placed (λ (h : Hart). h.done) 0 hs []) (sym c.in_ok-harts.ensures) (placed_first c.entry-entry.result c.harts.result 0 c.harts.result));
+  shows = c.in_ok-table.ensures;
   beyond = λ x l.
       let p = c.in_ok-pages.pages in
       let bytes : p.memory.bytes ≡ c.args.image.bytes = initial_bytes c.pages.result c.pieces.result.now c.code.result.now p c.in_ok-pages.ensures ∙ ap (λ (n : ℕ). bytes_from c.pieces.result.now 0 (4096 * n)) c.pages.ensures.pages ∙ c.pieces.ensures.bytes in

@@ -4,13 +4,13 @@ use Rattle.machine.proofs.Repeated.{no_rounds, next_round}
 use Rattle.machine.proofs.machine.Machine.run.Goals as goal
 
 pub returns-then-workers-lt1-clause-err : goal.returns-then-workers-lt1-clause-err
-returns-then-workers-lt1-clause-err c = (0, omega arith, no_rounds c.args.self.now)
+returns-then-workers-lt1-clause-err g c = (0, omega arith, no_rounds c.args.self.now)
 
 pub returns-then-rounds-self-clause-err : goal.returns-then-rounds-self-clause-err
-returns-then-rounds-self-clause-err c = (0, omega arith, no_rounds c.args.self.now)
+returns-then-rounds-self-clause-err g c = (0, omega arith, no_rounds c.args.self.now)
 
 pub loop-done-init : goal.loop-done-init
-loop-done-init c = (no_rounds c.args.self.now, omega arith)
+loop-done-init g c = (no_rounds c.args.self.now, omega arith)
 
 pub loop-done-preserved : goal.loop-done-preserved
-loop-done-preserved c = (c.in_ok-round.ensures.ok ∙ ap after_round c.loop-done.invariant.0 ∙ next_round c.loop-done.done c.args.self.now, c.in_ok-round.ensures.one_more ∙ omega (arith, c.loop-done.invariant.1))
+loop-done-preserved g c = (c.in_ok-round.ensures.ok ∙ ap after_round c.loop-done.invariant.0 ∙ next_round c.loop-done.done c.args.self.now, c.in_ok-round.ensures.one_more ∙ omega (arith, c.loop-done.invariant.1))

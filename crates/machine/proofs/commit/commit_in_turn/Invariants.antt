@@ -1,6 +1,6 @@
 use Rattle.std.proofs.Common.{◌≡◌, length}
 use Rattle.machine.proofs.Listed.{Committing, SameShape}
-use Rattle.machine.proofs.commit.commit.Given as goal
+use Rattle.machine.proofs.commit.commit_in_turn.Given as goal
 
 abbrev pub invariant-loop-number : goal.invariant-loop-number
 invariant-loop-number l = record {

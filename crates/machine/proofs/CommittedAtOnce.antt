@@ -1,0 +1,67 @@
+-- The commit of all buffers at once is the commit of the rounds that they are of.
+use Rattle.std.proofs.Common.{◌≡◌, ℕ, suc, ◌<◌, ◌==◌, ◌||◌, Bool, false, cond, List, [], ◌∷◌, ◌++◌, All, length, map, take, Option, refl, sym, ap, ap₂, ◌∙◌, subst, arith}
+use Rattle.std.proofs.lemmas.List.{take_all}
+use Rattle.std.proofs.lemmas.List.Elements.{All-cons}
+use Rattle.pages.specs.declared.access.Store.{Store}
+use Rattle.pages.specs.Memory.{Memory, after, covered, stored}
+use Rattle.pages.specs.Paged.{Paged}
+use Rattle.pages.specs.StoreLaws.{after-append}
+use Rattle.round_schedule.specs.declared.span.Span.{Span}
+use Rattle.round_schedule.specs.Held.{unless}
+use Rattle.round_schedule.specs.Schedule.{HartRound, all_stores}
+use Rattle.round_schedule.specs.Tables.{covered_by_others, entry}
+use Rattle.store_buffer.specs.Covered.{stores_of, with_stores}
+use Rattle.store_buffer.specs.CoveredLaws.{after_with_stores, covered-with_stores}
+use Rattle.commit_phase.specs.Commit.{Committed, IsWritable, all_buffered, covered_from}
+use Rattle.commit_phase.proofs.Breaking.{unless_same}
+use Rattle.commit_phase.proofs.HartOrder.{committed_over}
+use Rattle.hart_step.specs.declared.hart.Hart.{Hart}
+use Rattle.machine.specs.declared.outcome.Outcome.{Outcome}
+use Rattle.machine.specs.Outcomes.{AreFit, AreOutcomes, AreReady}
+
+-- the buffers of outcomes, hart by hart
+abbrev pub buffers : List Outcome → List (List (ℕ × ℕ))
+buffers os = map (λ (o : Outcome). o.buffer) os
+
+-- each may be written
+pub all_writable : (p : Paged) (os : List Outcome) → AreFit p.memory os → AreReady p os → All (IsWritable p) (buffers os)
+all_writable p [] f r = λ k d low. absurd (omega arith)
+all_writable p (o ∷ os) f r = All-cons (IsWritable p) o.buffer (buffers os) (record { fits = f.0; ready = r.0 }) (all_writable p os f.1 r.1)
+
+same_bytes : (m : Memory) (bs : List ℕ) (rs : List (HartRound Hart)) (os : List Outcome) → AreOutcomes m rs os → after bs (all_buffered (buffers os)) ≡ after bs (all_stores rs)
+same_bytes m bs [] [] a = refl
+same_bytes m bs (r ∷ rs) [] a = absurd a
+same_bytes m bs [] (o ∷ os) a = absurd a
+same_bytes m bs (r ∷ rs) (o ∷ os) a =
+    after-append bs (stores_of o.buffer) (all_buffered (buffers os))
+    ∙ ap (λ (es : List (ℕ × ℕ)). after (after bs (stores_of es)) (all_buffered (buffers os))) a.0.buffer
+    ∙ ap (λ (cs : List ℕ). after cs (all_buffered (buffers os))) (after_with_stores [] bs r.last.stores tt)
+    ∙ same_bytes m (after bs r.last.stores) rs os a.1
+    ∙ sym (after-append bs r.last.stores (all_stores rs))
+
+same_cover : (m : Memory) (i h x : ℕ) (rs : List (HartRound Hart)) (os : List Outcome) → AreOutcomes m rs os → covered_from i h (buffers os) x ≡ covered_by_others h i rs x
+same_cover m i h x [] [] a = refl
+same_cover m i h x (r ∷ rs) [] a = absurd a
+same_cover m i h x [] (o ∷ os) a = absurd a
+same_cover m i h x (r ∷ rs) (o ∷ os) a =
+    ap₂ (λ (c d : Bool). cond (i == h) false c || d) (ap (λ (es : List (ℕ × ℕ)). covered (stores_of es) x) a.0.buffer ∙ covered-with_stores [] r.last.stores x)
+    (same_cover m (suc i) h x rs os a.1)
+
+-- what a commit of all buffers leaves
+pub record WrittenOver (os : List Outcome) (p q : Paged) (old new : List (Option Span)) : Type 0 where
+  pub memory : q.memory ≡ stored p.memory (all_buffered (buffers os))
+  pub ready : q.ready ≡ p.ready
+  pub spare : q.spare ≡ p.spare
+  pub size : length new ≡ length old
+  pub table : (h : ℕ) → h < length old → entry new h ≡ unless (covered_from 0 h (buffers os)) (entry old h)
+
+pub committed_at_once : (os : List Outcome) (p q : Paged) (old new : List (Option Span)) → WrittenOver os p q old new → (rs : List (HartRound Hart)) → AreOutcomes p.memory rs os → Committed rs p q old new
+committed_at_once os p q old new w rs a =
+    let all : take (length rs) rs ≡ rs = take_all (length rs) rs (omega arith) in
+    committed_over (length rs) rs p q old new (omega arith) (record {
+      memory = w.memory ∙ ap (λ (bs : List ℕ). record p.memory { bytes = bs }) (same_bytes p.memory p.memory.bytes rs os a ∙ ap (λ (ts : List (HartRound Hart)). after p.memory.bytes (all_stores ts)) (sym all));
+      ready = w.ready;
+      spare = w.spare;
+      size = w.size;
+      table = λ h low. w.table h low ∙ unless_same _ _ (entry old h) (λ x. same_cover p.memory 0 h x rs os a ∙ ap (λ (ts : List (HartRound Hart)). covered_by_others h 0 ts x) (sym all));
+    })

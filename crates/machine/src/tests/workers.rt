@@ -1,0 +1,164 @@
+//! Rounds on 1 to 16 workers: the report doesn't show how many there were, and several really work at once.
+
+ghost use Rattle.std.specs.Prelude.{◌≤◌};
+
+use super::images::STORE_THEN_LOAD;
+use super::{machine, text_of};
+use crate::{Gate, Open};
+use host_io::RunError;
+use std::alloc::Global;
+use std::hint;
+use std::sync::Wait;
+use std::sync::atomic::{AtomicBool, Ordering};
+use std::test::Fail;
+use std::thread::Threads;
+
+/// How often a gate looks for what it waits for.
+const TURNS: u32 = 100_000_000;
+
+/// Each hart adds 1 to address 512 by LR.D and SC.D until that succeeds, adds 1 to address 520 by AMOADD.D, stores its
+/// number plus 1 to a doubleword of its own, loads that of its neighbour, and begins anew:
+/// SLLI x5,x10,3; ADDI x8,x0,512; ADDI x9,x0,520; ADDI x12,x0,1;
+/// LR.D x6,(x8); ADDI x6,x6,1; SC.D x7,x6,(x8); BNE x7,x0,-12; AMOADD.D x13,x12,(x9);
+/// ADD x14,x14,x12; SD x14,1024(x5); LD x15,1032(x5); ADD x16,x16,x15; JAL x0,-36.
+const SHARED_COUNTERS: [u32; 14] = [
+    0x0035_1293,
+    0x2000_0413,
+    0x2080_0493,
+    0x0010_0613,
+    0x1004_332F,
+    0x0013_0313,
+    0x1864_33AF,
+    0xFE03_9AE3,
+    0x00C4_B6AF,
+    0x00C7_0733,
+    0x40E2_B023,
+    0x4082_B783,
+    0x00F8_0833,
+    0xFDDF_F06F,
+];
+
+/// The report after so many rounds of these words, each round on so many workers.
+fn report_on<R: Threads + Wait + Sync>(
+    rt: &R,
+    alloc: Global,
+    words: &[u32],
+    harts: u32,
+    rounds: u32,
+    workers: u32,
+) -> Result<Vec<u8>, RunError>
+    requires some_harts { 1 ≤ harts }
+    requires few_harts { harts ≤ 64 }
+{
+    let mut machine = machine(alloc, words, harts, b"50\n")?;
+    for _ in 0..rounds {
+        machine.round(rt, workers, &Open)?;
+    }
+    text_of(alloc, &machine)
+}
+
+#[test]
+fn no_number_of_workers_is_shown(rt: HostRuntime) -> Result<(), Fail> {
+    for harts in [3, 64] {
+        let alone = report_on(&rt, rt.alloc(), &STORE_THEN_LOAD, harts, 1, 1)?;
+        for workers in 2..17 {
+            let shared = report_on(&rt, rt.alloc(), &STORE_THEN_LOAD, harts, 1, workers)?;
+            assert!(rt; shared.as_slice() == alone.as_slice());
+        }
+    }
+    Ok(())
+}
+
+#[test]
+fn long_runs_are_the_same_on_any_workers(rt: HostRuntime) -> Result<(), Fail> {
+    let alone = report_on(&rt, rt.alloc(), &SHARED_COUNTERS, 8, 200, 1)?;
+    for workers in [2, 4, 16] {
+        let shared = report_on(&rt, rt.alloc(), &SHARED_COUNTERS, 8, 200, workers)?;
+        assert!(rt; shared.as_slice() == alone.as_slice());
+    }
+    Ok(())
+}
+
+/// Whether a mark was seen in so many turns.
+fn is_seen(mark: &AtomicBool) -> bool {
+    for _ in 0..TURNS {
+        if mark.load(Ordering::SeqCst) {
+            return true;
+        }
+        hint::spin_loop();
+    }
+    false
+}
+
+/// Each of two harts is marked as come, and then waits until the other is.
+#[derive(Drop)]
+struct Meeting {
+    first_came: AtomicBool,
+    second_came: AtomicBool,
+    first_met: AtomicBool,
+    second_met: AtomicBool,
+}
+
+impl Gate for Meeting {
+    fn pass(&self, hart: u32) {
+        if hart == 0 {
+            self.first_came.store(true, Ordering::SeqCst);
+            self.first_met
+                .store(is_seen(&self.second_came), Ordering::SeqCst);
+        } else {
+            self.second_came.store(true, Ordering::SeqCst);
+            self.second_met
+                .store(is_seen(&self.first_came), Ordering::SeqCst);
+        }
+    }
+
+    fn done(&self, _hart: u32) {}
+}
+
+/// Hart 0 waits until the round of hart 1 was put.
+#[derive(Drop)]
+struct Behind {
+    second_done: AtomicBool,
+    saw_it: AtomicBool,
+}
+
+impl Gate for Behind {
+    fn pass(&self, hart: u32) {
+        if hart == 0 {
+            self.saw_it
+                .store(is_seen(&self.second_done), Ordering::SeqCst);
+        }
+    }
+
+    fn done(&self, hart: u32) {
+        if hart == 1 {
+            self.second_done.store(true, Ordering::SeqCst);
+        }
+    }
+}
+
+#[test]
+fn two_workers_meet_in_a_round(rt: HostRuntime) -> Result<(), Fail> {
+    let mut machine = machine(rt.alloc(), &STORE_THEN_LOAD, 2, b"6\n")?;
+    let gate = Meeting {
+        first_came: AtomicBool::new(false),
+        second_came: AtomicBool::new(false),
+        first_met: AtomicBool::new(false),
+        second_met: AtomicBool::new(false),
+    };
+    assert!(rt; machine.round(&rt, 2, &gate)?.round == 1);
+    assert!(rt; gate.first_met.load(Ordering::SeqCst) && gate.second_met.load(Ordering::SeqCst));
+    Ok(())
+}
+
+#[test]
+fn a_hart_is_done_while_another_waits(rt: HostRuntime) -> Result<(), Fail> {
+    let mut machine = machine(rt.alloc(), &STORE_THEN_LOAD, 2, b"6\n")?;
+    let gate = Behind {
+        second_done: AtomicBool::new(false),
+        saw_it: AtomicBool::new(false),
+    };
+    assert!(rt; machine.round(&rt, 2, &gate)?.round == 1);
+    assert!(rt; gate.saw_it.load(Ordering::SeqCst));
+    Ok(())
+}
