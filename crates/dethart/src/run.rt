@@ -26,6 +26,24 @@ pub(crate) fn print_run<R: Threads + Wait + Sync>(
     run: &Run<'_>,
     asked: Asked,
 ) -> Result<(), RunError> {
+    let Ok(mut out) = BufWriter::new(rt.alloc(), io::writer(rt)) else {
+        return Err(RunError::OutOfMemory);
+    };
+    write_run(rt, threads, run, asked, &mut out)?;
+    match out.flush() {
+        Ok(()) => Ok(()),
+        Err(_) => Err(RunError::SinkFailed),
+    }
+}
+
+/// Reads the files of the run, runs the guest program, and writes what is asked for.
+pub(crate) fn write_run<R: Threads + Wait + Sync, W: Write>(
+    rt: &HostRuntime,
+    threads: &R,
+    run: &Run<'_>,
+    asked: Asked,
+    out: &mut W,
+) -> Result<(), RunError> {
     let image = read_file(rt, run.image)?;
     let plan = match run.plan {
         Some(path) => read_file(rt, path)?,
@@ -36,8 +54,11 @@ pub(crate) fn print_run<R: Threads + Wait + Sync>(
         None => Vec::new(rt.alloc()),
     };
     let settings = settings_of(run, plan.as_slice());
-    let image = image.as_slice();
-    print_outcome(rt, threads, image, input.as_slice(), &settings, asked)
+    let mut sink = WriteSink::new(out);
+    match asked {
+        Asked::Report => emulate(threads, rt.alloc(), &image, &input, &settings, &mut sink),
+        Asked::Order => order_run(threads, rt.alloc(), &image, &input, &settings, &mut sink),
+    }
 }
 
 /// The plan of one row.
@@ -65,28 +86,5 @@ pub(crate) fn settings_of<'a>(run: &Run<'_>, plan: &'a [u8]) -> Settings<'a>
         workers: run.workers,
         budget: run.budget,
         plan,
-    }
-}
-
-/// Emulates the guest program, and prints what is asked for to standard output.
-fn print_outcome<R: Threads + Wait + Sync>(
-    rt: &HostRuntime,
-    threads: &R,
-    image: &[u8],
-    input: &[u8],
-    settings: &Settings<'_>,
-    asked: Asked,
-) -> Result<(), RunError> {
-    let Ok(mut out) = BufWriter::new(rt.alloc(), io::writer(rt)) else {
-        return Err(RunError::OutOfMemory);
-    };
-    let mut sink = WriteSink::new(&mut out);
-    match asked {
-        Asked::Report => emulate(threads, rt.alloc(), image, input, settings, &mut sink)?,
-        Asked::Order => order_run(threads, rt.alloc(), image, input, settings, &mut sink)?,
-    }
-    match out.flush() {
-        Ok(()) => Ok(()),
-        Err(_) => Err(RunError::SinkFailed),
     }
 }

@@ -1,3 +1,5 @@
+mod programs;
+
 use crate::failure::Failure;
 use crate::files::read_file;
 use crate::line::answer_line;

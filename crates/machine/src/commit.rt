@@ -10,6 +10,7 @@ use commit_phase::{OpenShards, commit_buffer, commit_on};
 use pages::Pages;
 use reservations::Reservations;
 use std::thread::Threads;
+use store_buffer::StoreBuffer;
 
 /// How many lines of 64 bytes are worth starting threads for.
 const MANY_LINES: usize = 16_384;
@@ -42,9 +43,16 @@ pub fn commit<G, R: Threads + Sync>(
 fn line_count(outcomes: &[Outcome]) -> usize {
     let mut count: usize = 0;
     for outcome in outcomes {
-        for _line in outcome.buffer.lines() {
-            count = count.saturating_add(1);
-        }
+        count = count.saturating_add(lines_of(&outcome.buffer));
+    }
+    count
+}
+
+/// How many lines a buffer has.
+fn lines_of(buffer: &StoreBuffer) -> usize {
+    let mut count: usize = 0;
+    for _line in buffer.lines() {
+        count = count.saturating_add(1);
     }
     count
 }

@@ -1,4 +1,5 @@
 pub mod Decimals
+pub mod Digits
 pub mod Writing
 pub mod RowsMore
 pub mod Orders

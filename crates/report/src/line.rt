@@ -74,15 +74,30 @@ impl Line {
     }
 
     /// Adds the low digits of a number in hexadecimal, lower case, as many as asked for.
-    #[tactic(auto, unfolding(crate::specs::Text::hex))]
-    pub fn hex(&mut self, number: u64, digits: u32) -> Result<(), OutOfMemory>
+    pub fn hex(&mut self, number: u64, digits: usize) -> Result<(), OutOfMemory>
+        requires { digits ≤ 16 }
         ensures { OnOk result (self.new ≡ self.old ++ hex digits number) }
     {
-        if digits == 0 {
-            return Ok(());
+        let mut room = [b'0'; 16];
+        let text = &mut room[..digits];
+        write_hex(text, number);
+        match self.bytes.extend_from_slice(text) {
+            Ok(()) => Ok(()),
+            Err(_) => Err(OutOfMemory),
         }
-        self.hex(number / 16, digits - 1)?;
-        self.byte(hex_digit((number % 16) as u8))
+    }
+}
+
+/// Fills the room with the low digits of a number in hexadecimal.
+fn write_hex(room: &mut [u8], number: u64)
+    ensures { room.new ≡ hex (length room.old) number }
+{
+    let mut rest = number;
+    let mut place = room.len();
+    while place > 0 {
+        place -= 1;
+        room[place] = hex_digit((rest % 16) as u8);
+        rest /= 16;
     }
 }
 

@@ -4,7 +4,7 @@ ghost use Rattle.std.specs.Prelude.{◌≤◌};
 
 use super::images::STORE_THEN_LOAD;
 use super::{machine, text_of};
-use crate::{Gate, Open};
+use crate::{Gate, Machine, Open};
 use host_io::RunError;
 use std::alloc::Global;
 use std::hint;
@@ -38,6 +38,16 @@ const SHARED_COUNTERS: [u32; 14] = [
     0xFDDF_F06F,
 ];
 
+/// Does a round behind a gate, and gives its number.
+fn round_behind<G: Gate + Sync, R: Threads + Wait + Sync>(
+    rt: &R,
+    machine: &mut Machine,
+    workers: u32,
+    gate: &G,
+) -> Result<u32, RunError> {
+    Ok(machine.round(rt, workers, gate)?.round)
+}
+
 /// The report after so many rounds of these words, each round on so many workers.
 fn report_on<R: Threads + Wait + Sync>(
     rt: &R,
@@ -52,7 +62,7 @@ fn report_on<R: Threads + Wait + Sync>(
 {
     let mut machine = machine(alloc, words, harts, b"50\n")?;
     for _ in 0..rounds {
-        machine.round(rt, workers, &Open)?;
+        round_behind(rt, &mut machine, workers, &Open)?;
     }
     text_of(alloc, &machine)
 }
@@ -146,7 +156,7 @@ fn two_workers_meet_in_a_round(rt: HostRuntime) -> Result<(), Fail> {
         first_met: AtomicBool::new(false),
         second_met: AtomicBool::new(false),
     };
-    assert!(rt; machine.round(&rt, 2, &gate)?.round == 1);
+    assert!(rt; round_behind(&rt, &mut machine, 2, &gate)? == 1);
     assert!(rt; gate.first_met.load(Ordering::SeqCst) && gate.second_met.load(Ordering::SeqCst));
     Ok(())
 }
@@ -158,7 +168,7 @@ fn a_hart_is_done_while_another_waits(rt: HostRuntime) -> Result<(), Fail> {
         second_done: AtomicBool::new(false),
         saw_it: AtomicBool::new(false),
     };
-    assert!(rt; machine.round(&rt, 2, &gate)?.round == 1);
+    assert!(rt; round_behind(&rt, &mut machine, 2, &gate)? == 1);
     assert!(rt; gate.saw_it.load(Ordering::SeqCst));
     Ok(())
 }
