@@ -17,6 +17,10 @@ abbrev head_or : {S : Type 0} → S → List (ℕ × S) → S
 head_or d [] = d
 head_or d (x ∷ xs) = x.1
 
+-- no step of a put leads to another table
+pub one_table : {t u v w : TableId} → t ≡ u → u ≡ v → v ≡ w → t ≡ w
+one_table e f g = e ∙ (f ∙ g)
+
 module _ {S E : Type 0} (items : S → List E) (room : S → ℕ) (hart seat : E → ℕ) where
   -- a seat that holds the lock, with this slot
   pub record Holder (x : Sitter E) (n : Me S (View E)) (now : S) : Type 0 where
@@ -45,12 +49,30 @@ module _ {S E : Type 0} (items : S → List E) (room : S → ℕ) (hart seat : E
         fewer = λ h is lacks. subst (λ (v : S). length (items v) < x.harts) same (got.fewer h is lacks);
       }
 
+  -- another value stands in the slot meanwhile
+  pub blank_stands : (n a : Me S (View E)) (blank : S) → a ≡ (n.0, (0, blank) ∷ rest n.1) → (v : S) × (a.1 ≡ (0, v) ∷ rest a.1)
+  blank_stands n a blank taken =
+      let slots : a.1 ≡ (0, blank) ∷ rest n.1 = ap (λ (m : Me S (View E)). m.1) taken in
+      (blank, slots ∙ sym (ap (λ (cs : List (ℕ × S)). (0, blank) ∷ rest cs) slots))
+
+  -- the slot is put back
+  pub back_again : (x : Sitter E) (n a b : Me S (View E)) (now blank w : S) → Holder x n now → a ≡ (n.0, (0, blank) ∷ rest n.1) → b ≡ (a.0, (0, w) ∷ rest a.1) → b ≡ (n.0, (0, w) ∷ [])
+  back_again x n a b now blank w h taken given =
+      given ∙ (ap (λ (m : Me S (View E)). (m.0, (0, w) ∷ rest m.1)) taken ∙ ap (λ (cs : List (ℕ × S)). (n.0, (0, w) ∷ rest cs)) h.carries)
+
   -- the seat after its put
   abbrev pub after_put : Sitter E → S → S → Sitter E
   after_put x now w = with_puts (items w) (with_lock (items now) x)
 
-  pub sits_after : (x : Sitter E) (n p : Me S (View E)) (now w : S) → Holder x n now → p.0 ≡ with_puts (items w) (sitter n.0) ∷ [] → p.0 ≡ after_put x now w ∷ []
-  sits_after x n p now w h at = at ∙ ap (λ (v : View E). with_puts (items w) (sitter v) ∷ []) h.sits
+  -- what the release tells of a seat and the slot that it gave up
+  abbrev Freed : (m p : Me S (View E)) (w : S) → Type 0
+  Freed m p w = (p.0 ≡ with_puts (items w) (sitter m.0) ∷ []) × (p.1 ≡ []) × IsHistory hart seat (sitter m.0).number (sitter m.0).claims (items w)
+
+  pub freed_after : (x : Sitter E) (n b p : Me S (View E)) (now w : S) → Holder x n now → b ≡ (n.0, (0, w) ∷ []) → ((v : S) → b.1 ≡ (0, v) ∷ [] → Freed b p v)
+      → (p.0 ≡ after_put x now w ∷ []) × (p.1 ≡ []) × IsHistory hart seat (sitter n.0).number (sitter n.0).claims (items w)
+  freed_after x n b p now w h back tells =
+      let told = subst (λ (m : Me S (View E)). (v : S) → m.1 ≡ (0, v) ∷ [] → Freed m p v) back tells w refl in
+      (told.0 ∙ ap (λ (v : View E). with_puts (items w) (sitter v) ∷ []) h.sits, told.1, told.2)
 
   own_after : (x : Sitter E) (now w : S) (e : E) → items w ≡ items now ++ e ∷ [] → (after_put x now w).own ≡ x.own ++ e ∷ []
   own_after x now w e pushed = ap (λ (l : List E). x.own ++ l) (ap (drop (length (items now))) pushed ∙ drop_begin (items now) (e ∷ []))

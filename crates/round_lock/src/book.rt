@@ -11,6 +11,7 @@ use crate::gathered::Gathered;
 use crate::rule::{Acquires, BookRule, Claims, Compares, Everyone, Others, Releases, Together};
 use crate::seat::Seat;
 use crate::sitter::{Sitters, Size};
+use crate::slot::replace_slot;
 use crate::ticket::Ticket;
 use atomic_table::{Seat as Place, Shared, Table};
 use crossbeam_utils::Backoff;
@@ -25,6 +26,8 @@ use std::sync::Wait;
 #[derive(Drop)]
 pub struct RoundBook<E: Entry> {
     pub(crate) table: Table<Vec<E>, Sitters<E>, Size, BookRule, Global>,
+    // For the empty list that stands in the slot while a put has the history.
+    pub(crate) alloc: Global,
     pub(crate) harts: u32,
 }
 
@@ -56,7 +59,12 @@ impl<E: Entry> RoundBook<E> {
             return Err(AllocError);
         };
         let dealt = deal(&table.shared, place, harts, seats, places);
-        Ok((RoundBook { table, harts }, dealt))
+        let book = RoundBook {
+            table,
+            alloc,
+            harts,
+        };
+        Ok((book, dealt))
     }
 
     /// Claims the next hart that nobody claimed, or answers None where every hart is claimed. A seat that got None gets
@@ -101,10 +109,12 @@ impl<E: Entry> RoundBook<E> {
         if words.compare_exchange::<Acquires>(&mut s.place, 0, 0, 1) != 0 {
             return Err(e);
         }
-        let history = s.place.slot_mut(words, 0);
+        let mut history = replace_slot(words, &mut s.place, Vec::new(self.alloc));
         history.push_reserved(e);
         s.seen = history.len();
         s.own += 1;
+        let nothing = replace_slot(words, &mut s.place, history);
+        nothing.destroy_empty();
         words.store::<Releases>(&mut s.place, 0, 0);
         Ok(())
     }
@@ -160,7 +170,7 @@ impl<E: Entry> RoundBook<E> {
         ensures all_claimed { Each (λ k. k.ended ≡ true → (h : ℕ) → h < self.harts → claimed_by seats.items h ≡ true) seats.items }
         ensures made { IsMade E.hart E.seat E.right self.harts seats.items result.history }
     {
-        let RoundBook { table, harts } = self;
+        let RoundBook { table, harts, .. } = self;
         let Some(last) = seats.pop() else {
             unreachable!()
         };

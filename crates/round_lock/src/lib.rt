@@ -10,6 +10,7 @@ mod rounds;
 mod rule;
 mod seat;
 mod sitter;
+mod slot;
 mod start;
 mod ticket;
 
