@@ -28,6 +28,3 @@ pub use parallel_phase::{Gate, Open};
 pub use running::RoundNote;
 pub use settings::{Format, Settings};
 pub use tracing::trace_run;
-
-#[cfg(test)]
-mod tests;

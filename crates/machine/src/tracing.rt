@@ -1,5 +1,5 @@
 ghost use Rattle.std.specs.Prelude.{◌≡◌, ℕ, ◌⊎◌, List, Some, None, Err, IfOk, IfErr, slice_index};
-ghost use Rattle.elf_loader.specs.Causes.{IsLeast as IsLeastOfImage};
+ghost use Rattle.elf_loader.specs.Causes.{IsGood, IsLeast as IsLeastOfImage};
 ghost use Rattle.elf_loader.specs.declared.load_error.LoadError.{LoadError as ImageCause};
 ghost use Rattle.round_planner.specs.Causes.{IsLeast as IsLeastOfPlan};
 ghost use Rattle.round_planner.specs.Quotas.{Planned};
@@ -44,6 +44,8 @@ pub fn trace_run<R: Threads + Wait + Sync>(
     ensures settings { (e : Refusal) → settings_fault settings.now.harts settings.now.pages settings.now.workers settings.now.budget ≡ Some e → result ≡ Err e }
     ensures errors { settings_fault settings.now.harts settings.now.pages settings.now.workers settings.now.budget ≡ None → IfErr result (λ e. (e ≡ refusals.OutOfMemory) ⊎ ((cause : ImageCause) × IsLeastOfImage (StandsIn settings.now.format image.now settings.now.pages) cause × (e ≡ refusals.Image cause)) ⊎ ((cause : PlanCause) × IsLeastOfPlan settings.now.harts settings.now.plan.now cause × (e ≡ refusals.Plan cause))) }
     ensures image { (cause : ImageCause) → settings_fault settings.now.harts settings.now.pages settings.now.workers settings.now.budget ≡ None → IsLeastOfImage (StandsIn settings.now.format image.now settings.now.pages) cause → (result ≡ Err (refusals.Image cause)) ⊎ (result ≡ Err refusals.OutOfMemory) }
+    // A plan is refused where the image is good.
+    ensures plan { (cause : PlanCause) → settings_fault settings.now.harts settings.now.pages settings.now.workers settings.now.budget ≡ None → IsGood (StandsIn settings.now.format image.now settings.now.pages) → IsLeastOfPlan settings.now.harts settings.now.plan.now cause → (result ≡ Err (refusals.Plan cause)) ⊎ (result ≡ Err refusals.OutOfMemory) }
 {
     let mut machine = prepare(alloc, image, input, settings)?;
     machine.bytes_fit();

@@ -1,19 +1,10 @@
+//! What the tests have in common.
+
 ghost use Rattle.std.specs.Prelude.{◌≤◌};
 
-mod budgets;
-mod images;
-mod lost_update;
-mod lost_update_file;
-mod memory;
-mod orders;
-mod refusals;
-mod reports;
-mod rounds;
-mod workers;
-
-use crate::{Format, Machine, Settings, emulate};
 use elf_loader::load_flat;
 use host_io::{RunError, WriteSink};
+use machine::{Format, Machine, Settings, emulate};
 use pages::OutOfMemory;
 use round_planner::Plan;
 use std::alloc::Global;
@@ -21,7 +12,7 @@ use std::sync::Wait;
 use std::thread::Threads;
 
 /// The flat image of these words.
-fn flat(alloc: Global, words: &[u32]) -> Result<Vec<u8>, OutOfMemory> {
+pub(crate) fn flat(alloc: Global, words: &[u32]) -> Result<Vec<u8>, OutOfMemory> {
     let mut image = Vec::new(alloc);
     for word in words {
         image.extend_from_slice(&word.to_le_bytes())?;
@@ -30,7 +21,7 @@ fn flat(alloc: Global, words: &[u32]) -> Result<Vec<u8>, OutOfMemory> {
 }
 
 /// A flat image on one page, with one worker and a budget of 1.
-fn settings(harts: u32, rounds: u32, plan: &[u8]) -> Settings<'_> {
+pub(crate) fn settings(harts: u32, rounds: u32, plan: &[u8]) -> Settings<'_> {
     Settings {
         format: Format::Flat,
         harts,
@@ -43,7 +34,7 @@ fn settings(harts: u32, rounds: u32, plan: &[u8]) -> Settings<'_> {
 }
 
 /// The report of a run of an image.
-fn report_of<R: Threads + Wait + Sync>(
+pub(crate) fn report_of<R: Threads + Wait + Sync>(
     rt: &R,
     alloc: Global,
     image: &[u8],
@@ -63,7 +54,7 @@ fn report_of<R: Threads + Wait + Sync>(
 }
 
 /// The report of a run of these words.
-fn report<R: Threads + Wait + Sync>(
+pub(crate) fn report<R: Threads + Wait + Sync>(
     rt: &R,
     alloc: Global,
     words: &[u32],
@@ -74,7 +65,7 @@ fn report<R: Threads + Wait + Sync>(
 }
 
 /// Whether the report of a run of these words is this one.
-fn report_is<R: Threads + Wait + Sync>(
+pub(crate) fn report_is<R: Threads + Wait + Sync>(
     rt: &R,
     alloc: Global,
     words: &[u32],
@@ -89,7 +80,7 @@ fn report_is<R: Threads + Wait + Sync>(
 }
 
 /// The number of the refusal of a run, or 0, and how many bytes the sink took.
-fn answer<R: Threads + Wait + Sync>(
+pub(crate) fn answer<R: Threads + Wait + Sync>(
     rt: &R,
     alloc: Global,
     image: &[u8],
@@ -111,11 +102,32 @@ fn answer<R: Threads + Wait + Sync>(
 }
 
 /// The machine of these words on one page, without input.
-fn machine(alloc: Global, words: &[u32], harts: u32, plan: &[u8]) -> Result<Machine, RunError>
+pub(crate) fn machine_of(
+    alloc: Global,
+    words: &[u32],
+    harts: u32,
+    plan: &[u8],
+) -> Result<Machine, RunError>
     requires some_harts { 1 ≤ harts }
     requires few_harts { harts ≤ 64 }
 {
-    let image = match load_flat(alloc, &flat(alloc, words)?, 1) {
+    machine_on(alloc, words, 1, harts, plan)
+}
+
+/// The machine of these words on so many pages, without input.
+pub(crate) fn machine_on(
+    alloc: Global,
+    words: &[u32],
+    pages: u32,
+    harts: u32,
+    plan: &[u8],
+) -> Result<Machine, RunError>
+    requires some_pages { 1 ≤ pages }
+    requires few_pages { pages ≤ 16384 }
+    requires some_harts { 1 ≤ harts }
+    requires few_harts { harts ≤ 64 }
+{
+    let image = match load_flat(alloc, &flat(alloc, words)?, pages) {
         Ok(image) => image,
         Err(error) => return Err(RunError::Image(error)),
     };
@@ -126,7 +138,7 @@ fn machine(alloc: Global, words: &[u32], harts: u32, plan: &[u8]) -> Result<Mach
 }
 
 /// The report of a machine.
-fn text_of(alloc: Global, machine: &Machine) -> Result<Vec<u8>, RunError> {
+pub(crate) fn text_of(alloc: Global, machine: &Machine) -> Result<Vec<u8>, RunError> {
     let mut text = Vec::new(alloc);
     machine.report(alloc, &mut WriteSink::new(&mut text))?;
     Ok(text)

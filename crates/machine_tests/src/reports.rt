@@ -1,9 +1,9 @@
-use super::images::{
+use crate::harness::{answer, report, report_is, report_of, settings};
+use crate::images::{
     ADDED, CROSSED, CROSSED_AND_FENCED, ECHO, EXIT, MISALIGNED, OWN_STORE, RESERVED,
     STORE_THEN_LOAD,
 };
-use super::{answer, report, report_is, report_of, settings};
-use crate::{Format, Settings};
+use machine::{Format, Settings};
 use std::alloc::Global;
 use std::sync::Wait;
 use std::test::Fail;

@@ -2,10 +2,10 @@
 
 ghost use Rattle.std.specs.Prelude.{◌≤◌};
 
-use super::images::STORE_THEN_LOAD;
-use super::{machine, text_of};
-use crate::{Gate, Machine, Open};
+use crate::harness::{machine_of, machine_on, text_of};
+use crate::images::{EXIT, STORE_THEN_LOAD};
 use host_io::RunError;
+use machine::{Gate, Machine, Open};
 use std::alloc::Global;
 use std::hint;
 use std::sync::Wait;
@@ -38,6 +38,17 @@ const SHARED_COUNTERS: [u32; 14] = [
     0xFDDF_F06F,
 ];
 
+/// Each hart stores its number to one line of 64 bytes after another, and begins a line after the hart before:
+/// SLLI x5,x10,6; LUI x6,1; ADD x5,x5,x6; SD x10,0(x5); ADDI x5,x5,64; JAL x0,-8.
+const MANY_LINES: [u32; 6] = [
+    0x0065_1293,
+    0x0000_1337,
+    0x0062_82B3,
+    0x00A2_B023,
+    0x0402_8293,
+    0xFF9F_F06F,
+];
+
 /// Does a round behind a gate, and gives its number.
 fn round_behind<G: Gate + Sync, R: Threads + Wait + Sync>(
     rt: &R,
@@ -60,7 +71,7 @@ fn report_on<R: Threads + Wait + Sync>(
     requires some_harts { 1 ≤ harts }
     requires few_harts { harts ≤ 64 }
 {
-    let mut machine = machine(alloc, words, harts, b"50\n")?;
+    let mut machine = machine_of(alloc, words, harts, b"50\n")?;
     for _ in 0..rounds {
         round_behind(rt, &mut machine, workers, &Open)?;
     }
@@ -84,6 +95,43 @@ fn long_runs_are_the_same_on_any_workers(rt: HostRuntime) -> Result<(), Fail> {
     let alone = report_on(&rt, rt.alloc(), &SHARED_COUNTERS, 8, 200, 1)?;
     for workers in [2, 4, 16] {
         let shared = report_on(&rt, rt.alloc(), &SHARED_COUNTERS, 8, 200, workers)?;
+        assert!(rt; shared.as_slice() == alone.as_slice());
+    }
+    Ok(())
+}
+
+/// The report after one round on so many workers in which 64 harts store to 257 lines each: enough that several workers
+/// write them to memory.
+fn report_of_lines<R: Threads + Wait + Sync>(
+    rt: &R,
+    alloc: Global,
+    workers: u32,
+) -> Result<Vec<u8>, RunError> {
+    let mut machine = machine_on(alloc, &MANY_LINES, 7, 64, b"774\n")?;
+    round_behind(rt, &mut machine, workers, &Open)?;
+    text_of(alloc, &machine)
+}
+
+#[test]
+fn commits_on_any_workers_are_the_same(rt: HostRuntime) -> Result<(), Fail> {
+    let mut machine = machine_on(rt.alloc(), &MANY_LINES, 7, 64, b"774\n")?;
+    machine.run(&rt, 1, 1)?;
+    // The line of address 4096 + 64 n has the last hart that stored there, at most 63.
+    for (line, hart) in [
+        (0, 0),
+        (1, 1),
+        (63, 63),
+        (64, 63),
+        (256, 63),
+        (257, 63),
+        (319, 63),
+    ] {
+        assert_eq!(rt; machine.byte(4096 + 64 * line), Some(hart));
+    }
+    assert_eq!(rt; machine.byte(4096 + 64 * 320), Some(0));
+    let alone = report_of_lines(&rt, rt.alloc(), 1)?;
+    for workers in 2..17 {
+        let shared = report_of_lines(&rt, rt.alloc(), workers)?;
         assert!(rt; shared.as_slice() == alone.as_slice());
     }
     Ok(())
@@ -149,7 +197,7 @@ impl Gate for Behind {
 
 #[test]
 fn two_workers_meet_in_a_round(rt: HostRuntime) -> Result<(), Fail> {
-    let mut machine = machine(rt.alloc(), &STORE_THEN_LOAD, 2, b"6\n")?;
+    let mut machine = machine_of(rt.alloc(), &STORE_THEN_LOAD, 2, b"6\n")?;
     let gate = Meeting {
         first_came: AtomicBool::new(false),
         second_came: AtomicBool::new(false),
@@ -162,8 +210,24 @@ fn two_workers_meet_in_a_round(rt: HostRuntime) -> Result<(), Fail> {
 }
 
 #[test]
+fn stopped_harts_start_no_thread(rt: HostRuntime) -> Result<(), Fail> {
+    let mut machine = machine_of(rt.alloc(), &EXIT, 2, b"2\n")?;
+    assert!(rt; round_behind(&rt, &mut machine, 2, &Open)? == 1);
+    let gate = Meeting {
+        first_came: AtomicBool::new(false),
+        second_came: AtomicBool::new(false),
+        first_met: AtomicBool::new(false),
+        second_met: AtomicBool::new(false),
+    };
+    assert!(rt; round_behind(&rt, &mut machine, 2, &gate)? == 2);
+    // Hart 0 waited for hart 1 in vain: both were left to the calling thread.
+    assert!(rt; !gate.first_met.load(Ordering::SeqCst) && gate.second_met.load(Ordering::SeqCst));
+    Ok(())
+}
+
+#[test]
 fn a_hart_is_done_while_another_waits(rt: HostRuntime) -> Result<(), Fail> {
-    let mut machine = machine(rt.alloc(), &STORE_THEN_LOAD, 2, b"6\n")?;
+    let mut machine = machine_of(rt.alloc(), &STORE_THEN_LOAD, 2, b"6\n")?;
     let gate = Behind {
         second_done: AtomicBool::new(false),
         saw_it: AtomicBool::new(false),

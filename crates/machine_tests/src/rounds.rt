@@ -1,9 +1,9 @@
-use super::images::{CROSSED, ECHO, EXIT};
-use super::{flat, machine, text_of};
-use crate::{Machine, Open};
+use crate::harness::{flat, machine_of, text_of};
+use crate::images::{CROSSED, ECHO, EXIT};
 use elf_loader::load_flat;
 use hart_step::Stop;
 use host_io::RunError;
+use machine::{Machine, Open};
 use pages::Width;
 use round_planner::Plan;
 use round_schedule::{Access, Event, Phase};
@@ -58,7 +58,7 @@ fn noted<R: Threads + Wait + Sync>(
 
 #[test]
 fn rounds_one_by_one(rt: HostRuntime) -> Result<(), Fail> {
-    let mut machine = machine(rt.alloc(), &EXIT, 2, b"1\n")?;
+    let mut machine = machine_of(rt.alloc(), &EXIT, 2, b"1\n")?;
     assert!(rt; are_at_start(&machine));
     // the quota ends both, the call makes both wait, and then nothing is left to do
     for asked in [(1, 0, 0), (2, 2, 2), (3, 0, 2)] {
@@ -147,7 +147,7 @@ fn is_untraced(machine: &Machine) -> bool {
 }
 
 /// Does rounds.
-pub(super) fn run<R: Threads + Wait + Sync>(
+fn run<R: Threads + Wait + Sync>(
     rt: &R,
     machine: &mut Machine,
     rounds: u32,
@@ -158,7 +158,7 @@ pub(super) fn run<R: Threads + Wait + Sync>(
 
 #[test]
 fn what_a_machine_shows(rt: HostRuntime) -> Result<(), Fail> {
-    let mut machine = machine(rt.alloc(), &CROSSED, 2, b"5\n")?;
+    let mut machine = machine_of(rt.alloc(), &CROSSED, 2, b"5\n")?;
     assert!(rt; is_untraced(&machine));
     assert!(rt; shows(&machine, 0x100, Some(0)));
     run(&rt, &mut machine, 1, 16)?;
@@ -193,7 +193,7 @@ fn output_of_a_machine(rt: HostRuntime) -> Result<(), Fail> {
 
 #[test]
 fn refused_rounds(rt: HostRuntime) -> Result<(), Fail> {
-    let mut machine = machine(rt.alloc(), &EXIT, 2, b"1\n")?;
+    let mut machine = machine_of(rt.alloc(), &EXIT, 2, b"1\n")?;
     run(&rt, &mut machine, 1, 1)?;
     let before = text_of(rt.alloc(), &machine)?;
     for workers in [0, 17] {

@@ -1,7 +1,7 @@
-use super::images::EXIT;
-use super::{answer, flat, report, settings};
-use crate::{Format, Settings, emulate};
+use crate::harness::{answer, flat, report, settings};
+use crate::images::EXIT;
 use host_io::{RunError, WriteSink};
+use machine::{Format, Settings, emulate};
 use std::alloc::Global;
 use std::sync::Wait;
 use std::test::Fail;

@@ -1,5 +1,5 @@
-use crate::{Format, Settings, order_run, trace_run};
 use host_io::WriteSink;
+use machine::{Format, Settings, order_run, trace_run};
 use memory_order::{Order, memory_order};
 use std::alloc::Global;
 use std::sync::Wait;

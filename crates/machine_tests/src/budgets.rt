@@ -1,6 +1,6 @@
-use super::images::{CROSSED_AND_FENCED, ECHO, RESERVED};
-use super::{report_is, settings};
-use crate::Settings;
+use crate::harness::{report_is, settings};
+use crate::images::{CROSSED_AND_FENCED, ECHO, RESERVED};
+use machine::Settings;
 use std::alloc::Global;
 use std::sync::Wait;
 use std::thread::Threads;

@@ -1,9 +1,5 @@
-use super::lost_update_file::LOST_UPDATE;
-use crate::{Format, Machine, Settings, emulate};
-use elf_loader::load_elf;
-use hart_step::Stop;
 use host_io::WriteSink;
-use round_planner::Plan;
+use machine::{Format, Settings, emulate};
 use std::test::Fail;
 
 /// Each hart adds 1 to address 256 by a load and a store and to address 264 by an AMO, and exits with its number:
@@ -63,28 +59,6 @@ fn an_update_is_lost_without_an_atomic_instruction(rt: HostRuntime) -> Result<()
             &mut WriteSink::new(&mut text),
         )?;
         assert!(rt; text.as_slice() == LOST);
-    }
-    Ok(())
-}
-
-#[test]
-fn a_guest_in_c_counts_its_lost_updates(rt: HostRuntime) -> Result<(), Fail> {
-    for (harts, quota, output, plain, atomic) in [
-        (1, "1000\n", "plain 10, atomic 10\n", 10, 10),
-        (2, "1000\n", "plain 10, atomic 20\n", 10, 20),
-        (4, "7\n", "plain 10, atomic 40\n", 10, 40),
-    ] {
-        let plan = Plan::parse(rt.alloc(), quota.as_bytes(), harts)?;
-        let image = load_elf(rt.alloc(), &LOST_UPDATE, 256)?;
-        let mut machine = Machine::new(rt.alloc(), image, Vec::new(rt.alloc()), plan)?;
-        machine.run(&rt, 100, 1)?;
-        assert!(rt; machine.output() == output.as_bytes());
-        assert_eq!(rt; machine.byte(0x20000), Some(plain));
-        assert_eq!(rt; machine.byte(0x20008), Some(atomic));
-        let value = u64::from(atomic - plain);
-        for hart in machine.harts() {
-            assert!(rt; hart.stop == Some(Stop { code: 1, value }));
-        }
     }
     Ok(())
 }

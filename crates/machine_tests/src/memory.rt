@@ -1,10 +1,10 @@
 //! What a refused request for memory leaves. No test asks for more memory than there is: the requests are refused by a
 //! run of the tests with `--fail-alloc N`, which refuses the one request with the number N, whatever N is.
 
-use super::images::CROSSED_AND_FENCED;
-use super::{flat, machine, settings, text_of};
-use crate::{Machine, Open, Settings, emulate};
+use crate::harness::{flat, machine_of, settings, text_of};
+use crate::images::CROSSED_AND_FENCED;
 use host_io::{RunError, WriteSink};
+use machine::{Machine, Open, Settings, emulate};
 use pages::OutOfMemory;
 use std::alloc::Global;
 use std::sync::Wait;
@@ -47,9 +47,9 @@ fn sure_text(alloc: Global, machine: &Machine) -> Result<Vec<u8>, RunError> {
 }
 
 fn sure_machine(alloc: Global) -> Result<Machine, RunError> {
-    match machine(alloc, &CROSSED_AND_FENCED, 2, b"6\n") {
+    match machine_of(alloc, &CROSSED_AND_FENCED, 2, b"6\n") {
         Ok(machine) => Ok(machine),
-        Err(_) => machine(alloc, &CROSSED_AND_FENCED, 2, b"6\n"),
+        Err(_) => machine_of(alloc, &CROSSED_AND_FENCED, 2, b"6\n"),
     }
 }
 

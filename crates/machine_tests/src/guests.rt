@@ -1,0 +1,85 @@
+//! The guest programs of examples/, which were built from C.
+
+ghost use Rattle.std.specs.Prelude.{◌≤◌};
+
+use crate::example_files::{HELLO, LOST_UPDATE, SUM};
+use elf_loader::load_elf;
+use hart_step::Stop;
+use host_io::RunError;
+use machine::Machine;
+use round_planner::Plan;
+use std::alloc::Global;
+use std::sync::Wait;
+use std::test::Fail;
+use std::thread::Threads;
+
+/// The machine after so many rounds of an ELF file, with 256 pages and one worker.
+fn machine_after<R: Threads + Wait + Sync>(
+    rt: &R,
+    alloc: Global,
+    file: &[u8],
+    harts: u32,
+    plan: &[u8],
+    rounds: u32,
+) -> Result<Machine, RunError>
+    requires some_harts { 1 ≤ harts }
+    requires few_harts { harts ≤ 64 }
+{
+    let image = match load_elf(alloc, file, 256) {
+        Ok(image) => image,
+        Err(error) => return Err(RunError::Image(error)),
+    };
+    let plan = match Plan::parse(alloc, plan, harts) {
+        Ok(plan) => plan,
+        Err(error) => return Err(RunError::Plan(error)),
+    };
+    let mut machine = Machine::new(alloc, image, Vec::new(alloc), plan)?;
+    machine.run(rt, rounds, 1)?;
+    Ok(machine)
+}
+
+/// Whether the machine put out this text, and each hart has exited with this value.
+fn has_ended(machine: &Machine, output: &str, value: u64) -> bool {
+    machine.output() == output.as_bytes()
+        && machine
+            .harts()
+            .iter()
+            .all(|hart| hart.stop == Some(Stop { code: 1, value }))
+}
+
+#[test]
+fn each_hart_says_hello(rt: HostRuntime) -> Result<(), Fail> {
+    for (harts, output) in [
+        (1, "hart 0 of 1\n"),
+        (2, "hart 0 of 2\nhart 1 of 2\n"),
+        (3, "hart 0 of 3\nhart 1 of 3\nhart 2 of 3\n"),
+    ] {
+        let machine = machine_after(&rt, rt.alloc(), HELLO, harts, b"1000\n", 200)?;
+        assert!(rt; has_ended(&machine, output, 0));
+    }
+    Ok(())
+}
+
+#[test]
+fn harts_add_up_numbers_between_barriers(rt: HostRuntime) -> Result<(), Fail> {
+    for harts in [1, 2, 7] {
+        let machine = machine_after(&rt, rt.alloc(), SUM, harts, b"100\n", 400)?;
+        assert!(rt; has_ended(&machine, "32896\n", 32_896));
+    }
+    Ok(())
+}
+
+#[test]
+fn a_guest_counts_its_lost_updates(rt: HostRuntime) -> Result<(), Fail> {
+    for (harts, plan, output, plain, atomic, lost) in [
+        (1, "1000\n", "plain 10, atomic 10\n", 10, 10, 0),
+        (2, "1000\n", "plain 10, atomic 20\n", 10, 20, 10),
+        (4, "7\n", "plain 10, atomic 40\n", 10, 40, 30),
+    ] {
+        let machine = machine_after(&rt, rt.alloc(), LOST_UPDATE, harts, plan.as_bytes(), 100)?;
+        assert!(rt; has_ended(&machine, output, lost));
+        assert_eq!(rt; machine.byte(0x20000), Some(plain));
+        assert_eq!(rt; machine.byte(0x20008), Some(atomic));
+    }
+    Ok(())
+}

@@ -1,0 +1,27 @@
+//! Tests of the machine by whole guest programs, through the public calls of the crate `machine`.
+#![tactic(auto)]
+
+#[cfg(test)]
+mod budgets;
+#[cfg(test)]
+mod example_files;
+#[cfg(test)]
+mod guests;
+#[cfg(test)]
+mod harness;
+#[cfg(test)]
+mod images;
+#[cfg(test)]
+mod lost_update;
+#[cfg(test)]
+mod memory;
+#[cfg(test)]
+mod orders;
+#[cfg(test)]
+mod refusals;
+#[cfg(test)]
+mod reports;
+#[cfg(test)]
+mod rounds;
+#[cfg(test)]
+mod workers;
