@@ -9,3 +9,5 @@ pub mod Bytes
 pub mod ByWord
 pub mod Soundness
 pub mod Formation
+pub mod Listed
+pub mod Paused

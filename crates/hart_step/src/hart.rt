@@ -32,7 +32,9 @@ impl Hart {
     pub fn reg(&self, r: Reg) -> u64
         ensures { result ≡ reg self.now.x r }
     {
-        if r.index() == 0 { 0 } else { self.x[r.index()] }
+        // Read in any case, so that x0 takes no jump.
+        let value = self.x[r.index()];
+        if r.index() == 0 { 0 } else { value }
     }
 
     /// Sets a register; x0 keeps its 0.
