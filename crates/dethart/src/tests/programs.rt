@@ -56,6 +56,8 @@ fn input_comes_from_a_file(rt: HostRuntime) -> Result<(), Fail> {
                   end\n";
     let (number, text) = answer(&rt, &rt, &words);
     assert!(rt; number == 0 && text.as_slice() == wanted.as_bytes());
+    fs::remove_file(&rt, "echo.bin")?;
+    fs::remove_file(&rt, "keys.txt")?;
     Ok(())
 }
 
@@ -85,6 +87,8 @@ fn an_order_of_a_plan_from_a_file(rt: HostRuntime) -> Result<(), Fail> {
                   checked yes\n";
     let (number, text) = answer(&rt, &rt, &words);
     assert!(rt; number == 0 && text.as_slice() == wanted.as_bytes());
+    fs::remove_file(&rt, "crossed.bin")?;
+    fs::remove_file(&rt, "plan.txt")?;
     Ok(())
 }
 
