@@ -43,7 +43,7 @@ pub fn add_parallel(trace: &mut Trace, round: u32, first: u32, outcomes: &[Outco
     match outcomes {
         [] => {}
         [outcome, rest @ ..] => {
-            trace.extend(round, first, Phase::Parallel, &outcome.accesses);
+            trace.extend(round, first as u8, Phase::Parallel, &outcome.accesses);
             add_parallel(trace, round, first + 1, rest);
         }
     }
@@ -61,6 +61,6 @@ pub fn add_serial(trace: &mut Trace, round: u32, first: u32, left: u32, log: &Se
     if left == 0 {
         return;
     }
-    trace.extend(round, first, Phase::Serial, log.events(first));
+    trace.extend(round, first as u8, Phase::Serial, log.events(first));
     add_serial(trace, round, first + 1, left - 1, log);
 }

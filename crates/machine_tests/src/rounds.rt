@@ -69,7 +69,7 @@ fn rounds_one_by_one(rt: HostRuntime) -> Result<(), Fail> {
 }
 
 /// An access of 8 bytes in the parallel phase of round 1.
-fn stored(hart: u32, place: u64, address: u64, written: u64) -> Event {
+fn stored(hart: u8, place: u64, address: u64, written: u64) -> Event {
     Event {
         access: Access::Store {
             width: Width::W8,
@@ -83,7 +83,7 @@ fn stored(hart: u32, place: u64, address: u64, written: u64) -> Event {
     }
 }
 
-fn loaded(hart: u32, place: u64, address: u64, read: u64) -> Event {
+fn loaded(hart: u8, place: u64, address: u64, read: u64) -> Event {
     Event {
         access: Access::Load {
             width: Width::W8,

@@ -4,16 +4,14 @@ ghost use Rattle.memory_order.specs.LastPlaces.{AreLast, IsAbove, noted};
 
 use round_schedule::Event;
 
-/// For how many harts, from 0 on, the place of the last event is kept in a table.
-const TABLED: usize = 64;
+/// One more than the greatest number of a hart.
+const HARTS: usize = 256;
 
-/// Whether the places of each hart rise through a list of events. This takes no memory.
-///
-/// The harts below 64 cost a step an event. Each event of another hart costs a walk over those before it.
+/// Whether the places of each hart rise through a list of events, by a step an event. This takes no memory.
 pub(crate) fn places_rise(events: &[Event]) -> bool
     ensures { IsTrue result ↔ PlacesRise events.now }
 {
-    let mut last = [None; TABLED];
+    let mut last = [None; HARTS];
     for i in 0..events.len() {
         if !is_above(events, i, &last) {
             return false;
@@ -23,28 +21,25 @@ pub(crate) fn places_rise(events: &[Event]) -> bool
     true
 }
 
-/// Whether the place of event `i` is above those of its hart before it.
+/// Whether the place of event `i` is above those of its hart before it, where the last place of each hart before it is in
+/// the table.
 fn is_above(events: &[Event], i: usize, last: &[Option<u64>]) -> bool
     requires within { i < length events.now }
+    requires all { length last.now ≡ 256 }
     requires last { AreLast events.now i last.now }
     ensures { IsTrue result ↔ IsAbove events.now i }
 {
     let event = &events[i];
-    let place = event.access.place();
-    match last.get(event.hart as usize) {
-        Some(Some(below)) => *below < place,
-        Some(None) => true,
-        None => events[..i].iter().all(|other| other.hart != event.hart
-            || other.access.place() < place),
+    match &last[event.hart as usize] {
+        Some(below) => *below < event.access.place(),
+        None => true,
     }
 }
 
-/// Notes the place of an event as the last one of its hart, where the table has the hart.
+/// Notes the place of an event as the last one of its hart.
 fn keep(last: &mut [Option<u64>], event: &Event)
+    requires { length last.old ≡ 256 }
     ensures { last.new ≡ noted last.old event.now }
 {
-    let hart = event.hart as usize;
-    if hart < last.len() {
-        last[hart] = Some(event.access.place());
-    }
+    last[event.hart as usize] = Some(event.access.place());
 }

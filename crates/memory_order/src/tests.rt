@@ -14,7 +14,7 @@ pub(crate) const BOTH: FenceSet = FenceSet {
     writes: true,
 };
 
-pub(crate) fn event(round: u32, hart: u32, phase: Phase, access: Access) -> Event {
+pub(crate) fn event(round: u32, hart: u8, phase: Phase, access: Access) -> Event {
     Event {
         access,
         round,

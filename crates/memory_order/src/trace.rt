@@ -84,7 +84,7 @@ impl Trace {
     }
 
     /// Adds the accesses of a hart in one phase of a round.
-    pub fn extend(&mut self, round: u32, hart: u32, phase: Phase, accesses: &[Access])
+    pub fn extend(&mut self, round: u32, hart: u8, phase: Phase, accesses: &[Access])
         requires room { length accesses.now ≤ self.old.room }
         requires sound { IsTrace (self.old.events ++ events_of round hart phase accesses.now) }
         ensures events { self.new.events ≡ self.old.events ++ events_of round hart phase accesses.now }

@@ -50,7 +50,7 @@ fn hart() -> Hart {
     }
 }
 
-fn event(round: u32, hart: u32, phase: Phase, access: Access) -> Event {
+fn event(round: u32, hart: u8, phase: Phase, access: Access) -> Event {
     Event {
         access,
         round,

@@ -1,4 +1,5 @@
 use crate::access::Access;
+use std::mem::size_of;
 
 /// The two phases of a round in which instructions are done.
 #[derive(Clone, Copy, Debug, PartialEq, Eq)]
@@ -16,8 +17,11 @@ pub struct Event {
     pub access: Access,
     /// The round, counted from 1.
     pub round: u32,
-    /// The hart, counted from 0.
-    pub hart: u32,
+    /// The hart, counted from 0. A machine has at most 64.
+    pub hart: u8,
     /// The phase of the round.
     pub phase: Phase,
 }
+
+// Traces are long lists of events.
+const _: () = prove!(size_of::<Event>() == 48);

@@ -31,11 +31,11 @@ fn is_refused(alloc: Global, events: &[Event], places: &[usize]) -> bool {
     answer(alloc, events, places) == Some(false)
 }
 
-fn parallel(hart: u32, access: Access) -> Event {
+fn parallel(hart: u8, access: Access) -> Event {
     event(1, hart, Phase::Parallel, access)
 }
 
-fn serial(hart: u32, access: Access) -> Event {
+fn serial(hart: u8, access: Access) -> Event {
     event(1, hart, Phase::Serial, access)
 }
 

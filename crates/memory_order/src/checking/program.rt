@@ -54,7 +54,7 @@ pub(crate) fn keeps_but_overlap(
     Ok(true)
 }
 
-fn bounds_of(harts: &BTreeMap<u32, HartBounds>, hart: u32) -> HartBounds
+fn bounds_of(harts: &BTreeMap<u8, HartBounds>, hart: u8) -> HartBounds
     ensures { result ≡ bounds_of harts.now hart }
 {
     match harts.get(&hart) {
@@ -69,8 +69,8 @@ fn bounds_of(harts: &BTreeMap<u32, HartBounds>, hart: u32) -> HartBounds
 }
 
 fn set_bounds(
-    harts: &mut BTreeMap<u32, HartBounds>,
-    hart: u32,
+    harts: &mut BTreeMap<u8, HartBounds>,
+    hart: u8,
     bounds: HartBounds,
 ) -> Result<(), OutOfMemory>
     ensures { OnOk result ((h : ℕ) → bounds_of harts.new h ≡ (if h == hart then bounds else bounds_of harts.old h)) }

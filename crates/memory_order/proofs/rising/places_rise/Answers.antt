@@ -8,7 +8,7 @@ use Rattle.memory_order.proofs.rising.places_rise.Goals as goal
 pub loop-i-init : goal.loop-i-init
 loop-i-init c = record {
   above = λ j h. absurd (omega (arith, h));
-  last = last_none c.args.events.now (replicate 64 None) (λ h l. get_or-replicate 64 h None None l);
+  last = last_none c.args.events.now (replicate 256 None) (λ h l. get_or-replicate 256 h None None l);
 }
 
 pub loop-i-preserved : goal.loop-i-preserved
