@@ -14,8 +14,6 @@ mod numbers;
 mod performing;
 mod rounds;
 mod stepping;
-#[cfg(test)]
-mod tests;
 
 pub use amo::amo_value;
 pub use buffered::Buffered;

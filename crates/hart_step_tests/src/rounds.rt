@@ -1,5 +1,5 @@
-use super::{hart, memory};
-use crate::{Buffered, CodeTable, hart_round, step};
+use crate::harness::{hart, memory};
+use hart_step::{Buffered, CodeTable, hart_round, step};
 use pages::Width;
 use round_schedule::Access;
 use std::test::Fail;

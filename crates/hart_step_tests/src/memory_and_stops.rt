@@ -1,5 +1,5 @@
-use super::{after, hart, memory};
-use crate::{Access, Stepped, Stop, step};
+use crate::harness::{after, hart, memory};
+use hart_step::{Access, Stepped, Stop, step};
 use pages::Width;
 use rv64_decode::{FenceMode, FenceSet};
 use std::alloc::Global;

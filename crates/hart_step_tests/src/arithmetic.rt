@@ -1,5 +1,5 @@
-use super::after;
-use crate::amo_value;
+use crate::harness::after;
+use hart_step::amo_value;
 use rv64_decode::{AcquireRelease, Instr, Reg};
 use std::alloc::Global;
 use std::test::Fail;

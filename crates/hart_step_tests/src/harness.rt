@@ -1,16 +1,14 @@
+//! What the tests have in common.
+
 ghost use Rattle.std.specs.Prelude.{◌≡◌, None};
 
-mod arithmetic;
-mod memory_and_stops;
-mod rounds;
-
-use crate::{Hart, Stepped, step};
+use hart_step::{Hart, Stepped, step};
 use pages::{Pages, Piece, Range};
 use std::alloc::Global;
 use std::test::Fail;
 
 /// One page of guest memory with these words from address 0 on as its code.
-fn memory(alloc: Global, words: [u32; 4]) -> Result<Pages, Fail> {
+pub(crate) fn memory(alloc: Global, words: [u32; 4]) -> Result<Pages, Fail> {
     let mut code = [0u8; 16];
     for (i, word) in words.iter().enumerate() {
         code[4 * i..4 * i + 4].copy_from_slice(&word.to_le_bytes());
@@ -24,7 +22,7 @@ fn memory(alloc: Global, words: [u32; 4]) -> Result<Pages, Fail> {
 }
 
 /// A hart at address 0, with these values in x1 and x2.
-fn hart(a: u64, b: u64) -> Hart
+pub(crate) fn hart(a: u64, b: u64) -> Hart
     ensures { result.stop ≡ None }
 {
     let mut x = [0; 32];
@@ -39,7 +37,7 @@ fn hart(a: u64, b: u64) -> Hart
 }
 
 /// The answer of one word at address 0, and the hart after it.
-fn after(alloc: Global, word: u32, a: u64, b: u64) -> Result<(Stepped, Hart), Fail> {
+pub(crate) fn after(alloc: Global, word: u32, a: u64, b: u64) -> Result<(Stepped, Hart), Fail> {
     let mut pages = memory(alloc, [word, 0, 0, 0])?;
     let mut h = hart(a, b);
     let answer = step(&mut h, &mut pages)?;
