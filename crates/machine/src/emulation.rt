@@ -68,7 +68,7 @@ impl Machine {
             &self.harts,
             &self.pages,
             self.console.output(),
-            self.trace.events(),
+            &self.trace,
             out,
         )
     }

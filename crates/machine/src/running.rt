@@ -68,7 +68,7 @@ impl Machine {
         let _harts = self.plan.harts();
         let _budget = self.plan.budget();
         let _pages = self.pages.count();
-        let _events = self.trace.events();
+        let _events = self.trace.len();
         let running = self.harts.iter().any(|hart| hart.stop.is_none());
         let crew = Crew {
             rt,

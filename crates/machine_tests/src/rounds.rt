@@ -105,7 +105,8 @@ fn has_crossed(machine: &Machine) -> bool {
         stored(1, 3, 0x108, 1),
         loaded(1, 4, 0x100, 0),
     ];
-    machine.trace().events() == events.as_slice()
+    let trace = machine.trace();
+    trace.len() == events.len() && (0..events.len()).all(|i| *trace.event(i) == events[i])
 }
 
 /// Whether both harts have done the five instructions.
@@ -143,7 +144,7 @@ fn has_put(machine: &Machine, output: &[u8]) -> bool {
 
 /// Whether the trace has no event.
 fn is_untraced(machine: &Machine) -> bool {
-    machine.trace().events().is_empty()
+    machine.trace().len() == 0
 }
 
 /// Does rounds.

@@ -13,6 +13,7 @@ mod Bounding
 mod Composing
 mod Forms
 mod Pairing
+mod Parting
 mod Preserving
 mod ProgramBounds
 mod Sourcing

@@ -4,6 +4,8 @@ pub mod CheckingProgram
 pub mod LastPlaces
 pub mod Operations
 pub mod Orders
+pub mod Parts
+pub mod Pieces
 pub mod ProgramOrder
 pub mod RoundOrder
 pub mod Runs

@@ -24,8 +24,20 @@ use std::alloc::Global;
 pub fn check_order(alloc: Global, trace: &Trace, order: &Order) -> Result<bool, OutOfMemory>
     ensures { IfOk result (λ yes. IsTrue yes ↔ MeetsRvwmo trace.now.events (opening_at trace.now.opening) order.now.0.items) }
 {
-    let events = trace.events();
-    let order = order.0.as_slice();
+    let events = trace.to_vec(alloc)?;
+    meets_rvwmo(alloc, trace, &events, &order.0)
+}
+
+/// Whether an order of memory operations meets RVWMO over the bytes that a trace's memory opened with.
+fn meets_rvwmo(
+    alloc: Global,
+    trace: &Trace,
+    events: &[Event],
+    order: &[usize],
+) -> Result<bool, OutOfMemory>
+    requires { All HasForm events.now }
+    ensures { IfOk result (λ yes. IsTrue yes ↔ MeetsRvwmo events.now (opening_at trace.now.opening) order.now) }
+{
     match positions(alloc, events, order)? {
         Some(ranks) => Ok(meets_axioms(alloc, trace, events, order, &ranks)?),
         None => Ok(false),

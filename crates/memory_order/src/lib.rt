@@ -3,8 +3,10 @@
 
 mod check;
 mod checking;
+mod event_list;
 mod form;
 mod laws;
+mod opening;
 mod operation;
 mod order;
 mod rising;

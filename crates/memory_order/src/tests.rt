@@ -168,10 +168,32 @@ fn a_trace_grows_and_is_copied(rt: HostRuntime) {
     trace.reserve(1).expect(&rt, "memory");
     trace.push(fence);
     let copy = trace.copy(alloc).expect(&rt, "memory");
-    assert!(rt; copy.events() == [fence].as_slice());
+    assert!(rt; copy.len() == 1 && *copy.event(0) == fence);
     assert!(rt;
         is_operation(&event(1, 0, Phase::Parallel, store(3, 0x100, 1))) && !is_operation(&fence)
     );
     assert!(rt; copy.opening_byte(0x101) == 8);
     assert!(rt; copy.opening_byte(0x102) == 0);
+}
+
+#[test]
+fn copies_of_a_long_trace_have_its_events(rt: HostRuntime) {
+    let alloc = rt.alloc();
+    let mut events = Vec::new(alloc);
+    for place in 0..10_000 {
+        let access = load(place, 0x100, 0);
+        events
+            .push(event(1, 0, Phase::Parallel, access))
+            .expect(&rt, "memory");
+    }
+    let mut trace = Trace::of(Vec::new(alloc), events).expect(&rt, "a trace");
+    trace.reserve(1).expect(&rt, "memory");
+    let copy = trace.copy(alloc).expect(&rt, "memory");
+    let gathered = copy.to_vec(alloc).expect(&rt, "memory");
+    assert!(rt; copy.len() == 10_000 && gathered.len() == 10_000);
+    for place in 0..10_000 {
+        let access = load(place as u64, 0x100, 0);
+        let expected = event(1, 0, Phase::Parallel, access);
+        assert!(rt; *copy.event(place) == expected && gathered[place] == expected);
+    }
 }

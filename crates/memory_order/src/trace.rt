@@ -1,9 +1,12 @@
 ghost use Rattle.std.specs.Prelude.{◌≡◌, ℕ, ◌-◌, ◌+◌, ◌<◌, ◌≤◌, ◌↔◌, [], ◌∷◌, ◌++◌, length, map, slice_index, true, false, MatchOption, IfOk, IfSome, IsSome, OnOk};
 ghost use Rattle.pages.specs.Memory.{in_range};
 ghost use Rattle.round_schedule.specs.Events.{events_of};
+ghost use Rattle.round_schedule.specs.Positions.{event};
 ghost use Rattle.memory_order.specs.Traced.{HasForm, IsTrace, StandsAbove, laid, opening_at};
 
+use crate::event_list::EventList;
 use crate::form::all_have_forms;
+use crate::opening::Opening;
 use crate::rising::places_rise;
 use pages::{OutOfMemory, Piece};
 use round_schedule::{Access, Event, Phase};
@@ -13,21 +16,30 @@ use std::marker::Model;
 /// The events of a run, in the order of the rounds, and the bytes that memory opened with.
 ///
 /// Each event has the form of its kind, and a hart's places rise through the list.
-#[derive(Drop)]
 pub struct Trace {
-    opening: Vec<Piece>,
-    events: Vec<Event>,
+    opening: Opening,
+    events: EventList,
+}
+
+// By hand, so that the proof of a function that drops a trace has one step for it.
+impl Drop for Trace {
+    fn drop(self) {
+        let Trace { opening, events } = self;
+        drop(opening);
+        drop(events);
+    }
 }
 
 impl Model for Trace {
-    ghost use Rattle.std.specs.Prelude.{◌-◌, map, vec_len, vec_capacity};
+    ghost use Rattle.std.specs.Prelude.{map};
+    ghost use Rattle.memory_order.specs.Pieces.{pieces_in};
     ghost use Rattle.memory_order.specs.Traced.{IsTrace, Traced, laid};
 
     ghost Value = { Traced };
 
-    ghost view = { λ t. record { opening = map laid t.opening.items; events = t.events.items; room = vec_capacity t.events - vec_len t.events } };
+    ghost view = { λ t. record { opening = map laid (pieces_in t.opening); events = t.events.events; room = t.events.room } };
 
-    ghost invariant = { λ t. IsTrace t.events.items };
+    ghost invariant = { λ t. IsTrace t.events.events };
 }
 
 impl Trace {
@@ -42,7 +54,10 @@ impl Trace {
         ensures opening { IfSome result (λ t. t.opening ≡ map laid opening.items) }
     {
         if all_have_forms(&events) && places_rise(&events) {
-            Some(Trace { opening, events })
+            Some(Trace {
+                opening: Opening::Own(opening),
+                events: EventList::of(events),
+            })
         } else {
             None
         }
@@ -54,8 +69,8 @@ impl Trace {
         ensures opening { result.opening ≡ map laid opening.items }
     {
         Trace {
-            opening,
-            events: Vec::new(alloc),
+            opening: Opening::Own(opening),
+            events: EventList::new(alloc),
         }
     }
 
@@ -65,10 +80,8 @@ impl Trace {
         ensures opening { self.new.opening ≡ self.old.opening }
         ensures ok { OnOk result (n ≤ self.new.room) }
     {
-        match self.events.reserve(n) {
-            Ok(()) => Ok(()),
-            Err(_) => Err(OutOfMemory),
-        }
+        self.opening.share()?;
+        self.events.reserve(n)
     }
 
     /// Adds an event at the end, where room was made. It takes no memory.
@@ -80,7 +93,7 @@ impl Trace {
         ensures opening { self.new.opening ≡ self.old.opening }
         ensures room { self.old.room ≤ self.new.room + 1 }
     {
-        self.events.push(event).unwrap();
+        self.events.push(event);
     }
 
     /// Adds the accesses of a hart in one phase of a round.
@@ -101,73 +114,46 @@ impl Trace {
         }
     }
 
-    /// The events so far.
-    pub fn events(&self) -> &[Event]
-        ensures events { result.now ≡ self.now.events }
-        ensures sound { IsTrace result.now }
+    /// How many events there are so far.
+    pub fn len(&self) -> usize
+        ensures len { result ≡ length self.now.events }
+        ensures sound { IsTrace self.now.events }
     {
-        self.events.as_slice()
+        self.events.len()
+    }
+
+    /// The event at a place, counted from 0.
+    pub fn event(&self, place: usize) -> &Event
+        requires { place < length self.now.events }
+        ensures { result.now ≡ event self.now.events place }
+    {
+        self.events.get(place)
+    }
+
+    /// The events so far, as one vector.
+    pub fn to_vec(&self, alloc: Global) -> Result<Vec<Event>, OutOfMemory>
+        ensures events { IfOk result (λ v. v.items ≡ self.now.events) }
+        ensures sound { IfOk result (λ v. IsTrace v.items) }
+    {
+        self.events.to_vec(alloc)
     }
 
     /// The byte that memory opened with at an address.
     pub fn opening_byte(&self, address: u64) -> u8
         ensures { result ≡ opening_at self.now.opening address }
     {
-        opening_byte(&self.opening, address)
+        self.opening.byte(address)
     }
 
-    /// An equal trace.
+    /// An equal trace. Once `reserve` was called, it shares with this one the opening pieces, and all events but those added
+    /// since and a few thousand before them.
     pub fn copy(&self, alloc: Global) -> Result<Trace, OutOfMemory>
         ensures events { IfOk result (λ t. t.events ≡ self.now.events) }
         ensures opening { IfOk result (λ t. t.opening ≡ self.now.opening) }
     {
         Ok(Trace {
-            opening: copies_of(alloc, &self.opening)?,
-            events: Vec::from_slice(alloc, &self.events)?,
+            opening: self.opening.copy(alloc)?,
+            events: self.events.copy(alloc)?,
         })
     }
-}
-
-/// The byte at an address of the first piece that holds it, and else 0.
-fn opening_byte(pieces: &[Piece], address: u64) -> u8
-    ensures { result ≡ opening_at (map laid pieces.now) address }
-{
-    for piece in pieces {
-        if let Some(byte) = byte_at(piece, address) {
-            return byte;
-        }
-    }
-    0
-}
-
-/// The byte of a piece at an address, if it holds one there.
-fn byte_at(piece: &Piece, address: u64) -> Option<u8>
-    ensures { MatchOption result (in_range piece.now.start (length piece.now.bytes.items) address ≡ false) (λ b. (in_range piece.now.start (length piece.now.bytes.items) address ≡ true) × (b ≡ slice_index piece.now.bytes.items (address - piece.now.start))) }
-{
-    let start = piece.start;
-    if address < start {
-        return None;
-    }
-    let offset = address - start;
-    piece.bytes.get(offset as usize).copied()
-}
-
-/// Equal pieces.
-fn copies_of(alloc: Global, pieces: &[Piece]) -> Result<Vec<Piece>, OutOfMemory>
-    ensures { IfOk result (λ v. map laid v.items ≡ map laid pieces.now) }
-{
-    let mut copies = Vec::with_capacity(alloc, pieces.len())?;
-    for piece in pieces {
-        copies.push(copy_of(alloc, piece)?)?;
-    }
-    Ok(copies)
-}
-
-fn copy_of(alloc: Global, piece: &Piece) -> Result<Piece, OutOfMemory>
-    ensures { IfOk result (λ p. laid p ≡ laid piece.now) }
-{
-    Ok(Piece {
-        start: piece.start,
-        bytes: Vec::from_slice(alloc, &piece.bytes)?,
-    })
 }

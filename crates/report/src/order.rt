@@ -11,20 +11,19 @@ use crate::state::{put_count, put_event};
 use crate::writer::put_line;
 use host_io::{RunError, Sink};
 use memory_order::{Trace, check_order, memory_order};
-use round_schedule::Event;
 use std::alloc::Global;
 
 fn put_places<S: Sink>(
     out: &mut S,
     line: &mut Line,
-    events: &[Event],
+    trace: &Trace,
     places: &[usize],
 ) -> Result<(), RunError>
-    requires { All (λ place. place < length events.now) places.now }
-    ensures { Wrote (places_text events.now places.now) (way (S.took out.old) (S.failures out.old) line.old) result (way (S.took out.new) (S.failures out.new) line.new) }
+    requires { All (λ place. place < length trace.now.events) places.now }
+    ensures { Wrote (places_text trace.now.events places.now) (way (S.took out.old) (S.failures out.old) line.old) result (way (S.took out.new) (S.failures out.new) line.new) }
 {
     for place in places {
-        put_event(out, line, &events[*place])?;
+        put_event(out, line, trace.event(*place))?;
     }
     Ok(())
 }
@@ -50,16 +49,16 @@ fn checked_line(checked: bool) -> &'static str
 fn put_order<S: Sink>(
     out: &mut S,
     line: &mut Line,
-    events: &[Event],
+    trace: &Trace,
     places: &[usize],
     checked: bool,
 ) -> Result<(), RunError>
-    requires { All (λ place. place < length events.now) places.now }
-    ensures wrote { Wrote (order_text events.now places.now checked) (way (S.took out.old) (S.failures out.old) line.old) result (way (S.took out.new) (S.failures out.new) line.new) }
+    requires { All (λ place. place < length trace.now.events) places.now }
+    ensures wrote { Wrote (order_text trace.now.events places.now checked) (way (S.took out.old) (S.failures out.old) line.old) result (way (S.took out.new) (S.failures out.new) line.new) }
     ensures empty { OnOk result (line.new ≡ []) }
 {
     put_count(out, line, "order ", places.len() as u64)?;
-    put_places(out, line, events, places)?;
+    put_places(out, line, trace, places)?;
     put_checked(out, line, checked)
 }
 
@@ -84,5 +83,5 @@ pub fn write_order<S: Sink>(alloc: Global, trace: &Trace, out: &mut S) -> Result
     let order = memory_order(alloc, trace)?;
     let yes = check_order(alloc, trace, &order)?;
     let mut line = Line::new(alloc);
-    put_order(out, &mut line, trace.events(), &order.0, yes)
+    put_order(out, &mut line, trace, &order.0, yes)
 }

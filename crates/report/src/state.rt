@@ -12,6 +12,7 @@ use crate::text::{event_line, hart_lines};
 use crate::writer::{put_line, put_long};
 use hart_step::Hart;
 use host_io::{RunError, Sink};
+use memory_order::Trace;
 use pages::Pages;
 use round_schedule::Event;
 use std::alloc::Global;
@@ -46,20 +47,20 @@ pub(crate) fn put_event<S: Sink>(
     put_long(out, line)
 }
 
-fn put_events<S: Sink>(out: &mut S, line: &mut Line, events: &[Event]) -> Result<(), RunError>
-    ensures { Wrote (events_text events.now) (way (S.took out.old) (S.failures out.old) line.old) result (way (S.took out.new) (S.failures out.new) line.new) }
+fn put_events<S: Sink>(out: &mut S, line: &mut Line, trace: &Trace) -> Result<(), RunError>
+    ensures { Wrote (events_text trace.now.events) (way (S.took out.old) (S.failures out.old) line.old) result (way (S.took out.new) (S.failures out.new) line.new) }
 {
-    for event in events {
-        put_event(out, line, event)?;
+    for place in 0..trace.len() {
+        put_event(out, line, trace.event(place))?;
     }
     Ok(())
 }
 
-fn put_trace<S: Sink>(out: &mut S, line: &mut Line, events: &[Event]) -> Result<(), RunError>
-    ensures { Wrote (trace_text events.now) (way (S.took out.old) (S.failures out.old) line.old) result (way (S.took out.new) (S.failures out.new) line.new) }
+fn put_trace<S: Sink>(out: &mut S, line: &mut Line, trace: &Trace) -> Result<(), RunError>
+    ensures { Wrote (trace_text trace.now.events) (way (S.took out.old) (S.failures out.old) line.old) result (way (S.took out.new) (S.failures out.new) line.new) }
 {
-    put_count(out, line, "trace ", events.len() as u64)?;
-    put_events(out, line, events)
+    put_count(out, line, "trace ", trace.len() as u64)?;
+    put_events(out, line, trace)
 }
 
 fn put_harts<S: Sink>(out: &mut S, line: &mut Line, harts: &[Hart]) -> Result<(), RunError>
@@ -139,16 +140,16 @@ fn put_state<S: Sink>(
     harts: &[Hart],
     pages: &Pages,
     output: &[u8],
-    events: &[Event],
+    trace: &Trace,
 ) -> Result<(), RunError>
-    ensures wrote { Wrote (report_text rounds harts.now pages.now.memory.bytes output.now events.now) (way (S.took out.old) (S.failures out.old) line.old) result (way (S.took out.new) (S.failures out.new) line.new) }
+    ensures wrote { Wrote (report_text rounds harts.now pages.now.memory.bytes output.now trace.now.events) (way (S.took out.old) (S.failures out.old) line.old) result (way (S.took out.new) (S.failures out.new) line.new) }
     ensures empty { OnOk result (line.new ≡ []) }
 {
     put_count(out, line, "rounds ", rounds as u64)?;
     put_harts(out, line, harts)?;
     put_memory(out, line, pages)?;
     put_output(out, line, output)?;
-    put_trace(out, line, events)?;
+    put_trace(out, line, trace)?;
     put_end(out, line)
 }
 
@@ -165,14 +166,14 @@ pub fn write_state<S: Sink>(
     harts: &[Hart],
     pages: &Pages,
     output: &[u8],
-    events: &[Event],
+    trace: &Trace,
     out: &mut S,
 ) -> Result<(), RunError>
-    ensures ok { OnOk result (S.took out.new ≡ S.took out.old ++ report_text rounds harts.now pages.now.memory.bytes output.now events.now) }
-    ensures begun { OnErr result (BeganText (S.took out.old) (S.took out.new) (report_text rounds harts.now pages.now.memory.bytes output.now events.now)) }
+    ensures ok { OnOk result (S.took out.new ≡ S.took out.old ++ report_text rounds harts.now pages.now.memory.bytes output.now trace.now.events) }
+    ensures begun { OnErr result (BeganText (S.took out.old) (S.took out.new) (report_text rounds harts.now pages.now.memory.bytes output.now trace.now.events)) }
     ensures sink { result ≡ Err RunError.SinkFailed → S.failures out.old < S.failures out.new }
     ensures errors { IfErr result (λ e. (e ≡ RunError.OutOfMemory) ⊎ (e ≡ RunError.SinkFailed)) }
 {
     let mut line = Line::new(alloc);
-    put_state(out, &mut line, rounds, harts, pages, output, events)
+    put_state(out, &mut line, rounds, harts, pages, output, trace)
 }

@@ -153,13 +153,14 @@ fn reports(rt: HostRuntime) -> Result<(), Fail> {
         taken: History::new(),
         failed: History::new(),
     };
+    let trace = trace_of(rt.alloc(), &events()[..1])?;
     write_state(
         rt.alloc(),
         1,
         &[hart()],
         &pages,
         &[0x41; 33],
-        &events()[..1],
+        &trace,
         &mut narrow,
     )?;
     let report = "rounds 1\n\
@@ -182,7 +183,7 @@ fn reports(rt: HostRuntime) -> Result<(), Fail> {
         &[hart()],
         &pages,
         &[],
-        &[],
+        &trace_of(rt.alloc(), &[])?,
         &mut WriteSink::new(room.as_mut_slice()),
     );
     assert!(rt; answer == Err(RunError::SinkFailed));
@@ -208,16 +209,17 @@ fn load(place: u64, address: u64, read: u64) -> Access {
     }
 }
 
+/// The trace of these events, over memory of zeros.
+fn trace_of(alloc: Global, events: &[Event]) -> Result<Trace, Fail> {
+    Ok(Trace::of(Vec::new(alloc), events.to_vec(alloc)?).ok_or("a trace")?)
+}
+
 /// Whether the order of these events, over memory of zeros, has this text.
 fn is_order_text(alloc: Global, events: &[Event], order: &str) -> Result<bool, Fail> {
-    match Trace::of(Vec::new(alloc), events.to_vec(alloc)?) {
-        Some(trace) => {
-            let mut text = Vec::new(alloc);
-            write_order(alloc, &trace, &mut WriteSink::new(&mut text))?;
-            Ok(text.as_slice() == order.as_bytes())
-        }
-        None => Ok(false),
-    }
+    let trace = trace_of(alloc, events)?;
+    let mut text = Vec::new(alloc);
+    write_order(alloc, &trace, &mut WriteSink::new(&mut text))?;
+    Ok(text.as_slice() == order.as_bytes())
 }
 
 #[test]

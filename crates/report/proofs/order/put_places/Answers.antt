@@ -1,6 +1,5 @@
 use Rattle.std.proofs.Common.{◌≡◌, Err, rules, arith, ap}
-use Rattle.std.proofs.lemmas.List.{get_or_default, take_all}
-use Rattle.round_schedule.specs.Positions.{no_event}
+use Rattle.std.proofs.lemmas.List.{take_all}
 use Rattle.report.specs.Pending.{way}
 use Rattle.report.specs.Order.{places_text}
 use Rattle.report.proofs.Writing.{loop_more, loop_stop, same_text, wrote_none}
@@ -13,10 +12,10 @@ loop-place-init g c = wrote_none (way (g.S.Sink.took c.args.out.now) (g.S.Sink.f
 pub returns-in_err-put_event : goal.returns-in_err-put_event
 returns-in_err-put_event g c =
     let r : c.from_residual.result ≡ Err c.in_err-put_event.field-0.0 = search rules in
-    loop_stop _ _ _ _ (way (g.S.Sink.took c.args.out.now) (g.S.Sink.failures c.args.out.now) c.args.line.now) _ _ _ _ c.loop-place.invariant c.in_err-put_event.ensures r (places_left c.args.events.now c.args.places.now c.loop-place.place-index 0 _ (omega arith) (get_or_default c.args.events.now _ _ no_event (c.requires c.loop-place.place-index 0 (omega arith))))
+    loop_stop _ _ _ _ (way (g.S.Sink.took c.args.out.now) (g.S.Sink.failures c.args.out.now) c.args.line.now) _ _ _ _ c.loop-place.invariant c.in_err-put_event.ensures r (places_left c.args.trace.now.events c.args.places.now c.loop-place.place-index 0 _ (omega arith) c.event.ensures)
 
 pub loop-place-preserved : goal.loop-place-preserved
-loop-place-preserved g c = loop_more _ _ _ (way (g.S.Sink.took c.args.out.now) (g.S.Sink.failures c.args.out.now) c.args.line.now) _ _ c.loop-place.invariant c.in_ok-put_event.ensures (places_more c.args.events.now c.args.places.now c.loop-place.place-index 0 _ (omega arith) (get_or_default c.args.events.now _ _ no_event (c.requires c.loop-place.place-index 0 (omega arith))))
+loop-place-preserved g c = loop_more _ _ _ (way (g.S.Sink.took c.args.out.now) (g.S.Sink.failures c.args.out.now) c.args.line.now) _ _ c.loop-place.invariant c.in_ok-put_event.ensures (places_more c.args.trace.now.events c.args.places.now c.loop-place.place-index 0 _ (omega arith) c.event.ensures)
 
 pub returns : goal.returns
-returns g c = same_text _ _ (way (g.S.Sink.took c.args.out.now) (g.S.Sink.failures c.args.out.now) c.args.line.now) _ _ (ap (places_text c.args.events.now) (take_all c.loop-place.place-index c.args.places.now (omega arith))) c.loop-place.invariant
+returns g c = same_text _ _ (way (g.S.Sink.took c.args.out.now) (g.S.Sink.failures c.args.out.now) c.args.line.now) _ _ (ap (places_text c.args.trace.now.events) (take_all c.loop-place.place-index c.args.places.now (omega arith))) c.loop-place.invariant

@@ -1,5 +1,4 @@
 use Rattle.std.proofs.Common.{◌≡◌, ◌∙◌, ◌<◌, ℕ, All, Bool, List, true, inr, length, refl, sym, ap, subst}
-use Rattle.round_schedule.specs.declared.event.Event.{Event}
 use Rattle.report.specs.Order.{IsCheckedOrder, order_text}
 use Rattle.report.specs.Pending.{way}
 use Rattle.report.proofs.Orders.{listed_within, on_err, on_ok}
@@ -8,13 +7,12 @@ use Rattle.report.proofs.order.write_order.Goals as goal
 
 pub put_order-requires : goal.put_order-requires
 put_order-requires g c =
-    subst (λ (t : List Event). All (λ p. p < length t) c.deref.result.now) (sym c.events.ensures.events)
-    (subst (λ (places : List ℕ). All (λ p. p < length c.args.trace.now.events) places) (sym c.deref.ensures.value) (listed_within _ _ c.in_ok-order.ensures.lists))
+    subst (λ (places : List ℕ). All (λ p. p < length c.args.trace.now.events) places) (sym c.deref.ensures.value) (listed_within _ _ c.in_ok-order.ensures.lists)
 
 pub returns-clause-ok : goal.returns-clause-ok
 returns-clause-ok g c =
-    let told : order_text c.events.result.now c.deref.result.now c.in_ok-yes.yes ≡ order_text c.args.trace.now.events c.in_ok-order.order.0.items c.in_ok-yes.yes =
-    ap (λ (t : List Event). order_text t c.deref.result.now c.in_ok-yes.yes) c.events.ensures.events ∙ ap (λ (places : List ℕ). order_text c.args.trace.now.events places c.in_ok-yes.yes) c.deref.ensures.value in
+    let told : order_text c.args.trace.now.events c.deref.result.now c.in_ok-yes.yes ≡ order_text c.args.trace.now.events c.in_ok-order.order.0.items c.in_ok-yes.yes =
+    ap (λ (places : List ℕ). order_text c.args.trace.now.events places c.in_ok-yes.yes) c.deref.ensures.value in
     let checked : IsCheckedOrder c.args.trace.now c.in_ok-order.order.0.items c.in_ok-yes.yes = record { by_rounds = c.in_ok-order.ensures.ordered; checked = c.in_ok-yes.ensures } in
     on_ok c.put_order.result _ _ (λ e. (c.in_ok-order.order.0.items, c.in_ok-yes.yes, checked, e))
     (whole_of _ (way (g.S.Sink.took c.args.out.now) (g.S.Sink.failures c.args.out.now) c.new-line.result) (way (g.S.Sink.took c.put_order.new.out) (g.S.Sink.failures c.put_order.new.out) c.put_order.new.line) c.put_order.result c.new-line.ensures
@@ -24,8 +22,8 @@ pub returns-clause-meets : goal.returns-clause-meets
 returns-clause-meets g c = λ budget rounds.
     let meets = c.in_ok-order.ensures.meets _ budget rounds in
     let yes = c.in_ok-yes.ensures.1 meets in
-    let told : order_text c.events.result.now c.deref.result.now c.in_ok-yes.yes ≡ order_text c.args.trace.now.events c.in_ok-order.order.0.items true =
-    ap (λ (t : List Event). order_text t c.deref.result.now c.in_ok-yes.yes) c.events.ensures.events ∙ ap (λ (places : List ℕ). order_text c.args.trace.now.events places c.in_ok-yes.yes) c.deref.ensures.value
+    let told : order_text c.args.trace.now.events c.deref.result.now c.in_ok-yes.yes ≡ order_text c.args.trace.now.events c.in_ok-order.order.0.items true =
+    ap (λ (places : List ℕ). order_text c.args.trace.now.events places c.in_ok-yes.yes) c.deref.ensures.value
     ∙ ap (λ (answer : Bool). order_text c.args.trace.now.events c.in_ok-order.order.0.items answer) yes in
     let checked : IsCheckedOrder c.args.trace.now c.in_ok-order.order.0.items true = record { by_rounds = c.in_ok-order.ensures.ordered; checked = (λ is. meets, λ m. refl) } in
     on_ok c.put_order.result _ _ (λ e. (c.in_ok-order.order.0.items, checked, meets, e))
@@ -34,8 +32,8 @@ returns-clause-meets g c = λ budget rounds.
 
 pub returns-clause-begun : goal.returns-clause-begun
 returns-clause-begun g c =
-    let told : order_text c.events.result.now c.deref.result.now c.in_ok-yes.yes ≡ order_text c.args.trace.now.events c.in_ok-order.order.0.items c.in_ok-yes.yes =
-    ap (λ (t : List Event). order_text t c.deref.result.now c.in_ok-yes.yes) c.events.ensures.events ∙ ap (λ (places : List ℕ). order_text c.args.trace.now.events places c.in_ok-yes.yes) c.deref.ensures.value in
+    let told : order_text c.args.trace.now.events c.deref.result.now c.in_ok-yes.yes ≡ order_text c.args.trace.now.events c.in_ok-order.order.0.items c.in_ok-yes.yes =
+    ap (λ (places : List ℕ). order_text c.args.trace.now.events places c.in_ok-yes.yes) c.deref.ensures.value in
     let checked : IsCheckedOrder c.args.trace.now c.in_ok-order.order.0.items c.in_ok-yes.yes = record { by_rounds = c.in_ok-order.ensures.ordered; checked = c.in_ok-yes.ensures } in
     on_err c.put_order.result _ _ (λ b. inr (c.in_ok-order.order.0.items, c.in_ok-yes.yes, checked, b))
     (begun_of _ (way (g.S.Sink.took c.args.out.now) (g.S.Sink.failures c.args.out.now) c.new-line.result) (way (g.S.Sink.took c.put_order.new.out) (g.S.Sink.failures c.put_order.new.out) c.put_order.new.line) c.put_order.result c.new-line.ensures

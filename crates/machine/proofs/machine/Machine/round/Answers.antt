@@ -1,4 +1,4 @@
-use Rattle.std.proofs.Common.{ℕ, ◌+◌, List, length, refl, sym, ap, ◌∙◌, subst, arith}
+use Rattle.std.proofs.Common.{ℕ, ◌+◌, List, length, refl, sym, ap, ◌∙◌, arith}
 use Rattle.pages.specs.declared.access.Range.{Range}
 use Rattle.round_schedule.specs.Schedule.{State, round_of}
 use Rattle.hart_step.specs.declared.hart.Hart.{Hart}
@@ -6,7 +6,7 @@ use Rattle.hart_step.specs.Console.{ConsoleState}
 use Rattle.hart_step.specs.Words.{words_of}
 use Rattle.round_planner.specs.Quotas.{Planned, quotas_of}
 use Rattle.machine.specs.Machine.{Running, after_round}
-use Rattle.memory_order.specs.Traced.{IsTrace, Laid, opening_at, opening_bytes}
+use Rattle.memory_order.specs.Traced.{Laid, opening_at, opening_bytes}
 use Rattle.machine.proofs.CodeKept.{shows_on}
 use Rattle.machine.proofs.RoundDone.{round_over, whole}
 use Rattle.machine.proofs.SizeKept.{size_kept}
@@ -20,7 +20,7 @@ pub do_round-requires-clause-sound : goal.do_round-requires-clause-sound
 do_round-requires-clause-sound g c = λ lifetimes within.
     let i = c.self.inside in
     next_is_trace i.plan i.rounds i.harts.items i.pages i.reservations i.console.console i.trace.events c.bytes_fit.ensures (omega (arith, c.count-pages.ensures.bytes, c.count-pages.ensures.most)) c.self.invariant.tied c.self.invariant.size
-    c.harts-harts.ensures.in_range (omega (arith, c.budget-budget.ensures.budget, c.budget-budget.ensures.few_budget)) (omega arith) (subst IsTrace c.events-events.ensures.events c.events-events.ensures.sound) c.self.invariant.placed
+    c.harts-harts.ensures.in_range (omega (arith, c.budget-budget.ensures.budget, c.budget-budget.ensures.few_budget)) (omega arith) c.len-events.ensures.sound c.self.invariant.placed
 
 pub stopped_count-requires : goal.stopped_count-requires
 stopped_count-requires g c =
