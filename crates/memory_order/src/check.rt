@@ -70,6 +70,3 @@ fn meets_axioms(
     }
     Ok(pairs_are_atomic(alloc, events, order, &sources)?)
 }
-
-#[cfg(test)]
-mod tests;

@@ -18,6 +18,3 @@ pub use operation::is_operation;
 pub use order::{Order, memory_order};
 pub use round_schedule::{Access, Event, Phase};
 pub use trace::Trace;
-
-#[cfg(test)]
-mod tests;

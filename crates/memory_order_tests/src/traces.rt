@@ -1,4 +1,6 @@
-use super::*;
+//! Traces, and the orders of their memory operations.
+
+use memory_order::{Access, Event, Order, Phase, Trace, is_operation, memory_order};
 use pages::Piece;
 use pages::Width::W8;
 use rv64_decode::{AcquireRelease, FenceMode, FenceSet};

@@ -1,5 +1,7 @@
-use crate::tests::{BOTH, PLAIN, event, full_fence, load, store};
-use crate::{Access, Event, Order, Phase, Trace, check_order, memory_order};
+//! What the checker says of orders of hand-made traces.
+
+use crate::traces::{BOTH, PLAIN, event, full_fence, load, store};
+use memory_order::{Access, Event, Order, Phase, Trace, check_order, memory_order};
 use pages::Piece;
 use pages::Width::{W1, W2, W8};
 use rv64_decode::{AcquireRelease, FenceMode, FenceSet};

@@ -1,0 +1,7 @@
+//! Tests of traces, of the order by rounds, and of the checker, through the public calls of the crate `memory_order`.
+#![tactic(auto)]
+
+#[cfg(test)]
+mod checks;
+#[cfg(test)]
+mod traces;
