@@ -1,80 +1,88 @@
 -- Lists of events in parts.
-use Rattle.std.proofs.Common.{◌≡◌, ℕ, ◌+◌, ◌-◌, ◌*◌, ◌/◌, ◌%◌, ◌^◌, ◌<◌, ◌≤◌, List, [], ◌∷◌, ◌++◌, length, get_or, take, drop, map, refl, sym, ap, ◌∙◌, arith, length-append, length-take, append_assoc, All}
-use Rattle.std.proofs.Math.Seq.{take-add}
-use Rattle.std.proofs.lemmas.List.{append-nil, length-map, get_or-map, get_or_append_left, get_or-append_right, get_or_default, take-append-drop}
-use Rattle.std.specs.List.{flat_map}
-use Rattle.std.proofs.lemmas.List.Folds.{flat_map-map}
+use Rattle.std.proofs.Common.{◌≡◌, ℕ, ◌+◌, ◌-◌, ◌<◌, ◌≤◌, List, [], ◌∷◌, ◌++◌, Bool, true, false, length, get_or, take, drop, sym, ap, ◌∙◌, arith, inl, inr, leb, length-append}
+use Rattle.std.specs.List.Sorted.{IsNonDecreasingBy, IsPartitionPoint, IsPartitionedBy}
+use Rattle.std.specs.Fn.{Called, ComputesKey}
+use denote.Param.Members.{Mut}
+use denote.Ref.{Bor}
+use Rattle.std.proofs.lemmas.List.Sorted.{IsPartitionPoint-from_clause, IsPartitionedBy-leb}
+use Rattle.std.proofs.lemmas.Bool.{cases_lt, leb-false, leb-true}
+use Rattle.std.proofs.lemmas.List.{append-nil, take-append-drop, take-take, take_all, take_more}
 use Rattle.std.proofs.lemmas.List.Concat.{flat_map-append, get_or-flat_map}
-use Rattle.std.proofs.lemmas.List.Elements.{All-append, All-head, All-take}
 use Rattle.round_schedule.specs.declared.event.Event.{Event}
 use Rattle.round_schedule.specs.Positions.{event, no_event}
-use Rattle.round_schedule.proofs.Phases.{All-tail}
-use Rattle.memory_order.specs.Parts.{Part, AreParts, events_in, joined}
+use Rattle.memory_order.specs.declared.part.Part.{Part}
+use Rattle.memory_order.specs.Parts.{AreParts, events_in, joined}
 
-abbrev pub IsWhole : Part → Type 0
-IsWhole p = length (events_in p) ≡ 4096
+-- the events of one part more
+joined_push : (parts : List Part) (p : Part) → joined (parts ++ p ∷ []) ≡ joined parts ++ events_in p
+joined_push parts p = flat_map-append events_in parts (p ∷ []) ∙ ap (λ (u : List Event). joined parts ++ u) (append-nil (events_in p))
 
--- so many events are in the parts
-pub joined_length : (parts : List Part) → All IsWhole parts → length (joined parts) ≡ 4096 * length parts
-joined_length [] h = refl
-joined_length (p ∷ ps) h =
-    let here = All-head IsWhole p ps h in
-    let rest = joined_length ps (All-tail IsWhole p ps h) in
-    omega (arith, length-append (events_in p) (joined ps), here, rest)
+-- the events up to one part more
+joined_more : (parts : List Part) (k : ℕ) (d : Part) → k < length parts → joined (take (k + 1) parts) ≡ joined (take k parts) ++ events_in (get_or parts k d)
+joined_more parts k d l = ap joined (take_more parts k d l) ∙ joined_push (take k parts) (get_or parts k d)
 
-pub events_length : (parts : List Part) (tail : List Event) → All IsWhole parts → length (joined parts ++ tail) ≡ 4096 * length parts + length tail
-events_length parts tail h = omega (arith, length-append (joined parts) tail, joined_length parts h)
+-- more parts have more events
+joined_up_to : (parts : List Part) (i j : ℕ) → i ≤ j → length (joined (take i parts)) ≤ length (joined (take j parts))
+joined_up_to parts i j l =
+    let front = take j parts in
+    let split : joined (take i front) ++ joined (drop i front) ≡ joined front = sym (flat_map-append events_in (take i front) (drop i front)) ∙ ap joined (take-append-drop i front) in
+    let same : length (joined (take i front)) ≡ length (joined (take i parts)) = ap (λ (ps : List Part). length (joined ps)) (take-take i j parts l) in
+    omega (arith, same, ap length split, length-append (joined (take i front)) (joined (drop i front)))
 
--- the event at a place stands in the part of the place's number
-at_part : (parts : List Part) → All IsWhole parts → (i : ℕ) (e : Part) (d : Event) → i < 4096 * length parts →
-    get_or (joined parts) i d ≡ get_or (events_in (get_or parts (i / 4096) e)) (i % 4096) d
-at_part parts h i e d l =
-    let below : i / 4096 < length parts = omega arith in
-    let first : length (take (i / 4096) parts) ≡ i / 4096 = omega (arith, length-take (i / 4096) parts) in
-    let before = joined_length (take (i / 4096) parts) (All-take IsWhole (i / 4096) parts h) in
-    let here = h (i / 4096) e below in
-    let split : length (joined (take (i / 4096) parts)) + i % 4096 ≡ i = omega (arith, before, first) in
-    ap (λ n. get_or (joined parts) n d) (sym split) ∙ get_or-flat_map events_in parts (i / 4096) (i % 4096) e d below (omega (arith, here))
+-- the parts stand in the order of their starts
+starts_rise : (parts : List Part) → AreParts parts → IsNonDecreasingBy (λ p. p.start) parts
+starts_rise parts h i j d l m = omega (arith, h.starts i d (omega (arith, l, m)), h.starts j d m, joined_up_to parts i j l)
 
--- an event of a finished part, and one after them
-pub finished_event : (parts : List Part) (tail : List Event) → All IsWhole parts → (i : ℕ) (e : Part) (d : Event) → i < 4096 * length parts →
-    event (joined parts ++ tail) i ≡ get_or (events_in (get_or parts (i / 4096) e)) (i % 4096) d
-finished_event parts tail h i e d l =
-    let within : i < length (joined parts) = omega (arith, l, joined_length parts h) in
-    let here = h (i / 4096) e (omega arith) in
-    get_or_append_left (joined parts) tail no_event i within ∙ at_part parts h i e no_event l
-    ∙ get_or_default (events_in (get_or parts (i / 4096) e)) (i % 4096) no_event d (omega (arith, here))
+-- so many parts start at a place or before it
+abbrev pub AreBegun : List Part → ℕ → ℕ → Type 0
+AreBegun parts i n = IsPartitionPoint (λ p. leb p.start i ≡ true) (λ p. leb p.start i ≡ false) parts n
 
-pub tail_event : (parts : List Part) (tail : List Event) → All IsWhole parts → (i : ℕ) (d : Event) → 4096 * length parts ≤ i → i < length (joined parts ++ tail) →
-    event (joined parts ++ tail) i ≡ get_or tail (i - 4096 * length parts) d
-tail_event parts tail h i d l m =
-    get_or-append_right (joined parts) tail (4096 * length parts) i no_event (joined_length parts h) l
-    ∙ get_or_default tail (i - 4096 * length parts) no_event d (omega (arith, l, m, events_length parts tail h))
+-- what `partition_point` says, where each call compares a part's start
+pub begun : {F : Type 0} {g : Mut F (Bor Part × Unit {0}) Bool} {f : F} (parts : List Part) (i n : ℕ) → AreParts parts →
+    ((q : Part → Bool) → ComputesKey g q f → IsPartitionedBy q parts → IsPartitionPoint (λ y. q y ≡ true) (λ y. q y ≡ false) parts n) →
+    ((a : Bor Part × Unit {0}) (r : Bool) (f' : F) → Called g f a r f' → (r ≡ leb a.0.now.start i) × (f' ≡ f)) → AreBegun parts i n
+begun parts i n h clause calls = IsPartitionPoint-from_clause (λ p. leb p.start i) parts n clause (IsPartitionedBy-leb (λ p. p.start) parts i (starts_rise parts h)) calls
 
--- one more part of a list of events
-pub joined_more : (parts : List Part) (p : Part) (t : List Event) (n : ℕ) → joined parts ≡ take n t → events_in p ≡ take 4096 (drop n t) → joined (parts ++ p ∷ []) ≡ take (n + 4096) t
-joined_more parts p t n e f =
-    flat_map-append events_in parts (p ∷ []) ∙ ap (λ (u : List Event). u ++ (events_in p ++ [])) e ∙ ap (λ (u : List Event). take n t ++ u) (append-nil (events_in p) ∙ f) ∙ sym (take-add n 4096 t)
+-- a place in the parts is not before the first of them
+pub some_begun : (parts : List Part) (i n : ℕ) → AreParts parts → i < length (joined parts) → AreBegun parts i n → 0 < n
+some_begun [] i n h l b = omega (arith, l)
+some_begun (p ∷ ps) i n h l b = elim (cases_lt 0 n) [ inl k ↦ k | inr k ↦ omega (arith, leb-false p.start i (b.1 0 p k (omega arith)), h.starts 0 p (omega arith)) ]
 
--- the parts of the first events, moved to the finished ones
-pub parts_moved : (finished parts : List Part) (tail rest : List Event) (n : ℕ) → joined parts ≡ take n tail → rest ≡ drop n tail → joined (finished ++ parts) ++ rest ≡ joined finished ++ tail
-parts_moved finished parts tail rest n e f =
-    ap (λ (u : List Event). u ++ rest) (flat_map-append events_in finished parts) ∙ append_assoc (joined finished) (joined parts) rest
-    ∙ ap (λ (u : List Event). joined finished ++ u) (ap (λ (u : List Event). u ++ rest) e ∙ ap (λ (u : List Event). take n tail ++ u) f ∙ take-append-drop n tail)
+-- p is the last of the first n parts, and has the event at place i
+pub record IsWith (parts : List Part) (i n : ℕ) (p : Part) : Type 0 where
+  pub start : p.start ≤ i
+  pub within : i - p.start < length (events_in p)
+  pub same : event (events_in p) (i - p.start) ≡ event (joined parts) i
 
-pub parts_after : (finished parts : List Part) → AreParts finished → All IsWhole parts → length finished + length parts ≤ 2 ^ 40 → AreParts (finished ++ parts)
-parts_after finished parts h w l = record { whole = All-append IsWhole finished parts h.whole w; few = omega (arith, l, length-append finished parts) }
+pub last_begun : (parts : List Part) (i n : ℕ) (e : Part) → AreParts parts → i < length (joined parts) → n ≤ length parts → AreBegun parts i n → IsWith parts i n (get_or parts (n - 1) e)
+last_begun parts i n e h l m b = record { start = start; within = within; same = same }
+  where
+    above : i < length (joined (take n parts))
+    above = elim (cases_lt n (length parts)) [
+      | inl k ↦ omega (arith, leb-false (get_or parts n e).start i (b.1 n e (omega arith) k), h.starts n e k)
+      | inr k ↦ omega (arith, l, ap (λ (ps : List Part). length (joined ps)) (take_all n parts k))
+    ]
 
--- other owners of the same parts
-pub same_joined : (parts owners : List Part) → map events_in owners ≡ map events_in parts → joined owners ≡ joined parts
-same_joined parts owners e = sym (flat_map-map (λ (t : List Event). t) events_in owners) ∙ ap (λ (ts : List (List Event)). flat_map (λ (t : List Event). t) ts) e ∙ flat_map-map (λ (t : List Event). t) events_in parts
+    some : 0 < n
+    some = some_begun parts i n h l b
 
-pub same_parts : (parts owners : List Part) → map events_in owners ≡ map events_in parts → AreParts parts → AreParts owners
-same_parts parts owners e h =
-    let same : length owners ≡ length parts = sym (length-map owners events_in) ∙ ap length e ∙ length-map parts events_in in
-    record {
-      whole = λ k d l.
-          let there : length (events_in (get_or parts k d)) ≡ 4096 = h.whole k d (omega (arith, l, same)) in
-          ap length (sym (get_or-map events_in owners k d [] l) ∙ ap (λ (ts : List (List Event)). get_or ts k []) e ∙ get_or-map events_in parts k d [] (omega (arith, l, same))) ∙ there;
-      few = omega (arith, h.few, same);
-    }
+    p : Part
+    p = get_or parts (n - 1) e
+
+    start : p.start ≤ i
+    start = leb-true p.start i (b.0 (n - 1) e (omega arith) (omega (arith, some)))
+
+    first : p.start ≡ length (joined (take (n - 1) parts))
+    first = h.starts (n - 1) e (omega (arith, some))
+
+    within : i - p.start < length (events_in p)
+    within =
+        let next : n - 1 + 1 ≡ n = omega (arith, some) in
+        let more = joined_more parts (n - 1) e (omega (arith, some)) in
+        let size = ap length more ∙ length-append (joined (take (n - 1) parts)) (events_in p) in
+        omega (arith, above, first, start, size, ap (λ (j : ℕ). length (joined (take j parts))) next)
+
+    same : event (events_in p) (i - p.start) ≡ event (joined parts) i
+    same =
+        let place : length (joined (take (n - 1) parts)) + (i - p.start) ≡ i = omega (arith, first, start) in
+        sym (get_or-flat_map events_in parts (n - 1) (i - p.start) e no_event (omega (arith, some)) within) ∙ ap (event (joined parts)) place

@@ -1,27 +1,31 @@
 -- Lists of events in parts.
-use Rattle.std.specs.Prelude.{◌≡◌, ℕ, ◌≤◌, ◌^◌, List, length, All, Vec}
-use Rattle.std.specs.Global.{Global}
+use Rattle.std.specs.Prelude.{◌≡◌, ℕ, ◌<◌, ◌≤◌, ◌^◌, List, length, take, slice_index_or, All}
 use Rattle.std.specs.List.{flat_map}
-use Rattle.std.specs.declared.sync.Arc.{Arc}
 use Rattle.round_schedule.specs.declared.event.Event.{Event}
+use Rattle.memory_order.specs.declared.part.Part.{Part}
 
 -- the events, and the room that is reserved for more
 pub record Listing : Type 0 where
   pub events : List Event
   pub room : ℕ
 
--- a part that has several owners
-abbrev pub Part : Type 0
-Part = Arc (Vec Event Global) Global
-
 abbrev pub events_in : Part → List Event
-events_in p = p.value.items
+events_in p = p.events.value.items
 
 -- the events of finished parts, one after another
 abbrev pub joined : List Part → List Event
 joined parts = flat_map events_in parts
 
--- finished parts have as many events each, and are few enough that the number of events is one of 64 bits
+abbrev pub IsLong : Part → Type 0
+IsLong p = 4096 ≤ length (events_in p)
+
+-- each finished part is long, and starts where those before it end
 pub record AreParts (parts : List Part) : Type 0 where
-  pub whole : All (λ (p : Part). length (events_in p) ≡ 4096) parts
-  pub few : length parts ≤ 2 ^ 40
+  pub long : All IsLong parts
+  pub starts : (k : ℕ) (d : Part) → k < length parts → (slice_index_or parts k d).start ≡ length (joined (take k parts))
+
+-- the finished parts have so many events, few enough that the number of all events is one of 64 bits
+pub record AreCounted (parts : List Part) (count : ℕ) : Type 0 where
+  pub stand : AreParts parts
+  pub counted : count ≡ length (joined parts)
+  pub few : count ≤ 2 ^ 62

@@ -1,37 +1,42 @@
 //! A list of events in parts.
 
-ghost use Rattle.std.specs.Prelude.{◌≡◌, ◌+◌, ◌*◌, ◌<◌, ◌≤◌, ◌++◌, [], ◌∷◌, All, IfOk, OnOk, length, map, take};
+ghost use Rattle.std.specs.Prelude.{◌≡◌, ◌+◌, ◌<◌, ◌≤◌, ◌++◌, [], ◌∷◌, IfOk, OnErr, OnOk, length, vec_capacity, vec_len};
 ghost use Rattle.round_schedule.specs.Positions.{event};
-ghost use Rattle.memory_order.specs.Parts.{events_in, joined};
+ghost use Rattle.memory_order.specs.Parts.{AreParts, events_in, joined};
 
+use crate::events::Events;
+use crate::part::{Part, part_with};
 use pages::OutOfMemory;
 use round_schedule::Event;
 use std::alloc::Global;
 use std::marker::Model;
+use std::mem;
 use std::sync::Arc;
 
-/// How many events a finished part has.
+/// How many events a finished part has at least.
 const PART: usize = 4096;
 
-/// How many parts may be finished, so that the number of events is a `usize`.
-const MOST_PARTS: usize = 1 << 40;
+/// How many events may be finished, so that the number of all is a `usize`.
+const MOST_FINISHED: usize = 1 << 62;
 
-/// A list of events: finished parts of equal length, which its copies share, and the events after them.
+/// A list of events: finished parts, which its copies share, and the events after them.
 #[derive(Drop)]
 pub(crate) struct EventList {
-    finished: Vec<Arc<Vec<Event>>>,
+    parts: Vec<Part>,
+    /// How many events the parts have.
+    finished: usize,
     tail: Vec<Event>,
 }
 
 impl Model for EventList {
     ghost use Rattle.std.specs.Prelude.{◌-◌, ◌++◌, vec_len, vec_capacity};
-    ghost use Rattle.memory_order.specs.Parts.{AreParts, Listing, joined};
+    ghost use Rattle.memory_order.specs.Parts.{AreCounted, Listing, joined};
 
     ghost Value = { Listing };
 
-    ghost view = { λ l. record { events = joined l.finished.items ++ l.tail.items; room = vec_capacity l.tail - vec_len l.tail } };
+    ghost view = { λ l. record { events = joined l.parts.items ++ l.tail.items; room = vec_capacity l.tail - vec_len l.tail } };
 
-    ghost invariant = { λ l. AreParts l.finished.items };
+    ghost invariant = { λ l. AreCounted l.parts.items l.finished };
 }
 
 impl EventList {
@@ -39,10 +44,7 @@ impl EventList {
     pub(crate) fn new(alloc: Global) -> EventList
         ensures { result.events ≡ [] }
     {
-        EventList {
-            finished: Vec::new(alloc),
-            tail: Vec::new(alloc),
-        }
+        EventList::of(Vec::new(alloc))
     }
 
     /// The list of these events. This takes no memory.
@@ -50,7 +52,8 @@ impl EventList {
         ensures { result.events ≡ events.items }
     {
         EventList {
-            finished: Vec::new(*events.allocator()),
+            parts: Vec::new(*events.allocator()),
+            finished: 0,
             tail: events,
         }
     }
@@ -59,7 +62,7 @@ impl EventList {
     pub(crate) fn len(&self) -> usize
         ensures { result ≡ length self.now.events }
     {
-        PART * self.finished.len() + self.tail.len()
+        self.finished + self.tail.len()
     }
 
     /// The event at a place.
@@ -67,13 +70,19 @@ impl EventList {
         requires { place < length self.now.events }
         ensures { result.now ≡ event self.now.events place }
     {
-        let finished = PART * self.finished.len();
-        if place < finished {
-            let part: &Vec<Event> = &self.finished[place / PART];
-            &part[place % PART]
+        if place < self.finished {
+            let part = part_with(&self.parts, place);
+            &part.events()[place - part.start]
         } else {
-            &self.tail[place - finished]
+            &self.tail[place - self.finished]
         }
+    }
+
+    /// The events in order.
+    pub(crate) fn iter(&self) -> Events<'_>
+        ensures { result ≡ self.now.events }
+    {
+        Events::new(&self.parts, &self.tail)
     }
 
     /// The events as one vector.
@@ -81,41 +90,33 @@ impl EventList {
         ensures { IfOk result (λ v. v.items ≡ self.now.events) }
     {
         let mut events = Vec::with_capacity(alloc, self.len())?;
-        for part in &self.finished {
-            events.extend_from_slice(part.as_slice())?;
+        for part in &self.parts {
+            events.extend_from_slice(part.events())?;
         }
         events.extend_from_slice(&self.tail)?;
         Ok(events)
     }
 
-    /// Makes room for so many further events. Where a part or more of events stand after the finished parts, what is whole
-    /// of them is finished first.
+    /// Makes room for so many further events. Where a part or more of events stand after the finished parts, they are
+    /// finished first, as one part.
     pub(crate) fn reserve(&mut self, n: usize) -> Result<(), OutOfMemory>
         ensures events { self.new.events ≡ self.old.events }
         ensures ok { OnOk result (n ≤ self.new.room) }
     {
-        if self.tail.len() >= PART {
-            self.finish_parts()?;
+        let count = self.tail.len();
+        if count < PART {
+            return match self.tail.reserve(n) {
+                Ok(()) => Ok(()),
+                Err(_) => Err(OutOfMemory),
+            };
         }
-        match self.tail.reserve(n) {
-            Ok(()) => Ok(()),
-            Err(_) => Err(OutOfMemory),
-        }
-    }
-
-    /// Moves what is whole of the tail to the finished parts.
-    fn finish_parts(&mut self) -> Result<(), OutOfMemory>
-        ensures { self.new.events ≡ self.old.events }
-    {
-        let alloc = *self.tail.allocator();
-        let count = self.tail.len() / PART;
-        if count > MOST_PARTS - self.finished.len() {
+        if count > MOST_FINISHED - self.finished {
             return Err(OutOfMemory);
         }
-        let rest = Vec::from_slice(alloc, &self.tail[PART * count..])?;
-        let mut parts = parts_of(alloc, &self.tail, count)?;
-        self.finished.append(&mut parts)?;
-        self.tail = rest;
+        self.parts.reserve(1)?;
+        let part = finish(self.finished, &mut self.tail, n)?;
+        self.parts.push_reserved(part);
+        self.finished += count;
         Ok(())
     }
 
@@ -125,7 +126,7 @@ impl EventList {
         ensures events { self.new.events ≡ self.old.events ++ event ∷ [] }
         ensures room { self.old.room ≤ self.new.room + 1 }
     {
-        self.tail.push(event).unwrap();
+        self.tail.push_reserved(event);
     }
 
     /// An equal list, which shares the finished parts.
@@ -133,43 +134,43 @@ impl EventList {
         ensures { IfOk result (λ l. l.events ≡ self.now.events) }
     {
         Ok(EventList {
-            finished: owners_of(alloc, &self.finished)?,
+            parts: copies_of(alloc, &self.parts)?,
+            finished: self.finished,
             tail: Vec::from_slice(alloc, &self.tail)?,
         })
     }
 }
 
-/// The first so many whole parts of a list of events.
-fn parts_of(
-    alloc: Global,
-    events: &[Event],
-    count: usize,
-) -> Result<Vec<Arc<Vec<Event>>>, OutOfMemory>
-    requires { 4096 * count ≤ length events.now }
-    ensures events { IfOk result (λ v. joined v.items ≡ take (4096 * count) events.now) }
-    ensures whole { IfOk result (λ v. All (λ p. length (events_in p) ≡ 4096) v.items) }
-    ensures count { IfOk result (λ v. length v.items ≡ count) }
+/// Moves a tail into a part, and leaves an empty one with room for so many events. The events stay where they are.
+///
+/// The room is for a part more than that, so that a tail short of a part still has it.
+fn finish(start: usize, tail: &mut Vec<Event>, n: usize) -> Result<Part, OutOfMemory>
+    ensures start { IfOk result (λ p. p.start ≡ start) }
+    ensures events { IfOk result (λ p. events_in p ≡ tail.old.items) }
+    ensures emptied { OnOk result (tail.new.items ≡ []) }
+    ensures room { OnOk result (n + vec_len tail.new ≤ vec_capacity tail.new) }
+    ensures err { OnErr result (tail.new.items ≡ tail.old.items) }
 {
-    let mut parts = Vec::with_capacity(alloc, count)?;
-    for i in 0..count {
-        parts.push(part_of(alloc, &events[PART * i..PART * (i + 1)])?)?;
+    let alloc = *tail.allocator();
+    let empty = Vec::with_capacity(alloc, n.saturating_add(PART))?;
+    match Arc::new(alloc, mem::replace(tail, empty)) {
+        Ok(events) => Ok(Part { start, events }),
+        Err(refused) => {
+            *tail = refused.value;
+            Err(OutOfMemory)
+        }
     }
-    Ok(parts)
-}
-
-fn part_of(alloc: Global, events: &[Event]) -> Result<Arc<Vec<Event>>, OutOfMemory>
-    ensures { IfOk result (λ p. events_in p ≡ events.now) }
-{
-    Ok(Arc::new(alloc, Vec::from_slice(alloc, events)?)?)
 }
 
 /// Further owners of parts.
-fn owners_of(alloc: Global, parts: &[Arc<Vec<Event>>]) -> Result<Vec<Arc<Vec<Event>>>, OutOfMemory>
-    ensures { IfOk result (λ v. map events_in v.items ≡ map events_in parts.now) }
+fn copies_of(alloc: Global, parts: &[Part]) -> Result<Vec<Part>, OutOfMemory>
+    requires { AreParts parts.now }
+    ensures parts { IfOk result (λ v. AreParts v.items) }
+    ensures events { IfOk result (λ v. joined v.items ≡ joined parts.now) }
 {
-    let mut owners = Vec::with_capacity(alloc, parts.len())?;
+    let mut copies = Vec::with_capacity(alloc, parts.len())?;
     for part in parts {
-        owners.push(part.clone()?)?;
+        copies.push(part.copy()?)?;
     }
-    Ok(owners)
+    Ok(copies)
 }

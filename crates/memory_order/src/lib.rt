@@ -4,15 +4,18 @@
 mod check;
 mod checking;
 mod event_list;
+mod events;
 mod form;
 mod laws;
 mod opening;
 mod operation;
 mod order;
+mod part;
 mod rising;
 mod trace;
 
 pub use check::check_order;
+pub use events::Events;
 pub use laws::{orders_of_runs_meet_rvwmo, runs_leave_traces};
 pub use operation::is_operation;
 pub use order::{Order, memory_order};

@@ -5,6 +5,7 @@ ghost use Rattle.round_schedule.specs.Positions.{event};
 ghost use Rattle.memory_order.specs.Traced.{HasForm, IsTrace, StandsAbove, laid, opening_at};
 
 use crate::event_list::EventList;
+use crate::events::Events;
 use crate::form::all_have_forms;
 use crate::opening::Opening;
 use crate::rising::places_rise;
@@ -128,6 +129,13 @@ impl Trace {
         ensures { result.now ≡ event self.now.events place }
     {
         self.events.get(place)
+    }
+
+    /// The events so far, in order.
+    pub fn events(&self) -> Events<'_>
+        ensures { result ≡ self.now.events }
+    {
+        self.events.iter()
     }
 
     /// The events so far, as one vector.

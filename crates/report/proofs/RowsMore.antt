@@ -112,11 +112,6 @@ pub events-append : (xs ys : List Event) → events_text (xs ++ ys) ≡ events_t
 events-append [] ys = refl
 events-append (x ∷ xs) ys = ap (λ (z : List ℕ). event_text x ++ z) (events-append xs ys) ∙ sym (append_assoc (event_text x) (events_text xs) (events_text ys))
 
-pub events_more : (xs : List Event) (i : ℕ) (e : Event) → i < length xs → e ≡ get_or xs i e → events_text (take (i + 1) xs) ≡ events_text (take i xs) ++ event_text e
-events_more xs i e l q =
-    ap events_text (take_more xs i e l) ∙ events-append (take i xs) (get_or xs i e ∷ []) ∙ ap (λ (z : List ℕ). events_text (take i xs) ++ z) (append-nil (event_text (get_or xs i e)))
-    ∙ ap (λ (z : Event). events_text (take i xs) ++ event_text z) (sym q)
-
 harts-append : (xs ys : List Hart) (k : ℕ) → harts_text k (xs ++ ys) ≡ harts_text k xs ++ harts_text (k + length xs) ys
 harts-append [] ys k = let none : k ≡ k + 0 = omega arith in ap (λ (n : ℕ). harts_text n ys) none
 harts-append (x ∷ xs) ys k =
@@ -133,10 +128,6 @@ harts_more xs i h l q =
     ∙ ap (λ (z : Hart). harts_text 0 (take i xs) ++ hart_text i z) (sym q)
 
 -- the rest of a loop's text
-
-pub events_left : (xs : List Event) (i : ℕ) (e : Event) → i < length xs → e ≡ get_or xs i e → events_text xs ≡ (events_text (take i xs) ++ event_text e) ++ events_text (drop (i + 1) xs)
-events_left xs i e l q =
-    ap events_text (sym (take-append-drop (i + 1) xs)) ∙ events-append (take (i + 1) xs) (drop (i + 1) xs) ∙ ap (λ (z : List ℕ). z ++ events_text (drop (i + 1) xs)) (events_more xs i e l q)
 
 pub harts_left : (xs : List Hart) (i : ℕ) (h : Hart) → i < length xs → h ≡ get_or xs i h → harts_text 0 xs ≡ (harts_text 0 (take i xs) ++ hart_text i h) ++ harts_text (0 + length (take (i + 1) xs)) (drop (i + 1) xs)
 harts_left xs i h l q =

@@ -50,8 +50,8 @@ pub(crate) fn put_event<S: Sink>(
 fn put_events<S: Sink>(out: &mut S, line: &mut Line, trace: &Trace) -> Result<(), RunError>
     ensures { Wrote (events_text trace.now.events) (way (S.took out.old) (S.failures out.old) line.old) result (way (S.took out.new) (S.failures out.new) line.new) }
 {
-    for place in 0..trace.len() {
-        put_event(out, line, trace.event(place))?;
+    for event in trace.events() {
+        put_event(out, line, event)?;
     }
     Ok(())
 }
