@@ -1,5 +1,9 @@
 //! Traces, and the orders of their memory operations.
 
+ghost use Rattle.std.specs.Prelude.{◌≡◌, ◌<◌, ◌≤◌, All};
+ghost use Rattle.round_schedule.specs.Accesses.{place_of};
+ghost use Rattle.memory_order.specs.Traced.{HasForm};
+
 use memory_order::{Access, Event, Order, Phase, Trace, is_operation, memory_order};
 use pages::Piece;
 use pages::Width::W8;
@@ -16,7 +20,9 @@ pub(crate) const BOTH: FenceSet = FenceSet {
     writes: true,
 };
 
-pub(crate) fn event(round: u32, hart: u8, phase: Phase, access: Access) -> Event {
+pub(crate) fn event(round: u32, hart: u8, phase: Phase, access: Access) -> Event
+    ensures { result.access ≡ access }
+{
     Event {
         access,
         round,
@@ -178,24 +184,73 @@ fn a_trace_grows_and_is_copied(rt: HostRuntime) {
     assert!(rt; copy.opening_byte(0x102) == 0);
 }
 
+// A load of hart 0 at a place.
+fn load_at(place: u64) -> Event
+    ensures formed { HasForm result }
+    ensures place { place_of result.access ≡ place }
+{
+    let access = Access::Load {
+        width: W8,
+        place,
+        address: 0x100,
+        read: 0,
+    };
+    event(1, 0, Phase::Parallel, access)
+}
+
+// Adds the loads at these places, after the reserve of room for them.
+fn add_loads(trace: &mut Trace, from: u64, to: u64) -> bool
+    requires rising { from ≤ to }
+    requires below { All (λ e. place_of e.access < from) trace.old.events }
+    ensures { All (λ e. place_of e.access < to) trace.new.events }
+{
+    if trace.reserve((to - from) as usize).is_err() {
+        return false;
+    }
+    for place in from..to {
+        trace.push(load_at(place));
+    }
+    true
+}
+
+// Whether a trace has the loads at the places below this one, in each of the ways to ask for its events.
+fn has_loads(alloc: Global, trace: &Trace, end: usize) -> bool {
+    let Ok(gathered) = trace.to_vec(alloc) else {
+        return false;
+    };
+    if trace.len() != end || gathered.len() != end {
+        return false;
+    }
+    let mut events = trace.events();
+    for place in 0..end {
+        let expected = load_at(place as u64);
+        if *trace.event(place) != expected || gathered[place] != expected {
+            return false;
+        }
+        if events.next().copied() != Some(expected) {
+            return false;
+        }
+    }
+    events.next().is_none()
+}
+
+// The reserves finish parts that end at 5,000, 18,000 and 23,001.
 #[test]
 fn copies_of_a_long_trace_have_its_events(rt: HostRuntime) {
     let alloc = rt.alloc();
-    let mut events = Vec::new(alloc);
-    for place in 0..10_000 {
-        let access = load(place, 0x100, 0);
-        events
-            .push(event(1, 0, Phase::Parallel, access))
-            .expect(&rt, "memory");
-    }
-    let mut trace = Trace::of(Vec::new(alloc), events).expect(&rt, "a trace");
-    trace.reserve(1).expect(&rt, "memory");
-    let copy = trace.copy(alloc).expect(&rt, "memory");
-    let gathered = copy.to_vec(alloc).expect(&rt, "memory");
-    assert!(rt; copy.len() == 10_000 && gathered.len() == 10_000);
-    for place in 0..10_000 {
-        let access = load(place as u64, 0x100, 0);
-        let expected = event(1, 0, Phase::Parallel, access);
-        assert!(rt; *copy.event(place) == expected && gathered[place] == expected);
-    }
+    let mut trace = Trace::new(alloc, Vec::new(alloc));
+    assert!(rt; add_loads(&mut trace, 0, 5_000));
+    assert!(rt; add_loads(&mut trace, 5_000, 8_000));
+    let mut early = trace.copy(alloc).expect(&rt, "memory");
+    assert!(rt; add_loads(&mut trace, 8_000, 18_000));
+    assert!(rt; add_loads(&mut trace, 18_000, 18_001));
+    let late = trace.copy(alloc).expect(&rt, "memory");
+    assert!(rt; add_loads(&mut trace, 18_001, 23_001));
+    assert!(rt; add_loads(&mut trace, 23_001, 25_001));
+    assert!(rt; has_loads(alloc, &early, 8_000));
+    assert!(rt; has_loads(alloc, &late, 18_001));
+    assert!(rt; has_loads(alloc, &trace, 25_001));
+    assert!(rt; add_loads(&mut early, 8_000, 8_002));
+    assert!(rt; has_loads(alloc, &early, 8_002));
+    assert!(rt; has_loads(alloc, &trace, 25_001));
 }
