@@ -78,7 +78,7 @@ impl Machine {
     /// Does so many rounds, on 1 to 16 workers. It may wait.
     ///
     /// How many workers there are makes no difference to the machine. A round in which there is little to do stays on the
-    /// calling thread.
+    /// calling thread, and so does a commit of few stores.
     ///
     /// # Errors
     ///
