@@ -1,8 +1,7 @@
 -- The commit of all buffers at once is the commit of the rounds that they are of.
-use Rattle.std.proofs.Common.{◌≡◌, ℕ, suc, ◌<◌, ◌==◌, ◌||◌, Bool, false, cond, List, [], ◌∷◌, ◌++◌, All, length, map, take, Option, refl, sym, ap, ap₂, ◌∙◌, subst, arith}
+use Rattle.std.proofs.Common.{◌≡◌, ℕ, suc, ◌<◌, ◌==◌, ◌||◌, Bool, false, cond, List, [], ◌∷◌, All, length, map, take, Option, refl, sym, ap, ap₂, ◌∙◌, arith}
 use Rattle.std.proofs.lemmas.List.{take_all}
 use Rattle.std.proofs.lemmas.List.Elements.{All-cons}
-use Rattle.pages.specs.declared.access.Store.{Store}
 use Rattle.pages.specs.Memory.{Memory, after, covered, stored}
 use Rattle.pages.specs.Paged.{Paged}
 use Rattle.pages.specs.StoreLaws.{after-append}
@@ -10,7 +9,7 @@ use Rattle.round_schedule.specs.declared.span.Span.{Span}
 use Rattle.round_schedule.specs.Held.{unless}
 use Rattle.round_schedule.specs.Schedule.{HartRound, all_stores}
 use Rattle.round_schedule.specs.Tables.{covered_by_others, entry}
-use Rattle.store_buffer.specs.Covered.{stores_of, with_stores}
+use Rattle.store_buffer.specs.Covered.{stores_of}
 use Rattle.store_buffer.specs.CoveredLaws.{after_with_stores, covered-with_stores}
 use Rattle.commit_phase.specs.Commit.{Committed, IsWritable, all_buffered, covered_from}
 use Rattle.commit_phase.proofs.Breaking.{unless_same}

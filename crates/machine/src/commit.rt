@@ -12,10 +12,7 @@ use reservations::Reservations;
 use std::thread::Threads;
 use store_buffer::StoreBuffer;
 
-/// How many lines of 64 bytes are worth starting threads for.
-const MANY_LINES: usize = 16_384;
-
-/// Commits the stores of all harts, in hart order. Where they are many, each worker of the crew writes those of a part of
+/// Commits the stores of all harts, in hart order. Where the crew shares the commit, each worker writes those of a part of
 /// memory. Takes no memory.
 pub fn commit<G, R: Threads + Sync>(
     crew: &Crew<'_, G, R>,
@@ -32,11 +29,16 @@ pub fn commit<G, R: Threads + Sync>(
     ensures size { length table.new ≡ length table.old }
     ensures committed { (rs : List (HartRound Hart)) → AreOutcomes pages.old.memory rs outcomes.now → Committed rs pages.old pages.new table.old table.new }
 {
-    if crew.workers > 1 && line_count(outcomes) >= MANY_LINES {
+    if crew.workers > 1 && stores_lines(outcomes, crew.least_lines) {
         commit_on(crew.rt, pages, table, outcomes, crew.workers, &OpenShards);
     } else {
         commit_in_turn(pages, table, outcomes);
     }
+}
+
+/// Whether the harts stored to so many lines at least, each hart's counted.
+fn stores_lines(outcomes: &[Outcome], least: usize) -> bool {
+    least == 0 || line_count(outcomes) >= least
 }
 
 /// How many lines the harts stored to, each hart's counted.

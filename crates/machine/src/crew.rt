@@ -1,4 +1,4 @@
-/// Who does the rounds of the harts: so many workers, and what is told of each hart.
+/// Who does the rounds of the harts and commits their stores: so many workers, and what is told of each hart.
 #[derive(Drop)]
 pub struct Crew<'a, G, R> {
     /// What starts the workers' threads and waits for them.
@@ -7,4 +7,6 @@ pub struct Crew<'a, G, R> {
     pub workers: u32,
     /// What the workers call around the round of each hart.
     pub gate: &'a G,
+    /// The workers share a commit in which the harts stored to at least so many lines of 64 bytes: with 0, each commit.
+    pub least_lines: usize,
 }

@@ -10,6 +10,7 @@ use crate::machine::Machine;
 use crate::round::do_round;
 use hart_step::Hart;
 use host_io::RunError;
+use pages::OutOfMemory;
 use parallel_phase::{Gate, Open};
 use std::sync::Wait;
 use std::thread::Threads;
@@ -19,6 +20,9 @@ pub(crate) const MOST_WORKERS: u32 = 16;
 
 /// How many instructions are worth a worker: starting its thread takes about as long as they do.
 const WORTH_A_WORKER: u64 = 16_384;
+
+/// How many stored lines of 64 bytes are worth starting threads for at the commit.
+const MANY_LINES: usize = 16_384;
 
 /// What a round was.
 #[derive(Clone, Copy, Debug, PartialEq, Eq)]
@@ -32,7 +36,8 @@ pub struct RoundNote {
 }
 
 impl Machine {
-    /// Does one round, on 1 to 16 workers, which call the gate around the round of each hart. It may wait.
+    /// Does one round, on 1 to 16 workers, which call the gate around the round of each hart, and then share the commit.
+    /// It may wait.
     ///
     /// How many workers there are makes no difference to the machine. Where all harts have stopped, no thread is started.
     ///
@@ -62,43 +67,18 @@ impl Machine {
         if self.rounds == u32::MAX {
             return Err(RunError::RoundsExhausted);
         }
-        self.pages.bytes_fit();
-        // The types keep: at most 64 harts with quotas in range, a budget of at most 1,000, at most 16,384 pages, and
-        // events that are a trace.
-        let _harts = self.plan.harts();
-        let _budget = self.plan.budget();
-        let _pages = self.pages.count();
-        let _events = self.trace.len();
-        let running = self.harts.iter().any(|hart| hart.stop.is_none());
-        let crew = Crew {
+        Ok(self.round_by(Crew {
             rt,
-            workers: if running { workers } else { 1 },
+            workers,
             gate,
-        };
-        let waited = do_round(
-            &crew,
-            &mut self.pages,
-            &self.table,
-            &mut self.reservations,
-            &mut self.console,
-            &mut self.log,
-            &mut self.trace,
-            &mut self.harts,
-            &self.plan,
-            self.rounds,
-        )?;
-        self.rounds += 1;
-        Ok(RoundNote {
-            round: self.rounds,
-            waited,
-            stopped: stopped_count(&self.harts),
-        })
+            least_lines: 0,
+        })?)
     }
 
     /// Does so many rounds, on 1 to 16 workers. It may wait.
     ///
     /// How many workers there are makes no difference to the machine. A round in which there is little to do stays on the
-    /// calling thread.
+    /// calling thread, and so does a commit of few stores.
     ///
     /// # Errors
     ///
@@ -128,10 +108,60 @@ impl Machine {
         let mut work = self.most_work();
         for done in 0..rounds {
             let before = self.instructions_done();
-            self.round(rt, workers_for(work, workers), &Open)?;
+            self.round_by(Crew {
+                rt,
+                workers: workers_for(work, workers),
+                gate: &Open,
+                least_lines: MANY_LINES,
+            })?;
             work = self.instructions_done().wrapping_sub(before);
         }
         Ok(())
+    }
+
+    /// Does one round by a crew. Where all harts have stopped, the calling thread does it alone.
+    fn round_by<G: Gate + Sync, R: Threads + Wait + Sync>(
+        &mut self,
+        mut crew: Crew<'_, G, R>,
+    ) -> Result<RoundNote, OutOfMemory>
+        requires workers { (1 ≤ crew.workers) × (crew.workers ≤ 16) }
+        requires rounds { self.old.state.rounds + 1 < 2 ^ 32 }
+        ensures ok { OnOk result (self.new ≡ after_round self.old) }
+        ensures round { IfOk result (λ n. n.round ≡ self.new.state.rounds) }
+        ensures one_more { OnOk result (self.new.state.rounds ≡ self.old.state.rounds + 1) }
+        ensures waited { IfOk result (λ n. n.waited ≡ count_waiting (hart_rounds (words_of self.old.code) self.old.state.bytes (quotas_of self.old.plan self.old.state.rounds) self.old.state.harts)) }
+        ensures stopped { IfOk result (λ n. n.stopped ≡ count_stopped self.new.state.harts) }
+        ensures err { OnErr result (self.new ≡ self.old) }
+    {
+        self.pages.bytes_fit();
+        // The types keep: at most 64 harts with quotas in range, a budget of at most 1,000, at most 16,384 pages, and
+        // events that are a trace.
+        let _harts = self.plan.harts();
+        let _budget = self.plan.budget();
+        let _pages = self.pages.count();
+        let _events = self.trace.len();
+        let running = self.harts.iter().any(|hart| hart.stop.is_none());
+        if !running {
+            crew.workers = 1;
+        }
+        let waited = do_round(
+            &crew,
+            &mut self.pages,
+            &self.table,
+            &mut self.reservations,
+            &mut self.console,
+            &mut self.log,
+            &mut self.trace,
+            &mut self.harts,
+            &self.plan,
+            self.rounds,
+        )?;
+        self.rounds += 1;
+        Ok(RoundNote {
+            round: self.rounds,
+            waited,
+            stopped: stopped_count(&self.harts),
+        })
     }
 
     /// How many instructions the harts have done together.

@@ -186,28 +186,30 @@ fn stores_that_cross_with_a_fence(rt: HostRuntime) {
     );
 }
 
+/// Both harts have loaded the number that each stored itself, and memory has the one of hart 1.
+pub(crate) const OWN_STORES: &str = "rounds 1\n\
+                                     hart 0 pc 000000000000000c done 3 running\n\
+                                     x5 0000000000000005\n\
+                                     x6 0000000000000005\n\
+                                     x11 0000000000000002\n\
+                                     hart 1 pc 000000000000000c done 3 running\n\
+                                     x5 0000000000000006\n\
+                                     x6 0000000000000006\n\
+                                     x10 0000000000000001\n\
+                                     x11 0000000000000002\n\
+                                     memory 1\n\
+                                     00000000 93025500233050100333001000000000\n\
+                                     00000100 06000000000000000000000000000000\n\
+                                     output 0\n\
+                                     trace 4\n\
+                                     1 0 1 p store - 00000100 8 - 0000000000000005\n\
+                                     1 0 2 p load - 00000100 8 0000000000000005 -\n\
+                                     1 1 1 p store - 00000100 8 - 0000000000000006\n\
+                                     1 1 2 p load - 00000100 8 0000000000000006 -\n\
+                                     end\n";
+
 #[test]
 fn own_stores(rt: HostRuntime) {
-    let wanted = "rounds 1\n\
-                  hart 0 pc 000000000000000c done 3 running\n\
-                  x5 0000000000000005\n\
-                  x6 0000000000000005\n\
-                  x11 0000000000000002\n\
-                  hart 1 pc 000000000000000c done 3 running\n\
-                  x5 0000000000000006\n\
-                  x6 0000000000000006\n\
-                  x10 0000000000000001\n\
-                  x11 0000000000000002\n\
-                  memory 1\n\
-                  00000000 93025500233050100333001000000000\n\
-                  00000100 06000000000000000000000000000000\n\
-                  output 0\n\
-                  trace 4\n\
-                  1 0 1 p store - 00000100 8 - 0000000000000005\n\
-                  1 0 2 p load - 00000100 8 0000000000000005 -\n\
-                  1 1 1 p store - 00000100 8 - 0000000000000006\n\
-                  1 1 2 p load - 00000100 8 0000000000000006 -\n\
-                  end\n";
     assert!(rt;
         report_is(
             &rt,
@@ -215,7 +217,7 @@ fn own_stores(rt: HostRuntime) {
             &OWN_STORE,
             &[],
             &settings(2, 1, b"3\n"),
-            wanted
+            OWN_STORES
         )
     );
 }

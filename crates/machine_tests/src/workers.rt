@@ -3,7 +3,8 @@
 ghost use Rattle.std.specs.Prelude.{◌≤◌};
 
 use crate::harness::{machine_of, machine_on, text_of};
-use crate::images::{EXIT, STORE_THEN_LOAD};
+use crate::images::{EXIT, OWN_STORE, STORE_THEN_LOAD};
+use crate::reports::OWN_STORES;
 use host_io::RunError;
 use machine::{Gate, Machine, Open};
 use std::alloc::Global;
@@ -65,25 +66,118 @@ fn report_on<R: Threads + Wait + Sync>(
     alloc: Global,
     words: &[u32],
     harts: u32,
+    plan: &[u8],
     rounds: u32,
     workers: u32,
 ) -> Result<Vec<u8>, RunError>
     requires some_harts { 1 ≤ harts }
     requires few_harts { harts ≤ 64 }
 {
-    let mut machine = machine_of(alloc, words, harts, b"50\n")?;
+    let mut machine = machine_of(alloc, words, harts, plan)?;
     for _ in 0..rounds {
         round_behind(rt, &mut machine, workers, &Open)?;
     }
     text_of(alloc, &machine)
 }
 
+/// The least number of workers on which the report of one round of these words isn't the wanted one, if there is any.
+fn first_unlike<R: Threads + Wait + Sync>(
+    rt: &R,
+    alloc: Global,
+    words: &[u32],
+    harts: u32,
+    plan: &[u8],
+    wanted: &[u8],
+) -> Result<Option<u32>, RunError>
+    requires some_harts { 1 ≤ harts }
+    requires few_harts { harts ≤ 64 }
+{
+    for workers in 1..17 {
+        let text = report_on(rt, alloc, words, harts, plan, 1, workers)?;
+        if text.as_slice() != wanted {
+            return Ok(Some(workers));
+        }
+    }
+    Ok(None)
+}
+
+#[test]
+fn three_harts_exit_on_any_workers(rt: HostRuntime) -> Result<(), Fail> {
+    let wanted = "rounds 1\n\
+                  hart 0 pc 0000000000000004 done 1 exit 0000000000000000\n\
+                  x11 0000000000000003\n\
+                  hart 1 pc 0000000000000004 done 1 exit 0000000000000001\n\
+                  x10 0000000000000001\n\
+                  x11 0000000000000003\n\
+                  hart 2 pc 0000000000000004 done 1 exit 0000000000000002\n\
+                  x10 0000000000000002\n\
+                  x11 0000000000000003\n\
+                  memory 1\n\
+                  00000000 93080000730000000000000000000000\n\
+                  output 0\n\
+                  trace 0\n\
+                  end\n";
+    let unlike = first_unlike(&rt, rt.alloc(), &EXIT, 3, b"4\n", wanted.as_bytes())?;
+    assert_eq!(rt; unlike, None);
+    Ok(())
+}
+
+#[test]
+fn own_stores_are_committed_on_any_workers(rt: HostRuntime) -> Result<(), Fail> {
+    let unlike = first_unlike(
+        &rt,
+        rt.alloc(),
+        &OWN_STORE,
+        2,
+        b"3\n",
+        OWN_STORES.as_bytes(),
+    )?;
+    assert_eq!(rt; unlike, None);
+    Ok(())
+}
+
 #[test]
 fn no_number_of_workers_is_shown(rt: HostRuntime) -> Result<(), Fail> {
     for harts in [3, 64] {
-        let alone = report_on(&rt, rt.alloc(), &STORE_THEN_LOAD, harts, 1, 1)?;
+        let alone = report_on(&rt, rt.alloc(), &EXIT, harts, b"4\n", 1, 1)?;
+        let unlike = first_unlike(&rt, rt.alloc(), &EXIT, harts, b"4\n", &alone)?;
+        assert_eq!(rt; unlike, None, "calls of {harts} harts");
+        let alone = report_on(&rt, rt.alloc(), &STORE_THEN_LOAD, harts, b"50\n", 1, 1)?;
+        let unlike = first_unlike(&rt, rt.alloc(), &STORE_THEN_LOAD, harts, b"50\n", &alone)?;
+        assert_eq!(rt; unlike, None, "stores of {harts} harts");
+    }
+    Ok(())
+}
+
+#[test]
+fn long_runs_are_the_same_on_any_workers(rt: HostRuntime) -> Result<(), Fail> {
+    let alone = report_on(&rt, rt.alloc(), &SHARED_COUNTERS, 8, b"50\n", 200, 1)?;
+    for workers in [2, 4, 16] {
+        let shared = report_on(&rt, rt.alloc(), &SHARED_COUNTERS, 8, b"50\n", 200, workers)?;
+        assert!(rt; shared.as_slice() == alone.as_slice());
+    }
+    Ok(())
+}
+
+/// The report after one round on so many workers in which 64 harts store to one line after another.
+fn report_of_lines<R: Threads + Wait + Sync>(
+    rt: &R,
+    alloc: Global,
+    plan: &[u8],
+    workers: u32,
+) -> Result<Vec<u8>, RunError> {
+    let mut machine = machine_on(alloc, &MANY_LINES, 7, 64, plan)?;
+    round_behind(rt, &mut machine, workers, &Open)?;
+    text_of(alloc, &machine)
+}
+
+#[test]
+fn commits_on_any_workers_are_the_same(rt: HostRuntime) -> Result<(), Fail> {
+    // 129 and 257 lines a hart: together fewer than `run` shares the commit of, and more.
+    for plan in ["390\n", "774\n"] {
+        let alone = report_of_lines(&rt, rt.alloc(), plan.as_bytes(), 1)?;
         for workers in 2..17 {
-            let shared = report_on(&rt, rt.alloc(), &STORE_THEN_LOAD, harts, 1, workers)?;
+            let shared = report_of_lines(&rt, rt.alloc(), plan.as_bytes(), workers)?;
             assert!(rt; shared.as_slice() == alone.as_slice());
         }
     }
@@ -91,31 +185,9 @@ fn no_number_of_workers_is_shown(rt: HostRuntime) -> Result<(), Fail> {
 }
 
 #[test]
-fn long_runs_are_the_same_on_any_workers(rt: HostRuntime) -> Result<(), Fail> {
-    let alone = report_on(&rt, rt.alloc(), &SHARED_COUNTERS, 8, 200, 1)?;
-    for workers in [2, 4, 16] {
-        let shared = report_on(&rt, rt.alloc(), &SHARED_COUNTERS, 8, 200, workers)?;
-        assert!(rt; shared.as_slice() == alone.as_slice());
-    }
-    Ok(())
-}
-
-/// The report after one round on so many workers in which 64 harts store to 257 lines each: enough that several workers
-/// write them to memory.
-fn report_of_lines<R: Threads + Wait + Sync>(
-    rt: &R,
-    alloc: Global,
-    workers: u32,
-) -> Result<Vec<u8>, RunError> {
-    let mut machine = machine_on(alloc, &MANY_LINES, 7, 64, b"774\n")?;
-    round_behind(rt, &mut machine, workers, &Open)?;
-    text_of(alloc, &machine)
-}
-
-#[test]
-fn commits_on_any_workers_are_the_same(rt: HostRuntime) -> Result<(), Fail> {
+fn a_line_has_the_last_hart_that_stored_there(rt: HostRuntime) -> Result<(), Fail> {
     let mut machine = machine_on(rt.alloc(), &MANY_LINES, 7, 64, b"774\n")?;
-    machine.run(&rt, 1, 1)?;
+    machine.run(&rt, 1, 16)?;
     // The line of address 4096 + 64 n has the last hart that stored there, at most 63.
     for (line, hart) in [
         (0, 0),
@@ -129,11 +201,6 @@ fn commits_on_any_workers_are_the_same(rt: HostRuntime) -> Result<(), Fail> {
         assert_eq!(rt; machine.byte(4096 + 64 * line), Some(hart));
     }
     assert_eq!(rt; machine.byte(4096 + 64 * 320), Some(0));
-    let alone = report_of_lines(&rt, rt.alloc(), 1)?;
-    for workers in 2..17 {
-        let shared = report_of_lines(&rt, rt.alloc(), workers)?;
-        assert!(rt; shared.as_slice() == alone.as_slice());
-    }
     Ok(())
 }
 
@@ -197,7 +264,7 @@ impl Gate for Behind {
 
 #[test]
 fn two_workers_meet_in_a_round(rt: HostRuntime) -> Result<(), Fail> {
-    let mut machine = machine_of(rt.alloc(), &STORE_THEN_LOAD, 2, b"6\n")?;
+    let mut machine = machine_of(rt.alloc(), &EXIT, 2, b"4\n")?;
     let gate = Meeting {
         first_came: AtomicBool::new(false),
         second_came: AtomicBool::new(false),
@@ -227,7 +294,7 @@ fn stopped_harts_start_no_thread(rt: HostRuntime) -> Result<(), Fail> {
 
 #[test]
 fn a_hart_is_done_while_another_waits(rt: HostRuntime) -> Result<(), Fail> {
-    let mut machine = machine_of(rt.alloc(), &STORE_THEN_LOAD, 2, b"6\n")?;
+    let mut machine = machine_of(rt.alloc(), &EXIT, 2, b"4\n")?;
     let gate = Behind {
         second_done: AtomicBool::new(false),
         saw_it: AtomicBool::new(false),

@@ -180,7 +180,7 @@ fn two_threads<B: BookStart + Send + Sync, R: Abort + Threads + Wait + Sync>(
     assert!(rt; gathered.is_complete());
 }
 
-/// A ticket that is dropped leaves its hart out, and a seat alone gets the lock at its first try.
+/// A ticket that is dropped leaves its hart out.
 fn one_left_out<B: BookStart, R: Abort>(rt: &R, alloc: Global, start: &RoundStart<'_>)
     requires { start.now ≡ B.start }
 {
@@ -194,6 +194,20 @@ fn one_left_out<B: BookStart, R: Abort>(rt: &R, alloc: Global, start: &RoundStar
     let gathered = close_two(rt, alloc, book, first, second);
     assert!(rt; !gathered.is_complete());
     assert!(rt; gathered.get(0).is_none() && gathered.get(1).is_some());
+}
+
+/// A seat that is alone with its book gets the lock at its first try.
+fn one_alone<B: BookStart, R: Abort>(rt: &R, alloc: Global, start: &RoundStart<'_>)
+    requires { start.now ≡ B.start }
+{
+    let (book, mut seats) = RoundBook::<HartRound<B>>::open(start, 1).expect(rt, "memory");
+    let mut seat = seats.pop().expect(rt, "one seat");
+    assert!(rt; seat.seen() == 0 && seat.own() == 0);
+    let ticket = book.claim(&mut seat).expect(rt, "a hart is left");
+    let round = idle_round::<B>(alloc, start, ticket).expect(rt, "the hart may do nothing");
+    assert!(rt; book.try_put(&mut seat, round).is_ok());
+    assert!(rt; seat.seen() == 1);
+    assert!(rt; seat.own() == 1);
 }
 
 #[test]
@@ -226,5 +240,16 @@ fn a_dropped_ticket_leaves_its_hart_out(rt: HostRuntime) -> Result<(), Fail> {
     let harts = [hart(0); 2];
     let start = RoundStart::new(&pages, &table, &harts, &[0; 2]);
     one_left_out::<Brand, _>(&rt, alloc, &start);
+    Ok(())
+}
+
+#[test]
+fn a_seat_alone_puts_at_its_first_try(rt: HostRuntime) -> Result<(), Fail> {
+    let alloc = rt.alloc();
+    let pages = Pages::new(alloc, 1, &[], &[])?;
+    let table = CodeTable::new(alloc, &pages, 0, 0)?;
+    let harts = [hart(0)];
+    let start = RoundStart::new(&pages, &table, &harts, &[0]);
+    one_alone::<Brand, _>(&rt, alloc, &start);
     Ok(())
 }

@@ -1,8 +1,8 @@
-//! Two harts on two workers, behind gates that only two threads get through.
+//! Two harts that make the exit call, on two workers, behind gates that only two threads get through.
 
 ghost use Rattle.std.specs.Prelude.{◌≡◌};
 
-use super::{harts, memory};
+use super::{EXIT, harts, memory};
 use crate::{Gate, gather};
 use hart_step::CodeTable;
 use round_lock::{BookStart, RoundStart};
@@ -90,10 +90,10 @@ fn gathers<B: BookStart + Send + Sync, G: Gate + Sync, R: Abort + Threads + Wait
 #[test]
 fn two_workers_meet(rt: HostRuntime) -> Result<(), Fail> {
     let alloc = rt.alloc();
-    let pages = memory(alloc)?;
-    let table = CodeTable::new(alloc, &pages, 0, 6)?;
+    let pages = memory(alloc, &EXIT)?;
+    let table = CodeTable::new(alloc, &pages, 0, 2)?;
     let harts = harts();
-    let start = RoundStart::new(&pages, &table, &harts[..2], &[6; 2]);
+    let start = RoundStart::new(&pages, &table, &harts[..2], &[4; 2]);
     let gate = Meeting {
         first_came: AtomicBool::new(false),
         second_came: AtomicBool::new(false),
@@ -108,10 +108,10 @@ fn two_workers_meet(rt: HostRuntime) -> Result<(), Fail> {
 #[test]
 fn a_hart_is_done_while_another_waits(rt: HostRuntime) -> Result<(), Fail> {
     let alloc = rt.alloc();
-    let pages = memory(alloc)?;
-    let table = CodeTable::new(alloc, &pages, 0, 6)?;
+    let pages = memory(alloc, &EXIT)?;
+    let table = CodeTable::new(alloc, &pages, 0, 2)?;
     let harts = harts();
-    let start = RoundStart::new(&pages, &table, &harts[..2], &[6; 2]);
+    let start = RoundStart::new(&pages, &table, &harts[..2], &[4; 2]);
     let gate = Behind {
         second_done: AtomicBool::new(false),
         saw_it: AtomicBool::new(false),

@@ -4,8 +4,8 @@ use Rattle.machine.proofs.commit.commit.Goals as goal
 pub commit_on-requires-clause-writable : goal.commit_on-requires-clause-writable
 commit_on-requires-clause-writable g c = λ lifetimes within. all_writable c.args.pages.now c.args.outcomes.now c.requires.fits c.requires.ready
 
-pub returns-then-line_count-ge-MANY_LINES-clause-committed : goal.returns-then-line_count-ge-MANY_LINES-clause-committed
-returns-then-line_count-ge-MANY_LINES-clause-committed g c =
+pub returns-then-stores_lines-clause-committed : goal.returns-then-stores_lines-clause-committed
+returns-then-stores_lines-clause-committed g c =
     let e = c.commit_on.ensures in
     committed_at_once c.args.outcomes.now c.args.pages.now c.commit_on.new.pages c.args.table.now c.commit_on.new.table
     (record { memory = e.memory; ready = e.ready; spare = e.spare; size = e.size; table = e.table })

@@ -1,8 +1,7 @@
-use Rattle.std.proofs.Common.{◌≡◌, ◌≢◌, ◌<◌, ◌≤◌, ℕ, List, length, [], None, Some, refl, sym, ap, ◌∙◌, subst, arith}
+use Rattle.std.proofs.Common.{◌≡◌, ◌<◌, List, length, [], None, Some, refl, sym, ap, ◌∙◌, subst, arith}
 use Rattle.hart_step.specs.declared.hart.Hart.{Hart}
 use Rattle.round_lock.specs.Rounds.{content_in, hart_of}
 use Rattle.round_lock.specs.Starts.{Start, round_at}
-use Rattle.round_lock.specs.Histories.{harts_of}
 use Rattle.round_lock.proofs.Lists.{has_from_times}
 use Rattle.machine.specs.Outcomes.{AreOutcomes}
 use Rattle.machine.specs.declared.outcome.Outcome.{Outcome}

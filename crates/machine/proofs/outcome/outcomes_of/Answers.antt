@@ -1,4 +1,4 @@
-use Rattle.std.proofs.Common.{◌≡◌, ◌-◌, ◌∙◌, ℕ, IfOk, List, get_or, sym, ap, subst, arith}
+use Rattle.std.proofs.Common.{◌-◌, ◌∙◌, ℕ, IfOk, List, get_or, ap, subst, arith}
 use Rattle.round_schedule.specs.Schedule.{HartRound}
 use Rattle.round_planner.specs.Quotas.{quotas_of}
 use Rattle.hart_step.specs.declared.hart.Hart.{Hart}

@@ -13,4 +13,4 @@ pub loop-done-init : goal.loop-done-init
 loop-done-init g c = (no_rounds c.args.self.now, omega arith)
 
 pub loop-done-preserved : goal.loop-done-preserved
-loop-done-preserved g c = (c.in_ok-round.ensures.ok ∙ ap after_round c.loop-done.invariant.0 ∙ next_round c.loop-done.done c.args.self.now, c.in_ok-round.ensures.one_more ∙ omega (arith, c.loop-done.invariant.1))
+loop-done-preserved g c = (c.in_ok-round_by.ensures.ok ∙ ap after_round c.loop-done.invariant.0 ∙ next_round c.loop-done.done c.args.self.now, c.in_ok-round_by.ensures.one_more ∙ omega (arith, c.loop-done.invariant.1))

@@ -11,7 +11,7 @@ use Rattle.machine.proofs.CodeKept.{shows_on}
 use Rattle.machine.proofs.RoundDone.{round_over, whole}
 use Rattle.machine.proofs.SizeKept.{size_kept}
 use Rattle.machine.proofs.TraceKept.{next_is_trace, next_placed}
-use Rattle.machine.proofs.machine.Machine.round.Goals as goal
+use Rattle.machine.proofs.machine.Machine.round_by.Goals as goal
 
 abbrev running : State Hart ConsoleState → List Range → Planned → List ℕ → Running
 running s rs plan bs = record { state = s; code = rs; plan = plan; opening = bs }
@@ -20,7 +20,7 @@ pub do_round-requires-clause-sound : goal.do_round-requires-clause-sound
 do_round-requires-clause-sound g c = λ lifetimes within.
     let i = c.self.inside in
     next_is_trace i.plan i.rounds i.harts.items i.pages i.reservations i.console.console i.trace.events c.bytes_fit.ensures (omega (arith, c.count-pages.ensures.bytes, c.count-pages.ensures.most)) c.self.invariant.tied c.self.invariant.size
-    c.harts-harts.ensures.in_range (omega (arith, c.budget-budget.ensures.budget, c.budget-budget.ensures.few_budget)) (omega arith) c.len-events.ensures.sound c.self.invariant.placed
+    c.harts-harts.ensures.in_range (omega (arith, c.budget-budget.ensures.budget, c.budget-budget.ensures.few_budget)) (omega (arith, c.requires.rounds, ap (λ (m : Running). m.state.rounds) c.self.view_is)) c.len-events.ensures.sound c.self.invariant.placed
 
 pub stopped_count-requires : goal.stopped_count-requires
 stopped_count-requires g c =
@@ -39,7 +39,7 @@ invariant_of-self-2 g c =
       size = over.size ∙ c.self.invariant.size ∙ sym over.harts;
       tied = over.tied;
       placed = next_placed i.plan i.rounds i.harts.items i.pages i.reservations i.console.console i.trace.events (whole o.harts.items o.pages.memory.bytes o.console.console o.trace.events (i.rounds + 1)) over.same
-          c.harts-harts.ensures.in_range (omega (arith, c.budget-budget.ensures.budget, c.budget-budget.ensures.few_budget)) (omega arith) c.self.invariant.placed;
+          c.harts-harts.ensures.in_range (omega (arith, c.budget-budget.ensures.budget, c.budget-budget.ensures.few_budget)) (omega (arith, c.requires.rounds, ap (λ (m : Running). m.state.rounds) c.self.view_is)) c.self.invariant.placed;
       shows = shows_on i.pages.memory o.pages.memory i.table.first i.table.instructions i.plan.budget (quotas_of i.plan) (whole i.harts.items i.pages.memory.bytes i.console.console i.trace.events i.rounds) refl
           (ap (λ (s : State Hart ConsoleState). s.bytes) over.same) over.code c.self.invariant.shows;
       beyond = λ x l. ap (λ (ps : List Laid). opening_at ps x) c.do_round.ensures.opening ∙ c.self.invariant.beyond x (omega (arith, l, ap (λ (s : State Hart ConsoleState). length s.bytes) over.same, size_kept (words_of i.pages.memory.code) i.plan.budget (quotas_of i.plan) (whole i.harts.items i.pages.memory.bytes i.console.console i.trace.events i.rounds)));
