@@ -1,9 +1,16 @@
--- Round traces over opening bytes that are the same at each address.
-use Rattle.std.proofs.Common.{◌≡◌, ℕ, ◌∙◌, List, Option, Some, None, Result, Ok, Err, OnErr, OnOk, refl}
+-- Round traces over opening bytes that are the same at each address, and the orders of a run.
+use Rattle.std.proofs.Common.{◌≡◌, ℕ, ◌∙◌, List, Option, Some, None, Result, Ok, Err, OnErr, OnOk, refl, slice_index, subst}
 use Rattle.host_io.specs.declared.error.RunError.{RunError}
 use Rattle.round_schedule.specs.declared.event.Event.{Event}
 use Rattle.round_schedule.specs.Positions.{source_byte}
 use Rattle.round_schedule.specs.RoundTrace.{IsRoundTrace}
+use Rattle.round_planner.specs.Quotas.{Planned}
+use Rattle.memory_order.specs.RoundOrder.{IsRoundOrder}
+use Rattle.memory_order.specs.Rvwmo.{MeetsRvwmo}
+use Rattle.memory_order.proofs.Meeting.{meets_rvwmo}
+use Rattle.machine.specs.OrderedRun.{IsOrderOfRun}
+use Rattle.machine.specs.Settings.{IsPlan, image_for, trace_after}
+use Rattle.machine.specs.declared.settings.Settings.{Settings}
 
 source_same : (t : List Event) (f g : ℕ → ℕ) → ((x : ℕ) → f x ≡ g x) → (x : ℕ) (s : Option ℕ) → source_byte t f x s ≡ source_byte t g x s
 source_same t f g e x None = e x
@@ -17,6 +24,14 @@ same_opening t f g budget e h = record {
   parallel_loads = λ r x a p. let s = h.parallel_loads r x a p in (s.0, s.1, s.2 ∙ source_same t f g e x s.0);
   serial_loads = λ r x a p. let s = h.serial_loads r x a p in (s.0, s.1, s.2 ∙ source_same t f g e x s.0);
   reservations = h.reservations;
+}
+
+pub order_of : (s : Settings) (file input : List ℕ) (plan : Planned) (places : List ℕ) (t : List Event) → IsPlan s plan → t ≡ trace_after s file input plan → IsRoundOrder t places →
+    IsRoundTrace t (λ x. slice_index (image_for s file).bytes x) s.budget → IsOrderOfRun s file input plan places
+order_of s file input plan places t planned run by_rounds rounds = record {
+  planned = planned;
+  by_rounds = subst (λ (events : List Event). IsRoundOrder events places) run by_rounds;
+  rvwmo = subst (λ (events : List Event). MeetsRvwmo events (λ x. slice_index (image_for s file).bytes x) places) run (meets_rvwmo t places by_rounds (λ x. slice_index (image_for s file).bytes x) s.budget rounds);
 }
 
 pub where_done : (r : Result (Unit {0}) RunError) (P Q : Type 0) → (P → Q) → OnOk r P → OnOk r Q

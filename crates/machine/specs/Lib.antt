@@ -3,3 +3,4 @@ pub mod Machine
 pub mod Held
 pub mod Rounds
 pub mod Settings
+pub mod OrderedRun

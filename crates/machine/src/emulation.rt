@@ -1,14 +1,12 @@
-ghost use Rattle.std.specs.Prelude.{◌≡◌, ◌⊎◌, ◌≤◌, ◌<◌, ◌++◌, Some, None, Err, IfErr, OnOk, OnErr};
-ghost use Rattle.elf_loader.specs.Causes.{IsGood, IsLeast as IsLeastOfImage};
+ghost use Rattle.std.specs.Prelude.{◌≡◌, ◌⊎◌, ◌<◌, ◌++◌, Some, None, Err, IfErr, OnOk, OnErr};
 ghost use Rattle.elf_loader.specs.declared.load_error.LoadError.{LoadError as ImageCause};
-ghost use Rattle.round_planner.specs.Causes.{IsLeast as IsLeastOfPlan};
 ghost use Rattle.round_planner.specs.Quotas.{Planned};
 ghost use Rattle.round_planner.specs.declared.plan_error.PlanError.{PlanError as PlanCause};
 ghost use Rattle.host_io.specs.Taken.{BeganText};
 ghost use Rattle.host_io.specs.declared.error.RunError.{RunError as Refusal};
 ghost use Rattle.host_io.specs.declared.error.RunError.TheVariants as refusals;
 ghost use Rattle.report.specs.Report.{report_of};
-ghost use Rattle.machine.specs.Settings.{IsPlanOf, StandsIn, image_of, report_after, settings_fault};
+ghost use Rattle.machine.specs.Settings.{IsImage, IsImageCause, IsPlan, IsPlanCause, IsReason, RefusedAs, report_after, settings_fault};
 
 use crate::machine::Machine;
 use crate::prepare::prepare;
@@ -34,16 +32,16 @@ pub fn emulate<S: Sink, R: Threads + Wait + Sync>(
     out: &mut S,
 ) -> Result<(), RunError>
     // The sink took the report of the run that the definitions name.
-    ensures reports { OnOk result ((plan : Planned) × IsPlanOf settings.now.harts settings.now.plan.now settings.now.budget plan × (S.took out.new ≡ S.took out.old ++ report_after settings.now.rounds (image_of settings.now.format image.now settings.now.pages) input.now plan)) }
+    ensures reports { OnOk result ((plan : Planned) × IsPlan settings.now plan × (S.took out.new ≡ S.took out.old ++ report_after settings.now image.now input.now plan)) }
     // Else it took nothing, or a beginning of that report.
-    ensures begun { OnErr result ((S.took out.new ≡ S.took out.old) ⊎ ((plan : Planned) × IsPlanOf settings.now.harts settings.now.plan.now settings.now.budget plan × BeganText (S.took out.old) (S.took out.new) (report_after settings.now.rounds (image_of settings.now.format image.now settings.now.pages) input.now plan))) }
+    ensures begun { OnErr result ((S.took out.new ≡ S.took out.old) ⊎ ((plan : Planned) × IsPlan settings.now plan × BeganText (S.took out.old) (S.took out.new) (report_after settings.now image.now input.now plan))) }
     // Numbers out of range are refused first, and then an image.
-    ensures settings { (e : Refusal) → settings_fault settings.now.harts settings.now.pages settings.now.workers settings.now.budget ≡ Some e → result ≡ Err e }
+    ensures settings { (e : Refusal) → settings_fault settings.now ≡ Some e → result ≡ Err e }
     // What is refused then is for a reason that stands.
-    ensures errors { settings_fault settings.now.harts settings.now.pages settings.now.workers settings.now.budget ≡ None → IfErr result (λ e. (e ≡ refusals.OutOfMemory) ⊎ ((e ≡ refusals.SinkFailed) × (S.failures out.old < S.failures out.new)) ⊎ ((cause : ImageCause) × IsLeastOfImage (StandsIn settings.now.format image.now settings.now.pages) cause × (e ≡ refusals.Image cause)) ⊎ ((cause : PlanCause) × IsLeastOfPlan settings.now.harts settings.now.plan.now cause × (e ≡ refusals.Plan cause))) }
-    ensures image { (cause : ImageCause) → settings_fault settings.now.harts settings.now.pages settings.now.workers settings.now.budget ≡ None → IsLeastOfImage (StandsIn settings.now.format image.now settings.now.pages) cause → (result ≡ Err (refusals.Image cause)) ⊎ (result ≡ Err refusals.OutOfMemory) }
+    ensures errors { settings_fault settings.now ≡ None → IfErr result (λ e. IsReason settings.now image.now e ⊎ ((e ≡ refusals.SinkFailed) × (S.failures out.old < S.failures out.new))) }
+    ensures image { (cause : ImageCause) → settings_fault settings.now ≡ None → IsImageCause settings.now image.now cause → RefusedAs (refusals.Image cause) result }
     // A plan is refused where the image is good.
-    ensures plan { (cause : PlanCause) → settings_fault settings.now.harts settings.now.pages settings.now.workers settings.now.budget ≡ None → IsGood (StandsIn settings.now.format image.now settings.now.pages) → IsLeastOfPlan settings.now.harts settings.now.plan.now cause → (result ≡ Err (refusals.Plan cause)) ⊎ (result ≡ Err refusals.OutOfMemory) }
+    ensures plan { (cause : PlanCause) → settings_fault settings.now ≡ None → IsImage settings.now image.now → IsPlanCause settings.now cause → RefusedAs (refusals.Plan cause) result }
 {
     let mut machine = prepare(alloc, image, input, settings)?;
     machine.run(rt, settings.rounds, settings.workers)?;

@@ -1,16 +1,12 @@
-ghost use Rattle.std.specs.Prelude.{◌≡◌, ℕ, ◌⊎◌, ◌<◌, ◌++◌, List, Some, None, Err, IfErr, OnErr, OnOk, slice_index, true};
-ghost use Rattle.elf_loader.specs.Causes.{IsGood, IsLeast as IsLeastOfImage};
+ghost use Rattle.std.specs.Prelude.{◌≡◌, ℕ, ◌⊎◌, ◌<◌, ◌++◌, List, Some, None, Err, IfErr, OnErr, OnOk};
 ghost use Rattle.elf_loader.specs.declared.load_error.LoadError.{LoadError as ImageCause};
-ghost use Rattle.round_planner.specs.Causes.{IsLeast as IsLeastOfPlan};
 ghost use Rattle.round_planner.specs.Quotas.{Planned};
 ghost use Rattle.round_planner.specs.declared.plan_error.PlanError.{PlanError as PlanCause};
 ghost use Rattle.host_io.specs.Taken.{BeganText};
 ghost use Rattle.host_io.specs.declared.error.RunError.{RunError as Refusal};
 ghost use Rattle.host_io.specs.declared.error.RunError.TheVariants as refusals;
-ghost use Rattle.memory_order.specs.RoundOrder.{IsRoundOrder};
-ghost use Rattle.memory_order.specs.Rvwmo.{MeetsRvwmo};
-ghost use Rattle.report.specs.Order.{order_text};
-ghost use Rattle.machine.specs.Settings.{IsPlanOf, StandsIn, image_of, settings_fault, trace_after};
+ghost use Rattle.machine.specs.OrderedRun.{IsOrderOfRun, ordered_text};
+ghost use Rattle.machine.specs.Settings.{IsImage, IsImageCause, IsPlan, IsPlanCause, IsReason, RefusedAs, settings_fault};
 
 use crate::settings::Settings;
 use crate::tracing::trace_run;
@@ -34,17 +30,17 @@ pub fn order_run<S: Sink, R: Threads + Wait + Sync>(
     settings: &Settings<'_>,
     out: &mut S,
 ) -> Result<(), RunError>
-    // The sink took an order of the run that the definitions name; it meets RVWMO over the bytes of the image.
-    ensures orders { OnOk result ((plan : Planned) × (g : List ℕ) × IsPlanOf settings.now.harts settings.now.plan.now settings.now.budget plan × IsRoundOrder (trace_after settings.now.rounds (image_of settings.now.format image.now settings.now.pages) input.now plan) g × MeetsRvwmo (trace_after settings.now.rounds (image_of settings.now.format image.now settings.now.pages) input.now plan) (λ x. slice_index (image_of settings.now.format image.now settings.now.pages).bytes x) g × (S.took out.new ≡ S.took out.old ++ order_text (trace_after settings.now.rounds (image_of settings.now.format image.now settings.now.pages) input.now plan) g true)) }
-    // Else it took nothing, or a beginning of the text of such an order.
-    ensures begun { OnErr result ((S.took out.new ≡ S.took out.old) ⊎ ((plan : Planned) × (g : List ℕ) × IsPlanOf settings.now.harts settings.now.plan.now settings.now.budget plan × IsRoundOrder (trace_after settings.now.rounds (image_of settings.now.format image.now settings.now.pages) input.now plan) g × BeganText (S.took out.old) (S.took out.new) (order_text (trace_after settings.now.rounds (image_of settings.now.format image.now settings.now.pages) input.now plan) g true))) }
+    // The sink took the text of an order of the run that the definitions name.
+    ensures orders { OnOk result ((plan : Planned) × (places : List ℕ) × IsOrderOfRun settings.now image.now input.now plan places × (S.took out.new ≡ S.took out.old ++ ordered_text settings.now image.now input.now plan places)) }
+    // Else it took nothing, or a beginning of such a text.
+    ensures begun { OnErr result ((S.took out.new ≡ S.took out.old) ⊎ ((plan : Planned) × (places : List ℕ) × IsOrderOfRun settings.now image.now input.now plan places × BeganText (S.took out.old) (S.took out.new) (ordered_text settings.now image.now input.now plan places))) }
     // Numbers out of range are refused first.
-    ensures settings { (e : Refusal) → settings_fault settings.now.harts settings.now.pages settings.now.workers settings.now.budget ≡ Some e → result ≡ Err e }
+    ensures settings { (e : Refusal) → settings_fault settings.now ≡ Some e → result ≡ Err e }
     // What is refused then is for a reason that stands.
-    ensures errors { settings_fault settings.now.harts settings.now.pages settings.now.workers settings.now.budget ≡ None → IfErr result (λ e. (e ≡ refusals.OutOfMemory) ⊎ ((e ≡ refusals.SinkFailed) × (S.failures out.old < S.failures out.new)) ⊎ ((cause : ImageCause) × IsLeastOfImage (StandsIn settings.now.format image.now settings.now.pages) cause × (e ≡ refusals.Image cause)) ⊎ ((cause : PlanCause) × IsLeastOfPlan settings.now.harts settings.now.plan.now cause × (e ≡ refusals.Plan cause))) }
-    ensures image { (cause : ImageCause) → settings_fault settings.now.harts settings.now.pages settings.now.workers settings.now.budget ≡ None → IsLeastOfImage (StandsIn settings.now.format image.now settings.now.pages) cause → (result ≡ Err (refusals.Image cause)) ⊎ (result ≡ Err refusals.OutOfMemory) }
+    ensures errors { settings_fault settings.now ≡ None → IfErr result (λ e. IsReason settings.now image.now e ⊎ ((e ≡ refusals.SinkFailed) × (S.failures out.old < S.failures out.new))) }
+    ensures image { (cause : ImageCause) → settings_fault settings.now ≡ None → IsImageCause settings.now image.now cause → RefusedAs (refusals.Image cause) result }
     // A plan is refused where the image is good.
-    ensures plan { (cause : PlanCause) → settings_fault settings.now.harts settings.now.pages settings.now.workers settings.now.budget ≡ None → IsGood (StandsIn settings.now.format image.now settings.now.pages) → IsLeastOfPlan settings.now.harts settings.now.plan.now cause → (result ≡ Err (refusals.Plan cause)) ⊎ (result ≡ Err refusals.OutOfMemory) }
+    ensures plan { (cause : PlanCause) → settings_fault settings.now ≡ None → IsImage settings.now image.now → IsPlanCause settings.now cause → RefusedAs (refusals.Plan cause) result }
 {
     let trace = trace_run(rt, alloc, image, input, settings)?;
     write_order(alloc, &trace, out)

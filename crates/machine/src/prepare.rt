@@ -7,7 +7,7 @@ ghost use Rattle.round_planner.specs.declared.plan_error.PlanError.{PlanError as
 ghost use Rattle.host_io.specs.declared.error.RunError.{RunError as Refusal};
 ghost use Rattle.host_io.specs.declared.error.RunError.TheVariants as refusals;
 ghost use Rattle.machine.specs.Machine.{opening};
-ghost use Rattle.machine.specs.Settings.{IsPlanOf, StandsIn, image_of, settings_fault};
+ghost use Rattle.machine.specs.Settings.{IsImage, IsImageCause, IsPlan, IsPlanCause, IsPlanOf, IsReason, RefusedAs, StandsIn, image_for, image_of, settings_fault};
 
 use crate::machine::Machine;
 use crate::settings::{Format, Settings, check_settings};
@@ -23,12 +23,12 @@ pub fn prepare(
     input: &[u8],
     settings: &Settings<'_>,
 ) -> Result<Machine, RunError>
-    ensures machine { IfOk result (λ m. (plan : Planned) × IsPlanOf settings.now.harts settings.now.plan.now settings.now.budget plan × (m ≡ opening (image_of settings.now.format image.now settings.now.pages) input.now plan)) }
-    ensures settings { (e : Refusal) → settings_fault settings.now.harts settings.now.pages settings.now.workers settings.now.budget ≡ Some e → result ≡ Err e }
+    ensures machine { IfOk result (λ m. (plan : Planned) × IsPlan settings.now plan × (m ≡ opening (image_for settings.now image.now) input.now plan)) }
+    ensures settings { (e : Refusal) → settings_fault settings.now ≡ Some e → result ≡ Err e }
     ensures workers { IfOk result (λ _. (1 ≤ settings.now.workers) × (settings.now.workers ≤ 16)) }
-    ensures errors { settings_fault settings.now.harts settings.now.pages settings.now.workers settings.now.budget ≡ None → IfErr result (λ e. (e ≡ refusals.OutOfMemory) ⊎ ((cause : ImageCause) × IsLeastOfImage (StandsIn settings.now.format image.now settings.now.pages) cause × (e ≡ refusals.Image cause)) ⊎ ((cause : PlanCause) × IsLeastOfPlan settings.now.harts settings.now.plan.now cause × (e ≡ refusals.Plan cause))) }
-    ensures image { (cause : ImageCause) → settings_fault settings.now.harts settings.now.pages settings.now.workers settings.now.budget ≡ None → IsLeastOfImage (StandsIn settings.now.format image.now settings.now.pages) cause → (result ≡ Err (refusals.Image cause)) ⊎ (result ≡ Err refusals.OutOfMemory) }
-    ensures plan { (cause : PlanCause) → settings_fault settings.now.harts settings.now.pages settings.now.workers settings.now.budget ≡ None → IsGood (StandsIn settings.now.format image.now settings.now.pages) → IsLeastOfPlan settings.now.harts settings.now.plan.now cause → (result ≡ Err (refusals.Plan cause)) ⊎ (result ≡ Err refusals.OutOfMemory) }
+    ensures errors { settings_fault settings.now ≡ None → IfErr result (λ e. IsReason settings.now image.now e) }
+    ensures image { (cause : ImageCause) → settings_fault settings.now ≡ None → IsImageCause settings.now image.now cause → RefusedAs (refusals.Image cause) result }
+    ensures plan { (cause : PlanCause) → settings_fault settings.now ≡ None → IsImage settings.now image.now → IsPlanCause settings.now cause → RefusedAs (refusals.Plan cause) result }
 {
     check_settings(settings)?;
     let image = load(alloc, settings.format, image, settings.pages)?;

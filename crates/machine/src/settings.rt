@@ -34,9 +34,9 @@ pub struct Settings<'a> {
 
 /// Refuses numbers that are out of range; of several, the one of the least refusal.
 pub fn check_settings(settings: &Settings<'_>) -> Result<(), RunError>
-    ensures ok { IfOk result (λ _. settings_fault settings.now.harts settings.now.pages settings.now.workers settings.now.budget ≡ None) }
-    ensures range { IfOk result (λ _. IsInRange settings.now.harts settings.now.pages settings.now.workers settings.now.budget) }
-    ensures err { IfErr result (λ e. settings_fault settings.now.harts settings.now.pages settings.now.workers settings.now.budget ≡ Some e) }
+    ensures ok { IfOk result (λ _. settings_fault settings.now ≡ None) }
+    ensures range { IfOk result (λ _. IsInRange settings.now) }
+    ensures err { IfErr result (λ e. settings_fault settings.now ≡ Some e) }
 {
     if settings.harts < 1 || settings.harts > 64 {
         return Err(RunError::HartsOutOfRange);

@@ -1,7 +1,5 @@
-ghost use Rattle.std.specs.Prelude.{◌≡◌, ℕ, ◌⊎◌, List, Some, None, Err, IfOk, IfErr, slice_index};
-ghost use Rattle.elf_loader.specs.Causes.{IsGood, IsLeast as IsLeastOfImage};
+ghost use Rattle.std.specs.Prelude.{◌≡◌, ℕ, List, Some, None, Err, IfOk, IfErr, slice_index};
 ghost use Rattle.elf_loader.specs.declared.load_error.LoadError.{LoadError as ImageCause};
-ghost use Rattle.round_planner.specs.Causes.{IsLeast as IsLeastOfPlan};
 ghost use Rattle.round_planner.specs.Quotas.{Planned};
 ghost use Rattle.round_planner.specs.declared.plan_error.PlanError.{PlanError as PlanCause};
 ghost use Rattle.host_io.specs.declared.error.RunError.{RunError as Refusal};
@@ -10,8 +8,7 @@ ghost use Rattle.round_schedule.specs.RoundTrace.{IsRoundTrace};
 ghost use Rattle.memory_order.specs.RoundOrder.{IsRoundOrder};
 ghost use Rattle.memory_order.specs.Rvwmo.{MeetsRvwmo};
 ghost use Rattle.memory_order.specs.Traced.{opening_at};
-ghost use Rattle.machine.specs.Machine.{after_rounds, opening};
-ghost use Rattle.machine.specs.Settings.{IsPlanOf, StandsIn, image_of, settings_fault};
+ghost use Rattle.machine.specs.Settings.{IsImage, IsImageCause, IsPlan, IsPlanCause, IsReason, RefusedAs, image_for, settings_fault, trace_after};
 
 use crate::prepare::prepare;
 use crate::settings::Settings;
@@ -36,16 +33,16 @@ pub fn trace_run<R: Threads + Wait + Sync>(
     settings: &Settings<'_>,
 ) -> Result<Trace, RunError>
     // It has the events of the run that the definitions name.
-    ensures events { IfOk result (λ t. (plan : Planned) × IsPlanOf settings.now.harts settings.now.plan.now settings.now.budget plan × (t.events ≡ (after_rounds settings.now.rounds (opening (image_of settings.now.format image.now settings.now.pages) input.now plan)).state.trace)) }
-    ensures opening { IfOk result (λ t. (x : ℕ) → opening_at t.opening x ≡ slice_index (image_of settings.now.format image.now settings.now.pages).bytes x) }
+    ensures events { IfOk result (λ t. (plan : Planned) × IsPlan settings.now plan × (t.events ≡ trace_after settings.now image.now input.now plan)) }
+    ensures opening { IfOk result (λ t. (x : ℕ) → opening_at t.opening x ≡ slice_index (image_for settings.now image.now).bytes x) }
     ensures rounds { IfOk result (λ t. IsRoundTrace t.events (opening_at t.opening) settings.now.budget) }
     // The order by rounds, which `memory_order` gives, meets RVWMO.
     ensures rvwmo { IfOk result (λ t. (g : List ℕ) → IsRoundOrder t.events g → MeetsRvwmo t.events (opening_at t.opening) g) }
-    ensures settings { (e : Refusal) → settings_fault settings.now.harts settings.now.pages settings.now.workers settings.now.budget ≡ Some e → result ≡ Err e }
-    ensures errors { settings_fault settings.now.harts settings.now.pages settings.now.workers settings.now.budget ≡ None → IfErr result (λ e. (e ≡ refusals.OutOfMemory) ⊎ ((cause : ImageCause) × IsLeastOfImage (StandsIn settings.now.format image.now settings.now.pages) cause × (e ≡ refusals.Image cause)) ⊎ ((cause : PlanCause) × IsLeastOfPlan settings.now.harts settings.now.plan.now cause × (e ≡ refusals.Plan cause))) }
-    ensures image { (cause : ImageCause) → settings_fault settings.now.harts settings.now.pages settings.now.workers settings.now.budget ≡ None → IsLeastOfImage (StandsIn settings.now.format image.now settings.now.pages) cause → (result ≡ Err (refusals.Image cause)) ⊎ (result ≡ Err refusals.OutOfMemory) }
+    ensures settings { (e : Refusal) → settings_fault settings.now ≡ Some e → result ≡ Err e }
+    ensures errors { settings_fault settings.now ≡ None → IfErr result (λ e. IsReason settings.now image.now e) }
+    ensures image { (cause : ImageCause) → settings_fault settings.now ≡ None → IsImageCause settings.now image.now cause → RefusedAs (refusals.Image cause) result }
     // A plan is refused where the image is good.
-    ensures plan { (cause : PlanCause) → settings_fault settings.now.harts settings.now.pages settings.now.workers settings.now.budget ≡ None → IsGood (StandsIn settings.now.format image.now settings.now.pages) → IsLeastOfPlan settings.now.harts settings.now.plan.now cause → (result ≡ Err (refusals.Plan cause)) ⊎ (result ≡ Err refusals.OutOfMemory) }
+    ensures plan { (cause : PlanCause) → settings_fault settings.now ≡ None → IsImage settings.now image.now → IsPlanCause settings.now cause → RefusedAs (refusals.Plan cause) result }
 {
     let mut machine = prepare(alloc, image, input, settings)?;
     machine.bytes_fit();

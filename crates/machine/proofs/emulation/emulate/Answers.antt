@@ -4,13 +4,13 @@ use Rattle.host_io.specs.declared.error.RunError.TheVariants.{OutOfMemory, SinkF
 use Rattle.machine.proofs.emulation.emulate.Goals as goal
 
 -- a sink that refused has failed
-refused : (r : Result (Unit {0}) RunError) (Failed : Type 0) (A B : RunError → Type 0) → (r ≡ Err SinkFailed → Failed) → IfErr r (λ e. (e ≡ OutOfMemory) ⊎ (e ≡ SinkFailed)) →
-    IfErr r (λ e. (e ≡ OutOfMemory) ⊎ ((e ≡ SinkFailed) × Failed) ⊎ A e ⊎ B e)
-refused (Ok v) Failed A B failed h = tt
-refused (Err e) Failed A B failed h = elim h [
-  | inl memory ↦ inl memory
-  | inr sink ↦ inr (inl (sink, failed (ap Err sink)))
+refused : (r : Result (Unit {0}) RunError) (Failed : Type 0) (A : RunError → Type 0) → (r ≡ Err SinkFailed → Failed) → IfErr r (λ e. (e ≡ OutOfMemory) ⊎ (e ≡ SinkFailed)) →
+    IfErr r (λ e. ((e ≡ OutOfMemory) ⊎ A e) ⊎ ((e ≡ SinkFailed) × Failed))
+refused (Ok v) Failed A failed h = tt
+refused (Err e) Failed A failed h = elim h [
+  | inl memory ↦ inl (inl memory)
+  | inr sink ↦ inr (sink, failed (ap Err sink))
 ]
 
 pub returns-clause-errors : goal.returns-clause-errors
-returns-clause-errors g c = λ none. refused c.report.result _ _ _ c.report.ensures.sink c.report.ensures.errors
+returns-clause-errors g c = λ none. refused c.report.result _ _ c.report.ensures.sink c.report.ensures.errors

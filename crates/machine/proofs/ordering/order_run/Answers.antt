@@ -2,28 +2,23 @@ use Rattle.std.proofs.Common.{◌∙◌, ⊎_elim, inl, inr, ℕ, ◌++◌, Bool
 use Rattle.round_schedule.specs.declared.event.Event.{Event}
 use Rattle.host_io.specs.Taken.{BeganText}
 use Rattle.memory_order.proofs.Meeting.{meets_rvwmo}
-use Rattle.memory_order.specs.RoundOrder.{IsRoundOrder}
-use Rattle.memory_order.specs.Rvwmo.{MeetsRvwmo}
 use Rattle.memory_order.specs.Traced.{opening_at}
 use Rattle.report.specs.Order.{order_text}
-use Rattle.machine.specs.Settings.{image_of}
-use Rattle.machine.proofs.Ordered.{same_opening, where_done, where_refused}
+use Rattle.machine.specs.Settings.{image_for}
+use Rattle.machine.proofs.Ordered.{order_of, same_opening, where_done, where_refused}
 use Rattle.machine.proofs.ordering.order_run.Goals as goal
 
 pub returns-clause-orders : goal.returns-clause-orders
 returns-clause-orders g c =
     let s = c.args.settings.now in
     let t = c.in_ok-trace.trace in
-    let bytes = (image_of s.format c.args.image.now s.pages).bytes in
     let run = c.in_ok-trace.ensures.events in
     let rounds = c.in_ok-trace.ensures.rounds in
-    let rounds_of_image = same_opening t.events (opening_at t.opening) (λ x. slice_index bytes x) s.budget c.in_ok-trace.ensures.opening rounds in
+    let over_image = same_opening t.events (opening_at t.opening) (λ x. slice_index (image_for s c.args.image.now).bytes x) s.budget c.in_ok-trace.ensures.opening rounds in
     where_done c.write_order.result _ _ (λ o. (
       run.0,
       o.0,
-      run.1,
-      subst (λ (events : List Event). IsRoundOrder events o.0) run.2 o.1.by_rounds,
-      subst (λ (events : List Event). MeetsRvwmo events (λ x. slice_index bytes x) o.0) run.2 (meets_rvwmo _ o.0 o.1.by_rounds (λ x. slice_index bytes x) s.budget rounds_of_image),
+      order_of s c.args.image.now c.args.input.now run.0 o.0 t.events run.1 run.2 o.1.by_rounds over_image,
       o.3 ∙ ap (λ (events : List Event). g.S.Sink.took c.args.out.now ++ order_text events o.0 true) run.2,
     )) (c.write_order.ensures.meets s.budget rounds)
 
@@ -33,11 +28,11 @@ returns-clause-begun g c =
     let t = c.in_ok-trace.trace in
     let run = c.in_ok-trace.ensures.events in
     let rounds = c.in_ok-trace.ensures.rounds in
+    let over_image = same_opening t.events (opening_at t.opening) (λ x. slice_index (image_for s c.args.image.now).bytes x) s.budget c.in_ok-trace.ensures.opening rounds in
     where_refused c.write_order.result _ _ (λ h. ⊎_elim (λ same. inl same) (λ o. inr (
       run.0,
       o.0,
-      run.1,
-      subst (λ (events : List Event). IsRoundOrder events o.0) run.2 o.2.by_rounds,
+      order_of s c.args.image.now c.args.input.now run.0 o.0 t.events run.1 run.2 o.2.by_rounds over_image,
       subst (λ (text : List ℕ). BeganText (g.S.Sink.took c.args.out.now) (g.S.Sink.took c.write_order.new.out) text)
           (ap (λ (answer : Bool). order_text t.events o.0 answer) (o.2.checked.1 (meets_rvwmo _ o.0 o.2.by_rounds (opening_at t.opening) s.budget rounds)) ∙ ap (λ (events : List Event). order_text events o.0 true) run.2) o.3,
     )) h) c.write_order.ensures.begun
