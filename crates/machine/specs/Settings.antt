@@ -90,13 +90,13 @@ abbrev pub IsPlan : Settings → Planned → Type 0
 IsPlan s plan = IsPlanOf s.harts s.plan.now s.budget plan
 
 -- the machine after the rounds of a run, from a file, an input and a plan
-abbrev pub run_of : Settings → List ℕ → List ℕ → Planned → Running
-run_of s file input plan = after_rounds s.rounds (opening (image_for s file) input plan)
+abbrev pub after_run : Settings → List ℕ → List ℕ → Planned → Running
+after_run s file input plan = after_rounds s.rounds (opening (image_for s file) input plan)
 
 -- the report of such a run
 abbrev pub report_after : Settings → List ℕ → List ℕ → Planned → List ℕ
-report_after s file input plan = report_of (run_of s file input plan).state
+report_after s file input plan = report_of (after_run s file input plan).state
 
 -- the events of such a run
 abbrev pub trace_after : Settings → List ℕ → List ℕ → Planned → List Event
-trace_after s file input plan = (run_of s file input plan).state.trace
+trace_after s file input plan = (after_run s file input plan).state.trace

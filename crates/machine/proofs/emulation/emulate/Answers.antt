@@ -1,6 +1,10 @@
-use Rattle.std.proofs.Common.{◌≡◌, ◌⊎◌, Err, IfErr, Ok, Result, ap, inl, inr}
+use Rattle.std.proofs.Common.{◌≡◌, ◌∙◌, ◌⊎◌, ◌++◌, ℕ, Err, IfErr, List, Ok, Result, ap, inl, inr, subst}
 use Rattle.host_io.specs.declared.error.RunError.{RunError}
 use Rattle.host_io.specs.declared.error.RunError.TheVariants.{OutOfMemory, SinkFailed}
+use Rattle.host_io.specs.Taken.{BeganText}
+use Rattle.report.specs.Report.{report_of}
+use Rattle.machine.specs.Machine.{Running, after_rounds}
+use Rattle.machine.proofs.Ordered.{where_done, where_refused}
 use Rattle.machine.proofs.emulation.emulate.Goals as goal
 
 -- a sink that refused has failed
@@ -14,3 +18,15 @@ refused (Err e) Failed A failed h = elim h [
 
 pub returns-clause-errors : goal.returns-clause-errors
 returns-clause-errors g c = λ none. refused c.report.result _ _ c.report.ensures.sink c.report.ensures.errors
+
+pub returns-clause-reports : goal.returns-clause-reports
+returns-clause-reports g c =
+    let made = c.in_ok-machine.ensures.machine in
+    let after = c.in_ok-run.ensures.ok ∙ ap (after_rounds c.args.settings.now.rounds) made.2 in
+    where_done c.report.result _ _ (λ h. (made.0, made.1, h ∙ ap (λ (m : Running). g.S.Sink.took c.args.out.now ++ report_of m.state) after)) c.report.ensures.ok
+
+pub returns-clause-begun : goal.returns-clause-begun
+returns-clause-begun g c =
+    let made = c.in_ok-machine.ensures.machine in
+    let after = c.in_ok-run.ensures.ok ∙ ap (after_rounds c.args.settings.now.rounds) made.2 in
+    where_refused c.report.result _ _ (λ h. inr (made.0, made.1, subst (λ (text : List ℕ). BeganText (g.S.Sink.took c.args.out.now) (g.S.Sink.took c.report.new.out) text) (ap (λ (m : Running). report_of m.state) after) h)) c.report.ensures.begun
