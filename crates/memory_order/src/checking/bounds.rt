@@ -26,8 +26,10 @@ pub(crate) fn raise(
 ) -> Result<(), OutOfMemory>
     ensures { OnOk result (Raises bounds.old bounds.new owner address value) }
 {
-    let raised = bound(bounds, owner, address).max(value);
-    bounds.insert((owner, address), raised)?;
+    if bound(bounds, owner, address) >= value {
+        return Ok(());
+    }
+    bounds.insert((owner, address), value)?;
     Ok(())
 }
 
