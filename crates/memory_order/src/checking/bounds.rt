@@ -26,10 +26,15 @@ pub(crate) fn raise(
 ) -> Result<(), OutOfMemory>
     ensures { OnOk result (Raises bounds.old bounds.new owner address value) }
 {
-    if bound(bounds, owner, address) >= value {
+    if value == 0 {
         return Ok(());
     }
-    bounds.insert((owner, address), value)?;
+    // One search of the map is enough where the number was not above `value`, as it mostly is not.
+    let old = bounds.insert((owner, address), value)?.unwrap_or(0);
+    if old <= value {
+        return Ok(());
+    }
+    bounds.insert((owner, address), old)?;
     Ok(())
 }
 
