@@ -105,10 +105,7 @@ impl EventList {
     {
         let count = self.tail.len();
         if count < PART {
-            return match self.tail.reserve(n) {
-                Ok(()) => Ok(()),
-                Err(_) => Err(OutOfMemory),
-            };
+            return Ok(self.tail.reserve(n)?);
         }
         if count > MOST_FINISHED - self.finished {
             return Err(OutOfMemory);

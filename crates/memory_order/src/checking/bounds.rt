@@ -26,8 +26,15 @@ pub(crate) fn raise(
 ) -> Result<(), OutOfMemory>
     ensures { OnOk result (Raises bounds.old bounds.new owner address value) }
 {
-    let raised = bound(bounds, owner, address).max(value);
-    bounds.insert((owner, address), raised)?;
+    if value == 0 {
+        return Ok(());
+    }
+    // One search of the map is enough where the number was not above `value`, as it mostly is not.
+    let old = bounds.insert((owner, address), value)?.unwrap_or(0);
+    if old <= value {
+        return Ok(());
+    }
+    bounds.insert((owner, address), old)?;
     Ok(())
 }
 
