@@ -96,6 +96,7 @@ pub(crate) fn write_hex(room: &mut [u8], number: u64)
     }
 }
 
+/// The hexadecimal digits: a table takes no branch.
 static DIGITS: [u8; 16] = *b"0123456789abcdef";
 
 #[inline]

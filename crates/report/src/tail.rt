@@ -25,6 +25,8 @@ impl Model for Tail {
     ghost invariant = { λ t. t.start ≤ 128 };
 }
 
+// Each method sets `start` last, so that the next one finds it in a register: after a write to the room LLVM would load it
+// again, since it doesn't see that the write stays in the room.
 impl Tail {
     /// No text.
     #[inline]
@@ -51,9 +53,9 @@ impl Tail {
         requires { length text.now + length self.old ≤ 128 }
         ensures { self.new ≡ text.now ++ self.old }
     {
-        let end = self.start;
-        self.start -= text.len();
-        self.room[self.start..end].copy_from_slice(text.as_bytes());
+        let start = self.start - text.len();
+        self.room[start..self.start].copy_from_slice(text.as_bytes());
+        self.start = start;
     }
 
     /// Adds a number in decimal at the front, without leading zeros.
@@ -73,8 +75,8 @@ impl Tail {
         ensures text { self.new ≡ hex digits number ++ self.old }
         ensures length { length self.new ≡ digits + length self.old }
     {
-        let end = self.start;
-        self.start -= digits;
-        write_hex(&mut self.room[self.start..end], number);
+        let start = self.start - digits;
+        write_hex(&mut self.room[start..self.start], number);
+        self.start = start;
     }
 }

@@ -44,7 +44,7 @@ fn set_number(set: FenceSet) -> u64
 }
 
 /// A number of as many bytes as the access has, or a dash.
-#[inline]
+#[inline(always)]
 fn number(tail: &mut Tail, width: Width, number: Option<u64>)
     requires { 16 + length tail.old ≤ 128 }
     ensures text { tail.new ≡ number_text width number ++ tail.old }
@@ -174,6 +174,7 @@ fn access(tail: &mut Tail, access: &Access)
     }
 }
 
+/// An event's line, in a tail with no text yet.
 #[inline]
 fn columns(tail: &mut Tail, event: &Event)
     requires { length tail.old ≡ 0 }
