@@ -1,7 +1,25 @@
 -- Hexadecimal digits, written from the last to the first.
-use Rattle.std.proofs.Common.{◌≡◌, ℕ, zero, suc, ◌-◌, ◌<◌, ◌≤◌, ◌/◌, ◌%◌, List, [], ◌∷◌, ◌++◌, drop, set, length, refl, sym, ap, ◌∙◌, append_assoc, add-one, arith}
+use Rattle.std.proofs.Common.{◌≡◌, ℕ, zero, suc, ◌-◌, ◌<◌, ◌≤◌, ◌/◌, ◌%◌, Bool, true, ◌&&◌, T, eqb, List, [], ◌∷◌, ◌++◌, drop, set, length, get_or, refl, sym, ap, ◌∙◌, inl, inr, eq-zero-or-pos, eqb→eq, append_assoc, add-one, arith}
 use Rattle.std.proofs.lemmas.List.{drop-set}
+use lib.Ieee.Fits.{and_l, and_r}
 use Rattle.report.specs.Text.{hex, hex_digit}
+use Rattle.report.specs.declared.line.TheConstants.{DIGITS}
+
+abbrev are_digits : ℕ → Bool
+are_digits zero = true
+are_digits (suc d) = eqb (get_or DIGITS d 0) (hex_digit d) && are_digits d
+
+below : (n d : ℕ) → T (are_digits n) → d < n → get_or DIGITS d 0 ≡ hex_digit d
+below zero d t low = absurd (omega arith)
+below (suc n) d t low =
+    elim (eq-zero-or-pos (n - d)) [
+      | inl z ↦ let same : d ≡ n = omega arith in rw same (eqb→eq _ _ (and_l _ _ t))
+      | inr g ↦ below n d (and_r _ (are_digits n) t) (omega arith)
+    ]
+
+-- the table of the digits
+pub digits_at : (d : ℕ) → d < 16 → get_or DIGITS d 0 ≡ hex_digit d
+digits_at d low = below 16 d tt low
 
 one_more : (p v : ℕ) (room : List ℕ) → p < length room → hex (suc p) v ++ drop (suc p) room ≡ hex p (v / 16) ++ drop p (set room p (hex_digit (v % 16)))
 unfolding hex

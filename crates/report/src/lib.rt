@@ -5,6 +5,7 @@ mod line;
 mod order;
 mod rows;
 mod state;
+mod tail;
 mod text;
 mod writer;
 

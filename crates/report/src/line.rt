@@ -2,6 +2,7 @@ ghost use Rattle.std.specs.Prelude.{◌≡◌, ℕ, ◌+◌, ◌≤◌, ◌<◌,
 ghost use Rattle.std.specs.Fmt.{decimal};
 ghost use Rattle.report.specs.Text.{hex, hex_digit};
 
+use itoa::write_digits;
 use pages::OutOfMemory;
 use std::alloc::Global;
 use std::marker::Model;
@@ -42,11 +43,12 @@ impl Line {
         self.bytes.as_slice()
     }
 
-    /// Adds one byte.
-    pub fn byte(&mut self, byte: u8) -> Result<(), OutOfMemory>
-        ensures { OnOk result (self.new ≡ self.old ++ byte ∷ []) }
+    /// Adds bytes.
+    #[inline]
+    pub fn bytes(&mut self, bytes: &[u8]) -> Result<(), OutOfMemory>
+        ensures { OnOk result (self.new ≡ self.old ++ bytes.now) }
     {
-        match self.bytes.push(byte) {
+        match self.bytes.extend_from_slice(bytes) {
             Ok(()) => Ok(()),
             Err(_) => Err(OutOfMemory),
         }
@@ -56,21 +58,16 @@ impl Line {
     pub fn text(&mut self, text: &str) -> Result<(), OutOfMemory>
         ensures { OnOk result (self.new ≡ self.old ++ text.now) }
     {
-        match self.bytes.extend_from_slice(text.as_bytes()) {
-            Ok(()) => Ok(()),
-            Err(_) => Err(OutOfMemory),
-        }
+        self.bytes(text.as_bytes())
     }
 
     /// Adds a number in decimal, without leading zeros.
     pub fn decimal(&mut self, number: u64) -> Result<(), OutOfMemory>
         ensures { OnOk result (self.new ≡ self.old ++ decimal number) }
     {
-        if number < 10 {
-            return self.byte(b'0' + number as u8);
-        }
-        self.decimal(number / 10)?;
-        self.byte(b'0' + (number % 10) as u8)
+        let mut room = [0; 20];
+        let start = write_digits(number, &mut room, 20);
+        self.bytes(&room[start..])
     }
 
     /// Adds the low digits of a number in hexadecimal, lower case, as many as asked for.
@@ -81,15 +78,13 @@ impl Line {
         let mut room = [b'0'; 16];
         let text = &mut room[..digits];
         write_hex(text, number);
-        match self.bytes.extend_from_slice(text) {
-            Ok(()) => Ok(()),
-            Err(_) => Err(OutOfMemory),
-        }
+        self.bytes(text)
     }
 }
 
 /// Fills the room with the low digits of a number in hexadecimal.
-fn write_hex(room: &mut [u8], number: u64)
+#[inline]
+pub(crate) fn write_hex(room: &mut [u8], number: u64)
     ensures { room.new ≡ hex (length room.old) number }
 {
     let mut rest = number;
@@ -101,13 +96,13 @@ fn write_hex(room: &mut [u8], number: u64)
     }
 }
 
+/// The hexadecimal digits: a table takes no branch.
+static DIGITS: [u8; 16] = *b"0123456789abcdef";
+
+#[inline]
 fn hex_digit(digit: u8) -> u8
     requires { digit < 16 }
     ensures { result ≡ hex_digit digit }
 {
-    if digit < 10 {
-        b'0' + digit
-    } else {
-        b'a' + (digit - 10)
-    }
+    DIGITS[digit as usize]
 }

@@ -1,9 +1,11 @@
 ghost use Rattle.std.specs.Prelude.{◌≡◌, ℕ, ◌+◌, ◌≤◌, ◌<◌, ◌^◌, List, [], ◌∷◌, ◌++◌, OnOk, OnErr, Option, Some, None, Result, Ok, Err, length, drop, take, codes};
 ghost use Rattle.std.specs.Fmt.{decimal};
 ghost use Rattle.host_io.specs.Taken.{BeganText};
-ghost use Rattle.report.specs.Text.{event_text, access_text, hart_text, hart_line, register_line, register_lines, stop_text, phase_text, ordering_text, number_text, operation_text, set_number, mode_text};
+ghost use Rattle.pages.specs.Memory.{width_bytes};
+ghost use Rattle.report.specs.Text.{event_text, access_text, hart_text, hart_line, register_line, register_lines, stop_text, hex, phase_text, ordering_text, number_text, set_number, mode_text};
 
 use crate::line::Line;
+use crate::tail::Tail;
 use hart_step::{Hart, Stop};
 use host_io::{RunError, Sink, put_all};
 use pages::{OutOfMemory, Width};
@@ -12,13 +14,24 @@ use rv64_decode::{AcquireRelease, FenceMode, FenceSet};
 use std::alloc::Global;
 
 fn ordering(order: AcquireRelease) -> &'static str
-    ensures { result.now ≡ ordering_text order }
+    ensures text { result.now ≡ ordering_text order }
+    ensures length { length result.now ≤ 4 }
 {
     match (order.acquire, order.release) {
         (true, true) => "aqrl",
         (true, false) => "aq",
         (false, true) => "rl",
         (false, false) => "-",
+    }
+}
+
+fn phase(phase: Phase) -> &'static str
+    ensures text { result.now ≡ phase_text phase }
+    ensures length { length result.now ≡ 1 }
+{
+    match phase {
+        Phase::Parallel => "p",
+        Phase::Serial => "s",
     }
 }
 
@@ -31,65 +44,73 @@ fn set_number(set: FenceSet) -> u64
 }
 
 /// A number of as many bytes as the access has, or a dash.
-fn number(line: &mut Line, width: Width, number: Option<u64>) -> Result<(), OutOfMemory>
-    ensures { OnOk result (line.new ≡ line.old ++ number_text width number) }
+#[inline(always)]
+fn number(tail: &mut Tail, width: Width, number: Option<u64>)
+    requires { 16 + length tail.old ≤ 128 }
+    ensures text { tail.new ≡ number_text width number ++ tail.old }
+    ensures length { length tail.new ≤ 16 + length tail.old }
 {
     match number {
-        None => line.text("-"),
+        None => tail.text("-"),
         Some(value) => match width {
-            Width::W1 => line.hex(value, 2),
-            Width::W2 => line.hex(value, 4),
-            Width::W4 => line.hex(value, 8),
-            Width::W8 => line.hex(value, 16),
+            Width::W1 => tail.hex(value, 2),
+            Width::W2 => tail.hex(value, 4),
+            Width::W4 => tail.hex(value, 8),
+            Width::W8 => tail.hex(value, 16),
         },
     }
 }
 
-/// An access that is no fence: its kind and its ordering bits, its bytes, and the numbers that it read and wrote.
-fn operation(
-    line: &mut Line,
-    kind: &str,
-    order: &str,
-    address: u64,
-    width: Width,
-    numbers: (Option<u64>, Option<u64>),
-) -> Result<(), OutOfMemory>
-    ensures { OnOk result (line.new ≡ line.old ++ operation_text kind.now order.now address width numbers.0 numbers.1) }
+/// How many bytes an access has, which is one digit.
+fn bytes(width: Width) -> &'static str
+    ensures text { result.now ≡ decimal (width_bytes width) }
+    ensures length { length result.now ≡ 1 }
 {
-    line.text(kind)?;
-    line.text(order)?;
-    line.text(" ")?;
-    line.hex(address, 8)?;
-    line.text(" ")?;
-    line.decimal(width.bytes())?;
-    line.text(" ")?;
-    number(line, width, numbers.0)?;
-    line.text(" ")?;
-    number(line, width, numbers.1)
+    match width {
+        Width::W1 => "1",
+        Width::W2 => "2",
+        Width::W4 => "4",
+        Width::W8 => "8",
+    }
 }
 
-fn fence(
-    line: &mut Line,
-    before: FenceSet,
-    after: FenceSet,
-    mode: FenceMode,
-) -> Result<(), OutOfMemory>
-    ensures { OnOk result (line.new ≡ line.old ++ (codes "fence " ++ decimal (set_number before) ++ codes " " ++ decimal (set_number after) ++ codes " " ++ mode_text mode)) }
+/// What follows the ordering bits of an access that is no fence: its bytes, and the numbers that it read and wrote.
+fn operands(tail: &mut Tail, address: u64, width: Width, numbers: (Option<u64>, Option<u64>))
+    requires { length tail.old ≤ 1 }
+    ensures text { tail.new ≡ (codes " " ++ hex 8 address ++ codes " " ++ decimal (width_bytes width) ++ codes " " ++ number_text width numbers.0 ++ codes " " ++ number_text width numbers.1) ++ tail.old }
+    ensures length { length tail.new ≤ 46 }
 {
-    line.text("fence ")?;
-    line.decimal(set_number(before))?;
-    line.text(" ")?;
-    line.decimal(set_number(after))?;
-    line.text(" ")?;
-    line.text(match mode {
+    number(tail, width, numbers.1);
+    tail.text(" ");
+    number(tail, width, numbers.0);
+    tail.text(" ");
+    tail.text(bytes(width));
+    tail.text(" ");
+    tail.hex(address, 8);
+    tail.text(" ");
+}
+
+fn fence(tail: &mut Tail, before: FenceSet, after: FenceSet, mode: FenceMode)
+    requires { length tail.old ≤ 1 }
+    ensures text { tail.new ≡ (codes "fence " ++ decimal (set_number before) ++ codes " " ++ decimal (set_number after) ++ codes " " ++ mode_text mode) ++ tail.old }
+    ensures length { length tail.new ≤ 56 }
+{
+    tail.text(match mode {
         FenceMode::Normal => "normal",
         FenceMode::Tso => "tso",
-    })
+    });
+    tail.text(" ");
+    tail.decimal(set_number(after));
+    tail.text(" ");
+    tail.decimal(set_number(before));
+    tail.text("fence ");
 }
 
 #[tactic(auto, unfolding(crate::specs::Text::access_text))]
-fn access(line: &mut Line, access: &Access) -> Result<(), OutOfMemory>
-    ensures { OnOk result (line.new ≡ line.old ++ access_text access.now) }
+fn access(tail: &mut Tail, access: &Access)
+    requires { length tail.old ≤ 1 }
+    ensures text { tail.new ≡ access_text access.now ++ tail.old }
+    ensures length { length tail.new ≤ 56 }
 {
     match *access {
         Access::Load {
@@ -97,41 +118,41 @@ fn access(line: &mut Line, access: &Access) -> Result<(), OutOfMemory>
             address,
             read,
             ..
-        } => operation(line, "load ", "-", address, width, (Some(read), None)),
+        } => {
+            operands(tail, address, width, (Some(read), None));
+            tail.text("load -");
+        }
         Access::Store {
             width,
             address,
             written,
             ..
-        } => operation(line, "store ", "-", address, width, (None, Some(written))),
+        } => {
+            operands(tail, address, width, (None, Some(written)));
+            tail.text("store -");
+        }
         Access::LoadReserved {
             width,
             ordering: order,
             address,
             read,
             ..
-        } => operation(
-            line,
-            "lr ",
-            ordering(order),
-            address,
-            width,
-            (Some(read), None),
-        ),
+        } => {
+            operands(tail, address, width, (Some(read), None));
+            tail.text(ordering(order));
+            tail.text("lr ");
+        }
         Access::StoreConditional {
             width,
             ordering: order,
             address,
             written,
             ..
-        } => operation(
-            line,
-            "sc ",
-            ordering(order),
-            address,
-            width,
-            (None, written),
-        ),
+        } => {
+            operands(tail, address, width, (None, written));
+            tail.text(ordering(order));
+            tail.text("sc ");
+        }
         Access::Atomic {
             width,
             ordering: order,
@@ -139,39 +160,45 @@ fn access(line: &mut Line, access: &Access) -> Result<(), OutOfMemory>
             read,
             written,
             ..
-        } => operation(
-            line,
-            "amo ",
-            ordering(order),
-            address,
-            width,
-            (Some(read), Some(written)),
-        ),
+        } => {
+            operands(tail, address, width, (Some(read), Some(written)));
+            tail.text(ordering(order));
+            tail.text("amo ");
+        }
         Access::Fence {
             before,
             after,
             mode,
             ..
-        } => fence(line, before, after, mode),
+        } => fence(tail, before, after, mode),
     }
 }
 
+/// An event's line, in a tail with no text yet.
+#[inline]
+fn columns(tail: &mut Tail, event: &Event)
+    requires { length tail.old ≡ 0 }
+    ensures { tail.new ≡ event_text event.now ++ tail.old }
+{
+    tail.text("\n");
+    access(tail, &event.access);
+    tail.text(" ");
+    tail.text(phase(event.phase));
+    tail.text(" ");
+    tail.decimal(event.access.place());
+    tail.text(" ");
+    tail.decimal(event.hart as u64);
+    tail.text(" ");
+    tail.decimal(event.round as u64);
+}
+
 /// An event's line.
-#[tactic(auto, unfolding(crate::specs::Text::event_text))]
 pub fn event_line(line: &mut Line, event: &Event) -> Result<(), OutOfMemory>
     ensures { OnOk result (line.new ≡ line.old ++ event_text event.now) }
 {
-    line.decimal(event.round as u64)?;
-    line.text(" ")?;
-    line.decimal(event.hart as u64)?;
-    line.text(" ")?;
-    line.decimal(event.access.place())?;
-    line.text(match event.phase {
-        Phase::Parallel => " p ",
-        Phase::Serial => " s ",
-    })?;
-    access(line, &event.access)?;
-    line.text("\n")
+    let mut tail = Tail::new();
+    columns(&mut tail, event);
+    line.bytes(tail.as_bytes())
 }
 
 fn stop_state(line: &mut Line, stop: Option<Stop>) -> Result<(), OutOfMemory>
