@@ -1,5 +1,6 @@
 pub mod LineBits
 pub mod LineFirst
+pub mod LineMaps
 pub mod LineNumbers
 pub mod LineOrder
 pub mod LoadsOver

@@ -6,27 +6,15 @@ use Rattle.std.proofs.lemmas.Map.Keys.{sorted_head, sorted_tail}
 use Rattle.std.specs.BTreeMap.{is_at}
 use Rattle.std.specs.List.{AllByRecursion}
 use Rattle.std.specs.List.Sorted.{IsStrictlySortedBy}
-use Rattle.std.specs.Map.{keys_of, lookup}
+use Rattle.std.specs.Map.{keys_of}
 use Rattle.std.specs.declared.cmp.Ordering.TheVariants.{Less}
 use Rattle.pages.specs.declared.access.Store.{Store}
 use Rattle.pages.specs.Memory.{byte_of, byte_put, covers, in_range, width_bytes}
 use Rattle.store_buffer.specs.declared.line.Line.{Line}
 use Rattle.store_buffer.specs.Covered.{Rising, byte_at, with_store}
 use Rattle.store_buffer.specs.CoveredLaws.{byte_at-with_store, rising_from, rising_with_store, same_bytes}
-use Rattle.store_buffer.specs.Lines.{byte_if, line_at, line_bytes, lines_bytes, put_first, whole_line}
-
--- the line of a number, and the byte at a place of it
-abbrev pub line_of : List (ℕ × Line) → ℕ → Option Line
-line_of es k = lookup (is_at (nat_cmp k)) es
-
-abbrev pub place_of : Option Line → ℕ → Option ℕ
-place_of None j = None
-place_of (Some l) j = line_at l j
-
--- the numbers of the lines rise
-abbrev pub RisingLines : ℕ → List (ℕ × Line) → Type 0
-RisingLines low [] = Unit {0}
-RisingLines low (e ∷ es) = (low ≤ e.0) × RisingLines (e.0 + 1) es
+use Rattle.store_buffer.specs.Held.{RisingLines}
+use Rattle.store_buffer.specs.Lines.{byte_if, line_at, line_bytes, line_of, lines_bytes, place_of, put_first, whole_line}
 
 abbrev pub or_else : Option ℕ → Option ℕ → Option ℕ
 or_else None o = o
@@ -118,10 +106,10 @@ rising_lines low (e ∷ es) h =
     let next : 64 * (e.0 + 1) ≡ 64 * e.0 + 0 + 64 = omega arith in
     rising_line 64 (64 * low) (64 * e.0) 0 e.1 (lines_bytes es) (omega (arith, h.0)) (subst (λ k. Rising k (lines_bytes es)) next (rising_lines (e.0 + 1) es h.1))
 
-is_at_same : (k q : ℕ) → k ≡ q → is_at (nat_cmp k) q ≡ true
+pub is_at_same : (k q : ℕ) → k ≡ q → is_at (nat_cmp k) q ≡ true
 is_at_same k q h = grind (arith, nat_tests)
 
-is_at_other : (k q : ℕ) → (k ≡ q → ⊥) → is_at (nat_cmp k) q ≡ false
+pub is_at_other : (k q : ℕ) → (k ≡ q → ⊥) → is_at (nat_cmp k) q ≡ false
 is_at_other k q h = grind (arith, nat_tests)
 
 pub line_of-below : (low : ℕ) (es : List (ℕ × Line)) (k : ℕ) → k < low → RisingLines low es → line_of es k ≡ None

@@ -2,4 +2,5 @@ pub mod Covered
 pub mod CoveredLaws
 pub mod Held
 pub mod Laws
+pub mod LineMaps
 pub mod Lines

@@ -1,5 +1,8 @@
 -- The bytes that lines of 64 hold.
 use Rattle.std.specs.Prelude.{ℕ, zero, suc, ◌+◌, ◌*◌, ◌/◌, ◌%◌, ◌^◌, ◌==◌, Bool, true, false, List, [], ◌∷◌, ◌++◌, map, Option, Some, None, slice_index, unwrap_or}
+use Rattle.std.specs.Ordering.{nat_cmp}
+use Rattle.std.specs.BTreeMap.{is_at}
+use Rattle.std.specs.Map.{lookup}
 use Rattle.store_buffer.specs.declared.line.Line.{Line}
 
 -- a byte, if its bit is set
@@ -10,6 +13,14 @@ byte_if false b = None
 -- the byte at a place of a line, if it is covered
 abbrev pub line_at : Line → ℕ → Option ℕ
 line_at l j = byte_if (l.mask / 2 ^ j % 2 == 1) (slice_index l.bytes j)
+
+-- the line of a number, and the byte at a place of it
+abbrev pub line_of : List (ℕ × Line) → ℕ → Option Line
+line_of es k = lookup (is_at (nat_cmp k)) es
+
+abbrev pub place_of : Option Line → ℕ → Option ℕ
+place_of None j = None
+place_of (Some l) j = line_at l j
 
 abbrev pub put_first : ℕ → Option ℕ → List (ℕ × ℕ) → List (ℕ × ℕ)
 put_first a None es = es

@@ -3,6 +3,7 @@
 
 mod laws;
 mod line;
+mod line_map;
 mod lines;
 mod store_buffer;
 mod stores;

@@ -3,14 +3,14 @@ ghost use Rattle.std.specs.Iterator.{YieldsFirstBy, item_count};
 ghost use Rattle.store_buffer.specs.Held.{AllNear};
 ghost use Rattle.store_buffer.specs.Lines.{addressed};
 
+use crate::line_map::InOrder;
 use crate::{LINE_BYTES, Line};
-use std::collections::btree_map;
 use std::marker::Model;
 
 /// The lines of a store buffer that are left to give, each with the address of its first byte.
 #[derive(Drop)]
 pub struct Lines<'a> {
-    rest: btree_map::Iter<'a, u64, Line>,
+    rest: InOrder<'a>,
 }
 
 impl<'a> Model for Lines<'a> {
@@ -29,7 +29,7 @@ impl<'a> Model for Lines<'a> {
 
 impl<'a> Lines<'a> {
     #[inline]
-    pub(crate) fn new(rest: btree_map::Iter<'a, u64, Line>) -> Lines<'a>
+    pub(crate) fn new(rest: InOrder<'a>) -> Lines<'a>
         requires { AllNear rest }
         ensures { result ≡ addressed rest.entry }
     {
@@ -47,6 +47,6 @@ impl<'a> Iterator for Lines<'a> {
     #[inline]
     fn next(&mut self) -> Option<(u64, &'a Line)> {
         let (number, line) = self.rest.next()?;
-        Some((*number * LINE_BYTES, line))
+        Some((number * LINE_BYTES, line))
     }
 }

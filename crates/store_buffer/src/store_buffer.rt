@@ -4,16 +4,16 @@ ghost use Rattle.store_buffer.specs.declared.line.Line.{Line as LineOf};
 ghost use Rattle.store_buffer.specs.Lines.{lent_bytes};
 ghost use Rattle.store_buffer.specs.Covered.{Rising, byte_at, stores_of, with_store};
 
-use crate::{LINE_BYTES, Line, Lines, Stores};
+use crate::line_map::LineMap;
+use crate::{LINE_BYTES, Lines, Stores};
 use pages::{Fault, OutOfMemory, Pages, Store, Width};
 use std::alloc::Global;
-use std::collections::BTreeMap;
 use std::marker::Model;
 
 /// The bytes that stores have put, each with its address.
 #[derive(Drop)]
 pub struct StoreBuffer {
-    lines: BTreeMap<u64, Line>,
+    lines: LineMap,
 }
 
 impl Model for StoreBuffer {
@@ -24,7 +24,7 @@ impl Model for StoreBuffer {
     ghost use Rattle.store_buffer.specs.Held.{Held};
     ghost use Rattle.store_buffer.specs.Lines.{lines_bytes};
 
-    ghost view = { λ b. lines_bytes b.lines.entries };
+    ghost view = { λ b. lines_bytes b.lines };
 
     ghost invariant = { λ b. Held b.lines };
 }
@@ -35,7 +35,7 @@ impl StoreBuffer {
         ensures { result ≡ [] }
     {
         StoreBuffer {
-            lines: BTreeMap::new(alloc),
+            lines: LineMap::new(alloc),
         }
     }
 
@@ -48,18 +48,8 @@ impl StoreBuffer {
         ensures room { (x : ℕ) → x / 64 ≡ s.addr / 64 → IsSome (byte_at self.old x) → IsOk result }
         ensures rising { Rising 0 self.new }
     {
-        let number = s.addr / LINE_BYTES;
-        match self.lines.get_mut(&number) {
-            Some(line) => {
-                line.put(s.addr % LINE_BYTES, s.width, s.value);
-                return Ok(());
-            }
-            None => {}
-        }
-        let mut line = Line::empty();
-        line.put(s.addr % LINE_BYTES, s.width, s.value);
-        self.lines.insert(number, line)?;
-        Ok(())
+        let at = s.addr % LINE_BYTES;
+        self.lines.put(s.addr / LINE_BYTES, at, s.width, s.value)
     }
 
     /// The number of this width at an address of guest memory, with the buffer's bytes over those of memory,
@@ -70,7 +60,7 @@ impl StoreBuffer {
     {
         let number = p.read(addr, width)?;
         p.bytes_fit();
-        match self.lines.get(&(addr / LINE_BYTES)) {
+        match self.lines.get(addr / LINE_BYTES) {
             Some(line) => Ok(line.over(number, addr % LINE_BYTES, width)),
             None => Ok(number),
         }

@@ -4,15 +4,15 @@ ghost use Rattle.store_buffer.specs.Covered.{stores_of};
 ghost use Rattle.store_buffer.specs.Held.{AllNear};
 ghost use Rattle.store_buffer.specs.Lines.{lines_bytes};
 
+use crate::line_map::InOrder;
 use crate::{LINE_BYTES, Line};
 use pages::{Store, Width};
-use std::collections::btree_map;
 use std::marker::Model;
 
 /// The bytes of a store buffer that are left to give, as stores of width 1 in rising address.
 #[derive(Drop)]
 pub struct Stores<'a> {
-    rest: btree_map::Iter<'a, u64, Line>,
+    rest: InOrder<'a>,
     start: u64,
     line: Line,
 }
@@ -32,7 +32,7 @@ impl<'a> Model for Stores<'a> {
 
 impl<'a> Stores<'a> {
     #[inline]
-    pub(crate) fn new(rest: btree_map::Iter<'a, u64, Line>) -> Stores<'a>
+    pub(crate) fn new(rest: InOrder<'a>) -> Stores<'a>
         requires { AllNear rest }
         ensures { result ≡ lines_bytes rest.entry }
     {
@@ -55,7 +55,7 @@ impl<'a> Iterator for Stores<'a> {
     fn next(&mut self) -> Option<Store> {
         while self.line.mask == 0 {
             let (number, line) = self.rest.next()?;
-            self.start = *number * LINE_BYTES;
+            self.start = number * LINE_BYTES;
             self.line = *line;
         }
         let place = self.line.mask.trailing_zeros();

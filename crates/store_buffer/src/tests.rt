@@ -1,4 +1,4 @@
-ghost use Rattle.std.specs.Prelude.{◌≡◌, ◌%◌};
+ghost use Rattle.std.specs.Prelude.{◌≡◌, ◌%◌, ◌<◌};
 ghost use Rattle.pages.specs.Memory.{width_bytes};
 
 use crate::StoreBuffer;
@@ -74,6 +74,37 @@ fn bytes_as_stores(rt: HostRuntime) -> Result<(), Fail> {
     let (start, line) = lines.next().ok_or("no second line")?;
     assert!(rt; start == 0x40 && line.mask == 0xff && line.bytes[0] == 0x88);
     assert!(rt; lines.next().is_none());
+    Ok(())
+}
+
+/// The byte that is put to a line in a turn.
+fn byte_of(line: u64, turn: u64) -> Store
+    requires line { line < 3 }
+    requires turn { turn < 3 }
+    ensures { result.addr % width_bytes result.width ≡ 0 }
+{
+    Store {
+        addr: 0x1000 * line + 0x40 + turn,
+        width: Width::W1,
+        value: 16 * line + turn,
+    }
+}
+
+#[test]
+fn lines_64_apart_are_told_apart(rt: HostRuntime) -> Result<(), Fail> {
+    let mut buffer = StoreBuffer::new(rt.alloc());
+    for turn in 0..3 {
+        for line in 0..3 {
+            buffer.put(byte_of(line, turn))?;
+        }
+    }
+    let mut given = buffer.stores();
+    for line in 0..3 {
+        for turn in 0..3 {
+            assert!(rt; given.next() == Some(byte_of(line, turn)));
+        }
+    }
+    assert!(rt; given.next().is_none());
     Ok(())
 }
 

@@ -2,9 +2,9 @@ use Rattle.std.proofs.Common.{◌≡◌, ◌<◌, ◌+◌, ◌/◌, ◌%◌, ◌
 use Rattle.std.proofs.lemmas.Result.{err_from_is_err_and}
 use Rattle.pages.specs.Memory.{after, value_at, width_bytes}
 use Rattle.store_buffer.specs.Covered.{byte_at, stores_of}
-use Rattle.store_buffer.specs.Lines.{lines_bytes, line_at, number_over}
+use Rattle.store_buffer.specs.Lines.{line_at, line_of, lines_bytes, number_over}
 use Rattle.store_buffer.proofs.LineNumbers.{in_one_line, one_line}
-use Rattle.store_buffer.proofs.LineOrder.{line_missing, line_of, line_read, rising_keys, rising_lines}
+use Rattle.store_buffer.proofs.LineOrder.{line_missing, line_read, rising_lines}
 use Rattle.store_buffer.proofs.LoadsOver.{load_err, load_ok, number_apart, number_under, small_bytes}
 use Rattle.store_buffer.proofs.store_buffer.StoreBuffer.read_over.Goals as goal
 
@@ -24,12 +24,12 @@ returns-in-Some c =
     let m = c.args.p.now.memory in
     let a = c.args.addr in
     let w = c.args.width in
-    let es = c.self.inside.lines.entries in
+    let es = c.self.inside.lines in
     let line = c.in-Some.line.now in
     let ok = load_ok m (stores_of c.args.self.now) a w c.in_ok-number.number (sym c.in_ok-number.ensures.value) in
     let page = in_one_line a w ok.1 in
-    let order = rising_keys es c.self.invariant.ordered in
-    let found : Some line ≡ line_of es (a / 64) = c.in-Some.ensures.value in
+    let order = c.self.invariant.rising in
+    let found : Some line ≡ line_of es (a / 64) = c.in-Some.ensures in
     let there : (i : ℕ) → i < width_bytes w → byte_at (lines_bytes es) (a + i) ≡ line_at line (a % 64 + i) = λ i h.
     let t = one_line a i (omega arith) in
     line_read es line (a + i) order (found ∙ ap (line_of es) (sym t.0)) ∙ ap (line_at line) t.1 in
@@ -43,11 +43,11 @@ returns-in-None c =
     let m = c.args.p.now.memory in
     let a = c.args.addr in
     let w = c.args.width in
-    let es = c.self.inside.lines.entries in
+    let es = c.self.inside.lines in
     let ok = load_ok m (stores_of c.args.self.now) a w c.in_ok-number.number (sym c.in_ok-number.ensures.value) in
     let page = in_one_line a w ok.1 in
-    let order = rising_keys es c.self.invariant.ordered in
-    let missing : None ≡ line_of es (a / 64) = c.in-None.ensures.value in
+    let order = c.self.invariant.rising in
+    let missing : None ≡ line_of es (a / 64) = c.in-None.ensures in
     let absent : (i : ℕ) → i < width_bytes w → byte_at (lines_bytes es) (a + i) ≡ None = λ i h.
     let t = one_line a i (omega arith) in
     line_missing es (a + i) order (missing ∙ ap (line_of es) (sym t.0)) in

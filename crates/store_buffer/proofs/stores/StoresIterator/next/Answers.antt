@@ -22,7 +22,7 @@ returns-in_err-number-clause-steps c =
 pub loop-self-preserved : goal.loop-self-preserved
 loop-self-preserved c =
     let inside = c.loop-self.self-inside in
-    let k = c.in_ok-number.number.now in
+    let k = c.in_ok-number.number in
     let l = c.in_ok-number.line.now in
     let es = c.next.new.self in
     let step : inside.rest ≡ (k, l) ∷ es = c.in_ok-number.ensures.steps in

@@ -1,0 +1,201 @@
+-- Lines by their numbers, from the places that are listed for them.
+use Rattle.std.proofs.Common.{◌≡◌, ◌≢◌, ℕ, ◌+◌, ◌-◌, ◌^◌, ◌<◌, ◌≤◌, List, [], ◌∷◌, ◌++◌, length, All, refl, sym, ap, subst, ◌∙◌, arith, Bool, true, false, cond, if◌then◌else◌, ◌⊎◌, ⊎_elim, inl, inr, Option, Some, None, is_some, nat_cmp, get_or, length-append, Result, Ok, Err, IfOk, OnOk}
+use Rattle.pages.specs.declared.out_of_memory.OutOfMemory.{OutOfMemory}
+use Rattle.std.specs.Prelude.{option_map}
+use Rattle.std.proofs.Math.ListN.{get_or-append, set}
+use Rattle.std.proofs.Math.Seq.{get_or-append_seam}
+use Rattle.std.proofs.lemmas.List.{get_or-set_other, get_or-set_same, length-set}
+use Rattle.std.proofs.lemmas.Map.Views.{All-values-insert_entry}
+use Rattle.std.proofs.lemmas.Bool.{cases_eq}
+use Rattle.std.specs.BTreeMap.{BTreeMap, is_at}
+use Rattle.std.specs.List.Sorted.{IsStrictlySortedBy}
+use Rattle.std.specs.Map.{keys_of, values_of}
+use Rattle.pages.specs.declared.access.Width.{Width}
+use Rattle.pages.specs.Memory.{byte_of, in_range, width_bytes}
+use Rattle.store_buffer.specs.declared.line.Line.{Line}
+use Rattle.store_buffer.specs.declared.line_map.Numbered.{Numbered}
+use Rattle.store_buffer.specs.Held.{Held}
+use Rattle.store_buffer.specs.LineMaps.{ArePlaced, HasAdded, HasTaken, IsLineMap, IsOpen, blank, line_in, lines_in, listed_at, number_in}
+use Rattle.store_buffer.specs.Lines.{line_at, line_of, place_of}
+use Rattle.store_buffer.proofs.LineNumbers.{no_mask}
+use Rattle.store_buffer.proofs.LineOrder.{is_at_other, is_at_same, rising_keys}
+
+some_is : {X : Type 0} (x y : X) → Some x ≡ Some y → x ≡ y
+some_is x y e = cc e
+
+-- the line of a number is that at its place
+pub line_listed : (ls : List Numbered) (es : List (ℕ × ℕ)) (q : ℕ) → line_of (lines_in ls es) q ≡ option_map (line_in ls) (listed_at es q)
+line_listed ls [] q = refl
+line_listed ls (e ∷ es) q = ap (λ o. cond (is_at (nat_cmp q) e.0) (Some (line_in ls e.1)) o) (line_listed ls es q) ∙ mapped (is_at (nat_cmp q) e.0)
+  where
+    mapped : (t : Bool) → cond t (Some (line_in ls e.1)) (option_map (line_in ls) (listed_at es q)) ≡ option_map (line_in ls) (cond t (Some e.1) (listed_at es q))
+    mapped true = refl
+    mapped false = refl
+
+pub keys-lines_in : (ls : List Numbered) (es : List (ℕ × ℕ)) → keys_of (lines_in ls es) ≡ keys_of es
+keys-lines_in ls [] = refl
+keys-lines_in ls (e ∷ es) = ap (λ ks. e.0 ∷ ks) (keys-lines_in ls es)
+
+pub held : (ls : List Numbered) (places : BTreeMap ℕ ℕ) → IsLineMap ls places → Held (lines_in ls places.entries)
+held ls places m =
+    let keys = keys-lines_in ls places.entries in
+    record {
+      rising = rising_keys (lines_in ls places.entries) (subst (λ (ks : List ℕ). IsStrictlySortedBy nat_cmp ks) (sym keys) m.ordered);
+      near = subst (λ (ks : List ℕ). All (λ k. k < 2 ^ 58) ks) (sym keys) m.near;
+    }
+
+-- the line of one number is another, or a new one, and the others stand where they stood
+pub record Changed (ls ms : List Numbered) (es fs : List (ℕ × ℕ)) (number place : ℕ) (l : Line) : Type 0 where
+  pub listed : (q : ℕ) → listed_at fs q ≡ cond (is_at (nat_cmp number) q) (Some place) (listed_at es q)
+  pub new : get_or ms place blank ≡ record { number = number; line = l }
+  pub low : place < length ms
+  pub kept : (p : ℕ) → p < length ls → p ≢ place → get_or ms p blank ≡ get_or ls p blank
+  pub older : (p : ℕ) → p < length ms → p ≢ place → p < length ls
+  pub longer : length ls ≤ length ms
+  pub before : (Some place ≡ listed_at es number) ⊎ ((None ≡ listed_at es number) × (place ≡ length ls))
+  pub within : All (λ p. p < length ms) (values_of fs)
+
+module _ (ls ms : List Numbered) (es fs : List (ℕ × ℕ)) (number place : ℕ) (l : Line) (a : ArePlaced ls es) (c : Changed ls ms es fs number place l) where
+  -- a place of another number is another place
+  apart : (n p : ℕ) → Some p ≡ listed_at es n → (number ≡ n → ⊥) → p ≡ place → ⊥
+  apart n p e other same = elim c.before [
+    | inl here ↦ other (sym (a.placed number place here).1 ∙ ap (number_in ls) (sym same) ∙ (a.placed n p e).1)
+    | inr none ↦ (let below = (a.placed n p e).0 in let end = none.1 in omega arith)
+  ]
+
+  listed_same : (q : ℕ) → number ≡ q → listed_at fs q ≡ Some place
+  listed_same q e = c.listed q ∙ ap (λ t. cond t (Some place) (listed_at es q)) (is_at_same number q e)
+
+  listed_other : (q : ℕ) → (number ≡ q → ⊥) → listed_at fs q ≡ listed_at es q
+  listed_other q n = c.listed q ∙ ap (λ t. cond t (Some place) (listed_at es q)) (is_at_other number q n)
+
+  placed_same : (n p : ℕ) → Some p ≡ listed_at fs n → number ≡ n → (p < length ms) × (number_in ms p ≡ n)
+  placed_same n p e same =
+      let at : p ≡ place = some_is p place (e ∙ listed_same n same) in
+      let low = c.low in
+      (omega arith, ap (number_in ms) at ∙ ap (λ (x : Numbered). x.number) c.new ∙ same)
+
+  placed_other : (n p : ℕ) → Some p ≡ listed_at fs n → (number ≡ n → ⊥) → (p < length ms) × (number_in ms p ≡ n)
+  placed_other n p e other =
+      let found : Some p ≡ listed_at es n = e ∙ listed_other n other in
+      let was = a.placed n p found in
+      let below = was.0 in
+      let longer = c.longer in
+      (omega arith, ap (λ (x : Numbered). x.number) (c.kept p was.0 (apart n p found other)) ∙ was.1)
+
+  one_place : (p : ℕ) → Some p ≡ listed_at es number → p ≢ place → ⊥
+  one_place p e n = elim c.before [
+    | inl here ↦ n (some_is p place (e ∙ sym here))
+    | inr none ↦ (let no : None ≡ Some p = none.0 ∙ sym e in cc no)
+  ]
+
+  listed_new : (p : ℕ) → p ≡ place → Some p ≡ listed_at fs (number_in ms p)
+  listed_new p at = ap Some at ∙ sym (listed_same (number_in ms p) (sym (ap (number_in ms) at ∙ ap (λ (x : Numbered). x.number) c.new)))
+
+  listed_old : (p : ℕ) → p < length ms → p ≢ place → Some p ≡ listed_at fs (number_in ms p)
+  listed_old p low n =
+      let old = c.older p low n in
+      let same : number_in ms p ≡ number_in ls p = ap (λ (x : Numbered). x.number) (c.kept p old n) in
+      let found = a.listed p old in
+      let other : number ≡ number_in ls p → ⊥ = λ e. one_place p (found ∙ ap (listed_at es) (sym e)) n in
+      found ∙ sym (listed_other (number_in ls p) other) ∙ ap (listed_at fs) (sym same)
+
+  pub placed_on : ArePlaced ms fs
+  placed_on = record {
+    placed = λ n p e. ⊎_elim (λ (same : number ≡ n). placed_same n p e same) (λ (other : number ≡ n → ⊥). placed_other n p e other) (cases_eq number n);
+    listed = λ p low. ⊎_elim (λ (at : p ≡ place). listed_new p at) (λ (n : p ≡ place → ⊥). listed_old p low n) (cases_eq p place);
+    within = c.within;
+  }
+
+  same_line : (q : ℕ) (o : Option ℕ) → o ≡ listed_at es q → (number ≡ q → ⊥) → option_map (line_in ms) o ≡ option_map (line_in ls) o
+  same_line q None e other = refl
+  same_line q (Some p) e other = ap (λ (x : Numbered). Some x.line) (c.kept p (a.placed q p e).0 (apart q p e other))
+
+  line_on : (q : ℕ) → line_of (lines_in ms fs) q ≡ cond (is_at (nat_cmp number) q) (Some l) (line_of (lines_in ls es) q)
+  line_on q = line_listed ms fs q ∙ ⊎_elim
+      (λ (same : number ≡ q).
+      ap (option_map (line_in ms)) (listed_same q same) ∙ ap (λ (x : Numbered). Some x.line) c.new
+      ∙ sym (ap (λ t. cond t (Some l) (line_of (lines_in ls es) q)) (is_at_same number q same)))
+      (λ (other : number ≡ q → ⊥).
+      ap (option_map (line_in ms)) (listed_other q other) ∙ same_line q (listed_at es q) refl other ∙ sym (line_listed ls es q)
+      ∙ sym (ap (λ t. cond t (Some l) (line_of (lines_in ls es) q)) (is_at_other number q other)))
+      (cases_eq number q)
+
+  pub taken : (at : ℕ) (width : Width) (value : ℕ) → ((j : ℕ) → j < 64 → line_at l j ≡ (if in_range at (width_bytes width) j then Some (byte_of value (j - at)) else place_of (line_of (lines_in ls es) number) j)) →
+      HasTaken number at width value (lines_in ls es) (lines_in ms fs)
+  taken at width value here = record { line = l; others = line_on; here = here }
+
+all_lower : (n m : ℕ) (xs : List ℕ) → n ≤ m → All (λ p. p < n) xs → All (λ p. p < m) xs
+all_lower n m xs h a = λ k d low. let below = a k d low in omega arith
+
+-- a line that is there is open
+pub there : (ls : List Numbered) (es : List (ℕ × ℕ)) (number place : ℕ) → ArePlaced ls es → place < length ls → Some place ≡ listed_at es number → IsOpen number place ls ls es es
+there ls es number place a low e = record {
+  listed = λ q. ⊎_elim
+      (λ (same : number ≡ q). ap (listed_at es) (sym same) ∙ sym e ∙ sym (ap (λ t. cond t (Some place) (listed_at es q)) (is_at_same number q same)))
+      (λ (other : number ≡ q → ⊥). sym (ap (λ t. cond t (Some place) (listed_at es q)) (is_at_other number q other)))
+      (cases_eq number q);
+  low = low;
+  number_there = (a.placed number place e).1;
+  kept = λ p l n. refl;
+  older = λ p l n. l;
+  longer = omega arith;
+  before = inl e;
+  within = a.within;
+  same = λ j. ap (λ o. place_of (option_map (line_in ls) o) j) e;
+}
+
+-- a line that was added is open
+pub added : (ls ms : List Numbered) (es fs : List (ℕ × ℕ)) (number place : ℕ) → ArePlaced ls es → None ≡ listed_at es number → HasAdded number place ls ms es fs → IsOpen number place ls ms es fs
+added ls ms es fs number place a none h =
+    let x : Numbered = record { number = number; line = h.line } in
+    let at : get_or ms place blank ≡ x = ap (λ (l : List Numbered). get_or l place blank) h.lines ∙ ap (λ p. get_or (ls ++ x ∷ []) p blank) h.last ∙ get_or-append_seam ls x [] blank in
+    let size : length ms ≡ length ls + 1 = ap length h.lines ∙ length-append ls (x ∷ []) in
+    let last = h.last in
+    let longer : length ls ≤ length ms = omega arith in
+    let low : place < length ms = omega arith in
+    record {
+      listed = h.listed;
+      low = low;
+      number_there = ap (λ (y : Numbered). y.number) at;
+      kept = λ p l n. ap (λ (l : List Numbered). get_or l p blank) h.lines ∙ get_or-append ls (x ∷ []) blank p l;
+      older = λ p l n. omega arith;
+      longer = longer;
+      before = inr (none, last);
+      within = subst (λ (es : List (ℕ × ℕ)). All (λ p. p < length ms) (values_of es)) (sym h.places) (All-values-insert_entry nat_cmp number place (λ p. p < length ms) es (all_lower (length ls) (length ms) (values_of es) longer a.within) low);
+      same = λ j. ap (λ (y : Numbered). line_at y.line j) at ∙ no_mask h.line j h.empty ∙ ap (λ o. place_of (option_map (line_in ls) o) j) none;
+    }
+
+-- an open line is written
+pub written : (ls ms : List Numbered) (es fs : List (ℕ × ℕ)) (number place n : ℕ) (l : Line) → IsOpen number place ls ms es fs → n ≡ number → Changed ls (set ms place (record { number = n; line = l })) es fs number place l
+written ls ms es fs number place n l o e =
+    let x : Numbered = record { number = n; line = l } in
+    let size : length (set ms place x) ≡ length ms = length-set ms place x in
+    let low = o.low in
+    let longer = o.longer in
+    record {
+      listed = o.listed;
+      new = get_or-set_same ms place x blank o.low ∙ ap (λ (k : ℕ). record { number = k; line = l }) e;
+      low = omega arith;
+      kept = λ p h d. get_or-set_other ms place p x blank d ∙ o.kept p h d;
+      older = λ p h d. o.older p (omega arith) d;
+      longer = omega arith;
+      before = o.before;
+      within = all_lower (length ms) (length (set ms place x)) (values_of fs) (omega arith) o.within;
+    }
+
+pub where_ok : {X : Type 0} (r : Result X OutOfMemory) (P Q : X → Type 0) → ((x : X) → P x → Q x) → IfOk r P → IfOk r Q
+where_ok (Ok x) P Q f h = f x h
+where_ok (Err e) P Q f h = tt
+
+pub on_ok : {X : Type 0} (r : Result X OutOfMemory) (P Q : Type 0) → (P → Q) → OnOk r P → OnOk r Q
+on_ok (Ok x) P Q f h = f h
+on_ok (Err e) P Q f h = tt
+
+-- a line that is there is listed
+pub some_listed : (ls : List Numbered) (es : List (ℕ × ℕ)) (n : ℕ) → is_some (line_of (lines_in ls es) n) ≡ true → is_some (listed_at es n) ≡ true
+some_listed ls es n h = back (listed_at es n) (sym (ap (λ o. is_some o) (line_listed ls es n)) ∙ h)
+  where
+    back : (o : Option ℕ) → is_some (option_map (line_in ls) o) ≡ true → is_some o ≡ true
+    back None e = e
+    back (Some p) e = refl
