@@ -52,7 +52,7 @@ same_rounds w bs qs ps (h ∷ hs) f =
 
 -- the round of a hart, as it was gathered
 pub is_outcome : (s : Start) (n : ℕ) (d : Hart) (c : Content) (o : Outcome) → n < length s.harts → length s.quotas ≡ length s.harts → round_at s n ≡ Some c →
-    c ≡ content_from o.hart o.buffer o.accesses.items o.waits →
+    c ≡ content_from o.hart o.buffer o.log o.waits →
     IsOutcome s.memory (hart_round_of (words_of s.memory.code) s.memory.bytes (get_or s.quotas n 0) (get_or s.harts n d)) o
 is_outcome s n d c o low sized at parts =
     let q = get_or s.quotas n 0 in
@@ -60,7 +60,7 @@ is_outcome s n d c o low sized at parts =
     let r = hart_round_of (words_of s.memory.code) s.memory.bytes q h in
     let both : Some (content_of r) ≡ Some c = sym (round_at_is s n q h (indexed s.harts n d low) (indexed s.quotas n 0 (omega (arith, sized, low)))) ∙ at in
     let here : content_of r ≡ c = cc in
-    let same : content_of r ≡ content_from o.hart o.buffer o.accesses.items o.waits = here ∙ parts in
+    let same : content_of r ≡ content_from o.hart o.buffer o.log o.waits = here ∙ parts in
     record {
       hart = sym (ap (λ (x : Content). x.hart) same);
       buffer = sym (ap (λ (x : Content). x.buffer) same);

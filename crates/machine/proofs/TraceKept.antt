@@ -1,5 +1,7 @@
 -- The events of a machine stay a trace over a round.
-use Rattle.std.proofs.Common.{◌≡◌, ℕ, zero, suc, ◌+◌, ◌-◌, ◌*◌, ◌^◌, ◌<◌, ◌≤◌, List, [], ◌∷◌, ◌++◌, length, get_or, take, drop, All, Option, sym, ap, ◌∙◌, subst, arith, append_assoc, drop-cons, take_all}
+use Rattle.std.proofs.Common.{◌≡◌, ℕ, if◌then◌else◌, zero, suc, ◌+◌, ◌-◌, ◌*◌, ◌^◌, ◌<◌, ◌≤◌, Bool, true, false, List, [], ◌∷◌, ◌++◌, length, get_or, take, drop, All, Option, refl, sym, ap, ◌∙◌, subst, arith, append_assoc, drop-cons, length-append, take_all}
+use Rattle.std.proofs.lemmas.Bool.{false≢true}
+use Rattle.std.proofs.lemmas.List.{length-map}
 use Rattle.std.proofs.lemmas.List.Elements.{All-cons}
 use Rattle.pages.specs.Memory.{IsBytes}
 use Rattle.pages.specs.Paged.{Paged}
@@ -9,7 +11,7 @@ use Rattle.round_schedule.specs.declared.access.Access.{Access}
 use Rattle.round_schedule.specs.declared.event.Phase.TheVariants.{Parallel, Serial}
 use Rattle.round_schedule.specs.ByTable.{RoundByTable}
 use Rattle.round_schedule.specs.Desk.{log_events}
-use Rattle.round_schedule.specs.Events.{events_of}
+use Rattle.round_schedule.specs.Events.{event_of, events_of}
 use Rattle.round_schedule.specs.Places.{Placed}
 use Rattle.round_schedule.specs.Schedule.{State, round_of}
 use Rattle.round_schedule.specs.Tables.{Tied}
@@ -22,12 +24,12 @@ use Rattle.hart_step.specs.Console.{ConsoleState}
 use Rattle.hart_step.specs.Words.{words_of}
 use Rattle.hart_step.proofs.Formation.{has_forms}
 use Rattle.hart_step.proofs.Soundness.{counts_done, sound}
-use Rattle.memory_order.specs.Traced.{IsTrace}
+use Rattle.memory_order.specs.Traced.{IsTrace, Traced}
 use Rattle.memory_order.proofs.RunForms.{round_leaves_trace}
 use Rattle.machine.specs.Held.{most_of_round}
 use Rattle.machine.specs.Machine.{opening_hart, opening_harts}
 use Rattle.machine.specs.declared.outcome.Outcome.{Outcome}
-use Rattle.machine.specs.Outcomes.{outcome_events}
+use Rattle.machine.specs.Outcomes.{HasPlaces, outcome_events}
 use Rattle.machine.specs.Rounds.{next_parts, parts_after}
 
 -- no hart has done anything before the first round
@@ -93,14 +95,14 @@ turn_first es n i closed as' l e h = split_first es (events_of n i Serial as') (
         joined : events_of n i Serial as' ++ log_events n (suc i) (drop (suc i) closed) ≡ events_of n i Serial as' ++ log_events n (i + 1) (drop (i + 1) closed)
         joined = let k : suc i ≡ i + 1 = omega arith in ap (λ (j : ℕ). events_of n i Serial as' ++ log_events n (suc i) (drop j closed)) k ∙ ap (λ (j : ℕ). events_of n i Serial as' ++ log_events n j (drop (i + 1) closed)) k
 
-pub outcome_first : (es : List Event) (n i : ℕ) (os : List Outcome) (o : Outcome) (as' : List Access) → 0 < length os → o ≡ get_or os 0 o → as' ≡ o.accesses.items →
+take_whole : (xs : List Outcome) (m : ℕ) → m ≡ length xs → take m xs ≡ xs
+take_whole xs m e = ap (λ (k : ℕ). take k xs) e ∙ take_all (length xs) xs (omega arith)
+
+pub outcome_first : (es : List Event) (n i : ℕ) (os : List Outcome) (o : Outcome) (as' : List Access) → 0 < length os → o ≡ get_or os 0 o → as' ≡ o.log →
     IsTrace (es ++ outcome_events n i os) → IsTrace ((es ++ events_of n i Parallel as') ++ outcome_events n (i + 1) (take (length os - 1) (drop 1 os)))
 outcome_first es n i [] o as' l e a h = absurd (omega (arith, l))
 outcome_first es n i (p ∷ os) o as' l e a h = split_first es (events_of n i Parallel as') _ (outcome_events n i (p ∷ os)) parts h
   where
-    take_whole : (xs : List Outcome) (m : ℕ) → m ≡ length xs → take m xs ≡ xs
-    take_whole xs m e = ap (λ (k : ℕ). take k xs) e ∙ take_all (length xs) xs (omega arith)
-
     rest : take (length (p ∷ os) - 1) (drop 1 (p ∷ os)) ≡ os
     rest = take_whole os (suc (length os) - 1) (omega arith)
 
@@ -109,6 +111,34 @@ outcome_first es n i (p ∷ os) o as' l e a h = split_first es (events_of n i Pa
 
     parts : outcome_events n i (p ∷ os) ≡ events_of n i Parallel as' ++ outcome_events n (i + 1) (take (length (p ∷ os) - 1) (drop 1 (p ∷ os)))
     parts =
-        ap (λ (bs : List Access). events_of n i Parallel bs ++ outcome_events n (suc i) os) (sym (a ∙ ap (λ (q : Outcome). q.accesses.items) e))
+        ap (λ (bs : List Access). events_of n i Parallel bs ++ outcome_events n (suc i) os) (sym (a ∙ ap (λ (q : Outcome). q.log) e))
         ∙ ap (λ (k : ℕ). events_of n i Parallel as' ++ outcome_events n k os) next
         ∙ ap (λ (qs : List Outcome). events_of n i Parallel as' ++ outcome_events n (i + 1) qs) (sym rest)
+
+-- ---- the places for their events
+
+adopted_on : (n i : ℕ) (p : Outcome) (os : List Outcome) (t u : Traced) → HasPlaces true (p ∷ os) t → t.logs ≤ u.logs + 1 → u.events ≡ t.events ++ events_of n i Parallel p.log → HasPlaces true os u
+adopted_on n i p os t u h g e = record {
+  room = omega arith;
+  logs = λ w. omega (arith, h.logs refl, g);
+  few = λ w. omega (arith, h.few refl, ap length e, length-append t.events (events_of n i Parallel p.log), length-map p.log (event_of n i Parallel));
+}
+
+copied_on : (p : Outcome) (os : List Outcome) (t u : Traced) → HasPlaces false (p ∷ os) t → t.room ≤ u.room + length p.log → HasPlaces false os u
+copied_on p os t u h r = record { room = omega (arith, h.room, r); logs = λ w. absurd (false≢true w); few = λ w. absurd (false≢true w) }
+
+-- after the events of the first hart
+places_on : (adopts : Bool) (n i : ℕ) (p : Outcome) (os : List Outcome) (t u : Traced) → HasPlaces adopts (p ∷ os) t → t.room ≤ u.room + (if adopts then 0 else length p.log) →
+    (adopts ≡ true → t.logs ≤ u.logs + 1) → u.events ≡ t.events ++ events_of n i Parallel p.log → HasPlaces adopts os u
+places_on true n i p os t u h r g e = adopted_on n i p os t u h (g refl) e
+places_on false n i p os t u h r g e = copied_on p os t u h r
+
+pub places_next : (adopts : Bool) (n i : ℕ) (os : List Outcome) (o : Outcome) (t u : Traced) → 0 < length os → o ≡ get_or os 0 o → HasPlaces adopts os t →
+    t.room ≤ u.room + (if adopts then 0 else length o.log) → (adopts ≡ true → t.logs ≤ u.logs + 1) → u.events ≡ t.events ++ events_of n i Parallel o.log →
+    HasPlaces adopts (take (length os - 1) (drop 1 os)) u
+places_next adopts n i [] o t u l e h r g v = absurd (omega (arith, l))
+places_next adopts n i (p ∷ os) o t u l e h r g v =
+    let rest : take (length (p ∷ os) - 1) (drop 1 (p ∷ os)) ≡ os = take_whole os (suc (length os) - 1) (omega arith) in
+    subst (λ (qs : List Outcome). HasPlaces adopts qs u) (sym rest)
+    (places_on adopts n i p os t u h
+    (subst (λ (q : Outcome). t.room ≤ u.room + (if adopts then 0 else length q.log)) e r) g (subst (λ (q : Outcome). u.events ≡ t.events ++ events_of n i Parallel q.log) e v))

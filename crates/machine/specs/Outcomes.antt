@@ -1,5 +1,5 @@
 -- What the rounds of the harts left, as the code keeps it.
-use Rattle.std.specs.Prelude.{◌≡◌, ℕ, suc, ◌+◌, ◌*◌, ◌/◌, Bool, true, if◌then◌else◌, List, [], ◌∷◌, ◌++◌, length, None, All}
+use Rattle.std.specs.Prelude.{◌≡◌, ℕ, suc, ◌+◌, ◌*◌, ◌/◌, ◌≤◌, ◌^◌, Bool, true, if◌then◌else◌, List, [], ◌∷◌, ◌++◌, length, None, All}
 use Rattle.pages.specs.declared.access.Width.TheVariants.{W1}
 use Rattle.pages.specs.Memory.{Memory, store_fault}
 use Rattle.pages.specs.Paged.{Paged, is_page_ready}
@@ -10,6 +10,7 @@ use Rattle.round_schedule.specs.declared.event.Phase.TheVariants.{Parallel}
 use Rattle.round_schedule.specs.Events.{events_of}
 use Rattle.round_schedule.specs.Schedule.{HartRound}
 use Rattle.hart_step.specs.declared.hart.Hart.{Hart}
+use Rattle.memory_order.specs.Traced.{Traced}
 use Rattle.machine.specs.declared.outcome.Outcome.{Outcome}
 
 -- each byte of a buffer is a byte of memory that is not code
@@ -20,7 +21,7 @@ AllFit m es = All (λ (e : ℕ × ℕ). store_fault m e.0 W1 ≡ None) es
 pub record IsOutcome (m : Memory) (r : HartRound Hart) (o : Outcome) : Type 0 where
   pub hart : o.hart ≡ r.last.hart
   pub buffer : o.buffer ≡ with_stores [] r.last.stores
-  pub accesses : o.accesses.items ≡ r.last.accesses
+  pub accesses : o.log ≡ r.last.accesses
   pub waits : o.waits ≡ r.waits
   pub fits : AllFit m o.buffer
 
@@ -66,11 +67,21 @@ harts_of (o ∷ os) = o.hart ∷ harts_of os
 -- the events of outcomes in round n, hart by hart from hart i on
 abbrev pub outcome_events : ℕ → ℕ → List Outcome → List Event
 outcome_events n i [] = []
-outcome_events n i (o ∷ os) = events_of n i Parallel o.accesses.items ++ outcome_events n (suc i) os
+outcome_events n i (o ∷ os) = events_of n i Parallel o.log ++ outcome_events n (suc i) os
 
 abbrev pub count_accesses : List Outcome → ℕ
 count_accesses [] = 0
-count_accesses (o ∷ os) = length o.accesses.items + count_accesses os
+count_accesses (o ∷ os) = length o.log + count_accesses os
+
+-- how many of the accesses take room as events: none where the trace adopts the harts' logs
+abbrev pub count_copied : Bool → List Outcome → ℕ
+count_copied adopts os = if adopts then 0 else count_accesses os
+
+-- where the trace adopts the logs, it has room for as many, and stays short enough
+pub record HasPlaces (adopts : Bool) (os : List Outcome) (t : Traced) : Type 0 where
+  pub room : count_copied adopts os ≤ t.room
+  pub logs : adopts ≡ true → length os ≤ t.logs
+  pub few : adopts ≡ true → length t.events + count_accesses os ≤ 2 ^ 62
 
 -- how many instructions the serial turns may do together
 abbrev pub turns_of : ℕ → List Bool → ℕ

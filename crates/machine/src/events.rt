@@ -1,12 +1,17 @@
-ghost use Rattle.std.specs.Prelude.{◌≡◌, ◌+◌, ◌*◌, ◌≤◌, ◌++◌, [], length, IfSome, drop};
+ghost use Rattle.std.specs.Prelude.{◌≡◌, ◌+◌, ◌*◌, ◌^◌, ◌<◌, ◌≤◌, ◌++◌, [], length, IfSome, drop, true, if◌then◌else◌};
+ghost use Rattle.round_schedule.specs.declared.event.Phase.TheVariants.{Parallel};
 ghost use Rattle.round_schedule.specs.Desk.{log_events};
+ghost use Rattle.round_schedule.specs.Events.{events_of};
 ghost use Rattle.memory_order.specs.Traced.{IsTrace};
-ghost use Rattle.machine.specs.Outcomes.{count_accesses, count_log, outcome_events, turns_of, waits_of};
+ghost use Rattle.machine.specs.Outcomes.{HasPlaces, count_accesses, count_copied, count_log, outcome_events, turns_of, waits_of};
 
 use crate::outcome::Outcome;
-use memory_order::Trace;
+use memory_order::{Log, Trace};
 use round_schedule::Phase;
 use serial_phase::SerialLog;
+
+/// How many accesses on average make a round's logs long.
+const LONG: usize = 64;
 
 /// How many accesses the harts made in their rounds, where the number fits.
 pub fn total_accesses(outcomes: &[Outcome]) -> Option<usize>
@@ -14,7 +19,7 @@ pub fn total_accesses(outcomes: &[Outcome]) -> Option<usize>
 {
     match outcomes {
         [] => Some(0),
-        [first, rest @ ..] => total_accesses(rest)?.checked_add(first.accesses.len()),
+        [first, rest @ ..] => total_accesses(rest)?.checked_add(first.log.len()),
     }
 }
 
@@ -31,22 +36,62 @@ pub fn turns_needed(outcomes: &[Outcome], budget: u32) -> u32
     }
 }
 
-/// Adds the events of the parallel phase, hart by hart from hart `first` on.
-pub fn add_parallel(trace: &mut Trace, round: u32, first: u32, outcomes: &[Outcome])
-    requires harts { first + length outcomes.now ≤ 64 }
-    requires room { count_accesses outcomes.now ≤ trace.old.room }
-    requires sound { IsTrace (trace.old.events ++ outcome_events round first outcomes.now) }
-    ensures events { trace.new.events ≡ trace.old.events ++ outcome_events round first outcomes.now }
+/// Adds the events of the parallel phase, hart by hart from hart `first` on. Where the trace adopts the harts' logs, they are
+/// handed over as they are.
+pub fn add_parallel(
+    trace: &mut Trace,
+    round: u32,
+    first: u32,
+    outcomes: &mut [Outcome],
+    adopts: bool,
+)
+    requires harts { first + length outcomes.old ≤ 64 }
+    requires places { HasPlaces adopts outcomes.old trace.old }
+    requires sound { IsTrace (trace.old.events ++ outcome_events round first outcomes.old) }
+    ensures events { trace.new.events ≡ trace.old.events ++ outcome_events round first outcomes.old }
     ensures opening { trace.new.opening ≡ trace.old.opening }
-    ensures room { trace.old.room ≤ trace.new.room + count_accesses outcomes.now }
+    ensures room { trace.old.room ≤ trace.new.room + count_copied adopts outcomes.old }
 {
     match outcomes {
         [] => {}
         [outcome, rest @ ..] => {
-            trace.extend(round, first as u8, Phase::Parallel, &outcome.accesses);
-            add_parallel(trace, round, first + 1, rest);
+            add_log(trace, round, first, &mut outcome.log, adopts);
+            add_parallel(trace, round, first + 1, rest, adopts);
         }
     }
+}
+
+/// Adds the events of one hart: hands its log over, or copies its accesses.
+fn add_log(trace: &mut Trace, round: u32, hart: u32, log: &mut Log, adopts: bool)
+    requires hart { hart < 64 }
+    requires room { (if adopts then 0 else length log.old) ≤ trace.old.room }
+    requires logs { adopts ≡ true → 0 < trace.old.logs }
+    requires few { adopts ≡ true → length trace.old.events + length log.old ≤ 2 ^ 62 }
+    requires sound { IsTrace (trace.old.events ++ events_of round hart Parallel log.old) }
+    ensures events { trace.new.events ≡ trace.old.events ++ events_of round hart Parallel log.old }
+    ensures opening { trace.new.opening ≡ trace.old.opening }
+    ensures room { trace.old.room ≤ trace.new.room + (if adopts then 0 else length log.old) }
+    ensures logs { adopts ≡ true → trace.old.logs ≤ trace.new.logs + 1 }
+{
+    if adopts {
+        trace.adopt(round, hart as u8, Phase::Parallel, log.take());
+    } else {
+        trace.copy_log(round, hart as u8, Phase::Parallel, log);
+    }
+}
+
+/// Whether the harts made many accesses, for their number: then the trace adopts their logs.
+pub fn are_long(outcomes: &[Outcome]) -> bool {
+    let mut logs: usize = 0;
+    let mut accesses: usize = 0;
+    for outcome in outcomes {
+        let count = outcome.log.len();
+        if count > 0 {
+            logs = logs.saturating_add(1);
+            accesses = accesses.saturating_add(count);
+        }
+    }
+    logs > 0 && accesses / LONG >= logs
 }
 
 /// Adds the events of the serial turns of harts `first`, `first` + 1, .., `left` of them.

@@ -9,11 +9,11 @@ ghost use Rattle.machine.specs.Outcomes.{AreOutcomes};
 use crate::crew::Crew;
 use commit_phase::Buffered;
 use hart_step::{CodeTable, Hart};
+use memory_order::Log;
 use pages::{OutOfMemory, Pages};
 use parallel_phase::{Gate, gather};
 use round_lock::{BookStart, RoundStart};
 use round_planner::Plan;
-use round_schedule::Access;
 use std::alloc::Global;
 use std::marker::Brand;
 use std::sync::Wait;
@@ -29,7 +29,7 @@ pub struct Outcome {
     /// The stores that it did.
     pub buffer: StoreBuffer,
     /// Its accesses, in program order.
-    pub accesses: Vec<Access>,
+    pub log: Log,
     /// Whether its next instruction is for the serial phase.
     pub waits: bool,
 }
@@ -101,7 +101,7 @@ fn gather_outcomes<B: BookStart + Send + Sync, G: Gate + Sync, R: Threads + Wait
         let outcome = Outcome {
             hart,
             buffer,
-            accesses,
+            log: Log::of(accesses)?,
             waits,
         };
         add(&mut outcomes, outcome)?;

@@ -1,7 +1,7 @@
-ghost use Rattle.std.specs.Prelude.{◌≡◌, ◌+◌, ◌≤◌, [], length, IfOk, OnOk};
+ghost use Rattle.std.specs.Prelude.{◌≡◌, ◌+◌, ◌≤◌, [], Bool, length, OnOk};
 ghost use Rattle.hart_step.specs.Room.{HasSpares};
 ghost use Rattle.serial_phase.specs.Roomed.{HasRoom};
-ghost use Rattle.machine.specs.Outcomes.{AreFit, AreReady, KeepsPages, count_accesses, turns_of, waits_of};
+ghost use Rattle.machine.specs.Outcomes.{AreFit, AreReady, HasPlaces, KeepsPages, count_accesses, count_copied};
 
 use crate::events::total_accesses;
 use crate::outcome::Outcome;
@@ -19,6 +19,7 @@ pub fn make_room(
     trace: &mut Trace,
     outcomes: &[Outcome],
     turns: u32,
+    adopts: bool,
 ) -> Result<(), OutOfMemory>
     requires { AreFit pages.old.memory outcomes.now }
     ensures keeps { KeepsPages pages.old pages.new }
@@ -28,7 +29,8 @@ pub fn make_room(
     ensures ready { OnOk result (AreReady pages.new outcomes.now) }
     ensures spares { OnOk result (HasSpares turns pages.new) }
     ensures output { OnOk result (HasRoom turns console.new) }
-    ensures events { OnOk result (count_accesses outcomes.now + turns ≤ trace.new.room) }
+    ensures places { OnOk result (HasPlaces adopts outcomes.now trace.new) }
+    ensures events { OnOk result (count_copied adopts outcomes.now + turns ≤ trace.new.room) }
     ensures log_room { OnOk result (turns ≤ log.new.room) }
     ensures closed { OnOk result (log.new.closed ≡ []) }
     ensures current { OnOk result (log.new.current ≡ []) }
@@ -38,8 +40,7 @@ pub fn make_room(
     console.reserve(turns as usize)?;
     log.clear();
     log.reserve(turns as usize)?;
-    let events = total_events(outcomes, turns as usize)?;
-    trace.reserve(events)
+    make_places(trace, outcomes, turns as usize, adopts)
 }
 
 /// Has as many spare pages; what is ready stays ready.
@@ -54,15 +55,27 @@ fn make_spares(pages: &mut Pages, outcomes: &[Outcome], spare: u32) -> Result<()
     pages.prepare(alloc, &[], spare)
 }
 
-/// How many events a round may leave.
-fn total_events(outcomes: &[Outcome], turns: usize) -> Result<usize, OutOfMemory>
-    ensures { IfOk result (λ n. n ≡ count_accesses outcomes.now + turns) }
+/// Has room in the trace for the logs of the harts, or for their accesses as events, and for the events of so many turns.
+fn make_places(
+    trace: &mut Trace,
+    outcomes: &[Outcome],
+    turns: usize,
+    adopts: bool,
+) -> Result<(), OutOfMemory>
+    ensures trace { trace.new.events ≡ trace.old.events }
+    ensures opening { trace.new.opening ≡ trace.old.opening }
+    ensures places { OnOk result (HasPlaces adopts outcomes.now trace.new) }
+    ensures events { OnOk result (count_copied adopts outcomes.now + turns ≤ trace.new.room) }
 {
-    match total_accesses(outcomes) {
-        Some(accesses) => match accesses.checked_add(turns) {
-            Some(events) => Ok(events),
-            None => Err(OutOfMemory),
-        },
+    let Some(accesses) = total_accesses(outcomes) else {
+        return Err(OutOfMemory);
+    };
+    if adopts {
+        trace.reserve_logs(outcomes.len(), accesses)?;
+        return trace.reserve(turns);
+    }
+    match accesses.checked_add(turns) {
+        Some(events) => trace.reserve(events),
         None => Err(OutOfMemory),
     }
 }

@@ -10,7 +10,7 @@ ghost use Rattle.machine.specs.Rounds.{IsAsBefore, IsFinished, IsRoundDone, Leav
 
 use crate::commit::commit;
 use crate::crew::Crew;
-use crate::events::{add_parallel, add_serial, turns_needed};
+use crate::events::{add_parallel, add_serial, are_long, turns_needed};
 use crate::outcome::{Outcome, outcomes_of};
 use crate::room::make_room;
 use crate::waiting::{harts_after, waiting_count, waiting_mask};
@@ -28,6 +28,7 @@ use std::thread::Threads;
 /// turns. Answers how many harts waited.
 ///
 /// All that can be refused is asked for before the commit, so that a refusal leaves all as it was.
+#[tactic(none)]
 pub fn do_round<G: Gate + Sync, R: Threads + Wait + Sync>(
     crew: &Crew<'_, G, R>,
     pages: &mut Pages,
@@ -56,7 +57,7 @@ pub fn do_round<G: Gate + Sync, R: Threads + Wait + Sync>(
     let budget = plan.budget();
     // At most 64.
     let _harts = plan.harts();
-    let outcomes = outcomes_of(crew, pages, table, harts, plan, round)?;
+    let mut outcomes = outcomes_of(crew, pages, table, harts, plan, round)?;
     let mut turned = harts_after(alloc, &outcomes)?;
     let waited = finish(
         crew,
@@ -65,7 +66,7 @@ pub fn do_round<G: Gate + Sync, R: Threads + Wait + Sync>(
         console,
         log,
         trace,
-        &outcomes,
+        &mut outcomes,
         &mut turned,
         budget,
         round,
@@ -82,21 +83,21 @@ fn finish<G, R: Threads + Sync>(
     console: &mut Console,
     log: &mut SerialLog,
     trace: &mut Trace,
-    outcomes: &[Outcome],
+    outcomes: &mut [Outcome],
     harts: &mut [Hart],
     budget: u32,
     round: u32,
 ) -> Result<u32, OutOfMemory>
     requires workers { 1 ≤ crew.now.workers }
-    requires few { length outcomes.now ≤ 64 }
-    requires fits { AreFit pages.old.memory outcomes.now }
-    requires harts { harts.old ≡ harts_of outcomes.now }
-    requires size { length reservations.old ≡ length outcomes.now }
+    requires few { length outcomes.old ≤ 64 }
+    requires fits { AreFit pages.old.memory outcomes.old }
+    requires harts { harts.old ≡ harts_of outcomes.old }
+    requires size { length reservations.old ≡ length outcomes.old }
     requires budget { budget ≤ 1000 }
-    requires sound { LeavesTrace budget round outcomes.now pages.old reservations.old console.old.console trace.old.events }
-    ensures ok { OnOk result (IsFinished budget round outcomes.now harts.new pages.old pages.new reservations.old reservations.new console.old.console console.new.console trace.old.events trace.new.events) }
+    requires sound { LeavesTrace budget round outcomes.old pages.old reservations.old console.old.console trace.old.events }
+    ensures ok { OnOk result (IsFinished budget round outcomes.old harts.new pages.old pages.new reservations.old reservations.new console.old.console console.new.console trace.old.events trace.new.events) }
     ensures opening { trace.new.opening ≡ trace.old.opening }
-    ensures waited { IfOk result (λ n. n ≡ count_true (waits_of outcomes.now)) }
+    ensures waited { IfOk result (λ n. n ≡ count_true (waits_of outcomes.old)) }
     ensures memory { OnErr result (pages.new.memory ≡ pages.old.memory) }
     ensures reservations { OnErr result (reservations.new ≡ reservations.old) }
     ensures console { OnErr result (console.new.console ≡ console.old.console) }
@@ -104,7 +105,8 @@ fn finish<G, R: Threads + Sync>(
 {
     let waiting = waiting_mask(outcomes);
     let turns = turns_needed(outcomes, budget);
-    make_room(pages, console, log, trace, outcomes, turns)?;
+    let adopts = are_long(outcomes);
+    make_room(pages, console, log, trace, outcomes, turns, adopts)?;
     commit(crew, pages, reservations, outcomes);
     serial(
         pages,
@@ -116,7 +118,9 @@ fn finish<G, R: Threads + Sync>(
         budget,
         log,
     );
-    add_parallel(trace, round, 0, outcomes);
-    add_serial(trace, round, 0, outcomes.len() as u32, log);
-    Ok(waiting_count(outcomes))
+    let waited = waiting_count(outcomes);
+    let count = outcomes.len() as u32;
+    add_parallel(trace, round, 0, outcomes, adopts);
+    add_serial(trace, round, 0, count, log);
+    Ok(waited)
 }

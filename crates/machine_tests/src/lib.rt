@@ -12,6 +12,8 @@ mod harness;
 #[cfg(test)]
 mod images;
 #[cfg(test)]
+mod long_rounds;
+#[cfg(test)]
 mod lost_update;
 #[cfg(test)]
 mod memory;

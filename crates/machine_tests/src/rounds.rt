@@ -106,7 +106,7 @@ fn has_crossed(machine: &Machine) -> bool {
         loaded(1, 4, 0x100, 0),
     ];
     let trace = machine.trace();
-    trace.len() == events.len() && (0..events.len()).all(|i| *trace.event(i) == events[i])
+    trace.len() == events.len() && (0..events.len()).all(|i| trace.event(i) == events[i])
 }
 
 /// Whether both harts have done the five instructions.

@@ -1,7 +1,10 @@
+pub mod Briefs
 pub mod Checking
 pub mod CheckingAtomic
 pub mod CheckingProgram
 pub mod LastPlaces
+pub mod LentLogs
+pub mod Logs
 pub mod Operations
 pub mod Orders
 pub mod Parts

@@ -1,27 +1,44 @@
 -- Lists of events in parts.
-use Rattle.std.specs.Prelude.{◌≡◌, ℕ, ◌<◌, ◌≤◌, ◌^◌, List, length, take, slice_index_or, All}
+use Rattle.std.specs.Prelude.{◌≡◌, ℕ, ◌+◌, ◌<◌, ◌≤◌, ◌^◌, List, [], ◌∷◌, length, take, slice_index_or, All}
 use Rattle.std.specs.List.{flat_map}
 use Rattle.round_schedule.specs.declared.event.Event.{Event}
+use Rattle.round_schedule.specs.Events.{events_of}
+use Rattle.memory_order.specs.declared.part.Batch.{Batch}
+use Rattle.memory_order.specs.declared.part.Batch.TheVariants as batches
 use Rattle.memory_order.specs.declared.part.Part.{Part}
+use Rattle.memory_order.specs.declared.run.Run.{Run}
+use Rattle.memory_order.specs.declared.run.Run.TheVariants as runs
+use Rattle.memory_order.specs.LentLogs.{accesses_lent}
 
--- the events, and the room that is reserved for more
+-- the events, the room that is reserved for more, and for how many logs there is room
 pub record Listing : Type 0 where
   pub events : List Event
   pub room : ℕ
+  pub logs : ℕ
+
+-- the events of one part
+abbrev pub batch_events : Batch → List Event
+batch_events (batches.Events v) = v.value.items
+batch_events (batches.Log n i s l) = events_of n i s l
 
 abbrev pub events_in : Part → List Event
-events_in p = p.events.value.items
+events_in p = batch_events p.batch
+
+-- the events of a run that is lent
+abbrev pub run_events : Run → List Event
+run_events (runs.Events es) = es.now
+run_events (runs.Log n i s as') = events_of n i s (accesses_lent as')
 
 -- the events of finished parts, one after another
 abbrev pub joined : List Part → List Event
 joined parts = flat_map events_in parts
 
-abbrev pub IsLong : Part → Type 0
-IsLong p = 4096 ≤ length (events_in p)
+abbrev pub HasEvents : Part → Type 0
+HasEvents p = 0 < length (events_in p)
 
--- each finished part is long, and starts where those before it end
+-- each finished part has events, and starts where those before it end
 pub record AreParts (parts : List Part) : Type 0 where
-  pub long : All IsLong parts
+  pub filled : All HasEvents parts
   pub starts : (k : ℕ) (d : Part) → k < length parts → (slice_index_or parts k d).start ≡ length (joined (take k parts))
 
 -- the finished parts have so many events, few enough that the number of all events is one of 64 bits
@@ -29,3 +46,8 @@ pub record AreCounted (parts : List Part) (count : ℕ) : Type 0 where
   pub stand : AreParts parts
   pub counted : count ≡ length (joined parts)
   pub few : count ≤ 2 ^ 62
+
+-- there is room for a log after the finished parts alone: none while events stand in the tail
+abbrev pub logs_after : List Event → ℕ → ℕ
+logs_after [] n = n
+logs_after (e ∷ es) n = 0

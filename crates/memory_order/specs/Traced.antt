@@ -26,11 +26,12 @@ opening_at (p ∷ ps) x = if in_range p.start (length p.bytes) x then slice_inde
 unfoldable pub opening_bytes : List Laid → ℕ → List ℕ
 opening_bytes ps n = map (opening_at ps) (range_with_len 0 n)
 
--- the bytes that memory opened with, the events so far, and the room that is reserved for more
+-- the bytes that memory opened with, the events so far, the room that is reserved for more, and for how many logs there is room
 pub record Traced : Type 0 where
   pub opening : List Laid
   pub events : List Event
   pub room : ℕ
+  pub logs : ℕ
 
 -- its access has the form of its kind, with an address below 2^32
 abbrev pub HasForm : Event → Type 0

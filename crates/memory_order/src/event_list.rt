@@ -1,19 +1,21 @@
 //! A list of events in parts.
 
-ghost use Rattle.std.specs.Prelude.{◌≡◌, ◌+◌, ◌<◌, ◌≤◌, ◌++◌, [], ◌∷◌, IfOk, OnErr, OnOk, length, vec_capacity, vec_len};
+ghost use Rattle.std.specs.Prelude.{◌≡◌, ◌+◌, ◌<◌, ◌≤◌, ◌^◌, ◌++◌, [], ◌∷◌, IfOk, OnErr, OnOk, length};
+ghost use Rattle.round_schedule.specs.Events.{events_of};
 ghost use Rattle.round_schedule.specs.Positions.{event};
-ghost use Rattle.memory_order.specs.Parts.{AreParts, events_in, joined};
+ghost use Rattle.memory_order.specs.Parts.{AreCounted, AreParts, events_in, joined};
 
 use crate::events::Events;
-use crate::part::{Part, part_with};
+use crate::log::Log;
+use crate::part::{Batch, Part, part_with};
 use pages::OutOfMemory;
-use round_schedule::Event;
+use round_schedule::{Event, Phase};
 use std::alloc::Global;
 use std::marker::Model;
 use std::mem;
 use std::sync::Arc;
 
-/// How many events a finished part has at least.
+/// From how many events on a tail is finished where more are to come.
 const PART: usize = 4096;
 
 /// How many events may be finished, so that the number of all is a `usize`.
@@ -30,11 +32,11 @@ pub(crate) struct EventList {
 
 impl Model for EventList {
     ghost use Rattle.std.specs.Prelude.{◌-◌, ◌++◌, vec_len, vec_capacity};
-    ghost use Rattle.memory_order.specs.Parts.{AreCounted, Listing, joined};
+    ghost use Rattle.memory_order.specs.Parts.{AreCounted, Listing, joined, logs_after};
 
     ghost Value = { Listing };
 
-    ghost view = { λ l. record { events = joined l.parts.items ++ l.tail.items; room = vec_capacity l.tail - vec_len l.tail } };
+    ghost view = { λ l. record { events = joined l.parts.items ++ l.tail.items; room = vec_capacity l.tail - vec_len l.tail; logs = logs_after l.tail.items (vec_capacity l.parts - vec_len l.parts) } };
 
     ghost invariant = { λ l. AreCounted l.parts.items l.finished };
 }
@@ -66,15 +68,15 @@ impl EventList {
     }
 
     /// The event at a place.
-    pub(crate) fn get(&self, place: usize) -> &Event
+    pub(crate) fn get(&self, place: usize) -> Event
         requires { place < length self.now.events }
-        ensures { result.now ≡ event self.now.events place }
+        ensures { result ≡ event self.now.events place }
     {
         if place < self.finished {
             let part = part_with(&self.parts, place);
-            &part.events()[place - part.start]
+            part.run().get(place - part.start)
         } else {
-            &self.tail[place - self.finished]
+            self.tail[place - self.finished]
         }
     }
 
@@ -90,31 +92,37 @@ impl EventList {
         ensures { IfOk result (λ v. v.items ≡ self.now.events) }
     {
         let mut events = Vec::with_capacity(alloc, self.len())?;
-        for part in &self.parts {
-            events.extend_from_slice(part.events())?;
+        for event in self.iter() {
+            events.push(event)?;
         }
-        events.extend_from_slice(&self.tail)?;
         Ok(events)
     }
 
-    /// Makes room for so many further events. Where a part or more of events stand after the finished parts, they are
-    /// finished first, as one part.
+    /// Makes room for so many further events. A tail that is long is finished first.
     pub(crate) fn reserve(&mut self, n: usize) -> Result<(), OutOfMemory>
         ensures events { self.new.events ≡ self.old.events }
         ensures ok { OnOk result (n ≤ self.new.room) }
+        ensures logs { self.old.logs ≤ self.new.logs }
     {
-        let count = self.tail.len();
-        if count < PART {
+        if self.tail.len() < PART {
             return Ok(self.tail.reserve(n)?);
         }
-        if count > MOST_FINISHED - self.finished {
+        finish(&mut self.parts, &mut self.finished, &mut self.tail)?;
+        // The room is for a part more, so that a tail short of a part still has it.
+        Ok(self.tail.reserve(n.saturating_add(PART))?)
+    }
+
+    /// Makes room for so many logs, which have so many accesses together. What stands in the tail is finished first.
+    pub(crate) fn reserve_logs(&mut self, n: usize, accesses: usize) -> Result<(), OutOfMemory>
+        ensures events { self.new.events ≡ self.old.events }
+        ensures ok { OnOk result (n ≤ self.new.logs) }
+        ensures few { OnOk result (length self.new.events + accesses ≤ 2 ^ 62) }
+    {
+        finish(&mut self.parts, &mut self.finished, &mut self.tail)?;
+        if accesses > MOST_FINISHED - self.finished {
             return Err(OutOfMemory);
         }
-        self.parts.reserve(1)?;
-        let part = finish(self.finished, &mut self.tail, n)?;
-        self.parts.push_reserved(part);
-        self.finished += count;
-        Ok(())
+        Ok(self.parts.reserve(n)?)
     }
 
     /// Adds an event at the end, where room was made. It takes no memory.
@@ -124,6 +132,30 @@ impl EventList {
         ensures room { self.old.room ≤ self.new.room + 1 }
     {
         self.tail.push_reserved(event);
+    }
+
+    /// Takes the accesses of a hart over, where room for a log was made. It takes no memory.
+    pub(crate) fn adopt(&mut self, round: u32, hart: u8, phase: Phase, log: Log)
+        requires logs { 0 < self.old.logs }
+        requires few { length self.old.events + length log ≤ 2 ^ 62 }
+        ensures events { self.new.events ≡ self.old.events ++ events_of round hart phase log }
+        ensures room { self.old.room ≤ self.new.room }
+        ensures logs { self.old.logs ≤ self.new.logs + 1 }
+    {
+        let count = log.len();
+        if count == 0 {
+            return;
+        }
+        self.parts.push_reserved(Part {
+            start: self.finished,
+            batch: Batch::Log {
+                round,
+                hart,
+                phase,
+                log,
+            },
+        });
+        self.finished += count;
     }
 
     /// An equal list, which shares the finished parts.
@@ -138,20 +170,48 @@ impl EventList {
     }
 }
 
-/// Moves a tail into a part, and leaves an empty one with room for so many events. The events stay where they are.
-///
-/// The room is for a part more than that, so that a tail short of a part still has it.
-fn finish(start: usize, tail: &mut Vec<Event>, n: usize) -> Result<Part, OutOfMemory>
+/// Moves what stands in the tail into a part, and leaves it empty. The events stay where they are.
+fn finish(
+    parts: &mut Vec<Part>,
+    finished: &mut usize,
+    tail: &mut Vec<Event>,
+) -> Result<(), OutOfMemory>
+    requires { AreCounted parts.old.items finished.old }
+    ensures counted { AreCounted parts.new.items finished.new }
+    ensures events { joined parts.new.items ++ tail.new.items ≡ joined parts.old.items ++ tail.old.items }
+    ensures emptied { OnOk result (tail.new.items ≡ []) }
+    ensures err { OnErr result (tail.new.items ≡ tail.old.items) }
+    ensures kept { tail.old.items ≡ [] → (parts.new ≡ parts.old) × (tail.new ≡ tail.old) }
+{
+    let count = tail.len();
+    if count == 0 {
+        return Ok(());
+    }
+    if count > MOST_FINISHED - *finished {
+        return Err(OutOfMemory);
+    }
+    parts.reserve(1)?;
+    let part = part_of(*finished, tail)?;
+    parts.push_reserved(part);
+    *finished += count;
+    Ok(())
+}
+
+/// Moves a tail into a part that starts at a place, and leaves an empty one.
+fn part_of(start: usize, tail: &mut Vec<Event>) -> Result<Part, OutOfMemory>
     ensures start { IfOk result (λ p. p.start ≡ start) }
     ensures events { IfOk result (λ p. events_in p ≡ tail.old.items) }
     ensures emptied { OnOk result (tail.new.items ≡ []) }
-    ensures room { OnOk result (n + vec_len tail.new ≤ vec_capacity tail.new) }
     ensures err { OnErr result (tail.new.items ≡ tail.old.items) }
 {
     let alloc = *tail.allocator();
-    let empty = Vec::with_capacity(alloc, n.saturating_add(PART))?;
-    match Arc::new(alloc, mem::replace(tail, empty)) {
-        Ok(events) => Ok(Part { start, events }),
+    let mut events = mem::replace(tail, Vec::new(alloc));
+    events.shrink_to_fit();
+    match Arc::new(alloc, events) {
+        Ok(events) => Ok(Part {
+            start,
+            batch: Batch::Events(events),
+        }),
         Err(refused) => {
             *tail = refused.value;
             Err(OutOfMemory)

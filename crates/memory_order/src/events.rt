@@ -1,10 +1,11 @@
 //! An iterator over a list of events in parts.
 
 ghost use Rattle.std.specs.Prelude.{◌≡◌, ◌++◌, All};
-ghost use Rattle.std.specs.Iterator.{YieldsFirstRef, item_count};
-ghost use Rattle.memory_order.specs.Parts.{IsLong, joined};
+ghost use Rattle.std.specs.Iterator.{YieldsFirst, item_count};
+ghost use Rattle.memory_order.specs.Parts.{HasEvents, joined};
 
 use crate::part::Part;
+use crate::run::Run;
 use round_schedule::Event;
 use std::marker::Model;
 
@@ -12,7 +13,7 @@ use std::marker::Model;
 #[derive(Drop)]
 pub struct Events<'a> {
     /// Those of the part that is gone through; only at the end there are none.
-    part: &'a [Event],
+    run: Run<'a>,
     parts: &'a [Part],
     tail: &'a [Event],
 }
@@ -20,30 +21,30 @@ pub struct Events<'a> {
 impl<'a> Model for Events<'a> {
     ghost use Rattle.std.specs.Prelude.{◌≡◌, List, [], ◌++◌, All};
     ghost use Rattle.round_schedule.specs.declared.event.Event.{Event as EventOf};
-    ghost use Rattle.memory_order.specs.Parts.{IsLong, joined};
+    ghost use Rattle.memory_order.specs.Parts.{HasEvents, joined, run_events};
 
     ghost Value = { List EventOf };
 
-    ghost view = { λ e. e.part.now ++ (joined e.parts.now ++ e.tail.now) };
+    ghost view = { λ e. run_events e.run ++ (joined e.parts.now ++ e.tail.now) };
 
-    ghost invariant = { λ e. All IsLong e.parts.now × (e.part.now ≡ [] → joined e.parts.now ++ e.tail.now ≡ []) };
+    ghost invariant = { λ e. All HasEvents e.parts.now × (run_events e.run ≡ [] → joined e.parts.now ++ e.tail.now ≡ []) };
 }
 
 impl<'a> Events<'a> {
     /// The events of these parts, and then those of the tail.
     pub(crate) fn new(parts: &'a [Part], tail: &'a [Event]) -> Events<'a>
-        requires { All IsLong parts.now }
+        requires { All HasEvents parts.now }
         ensures { result ≡ joined parts.now ++ tail.now }
     {
         let Some((part, others)) = parts.split_first() else {
             return Events {
-                part: tail,
+                run: Run::Events(tail),
                 parts,
                 tail: &[],
             };
         };
         Events {
-            part: part.events(),
+            run: part.run(),
             parts: others,
             tail,
         }
@@ -51,19 +52,19 @@ impl<'a> Events<'a> {
 }
 
 impl<'a> Iterator for Events<'a> {
-    type Item = &'a Event;
+    type Item = Event;
 
-    ghost next_gives = { YieldsFirstRef (λ rest. rest) };
+    ghost next_gives = { YieldsFirst (λ rest. rest) };
 
     ghost remaining = { item_count (λ rest. rest) };
 
     #[inline]
-    fn next(&mut self) -> Option<&'a Event> {
-        let (event, others) = self.part.split_first()?;
-        if others.is_empty() {
+    fn next(&mut self) -> Option<Event> {
+        let (event, others) = self.run.split_first()?;
+        if others.len() == 0 {
             *self = Events::new(self.parts, self.tail);
         } else {
-            self.part = others;
+            self.run = others;
         }
         Some(event)
     }

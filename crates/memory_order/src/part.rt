@@ -2,10 +2,12 @@
 
 ghost use Rattle.std.specs.Prelude.{◌≡◌, ◌-◌, ◌<◌, ◌≤◌, IfOk, length};
 ghost use Rattle.round_schedule.specs.Positions.{event};
-ghost use Rattle.memory_order.specs.Parts.{AreParts, events_in, joined};
+ghost use Rattle.memory_order.specs.Parts.{AreParts, events_in, joined, run_events};
 
+use crate::log::Log;
+use crate::run::Run;
 use pages::OutOfMemory;
-use round_schedule::Event;
+use round_schedule::{Event, Phase};
 use std::sync::Arc;
 
 /// Events of a list that no longer change, so that its copies share them.
@@ -13,15 +15,42 @@ use std::sync::Arc;
 pub(crate) struct Part {
     /// How many events of the list stand before them.
     pub(crate) start: usize,
-    pub(crate) events: Arc<Vec<Event>>,
+    pub(crate) batch: Batch,
+}
+
+/// The events of a part.
+#[derive(Drop)]
+pub(crate) enum Batch {
+    /// Events one by one.
+    Events(Arc<Vec<Event>>),
+    /// The accesses of a hart in one phase of a round, as the hart left them.
+    Log {
+        round: u32,
+        hart: u8,
+        phase: Phase,
+        log: Log,
+    },
 }
 
 impl Part {
     /// The events.
-    pub(crate) fn events(&self) -> &[Event]
-        ensures { result.now ≡ events_in self.now }
+    pub(crate) fn run(&self) -> Run<'_>
+        ensures { run_events result ≡ events_in self.now }
     {
-        self.events.as_slice()
+        match &self.batch {
+            Batch::Events(events) => Run::Events(events.as_slice()),
+            Batch::Log {
+                round,
+                hart,
+                phase,
+                log,
+            } => Run::Log {
+                round: *round,
+                hart: *hart,
+                phase: *phase,
+                accesses: log.accesses(),
+            },
+        }
     }
 
     /// Another owner of the events.
@@ -29,9 +58,23 @@ impl Part {
         ensures start { IfOk result (λ p. p.start ≡ self.now.start) }
         ensures events { IfOk result (λ p. events_in p ≡ events_in self.now) }
     {
+        let batch = match &self.batch {
+            Batch::Events(events) => Batch::Events(events.clone()?),
+            Batch::Log {
+                round,
+                hart,
+                phase,
+                log,
+            } => Batch::Log {
+                round: *round,
+                hart: *hart,
+                phase: *phase,
+                log: log.copy()?,
+            },
+        };
         Ok(Part {
             start: self.start,
-            events: self.events.clone()?,
+            batch,
         })
     }
 }

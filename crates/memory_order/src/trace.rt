@@ -1,4 +1,4 @@
-ghost use Rattle.std.specs.Prelude.{◌≡◌, ℕ, ◌-◌, ◌+◌, ◌<◌, ◌≤◌, ◌↔◌, [], ◌∷◌, ◌++◌, length, map, slice_index, true, false, MatchOption, IfOk, IfSome, IsSome, OnOk};
+ghost use Rattle.std.specs.Prelude.{◌≡◌, ℕ, ◌-◌, ◌+◌, ◌<◌, ◌≤◌, ◌^◌, ◌↔◌, [], ◌∷◌, ◌++◌, length, map, slice_index, true, false, MatchOption, IfOk, IfSome, IsSome, OnOk};
 ghost use Rattle.pages.specs.Memory.{in_range};
 ghost use Rattle.round_schedule.specs.Events.{events_of};
 ghost use Rattle.round_schedule.specs.Positions.{event};
@@ -7,6 +7,7 @@ ghost use Rattle.memory_order.specs.Traced.{HasForm, IsTrace, StandsAbove, laid,
 use crate::event_list::EventList;
 use crate::events::Events;
 use crate::form::all_have_forms;
+use crate::log::Log;
 use crate::opening::Opening;
 use crate::rising::places_rise;
 use pages::{OutOfMemory, Piece};
@@ -38,7 +39,7 @@ impl Model for Trace {
 
     ghost Value = { Traced };
 
-    ghost view = { λ t. record { opening = map laid (pieces_in t.opening); events = t.events.events; room = t.events.room } };
+    ghost view = { λ t. record { opening = map laid (pieces_in t.opening); events = t.events.events; room = t.events.room; logs = t.events.logs } };
 
     ghost invariant = { λ t. IsTrace t.events.events };
 }
@@ -80,9 +81,20 @@ impl Trace {
         ensures events { self.new.events ≡ self.old.events }
         ensures opening { self.new.opening ≡ self.old.opening }
         ensures ok { OnOk result (n ≤ self.new.room) }
+        ensures logs { self.old.logs ≤ self.new.logs }
     {
         self.opening.share()?;
         self.events.reserve(n)
+    }
+
+    /// Makes room for so many logs, which have so many accesses together.
+    pub fn reserve_logs(&mut self, n: usize, accesses: usize) -> Result<(), OutOfMemory>
+        ensures events { self.new.events ≡ self.old.events }
+        ensures opening { self.new.opening ≡ self.old.opening }
+        ensures ok { OnOk result (n ≤ self.new.logs) }
+        ensures few { OnOk result (length self.new.events + accesses ≤ 2 ^ 62) }
+    {
+        self.events.reserve_logs(n, accesses)
     }
 
     /// Adds an event at the end, where room was made. It takes no memory.
@@ -115,6 +127,38 @@ impl Trace {
         }
     }
 
+    /// Adds the accesses of a log, of a hart in one phase of a round.
+    pub fn copy_log(&mut self, round: u32, hart: u8, phase: Phase, log: &Log)
+        requires room { length log.now ≤ self.old.room }
+        requires sound { IsTrace (self.old.events ++ events_of round hart phase log.now) }
+        ensures events { self.new.events ≡ self.old.events ++ events_of round hart phase log.now }
+        ensures opening { self.new.opening ≡ self.old.opening }
+        ensures room { self.old.room ≤ self.new.room + length log.now }
+    {
+        for place in 0..log.len() {
+            self.push(Event {
+                access: log.get(place),
+                round,
+                hart,
+                phase,
+            });
+        }
+    }
+
+    /// Adds the accesses of a hart in one phase of a round, where room for a log was made. They stay where they are, and it
+    /// takes no memory.
+    pub fn adopt(&mut self, round: u32, hart: u8, phase: Phase, log: Log)
+        requires logs { 0 < self.old.logs }
+        requires few { length self.old.events + length log ≤ 2 ^ 62 }
+        requires sound { IsTrace (self.old.events ++ events_of round hart phase log) }
+        ensures events { self.new.events ≡ self.old.events ++ events_of round hart phase log }
+        ensures opening { self.new.opening ≡ self.old.opening }
+        ensures room { self.old.room ≤ self.new.room }
+        ensures logs { self.old.logs ≤ self.new.logs + 1 }
+    {
+        self.events.adopt(round, hart, phase, log);
+    }
+
     /// How many events there are so far.
     pub fn len(&self) -> usize
         ensures len { result ≡ length self.now.events }
@@ -124,9 +168,9 @@ impl Trace {
     }
 
     /// The event at a place, counted from 0.
-    pub fn event(&self, place: usize) -> &Event
+    pub fn event(&self, place: usize) -> Event
         requires { place < length self.now.events }
-        ensures { result.now ≡ event self.now.events place }
+        ensures { result ≡ event self.now.events place }
     {
         self.events.get(place)
     }

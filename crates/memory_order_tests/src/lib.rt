@@ -4,4 +4,6 @@
 #[cfg(test)]
 mod checks;
 #[cfg(test)]
+mod logs;
+#[cfg(test)]
 mod traces;

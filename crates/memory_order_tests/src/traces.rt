@@ -176,7 +176,7 @@ fn a_trace_grows_and_is_copied(rt: HostRuntime) {
     trace.reserve(1).expect(&rt, "memory");
     trace.push(fence);
     let copy = trace.copy(alloc).expect(&rt, "memory");
-    assert!(rt; copy.len() == 1 && *copy.event(0) == fence);
+    assert!(rt; copy.len() == 1 && copy.event(0) == fence);
     assert!(rt;
         is_operation(&event(1, 0, Phase::Parallel, store(3, 0x100, 1))) && !is_operation(&fence)
     );
@@ -185,7 +185,7 @@ fn a_trace_grows_and_is_copied(rt: HostRuntime) {
 }
 
 // A load of hart 0 at a place.
-fn load_at(place: u64) -> Event
+pub(crate) fn load_at(place: u64) -> Event
     ensures formed { HasForm result }
     ensures place { place_of result.access ≡ place }
 {
@@ -199,7 +199,7 @@ fn load_at(place: u64) -> Event
 }
 
 // Adds the loads at these places, after the reserve of room for them.
-fn add_loads(trace: &mut Trace, from: u64, to: u64) -> bool
+pub(crate) fn add_loads(trace: &mut Trace, from: u64, to: u64) -> bool
     requires rising { from ≤ to }
     requires below { All (λ e. place_of e.access < from) trace.old.events }
     ensures { All (λ e. place_of e.access < to) trace.new.events }
@@ -224,10 +224,10 @@ fn has_loads(alloc: Global, trace: &Trace, end: usize) -> bool {
     let mut events = trace.events();
     for place in 0..end {
         let expected = load_at(place as u64);
-        if *trace.event(place) != expected || gathered[place] != expected {
+        if trace.event(place) != expected || gathered[place] != expected {
             return false;
         }
-        if events.next().copied() != Some(expected) {
+        if events.next() != Some(expected) {
             return false;
         }
     }

@@ -23,7 +23,7 @@ fn put_places<S: Sink>(
     ensures { Wrote (places_text trace.now.events places.now) (way (S.took out.old) (S.failures out.old) line.old) result (way (S.took out.new) (S.failures out.new) line.new) }
 {
     for place in places {
-        put_event(out, line, trace.event(*place))?;
+        put_event(out, line, &trace.event(*place))?;
     }
     Ok(())
 }

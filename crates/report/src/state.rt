@@ -51,7 +51,7 @@ fn put_events<S: Sink>(out: &mut S, line: &mut Line, trace: &Trace) -> Result<()
     ensures { Wrote (events_text trace.now.events) (way (S.took out.old) (S.failures out.old) line.old) result (way (S.took out.new) (S.failures out.new) line.new) }
 {
     for event in trace.events() {
-        put_event(out, line, event)?;
+        put_event(out, line, &event)?;
     }
     Ok(())
 }

@@ -48,7 +48,7 @@ add_parallel-requires g c =
     c.in_ok-make_room.ensures.keeps.memory (λ rs a. c.commit.ensures.committed rs (subst (λ (m : Memory). AreOutcomes m rs os) (sym c.in_ok-make_room.ensures.keeps.memory) a)) c.in_ok-make_room.ensures.console served) in
     record {
       harts = omega (arith, c.requires.few);
-      room = omega (arith, c.in_ok-make_room.ensures.events);
+      places = c.in_ok-make_room.ensures.places;
       sound = subst (λ (x : List Event). IsTrace (x ++ outcome_events c.args.round 0 os)) (sym c.in_ok-make_room.ensures.trace) (beginning (es ++ outcome_events c.args.round 0 os) _ whole);
     }
 

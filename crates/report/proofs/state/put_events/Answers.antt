@@ -13,7 +13,7 @@ pub returns-in_err-put_event : goal.returns-in_err-put_event
 returns-in_err-put_event g c =
     let r : c.from_residual.result ≡ Err c.in_err-put_event.field-0.0 = search rules in
     let text = c.loop-event.invariant.0 in
-    let this = event_text c.in-Some.event.now in
+    let this = event_text c.in-Some.event in
     let rest = events_text c.next.new.self in
     loop_stop text this rest _ (way (g.S.Sink.took c.args.out.now) (g.S.Sink.failures c.args.out.now) c.args.line.now) _ _ _ _ c.loop-event.invariant.2 c.in_err-put_event.ensures r
     (sym (append_assoc text this rest ∙ ap (λ (u : List ℕ). text ++ u) (sym (ap events_text c.in-Some.ensures.steps)) ∙ c.loop-event.invariant.1))
@@ -21,7 +21,7 @@ returns-in_err-put_event g c =
 pub loop-event-preserved : goal.loop-event-preserved
 loop-event-preserved g c =
     let text = c.loop-event.invariant.0 in
-    let this = event_text c.in-Some.event.now in
+    let this = event_text c.in-Some.event in
     let rest = events_text c.next.new.self in (
       text ++ this,
       append_assoc text this rest ∙ ap (λ (u : List ℕ). text ++ u) (sym (ap events_text c.in-Some.ensures.steps)) ∙ c.loop-event.invariant.1,

@@ -1,6 +1,5 @@
-use Rattle.std.proofs.Common.{◌≡◌, take}
-use Rattle.memory_order.specs.Parts.{joined}
+use Rattle.std.proofs.Common.{◌≡◌, ◌++◌}
 use Rattle.memory_order.proofs.event_list.EventList.to_vec.Given as goal
 
-abbrev pub invariant-loop-part : goal.invariant-loop-part
-invariant-loop-part l = l.events.items ≡ joined (take l.part-index l.part-items)
+abbrev pub invariant-loop-event : goal.invariant-loop-event
+invariant-loop-event l = l.events.items ++ l.event-iterator ≡ l.self.events

@@ -1,0 +1,140 @@
+//! Rounds with so many accesses that the trace takes the harts' logs over, and rounds with so few that it copies them.
+
+ghost use Rattle.std.specs.Prelude.{◌<◌};
+
+use crate::harness::machine_of;
+use host_io::RunError;
+use machine::{Machine, Open};
+use memory_order::Trace;
+use pages::Width;
+use round_schedule::{Access, Event, Phase};
+use std::alloc::Global;
+use std::sync::Wait;
+use std::test::Fail;
+use std::thread::Threads;
+
+/// In one turn after another, a hart loads the doubleword at 0x400 and then stores there its number plus 2, 4, 6 and so on,
+/// so that no two harts store the same number:
+/// ADDI x20,x0,1024; ADDI x10,x10,2; LD x9,0(x20); SD x10,0(x20); BNE x20,x0,-12.
+const TURNS: [u32; 5] = [
+    0x4000_0A13,
+    0x0025_0513,
+    0x000A_3483,
+    0x00AA_3023,
+    0xFE0A_1AE3,
+];
+
+/// The machine of two harts after so many rounds, each on so many workers.
+fn machine_after<R: Threads + Wait + Sync>(
+    rt: &R,
+    alloc: Global,
+    plan: &[u8],
+    rounds: u32,
+    workers: u32,
+) -> Result<Machine, RunError> {
+    let mut machine = machine_of(alloc, &TURNS, 2, plan)?;
+    for _ in 0..rounds {
+        machine.round(rt, workers, &Open)?;
+    }
+    Ok(machine)
+}
+
+/// What the load of a turn reads in rounds of 600 turns: what the hart stored in the turn before; in the first of all, 0;
+/// and in the first of round 2, what hart 1 stored last in round 1.
+fn read_in(turn: u64, hart: u64) -> u64
+    requires turn { turn < 1200 }
+    requires hart { hart < 2 }
+{
+    match turn {
+        0 => 0,
+        600 => 1201,
+        _ => 2 * turn + hart,
+    }
+}
+
+/// The access in a turn: first the load, then the store. One instruction comes before the turns, and a turn has four.
+fn access_in(turn: u64, hart: u64, loads: bool) -> Access
+    requires turn { turn < 1200 }
+    requires hart { hart < 2 }
+{
+    if loads {
+        Access::Load {
+            width: Width::W8,
+            place: 4 * turn + 2,
+            address: 0x400,
+            read: read_in(turn, hart),
+        }
+    } else {
+        Access::Store {
+            width: Width::W8,
+            place: 4 * turn + 3,
+            address: 0x400,
+            written: 2 * turn + 2 + hart,
+        }
+    }
+}
+
+/// The event at a place of the trace of two rounds: in each, 1,200 of hart 0 and then as many of hart 1.
+fn wanted(place: u64) -> Event
+    requires { place < 4800 }
+{
+    let round = place / 2400;
+    let hart = place / 1200 % 2;
+    let turn = 600 * round + place % 1200 / 2;
+    Event {
+        access: access_in(turn, hart, place % 2 == 0),
+        round: round as u32 + 1,
+        hart: hart as u8,
+        phase: Phase::Parallel,
+    }
+}
+
+/// Whether the trace has the events of two rounds of 600 turns, and no others.
+fn is_wanted(trace: &Trace) -> bool {
+    if trace.len() != 4800 {
+        return false;
+    }
+    for place in 0..4800 {
+        if trace.event(place) != wanted(place as u64) {
+            return false;
+        }
+    }
+    true
+}
+
+/// Whether two traces have the same events.
+fn are_same(one: &Trace, other: &Trace) -> bool {
+    one.len() == other.len() && (0..one.len()).all(|place| one.event(place) == other.event(place))
+}
+
+/// How many events are those of hart 0.
+fn count_of_first(trace: &Trace) -> u32 {
+    let mut count = 0u32;
+    for event in trace.events() {
+        if event.hart == 0 {
+            count = count.wrapping_add(1);
+        }
+    }
+    count
+}
+
+#[test]
+fn long_rounds_leave_each_event(rt: HostRuntime) -> Result<(), Fail> {
+    let alone = machine_after(&rt, rt.alloc(), b"2401\n", 2, 1)?;
+    let shared = machine_after(&rt, rt.alloc(), b"2401\n", 2, 4)?;
+    assert!(rt; is_wanted(alone.trace()));
+    assert!(rt; is_wanted(shared.trace()));
+    assert!(rt; are_same(alone.trace(), shared.trace()));
+    Ok(())
+}
+
+#[test]
+fn short_rounds_leave_as_many_events(rt: HostRuntime) -> Result<(), Fail> {
+    let alone = machine_after(&rt, rt.alloc(), b"40\n", 60, 1)?;
+    let shared = machine_after(&rt, rt.alloc(), b"40\n", 60, 4)?;
+    // 2,400 instructions a hart end after the store of turn 600: as many accesses as in one long round.
+    assert_eq!(rt; alone.trace().len(), 2400);
+    assert_eq!(rt; count_of_first(alone.trace()), 1200);
+    assert!(rt; are_same(alone.trace(), shared.trace()));
+    Ok(())
+}

@@ -1,0 +1,11 @@
+-- Plain loads and stores in brief.
+use Rattle.std.specs.Prelude.{ℕ, ◌+◌, ◌%◌, ◌^◌}
+use Rattle.round_schedule.specs.declared.access.Access.{Access}
+use Rattle.round_schedule.specs.declared.access.Access.TheVariants as accesses
+use Rattle.memory_order.specs.declared.brief.Brief.{Brief}
+use Rattle.memory_order.specs.declared.brief.Brief.TheVariants as briefs
+
+-- the access, whose place is counted from a base
+abbrev pub widened : ℕ → Brief → Access
+widened base (briefs.Load w p a v) = accesses.Load w ((base + p) % 2 ^ 64) a v
+widened base (briefs.Store w p a v) = accesses.Store w ((base + p) % 2 ^ 64) a v

@@ -1,0 +1,135 @@
+//! Plain loads and stores in a form that takes less memory.
+
+ghost use Rattle.std.specs.Prelude.{◌≡◌, ◌+◌, IfOk, IfSome, map};
+ghost use Rattle.memory_order.specs.Briefs.{widened};
+
+use pages::{OutOfMemory, Width};
+use round_schedule::Access;
+use std::alloc::Global;
+use std::mem::size_of;
+
+/// A plain load or store. Its place is counted from a base, and its address is below 2^32.
+#[derive(Clone, Copy)]
+pub(crate) enum Brief {
+    Load {
+        width: Width,
+        place: u32,
+        address: u32,
+        read: u64,
+    },
+    Store {
+        width: Width,
+        place: u32,
+        address: u32,
+        written: u64,
+    },
+}
+
+// Most of a long run's memory is accesses.
+const _: () = prove!(size_of::<Brief>() == 24);
+
+impl Brief {
+    /// An access in brief, if it has such a form with its place counted from `base`.
+    #[inline]
+    fn of(access: &Access, base: u64) -> Option<Brief>
+        ensures { IfSome result (λ b. widened base b ≡ access.now) }
+    {
+        match *access {
+            Access::Load {
+                width,
+                place,
+                address,
+                read,
+            } => Some(Brief::Load {
+                width,
+                place: distance(base, place)?,
+                address: small(address)?,
+                read,
+            }),
+            Access::Store {
+                width,
+                place,
+                address,
+                written,
+            } => Some(Brief::Store {
+                width,
+                place: distance(base, place)?,
+                address: small(address)?,
+                written,
+            }),
+            _ => None,
+        }
+    }
+
+    /// The access.
+    #[inline]
+    pub(crate) fn access(&self, base: u64) -> Access
+        ensures { result ≡ widened base self.now }
+    {
+        match *self {
+            Brief::Load {
+                width,
+                place,
+                address,
+                read,
+            } => Access::Load {
+                width,
+                place: base.wrapping_add(u64::from(place)),
+                address: u64::from(address),
+                read,
+            },
+            Brief::Store {
+                width,
+                place,
+                address,
+                written,
+            } => Access::Store {
+                width,
+                place: base.wrapping_add(u64::from(place)),
+                address: u64::from(address),
+                written,
+            },
+        }
+    }
+}
+
+/// How far a place is above a base, if it is so by less than 2^32.
+#[inline]
+fn distance(base: u64, place: u64) -> Option<u32>
+    ensures { IfSome result (λ d. base + d ≡ place) }
+{
+    if place < base {
+        return None;
+    }
+    small(place - base)
+}
+
+/// A number that is below 2^32.
+#[inline]
+fn small(number: u64) -> Option<u32>
+    ensures { IfSome result (λ n. n ≡ number) }
+{
+    if number <= 0xffff_ffff {
+        Some(number as u32)
+    } else {
+        None
+    }
+}
+
+/// All these accesses in brief, if they have such forms with their places counted from `base`.
+pub(crate) fn in_brief(
+    alloc: Global,
+    accesses: &[Access],
+    base: u64,
+) -> Result<Option<Vec<Brief>>, OutOfMemory>
+    ensures { IfOk result (λ r. IfSome r (λ v. map (widened base) v.items ≡ accesses.now)) }
+{
+    let mut briefs = Vec::with_capacity(alloc, accesses.len())?;
+    for access in accesses {
+        let Some(brief) = Brief::of(access, base) else {
+            return Ok(None);
+        };
+        briefs.push(brief)?;
+    }
+    Ok(Some(briefs))
+}
