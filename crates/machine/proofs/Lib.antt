@@ -1,6 +1,7 @@
 pub mod Fits
 pub mod CodeKept
 pub mod RoundsOfHarts
+pub mod LinesReady
 pub mod Listed
 pub mod CommittedAtOnce
 pub mod Opened

@@ -1,20 +1,16 @@
 -- Facts of the outcomes, by their places.
-use Rattle.std.proofs.Common.{◌≡◌, ℕ, zero, suc, ◌+◌, ◌*◌, ◌/◌, ◌<◌, ◌≤◌, List, [], ◌∷◌, ◌++◌, length, take, get_or, Bool, true, false, Option, None, refl, sym, ap, ◌∙◌, subst, arith, All, below_more, append_assoc, append-nil}
-use Rattle.std.proofs.lemmas.List.{take_more, get_or_default, length-map}
-use Rattle.std.proofs.Math.ListN.{get_or-map}
-use Rattle.std.proofs.lemmas.List.Elements.{All-map}
+use Rattle.std.proofs.Common.{◌≡◌, ℕ, zero, suc, ◌+◌, ◌/◌, ◌<◌, ◌≤◌, List, [], ◌∷◌, ◌++◌, length, take, get_or, Bool, false, Option, refl, sym, ap, ◌∙◌, subst, arith, below_more}
+use Rattle.std.proofs.lemmas.List.{take_more, get_or_default}
 use Rattle.pages.specs.declared.access.Store.{Store}
 use Rattle.pages.specs.declared.access.Width.TheVariants.{W1}
-use Rattle.pages.specs.Memory.{Memory, store_fault, stored}
-use Rattle.pages.specs.Paged.{Paged, is_page_ready}
+use Rattle.pages.specs.Memory.{Memory, stored}
+use Rattle.pages.specs.Paged.{Paged}
 use Rattle.pages.specs.StoreLaws.{length-after}
-use Rattle.store_buffer.specs.Covered.{stores_of, one_byte}
 use Rattle.round_schedule.specs.declared.span.Span.{Span}
 use Rattle.round_schedule.specs.Schedule.{HartRound, began}
 use Rattle.commit_phase.specs.Commit.{CommitsBuffer, CommittedTo, Committed}
 use Rattle.commit_phase.proofs.HartOrder.{committed_first, committed_more, committed_over}
 use Rattle.hart_step.specs.declared.hart.Hart.{Hart}
-use Rattle.hart_step.proofs.Spares.{within_pages}
 use Rattle.machine.specs.declared.outcome.Outcome.{Outcome}
 use Rattle.machine.specs.Outcomes.{AllFit, AllOnReady, AreFit, AreReady, AreOutcomes, IsOutcome, KeepsPages, harts_of}
 use Rattle.machine.proofs.Fits.{same_fault}
@@ -111,51 +107,6 @@ keeps_all_more p q r os i e low k f a = record {
   ready = λ j d less. below_or_at (λ n. AllOnReady r (get_or os n d).buffer) i (λ n h. still_on q r (get_or os n d).buffer k (a.ready n d h))
       (subst (λ (o : Outcome). AllOnReady r o.buffer) (get_or_default os i e d low) f) j less;
 }
-
--- the stores of a buffer whose pages are ready, and the rest
-pub record Readying (p q : Paged) (ss rest : List Store) : Type 0 where
-  pub keeps : KeepsPages p q
-  pub done : List Store
-  pub split : ss ≡ done ++ rest
-  pub ready : (k : ℕ) (d : Store) → k < length done → is_page_ready q ((get_or done k d).addr / 4096) ≡ true
-
-all_seam : {X : Type 0} (P : X → Type 0) (xs ys : List X) (y : X) → All P (xs ++ y ∷ ys) → P y
-all_seam P [] ys y h = h 0 y (omega arith)
-all_seam P (x ∷ xs) ys y h = all_seam P xs ys y (λ k d low. h (suc k) d (omega arith))
-
--- the next store lies in one of the pages
-pub next_page : (p q : Paged) (es : List (ℕ × ℕ)) (rest : List Store) (s : Store) (pages : ℕ) → AllFit p.memory es → pages ≡ length p.ready → 4096 * pages ≡ length p.memory.bytes →
-    Readying p q (stores_of es) (s ∷ rest) → s.addr / 4096 < length q.ready
-next_page p q es rest s pages f count bytes r =
-    let all : All (λ (x : Store). store_fault p.memory x.addr x.width ≡ None) (r.done ++ s ∷ rest) =
-    subst (λ (ss : List Store). All (λ (x : Store). store_fault p.memory x.addr x.width ≡ None) ss) r.split (All-map (λ (x : Store). store_fault p.memory x.addr x.width ≡ None) one_byte es f) in
-    let low : s.addr / 4096 < length p.ready = within_pages p s pages (all_seam (λ (x : Store). store_fault p.memory x.addr x.width ≡ None) r.done rest s all) count bytes in
-    omega (arith, r.keeps.count)
-
-pub readying_first : (p : Paged) (ss : List Store) → Readying p p ss ss
-readying_first p ss = record { keeps = keeps_first p; done = []; split = refl; ready = λ k d low. absurd (omega arith) }
-
-one_more : (q : Paged) (xs : List Store) (s : Store) → is_page_ready q (s.addr / 4096) ≡ true → ((k : ℕ) (d : Store) → k < length xs → is_page_ready q ((get_or xs k d).addr / 4096) ≡ true) →
-    (k : ℕ) (d : Store) → k < length (xs ++ s ∷ []) → is_page_ready q ((get_or (xs ++ s ∷ []) k d).addr / 4096) ≡ true
-one_more q [] s h f zero d low = h
-one_more q [] s h f (suc k) d low = absurd (omega arith)
-one_more q (x ∷ xs) s h f zero d low = f 0 x (omega arith)
-one_more q (x ∷ xs) s h f (suc k) d low = one_more q xs s h (λ j e less. f (suc j) e (omega arith)) k d (omega arith)
-
-pub readying_more : (p q r : Paged) (ss rest : List Store) (s : Store) → KeepsPages q r → is_page_ready r (s.addr / 4096) ≡ true → Readying p q ss (s ∷ rest) → Readying p r ss rest
-readying_more p q r ss rest s k h a = record {
-  keeps = keeps_more p q r a.keeps k;
-  done = a.done ++ s ∷ [];
-  split = a.split ∙ sym (append_assoc a.done (s ∷ []) rest);
-  ready = one_more r a.done s h (λ j d low. k.stays ((get_or a.done j d).addr / 4096) (a.ready j d low));
-}
-
-pub readying_over : (p q : Paged) (es : List (ℕ × ℕ)) (rest : List Store) → rest ≡ [] → Readying p q (stores_of es) rest → AllOnReady q es
-readying_over p q es rest over r k d low =
-    let whole : stores_of es ≡ r.done = r.split ∙ ap (λ (x : List Store). r.done ++ x) over ∙ append-nil r.done in
-    let size : length es ≡ length r.done = sym (length-map es one_byte) ∙ ap length whole in
-    let here : get_or r.done k (one_byte d) ≡ one_byte (get_or es k d) = sym (ap (λ (x : List Store). get_or x k (one_byte d)) whole) ∙ get_or-map one_byte es k d in
-    sym (ap (λ (s : Store). is_page_ready q (s.addr / 4096)) here) ∙ r.ready k (one_byte d) (omega arith)
 
 harts-push : (os : List Outcome) (o : Outcome) → harts_of (os ++ o ∷ []) ≡ harts_of os ++ o.hart ∷ []
 harts-push [] o = refl

@@ -7,6 +7,7 @@ ghost use Rattle.round_lock.specs.Starts.{rounds_of};
 ghost use Rattle.machine.specs.Outcomes.{AreOutcomes};
 
 use crate::crew::Crew;
+use crate::events::are_long;
 use commit_phase::Buffered;
 use hart_step::{CodeTable, Hart};
 use memory_order::Log;
@@ -61,7 +62,7 @@ pub fn outcomes_of<G: Gate + Sync, R: Threads + Wait + Sync>(
     let _harts = plan.harts();
     let quotas = quotas_in(pages.allocator(), plan, round)?;
     let start = RoundStart::new(pages, table, harts, &quotas);
-    gather_outcomes::<Brand, G, R>(crew, &start)
+    share_logs(gather_outcomes::<Brand, G, R>(crew, &start)?)
 }
 
 /// How many instructions each hart may do in a round.
@@ -101,7 +102,7 @@ fn gather_outcomes<B: BookStart + Send + Sync, G: Gate + Sync, R: Threads + Wait
         let outcome = Outcome {
             hart,
             buffer,
-            log: Log::of(accesses)?,
+            log: Log::of(accesses),
             waits,
         };
         add(&mut outcomes, outcome)?;
@@ -116,4 +117,16 @@ fn add(outcomes: &mut Vec<Outcome>, outcome: Outcome) -> Result<(), OutOfMemory>
         Ok(()) => Ok(()),
         Err(_) => Err(OutOfMemory),
     }
+}
+
+/// Puts the logs of a long round into the form that copies of a trace share.
+fn share_logs(mut outcomes: Vec<Outcome>) -> Result<Vec<Outcome>, OutOfMemory>
+    ensures { IfOk result (λ os. os.items ≡ outcomes.items) }
+{
+    if are_long(&outcomes) {
+        for number in 0..outcomes.len() {
+            outcomes[number].log.share()?;
+        }
+    }
+    Ok(outcomes)
 }

@@ -26,19 +26,20 @@ fn make_buffer_ready(pages: &mut Pages, buffer: &StoreBuffer) -> Result<(), OutO
 {
     // A byte of guest memory lies in one of these pages.
     let _pages = pages.count();
-    for store in buffer.stores() {
-        make_page_ready(pages, store.addr)?;
+    for (start, _line) in buffer.lines() {
+        make_page_ready(pages, start)?;
     }
     Ok(())
 }
 
-/// Makes the page of an address ready.
+/// Makes the page of an address of guest memory ready. An address past it has none.
 fn make_page_ready(pages: &mut Pages, address: u64) -> Result<(), OutOfMemory>
-    requires { address / 4096 < length pages.old.ready }
     ensures keeps { KeepsPages pages.old pages.new }
-    ensures ready { OnOk result (is_page_ready pages.new (address / 4096) ≡ true) }
+    ensures ready { OnOk result (address / 4096 < length pages.old.ready → is_page_ready pages.new (address / 4096) ≡ true) }
 {
-    let _pages = pages.count();
+    if address / 4096 >= u64::from(pages.count()) {
+        return Ok(());
+    }
     let page = (address / 4096) as u32;
     if pages.ready(page) {
         return Ok(());

@@ -10,7 +10,6 @@ use pages::Width;
 use round_schedule::{Access, Event, Phase};
 use std::alloc::Global;
 use std::sync::Wait;
-use std::test::Fail;
 use std::thread::Threads;
 
 /// In one turn after another, a hart loads the doubleword at 0x400 and then stores there its number plus 2, 4, 6 and so on,
@@ -102,39 +101,37 @@ fn is_wanted(trace: &Trace) -> bool {
     true
 }
 
-/// Whether two traces have the same events.
-fn are_same(one: &Trace, other: &Trace) -> bool {
-    one.len() == other.len() && (0..one.len()).all(|place| one.event(place) == other.event(place))
+/// Whether two rounds of 2,401 instructions, on so many workers, leave the events of 600 turns each.
+fn leaves_each_event<R: Threads + Wait + Sync>(
+    rt: &R,
+    alloc: Global,
+    workers: u32,
+) -> Result<bool, RunError> {
+    let machine = machine_after(rt, alloc, b"2401\n", 2, workers)?;
+    Ok(is_wanted(machine.trace()))
 }
 
-/// How many events are those of hart 0.
-fn count_of_first(trace: &Trace) -> u32 {
-    let mut count = 0u32;
-    for event in trace.events() {
-        if event.hart == 0 {
-            count = count.wrapping_add(1);
-        }
-    }
-    count
-}
-
-#[test]
-fn long_rounds_leave_each_event(rt: HostRuntime) -> Result<(), Fail> {
-    let alone = machine_after(&rt, rt.alloc(), b"2401\n", 2, 1)?;
-    let shared = machine_after(&rt, rt.alloc(), b"2401\n", 2, 4)?;
-    assert!(rt; is_wanted(alone.trace()));
-    assert!(rt; is_wanted(shared.trace()));
-    assert!(rt; are_same(alone.trace(), shared.trace()));
-    Ok(())
+/// How many events 60 rounds of 40 instructions leave, on so many workers, and how many of them are those of hart 0.
+fn event_counts<R: Threads + Wait + Sync>(
+    rt: &R,
+    alloc: Global,
+    workers: u32,
+) -> Result<(usize, usize), RunError> {
+    let machine = machine_after(rt, alloc, b"40\n", 60, workers)?;
+    let trace = machine.trace();
+    let first = trace.events().filter(|event| event.hart == 0).count();
+    Ok((trace.len(), first))
 }
 
 #[test]
-fn short_rounds_leave_as_many_events(rt: HostRuntime) -> Result<(), Fail> {
-    let alone = machine_after(&rt, rt.alloc(), b"40\n", 60, 1)?;
-    let shared = machine_after(&rt, rt.alloc(), b"40\n", 60, 4)?;
+fn long_rounds_leave_each_event(rt: HostRuntime) {
+    assert!(rt; leaves_each_event(&rt, rt.alloc(), 1) == Ok(true));
+    assert!(rt; leaves_each_event(&rt, rt.alloc(), 4) == Ok(true));
+}
+
+#[test]
+fn short_rounds_leave_as_many_events(rt: HostRuntime) {
     // 2,400 instructions a hart end after the store of turn 600: as many accesses as in one long round.
-    assert_eq!(rt; alone.trace().len(), 2400);
-    assert_eq!(rt; count_of_first(alone.trace()), 1200);
-    assert!(rt; are_same(alone.trace(), shared.trace()));
-    Ok(())
+    assert!(rt; event_counts(&rt, rt.alloc(), 1) == Ok((2400, 1200)));
+    assert!(rt; event_counts(&rt, rt.alloc(), 4) == Ok((2400, 1200)));
 }

@@ -1,15 +1,11 @@
 -- Traces that grow event by event.
-use Rattle.std.proofs.Common.{◌≡◌, ℕ, suc, ◌<◌, List, ◌∷◌, ◌++◌, length, get_or, take, drop, sym, ap, ◌∙◌, subst, arith, append_assoc, length-append, take-append-drop, drop-cons}
+use Rattle.std.proofs.Common.{◌≡◌, ◌<◌, List, ◌∷◌, ◌++◌, length, sym, ap, ◌∙◌, subst, arith, length-append}
 use Rattle.std.proofs.Math.Seq.{get_or-append_seam}
 use Rattle.std.proofs.lemmas.List.{get_or_append_left}
-use Rattle.round_schedule.specs.declared.access.Access.{Access}
 use Rattle.round_schedule.specs.declared.event.Event.{Event}
-use Rattle.round_schedule.specs.declared.event.Phase.{Phase}
 use Rattle.round_schedule.specs.Accesses.{place_of}
-use Rattle.round_schedule.specs.Events.{event_of, events_of}
 use Rattle.round_schedule.specs.Positions.{event, no_event}
 use Rattle.round_schedule.proofs.Folds.{event_before}
-use Rattle.round_schedule.proofs.Runs.{events_of-append}
 use Rattle.memory_order.specs.Traced.{HasForm, IsTrace, StandsAbove}
 
 -- the beginning of a trace is one
@@ -39,15 +35,3 @@ may_push t e u h = (formed, above)
         let ee : event (t ++ e ∷ u) (length t) ≡ e = get_or-append_seam t e u no_event in
         let r = h.rising k (length t) l within (ap (λ (f : Event). f.hart) ek ∙ same ∙ sym (ap (λ (f : Event). f.hart) ee)) in
         omega (arith, r, ap (λ (f : Event). place_of f.access) ek, ap (λ (f : Event). place_of f.access) ee)
-
--- access k of a phase, after those before it
-pub may_push_access : (t : List Event) (n i : ℕ) (s : Phase) (as' : List Access) (k : ℕ) (d : Access) → k < length as' → IsTrace (t ++ events_of n i s as') →
-    HasForm (event_of n i s (get_or as' k d)) × StandsAbove (t ++ events_of n i s (take k as')) (event_of n i s (get_or as' k d))
-may_push_access t n i s as' k d l h =
-    may_push (t ++ events_of n i s (take k as')) (event_of n i s (get_or as' k d)) (events_of n i s (drop (suc k) as'))
-    (subst IsTrace (ap (λ (u : List Event). t ++ u) parts ∙ sym (append_assoc t (events_of n i s (take k as')) (event_of n i s (get_or as' k d) ∷ events_of n i s (drop (suc k) as')))) h)
-  where
-    parts : events_of n i s as' ≡ events_of n i s (take k as') ++ event_of n i s (get_or as' k d) ∷ events_of n i s (drop (suc k) as')
-    parts =
-        ap (events_of n i s) (sym (take-append-drop k as') ∙ ap (λ (bs : List Access). take k as' ++ bs) (drop-cons as' k d l))
-        ∙ events_of-append n i s (take k as') (get_or as' k d ∷ drop (suc k) as')

@@ -1,4 +1,4 @@
--- Plain loads and stores in brief.
+-- Plain loads and stores and fences in brief.
 use Rattle.std.specs.Prelude.{ℕ, ◌+◌, ◌%◌, ◌^◌}
 use Rattle.round_schedule.specs.declared.access.Access.{Access}
 use Rattle.round_schedule.specs.declared.access.Access.TheVariants as accesses
@@ -9,3 +9,4 @@ use Rattle.memory_order.specs.declared.brief.Brief.TheVariants as briefs
 abbrev pub widened : ℕ → Brief → Access
 widened base (briefs.Load w p a v) = accesses.Load w ((base + p) % 2 ^ 64) a v
 widened base (briefs.Store w p a v) = accesses.Store w ((base + p) % 2 ^ 64) a v
+widened base (briefs.Fence p b a m) = accesses.Fence b a m ((base + p) % 2 ^ 64)

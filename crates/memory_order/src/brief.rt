@@ -1,14 +1,15 @@
-//! Plain loads and stores in a form that takes less memory.
+//! Plain loads and stores and fences in a form that takes less memory.
 
 ghost use Rattle.std.specs.Prelude.{◌≡◌, ◌+◌, IfOk, IfSome, map};
 ghost use Rattle.memory_order.specs.Briefs.{widened};
 
 use pages::{OutOfMemory, Width};
 use round_schedule::Access;
+use rv64_decode::{FenceMode, FenceSet};
 use std::alloc::Global;
 use std::mem::size_of;
 
-/// A plain load or store. Its place is counted from a base, and its address is below 2^32.
+/// A plain load or store, or a fence. Its place is counted from a base, and its address is below 2^32.
 #[derive(Clone, Copy)]
 pub(crate) enum Brief {
     Load {
@@ -22,6 +23,13 @@ pub(crate) enum Brief {
         place: u32,
         address: u32,
         written: u64,
+    },
+    // The place first, where it stands in the other two: a copy then needs no case.
+    Fence {
+        place: u32,
+        before: FenceSet,
+        after: FenceSet,
+        mode: FenceMode,
     },
 }
 
@@ -57,6 +65,17 @@ impl Brief {
                 address: small(address)?,
                 written,
             }),
+            Access::Fence {
+                before,
+                after,
+                mode,
+                place,
+            } => Some(Brief::Fence {
+                place: distance(base, place)?,
+                before,
+                after,
+                mode,
+            }),
             _ => None,
         }
     }
@@ -88,6 +107,17 @@ impl Brief {
                 place: base.wrapping_add(u64::from(place)),
                 address: u64::from(address),
                 written,
+            },
+            Brief::Fence {
+                place,
+                before,
+                after,
+                mode,
+            } => Access::Fence {
+                before,
+                after,
+                mode,
+                place: base.wrapping_add(u64::from(place)),
             },
         }
     }

@@ -11,22 +11,19 @@ use std::marker::Model;
 use std::mem;
 use std::sync::Arc;
 
-/// From how many accesses on copies share them.
-const SHARED: usize = 64;
-
 /// The accesses of one hart in one phase of a round, in program order.
 #[derive(Drop)]
 pub struct Log {
     kept: Kept,
 }
 
-/// How a log keeps its accesses: copies of a trace copy the few, and share the many.
+/// How a log keeps its accesses.
 #[derive(Drop)]
 pub(crate) enum Kept {
     Nothing,
-    Few(Vec<Access>),
-    Many(Arc<Vec<Access>>),
-    /// In brief, their places counted from a base.
+    /// As the hart left them.
+    Own(Vec<Access>),
+    /// In brief, their places counted from a base. Copies share them.
     Brief(u64, Arc<Vec<Brief>>),
 }
 
@@ -41,26 +38,38 @@ impl Model for Log {
 }
 
 impl Log {
-    /// The log of these accesses. Many plain loads and stores are kept in brief.
+    /// The log of these accesses. This takes no memory.
+    pub fn of(accesses: Vec<Access>) -> Log
+        ensures { result ≡ accesses.items }
+    {
+        Log {
+            kept: Kept::Own(accesses),
+        }
+    }
+
+    /// Puts plain loads and stores and fences into a form that takes less memory, and that the copies of a trace share. A log
+    /// with another access, or with places or addresses that are far apart, stays as it is.
     ///
     /// # Errors
     ///
-    /// `OutOfMemory`, and the accesses are dropped.
-    pub fn of(accesses: Vec<Access>) -> Result<Log, OutOfMemory>
-        ensures { IfOk result (λ l. l ≡ accesses.items) }
+    /// `OutOfMemory`, and the log stays as it is.
+    pub fn share(&mut self) -> Result<(), OutOfMemory>
+        ensures { self.new ≡ self.old }
     {
-        if accesses.len() < SHARED {
-            return Ok(Log {
-                kept: Kept::Few(accesses),
-            });
-        }
-        let alloc = *accesses.allocator();
-        let base = accesses[0].place();
-        let kept = match in_brief(alloc, &accesses, base)? {
-            Some(briefs) => Kept::Brief(base, Arc::new(alloc, briefs).map_err(|_| OutOfMemory)?),
-            None => Kept::Many(Arc::new(alloc, accesses).map_err(|_| OutOfMemory)?),
+        let Kept::Own(accesses) = &self.kept else {
+            return Ok(());
         };
-        Ok(Log { kept })
+        let Some(first) = accesses.first() else {
+            return Ok(());
+        };
+        let alloc = *accesses.allocator();
+        let base = first.place();
+        let Some(briefs) = in_brief(alloc, accesses, base)? else {
+            return Ok(());
+        };
+        let briefs = Arc::new(alloc, briefs).map_err(|_| OutOfMemory)?;
+        self.kept = Kept::Brief(base, briefs);
+        Ok(())
     }
 
     /// How many accesses there are.
@@ -84,8 +93,7 @@ impl Log {
     {
         match &self.kept {
             Kept::Nothing => Accesses::Whole(&[]),
-            Kept::Few(accesses) => Accesses::Whole(accesses.as_slice()),
-            Kept::Many(accesses) => Accesses::Whole(accesses.as_slice()),
+            Kept::Own(accesses) => Accesses::Whole(accesses.as_slice()),
             Kept::Brief(base, briefs) => Accesses::Brief(*base, briefs.as_slice()),
         }
     }
@@ -109,10 +117,9 @@ impl Log {
     {
         let kept = match &self.kept {
             Kept::Nothing => Kept::Nothing,
-            Kept::Few(accesses) => {
-                Kept::Few(Vec::from_slice(*accesses.allocator(), accesses.as_slice())?)
+            Kept::Own(accesses) => {
+                Kept::Own(Vec::from_slice(*accesses.allocator(), accesses.as_slice())?)
             }
-            Kept::Many(accesses) => Kept::Many(accesses.clone()?),
             Kept::Brief(base, briefs) => Kept::Brief(*base, briefs.clone()?),
         };
         Ok(Log { kept })

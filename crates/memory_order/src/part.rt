@@ -23,7 +23,7 @@ pub(crate) struct Part {
 pub(crate) enum Batch {
     /// Events one by one.
     Events(Arc<Vec<Event>>),
-    /// The accesses of a hart in one phase of a round, as the hart left them.
+    /// The accesses of a hart in one phase of a round.
     Log {
         round: u32,
         hart: u8,

@@ -2,8 +2,10 @@ ghost use Rattle.std.specs.Prelude.{◌≡◌, ℕ, ◌-◌, ◌+◌, ◌<◌, �
 ghost use Rattle.pages.specs.Memory.{in_range};
 ghost use Rattle.round_schedule.specs.Events.{events_of};
 ghost use Rattle.round_schedule.specs.Positions.{event};
+ghost use Rattle.memory_order.specs.LentLogs.{accesses_lent};
 ghost use Rattle.memory_order.specs.Traced.{HasForm, IsTrace, StandsAbove, laid, opening_at};
 
+use crate::accesses::Accesses;
 use crate::event_list::EventList;
 use crate::events::Events;
 use crate::form::all_have_forms;
@@ -109,7 +111,7 @@ impl Trace {
         self.events.push(event);
     }
 
-    /// Adds the accesses of a hart in one phase of a round.
+    /// Adds the accesses of a hart in one phase of a round, where room was made. It takes no memory.
     pub fn extend(&mut self, round: u32, hart: u8, phase: Phase, accesses: &[Access])
         requires room { length accesses.now ≤ self.old.room }
         requires sound { IsTrace (self.old.events ++ events_of round hart phase accesses.now) }
@@ -117,17 +119,11 @@ impl Trace {
         ensures opening { self.new.opening ≡ self.old.opening }
         ensures room { self.old.room ≤ self.new.room + length accesses.now }
     {
-        for access in accesses {
-            self.push(Event {
-                access: *access,
-                round,
-                hart,
-                phase,
-            });
-        }
+        self.push_all(round, hart, phase, Accesses::Whole(accesses));
     }
 
-    /// Adds the accesses of a log, of a hart in one phase of a round.
+    /// Adds the accesses of a log, of a hart in one phase of a round, where room for them as events was made. It takes no
+    /// memory.
     pub fn copy_log(&mut self, round: u32, hart: u8, phase: Phase, log: &Log)
         requires room { length log.now ≤ self.old.room }
         requires sound { IsTrace (self.old.events ++ events_of round hart phase log.now) }
@@ -135,18 +131,30 @@ impl Trace {
         ensures opening { self.new.opening ≡ self.old.opening }
         ensures room { self.old.room ≤ self.new.room + length log.now }
     {
-        for place in 0..log.len() {
+        self.push_all(round, hart, phase, log.accesses());
+    }
+
+    fn push_all(&mut self, round: u32, hart: u8, phase: Phase, accesses: Accesses<'_>)
+        requires room { length (accesses_lent accesses) ≤ self.old.room }
+        requires sound { IsTrace (self.old.events ++ events_of round hart phase (accesses_lent accesses)) }
+        ensures events { self.new.events ≡ self.old.events ++ events_of round hart phase (accesses_lent accesses.entry) }
+        ensures opening { self.new.opening ≡ self.old.opening }
+        ensures room { self.old.room ≤ self.new.room + length (accesses_lent accesses.entry) }
+    {
+        let mut left = accesses;
+        while let Some((access, rest)) = left.split_first() {
             self.push(Event {
-                access: log.get(place),
+                access,
                 round,
                 hart,
                 phase,
             });
+            left = rest;
         }
     }
 
-    /// Adds the accesses of a hart in one phase of a round, where room for a log was made. They stay where they are, and it
-    /// takes no memory.
+    /// Adds the accesses of a hart in one phase of a round, where room for a log was made. They stay where they are, so that
+    /// it takes no memory. Copies of the trace share a log that was shared, and copy another.
     pub fn adopt(&mut self, round: u32, hart: u8, phase: Phase, log: Log)
         requires logs { 0 < self.old.logs }
         requires few { length self.old.events + length log ≤ 2 ^ 62 }
@@ -197,8 +205,8 @@ impl Trace {
         self.opening.byte(address)
     }
 
-    /// An equal trace. Once `reserve` was called, it shares with this one the opening pieces, and all events but those added
-    /// since and a few thousand before them.
+    /// An equal trace. Once `reserve` was called, it shares with this one the opening pieces, the logs that were shared before
+    /// they were adopted, and all other events but those added since and a few thousand before them.
     pub fn copy(&self, alloc: Global) -> Result<Trace, OutOfMemory>
         ensures events { IfOk result (λ t. t.events ≡ self.now.events) }
         ensures opening { IfOk result (λ t. t.opening ≡ self.now.opening) }

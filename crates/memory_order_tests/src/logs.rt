@@ -4,8 +4,9 @@ ghost use Rattle.std.specs.Prelude.{◌≡◌, ◌+◌, ◌^◌, ◌<◌, ◌≤
 ghost use Rattle.round_schedule.specs.Events.{events_of};
 ghost use Rattle.memory_order.specs.Traced.{IsTrace};
 
-use crate::traces::{add_loads, full_fence, load, store};
+use crate::traces::{PLAIN, add_loads, full_fence, load, store};
 use memory_order::{Access, Event, Log, Phase, Trace};
+use pages::Width;
 use std::alloc::Global;
 
 fn load_of(place: u64) -> Access {
@@ -21,7 +22,9 @@ fn log_of(alloc: Global, from: u64, to: u64) -> Option<Log>
     for place in from..to {
         accesses.push(load_of(place)).ok()?;
     }
-    Log::of(accesses).ok()
+    let mut log = Log::of(accesses);
+    log.share().ok()?;
+    Some(log)
 }
 
 // The accesses of a log.
@@ -40,10 +43,12 @@ fn accesses_of(alloc: Global, log: &Log) -> Option<Vec<Access>>
 enum Kind {
     /// Loads and stores in turn, at places far from 0 and addresses up to the last of 32 bits.
     Plain,
+    /// The same, but one is a fence.
+    Fenced,
     /// The same, but one at an address past 32 bits.
     Far,
-    /// The same, but one that is no plain load or store.
-    Fenced,
+    /// The same, but one is an SC that failed.
+    Conditional,
     /// The same, but one whose place is before the first one's.
     Early,
 }
@@ -57,15 +62,26 @@ fn plain(number: u64) -> Access {
     }
 }
 
-// Access 200 is the one that has no brief form.
+fn failed_sc(place: u64) -> Access {
+    Access::StoreConditional {
+        width: Width::W8,
+        ordering: PLAIN,
+        place,
+        address: 0x100,
+        written: None,
+    }
+}
+
+// Access 200 is the other one.
 fn access_of(kind: Kind, number: u64) -> Access {
     if number != 200 {
         return plain(number);
     }
     match kind {
         Kind::Plain => plain(number),
-        Kind::Far => load(0x2_0000_0000, 0x1_0000_0008, 7),
-        Kind::Fenced => full_fence(0x2_0000_0000),
+        Kind::Fenced => full_fence(0x1_0000_0258),
+        Kind::Far => load(0x1_0000_0258, 0x1_0000_0008, 7),
+        Kind::Conditional => failed_sc(0x1_0000_0258),
         Kind::Early => store(5, 0x100, 1),
     }
 }
@@ -82,13 +98,17 @@ fn has(log: &Log, end: usize, kind: Kind) -> bool {
     true
 }
 
-// Whether a log of so many accesses shows them, and hands them over.
+// Whether a log of so many accesses shows them before and after it is shared, and hands them over.
 fn is_handed_over(alloc: Global, end: usize, kind: Kind) -> Option<bool> {
     let mut accesses = Vec::new(alloc);
     for place in 0..end {
         accesses.push(access_of(kind, place as u64)).ok()?;
     }
-    let mut log = Log::of(accesses).ok()?;
+    let mut log = Log::of(accesses);
+    if !has(&log, end, kind) {
+        return Some(false);
+    }
+    log.share().ok()?;
     if !has(&log, end, kind) {
         return Some(false);
     }
@@ -96,19 +116,19 @@ fn is_handed_over(alloc: Global, end: usize, kind: Kind) -> Option<bool> {
     Some(has(&taken, end, kind) && log.len() == 0)
 }
 
-// Copies of a trace copy the few, and share the many, which are kept in brief.
 #[test]
 fn a_log_shows_its_accesses_and_hands_them_over(rt: HostRuntime) {
     let alloc = rt.alloc();
-    assert!(rt; is_handed_over(alloc, 3, Kind::Plain) == Some(true));
+    assert!(rt; is_handed_over(alloc, 0, Kind::Plain) == Some(true));
     assert!(rt; is_handed_over(alloc, 300, Kind::Plain) == Some(true));
+    assert!(rt; is_handed_over(alloc, 300, Kind::Fenced) == Some(true));
 }
 
 #[test]
 fn a_log_shows_accesses_that_have_no_brief_form(rt: HostRuntime) {
     let alloc = rt.alloc();
     assert!(rt; is_handed_over(alloc, 300, Kind::Far) == Some(true));
-    assert!(rt; is_handed_over(alloc, 300, Kind::Fenced) == Some(true));
+    assert!(rt; is_handed_over(alloc, 300, Kind::Conditional) == Some(true));
     assert!(rt; is_handed_over(alloc, 300, Kind::Early) == Some(true));
 }
 
@@ -237,4 +257,35 @@ fn adopted_logs_stand_among_pushed_events(rt: HostRuntime) {
     assert!(rt; adopt_loads(alloc, &mut trace, 3, 1, 0, 300));
     assert!(rt; has_expected(alloc, &trace, 1_007));
     assert!(rt; has_expected(alloc, &copy, 707));
+}
+
+// Copies the accesses of a log of a hart's loads at these places into a trace.
+fn copy_loads(alloc: Global, trace: &mut Trace, round: u32, hart: u8, from: u64, to: u64) -> bool
+    requires rising { from ≤ to }
+    requires room { to ≤ trace.old.room + from }
+    ensures room { trace.old.room + from ≤ trace.new.room + to }
+{
+    let Some(log) = log_of(alloc, from, to) else {
+        return false;
+    };
+    let Some(accesses) = accesses_of(alloc, &log) else {
+        return false;
+    };
+    if !may_take(alloc, trace, round, hart, Phase::Parallel, &accesses) {
+        return false;
+    }
+    trace.copy_log(round, hart, Phase::Parallel, &log);
+    true
+}
+
+#[test]
+fn copied_logs_stand_one_after_another(rt: HostRuntime) {
+    let alloc = rt.alloc();
+    let mut trace = Trace::new(alloc, Vec::new(alloc));
+    assert!(rt; add_loads(&mut trace, 0, 5));
+    trace.reserve(700).expect(&rt, "memory");
+    assert!(rt; copy_loads(alloc, &mut trace, 2, 0, 5, 305));
+    assert!(rt; copy_loads(alloc, &mut trace, 2, 1, 0, 0));
+    assert!(rt; copy_loads(alloc, &mut trace, 2, 2, 0, 400));
+    assert!(rt; has_expected(alloc, &trace, 705));
 }

@@ -185,7 +185,7 @@ fn a_trace_grows_and_is_copied(rt: HostRuntime) {
 }
 
 // A load of hart 0 at a place.
-pub(crate) fn load_at(place: u64) -> Event
+fn load_at(place: u64) -> Event
     ensures formed { HasForm result }
     ensures place { place_of result.access ≡ place }
 {

@@ -23,12 +23,12 @@ loop-number-preserved g c =
     let e = c.in-Some.round in
     let at : round_at s n ≡ Some (content_in e) = ap (round_at s) (sym c.in-Some.ensures.hart) ∙ (ap (λ (t : Start). round_at t (hart_of e)) c.requires.start ∙ c.in-Some.ensures.right) in
     let parts = c.into_parts-buffer.result in
-    let o : Outcome = record { hart = parts.0; buffer = parts.1; log = c.in_ok-of.field-0; waits = parts.3 } in
+    let o : Outcome = record { hart = parts.0; buffer = parts.1; log = c.of.result; waits = parts.3 } in
     let low : n < length s.harts = subst (λ (hs : List Hart). n < length hs) c.harts-number-end.ensures.harts c.loop-number-test.true in
     record {
       left = λ h least most. c.take.ensures.others h (λ same. omega (arith, same, least)) ∙ c.loop-number.invariant.left h (omega arith) most;
       rounds = outcomes_more s.memory s.quotas s.harts n none _ c.loop-number.outcomes.items c.add.new.outcomes.items o
           low refl c.in_ok-add.ensures c.loop-number.invariant.rounds
           (is_outcome s n none (content_in e) o low c.requires.sized at
-          (c.into_parts-buffer.ensures ∙ ap (λ (as' : List Access). content_from parts.0 parts.1 as' parts.3) (sym c.in_ok-of.ensures)));
+          (c.into_parts-buffer.ensures ∙ ap (λ (as' : List Access). content_from parts.0 parts.1 as' parts.3) (sym c.of.ensures)));
     }

@@ -1,5 +1,6 @@
-use Rattle.std.proofs.Common.{◌-◌, ◌∙◌, ℕ, IfOk, List, get_or, ap, subst, arith}
-use Rattle.round_schedule.specs.Schedule.{HartRound}
+use Rattle.std.proofs.lemmas.Result.{IfOk-weaker}
+use Rattle.std.proofs.Common.{◌-◌, ◌∙◌, ℕ, List, get_or, ap, sym, subst, arith}
+use Rattle.round_schedule.specs.Schedule.{HartRound, hart_rounds}
 use Rattle.round_planner.specs.Quotas.{quotas_of}
 use Rattle.hart_step.specs.declared.hart.Hart.{Hart}
 use Rattle.hart_step.specs.Words.{words_of}
@@ -12,8 +13,11 @@ pub returns : goal.returns
 returns g c =
     let m = c.args.pages.now.memory in
     let plan = c.args.plan.now in
-    let started = subst (λ (s : Start). IfOk c.gather_outcomes.result (λ os. AreOutcomes s.memory (rounds_of s) os.items)) c.new-start.ensures c.gather_outcomes.ensures in
-    subst (λ (rs : List (HartRound Hart)). IfOk c.gather_outcomes.result (λ os. AreOutcomes m rs os.items))
+    let os = c.in_ok-gather_outcomes.field-0.items in
+    let rs = hart_rounds (words_of m.code) m.bytes (quotas_of plan (c.args.round - 1)) c.args.harts.now in
+    let started = subst (λ (s : Start). AreOutcomes s.memory (rounds_of s) os) c.new-start.ensures c.in_ok-gather_outcomes.ensures in
+    let gathered : AreOutcomes m rs os = subst (λ (them : List (HartRound Hart)). AreOutcomes m them os)
     (same_rounds (words_of m.code) m.bytes c.deref.result.now (quotas_of plan (c.args.round - 1)) c.args.harts.now (λ k low.
     ap (λ (qs : List ℕ). get_or qs k 0) c.deref.ensures.value ∙ c.in_ok-quotas.ensures.quotas k (omega (arith, low, c.requires.harts))))
-    started
+    started in
+    IfOk-weaker c.share_logs.result _ _ (λ shared same. subst (AreOutcomes m rs) (sym same) gathered) c.share_logs.ensures

@@ -1,6 +1,11 @@
-use Rattle.store_buffer.specs.Covered.{stores_of}
-use Rattle.machine.proofs.Listed.{Readying}
+use Rattle.std.proofs.Common.{◌≡◌, ◌%◌, ◌^◌, ◌<◌, ℕ, All}
+use Rattle.store_buffer.specs.declared.line.Line.{Line}
+use Rattle.store_buffer.specs.Lines.{lent_bytes}
+use Rattle.machine.proofs.LinesReady.{Readying}
 use Rattle.machine.proofs.ready.make_buffer_ready.Given as goal
 
-abbrev pub invariant-loop-store : goal.invariant-loop-store
-invariant-loop-store l = Readying l.fn.pages l.pages (stores_of l.buffer) (stores_of l.store-iterator)
+abbrev pub invariant-loop-start : goal.invariant-loop-start
+invariant-loop-start l = record {
+  readying : Readying l.fn.pages l.pages l.buffer (lent_bytes l.start-iterator);
+  aligned : All (λ (e : ℕ × Line). (e.0 % 64 ≡ 0) × (e.0 < 2 ^ 64)) l.start-iterator;
+}
