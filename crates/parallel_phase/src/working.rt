@@ -4,11 +4,12 @@ ghost use Rattle.std.specs.Prelude.{◌≡◌, ◌<◌, length, All};
 ghost use Rattle.round_lock.specs.Rounds.{harts_put};
 ghost use Rattle.parallel_phase.specs.Seats.{IsReady};
 
+use crate::beside::{Work, work_on_each};
 use crate::gate::Gate;
 use crate::rounds::hart_round;
 use round_lock::{BookStart, HartRound, RoundBook, RoundStart, Seat};
 use std::sync::Wait;
-use std::thread::{self, Threads};
+use std::thread::Threads;
 
 /// Claims harts and puts their rounds until every hart is claimed, or memory is refused.
 pub(crate) fn work<B: BookStart, G: Gate, R: Wait>(
@@ -36,8 +37,26 @@ pub(crate) fn work<B: BookStart, G: Gate, R: Wait>(
     }
 }
 
-/// Gives each seat to a worker of its own: the calling thread is one, and the others are started. Where a thread
-/// can't be started, another one does its work.
+/// What every worker of a round works with.
+#[derive(Drop)]
+struct Worker<'a, 'b, B: BookStart, G, R> {
+    rt: &'a R,
+    start: &'a RoundStart<'b>,
+    book: &'a RoundBook<HartRound<B>>,
+    gate: &'a G,
+}
+
+impl<'a, 'b, B: BookStart, G: Gate, R: Wait> Work<Seat<HartRound<B>>> for Worker<'a, 'b, B, G, R> {
+    ghost asks = { λ w k. (w.start.now ≡ B.start) × IsReady w.book.now.table (length w.start.now.harts) k };
+
+    ghost leaves = { λ w k. k.table ≡ w.book.now.table };
+
+    fn work(&self, seat: &mut Seat<HartRound<B>>) {
+        work(self.rt, self.start, self.book, self.gate, seat)
+    }
+}
+
+/// Gives each seat to a worker of its own: the calling thread is one, and the others are started.
 pub(crate) fn work_all<B: BookStart + Send + Sync, G: Gate + Sync, R: Threads + Wait + Sync>(
     rt: &R,
     start: &RoundStart<'_>,
@@ -46,18 +65,14 @@ pub(crate) fn work_all<B: BookStart + Send + Sync, G: Gate + Sync, R: Threads + 
     seats: &mut [Seat<HartRound<B>>],
 )
     requires start { start.now ≡ B.start }
-    requires some { 0 < length seats.old }
     requires seats { All (λ k. IsReady book.now.table (length start.now.harts) k) seats.old }
     ensures { All (λ k. k.table ≡ book.now.table) seats.new }
 {
-    let workers = seats.len();
-    thread::for_each_mut(
+    let worker = Worker {
         rt,
-        seats,
-        workers,
-        &|_place: usize, seat: &mut Seat<HartRound<B>>|
-            requires { (start.now ≡ B.start) × IsReady book.now.table (length start.now.harts) seat.old }
-            ensures { seat.new.table ≡ seat.old.table }
-        { work(rt, start, book, gate, seat) },
-    );
+        start,
+        book,
+        gate,
+    };
+    work_on_each(rt, &worker, seats);
 }
