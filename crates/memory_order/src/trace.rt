@@ -134,6 +134,7 @@ impl Trace {
         self.push_all(round, hart, phase, log.accesses());
     }
 
+    /// Adds accesses of a hart in one phase of a round, event by event, where room for them was made.
     fn push_all(&mut self, round: u32, hart: u8, phase: Phase, accesses: Accesses<'_>)
         requires room { length (accesses_lent accesses) ≤ self.old.room }
         requires sound { IsTrace (self.old.events ++ events_of round hart phase (accesses_lent accesses)) }

@@ -12,6 +12,7 @@ pub(crate) trait Work<T> {
 
     ghost leaves: { Self → T → Type 0 };
 
+    /// Does it to one item. Threads do it to several items at once.
     fn work(&self, item: &mut T)
         requires { asks self.now item.old }
         ensures { leaves self.now item.new };

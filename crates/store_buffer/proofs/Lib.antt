@@ -1,4 +1,5 @@
 pub mod LineBits
+pub mod LineChains
 pub mod LineFirst
 pub mod LineMaps
 pub mod LineNumbers

@@ -1,9 +1,8 @@
 -- Lines by their numbers, from the places that are listed for them.
-use Rattle.std.proofs.Common.{◌≡◌, ◌≢◌, ℕ, ◌+◌, ◌-◌, ◌^◌, ◌<◌, ◌≤◌, List, [], ◌∷◌, ◌++◌, length, All, refl, sym, ap, subst, ◌∙◌, arith, Bool, true, false, cond, if◌then◌else◌, ◌⊎◌, ⊎_elim, inl, inr, Option, Some, None, is_some, nat_cmp, get_or, length-append, Result, Ok, Err, IfOk, OnOk}
+use Rattle.std.proofs.Common.{◌≡◌, ◌≢◌, ℕ, ◌-◌, ◌^◌, ◌<◌, ◌≤◌, List, [], ◌∷◌, length, All, refl, sym, ap, subst, ◌∙◌, arith, Bool, true, false, cond, if◌then◌else◌, ◌⊎◌, ⊎_elim, inl, inr, Option, Some, None, is_some, nat_cmp, get_or, Result, Ok, Err, IfOk, OnOk}
 use Rattle.pages.specs.declared.out_of_memory.OutOfMemory.{OutOfMemory}
 use Rattle.std.specs.Prelude.{option_map}
-use Rattle.std.proofs.Math.ListN.{get_or-append, set}
-use Rattle.std.proofs.Math.Seq.{get_or-append_seam}
+use Rattle.std.proofs.Math.ListN.{set}
 use Rattle.std.proofs.lemmas.List.{get_or-set_other, get_or-set_same, length-set}
 use Rattle.std.proofs.lemmas.Map.Views.{All-values-insert_entry}
 use Rattle.std.proofs.lemmas.Bool.{cases_eq}
@@ -13,10 +12,12 @@ use Rattle.std.specs.Map.{keys_of, values_of}
 use Rattle.pages.specs.declared.access.Width.{Width}
 use Rattle.pages.specs.Memory.{byte_of, in_range, width_bytes}
 use Rattle.store_buffer.specs.declared.line.Line.{Line}
-use Rattle.store_buffer.specs.declared.line_map.Numbered.{Numbered}
+use Rattle.store_buffer.specs.declared.slots.Numbered.{Numbered}
 use Rattle.store_buffer.specs.Held.{Held}
-use Rattle.store_buffer.specs.LineMaps.{ArePlaced, HasAdded, HasTaken, IsLineMap, IsOpen, blank, line_in, lines_in, listed_at, number_in}
+use Rattle.store_buffer.specs.LineMaps.{ArePlaced, HasAdded, HasTaken, IsLineMap, IsOpen, lines_in, listed_at}
 use Rattle.store_buffer.specs.Lines.{line_at, line_of, place_of}
+use Rattle.store_buffer.specs.Slots.{AreChained, before_in, blank, line_in, number_in}
+use Rattle.store_buffer.proofs.LineChains.{chained_alike}
 use Rattle.store_buffer.proofs.LineNumbers.{no_mask}
 use Rattle.store_buffer.proofs.LineOrder.{is_at_other, is_at_same, rising_keys}
 
@@ -36,8 +37,8 @@ pub keys-lines_in : (ls : List Numbered) (es : List (ℕ × ℕ)) → keys_of (l
 keys-lines_in ls [] = refl
 keys-lines_in ls (e ∷ es) = ap (λ ks. e.0 ∷ ks) (keys-lines_in ls es)
 
-pub held : (ls : List Numbered) (places : BTreeMap ℕ ℕ) → IsLineMap ls places → Held (lines_in ls places.entries)
-held ls places m =
+pub held : (ls : List Numbered) (latest : List (Option ℕ)) (places : BTreeMap ℕ ℕ) → IsLineMap ls latest places → Held (lines_in ls places.entries)
+held ls latest places m =
     let keys = keys-lines_in ls places.entries in
     record {
       rising = rising_keys (lines_in ls places.entries) (subst (λ (ks : List ℕ). IsStrictlySortedBy nat_cmp ks) (sym keys) m.ordered);
@@ -47,9 +48,10 @@ held ls places m =
 -- the line of one number is another, or a new one, and the others stand where they stood
 pub record Changed (ls ms : List Numbered) (es fs : List (ℕ × ℕ)) (number place : ℕ) (l : Line) : Type 0 where
   pub listed : (q : ℕ) → listed_at fs q ≡ cond (is_at (nat_cmp number) q) (Some place) (listed_at es q)
-  pub new : get_or ms place blank ≡ record { number = number; line = l }
+  pub number_there : number_in ms place ≡ number
+  pub line_there : line_in ms place ≡ l
   pub low : place < length ms
-  pub kept : (p : ℕ) → p < length ls → p ≢ place → get_or ms p blank ≡ get_or ls p blank
+  pub kept : (p : ℕ) → p < length ls → p ≢ place → (number_in ms p ≡ number_in ls p) × (line_in ms p ≡ line_in ls p)
   pub older : (p : ℕ) → p < length ms → p ≢ place → p < length ls
   pub longer : length ls ≤ length ms
   pub before : (Some place ≡ listed_at es number) ⊎ ((None ≡ listed_at es number) × (place ≡ length ls))
@@ -73,7 +75,7 @@ module _ (ls ms : List Numbered) (es fs : List (ℕ × ℕ)) (number place : ℕ
   placed_same n p e same =
       let at : p ≡ place = some_is p place (e ∙ listed_same n same) in
       let low = c.low in
-      (omega arith, ap (number_in ms) at ∙ ap (λ (x : Numbered). x.number) c.new ∙ same)
+      (omega arith, ap (number_in ms) at ∙ c.number_there ∙ same)
 
   placed_other : (n p : ℕ) → Some p ≡ listed_at fs n → (number ≡ n → ⊥) → (p < length ms) × (number_in ms p ≡ n)
   placed_other n p e other =
@@ -81,7 +83,7 @@ module _ (ls ms : List Numbered) (es fs : List (ℕ × ℕ)) (number place : ℕ
       let was = a.placed n p found in
       let below = was.0 in
       let longer = c.longer in
-      (omega arith, ap (λ (x : Numbered). x.number) (c.kept p was.0 (apart n p found other)) ∙ was.1)
+      (omega arith, (c.kept p was.0 (apart n p found other)).0 ∙ was.1)
 
   one_place : (p : ℕ) → Some p ≡ listed_at es number → p ≢ place → ⊥
   one_place p e n = elim c.before [
@@ -90,12 +92,12 @@ module _ (ls ms : List Numbered) (es fs : List (ℕ × ℕ)) (number place : ℕ
   ]
 
   listed_new : (p : ℕ) → p ≡ place → Some p ≡ listed_at fs (number_in ms p)
-  listed_new p at = ap Some at ∙ sym (listed_same (number_in ms p) (sym (ap (number_in ms) at ∙ ap (λ (x : Numbered). x.number) c.new)))
+  listed_new p at = ap Some at ∙ sym (listed_same (number_in ms p) (sym (ap (number_in ms) at ∙ c.number_there)))
 
   listed_old : (p : ℕ) → p < length ms → p ≢ place → Some p ≡ listed_at fs (number_in ms p)
   listed_old p low n =
       let old = c.older p low n in
-      let same : number_in ms p ≡ number_in ls p = ap (λ (x : Numbered). x.number) (c.kept p old n) in
+      let same : number_in ms p ≡ number_in ls p = (c.kept p old n).0 in
       let found = a.listed p old in
       let other : number ≡ number_in ls p → ⊥ = λ e. one_place p (found ∙ ap (listed_at es) (sym e)) n in
       found ∙ sym (listed_other (number_in ls p) other) ∙ ap (listed_at fs) (sym same)
@@ -109,12 +111,12 @@ module _ (ls ms : List Numbered) (es fs : List (ℕ × ℕ)) (number place : ℕ
 
   same_line : (q : ℕ) (o : Option ℕ) → o ≡ listed_at es q → (number ≡ q → ⊥) → option_map (line_in ms) o ≡ option_map (line_in ls) o
   same_line q None e other = refl
-  same_line q (Some p) e other = ap (λ (x : Numbered). Some x.line) (c.kept p (a.placed q p e).0 (apart q p e other))
+  same_line q (Some p) e other = ap Some (c.kept p (a.placed q p e).0 (apart q p e other)).1
 
   line_on : (q : ℕ) → line_of (lines_in ms fs) q ≡ cond (is_at (nat_cmp number) q) (Some l) (line_of (lines_in ls es) q)
   line_on q = line_listed ms fs q ∙ ⊎_elim
       (λ (same : number ≡ q).
-      ap (option_map (line_in ms)) (listed_same q same) ∙ ap (λ (x : Numbered). Some x.line) c.new
+      ap (option_map (line_in ms)) (listed_same q same) ∙ ap Some c.line_there
       ∙ sym (ap (λ t. cond t (Some l) (line_of (lines_in ls es) q)) (is_at_same number q same)))
       (λ (other : number ≡ q → ⊥).
       ap (option_map (line_in ms)) (listed_other q other) ∙ same_line q (listed_at es q) refl other ∙ sym (line_listed ls es q)
@@ -137,7 +139,7 @@ there ls es number place a low e = record {
       (cases_eq number q);
   low = low;
   number_there = (a.placed number place e).1;
-  kept = λ p l n. refl;
+  kept = λ p l n. (refl, refl);
   older = λ p l n. l;
   longer = omega arith;
   before = inl e;
@@ -148,41 +150,52 @@ there ls es number place a low e = record {
 -- a line that was added is open
 pub added : (ls ms : List Numbered) (es fs : List (ℕ × ℕ)) (number place : ℕ) → ArePlaced ls es → None ≡ listed_at es number → HasAdded number place ls ms es fs → IsOpen number place ls ms es fs
 added ls ms es fs number place a none h =
-    let x : Numbered = record { number = number; line = h.line } in
-    let at : get_or ms place blank ≡ x = ap (λ (l : List Numbered). get_or l place blank) h.lines ∙ ap (λ p. get_or (ls ++ x ∷ []) p blank) h.last ∙ get_or-append_seam ls x [] blank in
-    let size : length ms ≡ length ls + 1 = ap length h.lines ∙ length-append ls (x ∷ []) in
     let last = h.last in
+    let size = h.lines.count in
     let longer : length ls ≤ length ms = omega arith in
     let low : place < length ms = omega arith in
     record {
       listed = h.listed;
       low = low;
-      number_there = ap (λ (y : Numbered). y.number) at;
-      kept = λ p l n. ap (λ (l : List Numbered). get_or l p blank) h.lines ∙ get_or-append ls (x ∷ []) blank p l;
+      number_there = ap (number_in ms) last ∙ h.lines.number_there;
+      kept = λ p l n. h.lines.kept p l;
       older = λ p l n. omega arith;
       longer = longer;
       before = inr (none, last);
       within = subst (λ (es : List (ℕ × ℕ)). All (λ p. p < length ms) (values_of es)) (sym h.places) (All-values-insert_entry nat_cmp number place (λ p. p < length ms) es (all_lower (length ls) (length ms) (values_of es) longer a.within) low);
-      same = λ j. ap (λ (y : Numbered). line_at y.line j) at ∙ no_mask h.line j h.empty ∙ ap (λ o. place_of (option_map (line_in ls) o) j) none;
+      same = λ j. no_mask (line_in ms place) j (ap (λ p. (line_in ms p).mask) last ∙ h.lines.empty) ∙ ap (λ o. place_of (option_map (line_in ls) o) j) none;
     }
 
 -- an open line is written
-pub written : (ls ms : List Numbered) (es fs : List (ℕ × ℕ)) (number place n : ℕ) (l : Line) → IsOpen number place ls ms es fs → n ≡ number → Changed ls (set ms place (record { number = n; line = l })) es fs number place l
-written ls ms es fs number place n l o e =
-    let x : Numbered = record { number = n; line = l } in
+pub written : (ls ms : List Numbered) (es fs : List (ℕ × ℕ)) (number place : ℕ) (x : Numbered) → IsOpen number place ls ms es fs → x.number ≡ number → Changed ls (set ms place x) es fs number place x.line
+written ls ms es fs number place x o e =
+    let new : get_or (set ms place x) place blank ≡ x = get_or-set_same ms place x blank o.low in
+    let old : (p : ℕ) → p ≢ place → get_or (set ms place x) p blank ≡ get_or ms p blank = λ p d. get_or-set_other ms place p x blank d in
     let size : length (set ms place x) ≡ length ms = length-set ms place x in
     let low = o.low in
     let longer = o.longer in
     record {
       listed = o.listed;
-      new = get_or-set_same ms place x blank o.low ∙ ap (λ (k : ℕ). record { number = k; line = l }) e;
+      number_there = ap (λ (y : Numbered). y.number) new ∙ e;
+      line_there = ap (λ (y : Numbered). y.line) new;
       low = omega arith;
-      kept = λ p h d. get_or-set_other ms place p x blank d ∙ o.kept p h d;
+      kept = λ p h d. (ap (λ (y : Numbered). y.number) (old p d) ∙ (o.kept p h d).0, ap (λ (y : Numbered). y.line) (old p d) ∙ (o.kept p h d).1);
       older = λ p h d. o.older p (omega arith) d;
       longer = omega arith;
       before = o.before;
       within = all_lower (length ms) (length (set ms place x)) (values_of fs) (omega arith) o.within;
     }
+
+-- a line that is written stays in its chain
+pub still_chained : (ms : List Numbered) (latest : List (Option ℕ)) (place : ℕ) (x : Numbered) → place < length ms → x.number ≡ number_in ms place → x.before ≡ before_in ms place → AreChained (length ms) ms latest → AreChained (length (set ms place x)) (set ms place x) latest
+still_chained ms latest place x low number link a =
+    let new : get_or (set ms place x) place blank ≡ x = get_or-set_same ms place x blank low in
+    let old : (p : ℕ) → p ≢ place → get_or (set ms place x) p blank ≡ get_or ms p blank = λ p d. get_or-set_other ms place p x blank d in
+    subst (λ k. AreChained k (set ms place x) latest) (sym (length-set ms place x))
+    (chained_alike (length ms) ms (set ms place x) latest
+    (λ p h. ⊎_elim (λ (e : p ≡ place). ap (number_in (set ms place x)) e ∙ ap (λ (y : Numbered). y.number) new ∙ number ∙ ap (number_in ms) (sym e)) (λ (d : p ≡ place → ⊥). ap (λ (y : Numbered). y.number) (old p d)) (cases_eq p place))
+    (λ p h. ⊎_elim (λ (e : p ≡ place). ap (before_in (set ms place x)) e ∙ ap (λ (y : Numbered). y.before) new ∙ link ∙ ap (before_in ms) (sym e)) (λ (d : p ≡ place → ⊥). ap (λ (y : Numbered). y.before) (old p d)) (cases_eq p place))
+    a)
 
 pub where_ok : {X : Type 0} (r : Result X OutOfMemory) (P Q : X → Type 0) → ((x : X) → P x → Q x) → IfOk r P → IfOk r Q
 where_ok (Ok x) P Q f h = f x h
@@ -199,3 +212,15 @@ some_listed ls es n h = back (listed_at es n) (sym (ap (λ o. is_some o) (line_l
     back : (o : Option ℕ) → is_some (option_map (line_in ls) o) ≡ true → is_some o ≡ true
     back None e = e
     back (Some p) e = refl
+
+-- what is found by the number is what is listed for it
+pub found_listed : (ls : List Numbered) (es : List (ℕ × ℕ)) (number place : ℕ) → ArePlaced ls es → place < length ls → number_in ls place ≡ number → Some place ≡ listed_at es number
+found_listed ls es number place a low e = a.listed place low ∙ ap (listed_at es) e
+
+-- a number that no line has isn't listed
+pub none_listed : (ls : List Numbered) (es : List (ℕ × ℕ)) (number : ℕ) → ArePlaced ls es → ((p : ℕ) → p < length ls → number_in ls p ≡ number → ⊥) → None ≡ listed_at es number
+none_listed ls es number a none = by (listed_at es number) refl
+  where
+    by : (o : Option ℕ) → o ≡ listed_at es number → None ≡ o
+    by None e = refl
+    by (Some p) e = let there = a.placed number p e in absurd (none p there.0 there.1)

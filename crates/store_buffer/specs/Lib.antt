@@ -4,3 +4,4 @@ pub mod Held
 pub mod Laws
 pub mod LineMaps
 pub mod Lines
+pub mod Slots

@@ -1,24 +1,14 @@
 -- Lines as they came, with the place of each by its number.
-use Rattle.std.specs.Prelude.{◌≡◌, ℕ, ◌^◌, ◌<◌, ◌≤◌, ◌-◌, ◌≢◌, ◌⊎◌, List, [], ◌∷◌, ◌++◌, length, All, Option, Some, None, cond, if◌then◌else◌, get_or, option_map}
+use Rattle.std.specs.Prelude.{◌≡◌, ℕ, ◌^◌, ◌<◌, ◌≤◌, ◌+◌, ◌-◌, ◌≢◌, ◌⊎◌, List, [], ◌∷◌, length, All, Option, Some, None, cond, if◌then◌else◌, option_map}
 use Rattle.std.specs.Ordering.{nat_cmp}
 use Rattle.std.specs.BTreeMap.{BTreeMap, IsOrdered, insert_entry, is_at}
 use Rattle.std.specs.Map.{keys_of, lookup, values_of}
 use Rattle.pages.specs.declared.access.Width.{Width}
 use Rattle.pages.specs.Memory.{byte_of, in_range, width_bytes}
 use Rattle.store_buffer.specs.declared.line.Line.{Line}
-use Rattle.store_buffer.specs.declared.line_map.Numbered.{Numbered}
+use Rattle.store_buffer.specs.declared.slots.Numbered.{Numbered}
 use Rattle.store_buffer.specs.Lines.{line_at, line_of, place_of}
-
--- a line that covers nothing
-abbrev pub blank : Numbered
-blank = record { number = 0; line = record { bytes = []; mask = 0 } }
-
--- the line at a place, and its number
-abbrev pub line_in : List Numbered → ℕ → Line
-line_in ls p = (get_or ls p blank).line
-
-abbrev pub number_in : List Numbered → ℕ → ℕ
-number_in ls p = (get_or ls p blank).number
+use Rattle.store_buffer.specs.Slots.{AreChained, line_in, number_in}
 
 -- the place that is listed for a number
 abbrev pub listed_at : List (ℕ × ℕ) → ℕ → Option ℕ
@@ -35,18 +25,25 @@ pub record ArePlaced (ls : List Numbered) (es : List (ℕ × ℕ)) : Type 0 wher
   pub listed : (p : ℕ) → p < length ls → Some p ≡ listed_at es (number_in ls p)
   pub within : All (λ p. p < length ls) (values_of es)
 
--- the same, with the places in the order of their numbers, which are those of addresses of 64 bits
-pub record IsLineMap (ls : List Numbered) (places : BTreeMap ℕ ℕ) : Type 0 where
+-- the same, with the lines in their slots, and the places in the order of their numbers, which are those of addresses
+-- of 64 bits
+pub record IsLineMap (ls : List Numbered) (latest : List (Option ℕ)) (places : BTreeMap ℕ ℕ) : Type 0 where
   pub placed : ArePlaced ls places.entries
+  pub chained : AreChained (length ls) ls latest
   pub ordered : IsOrdered nat_cmp places
   pub near : All (λ k. k < 2 ^ 58) (keys_of places.entries)
 
--- an empty line was added, and its place is listed
+-- an empty line stands behind the others, which are as they were
+pub record HasAppended (number : ℕ) (ls ms : List Numbered) : Type 0 where
+  pub count : length ms ≡ length ls + 1
+  pub kept : (p : ℕ) → p < length ls → (number_in ms p ≡ number_in ls p) × (line_in ms p ≡ line_in ls p)
+  pub number_there : number_in ms (length ls) ≡ number
+  pub empty : (line_in ms (length ls)).mask ≡ 0
+
+-- the same, with its place listed
 pub record HasAdded (number place : ℕ) (ls ms : List Numbered) (es fs : List (ℕ × ℕ)) : Type 0 where
   pub last : place ≡ length ls
-  pub line : Line
-  pub empty : line.mask ≡ 0
-  pub lines : ms ≡ ls ++ record { number = number; line = line } ∷ []
+  pub lines : HasAppended number ls ms
   pub places : fs ≡ insert_entry nat_cmp es number place
   pub listed : (q : ℕ) → listed_at fs q ≡ cond (is_at (nat_cmp number) q) (Some place) (listed_at es q)
 
@@ -55,7 +52,7 @@ pub record IsOpen (number place : ℕ) (ls ms : List Numbered) (es fs : List (�
   pub listed : (q : ℕ) → listed_at fs q ≡ cond (is_at (nat_cmp number) q) (Some place) (listed_at es q)
   pub low : place < length ms
   pub number_there : number_in ms place ≡ number
-  pub kept : (p : ℕ) → p < length ls → p ≢ place → get_or ms p blank ≡ get_or ls p blank
+  pub kept : (p : ℕ) → p < length ls → p ≢ place → (number_in ms p ≡ number_in ls p) × (line_in ms p ≡ line_in ls p)
   pub older : (p : ℕ) → p < length ms → p ≢ place → p < length ls
   pub longer : length ls ≤ length ms
   pub before : (Some place ≡ listed_at es number) ⊎ ((None ≡ listed_at es number) × (place ≡ length ls))

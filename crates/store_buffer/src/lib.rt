@@ -5,6 +5,7 @@ mod laws;
 mod line;
 mod line_map;
 mod lines;
+mod slots;
 mod store_buffer;
 mod stores;
 

@@ -1,37 +1,32 @@
 //! Lines by their numbers.
 
-ghost use Rattle.std.specs.Prelude.{◌≡◌, ◌≤◌, ◌+◌, ◌^◌, ◌<◌, [], All, Some, None, IsSome, IsOk, IfOk, OnOk, OnErr, MatchOption, length};
+ghost use Rattle.std.specs.Prelude.{◌≡◌, ◌≤◌, ◌+◌, ◌^◌, ◌<◌, ℕ, [], All, Some, None, IsSome, IsOk, IfOk, OnOk, OnErr, MatchOption, get_or, length, vec_capacity, vec_len};
 ghost use Rattle.std.specs.Ordering.{nat_cmp};
 ghost use Rattle.std.specs.BTreeMap.{IsOrdered};
 ghost use Rattle.std.specs.Iterator.{YieldsFirstBy, item_count};
 ghost use Rattle.std.specs.Map.{keys_of};
 ghost use Rattle.pages.specs.Memory.{width_bytes};
 ghost use Rattle.store_buffer.specs.Held.{AllNear, RisingLines};
-ghost use Rattle.store_buffer.specs.LineMaps.{ArePlaced, HasAdded, HasTaken, IsOpen, listed_at};
+ghost use Rattle.store_buffer.specs.LineMaps.{ArePlaced, HasAdded, HasAppended, HasTaken, IsOpen, listed_at};
+ghost use Rattle.store_buffer.specs.Slots.{AreChained};
 ghost use Rattle.store_buffer.specs.Lines.{line_of};
 
 use crate::Line;
+use crate::slots::{Numbered, chain, find, slot_of};
 use pages::{OutOfMemory, Width};
 use std::alloc::Global;
 use std::collections::{BTreeMap, btree_map};
 use std::marker::Model;
-
-/// A line with its number, which is the address of its first byte divided by 64.
-#[derive(Drop)]
-pub(crate) struct Numbered {
-    pub(crate) number: u64,
-    pub(crate) line: Line,
-}
 
 /// Lines, each with a number of its own.
 #[derive(Drop)]
 pub(crate) struct LineMap {
     /// The lines as they came.
     lines: Vec<Numbered>,
-    /// The place of each, by its number.
+    /// For each slot of numbers, the place of the line that came last in it: where to look for a line.
+    latest: Vec<Option<usize>>,
+    /// The place of each line by its number: the order in which they are lent.
     places: BTreeMap<u64, usize>,
-    /// For the low bits of a number, the place of the line with these bits that was last put to: where to look first.
-    recent: [u16; 64],
 }
 
 impl Model for LineMap {
@@ -43,7 +38,7 @@ impl Model for LineMap {
 
     ghost view = { λ m. lines_in m.lines.items m.places.entries };
 
-    ghost invariant = { λ m. IsLineMap m.lines.items m.places };
+    ghost invariant = { λ m. IsLineMap m.lines.items m.latest.items m.places };
 }
 
 impl LineMap {
@@ -54,8 +49,8 @@ impl LineMap {
     {
         LineMap {
             lines: Vec::new(alloc),
+            latest: Vec::new(alloc),
             places: BTreeMap::new(alloc),
-            recent: [0; 64],
         }
     }
 
@@ -64,10 +59,8 @@ impl LineMap {
     pub(crate) fn get(&self, number: u64) -> Option<&Line>
         ensures { MatchOption result (None ≡ line_of self.now number) (λ line. Some line.now ≡ line_of self.now number) }
     {
-        match place_of(&self.lines, &self.places, &self.recent, number) {
-            Some(place) => Some(&self.lines[place].line),
-            None => None,
-        }
+        let place = find(&self.lines, &self.latest, number)?;
+        Some(&self.lines[place].line)
     }
 
     /// Writes a number from a place of a line on, which is a new one where there is none of that number. A line that is
@@ -88,8 +81,7 @@ impl LineMap {
         ensures rising { RisingLines 0 self.new }
         ensures near { AllNear self.new }
     {
-        let place = place_for(&mut self.lines, &mut self.places, &self.recent, number)?;
-        self.recent[(number % 64) as usize] = (place % 65_536) as u16;
+        let place = place_for(&mut self.lines, &mut self.latest, &mut self.places, number)?;
         self.lines[place].line.put(at, width, value);
         Ok(())
     }
@@ -110,36 +102,8 @@ impl LineMap {
         ensures { self.new ≡ [] }
     {
         self.lines.clear();
+        self.latest.clear();
         self.places.clear();
-    }
-}
-
-/// The place of the line of a number.
-#[inline(always)]
-fn place_of(
-    lines: &[Numbered],
-    places: &BTreeMap<u64, usize>,
-    recent: &[u16; 64],
-    number: u64,
-) -> Option<usize>
-    requires { ArePlaced lines.now places.now.entries }
-    ensures { MatchOption result (None ≡ listed_at places.now.entries number) (λ place. (place < length lines.now) × (Some place ≡ listed_at places.now.entries number)) }
-{
-    let hint = recent[(number % 64) as usize] as usize;
-    if hint < lines.len() && lines[hint].number == number {
-        return Some(hint);
-    }
-    search(places, number)
-}
-
-/// The same by the whole map: a function of its own, so that the look at the hint stays small.
-#[inline(never)]
-fn search(places: &BTreeMap<u64, usize>, number: u64) -> Option<usize>
-    ensures { result ≡ listed_at places.now.entries number }
-{
-    match places.get(&number) {
-        Some(place) => Some(*place),
-        None => None,
     }
 }
 
@@ -147,21 +111,23 @@ fn search(places: &BTreeMap<u64, usize>, number: u64) -> Option<usize>
 #[inline(always)]
 fn place_for(
     lines: &mut Vec<Numbered>,
+    latest: &mut Vec<Option<usize>>,
     places: &mut BTreeMap<u64, usize>,
-    recent: &[u16; 64],
     number: u64,
 ) -> Result<usize, OutOfMemory>
-    requires { ArePlaced lines.old.items places.old.entries }
+    requires placed { ArePlaced lines.old.items places.old.entries }
+    requires chained { AreChained (length lines.old.items) lines.old.items latest.old.items }
     ensures ok { IfOk result (λ place. IsOpen number place lines.old.items lines.new.items places.old.entries places.new.entries) }
+    ensures chained { AreChained (length lines.new.items) lines.new.items latest.new.items }
     ensures ordered { IsOrdered nat_cmp places.old → IsOrdered nat_cmp places.new }
     ensures near { number < 2 ^ 58 → All (λ k. k < 2 ^ 58) (keys_of places.old.entries) → All (λ k. k < 2 ^ 58) (keys_of places.new.entries) }
     ensures err_lines { OnErr result (lines.new.items ≡ lines.old.items) }
     ensures err_places { OnErr result (places.new.entries ≡ places.old.entries) }
     ensures room { IsSome (listed_at places.old.entries number) → IsOk result }
 {
-    match place_of(lines, places, recent, number) {
+    match find(lines, latest, number) {
         Some(place) => Ok(place),
-        None => add_line(lines, places, number),
+        None => add_line(lines, latest, places, number),
     }
 }
 
@@ -169,11 +135,13 @@ fn place_for(
 #[inline(never)]
 fn add_line(
     lines: &mut Vec<Numbered>,
+    latest: &mut Vec<Option<usize>>,
     places: &mut BTreeMap<u64, usize>,
     number: u64,
 ) -> Result<usize, OutOfMemory>
-    requires { None ≡ listed_at places.old.entries number }
+    requires chained { AreChained (length lines.old.items) lines.old.items latest.old.items }
     ensures ok { IfOk result (λ place. HasAdded number place lines.old.items lines.new.items places.old.entries places.new.entries) }
+    ensures chained { AreChained (length lines.new.items) lines.new.items latest.new.items }
     ensures ordered { IsOrdered nat_cmp places.old → IsOrdered nat_cmp places.new }
     ensures near { number < 2 ^ 58 → All (λ k. k < 2 ^ 58) (keys_of places.old.entries) → All (λ k. k < 2 ^ 58) (keys_of places.new.entries) }
     ensures err_lines { OnErr result (lines.new.items ≡ lines.old.items) }
@@ -181,12 +149,48 @@ fn add_line(
 {
     let place = lines.len();
     lines.reserve(1)?;
+    let wider = wider_table(latest, place)?;
     places.insert(number, place)?;
+    if let Some(slots) = wider {
+        *latest = slots;
+        chain(lines, latest);
+    }
+    append(lines, latest, number);
+    Ok(place)
+}
+
+/// A table of more slots, all of them empty, where there are no more slots than lines.
+fn wider_table(
+    latest: &Vec<Option<usize>>,
+    lines: usize,
+) -> Result<Option<Vec<Option<usize>>>, OutOfMemory>
+    requires { lines ≤ length latest.now.items }
+    ensures { IfOk result (λ o. MatchOption o (lines < length latest.now.items) (λ slots. (lines < length slots.items) × ((i : ℕ) → get_or slots.items i None ≡ None))) }
+{
+    if lines < latest.len() {
+        return Ok(None);
+    }
+    let count = latest.len().max(4).saturating_mul(4);
+    Ok(Some(vec![in *latest.allocator(); None; count]?))
+}
+
+/// Puts an empty line behind the others, and into its slot.
+fn append(lines: &mut Vec<Numbered>, latest: &mut [Option<usize>], number: u64)
+    requires chained { AreChained (length lines.old.items) lines.old.items latest.old }
+    requires slots { length lines.old.items < length latest.old }
+    requires room { vec_len lines.old < vec_capacity lines.old }
+    ensures appended { HasAppended number lines.old.items lines.new.items }
+    ensures chained { AreChained (length lines.new.items) lines.new.items latest.new }
+{
+    let place = lines.len();
+    let slot = slot_of(number, latest.len());
+    let before = latest[slot];
+    latest[slot] = Some(place);
     lines.push_reserved(Numbered {
         number,
+        before,
         line: Line::empty(),
     });
-    Ok(place)
 }
 
 /// The lines of a map that are left to give, each with its number, which rises.

@@ -1,4 +1,4 @@
-ghost use Rattle.std.specs.Prelude.{◌≡◌, ◌%◌, ◌<◌};
+ghost use Rattle.std.specs.Prelude.{◌≡◌, ◌%◌, ◌<◌, ◌≤◌};
 ghost use Rattle.pages.specs.Memory.{width_bytes};
 
 use crate::StoreBuffer;
@@ -105,6 +105,47 @@ fn lines_64_apart_are_told_apart(rt: HostRuntime) -> Result<(), Fail> {
         }
     }
     assert!(rt; given.next().is_none());
+    Ok(())
+}
+
+/// The doubleword at the start of a line, with the line's number as its value.
+fn first_of(line: u64) -> Store
+    requires { line < 1_000_000 }
+    ensures { result.addr % width_bytes result.width ≡ 0 }
+{
+    Store {
+        addr: 64 * line,
+        width: Width::W8,
+        value: line,
+    }
+}
+
+/// 1,500 lines that stand so far apart, the last of them put first.
+fn lines_apart(alloc: Global, step: u64) -> Result<StoreBuffer, OutOfMemory>
+    requires { step ≤ 64 }
+{
+    let mut buffer = StoreBuffer::new(alloc);
+    for k in 0..1_500 {
+        buffer.put(first_of(step * (1_499 - k)))?;
+    }
+    Ok(buffer)
+}
+
+#[test]
+fn many_lines_are_found(rt: HostRuntime) -> Result<(), Fail> {
+    let p = Pages::new(rt.alloc(), 1_600, &[], &[])?;
+    for step in [1, 2, 63, 64] {
+        let buffer = lines_apart(rt.alloc(), step)?;
+        let mut lines = buffer.lines();
+        for k in 0..1_500 {
+            let addr = 64 * step * k;
+            assert!(rt; buffer.read_over(&p, addr, Width::W8) == Ok(step * k));
+            assert!(rt; step == 1 || buffer.read_over(&p, addr + 64, Width::W8) == Ok(0));
+            let (start, line) = lines.next().ok_or("no line")?;
+            assert!(rt; start == addr && line.mask == 0xff);
+        }
+        assert!(rt; lines.next().is_none());
+    }
     Ok(())
 }
 

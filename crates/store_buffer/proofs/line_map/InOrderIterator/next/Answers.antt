@@ -1,4 +1,4 @@
-use Rattle.std.proofs.Common.{◌<◌, ◌∷◌, ℕ, List, All, length, subst}
+use Rattle.std.proofs.Common.{◌<◌, ℕ, List, All, length, subst}
 use Rattle.std.specs.Map.{values_of}
 use Rattle.std.proofs.lemmas.List.Elements.{All-tail}
 use Rattle.store_buffer.proofs.line_map.InOrderIterator.next.Goals as goal

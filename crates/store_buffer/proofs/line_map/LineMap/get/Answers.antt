@@ -1,23 +1,27 @@
-use Rattle.std.proofs.Common.{◌∙◌, ◌<◌, ℕ, List, Some, ap, length, subst, sym}
+use Rattle.std.proofs.Common.{◌≡◌, ◌∙◌, ◌<◌, ℕ, List, Some, None, ap, length, rules, subst, sym}
 use Rattle.std.proofs.lemmas.List.{get_or_default}
 use Rattle.std.specs.Prelude.{option_map}
 use Rattle.store_buffer.specs.declared.line.Line.{Line}
-use Rattle.store_buffer.specs.declared.line_map.Numbered.{Numbered}
-use Rattle.store_buffer.specs.LineMaps.{blank, line_in}
+use Rattle.store_buffer.specs.declared.slots.Numbered.{Numbered}
 use Rattle.store_buffer.specs.Lines.{line_of}
-use Rattle.store_buffer.proofs.LineMaps.{line_listed}
+use Rattle.store_buffer.specs.Slots.{blank, line_in, number_in}
+use Rattle.store_buffer.proofs.LineMaps.{found_listed, line_listed, none_listed}
 use Rattle.store_buffer.proofs.line_map.LineMap.get.Goals as goal
 
-pub returns-in-Some : goal.returns-in-Some
-returns-in-Some c =
+pub returns-in_err-place : goal.returns-in_err-place
+returns-in_err-place c =
     let ls = c.self.inside.lines.items in
     let es = c.self.inside.places.entries in
-    let low : c.in-Some.place < length ls = subst (λ (l : List Numbered). c.in-Some.place < length l) c.deref.ensures.value c.in-Some.ensures.0 in
-    let at = c.index.ensures ∙ get_or_default ls c.in-Some.place c.index.result.now blank low in
-    ap (λ (x : Numbered). Some x.line) at ∙ ap (option_map (line_in ls)) c.in-Some.ensures.1 ∙ sym (line_listed ls es c.args.number) ∙ ap (λ (xs : List (ℕ × Line)). line_of xs c.args.number) c.self.view_is
+    let none = subst (λ (l : List Numbered). (p : ℕ) → p < length l → number_in l p ≡ c.args.number → ⊥) c.deref.ensures.value c.in_err-place.ensures.none in
+    let missing : None ≡ line_of c.args.self.now c.args.number =
+    ap (option_map (line_in ls)) (none_listed ls es c.args.number c.self.invariant.placed none) ∙ sym (line_listed ls es c.args.number) ∙ ap (λ (xs : List (ℕ × Line)). line_of xs c.args.number) c.self.view_is in
+    search (rules, missing, c.from_residual.ensures)
 
-pub returns-in-None : goal.returns-in-None
-returns-in-None c =
+pub returns : goal.returns
+returns c =
     let ls = c.self.inside.lines.items in
     let es = c.self.inside.places.entries in
-    ap (option_map (line_in ls)) c.in-None.ensures ∙ sym (line_listed ls es c.args.number) ∙ ap (λ (xs : List (ℕ × Line)). line_of xs c.args.number) c.self.view_is
+    let place = c.in_ok-place.place in
+    let found = subst (λ (l : List Numbered). (place < length l) × (number_in l place ≡ c.args.number)) c.deref.ensures.value c.in_ok-place.ensures.some in
+    let at = c.index.ensures ∙ get_or_default ls place c.index.result.now blank found.0 in
+    ap (λ (x : Numbered). Some x.line) at ∙ ap (option_map (line_in ls)) (found_listed ls es c.args.number place c.self.invariant.placed found.0 found.1) ∙ sym (line_listed ls es c.args.number) ∙ ap (λ (xs : List (ℕ × Line)). line_of xs c.args.number) c.self.view_is

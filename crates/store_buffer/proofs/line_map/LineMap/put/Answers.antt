@@ -1,14 +1,15 @@
-use Rattle.std.proofs.Common.{◌≡◌, ◌∙◌, ◌<◌, ◌-◌, ℕ, List, Option, Some, true, is_some, ap, sym, subst, get_or, if◌then◌else◌}
+use Rattle.std.proofs.Common.{◌≡◌, ◌∙◌, ◌-◌, ℕ, List, Option, Some, true, is_some, ap, sym, subst, if◌then◌else◌}
 use Rattle.std.proofs.Math.ListN.{set}
 use Rattle.std.proofs.lemmas.Bool.{false≢true}
 use Rattle.std.proofs.lemmas.List.{get_or_default}
 use Rattle.pages.specs.Memory.{byte_of, in_range, width_bytes}
 use Rattle.store_buffer.specs.declared.line.Line.{Line}
-use Rattle.store_buffer.specs.declared.line_map.Numbered.{Numbered}
+use Rattle.store_buffer.specs.declared.slots.Numbered.{Numbered}
 use Rattle.store_buffer.specs.Held.{Held}
-use Rattle.store_buffer.specs.LineMaps.{HasTaken, IsLineMap, blank, lines_in}
+use Rattle.store_buffer.specs.LineMaps.{HasTaken, lines_in}
 use Rattle.store_buffer.specs.Lines.{line_at, line_of, place_of}
-use Rattle.store_buffer.proofs.LineMaps.{Changed, held, line_listed, placed_on, some_listed, taken, written}
+use Rattle.store_buffer.specs.Slots.{blank}
+use Rattle.store_buffer.proofs.LineMaps.{held, line_listed, placed_on, some_listed, still_chained, taken, written}
 use Rattle.store_buffer.proofs.line_map.LineMap.put.Goals as goal
 
 pub returns-in_err-place-clause-room : goal.returns-in_err-place-clause-room
@@ -25,12 +26,12 @@ kept ls ms es fs d e h = subst (λ (l : List Numbered). Held (lines_in l fs)) (s
 pub returns-in_err-place-clause-rising : goal.returns-in_err-place-clause-rising
 returns-in_err-place-clause-rising c =
     (kept c.self.inside.lines.items c.place_for.new.lines.items c.self.inside.places.entries c.place_for.new.places.entries c.in_err-place.ensures.err_lines c.in_err-place.ensures.err_places
-    (held c.self.inside.lines.items c.self.inside.places c.self.invariant)).rising
+    (held c.self.inside.lines.items c.self.inside.latest.items c.self.inside.places c.self.invariant)).rising
 
 pub returns-in_err-place-clause-near : goal.returns-in_err-place-clause-near
 returns-in_err-place-clause-near c =
     (kept c.self.inside.lines.items c.place_for.new.lines.items c.self.inside.places.entries c.place_for.new.places.entries c.in_err-place.ensures.err_lines c.in_err-place.ensures.err_places
-    (held c.self.inside.lines.items c.self.inside.places c.self.invariant)).near
+    (held c.self.inside.lines.items c.self.inside.latest.items c.self.inside.places c.self.invariant)).near
 
 pub invariant_of-self-2 : goal.invariant_of-self-2
 invariant_of-self-2 c =
@@ -43,9 +44,11 @@ invariant_of-self-2 c =
     let opened = c.in_ok-place.ensures.ok in
     let at = c.index_mut.ensures.value ∙ get_or_default ms place old blank opened.low in
     let number : old.number ≡ c.args.number = ap (λ (x : Numbered). x.number) at ∙ opened.number_there in
-    let changed = written ls ms es fs c.args.number place old.number c.put.new.self opened number in
+    let x : Numbered = record { number = old.number; before = old.before; line = c.put.new.self } in
+    let changed = written ls ms es fs c.args.number place x opened number in
     record {
-      placed = placed_on ls (set ms place (record { number = old.number; line = c.put.new.self })) es fs c.args.number place c.put.new.self c.self.invariant.placed changed;
+      placed = placed_on ls (set ms place x) es fs c.args.number place c.put.new.self c.self.invariant.placed changed;
+      chained = still_chained ms c.place_for.new.latest.items place x opened.low (ap (λ (y : Numbered). y.number) at) (ap (λ (y : Numbered). y.before) at) c.place_for.ensures.chained;
       ordered = c.place_for.ensures.ordered c.self.invariant.ordered;
       near = c.place_for.ensures.near c.requires.number c.self.invariant.near;
     }
@@ -62,18 +65,19 @@ returns-clause-ok c =
     let opened = c.in_ok-place.ensures.ok in
     let at = c.index_mut.ensures.value ∙ get_or_default ms place old blank opened.low in
     let number : old.number ≡ c.args.number = ap (λ (x : Numbered). x.number) at ∙ opened.number_there in
-    let changed = written ls ms es fs c.args.number place old.number c.put.new.self opened number in
+    let x : Numbered = record { number = old.number; before = old.before; line = c.put.new.self } in
+    let changed = written ls ms es fs c.args.number place x opened number in
     let before : (j : ℕ) → line_at old.line j ≡ place_of (line_of (lines_in ls es) c.args.number) j = λ j.
     ap (λ (x : Numbered). line_at x.line j) at ∙ opened.same j ∙ ap (λ (o : Option Line). place_of o j) (sym (line_listed ls es c.args.number)) in
-    let news = set ms place (record { number = old.number; line = c.put.new.self }) in
+    let news = set ms place x in
     subst (λ (xs : List (ℕ × Line)). HasTaken c.args.number c.args.at c.args.width c.args.value xs (lines_in news fs)) c.self.view_is
     (taken ls news es fs c.args.number place c.put.new.self c.self.invariant.placed changed c.args.at c.args.width c.args.value
     (λ j low. c.put.ensures j low ∙ ap (λ (o : Option ℕ). if in_range c.args.at w j then Some (byte_of c.args.value (j - c.args.at)) else o) (before j)))
 
 pub returns-clause-rising : goal.returns-clause-rising
 returns-clause-rising c =
-    (held (set c.place_for.new.lines.items c.in_ok-place.place (record { number = c.index_mut.result.now.number; line = c.put.new.self })) c.place_for.new.places (invariant_of-self-2 c)).rising
+    (held (set c.place_for.new.lines.items c.in_ok-place.place (record { number = c.index_mut.result.now.number; before = c.index_mut.result.now.before; line = c.put.new.self })) c.place_for.new.latest.items c.place_for.new.places (invariant_of-self-2 c)).rising
 
 pub returns-clause-near : goal.returns-clause-near
 returns-clause-near c =
-    (held (set c.place_for.new.lines.items c.in_ok-place.place (record { number = c.index_mut.result.now.number; line = c.put.new.self })) c.place_for.new.places (invariant_of-self-2 c)).near
+    (held (set c.place_for.new.lines.items c.in_ok-place.place (record { number = c.index_mut.result.now.number; before = c.index_mut.result.now.before; line = c.put.new.self })) c.place_for.new.latest.items c.place_for.new.places (invariant_of-self-2 c)).near

@@ -1,0 +1,59 @@
+//! Finding a line by its number: chains of lines, one for each slot of numbers.
+
+ghost use Rattle.std.specs.Prelude.{◌≡◌, ◌≤◌, ◌<◌, ℕ, IfNone, IfSome, None, get_or, length};
+ghost use Rattle.store_buffer.specs.Slots.{AreChained, AreSameLines, number_in, slot};
+
+use crate::Line;
+
+/// A line with its number, which is the address of its first byte divided by 64.
+#[derive(Drop)]
+pub(crate) struct Numbered {
+    pub(crate) number: u64,
+    /// The place of the line that came before in the same slot.
+    pub(crate) before: Option<usize>,
+    pub(crate) line: Line,
+}
+
+/// The slot of a number among so many of them. Neighbours and equal steps are spread by a product with the golden
+/// ratio.
+#[inline(always)]
+pub(crate) fn slot_of(number: u64, count: usize) -> usize
+    ensures value { result ≡ slot count number }
+    ensures low { 0 < count → result < count }
+{
+    let spread = number.wrapping_mul(11_400_714_819_323_198_485) >> 32;
+    (spread & (count as u64).wrapping_sub(1)) as usize
+}
+
+/// The place of the line of a number, if there is one.
+#[inline(always)]
+pub(crate) fn find(lines: &[Numbered], latest: &[Option<usize>], number: u64) -> Option<usize>
+    requires { AreChained (length lines.now) lines.now latest.now }
+    ensures some { IfSome result (λ place. (place < length lines.now) × (number_in lines.now place ≡ number)) }
+    ensures none { IfNone result ((p : ℕ) → p < length lines.now → number_in lines.now p ≡ number → ⊥) }
+{
+    let mut next = *latest.get(slot_of(number, latest.len()))?;
+    while let Some(place) = next {
+        let found = &lines[place];
+        if found.number == number {
+            return Some(place);
+        }
+        next = found.before;
+    }
+    None
+}
+
+/// Puts all lines into the slots of an empty table, in the order in which they came.
+pub(crate) fn chain(lines: &mut [Numbered], latest: &mut [Option<usize>])
+    requires room { length lines.old ≤ length latest.old }
+    requires empty { (i : ℕ) → get_or latest.old i None ≡ None }
+    ensures chained { AreChained (length lines.new) lines.new latest.new }
+    ensures slots { length latest.new ≡ length latest.old }
+    ensures same { AreSameLines lines.old lines.new }
+{
+    for place in 0..lines.len() {
+        let slot = slot_of(lines[place].number, latest.len());
+        lines[place].before = latest[slot];
+        latest[slot] = Some(place);
+    }
+}
