@@ -20,10 +20,12 @@ pub struct Hart {
     pub x: [u64; 32],
     /// The address of the next instruction.
     pub pc: u64,
-    /// How many instructions the hart has done, modulo 2^64.
-    pub done: u64,
     /// Why the hart has stopped, or `None` while it runs.
     pub stop: Option<Stop>,
+    /// How many instructions the hart has done, modulo 2^64.
+    // Not beside `pc`. Each instruction writes both, and of two neighbours the compiler reads and writes 16 bytes at once
+    // where it can: such a read waits until the two writes before it are through.
+    pub done: u64,
 }
 
 impl Hart {

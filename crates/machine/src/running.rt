@@ -110,7 +110,7 @@ impl Machine {
             let before = self.instructions_done();
             self.round_by(Crew {
                 rt,
-                workers: workers_for(work, workers),
+                workers: workers_for(work, self.running_harts(), workers),
                 gate: &Open,
                 least_lines: MANY_LINES,
             })?;
@@ -173,6 +173,17 @@ impl Machine {
         done
     }
 
+    /// How many harts have not stopped.
+    fn running_harts(&self) -> u64 {
+        let mut running: u64 = 0;
+        for hart in &self.harts {
+            if hart.stop.is_none() {
+                running = running.wrapping_add(1);
+            }
+        }
+        running
+    }
+
     /// How many instructions the harts may do together in the next round, outside their serial turns.
     fn most_work(&self) -> u64 {
         if self.rounds == u32::MAX {
@@ -186,13 +197,13 @@ impl Machine {
     }
 }
 
-/// How many workers so much work is worth, of these at most.
-fn workers_for(work: u64, workers: u32) -> u32
+/// How many workers so much work of so many running harts is worth, of these at most. A hart's round is work for one.
+fn workers_for(work: u64, running: u64, workers: u32) -> u32
     requires { 1 ≤ workers }
     ensures some { 1 ≤ result }
     ensures most { result ≤ workers }
 {
-    let worth = work / WORTH_A_WORKER;
+    let worth = (work / WORTH_A_WORKER).min(running);
     if worth <= 1 {
         1
     } else if worth < u64::from(workers) {

@@ -262,33 +262,39 @@ impl Gate for Behind {
     }
 }
 
-#[test]
-fn two_workers_meet_in_a_round(rt: HostRuntime) -> Result<(), Fail> {
-    let mut machine = machine_of(rt.alloc(), &EXIT, 2, b"4\n")?;
+/// Whether two harts meet in a round by two workers: hart 0 sees hart 1 come, and hart 1 sees hart 0. Where one thread does both,
+/// only hart 1 does.
+fn meet<R: Threads + Wait + Sync>(rt: &R, machine: &mut Machine) -> Result<(bool, bool), RunError> {
     let gate = Meeting {
         first_came: AtomicBool::new(false),
         second_came: AtomicBool::new(false),
         first_met: AtomicBool::new(false),
         second_met: AtomicBool::new(false),
     };
-    assert!(rt; round_behind(&rt, &mut machine, 2, &gate)? == 1);
-    assert!(rt; gate.first_met.load(Ordering::SeqCst) && gate.second_met.load(Ordering::SeqCst));
+    machine.round(rt, 2, &gate)?;
+    Ok((
+        gate.first_met.load(Ordering::SeqCst),
+        gate.second_met.load(Ordering::SeqCst),
+    ))
+}
+
+/// How many harts have stopped after one more round by two workers.
+fn stopped_after<R: Threads + Wait + Sync>(rt: &R, machine: &mut Machine) -> Result<u32, RunError> {
+    Ok(machine.round(rt, 2, &Open)?.stopped)
+}
+
+#[test]
+fn two_workers_meet_in_a_round(rt: HostRuntime) -> Result<(), Fail> {
+    let mut machine = machine_of(rt.alloc(), &EXIT, 2, b"4\n")?;
+    assert!(rt; meet(&rt, &mut machine)? == (true, true));
     Ok(())
 }
 
 #[test]
 fn stopped_harts_start_no_thread(rt: HostRuntime) -> Result<(), Fail> {
     let mut machine = machine_of(rt.alloc(), &EXIT, 2, b"2\n")?;
-    assert!(rt; round_behind(&rt, &mut machine, 2, &Open)? == 1);
-    let gate = Meeting {
-        first_came: AtomicBool::new(false),
-        second_came: AtomicBool::new(false),
-        first_met: AtomicBool::new(false),
-        second_met: AtomicBool::new(false),
-    };
-    assert!(rt; round_behind(&rt, &mut machine, 2, &gate)? == 2);
-    // Hart 0 waited for hart 1 in vain: both were left to the calling thread.
-    assert!(rt; !gate.first_met.load(Ordering::SeqCst) && gate.second_met.load(Ordering::SeqCst));
+    assert!(rt; stopped_after(&rt, &mut machine)? == 2);
+    assert!(rt; meet(&rt, &mut machine)? == (false, true));
     Ok(())
 }
 

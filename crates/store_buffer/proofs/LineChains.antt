@@ -10,7 +10,7 @@ use Rattle.store_buffer.specs.Slots.{AreChained, AreSameLines, before_in, blank,
 no_some : (h : ℕ) (o : Option ℕ) → o ≡ None → Some h ≡ o → ⊥
 no_some h o n e = let w : Some h ≡ None = e ∙ n in cc w
 
-pub some_is : (x y : ℕ) → Some x ≡ Some y → x ≡ y
+pub some_is : {X : Type 0} (x y : X) → Some x ≡ Some y → x ≡ y
 some_is x y e = cc e
 
 -- no line is in empty slots

@@ -17,12 +17,9 @@ use Rattle.store_buffer.specs.Held.{Held}
 use Rattle.store_buffer.specs.LineMaps.{ArePlaced, HasAdded, HasTaken, IsLineMap, IsOpen, lines_in, listed_at}
 use Rattle.store_buffer.specs.Lines.{line_at, line_of, place_of}
 use Rattle.store_buffer.specs.Slots.{AreChained, before_in, blank, line_in, number_in}
-use Rattle.store_buffer.proofs.LineChains.{chained_alike}
+use Rattle.store_buffer.proofs.LineChains.{chained_alike, some_is}
 use Rattle.store_buffer.proofs.LineNumbers.{no_mask}
 use Rattle.store_buffer.proofs.LineOrder.{is_at_other, is_at_same, rising_keys}
-
-some_is : {X : Type 0} (x y : X) → Some x ≡ Some y → x ≡ y
-some_is x y e = cc e
 
 -- the line of a number is that at its place
 pub line_listed : (ls : List Numbered) (es : List (ℕ × ℕ)) (q : ℕ) → line_of (lines_in ls es) q ≡ option_map (line_in ls) (listed_at es q)

@@ -20,7 +20,7 @@ before_in ls p = (get_or ls p blank).before
 
 -- the slot of a number among so many slots: some bits of its product with the golden ratio
 unfoldable pub slot : ℕ → ℕ → ℕ
-slot count number = bit_and (number * 11400714819323198485 % 2 ^ 64 / 2 ^ 32) ((count + (2 ^ 64 - 1)) % 2 ^ 64)
+slot count number = bit_and (number * 11400714819323198485 % 2 ^ 64 / 2 ^ 32) (count - 1)
 
 -- how many places there are up to an optional one
 abbrev pub up_to : Option ℕ → ℕ

@@ -5,6 +5,9 @@ ghost use Rattle.store_buffer.specs.Slots.{AreChained, AreSameLines, number_in, 
 
 use crate::Line;
 
+/// 2^64 over the golden ratio, to the nearest odd number.
+const SPREAD: u64 = 0x9e37_79b9_7f4a_7c15;
+
 /// A line with its number, which is the address of its first byte divided by 64.
 #[derive(Drop)]
 pub(crate) struct Numbered {
@@ -18,11 +21,12 @@ pub(crate) struct Numbered {
 /// ratio.
 #[inline(always)]
 pub(crate) fn slot_of(number: u64, count: usize) -> usize
+    requires { 0 < count }
     ensures value { result ≡ slot count number }
-    ensures low { 0 < count → result < count }
+    ensures low { result < count }
 {
-    let spread = number.wrapping_mul(11_400_714_819_323_198_485) >> 32;
-    (spread & (count as u64).wrapping_sub(1)) as usize
+    let spread = number.wrapping_mul(SPREAD) >> 32;
+    (spread & (count as u64 - 1)) as usize
 }
 
 /// The place of the line of a number, if there is one.
@@ -32,7 +36,10 @@ pub(crate) fn find(lines: &[Numbered], latest: &[Option<usize>], number: u64) ->
     ensures some { IfSome result (λ place. (place < length lines.now) × (number_in lines.now place ≡ number)) }
     ensures none { IfNone result ((p : ℕ) → p < length lines.now → number_in lines.now p ≡ number → ⊥) }
 {
-    let mut next = *latest.get(slot_of(number, latest.len()))?;
+    if latest.is_empty() {
+        return None;
+    }
+    let mut next = latest[slot_of(number, latest.len())];
     while let Some(place) = next {
         let found = &lines[place];
         if found.number == number {

@@ -1,4 +1,4 @@
-use Rattle.std.proofs.Common.{◌≡◌, ◌<◌, ◌∷◌, ◌++◌, [], List, None, Some, arith, get_or, length, refl, rules, subst, sym}
+use Rattle.std.proofs.Common.{◌≡◌, ◌∷◌, ◌++◌, [], List, None, Some, get_or, length, refl, rules, subst, sym}
 use Rattle.std.proofs.Math.ListN.{set}
 use Rattle.store_buffer.specs.declared.slots.Numbered.{Numbered}
 use Rattle.store_buffer.specs.Slots.{AreChained}
@@ -12,8 +12,7 @@ returns-clause-chained c =
     let s = c.slot_of-slot.result in
     let size : c.len-place.result ≡ length ls = search (rules, c.len-place.ensures) in
     let more = c.requires.slots in
-    let some : 0 < length latest = omega arith in
     let x : Numbered = record { number = c.args.number; before = get_or latest s None; line = c.empty.result } in
     subst (λ (ms : List Numbered). AreChained (length ms) ms (set latest s (Some c.len-place.result))) (sym c.push_reserved.ensures.items)
     (subst (λ k. AreChained (length (ls ++ x ∷ [])) (ls ++ x ∷ []) (set latest s (Some k))) (sym size)
-    (appended_chained ls latest s x c.requires.chained more c.slot_of-slot.ensures.value (c.slot_of-slot.ensures.low some) refl))
+    (appended_chained ls latest s x c.requires.chained more c.slot_of-slot.ensures.value c.slot_of-slot.ensures.low refl))

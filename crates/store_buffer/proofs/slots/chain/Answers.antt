@@ -1,4 +1,4 @@
-use Rattle.std.proofs.Common.{◌≡◌, ◌<◌, arith, None, get_or, length, refl}
+use Rattle.std.proofs.Common.{None, get_or, refl}
 use Rattle.store_buffer.specs.Slots.{line_in, number_in}
 use Rattle.store_buffer.proofs.LineChains.{chaining_on}
 use Rattle.store_buffer.proofs.slots.chain.Goals as goal
@@ -11,7 +11,5 @@ loop-place-preserved c =
     let s = c.slot_of-slot.result in
     let low = c.loop-place-test.true in
     let room = c.requires.room in
-    let size : length latest ≡ length c.args.latest.now = c.loop-place.invariant.slots in
-    let some : 0 < length latest = omega arith in
-    chaining_on k c.args.lines.now ms c.args.latest.now latest c.loop-place.invariant room low s c.slot_of-slot.ensures.value (c.slot_of-slot.ensures.low some)
+    chaining_on k c.args.lines.now ms c.args.latest.now latest c.loop-place.invariant room low s c.slot_of-slot.ensures.value c.slot_of-slot.ensures.low
     (record { number = number_in ms k; before = get_or latest s None; line = line_in ms k }) refl refl refl

@@ -5,7 +5,7 @@ use Rattle.store_buffer.proofs.slots.find.Goals as goal
 
 pub loop-next-init : goal.loop-next-init
 loop-next-init c =
-    subst (λ (o : Option ℕ). IsNext c.args.lines.now (length c.args.latest.now) c.args.number o) (search (rules, c.slot_of.ensures, c.get.ensures, c.in_ok-next.ensures)) (first_next c.args.lines.now c.args.latest.now c.args.number c.requires)
+    subst (λ (o : Option ℕ). IsNext c.args.lines.now (length c.args.latest.now) c.args.number o) (search (rules, c.slot_of.ensures)) (first_next c.args.lines.now c.args.latest.now c.args.number c.requires)
 
 pub bounds-lines-place : goal.bounds-lines-place
 bounds-lines-place c = (c.loop-next.invariant.inside c.in-Some.place (sym c.in-Some.is)).0
