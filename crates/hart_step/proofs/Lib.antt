@@ -11,3 +11,4 @@ pub mod Soundness
 pub mod Formation
 pub mod Listed
 pub mod Paused
+mod Zeroed

@@ -1,5 +1,5 @@
-ghost use Rattle.std.specs.Prelude.{◌≡◌};
-ghost use Rattle.hart_step.specs.Registers.{reg, set_reg};
+ghost use Rattle.std.specs.Prelude.{◌≡◌, true};
+ghost use Rattle.hart_step.specs.Registers.{HoldsZero, reg, set_reg};
 
 use rv64_decode::Reg;
 
@@ -34,9 +34,18 @@ impl Hart {
     pub fn reg(&self, r: Reg) -> u64
         ensures { result ≡ reg self.now.x r }
     {
+        self.read::<false>(r)
+    }
+
+    /// The same. Where `x[0]` is known to hold 0, x0 is read like any other.
+    #[inline(always)]
+    pub(crate) fn read<const ZEROED: bool>(&self, r: Reg) -> u64
+        requires { ZEROED ≡ true → HoldsZero self.now.x }
+        ensures { result ≡ reg self.now.x r }
+    {
         // Read in any case, so that x0 takes no jump.
         let value = self.x[r.index()];
-        if r.index() == 0 { 0 } else { value }
+        if !ZEROED && r.index() == 0 { 0 } else { value }
     }
 
     /// Sets a register; x0 keeps its 0.

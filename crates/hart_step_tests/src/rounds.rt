@@ -40,3 +40,19 @@ fn own_stores_are_seen(rt: HostRuntime) -> Result<(), Fail> {
     assert_eq!(rt; pages.read(256, Width::W4), Ok(0));
     Ok(())
 }
+
+#[test]
+fn x0_reads_0_in_a_round(rt: HostRuntime) -> Result<(), Fail> {
+    let alloc = rt.alloc();
+    // ADD x3,x0,x1; ADDI x2,x0,7; ADDI x0,x0,1; ECALL
+    let mut pages = memory(alloc, [0x0010_01b3, 0x0070_0113, 0x0010_0013, 0x0000_0073])?;
+    let table = CodeTable::new(alloc, &pages, 0, 4)?;
+    for held in [0, 9] {
+        let mut h = hart(3, 0);
+        h.x[0] = held;
+        let mut log = Vec::new(alloc);
+        assert!(rt; hart_round(&mut h, &mut pages, &table, 100, &mut log)?);
+        assert_eq!(rt; (h.done, h.x[3], h.x[2], h.x[0]), (3, 3, 7, held));
+    }
+    Ok(())
+}

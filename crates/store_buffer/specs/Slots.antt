@@ -1,6 +1,7 @@
 -- How a line is found by its number: a slot has the place of the line that came last in it, and each line that of the
 -- one before it in its slot.
 use Rattle.std.specs.Prelude.{◌≡◌, ℕ, ◌+◌, ◌-◌, ◌*◌, ◌/◌, ◌%◌, ◌^◌, ◌<◌, ◌≤◌, List, [], length, Option, Some, None, bit_and, get_or}
+use Rattle.std.specs.Int.{rotate_left, w64}
 use Rattle.store_buffer.specs.declared.slots.Numbered.{Numbered}
 use Rattle.store_buffer.specs.declared.line.Line.{Line}
 
@@ -18,9 +19,9 @@ number_in ls p = (get_or ls p blank).number
 abbrev pub before_in : List Numbered → ℕ → Option ℕ
 before_in ls p = (get_or ls p blank).before
 
--- the slot of a number among so many slots: some bits of its product with the golden ratio
+-- the slot of a number among so many slots, which are a power of two: bits of its product with the golden ratio
 unfoldable pub slot : ℕ → ℕ → ℕ
-slot count number = bit_and (number * 11400714819323198485 % 2 ^ 64 / 2 ^ 32) (count - 1)
+slot count number = bit_and (rotate_left w64 (number * 11400714819323198485 % 2 ^ 64) 32) (count - 1)
 
 -- how many places there are up to an optional one
 abbrev pub up_to : Option ℕ → ℕ

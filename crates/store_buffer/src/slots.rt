@@ -25,7 +25,8 @@ pub(crate) fn slot_of(number: u64, count: usize) -> usize
     ensures value { result ≡ slot count number }
     ensures low { result < count }
 {
-    let spread = number.wrapping_mul(SPREAD) >> 32;
+    // The high half is spread best. A shift would do as well, but the compiler then cuts `count - 1` to 32 bits, at a cost.
+    let spread = number.wrapping_mul(SPREAD).rotate_left(32);
     (spread & (count as u64 - 1)) as usize
 }
 
