@@ -1,7 +1,8 @@
 use crate::harness::{hart, memory};
-use hart_step::{Buffered, CodeTable, hart_round, step};
+use hart_step::{Buffered, CodeTable, Hart, hart_round, step};
 use pages::Width;
 use round_schedule::Access;
+use std::alloc::Global;
 use std::test::Fail;
 
 #[test]
@@ -41,17 +42,22 @@ fn own_stores_are_seen(rt: HostRuntime) -> Result<(), Fail> {
     Ok(())
 }
 
-#[test]
-fn x0_reads_0_in_a_round(rt: HostRuntime) -> Result<(), Fail> {
-    let alloc = rt.alloc();
+/// The hart after a round in which it reads and sets x0, while `x[0]` holds this number.
+fn after_x0(alloc: Global, held: u64) -> Result<Hart, Fail> {
     // ADD x3,x0,x1; ADDI x2,x0,7; ADDI x0,x0,1; ECALL
     let mut pages = memory(alloc, [0x0010_01b3, 0x0070_0113, 0x0010_0013, 0x0000_0073])?;
     let table = CodeTable::new(alloc, &pages, 0, 4)?;
+    let mut h = hart(3, 0);
+    h.x[0] = held;
+    let mut log = Vec::new(alloc);
+    let _waits = hart_round(&mut h, &mut pages, &table, 100, &mut log)?;
+    Ok(h)
+}
+
+#[test]
+fn x0_reads_0_in_a_round(rt: HostRuntime) -> Result<(), Fail> {
     for held in [0, 9] {
-        let mut h = hart(3, 0);
-        h.x[0] = held;
-        let mut log = Vec::new(alloc);
-        assert!(rt; hart_round(&mut h, &mut pages, &table, 100, &mut log)?);
+        let h = after_x0(rt.alloc(), held)?;
         assert_eq!(rt; (h.done, h.x[3], h.x[2], h.x[0]), (3, 3, 7, held));
     }
     Ok(())
