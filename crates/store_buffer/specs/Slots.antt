@@ -19,7 +19,7 @@ number_in ls p = (get_or ls p blank).number
 abbrev pub before_in : List Numbered → ℕ → Option ℕ
 before_in ls p = (get_or ls p blank).before
 
--- the slot of a number among so many slots, which are a power of two: bits of its product with the golden ratio
+-- the slot of a number among so many slots: low bits of its product with the golden ratio, the halves of which are exchanged
 unfoldable pub slot : ℕ → ℕ → ℕ
 slot count number = bit_and (rotate_left w64 (number * 11400714819323198485 % 2 ^ 64) 32) (count - 1)
 
