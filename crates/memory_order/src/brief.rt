@@ -1,32 +1,31 @@
 //! Plain loads and stores and fences in a form that takes less memory.
 
-ghost use Rattle.std.specs.Prelude.{◌≡◌, ◌+◌, IfOk, IfSome, map};
+ghost use Rattle.std.specs.Prelude.{◌≡◌, ◌+◌, ◌%◌, ◌^◌, IfSome};
 ghost use Rattle.memory_order.specs.Briefs.{widened};
 
-use pages::{OutOfMemory, Width};
+use pages::Width;
 use round_schedule::Access;
 use rv64_decode::{FenceMode, FenceSet};
-use std::alloc::Global;
 use std::mem::size_of;
 
-/// A plain load or store, or a fence. Its place is counted from a base, and its address is below 2^32.
+/// A plain load or store, or a fence. Its place is counted from a base, and below 2^16; its address is below 2^32.
 #[derive(Clone, Copy)]
 pub(crate) enum Brief {
     Load {
         width: Width,
-        place: u32,
+        place: u16,
         address: u32,
         read: u64,
     },
     Store {
         width: Width,
-        place: u32,
+        place: u16,
         address: u32,
         written: u64,
     },
     // The place first, where it stands in the other two: a copy then needs no case.
     Fence {
-        place: u32,
+        place: u16,
         before: FenceSet,
         after: FenceSet,
         mode: FenceMode,
@@ -34,12 +33,12 @@ pub(crate) enum Brief {
 }
 
 // Most of a long run's memory is accesses.
-const _: () = prove!(size_of::<Brief>() == 24);
+const _: () = prove!(size_of::<Brief>() == 16);
 
 impl Brief {
     /// An access in brief, if it has such a form with its place counted from `base`.
     #[inline]
-    fn of(access: &Access, base: u64) -> Option<Brief>
+    pub(crate) fn of(access: &Access, base: u64) -> Option<Brief>
         ensures { IfSome result (λ b. widened base b ≡ access.now) }
     {
         match *access {
@@ -123,15 +122,18 @@ impl Brief {
     }
 }
 
-/// How far a place is above a base, if it is so by less than 2^32.
+/// How far a place is above a base, if it is so by less than 2^16.
 #[inline]
-fn distance(base: u64, place: u64) -> Option<u32>
-    ensures { IfSome result (λ d. base + d ≡ place) }
+pub(crate) fn distance(base: u64, place: u64) -> Option<u16>
+    ensures { IfSome result (λ d. (base + d) % 2 ^ 64 ≡ place) }
 {
-    if place < base {
-        return None;
+    // From a place below the base it wraps around, to 2^16 or more or to what is right modulo 2^64.
+    let distance = place.wrapping_sub(base);
+    if distance <= 0xffff {
+        Some(distance as u16)
+    } else {
+        None
     }
-    small(place - base)
 }
 
 /// A number that is below 2^32.
@@ -144,22 +146,4 @@ fn small(number: u64) -> Option<u32>
     } else {
         None
     }
-}
-
-/// All these accesses in brief, if they have such forms with their places counted from `base`.
-pub(crate) fn in_brief(
-    alloc: Global,
-    accesses: &[Access],
-    base: u64,
-) -> Result<Option<Vec<Brief>>, OutOfMemory>
-    ensures { IfOk result (λ r. IfSome r (λ v. map (widened base) v.items ≡ accesses.now)) }
-{
-    let mut briefs = Vec::with_capacity(alloc, accesses.len())?;
-    for access in accesses {
-        let Some(brief) = Brief::of(access, base) else {
-            return Ok(None);
-        };
-        briefs.push(brief)?;
-    }
-    Ok(Some(briefs))
 }

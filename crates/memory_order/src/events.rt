@@ -61,7 +61,7 @@ impl<'a> Iterator for Events<'a> {
     #[inline]
     fn next(&mut self) -> Option<Event> {
         let (event, others) = self.run.split_first()?;
-        if others.len() == 0 {
+        if others.is_empty() {
             *self = Events::new(self.parts, self.tail);
         } else {
             self.run = others;

@@ -14,8 +14,11 @@ mod opening;
 mod operation;
 mod order;
 mod part;
+mod remaining;
 mod rising;
 mod run;
+mod stretch;
+mod stretches;
 mod trace;
 
 pub use check::check_order;

@@ -4,7 +4,7 @@ ghost use Rattle.std.specs.Prelude.{◌≡◌, ◌<◌, [], length, slice_index_
 ghost use Rattle.memory_order.specs.LentLogs.{accesses_lent};
 
 use crate::accesses::Accesses;
-use crate::brief::{Brief, in_brief};
+use crate::stretches::Stretches;
 use pages::OutOfMemory;
 use round_schedule::Access;
 use std::marker::Model;
@@ -23,8 +23,8 @@ pub(crate) enum Kept {
     Nothing,
     /// As the hart left them.
     Own(Vec<Access>),
-    /// In brief, their places counted from a base. Copies share them.
-    Brief(u64, Arc<Vec<Brief>>),
+    /// In brief. Copies share them.
+    Brief(Arc<Stretches>),
 }
 
 impl Model for Log {
@@ -48,7 +48,7 @@ impl Log {
     }
 
     /// Puts plain loads and stores and fences into a form that takes less memory, and that the copies of a trace share. A log
-    /// with another access, or with places or addresses that are far apart, stays as it is.
+    /// with another access, or with an address from 2^32 on, stays as it is.
     ///
     /// # Errors
     ///
@@ -59,16 +59,15 @@ impl Log {
         let Kept::Own(accesses) = &self.kept else {
             return Ok(());
         };
-        let Some(first) = accesses.first() else {
+        if accesses.is_empty() {
             return Ok(());
-        };
+        }
         let alloc = *accesses.allocator();
-        let base = first.place();
-        let Some(briefs) = in_brief(alloc, accesses, base)? else {
+        let Some(stretches) = Stretches::of(alloc, accesses)? else {
             return Ok(());
         };
-        let briefs = Arc::new(alloc, briefs).map_err(|_| OutOfMemory)?;
-        self.kept = Kept::Brief(base, briefs);
+        let stretches = Arc::new(alloc, stretches).map_err(|_| OutOfMemory)?;
+        self.kept = Kept::Brief(stretches);
         Ok(())
     }
 
@@ -76,7 +75,11 @@ impl Log {
     pub fn len(&self) -> usize
         ensures { result ≡ length self.now }
     {
-        self.accesses().len()
+        match &self.kept {
+            Kept::Nothing => 0,
+            Kept::Own(accesses) => accesses.len(),
+            Kept::Brief(stretches) => stretches.len(),
+        }
     }
 
     /// The access at a place, counted from 0.
@@ -94,7 +97,7 @@ impl Log {
         match &self.kept {
             Kept::Nothing => Accesses::Whole(&[]),
             Kept::Own(accesses) => Accesses::Whole(accesses.as_slice()),
-            Kept::Brief(base, briefs) => Accesses::Brief(*base, briefs.as_slice()),
+            Kept::Brief(stretches) => Accesses::Brief(stretches.lent()),
         }
     }
 
@@ -120,7 +123,7 @@ impl Log {
             Kept::Own(accesses) => {
                 Kept::Own(Vec::from_slice(*accesses.allocator(), accesses.as_slice())?)
             }
-            Kept::Brief(base, briefs) => Kept::Brief(*base, briefs.clone()?),
+            Kept::Brief(stretches) => Kept::Brief(stretches.clone()?),
         };
         Ok(Log { kept })
     }

@@ -1,6 +1,6 @@
 //! Events that stand together in memory, lent.
 
-ghost use Rattle.std.specs.Prelude.{◌≡◌, ◌<◌, ◌∷◌, [], length, IfNone, IfSome};
+ghost use Rattle.std.specs.Prelude.{◌≡◌, ◌<◌, ◌∷◌, ◌↔◌, [], length, IfNone, IfSome, IsTrue};
 ghost use Rattle.round_schedule.specs.Positions.{event};
 ghost use Rattle.memory_order.specs.Parts.{run_events};
 
@@ -22,14 +22,11 @@ pub(crate) enum Run<'a> {
 }
 
 impl<'a> Run<'a> {
-    /// How many events there are.
-    pub(crate) fn len(&self) -> usize
-        ensures { result ≡ length (run_events self.now) }
+    /// Whether there are none.
+    pub(crate) fn is_empty(&self) -> bool
+        ensures { IsTrue result ↔ (run_events self.now ≡ []) }
     {
-        match self {
-            Run::Events(events) => events.len(),
-            Run::Log { accesses, .. } => accesses.len(),
-        }
+        self.split_first().is_none()
     }
 
     /// The event at a place.

@@ -51,6 +51,8 @@ enum Kind {
     Conditional,
     /// The same, but one whose place is before the first one's.
     Early,
+    /// Two in each 2^16 places: at the first and at the last.
+    Wide,
 }
 
 fn plain(number: u64) -> Access {
@@ -60,6 +62,12 @@ fn plain(number: u64) -> Access {
     } else {
         store(place, number & 0xffff, 0xffff_ffff_ffff_fff0)
     }
+}
+
+fn wide(number: u64) -> Access {
+    let pair = (number & 0xffff) / 2;
+    let place = 0x1_0000_0000 + pair * 0x1_0000 + (number & 1) * 0xffff;
+    load(place, 0x100, number)
 }
 
 fn failed_sc(place: u64) -> Access {
@@ -72,12 +80,11 @@ fn failed_sc(place: u64) -> Access {
     }
 }
 
-// Access 200 is the other one.
+// But in the wide kind, access 200 is the other one.
 fn access_of(kind: Kind, number: u64) -> Access {
-    if number != 200 {
-        return plain(number);
-    }
     match kind {
+        Kind::Wide => wide(number),
+        _ if number != 200 => plain(number),
         Kind::Plain => plain(number),
         Kind::Fenced => full_fence(0x1_0000_0258),
         Kind::Far => load(0x1_0000_0258, 0x1_0000_0008, 7),
@@ -122,6 +129,14 @@ fn a_log_shows_its_accesses_and_hands_them_over(rt: HostRuntime) {
     assert!(rt; is_handed_over(alloc, 0, Kind::Plain) == Some(true));
     assert!(rt; is_handed_over(alloc, 300, Kind::Plain) == Some(true));
     assert!(rt; is_handed_over(alloc, 300, Kind::Fenced) == Some(true));
+}
+
+#[test]
+fn a_log_shows_accesses_at_places_far_apart(rt: HostRuntime) {
+    let alloc = rt.alloc();
+    assert!(rt; is_handed_over(alloc, 2, Kind::Wide) == Some(true));
+    assert!(rt; is_handed_over(alloc, 3, Kind::Wide) == Some(true));
+    assert!(rt; is_handed_over(alloc, 300, Kind::Wide) == Some(true));
 }
 
 #[test]

@@ -5,10 +5,10 @@ use Rattle.memory_order.proofs.trace.Trace.push_all.Given as goal
 
 abbrev pub invariant-loop-access : goal.invariant-loop-access
 invariant-loop-access l = record {
-  events : l.self.events ++ events_of l.round l.hart l.phase (accesses_lent l.left) ≡ l.fn.self.events ++ events_of l.round l.hart l.phase (accesses_lent l.accesses);
+  events : l.self.events ++ events_of l.round l.hart l.phase (accesses_lent l.left) ≡ l.fn.self.events ++ events_of l.round l.hart l.phase (accesses_lent l.fn.accesses);
   opening : l.self.opening ≡ l.fn.self.opening;
   fits : length (accesses_lent l.left) ≤ l.self.room;
-  room : l.fn.self.room + length (accesses_lent l.left) ≤ l.self.room + length (accesses_lent l.accesses);
+  room : l.fn.self.room + length (accesses_lent l.left) ≤ l.self.room + length (accesses_lent l.fn.accesses);
 }
 
 abbrev pub decreases-loop-access : goal.decreases-loop-access
