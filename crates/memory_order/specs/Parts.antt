@@ -27,7 +27,7 @@ events_in p = batch_events p.batch
 -- the events of a run that is lent
 abbrev pub run_events : Run → List Event
 run_events (runs.Events es) = es.now
-run_events (runs.Log n i s as') = events_of n i s (accesses_lent as')
+run_events (runs.Log l) = events_of l.round l.hart l.phase (accesses_lent l.accesses)
 
 -- the events of finished parts, one after another
 abbrev pub joined : List Part → List Event

@@ -27,21 +27,30 @@ impl<'a> Accesses<'a> {
         }
     }
 
-    /// The first access, and those after it.
+    /// Whether there are none.
     #[inline]
-    pub(crate) fn split_first(&self) -> Option<(Access, Accesses<'a>)>
-        ensures none { IfNone result (accesses_lent self.now ≡ []) }
-        ensures some { IfSome result (λ r. accesses_lent self.now ≡ r.0 ∷ accesses_lent r.1) }
+    pub(crate) fn is_empty(&self) -> bool
+        ensures { IsTrue result ↔ (length (accesses_lent self.now) ≡ 0) }
+    {
+        match self {
+            Accesses::Whole(accesses) => accesses.is_empty(),
+            Accesses::Brief(remaining) => remaining.is_empty(),
+        }
+    }
+
+    /// Takes the first access out.
+    #[inline]
+    pub(crate) fn take_first(&mut self) -> Option<Access>
+        ensures none { IfNone result ((accesses_lent self.old ≡ []) × (accesses_lent self.new ≡ [])) }
+        ensures some { IfSome result (λ a. accesses_lent self.old ≡ a ∷ accesses_lent self.new) }
     {
         match self {
             Accesses::Whole(accesses) => {
                 let (access, rest) = accesses.split_first()?;
-                Some((*access, Accesses::Whole(rest)))
+                *accesses = rest;
+                Some(*access)
             }
-            Accesses::Brief(remaining) => {
-                let (access, rest) = remaining.split_first()?;
-                Some((access, Accesses::Brief(rest)))
-            }
+            Accesses::Brief(remaining) => remaining.take_first(),
         }
     }
 }

@@ -60,11 +60,9 @@ impl<'a> Iterator for Events<'a> {
 
     #[inline]
     fn next(&mut self) -> Option<Event> {
-        let (event, others) = self.run.split_first()?;
-        if others.is_empty() {
+        let event = self.run.take_first()?;
+        if self.run.is_empty() {
             *self = Events::new(self.parts, self.tail);
-        } else {
-            self.run = others;
         }
         Some(event)
     }

@@ -5,7 +5,7 @@ ghost use Rattle.round_schedule.specs.Positions.{event};
 ghost use Rattle.memory_order.specs.Parts.{AreParts, events_in, joined, run_events};
 
 use crate::log::Log;
-use crate::run::Run;
+use crate::run::{LogRun, Run};
 use pages::OutOfMemory;
 use round_schedule::{Event, Phase};
 use std::sync::Arc;
@@ -44,12 +44,12 @@ impl Part {
                 hart,
                 phase,
                 log,
-            } => Run::Log {
+            } => Run::Log(LogRun {
                 round: *round,
                 hart: *hart,
                 phase: *phase,
                 accesses: log.accesses(),
-            },
+            }),
         }
     }
 

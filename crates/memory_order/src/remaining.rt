@@ -1,4 +1,4 @@
-ghost use Rattle.std.specs.Prelude.{◌≡◌, ◌<◌, ◌∷◌, [], length, slice_index_or, IfNone, IfSome};
+ghost use Rattle.std.specs.Prelude.{◌≡◌, ◌<◌, ◌∷◌, ◌↔◌, [], length, slice_index_or, IfNone, IfSome, IsTrue};
 ghost use Rattle.memory_order.specs.Briefs.{in_turn};
 
 use crate::brief::Brief;
@@ -48,23 +48,47 @@ impl<'a> Remaining<'a> {
         }
     }
 
-    /// The first access, and those after it.
+    /// Whether there are none.
     #[inline]
-    pub(crate) fn split_first(&self) -> Option<(Access, Remaining<'a>)>
-        ensures none { IfNone result (self.now ≡ []) }
-        ensures some { IfSome result (λ r. self.now ≡ r.0 ∷ r.1) }
+    pub(crate) fn is_empty(&self) -> bool
+        ensures { IsTrue result ↔ (length self.now ≡ 0) }
+    {
+        match self.briefs {
+            [] => are_empty(self.stretches),
+            _ => false,
+        }
+    }
+
+    /// Takes the first access out.
+    #[inline]
+    pub(crate) fn take_first(&mut self) -> Option<Access>
+        ensures none { IfNone result ((self.old ≡ []) × (self.new ≡ [])) }
+        ensures some { IfSome result (λ a. self.old ≡ a ∷ self.new) }
     {
         match self.briefs.split_first() {
-            Some((brief, briefs)) => Some((
-                brief.access(self.base),
-                Remaining {
-                    base: self.base,
-                    briefs,
-                    stretches: self.stretches,
-                },
-            )),
-            None => first_of(self.stretches),
+            Some((brief, briefs)) => {
+                self.briefs = briefs;
+                Some(brief.access(self.base))
+            }
+            None => {
+                let (access, rest) = first_of(self.stretches)?;
+                *self = rest;
+                Some(access)
+            }
         }
+    }
+}
+
+/// Whether stretches have no access.
+fn are_empty(stretches: &[Stretch]) -> bool
+    ensures { IsTrue result ↔ (length (in_turn stretches.now) ≡ 0) }
+{
+    match stretches {
+        [] => true,
+        [first, rest @ ..] => match first.briefs.as_slice() {
+            [] => are_empty(rest),
+            _ => false,
+        },
     }
 }
 

@@ -2,10 +2,11 @@
 
 ghost use Rattle.std.specs.Prelude.{◌≡◌, ◌<◌, ◌∷◌, ◌↔◌, [], length, IfNone, IfSome, IsTrue};
 ghost use Rattle.round_schedule.specs.Positions.{event};
+ghost use Rattle.round_schedule.specs.Events.{event_of};
 ghost use Rattle.memory_order.specs.Parts.{run_events};
 
 use crate::accesses::Accesses;
-use round_schedule::{Event, Phase};
+use round_schedule::{Access, Event, Phase};
 
 /// A run of events of a list.
 #[derive(Drop)]
@@ -13,22 +14,19 @@ pub(crate) enum Run<'a> {
     /// Events one by one.
     Events(&'a [Event]),
     /// The accesses of a hart in one phase of a round.
-    Log {
-        round: u32,
-        hart: u8,
-        phase: Phase,
-        accesses: Accesses<'a>,
-    },
+    Log(LogRun<'a>),
+}
+
+/// The accesses of a hart in one phase of a round.
+#[derive(Drop)]
+pub(crate) struct LogRun<'a> {
+    pub(crate) round: u32,
+    pub(crate) hart: u8,
+    pub(crate) phase: Phase,
+    pub(crate) accesses: Accesses<'a>,
 }
 
 impl<'a> Run<'a> {
-    /// Whether there are none.
-    pub(crate) fn is_empty(&self) -> bool
-        ensures { IsTrue result ↔ (run_events self.now ≡ []) }
-    {
-        self.split_first().is_none()
-    }
-
     /// The event at a place.
     pub(crate) fn get(&self, place: usize) -> Event
         requires { place < length (run_events self.now) }
@@ -36,52 +34,52 @@ impl<'a> Run<'a> {
     {
         match self {
             Run::Events(events) => event_at(events, place),
-            Run::Log {
-                round,
-                hart,
-                phase,
-                accesses,
-            } => Event {
-                access: accesses.get(place),
-                round: *round,
-                hart: *hart,
-                phase: *phase,
-            },
+            Run::Log(log) => log.event_of(log.accesses.get(place)),
         }
     }
 
-    /// The first event, and those after it.
+    /// Whether there are none.
     #[inline]
-    pub(crate) fn split_first(&self) -> Option<(Event, Run<'a>)>
-        ensures none { IfNone result (run_events self.now ≡ []) }
-        ensures some { IfSome result (λ r. run_events self.now ≡ r.0 ∷ run_events r.1) }
+    pub(crate) fn is_empty(&self) -> bool
+        ensures { IsTrue result ↔ (length (run_events self.now) ≡ 0) }
+    {
+        match self {
+            Run::Events(events) => events.is_empty(),
+            Run::Log(log) => log.accesses.is_empty(),
+        }
+    }
+
+    /// Takes the first event out.
+    #[inline]
+    pub(crate) fn take_first(&mut self) -> Option<Event>
+        ensures none { IfNone result ((run_events self.old ≡ []) × (run_events self.new ≡ [])) }
+        ensures some { IfSome result (λ e. run_events self.old ≡ e ∷ run_events self.new) }
     {
         match self {
             Run::Events(events) => {
                 let (event, rest) = events.split_first()?;
-                Some((*event, Run::Events(rest)))
+                *events = rest;
+                Some(*event)
             }
-            Run::Log {
-                round,
-                hart,
-                phase,
-                accesses,
-            } => {
-                let (access, rest) = accesses.split_first()?;
-                let event = Event {
-                    access,
-                    round: *round,
-                    hart: *hart,
-                    phase: *phase,
-                };
-                let others = Run::Log {
-                    round: *round,
-                    hart: *hart,
-                    phase: *phase,
-                    accesses: rest,
-                };
-                Some((event, others))
+            Run::Log(log) => {
+                let access = log.accesses.take_first()?;
+                Some(log.event_of(access))
             }
+        }
+    }
+}
+
+impl<'a> LogRun<'a> {
+    /// The event of an access.
+    #[inline]
+    fn event_of(&self, access: Access) -> Event
+        ensures { result ≡ event_of self.now.round self.now.hart self.now.phase access }
+    {
+        Event {
+            access,
+            round: self.round,
+            hart: self.hart,
+            phase: self.phase,
         }
     }
 }

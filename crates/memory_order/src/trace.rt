@@ -143,14 +143,13 @@ impl Trace {
         ensures room { self.old.room ≤ self.new.room + length (accesses_lent accesses.entry) }
     {
         let mut left = accesses;
-        while let Some((access, rest)) = left.split_first() {
+        while let Some(access) = left.take_first() {
             self.push(Event {
                 access,
                 round,
                 hart,
                 phase,
             });
-            left = rest;
         }
     }
 
