@@ -140,8 +140,7 @@ impl Machine {
         let _budget = self.plan.budget();
         let _pages = self.pages.count();
         let _events = self.trace.len();
-        let running = self.harts.iter().any(|hart| hart.stop.is_none());
-        if !running {
+        if self.running_harts() == 0 {
             crew.workers = 1;
         }
         let waited = do_round(
@@ -174,14 +173,10 @@ impl Machine {
     }
 
     /// How many harts have not stopped.
-    fn running_harts(&self) -> u64 {
-        let mut running: u64 = 0;
-        for hart in &self.harts {
-            if hart.stop.is_none() {
-                running = running.wrapping_add(1);
-            }
-        }
-        running
+    fn running_harts(&self) -> u32 {
+        // At most 64.
+        let _harts = self.plan.harts();
+        self.harts.len() as u32 - stopped_count(&self.harts)
     }
 
     /// How many instructions the harts may do together in the next round, outside their serial turns.
@@ -198,12 +193,12 @@ impl Machine {
 }
 
 /// How many workers so much work of so many running harts is worth, of these at most. A hart's round is work for one.
-fn workers_for(work: u64, running: u64, workers: u32) -> u32
+fn workers_for(work: u64, running: u32, workers: u32) -> u32
     requires { 1 ≤ workers }
     ensures some { 1 ≤ result }
     ensures most { result ≤ workers }
 {
-    let worth = (work / WORTH_A_WORKER).min(running);
+    let worth = (work / WORTH_A_WORKER).min(u64::from(running));
     if worth <= 1 {
         1
     } else if worth < u64::from(workers) {
