@@ -41,26 +41,27 @@ impl Brief {
     pub(crate) fn of(access: &Access, base: u64) -> Option<Brief>
         ensures { IfSome result (λ b. widened base b ≡ access.now) }
     {
+        let place = distance(base, access.place())?;
         match *access {
             Access::Load {
                 width,
-                place,
                 address,
                 read,
+                ..
             } => Some(Brief::Load {
                 width,
-                place: distance(base, place)?,
+                place,
                 address: small(address)?,
                 read,
             }),
             Access::Store {
                 width,
-                place,
                 address,
                 written,
+                ..
             } => Some(Brief::Store {
                 width,
-                place: distance(base, place)?,
+                place,
                 address: small(address)?,
                 written,
             }),
@@ -68,9 +69,9 @@ impl Brief {
                 before,
                 after,
                 mode,
-                place,
+                ..
             } => Some(Brief::Fence {
-                place: distance(base, place)?,
+                place,
                 before,
                 after,
                 mode,
