@@ -128,7 +128,7 @@ impl Brief {
 pub(crate) fn distance(base: u64, place: u64) -> Option<u16>
     ensures { IfSome result (λ d. (base + d) % 2 ^ 64 ≡ place) }
 {
-    // From a place below the base it wraps around, to 2^16 or more or to what is right modulo 2^64.
+    // From a place below the base it wraps around, as the sum does that gives the place back.
     let distance = place.wrapping_sub(base);
     if distance <= 0xffff {
         Some(distance as u16)

@@ -1,6 +1,6 @@
 //! Accesses in brief, in stretches.
 
-ghost use Rattle.std.specs.Prelude.{◌≡◌, ◌<◌, ◌≤◌, ◌∷◌, [], length, slice_index_or, IfNone, IfOk, IfSome};
+ghost use Rattle.std.specs.Prelude.{◌≡◌, ◌<◌, ◌≤◌, length, IfOk, IfSome};
 
 use crate::brief::distance;
 use crate::remaining::Remaining;
@@ -34,7 +34,6 @@ impl Stretches {
     pub(crate) fn of(alloc: Global, accesses: &[Access]) -> Result<Option<Stretches>, OutOfMemory>
         ensures { IfOk result (λ r. IfSome r (λ s. s ≡ accesses.now)) }
     {
-        let count = accesses.len();
         let mut stretches = Vec::new(alloc);
         let mut left = accesses;
         while let Some(first) = left.first() {
@@ -46,7 +45,10 @@ impl Stretches {
             stretches.push(stretch)?;
             left = far;
         }
-        Ok(Some(Stretches { count, stretches }))
+        Ok(Some(Stretches {
+            count: accesses.len(),
+            stretches,
+        }))
     }
 
     /// How many accesses there are.
@@ -64,7 +66,7 @@ impl Stretches {
     }
 }
 
-/// How many accesses have places near a base, where places rise; 1 at least.
+/// How many accesses from the first on have places near a base. Where places do not rise, it is some number from 1 on.
 fn near_count(accesses: &[Access], base: u64) -> usize
     requires { 0 < length accesses.now }
     ensures some { 0 < result }
