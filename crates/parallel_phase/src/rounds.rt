@@ -1,11 +1,9 @@
-ghost use Rattle.std.specs.Prelude.{◌≡◌, ◌<◌, [], length, IfOk};
+ghost use Rattle.std.specs.Prelude.{◌≡◌, ◌<◌, length, IfOk};
 ghost use Rattle.round_lock.specs.Rounds.{ticket_of};
 
 use hart_step::Buffered;
 use pages::OutOfMemory;
 use round_lock::{BookStart, HartRound, RoundStart, Ticket};
-use round_schedule::Access;
-use std::alloc::Global;
 
 /// Does the round of a ticket's hart, on the memory of the start that its book was opened with.
 ///
@@ -26,15 +24,7 @@ pub fn hart_round<B: BookStart>(
     let pages = start.pages();
     let alloc = pages.allocator();
     let mut view = Buffered::new(alloc, pages);
-    let mut accesses = empty_log(alloc, quota)?;
+    let mut accesses = Vec::new(alloc);
     let waits = hart_step::hart_round(&mut hart, &mut view, start.table(), quota, &mut accesses)?;
     Ok(HartRound::new(ticket, hart, view.into_buffer(), accesses, waits))
-}
-
-/// An empty log for a round, with room for the accesses that are likely, up to 40 kB of them: about one of four instructions
-/// is a load or a store.
-fn empty_log(alloc: Global, quota: u32) -> Result<Vec<Access>, OutOfMemory>
-    ensures { IfOk result (λ log. log.items ≡ []) }
-{
-    Ok(Vec::with_capacity(alloc, (quota / 4).min(1024) as usize)?)
 }

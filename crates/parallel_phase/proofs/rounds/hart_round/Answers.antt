@@ -27,8 +27,8 @@ new-requires g c =
     (indexed c.harts.result.now n record { x = []; pc = 0; done = 0; stop = None } (let e = ap (λ (hs : List Hart). length hs) c.harts.ensures.harts in omega arith)) in
     let quota : slice_get s.quotas n ≡ Some q = subst (λ (qs : List ℕ). slice_get qs n ≡ Some q) c.quotas.ensures.quotas
     (indexed c.quotas.result.now n 0 (let e = c.quotas.ensures.sized in omega arith)) in
-    let content = content_is c.pages-pages.result.now.memory c.new-view.result c.hart_round.new.b q h c.hart_round.new.h c.in_ok-accesses.accesses.items c.hart_round.new.log.items
-    c.in_ok-waits.waits c.into_buffer.result c.new-view.ensures c.in_ok-accesses.ensures c.in_ok-waits.ensures.round c.into_buffer.ensures in
+    let content = content_is c.pages-pages.result.now.memory c.new-view.result c.hart_round.new.b q h c.hart_round.new.h c.new-accesses.result.items c.hart_round.new.log.items
+    c.in_ok-waits.waits c.into_buffer.result c.new-view.ensures c.new-accesses.ensures.items c.in_ok-waits.ensures.round c.into_buffer.ensures in
     ap (λ (t : Start). round_at t c.args.ticket.hart) (sym c.requires.start) ∙ (ap (round_at s) (sym c.hart-number.ensures)
     ∙ (round_at_is s n q h hart quota
     ∙ (ap (λ (m : Memory). Some (content_of (hart_round_of (words_of m.code) m.bytes q h))) (sym c.pages-pages.ensures) ∙ ap Some content)))
