@@ -31,7 +31,8 @@ pub(crate) fn break_others(table: &mut Reservations, hart: u32, buffer: &StoreBu
     ensures size { length table.new ≡ length table.old }
     ensures table { (h : ℕ) → h < length table.old → entry table.new h ≡ (if hart == h then entry table.old h else unless (covered (stores_of buffer.now)) (entry table.old h)) }
 {
-    if table.is_only_of(hart) {
+    // A hart that waits for a lock has often stored nothing.
+    if buffer.is_empty() || table.is_only_of(hart) {
         return;
     }
     for byte in buffer.stores() {

@@ -71,7 +71,7 @@ fn quotas_in(alloc: Global, plan: &Plan, round: u32) -> Result<Vec<u32>, OutOfMe
     ensures sized { IfOk result (λ qs. length qs.items ≡ plan.now.harts) }
     ensures quotas { IfOk result (λ qs. (h : ℕ) → h < plan.now.harts → slice_index qs.items h ≡ quota_of plan.now round h) }
 {
-    let mut quotas = Vec::new(alloc);
+    let mut quotas = Vec::with_capacity(alloc, plan.harts() as usize)?;
     for hart in 0..plan.harts() {
         match quotas.push(plan.quota(round, hart)) {
             Ok(()) => {}
@@ -92,7 +92,7 @@ fn gather_outcomes<B: BookStart + Send + Sync, G: Gate + Sync, R: Threads + Wait
     ensures { IfOk result (λ os. AreOutcomes start.now.memory (rounds_of start.now) os.items) }
 {
     let mut gathered = gather::<B, G, R>(crew.rt, start, crew.workers, crew.gate)?;
-    let mut outcomes = Vec::new(start.pages().allocator());
+    let mut outcomes = Vec::with_capacity(start.pages().allocator(), start.harts().len())?;
     for number in 0..start.harts().len() {
         // The history is complete.
         let Some(round) = gathered.take(number as u32) else {

@@ -34,7 +34,7 @@ pub fn waiting_count(outcomes: &[Outcome]) -> u32
 pub fn harts_after(alloc: Global, outcomes: &[Outcome]) -> Result<Vec<Hart>, OutOfMemory>
     ensures { IfOk result (λ hs. hs.items ≡ harts_of outcomes.now) }
 {
-    let mut harts = Vec::new(alloc);
+    let mut harts = Vec::with_capacity(alloc, outcomes.len())?;
     for outcome in outcomes {
         add(&mut harts, outcome.hart)?;
     }

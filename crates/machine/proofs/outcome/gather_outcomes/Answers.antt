@@ -12,7 +12,7 @@ use Rattle.machine.proofs.outcome.gather_outcomes.Goals as goal
 pub loop-number-init : goal.loop-number-init
 loop-number-init g c = record {
   left = λ h least most. has_from_times _ h (c.in_ok-gathered.ensures.complete h most);
-  rounds = subst (λ (os : List Outcome). AreOutcomes c.args.start.now.memory [] os) (sym c.new-outcomes.ensures.items) tt;
+  rounds = subst (λ (os : List Outcome). AreOutcomes c.args.start.now.memory [] os) (sym c.in_ok-outcomes.ensures.items) tt;
 }
 
 pub loop-number-preserved : goal.loop-number-preserved
