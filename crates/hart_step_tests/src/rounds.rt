@@ -42,22 +42,23 @@ fn own_stores_are_seen(rt: HostRuntime) -> Result<(), Fail> {
     Ok(())
 }
 
-/// The hart after a round in which it reads and sets x0, while `x[0]` holds this number.
-fn after_x0(alloc: Global, held: u64) -> Result<Hart, Fail> {
+/// The hart after a round in which it reads and sets x0, while `x[0]` holds this number, and whether it waits.
+fn after_x0(alloc: Global, held: u64) -> Result<(Hart, bool), Fail> {
     // ADD x3,x0,x1; ADDI x2,x0,7; ADDI x0,x0,1; ECALL
     let mut pages = memory(alloc, [0x0010_01b3, 0x0070_0113, 0x0010_0013, 0x0000_0073])?;
     let table = CodeTable::new(alloc, &pages, 0, 4)?;
     let mut h = hart(3, 0);
     h.x[0] = held;
     let mut log = Vec::new(alloc);
-    let _waits = hart_round(&mut h, &mut pages, &table, 100, &mut log)?;
-    Ok(h)
+    let waits = hart_round(&mut h, &mut pages, &table, 100, &mut log)?;
+    Ok((h, waits))
 }
 
 #[test]
 fn x0_reads_0_in_a_round(rt: HostRuntime) -> Result<(), Fail> {
     for held in [0, 9] {
-        let h = after_x0(rt.alloc(), held)?;
+        let (h, waits) = after_x0(rt.alloc(), held)?;
+        assert!(rt; waits);
         assert_eq!(rt; (h.done, h.x[3], h.x[2], h.x[0]), (3, 3, 7, held));
     }
     Ok(())

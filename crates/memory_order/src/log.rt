@@ -48,7 +48,7 @@ impl Log {
     }
 
     /// Puts plain loads and stores and fences into a form that takes less memory, and that the copies of a trace share. A log
-    /// with another access, or with an address from 2^32 on, stays as it is.
+    /// with another access, or with an address from 2^32 on, stays as it is; so may one whose places do not rise.
     ///
     /// # Errors
     ///
