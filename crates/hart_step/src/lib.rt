@@ -27,4 +27,4 @@ pub use laws::{
 };
 pub use round_schedule::{Access, Span, Stepped};
 pub use rounds::hart_round;
-pub use stepping::step;
+pub use stepping::{step, step_decoded};

@@ -12,7 +12,7 @@ use commit_phase::Buffered;
 use hart_step::{CodeTable, Hart};
 use memory_order::Log;
 use pages::{OutOfMemory, Pages};
-use parallel_phase::{Gate, gather};
+use parallel_phase::{Gate, gather, round_from};
 use round_lock::{BookStart, RoundStart};
 use round_planner::Plan;
 use std::alloc::Global;
@@ -62,7 +62,48 @@ pub fn outcomes_of<G: Gate + Sync, R: Threads + Wait + Sync>(
     let _harts = plan.harts();
     let quotas = quotas_in(pages.allocator(), plan, round)?;
     let start = RoundStart::new(pages, table, harts, &quotas);
-    share_logs(gather_outcomes::<Brand, G, R>(crew, &start)?)
+    share_logs(outcomes_by::<Brand, G, R>(crew, &start)?)
+}
+
+/// Does the rounds of all harts: a lone worker without a book.
+fn outcomes_by<B: BookStart + Send + Sync, G: Gate + Sync, R: Threads + Wait + Sync>(
+    crew: &Crew<'_, G, R>,
+    start: &RoundStart<'_>,
+) -> Result<Vec<Outcome>, OutOfMemory>
+    requires workers { (1 ≤ crew.now.workers) × (crew.now.workers ≤ 16) }
+    requires start { start.now ≡ B.start }
+    requires sized { length start.now.quotas ≡ length start.now.harts }
+    ensures { IfOk result (λ os. AreOutcomes start.now.memory (rounds_of start.now) os.items) }
+{
+    if crew.workers == 1 {
+        outcomes_alone(crew.gate, start)
+    } else {
+        gather_outcomes::<B, G, R>(crew, start)
+    }
+}
+
+/// Does the rounds of all harts on the calling thread, in hart order.
+fn outcomes_alone<G: Gate>(
+    gate: &G,
+    start: &RoundStart<'_>,
+) -> Result<Vec<Outcome>, OutOfMemory>
+    requires sized { length start.now.quotas ≡ length start.now.harts }
+    ensures { IfOk result (λ os. AreOutcomes start.now.memory (rounds_of start.now) os.items) }
+{
+    let mut outcomes = Vec::with_capacity(start.pages().allocator(), start.harts().len())?;
+    for number in 0..start.harts().len() {
+        gate.pass(number as u32);
+        let (hart, buffer, accesses, waits) = round_from(number, start)?;
+        let outcome = Outcome {
+            hart,
+            buffer,
+            log: Log::of(accesses),
+            waits,
+        };
+        add(&mut outcomes, outcome)?;
+        gate.done(number as u32);
+    }
+    Ok(outcomes)
 }
 
 /// How many instructions each hart may do in a round.

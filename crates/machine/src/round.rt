@@ -1,10 +1,12 @@
-ghost use Rattle.std.specs.Prelude.{◌≡◌, ◌<◌, ◌≤◌, ◌+◌, ◌-◌, ◌^◌, length, IfOk, OnOk, OnErr};
-ghost use Rattle.round_schedule.specs.Schedule.{hart_rounds};
+ghost use Rattle.std.specs.Prelude.{◌≡◌, ◌<◌, ◌≤◌, ◌+◌, ◌-◌, ◌^◌, List, length, IfOk, OnOk, OnErr};
+ghost use Rattle.pages.specs.StoreLaws.{TouchesNoCode};
+ghost use Rattle.round_schedule.specs.Schedule.{HartRound, all_stores, hart_rounds};
 ghost use Rattle.round_planner.specs.Quotas.{quotas_of};
+ghost use Rattle.hart_step.specs.declared.hart.Hart.{Hart};
 ghost use Rattle.hart_step.specs.Words.{words_of};
 ghost use Rattle.machine.specs.Machine.{count_waiting};
 ghost use Rattle.hart_step.specs.CodeTables.{Shows};
-ghost use Rattle.machine.specs.Outcomes.{AreFit, count_true, harts_of, waits_of};
+ghost use Rattle.machine.specs.Outcomes.{AreFit, AreOutcomes, count_true, harts_of, waits_of};
 ghost use Rattle.memory_order.specs.Traced.{IsTrace};
 ghost use Rattle.machine.specs.Rounds.{IsAsBefore, IsFinished, IsRoundDone, LeavesTrace, next_parts};
 
@@ -62,6 +64,7 @@ pub fn do_round<G: Gate + Sync, R: Threads + Wait + Sync>(
     let waited = finish(
         crew,
         pages,
+        table,
         reservations,
         console,
         log,
@@ -79,6 +82,7 @@ pub fn do_round<G: Gate + Sync, R: Threads + Wait + Sync>(
 fn finish<G, R: Threads + Sync>(
     crew: &Crew<'_, G, R>,
     pages: &mut Pages,
+    table: &CodeTable,
     reservations: &mut Reservations,
     console: &mut Console,
     log: &mut SerialLog,
@@ -89,6 +93,8 @@ fn finish<G, R: Threads + Sync>(
     round: u32,
 ) -> Result<u32, OutOfMemory>
     requires workers { 1 ≤ crew.now.workers }
+    requires shows { Shows pages.old.memory table.now.first table.now.instructions }
+    requires rounds { (rs : List (HartRound Hart)) × AreOutcomes pages.old.memory rs outcomes.old × TouchesNoCode pages.old.memory.code (all_stores rs) }
     requires few { length outcomes.old ≤ 64 }
     requires fits { AreFit pages.old.memory outcomes.old }
     requires harts { harts.old ≡ harts_of outcomes.old }
@@ -112,6 +118,7 @@ fn finish<G, R: Threads + Sync>(
         pages,
         reservations,
         console,
+        table,
         harts,
         waiting,
         round,

@@ -1,4 +1,4 @@
-ghost use Rattle.std.specs.Prelude.{◌≡◌, ℕ, ◌+◌, ◌≤◌, ◌<◌, List, length, take, Option, None, replicate, ◌==◌, ◌≢◌, ◌↔◌, IsTrue, if◌then◌else◌};
+ghost use Rattle.std.specs.Prelude.{◌≡◌, ℕ, ◌+◌, ◌≤◌, ◌<◌, List, length, take, Option, None, replicate, ◌==◌, ◌≢◌, ◌↔◌, IsTrue, if◌then◌else◌, false};
 ghost use Rattle.pages.specs.Memory.{in_range, width_bytes};
 ghost use Rattle.round_schedule.specs.declared.span.Span.{Span};
 ghost use Rattle.round_schedule.specs.Held.{unless};
@@ -18,14 +18,20 @@ const MOST: usize = 64;
 pub struct Reservations {
     entries: [Option<Span>; MOST],
     harts: usize,
+    /// Whether a hart may have a reservation. Where not, no entry is looked at.
+    any: bool,
 }
 
 impl Model for Reservations {
+    ghost use Rattle.std.specs.Prelude.{◌≡◌, ◌<◌, ◌≤◌, ℕ, List, Option, None, false, take};
+    ghost use Rattle.round_schedule.specs.declared.span.Span.{Span};
+    ghost use Rattle.round_schedule.specs.Tables.{entry};
+
     ghost Value = { List (Option Span) };
 
     ghost view = { λ r. take r.harts r.entries };
 
-    ghost invariant = { λ r. r.harts ≤ 64 };
+    ghost invariant = { λ r. (r.harts ≤ 64) × (r.any ≡ false → (h : ℕ) → h < r.harts → entry r.entries h ≡ None) };
 }
 
 impl Reservations {
@@ -37,6 +43,7 @@ impl Reservations {
         Reservations {
             entries: [None; MOST],
             harts: harts as usize,
+            any: false,
         }
     }
 
@@ -49,6 +56,7 @@ impl Reservations {
             address: addr,
             width,
         });
+        self.any = true;
     }
 
     /// Whether the hart has the reservation of just these bytes; it has none afterwards.
@@ -69,11 +77,14 @@ impl Reservations {
     pub fn break_by(&mut self, hart: u32, addr: u64, width: Width)
         ensures { Breaks hart (record { address = addr; width = width }) self.old self.new }
     {
+        if !self.any {
+            return;
+        }
         let span = Span {
             address: addr,
             width,
         };
-        break_others(&mut self.entries[..self.harts], hart as usize, span);
+        self.any = break_others(&mut self.entries[..self.harts], hart as usize, span);
     }
 
     /// Whether no other hart than this one has a reservation.
@@ -81,7 +92,7 @@ impl Reservations {
     pub fn is_only_of(&self, hart: u32) -> bool
         ensures { IsTrue result ↔ ((h : ℕ) → h < length self.now → hart ≢ h → entry self.now h ≡ None) }
     {
-        no_others(&self.entries[..self.harts], hart as usize)
+        !self.any || no_others(&self.entries[..self.harts], hart as usize)
     }
 
     /// An equal table.
@@ -91,6 +102,7 @@ impl Reservations {
         Reservations {
             entries: self.entries,
             harts: self.harts,
+            any: self.any,
         }
     }
 }
@@ -106,12 +118,26 @@ fn no_others(entries: &[Option<Span>], hart: usize) -> bool
     true
 }
 
-fn break_others(entries: &mut [Option<Span>], hart: usize, span: Span)
-    ensures { Breaks hart span entries.old entries.new }
+/// Breaks the entries of other harts that share a byte with a span. Answers whether an entry is left.
+fn break_others(entries: &mut [Option<Span>], hart: usize, span: Span) -> bool
+    ensures breaks { Breaks hart span entries.old entries.new }
+    ensures none { result ≡ false → (h : ℕ) → h < length entries.new → entry entries.new h ≡ None }
 {
+    let mut left = false;
     for (other, entry) in entries.iter_mut().enumerate() {
-        *entry = left_after(hart, span, other, *entry);
+        let kept = left_after(hart, span, other, *entry);
+        *entry = kept;
+        left = is_any(left, kept);
     }
+    left
+}
+
+/// Whether there was one before, or this is one.
+fn is_any(left: bool, entry: Option<Span>) -> bool
+    ensures before { result ≡ false → left ≡ false }
+    ensures this { result ≡ false → entry ≡ None }
+{
+    left || entry.is_some()
 }
 
 /// The entry of hart `other` that is left after a write of `hart`.

@@ -7,3 +7,4 @@ pub mod Served
 pub mod Settled
 pub mod TurnUnderWay
 pub mod PhaseUnderWay
+pub mod CodeKept

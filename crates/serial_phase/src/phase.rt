@@ -1,4 +1,5 @@
 ghost use Rattle.std.specs.Prelude.{◌≡◌, ℕ, ◌<◌, ◌≤◌, ◌+◌, ◌*◌, ◌/◌, ◌^◌, [], ◌++◌, option_to_list, length, None, true};
+ghost use Rattle.hart_step.specs.CodeTables.{Shows};
 ghost use Rattle.hart_step.specs.Room.{HasSpares};
 ghost use Rattle.serial_phase.specs.Phase.{TakesTurn, TakesTurns, turn_done, serial_done, budget_of, budget_from};
 ghost use Rattle.serial_phase.specs.Roomed.{HasRoom};
@@ -6,7 +7,7 @@ ghost use Rattle.serial_phase.specs.Roomed.{HasRoom};
 use crate::console::Console;
 use crate::log::SerialLog;
 use crate::turn::serve;
-use hart_step::Hart;
+use hart_step::{CodeTable, Hart};
 use pages::Pages;
 use reservations::Reservations;
 use round_schedule::{Access, Stepped};
@@ -22,12 +23,14 @@ pub fn serial(
     pages: &mut Pages,
     table: &mut Reservations,
     console: &mut Console,
+    code: &CodeTable,
     harts: &mut [Hart],
     waiting: u64,
     round: u32,
     budget: u32,
     log: &mut SerialLog,
 )
+    requires shows { Shows pages.old.memory code.now.first code.now.instructions }
     requires harts { length harts.old ≡ length table.old }
     requires few { length harts.old ≤ 64 }
     requires pages { HasSpares (budget_from waiting budget 0 (length harts.old)) pages.old }
@@ -37,6 +40,7 @@ pub fn serial(
     requires current { log.old.current ≡ [] }
     ensures turns { TakesTurns (serial_done budget round waiting harts.old pages.old table.old console.old) harts.new pages.old pages.new table.new console.new log.new }
     ensures table { length table.new ≡ length table.old }
+    ensures shows { Shows pages.new.memory code.now.first code.now.instructions }
     ensures current { log.new.current ≡ [] }
 {
     for i in 0..harts.len() {
@@ -47,6 +51,7 @@ pub fn serial(
             table,
             console,
             log,
+            code,
             i as u32,
             round,
             turn_budget,
@@ -70,10 +75,12 @@ fn turn(
     table: &mut Reservations,
     console: &mut Console,
     log: &mut SerialLog,
+    code: &CodeTable,
     hart: u32,
     round: u32,
     budget: u32,
 )
+    requires shows { Shows pages.old.memory code.now.first code.now.instructions }
     requires hart { hart < length table.old }
     requires pages { HasSpares budget pages.old }
     requires console { HasRoom budget console.old }
@@ -84,13 +91,14 @@ fn turn(
     ensures console { (n : ℕ) → HasRoom (n + budget) console.old → HasRoom n console.new }
     ensures log { log.old.room ≤ log.new.room + budget }
     ensures table { length table.new ≡ length table.old }
+    ensures shows { Shows pages.new.memory code.now.first code.now.instructions }
 {
     let mut left = budget;
     while left > 0 {
         if h.stop.is_some() {
             return;
         }
-        match serve(h, pages, table, console, hart, round) {
+        match serve(h, pages, table, console, code, hart, round) {
             Stepped::Done(access) => keep(log, access),
             Stepped::Waits => return,
             Stepped::Stopped(_) => return,

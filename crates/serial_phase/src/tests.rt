@@ -5,7 +5,7 @@ mod calls;
 mod lr_and_sc;
 
 use crate::{Console, SerialLog, serial};
-use hart_step::Hart;
+use hart_step::{CodeTable, Hart};
 use pages::{OutOfMemory, Pages, Piece, Range};
 use reservations::Reservations;
 use std::alloc::Global;
@@ -98,10 +98,12 @@ fn turns(
     shared.log.reserve(room as usize)?;
     shared.console.reserve(room as usize)?;
     shared.pages.prepare(alloc, &[], room)?;
+    let code = CodeTable::new(alloc, &shared.pages, 0, 4)?;
     serial(
         &mut shared.pages,
         &mut shared.table,
         &mut shared.console,
+        &code,
         harts,
         waiting,
         7,

@@ -13,9 +13,9 @@ pub returns : goal.returns
 returns g c =
     let m = c.args.pages.now.memory in
     let plan = c.args.plan.now in
-    let os = c.in_ok-gather_outcomes.field-0.items in
+    let os = c.in_ok-outcomes_by.field-0.items in
     let rs = hart_rounds (words_of m.code) m.bytes (quotas_of plan (c.args.round - 1)) c.args.harts.now in
-    let started = subst (λ (s : Start). AreOutcomes s.memory (rounds_of s) os) c.new-start.ensures c.in_ok-gather_outcomes.ensures in
+    let started = subst (λ (s : Start). AreOutcomes s.memory (rounds_of s) os) c.new-start.ensures c.in_ok-outcomes_by.ensures in
     let gathered : AreOutcomes m rs os = subst (λ (them : List (HartRound Hart)). AreOutcomes m them os)
     (same_rounds (words_of m.code) m.bytes c.deref.result.now (quotas_of plan (c.args.round - 1)) c.args.harts.now (λ k low.
     ap (λ (qs : List ℕ). get_or qs k 0) c.deref.ensures.value ∙ c.in_ok-quotas.ensures.quotas k (omega (arith, low, c.requires.harts))))

@@ -1,4 +1,4 @@
 use Rattle.machine.proofs.outcome.outcomes_of.Given as goal
 
-abbrev pub ghosts-gather_outcomes : goal.ghosts-gather_outcomes
-ghosts-gather_outcomes g a = record { start = a.start.now }
+abbrev pub ghosts-outcomes_by : goal.ghosts-outcomes_by
+ghosts-outcomes_by g a = record { start = a.start.now }

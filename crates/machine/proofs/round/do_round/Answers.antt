@@ -8,9 +8,20 @@ use Rattle.memory_order.specs.Traced.{IsTrace}
 use Rattle.machine.specs.declared.outcome.Outcome.{Outcome}
 use Rattle.machine.specs.Outcomes.{AreFit, AreOutcomes, harts_of}
 use Rattle.machine.specs.Rounds.{IsFinished, IsRoundDone, next_parts}
+use Rattle.machine.proofs.CodeKept.{rounds_touch}
 use Rattle.machine.proofs.Listed.{are_fit, same_length}
 use Rattle.machine.proofs.RoundDone.{finished_done, length-rounds, waited_is}
 use Rattle.machine.proofs.round.do_round.Goals as goal
+
+pub finish-requires-clause-shows : goal.finish-requires-clause-shows
+finish-requires-clause-shows g c = λ lifetimes within. c.requires.shows
+
+pub finish-requires-clause-rounds : goal.finish-requires-clause-rounds
+finish-requires-clause-rounds g c = λ lifetimes within.
+    let m = c.args.pages.now.memory in
+    let qs = quotas_of c.args.plan.now (c.args.done + 1 - 1) in
+    let rs = hart_rounds (words_of m.code) m.bytes qs c.deref.result.now in
+    (rs, subst (λ (x : List Outcome). AreOutcomes m rs x) (sym c.deref_mut.ensures.value) c.in_ok-outcomes.ensures, rounds_touch m qs c.deref.result.now)
 
 pub finish-requires-clause-few : goal.finish-requires-clause-few
 finish-requires-clause-few g c = λ lifetimes within.

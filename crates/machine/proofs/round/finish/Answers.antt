@@ -8,6 +8,7 @@ use Rattle.serial_phase.specs.Roomed.{HasRoom}
 use Rattle.machine.specs.Outcomes.{AreFit, AreOutcomes, mask_of, waits_of, harts_of, outcome_events, turns_of}
 use Rattle.memory_order.specs.Traced.{IsTrace}
 use Rattle.memory_order.proofs.Growing.{beginning}
+use Rattle.machine.proofs.CodeKept.{shows_committed}
 use Rattle.machine.proofs.RoundDone.{finished_from, needed_is, length-waits, length-harts, spares_left, LogFits, log_of}
 use Rattle.machine.proofs.round.finish.Goals as goal
 
@@ -27,7 +28,12 @@ serial-requires g c =
     let need : budget_from c.waiting_mask-waiting.result c.args.budget 0 (length c.args.harts.now) ≡ c.turns_needed-turns.result =
     ap (λ (w : ℕ). budget_from w c.args.budget 0 (length c.args.harts.now)) c.waiting_mask-waiting.ensures.mask
     ∙ ap (budget_from (mask_of (waits_of os)) c.args.budget 0) (size ∙ sym (length-waits os)) ∙ needed_is c.args.budget (waits_of os) ∙ sym c.turns_needed-turns.ensures.needed in
+    let rounds = c.requires.rounds in
+    let m = c.args.pages.now.memory in
+    let same = c.in_ok-make_room.ensures.keeps.memory in
+    let committed = c.commit.ensures.committed rounds.0 (subst (λ (x : Memory). AreOutcomes x rounds.0 os) (sym same) rounds.1) in
     record {
+      shows = shows_committed rounds.0 m c.make_room.new.pages c.commit.new.pages c.args.reservations.now c.commit.new.table c.args.table.now.first c.args.table.now.instructions same committed rounds.2 c.requires.shows;
       harts = size ∙ sym c.requires.size ∙ sym c.commit.ensures.size;
       few = omega (arith, size, c.requires.few);
       pages = spares_left c.turns_needed-turns.result _ c.make_room.new.pages c.commit.new.pages need c.commit.ensures.ready c.commit.ensures.spare c.in_ok-make_room.ensures.spares;

@@ -18,7 +18,7 @@ turn-requires-clause-log c = subst (λ (b : ℕ). b ≤ c.loop-i.log.room) (sym 
     (needs c.args.round c.args.budget c.args.waiting c.loop-i.i _ c.args.harts.now c.loop-i.harts c.args.pages.now c.loop-i.pages c.args.table.now c.loop-i.table c.args.console.now c.loop-i.console c.args.log.now c.loop-i.log c.loop-i-test.true c.loop-i.invariant.serving).log
 
 pub loop-i-init : goal.loop-i-init
-loop-i-init c = record { serving = serving_first c.args.round c.args.budget c.args.waiting c.args.harts.now c.args.pages.now c.args.table.now c.args.console.now c.args.log.now c.requires.pages c.requires.console c.requires.log c.requires.closed c.requires.current }
+loop-i-init c = record { serving = serving_first c.args.round c.args.budget c.args.waiting c.args.harts.now c.args.pages.now c.args.table.now c.args.console.now c.args.log.now c.requires.pages c.requires.console c.requires.log c.requires.closed c.requires.current; shows = c.requires.shows }
 
 pub loop-i-preserved : goal.loop-i-preserved
 loop-i-preserved c = record {
@@ -26,6 +26,7 @@ loop-i-preserved c = record {
       c.turn_budget-turn_budget.ensures c.loop-i-test.true c.loop-i.auto.harts (get_or_default c.loop-i.harts c.loop-i.i _ _ (omega (arith, c.loop-i.auto.harts)))
       (record { turn = c.turn.ensures.turn; pages = c.turn.ensures.pages; console = c.turn.ensures.console; log = c.turn.ensures.log; size = c.turn.ensures.table })
       c.end_turn.ensures.closed c.end_turn.ensures.current c.end_turn.ensures.room c.loop-i.invariant.serving;
+  shows = c.turn.ensures.shows;
 }
 
 pub returns : goal.returns
@@ -33,4 +34,5 @@ returns c = record {
   turns = serving_over c.args.round c.args.budget c.args.waiting c.loop-i.i _ c.args.harts.now c.loop-i.harts c.args.pages.now c.loop-i.pages c.args.table.now c.loop-i.table c.args.console.now c.loop-i.console c.args.log.now c.loop-i.log c.loop-i.auto.harts c.loop-i-test.false c.loop-i.invariant.serving;
   table = c.loop-i.invariant.serving.size;
   current = c.loop-i.invariant.serving.current;
+  shows = c.loop-i.invariant.shows;
 }

@@ -9,17 +9,17 @@ use Rattle.serial_phase.proofs.PlainSteps.{good_step, all_room, if_ok, on_ok}
 use Rattle.serial_phase.proofs.plain.plain.Goals as goal
 
 pub unwrap-answer-requires : goal.unwrap-answer-requires
-unwrap-answer-requires c = c.step.ensures.room (all_room c.args.pages.now c.args.h.now _ c.count-pages.ensures.pages c.count-pages.ensures.bytes c.requires.room)
+unwrap-answer-requires c = c.step_decoded.ensures.room (all_room c.args.pages.now c.args.h.now _ c.count-pages.ensures.pages c.count-pages.ensures.bytes c.requires.room)
 
 pub note_answer-requires : goal.note_answer-requires
-note_answer-requires c = subst IsPlainAnswer (sym (if_ok _ _ _ c.unwrap-answer.ensures c.step.ensures.answer)) (good_step c.args.pages.now.memory c.args.h.now).plain
+note_answer-requires c = subst IsPlainAnswer (sym (if_ok _ _ _ c.unwrap-answer.ensures c.step_decoded.ensures.answer)) (good_step c.args.pages.now.memory c.args.h.now).plain
 
 pub returns : goal.returns
 returns c =
-    let e = if_ok (λ s. s ≡ (stepped c.args.h.now c.args.pages.now.memory).answer) _ _ c.unwrap-answer.ensures c.step.ensures.answer in
+    let e = if_ok (λ s. s ≡ (stepped c.args.h.now c.args.pages.now.memory).answer) _ _ c.unwrap-answer.ensures c.step_decoded.ensures.answer in
     record {
       answer = e;
-      hart = on_ok _ _ _ c.unwrap-answer.ensures c.step.ensures.hart;
-      pages = on_ok _ _ _ c.unwrap-answer.ensures c.step.ensures.takes;
+      hart = on_ok _ _ _ c.unwrap-answer.ensures c.step_decoded.ensures.hart;
+      pages = on_ok _ _ _ c.unwrap-answer.ensures c.step_decoded.ensures.takes;
       table = c.note_answer.ensures ∙ ap (λ (s : Stepped). answered_table c.args.hart s c.args.table.now) e;
     }

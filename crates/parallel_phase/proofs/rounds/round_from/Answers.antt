@@ -7,28 +7,27 @@ use Rattle.round_schedule.specs.Schedule.{hart_round_of}
 use Rattle.round_lock.specs.Starts.{Start, content_of, round_at}
 use Rattle.round_lock.proofs.Contents.{round_at_is}
 use Rattle.parallel_phase.proofs.HartRounds.{content_is, indexed, shows_through}
-use Rattle.parallel_phase.proofs.rounds.hart_round.Goals as goal
+use Rattle.parallel_phase.proofs.rounds.round_from.Goals as goal
 
 pub hart_round-requires : goal.hart_round-requires
-hart_round-requires g c =
+hart_round-requires c =
     let first = c.table.result.now.first in
     let words = c.table.result.now.instructions in
     shows_through c.pages-pages.result.now.memory c.new-view.result first words c.new-view.ensures
     (subst (λ (m : Memory). Shows m first words) (sym c.pages-pages.ensures) c.table.ensures)
 
-pub new-requires : goal.new-requires
-new-requires g c =
+pub returns : goal.returns
+returns c =
     let s : Start = c.args.start.now in
-    let n = c.hart-number.result in
+    let n = c.args.number in
     let h : Hart = get_or c.harts.result.now n record { x = []; pc = 0; done = 0; stop = None } in
     let q = get_or c.quotas.result.now n 0 in
-    let lt : n < length s.harts = (let a = c.hart-number.ensures in let b = c.requires.hart in omega arith) in
+    let lt : n < length s.harts = c.requires in
     let hart : slice_get s.harts n ≡ Some h = subst (λ (hs : List Hart). slice_get hs n ≡ Some h) c.harts.ensures.harts
     (indexed c.harts.result.now n record { x = []; pc = 0; done = 0; stop = None } (let e = ap (λ (hs : List Hart). length hs) c.harts.ensures.harts in omega arith)) in
     let quota : slice_get s.quotas n ≡ Some q = subst (λ (qs : List ℕ). slice_get qs n ≡ Some q) c.quotas.ensures.quotas
     (indexed c.quotas.result.now n 0 (let e = c.quotas.ensures.sized in omega arith)) in
     let content = content_is c.pages-pages.result.now.memory c.new-view.result c.hart_round.new.b q h c.hart_round.new.h c.new-accesses.result.items c.hart_round.new.log.items
     c.in_ok-waits.waits c.into_buffer.result c.new-view.ensures c.new-accesses.ensures.items c.in_ok-waits.ensures.round c.into_buffer.ensures in
-    ap (λ (t : Start). round_at t c.args.ticket.hart) (sym c.requires.start) ∙ (ap (round_at s) (sym c.hart-number.ensures)
-    ∙ (round_at_is s n q h hart quota
-    ∙ (ap (λ (m : Memory). Some (content_of (hart_round_of (words_of m.code) m.bytes q h))) (sym c.pages-pages.ensures) ∙ ap Some content)))
+    round_at_is s n q h hart quota
+    ∙ (ap (λ (m : Memory). Some (content_of (hart_round_of (words_of m.code) m.bytes q h))) (sym c.pages-pages.ensures) ∙ ap Some content)
