@@ -9,6 +9,7 @@ pub mod Bytes
 pub mod ByWord
 pub mod Soundness
 pub mod Formation
+pub mod Stopping
 pub mod Listed
 pub mod Paused
 mod Zeroed

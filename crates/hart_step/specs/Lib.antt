@@ -13,5 +13,6 @@ pub mod Room
 pub mod Rounds
 pub mod SerialStep
 pub mod Step
+pub mod Stops
 pub mod Waiting
 pub mod Words

@@ -1,5 +1,6 @@
 //! Laws of the effects of instructions, for proofs.
 ghost use Rattle.hart_step.specs.Laws.{IsSound, CountsDone, HasForms};
+ghost use Rattle.hart_step.specs.Stops.{StopsFit};
 ghost use Rattle.hart_step.specs.Waiting.{WaitsExactly, WaitsUnchanged};
 
 /// In the parallel phase a hart waits exactly before a serial word, and then nothing changes.
@@ -23,4 +24,10 @@ pub fn done_counts_instructions()
 /// fit the width, and an LR, an SC and an AMO have a word or a doubleword.
 pub fn accesses_have_their_forms()
     ensures { HasForms }
+{}
+
+/// An instruction that stops its hart gives a code of 1 to 10, and a value with the exit call alone; any other
+/// instruction leaves why the hart stopped as it was.
+pub fn stops_have_their_codes()
+    ensures { StopsFit }
 {}

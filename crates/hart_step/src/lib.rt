@@ -23,7 +23,7 @@ pub use direct::Direct;
 pub use hart::{Hart, Stop};
 pub use laws::{
     accesses_have_their_forms, done_counts_instructions, instructions_are_sound,
-    waits_before_serial_words,
+    stops_have_their_codes, waits_before_serial_words,
 };
 pub use round_schedule::{Access, Span, Stepped};
 pub use rounds::hart_round;

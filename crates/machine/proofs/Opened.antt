@@ -1,5 +1,5 @@
 -- The parts of a machine before the first round.
-use Rattle.std.proofs.Common.{◌≡◌, ℕ, zero, suc, ◌*◌, List, [], length, get_or, replicate, Option, None, refl, ap, ◌∙◌}
+use Rattle.std.proofs.Common.{◌≡◌, ℕ, zero, suc, ◌*◌, true, List, [], length, All, arith, get_or, replicate, Option, None, refl, ap, ◌∙◌}
 use Rattle.pages.specs.declared.access.Piece.{Piece}
 use Rattle.pages.specs.declared.access.Range.{Range}
 use Rattle.pages.specs.Initial.{initial, bytes_from}
@@ -7,7 +7,10 @@ use Rattle.pages.specs.Paged.{Paged}
 use Rattle.round_schedule.specs.declared.span.Span.{Span}
 use Rattle.round_schedule.specs.Held.{held}
 use Rattle.round_schedule.specs.Tables.{Tied, entry}
-use Rattle.machine.specs.Machine.{opening_harts}
+use Rattle.std.proofs.lemmas.List.Elements.{All-cons}
+use Rattle.hart_step.specs.declared.hart.Hart.{Hart}
+use Rattle.hart_step.specs.Stops.{has_stop}
+use Rattle.machine.specs.Machine.{opening_hart, opening_harts}
 
 pub length-opening : (e n i k : ℕ) → length (opening_harts e n i k) ≡ k
 length-opening e n i zero = refl
@@ -32,3 +35,7 @@ initial_bytes count pieces code p e = ap (λ (q : Paged). q.memory.bytes) e
 pub initial_code : (count : ℕ) (pieces : List Piece) (code : List Range) (p : Paged) → p ≡ initial count pieces code → p.memory.code ≡ code
 unfolding initial
 initial_code count pieces code p e = ap (λ (q : Paged). q.memory.code) e
+
+pub none_stopped : (e n i k : ℕ) → All (λ (h : Hart). has_stop h.stop ≡ true) (opening_harts e n i k)
+none_stopped e n i zero = λ j d l. absurd (omega (arith, l))
+none_stopped e n i (suc k) = All-cons (λ (h : Hart). has_stop h.stop ≡ true) (opening_hart e n i) (opening_harts e n (suc i) k) refl (none_stopped e n (suc i) k)

@@ -59,7 +59,7 @@ next_is_trace plan n hs p t c es small size tied table quotas budget few tr plac
     (round_leaves_trace W (λ (h : Hart). h.done) (has_forms p.memory.code) (counts_done p.memory.code) (most_of_round * n) 1000000 plan.budget (quotas_of plan) m.state (low plan quotas)
     (omega (arith, budget, few)) small (omega (arith, size)) tr placed)
 
-placed_more : (a b : ℕ) (hs : List Hart) (t : List Event) → a ≤ b → Placed (λ (h : Hart). h.done) a hs t → Placed (λ (h : Hart). h.done) b hs t
+pub placed_more : (a b : ℕ) (hs : List Hart) (t : List Event) → a ≤ b → Placed (λ (h : Hart). h.done) a hs t → Placed (λ (h : Hart). h.done) b hs t
 placed_more a b hs t l p = record {
   rising = p.rising;
   below = p.below;

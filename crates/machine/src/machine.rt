@@ -1,7 +1,8 @@
-ghost use Rattle.std.specs.Prelude.{◌≡◌, ℕ, ◌<◌, ◌≤◌, length, slice_index, Some, None, IfOk, IfErr};
+ghost use Rattle.std.specs.Prelude.{◌≡◌, ℕ, ◌<◌, ◌≤◌, All, length, slice_index, Some, None, true, IfOk, IfErr};
 ghost use Rattle.pages.specs.Memory.{IsBytes};
 ghost use Rattle.host_io.specs.declared.error.RunError.TheVariants as refusals;
 ghost use Rattle.memory_order.specs.Traced.{opening_at};
+ghost use Rattle.hart_step.specs.Stops.{has_stop};
 ghost use Rattle.machine.specs.Machine.{opening};
 
 use crate::decoding::decode_code;
@@ -29,6 +30,8 @@ pub struct Machine {
     pub(crate) trace: Trace,
     pub(crate) plan: Plan,
     pub(crate) rounds: u32,
+    /// How many instructions the last round of `run` did, where there was one: about what the next has to do.
+    pub(crate) work: Option<u64>,
 }
 
 impl Model for Machine {
@@ -68,12 +71,14 @@ impl Machine {
             trace: Trace::new(alloc, image.into_pieces()),
             plan,
             rounds: 0,
+            work: None,
         })
     }
 
-    /// The harts, in hart order.
+    /// The harts, in hart order. One that has stopped did so with a code of 1 to 10, and with a value in the exit call alone.
     pub fn harts(&self) -> &[Hart]
-        ensures { result.now ≡ self.now.state.harts }
+        ensures harts { result.now ≡ self.now.state.harts }
+        ensures stops { All (λ h. has_stop h.stop ≡ true) result.now }
     {
         self.harts.as_slice()
     }

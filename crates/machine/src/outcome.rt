@@ -83,10 +83,7 @@ fn outcomes_by<B: BookStart + Send + Sync, G: Gate + Sync, R: Threads + Wait + S
 }
 
 /// Does the rounds of all harts on the calling thread, in hart order.
-fn outcomes_alone<G: Gate>(
-    gate: &G,
-    start: &RoundStart<'_>,
-) -> Result<Vec<Outcome>, OutOfMemory>
+fn outcomes_alone<G: Gate>(gate: &G, start: &RoundStart<'_>) -> Result<Vec<Outcome>, OutOfMemory>
     requires sized { length start.now.quotas ≡ length start.now.harts }
     ensures { IfOk result (λ os. AreOutcomes start.now.memory (rounds_of start.now) os.items) }
 {

@@ -39,7 +39,8 @@ impl Machine {
     /// Does one round, on 1 to 16 workers, which call the gate around the round of each hart, and then share the commit.
     /// It may wait.
     ///
-    /// How many workers there are makes no difference to the machine. Where all harts have stopped, no thread is started.
+    /// How many workers there are makes no difference to the machine. All of them are started, as many as are told, also where
+    /// fewer harts run.
     ///
     /// # Errors
     ///
@@ -78,12 +79,12 @@ impl Machine {
     /// Does so many rounds, on 1 to 16 workers. It may wait.
     ///
     /// How many workers there are makes no difference to the machine. A round in which there is little to do stays on the
-    /// calling thread, and so does a commit of few stores.
+    /// calling thread, and so does a commit of few stores. Once all harts have stopped, the rounds that are left cost nothing.
     ///
     /// # Errors
     ///
-    /// `WorkersOutOfRange`, and `RoundsExhausted` where there would be more than 4,294,967,295 rounds: the machine is as
-    /// it was then. `OutOfMemory`: fewer rounds are done, each of them whole.
+    /// `WorkersOutOfRange`: the machine is as it was. `RoundsExhausted` where there would be more than 4,294,967,295 rounds:
+    /// those that fit are done. `OutOfMemory`: fewer rounds are done, each of them whole.
     pub fn run<R: Threads + Wait + Sync>(
         &mut self,
         rt: &R,
@@ -91,38 +92,91 @@ impl Machine {
         workers: u32,
     ) -> Result<(), RunError>
         ensures ok { OnOk result (self.new ≡ after_rounds rounds self.old) }
-        ensures err { OnErr result ((k : ℕ) × (k ≤ rounds) × (self.new ≡ after_rounds k self.old)) }
+        ensures enough { OnOk result (self.old.state.rounds + rounds < 2 ^ 32) }
         ensures fewer { result ≡ Err refusals.OutOfMemory → (k : ℕ) × (k < rounds) × (self.new ≡ after_rounds k self.old) }
-        ensures workers { (workers < 1) ⊎ (16 < workers) → result ≡ Err refusals.WorkersOutOfRange }
-        ensures exhausted { 1 ≤ workers → workers ≤ 16 → 2 ^ 32 ≤ self.old.state.rounds + rounds → result ≡ Err refusals.RoundsExhausted }
+        ensures exhausted { result ≡ Err refusals.RoundsExhausted → (2 ^ 32 ≤ self.old.state.rounds + rounds) × (self.new ≡ after_rounds (2 ^ 32 - 1 - self.old.state.rounds) self.old) }
+        ensures workers { (workers < 1) ⊎ (16 < workers) → (result ≡ Err refusals.WorkersOutOfRange) × (self.new ≡ self.old) }
+        ensures errors { 1 ≤ workers → workers ≤ 16 → IfErr result (λ e. (e ≡ refusals.OutOfMemory) ⊎ (e ≡ refusals.RoundsExhausted)) }
         ensures refused { 1 ≤ workers → workers ≤ 16 → self.old.state.rounds + rounds < 2 ^ 32 → IfErr result (λ e. e ≡ refusals.OutOfMemory) }
-        ensures as_before { IfErr result (λ e. (e ≡ refusals.OutOfMemory) ⊎ (self.new ≡ self.old)) }
     {
         if workers < 1 || workers > MOST_WORKERS {
             return Err(RunError::WorkersOutOfRange);
         }
-        if rounds > u32::MAX - self.rounds {
+        let left = u32::MAX - self.rounds;
+        if rounds > left {
+            self.run_within(rt, left, workers)?;
             return Err(RunError::RoundsExhausted);
         }
-        // A round has about as much to do as the one before; the first, as much as the plan allows.
-        let mut work = self.most_work();
+        self.run_within(rt, rounds, workers)?;
+        Ok(())
+    }
+
+    /// Does so many rounds, where as many can be counted.
+    fn run_within<R: Threads + Wait + Sync>(
+        &mut self,
+        rt: &R,
+        rounds: u32,
+        workers: u32,
+    ) -> Result<(), OutOfMemory>
+        requires workers { (1 ≤ workers) × (workers ≤ 16) }
+        requires rounds { self.old.state.rounds + rounds < 2 ^ 32 }
+        ensures ok { OnOk result (self.new ≡ after_rounds rounds self.old) }
+        ensures fewer { OnErr result ((k : ℕ) × (k < rounds) × (self.new ≡ after_rounds k self.old)) }
+    {
         for done in 0..rounds {
-            let before = self.instructions_done();
-            self.round_by(Crew {
-                rt,
-                workers: workers_for(work, self.running_harts(), workers),
-                gate: &Open,
-                least_lines: MANY_LINES,
-            })?;
-            work = self.instructions_done().wrapping_sub(before);
+            if self.running_harts() == 0 {
+                self.pass(rounds - done);
+                return Ok(());
+            }
+            self.round_of_run(rt, workers)?;
         }
         Ok(())
     }
 
-    /// Does one round by a crew. Where all harts have stopped, the calling thread does it alone.
+    /// Does one round, on as many workers as it is worth.
+    fn round_of_run<R: Threads + Wait + Sync>(
+        &mut self,
+        rt: &R,
+        workers: u32,
+    ) -> Result<(), OutOfMemory>
+        requires workers { (1 ≤ workers) × (workers ≤ 16) }
+        requires rounds { self.old.state.rounds + 1 < 2 ^ 32 }
+        ensures ok { OnOk result (self.new ≡ after_round self.old) }
+        ensures one_more { OnOk result (self.new.state.rounds ≡ self.old.state.rounds + 1) }
+        ensures err { OnErr result (self.new ≡ self.old) }
+    {
+        let before = self.instructions_done();
+        let workers = workers_for(self.expected_work(), self.running_harts(), workers);
+        self.round_by(Crew {
+            rt,
+            workers,
+            gate: &Open,
+            least_lines: MANY_LINES,
+        })?;
+        self.note_work(before);
+        Ok(())
+    }
+
+    /// Notes how many instructions the last round did, where so many were done before it.
+    fn note_work(&mut self, before: u64)
+        ensures { self.new ≡ self.old }
+    {
+        self.work = Some(self.instructions_done().wrapping_sub(before));
+    }
+
+    /// Does so many rounds of a machine whose harts have all stopped.
+    fn pass(&mut self, rounds: u32)
+        requires stopped { count_stopped self.old.state.harts ≡ length self.old.state.harts }
+        requires rounds { self.old.state.rounds + rounds < 2 ^ 32 }
+        ensures { self.new ≡ after_rounds rounds self.old }
+    {
+        self.rounds += rounds;
+    }
+
+    /// Does one round by a crew.
     fn round_by<G: Gate + Sync, R: Threads + Wait + Sync>(
         &mut self,
-        mut crew: Crew<'_, G, R>,
+        crew: Crew<'_, G, R>,
     ) -> Result<RoundNote, OutOfMemory>
         requires workers { (1 ≤ crew.workers) × (crew.workers ≤ 16) }
         requires rounds { self.old.state.rounds + 1 < 2 ^ 32 }
@@ -140,9 +194,6 @@ impl Machine {
         let _budget = self.plan.budget();
         let _pages = self.pages.count();
         let _events = self.trace.len();
-        if self.running_harts() == 0 {
-            crew.workers = 1;
-        }
         let waited = do_round(
             &crew,
             &mut self.pages,
@@ -173,10 +224,20 @@ impl Machine {
     }
 
     /// How many harts have not stopped.
-    fn running_harts(&self) -> u32 {
+    fn running_harts(&self) -> u32
+        ensures { result + count_stopped self.now.state.harts ≡ length self.now.state.harts }
+    {
         // At most 64.
         let _harts = self.plan.harts();
         self.harts.len() as u32 - stopped_count(&self.harts)
+    }
+
+    /// About how many instructions the harts do together in the next round: as many as in the last one, or as the plan allows.
+    fn expected_work(&self) -> u64 {
+        match self.work {
+            Some(work) => work,
+            None => self.most_work(),
+        }
     }
 
     /// How many instructions the harts may do together in the next round, outside their serial turns.

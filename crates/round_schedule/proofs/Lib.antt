@@ -6,6 +6,8 @@ pub mod Local
 pub mod Longest
 pub mod Machines
 pub mod Phases
+pub mod Preserved
 pub mod Rising
 pub mod Runs
+pub mod Stopped
 pub mod Tabling

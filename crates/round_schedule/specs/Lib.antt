@@ -6,8 +6,10 @@ pub mod Held
 pub mod HeldBy
 pub mod Places
 pub mod Positions
+pub mod Preserved
 pub mod RoundTrace
 pub mod Schedule
 pub mod Sound
 pub mod Spans
+pub mod Stopped
 pub mod Tables

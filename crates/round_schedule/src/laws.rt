@@ -4,8 +4,10 @@ ghost use Rattle.round_schedule.specs.HeldBy.{HeldIsByLastReserve};
 ghost use Rattle.round_schedule.specs.ByTable.{RoundsByTable, RunsByTable};
 ghost use Rattle.round_schedule.specs.Desk.{SerialPhaseByTable};
 ghost use Rattle.round_schedule.specs.Places.{EventsPass, PlacesOfRunsRise};
+ghost use Rattle.round_schedule.specs.Preserved.{RoundsPreserve};
 ghost use Rattle.round_schedule.specs.Schedule.{CommitIsLastStore, HartRoundIsLongest};
 ghost use Rattle.round_schedule.specs.Sound.{TracesAreRoundTraces};
+ghost use Rattle.round_schedule.specs.Stopped.{StoppedRunsPass};
 
 /// A hart's round is the one longest sequence of its instructions.
 ///
@@ -66,4 +68,14 @@ pub fn places_of_runs_rise<H, C>()
 /// What each access that an instruction leaves passes, the access of each event of a run passes.
 pub fn events_pass<H, C>()
     ensures { EventsPass H C }
+{}
+
+/// A test that each instruction preserves of its hart, a round preserves of all harts.
+pub fn rounds_preserve<H, C>()
+    ensures { RoundsPreserve H C }
+{}
+
+/// Where all harts have stopped, so many rounds change nothing but the number of rounds.
+pub fn stopped_runs_pass<H, C>()
+    ensures { StoppedRunsPass H C }
 {}

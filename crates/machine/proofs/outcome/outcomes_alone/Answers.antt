@@ -18,6 +18,6 @@ loop-number-preserved g c =
     let o : Outcome = record { hart = c.in_ok-hart.hart; buffer = c.in_ok-hart.buffer; log = c.of.result; waits = c.in_ok-hart.waits } in
     let low : n < length s.harts = subst (λ (hs : List Hart). n < length hs) c.harts-number-end.ensures.harts c.loop-number-test.true in
     outcomes_more s.memory s.quotas s.harts n none _ c.loop-number.outcomes.items c.add.new.outcomes.items o
-        low refl c.in_ok-add.ensures c.loop-number.invariant
-        (is_outcome s n none (content_from c.in_ok-hart.hart c.in_ok-hart.buffer c.in_ok-hart.accesses.items c.in_ok-hart.waits) o low c.requires.sized c.in_ok-hart.ensures
-        (ap (λ (as' : List Access). content_from c.in_ok-hart.hart c.in_ok-hart.buffer as' c.in_ok-hart.waits) (sym c.of.ensures)))
+    low refl c.in_ok-add.ensures c.loop-number.invariant
+    (is_outcome s n none (content_from c.in_ok-hart.hart c.in_ok-hart.buffer c.in_ok-hart.accesses.items c.in_ok-hart.waits) o low c.requires.sized c.in_ok-hart.ensures
+    (ap (λ (as' : List Access). content_from c.in_ok-hart.hart c.in_ok-hart.buffer as' c.in_ok-hart.waits) (sym c.of.ensures)))

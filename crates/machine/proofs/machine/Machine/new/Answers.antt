@@ -1,4 +1,4 @@
-use Rattle.std.proofs.Common.{◌≡◌, ◌*◌, ℕ, List, [], length, map, sym, ap, ◌∙◌, subst, arith}
+use Rattle.std.proofs.Common.{◌≡◌, ◌*◌, ℕ, true, All, List, [], length, map, sym, ap, ◌∙◌, subst, arith}
 use Rattle.std.proofs.lemmas.List.{length-replicate}
 use Rattle.pages.specs.declared.access.Range.{Range}
 use Rattle.pages.specs.Initial.{bytes_from}
@@ -11,7 +11,8 @@ use Rattle.round_schedule.specs.Places.{Placed}
 use Rattle.memory_order.specs.Traced.{Laid, laid, opening_at, opening_bytes}
 use Rattle.memory_order.proofs.Openings.{bytes_of_pieces, none_beyond}
 use Rattle.machine.proofs.TraceKept.{placed_first}
-use Rattle.machine.proofs.Opened.{length-opening, tied_first, initial_bytes, initial_code}
+use Rattle.machine.proofs.Opened.{length-opening, none_stopped, tied_first, initial_bytes, initial_code}
+use Rattle.hart_step.specs.Stops.{has_stop}
 use Rattle.machine.proofs.machine.Machine.new.Goals as goal
 
 pub invariant_of-result : goal.invariant_of-result
@@ -21,6 +22,7 @@ invariant_of-result c = record {
   tied = subst (λ (t : List Event). Tied c.new-2.result t) (sym c.new-5.ensures.events) (tied_first c.harts-2.result c.new-2.result c.new-2.ensures);
   placed = subst (λ (es : List Event). Placed (λ (h : Hart). h.done) 0 c.in_ok-harts.harts.items es) (sym c.new-5.ensures.events)
       (subst (λ (hs : List Hart). Placed (λ (h : Hart). h.done) 0 hs []) (sym c.in_ok-harts.ensures) (placed_first c.entry-entry.result c.harts.result 0 c.harts.result));
+  stops = subst (λ (hs : List Hart). All (λ (h : Hart). has_stop h.stop ≡ true) hs) (sym c.in_ok-harts.ensures) (none_stopped c.entry-entry.result c.harts.result 0 c.harts.result);
   shows = c.in_ok-table.ensures;
   beyond = λ x l.
       let p = c.in_ok-pages.pages in

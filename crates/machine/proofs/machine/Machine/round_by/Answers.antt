@@ -1,9 +1,12 @@
-use Rattle.std.proofs.Common.{ℕ, ◌+◌, List, length, refl, sym, ap, ◌∙◌, arith}
+use Rattle.std.proofs.Common.{◌≡◌, ℕ, ◌+◌, true, All, List, length, refl, sym, ap, ◌∙◌, subst, arith}
 use Rattle.pages.specs.declared.access.Range.{Range}
 use Rattle.round_schedule.specs.Schedule.{State, round_of}
 use Rattle.hart_step.specs.declared.hart.Hart.{Hart}
 use Rattle.hart_step.specs.Console.{ConsoleState}
+use Rattle.hart_step.specs.Stops.{has_stop}
 use Rattle.hart_step.specs.Words.{words_of}
+use Rattle.hart_step.proofs.Stopping.{stops_fit}
+use Rattle.round_schedule.proofs.Preserved.{rounds_preserve}
 use Rattle.round_planner.specs.Quotas.{Planned, quotas_of}
 use Rattle.machine.specs.Machine.{Running, after_round}
 use Rattle.memory_order.specs.Traced.{Laid, opening_at, opening_bytes}
@@ -40,6 +43,8 @@ invariant_of-self-2 g c =
       tied = over.tied;
       placed = next_placed i.plan i.rounds i.harts.items i.pages i.reservations i.console.console i.trace.events (whole o.harts.items o.pages.memory.bytes o.console.console o.trace.events (i.rounds + 1)) over.same
           c.harts-harts.ensures.in_range (omega (arith, c.budget-budget.ensures.budget, c.budget-budget.ensures.few_budget)) (omega (arith, c.requires.rounds, ap (λ (m : Running). m.state.rounds) c.self.view_is)) c.self.invariant.placed;
+      stops = subst (λ (z : State Hart ConsoleState). All (λ (h : Hart). has_stop h.stop ≡ true) z.harts) (sym over.same)
+          (rounds_preserve Hart ConsoleState (words_of i.pages.memory.code) (λ (h : Hart). has_stop h.stop) (stops_fit i.pages.memory.code) i.plan.budget (quotas_of i.plan) (whole i.harts.items i.pages.memory.bytes i.console.console i.trace.events i.rounds) c.self.invariant.stops);
       shows = shows_on i.pages.memory o.pages.memory i.table.first i.table.instructions i.plan.budget (quotas_of i.plan) (whole i.harts.items i.pages.memory.bytes i.console.console i.trace.events i.rounds) refl
           (ap (λ (s : State Hart ConsoleState). s.bytes) over.same) over.code c.self.invariant.shows;
       beyond = λ x l. ap (λ (ps : List Laid). opening_at ps x) c.do_round.ensures.opening ∙ c.self.invariant.beyond x (omega (arith, l, ap (λ (s : State Hart ConsoleState). length s.bytes) over.same, size_kept (words_of i.pages.memory.code) i.plan.budget (quotas_of i.plan) (whole i.harts.items i.pages.memory.bytes i.console.console i.trace.events i.rounds)));
