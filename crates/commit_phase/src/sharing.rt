@@ -11,7 +11,10 @@ use crate::gate::ShardGate;
 use crate::shard::write_all;
 use pages::{Pages, Part};
 use reservations::Reservations;
-use std::thread::{Threads, for_each_chunk_mut};
+use std::thread::{Threads, for_each_chunk_mut, for_each_mut, join_mut};
+
+/// The most workers of a commit.
+const MOST_WORKERS: usize = 16;
 
 /// Commits the buffers of all harts in hart order, as `commit_buffer` does one after another, with so many workers.
 ///
@@ -38,9 +41,39 @@ pub fn commit_on<R: Threads + Sync, B: Buffered + Sync, G: ShardGate + Sync>(
 {
     let count = pages.count();
     let size = count.div_ceil(workers).max(1);
-    write_shards(rt, pages.parts(), size as usize, rounds, gate);
-    pass_empty(count.div_ceil(size), workers, gate);
+    write_beside(rt, pages.parts(), size as usize, rounds, workers, gate);
     break_all(table, rounds);
+}
+
+/// Writes the bytes of all buffers, shard by shard, and tells the gate of the shards that have no page, each on a thread of
+/// its own where one can be started.
+fn write_beside<R: Threads + Sync, B: Buffered + Sync, G: ShardGate + Sync>(
+    rt: &R,
+    parts: &mut [Part],
+    size: usize,
+    rounds: &[B],
+    workers: u32,
+    gate: &G,
+)
+    requires size { 0 < size }
+    requires few { length parts.old ≤ 16384 }
+    requires ready { All (IsShardReady 0 parts.old) (map B.bytes rounds.now) }
+    ensures { ShardWritten 0 (all_buffered (map B.bytes rounds.now)) parts.old parts.new }
+{
+    let empty = parts.len().div_ceil(size) as u32;
+    if empty >= workers {
+        write_shards(rt, parts, size, rounds, gate);
+        return;
+    }
+    join_mut(
+        rt,
+        &mut || pass_empty(rt, empty, workers, gate),
+        &mut ||
+            requires size { 0 < size }
+            requires few { length parts.now ≤ 16384 }
+            requires ready { All (IsShardReady 0 parts.now) (map B.bytes rounds.now) }
+        { write_shards(rt, parts, size, rounds, gate) },
+    );
 }
 
 /// Writes the bytes of all buffers, shard by shard, each on a thread of its own where one can be started.
@@ -83,12 +116,25 @@ fn write_one<B: Buffered, G: ShardGate>(
     gate.done(number);
 }
 
-/// Tells the gate of the shards that have no page.
-fn pass_empty<G: ShardGate>(first: u32, workers: u32, gate: &G) {
-    for number in first..workers {
-        gate.pass(number);
-        gate.done(number);
+/// Tells the gate of the shards that have no page, each on a thread of its own where one can be started.
+fn pass_empty<R: Threads + Sync, G: ShardGate + Sync>(rt: &R, first: u32, workers: u32, gate: &G) {
+    let mut numbers = [0; MOST_WORKERS];
+    let count = workers.saturating_sub(first).min(MOST_WORKERS as u32);
+    for (place, number) in numbers.iter_mut().enumerate() {
+        *number = first.saturating_add(place as u32);
     }
+    for_each_mut(
+        rt,
+        &mut numbers[..count as usize],
+        MOST_WORKERS,
+        &|_, number| pass_one(*number, gate),
+    );
+}
+
+/// Tells the gate of a shard that has no page.
+fn pass_one<G: ShardGate>(number: u32, gate: &G) {
+    gate.pass(number);
+    gate.done(number);
 }
 
 /// Breaks the reservations of which the buffer of another hart has a byte.

@@ -177,3 +177,26 @@ fn two_shards_run_at_once(rt: HostRuntime) -> Result<(), Fail> {
     assert!(rt; meeting.met.load(SeqCst) == 3);
     Ok(())
 }
+
+/// One page that is ready.
+fn one_page(alloc: Global) -> Result<Pages, OutOfMemory> {
+    let piece = Piece {
+        start: 0,
+        bytes: zeros(alloc, 1)?,
+    };
+    Pages::new(alloc, 1, &[piece], &[])
+}
+
+#[test]
+fn an_empty_shard_has_a_worker(rt: HostRuntime) -> Result<(), Fail> {
+    let buffers = Vec::new(rt.alloc());
+    let mut pages = one_page(rt.alloc())?;
+    let mut table = Reservations::new(3);
+    let meeting = Meeting {
+        come: AtomicU32::new(0),
+        met: AtomicU32::new(0),
+    };
+    assert!(rt; commit_all(&rt, &mut pages, &mut table, &buffers, 2, &meeting));
+    assert!(rt; meeting.met.load(SeqCst) == 3);
+    Ok(())
+}
