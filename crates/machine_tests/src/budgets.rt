@@ -5,15 +5,17 @@ use std::alloc::Global;
 use std::sync::Wait;
 use std::thread::Threads;
 
-/// Whether both harts do the echo in one turn of this budget, and are then in this state.
+/// Whether both harts do the echo in one turn of this budget, by so many workers, and are then in this state.
 fn echoes_in_one_turn<R: Threads + Wait + Sync>(
     rt: &R,
     alloc: Global,
     budget: u32,
+    workers: u32,
     state: &str,
 ) -> bool {
     let asked = Settings {
         budget,
+        workers,
         ..settings(2, 1, b"4\n")
     };
     let wanted = format!(in alloc;
@@ -40,8 +42,11 @@ fn echoes_in_one_turn<R: Threads + Wait + Sync>(
 #[test]
 fn echo_in_one_turn(rt: HostRuntime) {
     // the turn ends by the budget, or by a fetch past the code
-    assert!(rt; echoes_in_one_turn(&rt, rt.alloc(), 3, "running"));
-    assert!(rt; echoes_in_one_turn(&rt, rt.alloc(), 4, "stop 3"));
+    for workers in [1, 4, 16] {
+        assert!(rt; echoes_in_one_turn(&rt, rt.alloc(), 3, workers, "running"));
+        assert!(rt; echoes_in_one_turn(&rt, rt.alloc(), 4, workers, "stop 3"));
+        assert!(rt; echoes_in_one_turn(&rt, rt.alloc(), 1000, workers, "stop 3"));
+    }
 }
 
 #[test]
@@ -74,8 +79,9 @@ fn echo_begins(rt: HostRuntime) {
 
 #[test]
 fn lr_and_sc_in_one_turn(rt: HostRuntime) {
-    let asked = Settings {
+    let asked = |workers| Settings {
         budget: 2,
+        workers,
         ..settings(2, 1, b"3 2\n")
     };
     let wanted = "rounds 1\n\
@@ -94,13 +100,16 @@ fn lr_and_sc_in_one_turn(rt: HostRuntime) {
                   1 0 2 s lr - 00000100 8 0000000000000000 -\n\
                   1 0 3 s sc - 00000100 8 - 0000000000000000\n\
                   end\n";
-    assert!(rt; report_is(&rt, rt.alloc(), &RESERVED, &[], &asked, wanted));
+    for workers in [1, 4, 16] {
+        assert!(rt; report_is(&rt, rt.alloc(), &RESERVED, &[], &asked(workers), wanted));
+    }
 }
 
 #[test]
 fn fence_and_load_in_one_turn(rt: HostRuntime) {
-    let asked = Settings {
+    let asked = |workers| Settings {
         budget: 2,
+        workers,
         ..settings(2, 1, b"6\n")
     };
     let wanted = "rounds 1\n\
@@ -128,5 +137,16 @@ fn fence_and_load_in_one_turn(rt: HostRuntime) {
                   1 1 4 s fence 3 3 normal\n\
                   1 1 5 s load - 00000100 8 0000000000000001 -\n\
                   end\n";
-    assert!(rt; report_is(&rt, rt.alloc(), &CROSSED_AND_FENCED, &[], &asked, wanted));
+    for workers in [1, 4, 16] {
+        assert!(rt;
+            report_is(
+                &rt,
+                rt.alloc(),
+                &CROSSED_AND_FENCED,
+                &[],
+                &asked(workers),
+                wanted
+            )
+        );
+    }
 }

@@ -203,10 +203,35 @@ fn refused_rounds(rt: HostRuntime) -> Result<(), Fail> {
             run(&rt, &mut machine, 4_294_967_295, workers) == Err(RunError::WorkersOutOfRange)
         );
     }
+    let after = text_of(rt.alloc(), &machine)?;
+    assert!(rt; after.as_slice() == before.as_slice());
+    Ok(())
+}
+
+/// The report of the two harts that exit, after the last round that is counted.
+const AFTER_ALL_ROUNDS: &[u8] = b"rounds 4294967295\n\
+    hart 0 pc 0000000000000004 done 1 exit 0000000000000000\n\
+    x11 0000000000000002\n\
+    hart 1 pc 0000000000000004 done 1 exit 0000000000000001\n\
+    x10 0000000000000001\n\
+    x11 0000000000000002\n\
+    memory 1\n\
+    00000000 93080000730000000000000000000000\n\
+    output 0\n\
+    trace 0\n\
+    end\n";
+
+#[test]
+fn rounds_that_fit_are_done(rt: HostRuntime) -> Result<(), Fail> {
+    let mut machine = machine_of(rt.alloc(), &EXIT, 2, b"1\n")?;
+    run(&rt, &mut machine, 1, 1)?;
     // one round was done before
     assert!(rt; run(&rt, &mut machine, 4_294_967_295, 16) == Err(RunError::RoundsExhausted));
     assert_eq!(rt; RunError::RoundsExhausted.number(), 54);
-    let after = text_of(rt.alloc(), &machine)?;
-    assert!(rt; after.as_slice() == before.as_slice());
+    assert!(rt; text_of(rt.alloc(), &machine)?.as_slice() == AFTER_ALL_ROUNDS);
+    assert!(rt; noted(&rt, &mut machine, 1) == Err(RunError::RoundsExhausted));
+    assert!(rt; run(&rt, &mut machine, 1, 1) == Err(RunError::RoundsExhausted));
+    assert!(rt; text_of(rt.alloc(), &machine)?.as_slice() == AFTER_ALL_ROUNDS);
+    assert!(rt; run(&rt, &mut machine, 0, 1) == Ok(()));
     Ok(())
 }

@@ -291,10 +291,10 @@ fn two_workers_meet_in_a_round(rt: HostRuntime) -> Result<(), Fail> {
 }
 
 #[test]
-fn stopped_harts_start_no_thread(rt: HostRuntime) -> Result<(), Fail> {
+fn stopped_harts_meet_too(rt: HostRuntime) -> Result<(), Fail> {
     let mut machine = machine_of(rt.alloc(), &EXIT, 2, b"2\n")?;
     assert!(rt; stopped_after(&rt, &mut machine)? == 2);
-    assert!(rt; meet(&rt, &mut machine)? == (false, true));
+    assert!(rt; meet(&rt, &mut machine)? == (true, true));
     Ok(())
 }
 
