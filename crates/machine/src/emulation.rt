@@ -35,6 +35,8 @@ pub fn emulate<S: Sink, R: Threads + Wait + Sync>(
     ensures reports { OnOk result ((plan : Planned) × IsPlan settings.now plan × (S.took out.new ≡ S.took out.old ++ report_after settings.now image.now input.now plan)) }
     // Else it took nothing, or a beginning of that report.
     ensures begun { OnErr result ((S.took out.new ≡ S.took out.old) ⊎ ((plan : Planned) × IsPlan settings.now plan × BeganText (S.took out.old) (S.took out.new) (report_after settings.now image.now input.now plan))) }
+    // Where anything else than memory or the sink refuses, it took nothing.
+    ensures untouched { IfErr result (λ e. (e ≡ refusals.OutOfMemory) ⊎ (e ≡ refusals.SinkFailed) ⊎ (S.took out.new ≡ S.took out.old)) }
     // Numbers out of range are refused first, and then an image.
     ensures settings { (e : Refusal) → settings_fault settings.now ≡ Some e → result ≡ Err e }
     // What is refused then is for a reason that stands.

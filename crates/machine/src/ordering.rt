@@ -34,6 +34,8 @@ pub fn order_run<S: Sink, R: Threads + Wait + Sync>(
     ensures orders { OnOk result ((plan : Planned) × (places : List ℕ) × IsOrderOfRun settings.now image.now input.now plan places × (S.took out.new ≡ S.took out.old ++ ordered_text settings.now image.now input.now plan places)) }
     // Else it took nothing, or a beginning of such a text.
     ensures begun { OnErr result ((S.took out.new ≡ S.took out.old) ⊎ ((plan : Planned) × (places : List ℕ) × IsOrderOfRun settings.now image.now input.now plan places × BeganText (S.took out.old) (S.took out.new) (ordered_text settings.now image.now input.now plan places))) }
+    // Where anything else than memory or the sink refuses, it took nothing.
+    ensures untouched { IfErr result (λ e. (e ≡ refusals.OutOfMemory) ⊎ (e ≡ refusals.SinkFailed) ⊎ (S.took out.new ≡ S.took out.old)) }
     // Numbers out of range are refused first.
     ensures settings { (e : Refusal) → settings_fault settings.now ≡ Some e → result ≡ Err e }
     // What is refused then is for a reason that stands.

@@ -1,4 +1,4 @@
-ghost use Rattle.std.specs.Prelude.{◌≡◌, ℕ, ◌+◌, ◌≤◌, ◌<◌, ◌^◌, List, [], ◌∷◌, ◌++◌, OnOk, OnErr, Option, Some, None, Result, Ok, Err, length, drop, take, codes};
+ghost use Rattle.std.specs.Prelude.{◌⊎◌, IfErr, ◌≡◌, ℕ, ◌+◌, ◌≤◌, ◌<◌, ◌^◌, List, [], ◌∷◌, ◌++◌, OnOk, OnErr, Option, Some, None, Result, Ok, Err, length, drop, take, codes};
 ghost use Rattle.std.specs.Fmt.{decimal};
 ghost use Rattle.host_io.specs.Taken.{BeganText};
 ghost use Rattle.pages.specs.Memory.{width_bytes};
@@ -270,6 +270,10 @@ pub fn hart_lines(line: &mut Line, number: u64, hart: &Hart) -> Result<(), OutOf
 }
 
 /// Writes a hart's lines: its state, and its registers 1 to 31 that are not 0.
+///
+/// # Errors
+///
+/// `OutOfMemory`: nothing is written then. `SinkFailed`: a beginning of the lines is.
 pub fn write_hart<S: Sink>(
     alloc: Global,
     number: u32,
@@ -280,6 +284,7 @@ pub fn write_hart<S: Sink>(
     ensures begun { OnErr result (BeganText (S.took out.old) (S.took out.new) (hart_text number hart.now)) }
     ensures sink { result ≡ Err RunError.SinkFailed → S.failures out.old < S.failures out.new }
     ensures memory { result ≡ Err RunError.OutOfMemory → S.took out.new ≡ S.took out.old }
+    ensures errors { IfErr result (λ e. (e ≡ RunError.OutOfMemory) ⊎ (e ≡ RunError.SinkFailed)) }
 {
     let mut line = Line::new(alloc);
     hart_lines(&mut line, number as u64, hart)?;
@@ -287,11 +292,16 @@ pub fn write_hart<S: Sink>(
 }
 
 /// Writes an event's line.
+///
+/// # Errors
+///
+/// `OutOfMemory`: nothing is written then. `SinkFailed`: a beginning of the line is.
 pub fn write_event<S: Sink>(alloc: Global, event: &Event, out: &mut S) -> Result<(), RunError>
     ensures ok { OnOk result (S.took out.new ≡ S.took out.old ++ event_text event.now) }
     ensures begun { OnErr result (BeganText (S.took out.old) (S.took out.new) (event_text event.now)) }
     ensures sink { result ≡ Err RunError.SinkFailed → S.failures out.old < S.failures out.new }
     ensures memory { result ≡ Err RunError.OutOfMemory → S.took out.new ≡ S.took out.old }
+    ensures errors { IfErr result (λ e. (e ≡ RunError.OutOfMemory) ⊎ (e ≡ RunError.SinkFailed)) }
 {
     let mut line = Line::new(alloc);
     event_line(&mut line, event)?;

@@ -1,4 +1,4 @@
-use Rattle.std.proofs.Common.{◌≡◌, ◌<◌, List, length, [], None, refl, sym, ap, subst}
+use Rattle.std.proofs.Common.{◌<◌, List, length, [], None, refl, sym, ap, subst}
 use Rattle.hart_step.specs.declared.hart.Hart.{Hart}
 use Rattle.round_schedule.specs.declared.access.Access.{Access}
 use Rattle.round_lock.specs.Starts.{Start, content_from}

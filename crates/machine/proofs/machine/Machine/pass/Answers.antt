@@ -1,4 +1,4 @@
-use Rattle.std.proofs.Common.{◌≡◌, ℕ, length, sym, ap, ◌∙◌, subst}
+use Rattle.std.proofs.Common.{◌≡◌, length, sym, ap, ◌∙◌, subst}
 use Rattle.machine.specs.Machine.{Running, after_rounds, count_stopped}
 use Rattle.machine.proofs.Repeated.{passed}
 use Rattle.machine.proofs.machine.Machine.pass.Goals as goal

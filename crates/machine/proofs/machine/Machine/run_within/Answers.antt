@@ -1,5 +1,5 @@
 use Rattle.std.proofs.Common.{◌≡◌, ◌+◌, ◌-◌, ℕ, ◌∙◌, ap, arith}
-use Rattle.machine.specs.Machine.{Running, after_round, after_rounds}
+use Rattle.machine.specs.Machine.{after_round, after_rounds}
 use Rattle.machine.proofs.Repeated.{more_rounds, no_rounds, next_round}
 use Rattle.machine.proofs.machine.Machine.run_within.Goals as goal
 
