@@ -14,7 +14,13 @@ use rv64_decode::Instr;
 
 /// Does an instruction that has no effect of its own in the serial phase, on memory itself. Its store breaks
 /// the reservations of other harts at once.
-pub fn plain(h: &mut Hart, pages: &mut Pages, table: &mut Reservations, hart: u32, i: Instr) -> Stepped
+pub fn plain(
+    h: &mut Hart,
+    pages: &mut Pages,
+    table: &mut Reservations,
+    hart: u32,
+    i: Instr,
+) -> Stepped
     requires known { decoded pages.old.memory h.old.pc ≡ Some i }
     requires room { HasSpares 1 pages.old }
     ensures { Leaves hart (stepped h.old pages.old.memory) result h.new pages.old pages.new table.old table.new }

@@ -1,0 +1,6 @@
+mod Rows
+pub mod Laws
+pub mod Whole
+pub mod Loops
+pub mod Read
+pub mod Written

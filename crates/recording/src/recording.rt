@@ -1,0 +1,178 @@
+ghost use Rattle.std.specs.Prelude.{◌≡◌, ◌↔◌, IsTrue, map};
+ghost use Rattle.recording.specs.Grammar.{recording};
+ghost use Rattle.recording.specs.Views.{kept_view, as_recorded};
+
+use std::marker::Model;
+
+/// What a recording keeps of a hart after a round.
+#[derive(Clone, Copy, Debug, PartialEq, Eq)]
+pub struct HartSummary {
+    /// The address of the next instruction.
+    pub pc: u64,
+    /// How many instructions the hart has done, modulo 2^64.
+    pub done: u64,
+    /// Why it has stopped, and 0 while it runs.
+    pub code: u8,
+    /// The value that the exit call gave, and 0 with every other code than 1.
+    pub value: u64,
+}
+
+/// What a recording keeps of the state after a round.
+#[derive(Drop)]
+pub struct Summary {
+    /// How many bytes of output there are.
+    pub output: u64,
+    /// How many events the trace has.
+    pub trace: u64,
+    /// The harts, in hart order.
+    pub harts: Vec<HartSummary>,
+}
+
+/// What a recording keeps of a round.
+#[derive(Drop)]
+pub struct Kept {
+    /// The summary of the state after it.
+    pub summary: Summary,
+    /// Where they are due, registers x1 to x31 of each hart.
+    pub registers: Option<Vec<Vec<u64>>>,
+}
+
+/// The fields of a recording, whatever their values.
+#[derive(Drop)]
+pub(crate) struct Parts {
+    pub(crate) version: u32,
+    pub(crate) format: u8,
+    pub(crate) harts: u32,
+    pub(crate) pages: u32,
+    pub(crate) rounds: u32,
+    pub(crate) budget: u32,
+    pub(crate) every: u32,
+    pub(crate) image: Vec<u8>,
+    pub(crate) input: Vec<u8>,
+    pub(crate) plan: Vec<u8>,
+    pub(crate) kept: Vec<Kept>,
+}
+
+/// A recording of a run: what the run was asked for, and what is kept of the state after each round.
+///
+/// Each of its fields is in its range, so that it has a text.
+#[derive(Drop)]
+pub struct Recording {
+    parts: Parts,
+}
+
+impl Model for Recording {
+    ghost use Rattle.recording.specs.Grammar.{recording};
+    ghost use Rattle.recording.specs.Recorded.{Recorded};
+    ghost use Rattle.recording.specs.Views.{as_recorded};
+
+    ghost Value = { Recorded };
+
+    ghost view = { λ r. as_recorded r.parts };
+
+    ghost invariant = { λ r. recording.Has (as_recorded r.parts) };
+}
+
+impl Recording {
+    /// The recording of these fields.
+    pub(crate) fn of(parts: Parts) -> Recording
+        requires { recording.Has (as_recorded parts) }
+        ensures { result ≡ as_recorded parts }
+    {
+        Recording { parts }
+    }
+
+    /// Its fields.
+    pub(crate) fn parts(&self) -> &Parts
+        ensures view { as_recorded result.now ≡ self.now }
+        ensures has { recording.Has (as_recorded result.now) }
+    {
+        &self.parts
+    }
+
+    /// Its fields, handed over.
+    pub(crate) fn into_parts(self) -> Parts
+        ensures view { as_recorded result ≡ self }
+        ensures has { recording.Has (as_recorded result) }
+    {
+        let Recording { parts } = self;
+        parts
+    }
+
+    /// The version of its text, 1 or 2.
+    pub fn version(&self) -> u32
+        ensures { result ≡ self.now.version }
+    {
+        self.parts.version
+    }
+
+    /// Whether the image is a flat file; else it is an ELF file.
+    pub fn is_flat(&self) -> bool
+        ensures { IsTrue result ↔ self.now.format ≡ 1 }
+    {
+        self.parts.format == 1
+    }
+
+    /// How many harts there are, 1 to 64.
+    pub fn harts(&self) -> u32
+        ensures { result ≡ self.now.harts }
+    {
+        self.parts.harts
+    }
+
+    /// How many pages of 4,096 bytes guest memory has, 1 to 16,384.
+    pub fn pages(&self) -> u32
+        ensures { result ≡ self.now.pages }
+    {
+        self.parts.pages
+    }
+
+    /// How many rounds were done.
+    pub fn rounds(&self) -> u32
+        ensures { result ≡ self.now.rounds }
+    {
+        self.parts.rounds
+    }
+
+    /// How many instructions a waiting hart may do in its serial turn, 1 to 1,000.
+    pub fn budget(&self) -> u32
+        ensures { result ≡ self.now.budget }
+    {
+        self.parts.budget
+    }
+
+    /// Registers are kept after each round whose number is a multiple of this, and after none where it is 0.
+    pub fn every(&self) -> u32
+        ensures { result ≡ self.now.every }
+    {
+        self.parts.every
+    }
+
+    /// The file of the guest program.
+    pub fn image(&self) -> &[u8]
+        ensures { result.now ≡ self.now.image }
+    {
+        self.parts.image.as_slice()
+    }
+
+    /// What the guest reads.
+    pub fn input(&self) -> &[u8]
+        ensures { result.now ≡ self.now.input }
+    {
+        self.parts.input.as_slice()
+    }
+
+    /// The text of the plan.
+    pub fn plan(&self) -> &[u8]
+        ensures { result.now ≡ self.now.plan }
+    {
+        self.parts.plan.as_slice()
+    }
+
+    /// What is kept of each round, in turn.
+    pub fn kept(&self) -> &[Kept]
+        ensures { map kept_view result.now ≡ self.now.kept }
+    {
+        self.parts.kept.as_slice()
+    }
+}
