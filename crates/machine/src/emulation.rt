@@ -9,7 +9,7 @@ ghost use Rattle.report.specs.Report.{report_of};
 ghost use Rattle.machine.specs.Settings.{IsImage, IsImageCause, IsPlan, IsPlanCause, IsReason, RefusedAs, report_after, settings_fault};
 
 use crate::machine::Machine;
-use crate::prepare::prepare;
+use crate::preparing::prepare;
 use crate::settings::Settings;
 use host_io::{RunError, Sink};
 use report::write_state;

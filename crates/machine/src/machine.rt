@@ -78,6 +78,7 @@ impl Machine {
     /// The harts, in hart order. One that has stopped did so with a code of 1 to 10, and with a value in the exit call alone.
     pub fn harts(&self) -> &[Hart]
         ensures harts { result.now ≡ self.now.state.harts }
+        ensures count { length result.now ≡ self.now.plan.harts }
         ensures stops { All (λ h. has_stop h.stop ≡ true) result.now }
     {
         self.harts.as_slice()

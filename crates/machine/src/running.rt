@@ -93,6 +93,7 @@ impl Machine {
     ) -> Result<(), RunError>
         ensures ok { OnOk result (self.new ≡ after_rounds rounds self.old) }
         ensures enough { OnOk result (self.old.state.rounds + rounds < 2 ^ 32) }
+        ensures counted { OnOk result (self.new.state.rounds ≡ self.old.state.rounds + rounds) }
         ensures fewer { result ≡ Err refusals.OutOfMemory → (k : ℕ) × (k < rounds) × (self.new ≡ after_rounds k self.old) }
         ensures exhausted { result ≡ Err refusals.RoundsExhausted → (2 ^ 32 ≤ self.old.state.rounds + rounds) × (self.new ≡ after_rounds (2 ^ 32 - 1 - self.old.state.rounds) self.old) }
         ensures workers { (workers < 1) ⊎ (16 < workers) → (result ≡ Err refusals.WorkersOutOfRange) × (self.new ≡ self.old) }
@@ -121,6 +122,7 @@ impl Machine {
         requires workers { (1 ≤ workers) × (workers ≤ 16) }
         requires rounds { self.old.state.rounds + rounds < 2 ^ 32 }
         ensures ok { OnOk result (self.new ≡ after_rounds rounds self.old) }
+        ensures counted { OnOk result (self.new.state.rounds ≡ self.old.state.rounds + rounds) }
         ensures fewer { OnErr result ((k : ℕ) × (k < rounds) × (self.new ≡ after_rounds k self.old)) }
     {
         for done in 0..rounds {
@@ -168,7 +170,8 @@ impl Machine {
     fn pass(&mut self, rounds: u32)
         requires stopped { count_stopped self.old.state.harts ≡ length self.old.state.harts }
         requires rounds { self.old.state.rounds + rounds < 2 ^ 32 }
-        ensures { self.new ≡ after_rounds rounds self.old }
+        ensures ok { self.new ≡ after_rounds rounds self.old }
+        ensures counted { self.new.state.rounds ≡ self.old.state.rounds + rounds }
     {
         self.rounds += rounds;
     }

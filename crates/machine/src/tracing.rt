@@ -10,7 +10,7 @@ ghost use Rattle.memory_order.specs.Rvwmo.{MeetsRvwmo};
 ghost use Rattle.memory_order.specs.Traced.{opening_at};
 ghost use Rattle.machine.specs.Settings.{IsImage, IsImageCause, IsPlan, IsPlanCause, IsReason, RefusedAs, image_for, settings_fault, trace_after};
 
-use crate::prepare::prepare;
+use crate::preparing::prepare;
 use crate::settings::Settings;
 use host_io::RunError;
 use memory_order::Trace;

@@ -12,5 +12,5 @@ loop-done-preserved g c = (c.in_ok-round_of_run.ensures.ok ∙ ap after_round c.
 pub returns-then-running_harts-eq0-clause-ok : goal.returns-then-running_harts-eq0-clause-ok
 returns-then-running_harts-eq0-clause-ok g c =
     let all : c.loop-done.done + (c.args.rounds - c.loop-done.done) ≡ c.args.rounds = omega (arith, c.loop-done-test.true) in
-    c.pass.ensures ∙ ap (after_rounds (c.args.rounds - c.loop-done.done)) c.loop-done.invariant.0
+    c.pass.ensures.ok ∙ ap (after_rounds (c.args.rounds - c.loop-done.done)) c.loop-done.invariant.0
     ∙ more_rounds c.loop-done.done (c.args.rounds - c.loop-done.done) c.args.self.now ∙ ap (λ (n : ℕ). after_rounds n c.args.self.now) all

@@ -7,7 +7,7 @@ ghost use Rattle.round_planner.specs.declared.plan_error.PlanError.{PlanError as
 ghost use Rattle.host_io.specs.declared.error.RunError.{RunError as Refusal};
 ghost use Rattle.host_io.specs.declared.error.RunError.TheVariants as refusals;
 ghost use Rattle.machine.specs.Machine.{opening};
-ghost use Rattle.machine.specs.Settings.{IsImage, IsImageCause, IsPlan, IsPlanCause, IsPlanOf, IsReason, RefusedAs, StandsIn, image_for, image_of, settings_fault};
+ghost use Rattle.machine.specs.Settings.{IsImage, IsImageCause, IsInRange, IsPlan, IsPlanCause, IsPlanOf, IsReason, RefusedAs, StandsIn, image_for, image_of, settings_fault};
 
 use crate::machine::Machine;
 use crate::settings::{Format, Settings, check_settings};
@@ -17,6 +17,10 @@ use round_planner::{Plan, PlanError};
 use std::alloc::Global;
 
 /// The machine that the settings ask for, before the first round.
+///
+/// # Errors
+///
+/// The refusals of the settings, then of the image, then of the plan; `OutOfMemory`.
 pub fn prepare(
     alloc: Global,
     image: &[u8],
@@ -26,6 +30,7 @@ pub fn prepare(
     ensures machine { IfOk result (λ m. (plan : Planned) × IsPlan settings.now plan × (m ≡ opening (image_for settings.now image.now) input.now plan)) }
     ensures settings { (e : Refusal) → settings_fault settings.now ≡ Some e → result ≡ Err e }
     ensures workers { IfOk result (λ _. (1 ≤ settings.now.workers) × (settings.now.workers ≤ 16)) }
+    ensures range { IfOk result (λ _. IsInRange settings.now) }
     ensures errors { settings_fault settings.now ≡ None → IfErr result (λ e. IsReason settings.now image.now e) }
     ensures image { (cause : ImageCause) → settings_fault settings.now ≡ None → IsImageCause settings.now image.now cause → RefusedAs (refusals.Image cause) result }
     ensures plan { (cause : PlanCause) → settings_fault settings.now ≡ None → IsImage settings.now image.now → IsPlanCause settings.now cause → RefusedAs (refusals.Plan cause) result }
