@@ -5,6 +5,11 @@ pub mod Holding
 pub mod Local
 pub mod Longest
 pub mod Machines
+pub mod PastAnswers
+pub mod PastAsking
+pub mod PastEnds
+pub mod PastParts
+pub mod PastTurns
 pub mod Phases
 pub mod Preserved
 pub mod Rising

@@ -32,7 +32,7 @@ entry-committed h rs [] j k l e = absurd (omega (arith, l))
 entry-committed h rs (r ∷ table) zero k l e = ap (λ (n : ℕ). unless (covered_by_others n 0 rs) r) (omega (arith, e))
 entry-committed h rs (r ∷ table) (suc j) k l e = entry-committed (suc h) rs table j k (omega (arith, l)) (omega (arith, e))
 
-commits : {H : Type 0} (rs : List (HartRound H)) (table : List (Option Span)) → Commits rs table (committed_table 0 rs table)
+pub commits : {H : Type 0} (rs : List (HartRound H)) (table : List (Option Span)) → Commits rs table (committed_table 0 rs table)
 commits rs table = record { size = length-committed 0 rs table; each = λ h l. entry-committed 0 rs table h h l (omega arith) }
 
 length-hart_rounds : {H C : Type 0} (w : Words H C) (bs : List ℕ) (qs : List ℕ) (hs : List H) → length (hart_rounds w bs qs hs) ≡ length hs

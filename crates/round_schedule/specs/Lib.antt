@@ -4,6 +4,7 @@ pub mod Desk
 pub mod Events
 pub mod Held
 pub mod HeldBy
+pub mod Past
 pub mod Places
 pub mod Positions
 pub mod Preserved

@@ -3,6 +3,7 @@
 ghost use Rattle.round_schedule.specs.HeldBy.{HeldIsByLastReserve};
 ghost use Rattle.round_schedule.specs.ByTable.{RoundsByTable, RunsByTable};
 ghost use Rattle.round_schedule.specs.Desk.{SerialPhaseByTable};
+ghost use Rattle.round_schedule.specs.Past.{PastEndsInRound};
 ghost use Rattle.round_schedule.specs.Places.{EventsPass, PlacesOfRunsRise};
 ghost use Rattle.round_schedule.specs.Preserved.{RoundsPreserve};
 ghost use Rattle.round_schedule.specs.Schedule.{CommitIsLastStore, HartRoundIsLongest};
@@ -78,4 +79,9 @@ pub fn rounds_preserve<H, C>()
 /// Where all harts have stopped, so many rounds change nothing but the number of rounds.
 pub fn stopped_runs_pass<H, C>()
     ensures { StoppedRunsPass H C }
+{}
+
+/// What a hart was after each number of the instructions that it did in a round ends with the hart at the round's end.
+pub fn past_ends_in_round<H, C>()
+    ensures { PastEndsInRound H C }
 {}
