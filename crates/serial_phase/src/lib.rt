@@ -11,7 +11,7 @@ mod word;
 
 pub use console::Console;
 pub use log::SerialLog;
-pub use phase::serial;
+pub use phase::{serial, take_turn};
 
 #[cfg(test)]
 mod tests;

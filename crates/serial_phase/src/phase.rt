@@ -45,7 +45,7 @@ pub fn serial(
 {
     for i in 0..harts.len() {
         let turn_budget = turn_budget(waiting, i, budget);
-        turn(
+        take_turn(
             &mut harts[i],
             pages,
             table,
@@ -68,8 +68,11 @@ fn turn_budget(waiting: u64, i: usize, budget: u32) -> u32
     if (waiting >> i) % 2 == 1 { budget } else { 0 }
 }
 
-/// Does a hart's serial turn: up to `budget` instructions, or to a stop.
-fn turn(
+/// Does the serial turn of one hart, whose number is `hart`: up to `budget` instructions, or to a stop.
+///
+/// It goes on from what is there of memory, reservations and the console, and its accesses become the turn that is under way
+/// in the log. What the turn may need is there before, and what is left of it is there after. So no memory is taken.
+pub fn take_turn(
     h: &mut Hart,
     pages: &mut Pages,
     table: &mut Reservations,

@@ -5,16 +5,16 @@ use Rattle.serial_phase.specs.Roomed.{HasRoom}
 use Rattle.serial_phase.proofs.PhaseUnderWay.{serving_first, needs, serving_next, serving_over}
 use Rattle.serial_phase.proofs.phase.serial.Goals as goal
 
-pub turn-requires-clause-pages : goal.turn-requires-clause-pages
-turn-requires-clause-pages c = subst (λ (b : ℕ). HasSpares b c.loop-i.pages) (sym c.turn_budget-turn_budget.ensures)
+pub take_turn-requires-clause-pages : goal.take_turn-requires-clause-pages
+take_turn-requires-clause-pages c = subst (λ (b : ℕ). HasSpares b c.loop-i.pages) (sym c.turn_budget-turn_budget.ensures)
     (needs c.args.round c.args.budget c.args.waiting c.loop-i.i _ c.args.harts.now c.loop-i.harts c.args.pages.now c.loop-i.pages c.args.table.now c.loop-i.table c.args.console.now c.loop-i.console c.args.log.now c.loop-i.log c.loop-i-test.true c.loop-i.invariant.serving).pages
 
-pub turn-requires-clause-console : goal.turn-requires-clause-console
-turn-requires-clause-console c = subst (λ (b : ℕ). HasRoom b c.loop-i.console) (sym c.turn_budget-turn_budget.ensures)
+pub take_turn-requires-clause-console : goal.take_turn-requires-clause-console
+take_turn-requires-clause-console c = subst (λ (b : ℕ). HasRoom b c.loop-i.console) (sym c.turn_budget-turn_budget.ensures)
     (needs c.args.round c.args.budget c.args.waiting c.loop-i.i _ c.args.harts.now c.loop-i.harts c.args.pages.now c.loop-i.pages c.args.table.now c.loop-i.table c.args.console.now c.loop-i.console c.args.log.now c.loop-i.log c.loop-i-test.true c.loop-i.invariant.serving).console
 
-pub turn-requires-clause-log : goal.turn-requires-clause-log
-turn-requires-clause-log c = subst (λ (b : ℕ). b ≤ c.loop-i.log.room) (sym c.turn_budget-turn_budget.ensures)
+pub take_turn-requires-clause-log : goal.take_turn-requires-clause-log
+take_turn-requires-clause-log c = subst (λ (b : ℕ). b ≤ c.loop-i.log.room) (sym c.turn_budget-turn_budget.ensures)
     (needs c.args.round c.args.budget c.args.waiting c.loop-i.i _ c.args.harts.now c.loop-i.harts c.args.pages.now c.loop-i.pages c.args.table.now c.loop-i.table c.args.console.now c.loop-i.console c.args.log.now c.loop-i.log c.loop-i-test.true c.loop-i.invariant.serving).log
 
 pub loop-i-init : goal.loop-i-init
@@ -22,11 +22,11 @@ loop-i-init c = record { serving = serving_first c.args.round c.args.budget c.ar
 
 pub loop-i-preserved : goal.loop-i-preserved
 loop-i-preserved c = record {
-  serving = serving_next c.args.round c.args.budget c.args.waiting c.loop-i.i c.turn_budget-turn_budget.result _ c.args.harts.now c.loop-i.harts c.args.pages.now c.loop-i.pages c.turn.new.pages c.args.table.now c.loop-i.table c.turn.new.table c.args.console.now c.loop-i.console c.turn.new.console c.args.log.now c.loop-i.log c.turn.new.log c.end_turn.new.self _ c.turn.new.h
+  serving = serving_next c.args.round c.args.budget c.args.waiting c.loop-i.i c.turn_budget-turn_budget.result _ c.args.harts.now c.loop-i.harts c.args.pages.now c.loop-i.pages c.take_turn.new.pages c.args.table.now c.loop-i.table c.take_turn.new.table c.args.console.now c.loop-i.console c.take_turn.new.console c.args.log.now c.loop-i.log c.take_turn.new.log c.end_turn.new.self _ c.take_turn.new.h
       c.turn_budget-turn_budget.ensures c.loop-i-test.true c.loop-i.auto.harts (get_or_default c.loop-i.harts c.loop-i.i _ _ (omega (arith, c.loop-i.auto.harts)))
-      (record { turn = c.turn.ensures.turn; pages = c.turn.ensures.pages; console = c.turn.ensures.console; log = c.turn.ensures.log; size = c.turn.ensures.table })
+      (record { turn = c.take_turn.ensures.turn; pages = c.take_turn.ensures.pages; console = c.take_turn.ensures.console; log = c.take_turn.ensures.log; size = c.take_turn.ensures.table })
       c.end_turn.ensures.closed c.end_turn.ensures.current c.end_turn.ensures.room c.loop-i.invariant.serving;
-  shows = c.turn.ensures.shows;
+  shows = c.take_turn.ensures.shows;
 }
 
 pub returns : goal.returns

@@ -1,7 +1,7 @@
 use Rattle.hart_step.specs.CodeTables.{Shows}
 use Rattle.serial_phase.specs.Phase.{turn_done}
 use Rattle.serial_phase.proofs.TurnUnderWay.{Under}
-use Rattle.serial_phase.proofs.phase.turn.Given as goal
+use Rattle.serial_phase.proofs.phase.take_turn.Given as goal
 
 abbrev pub invariant-loop-left : goal.invariant-loop-left
 invariant-loop-left l = record {
