@@ -4,3 +4,4 @@ pub mod Whole
 pub mod Loops
 pub mod Read
 pub mod Written
+pub mod Counted

@@ -1,4 +1,4 @@
-ghost use Rattle.std.specs.Prelude.{◌≡◌, ◌↔◌, IsTrue, map};
+ghost use Rattle.std.specs.Prelude.{◌≡◌, ◌≤◌, ◌↔◌, IsTrue, length, map};
 ghost use Rattle.recording.specs.Grammar.{recording};
 ghost use Rattle.recording.specs.Views.{kept_view, as_recorded};
 
@@ -39,18 +39,29 @@ pub struct Kept {
 
 /// The fields of a recording, whatever their values.
 #[derive(Drop)]
-pub(crate) struct Parts {
-    pub(crate) version: u32,
-    pub(crate) format: u8,
-    pub(crate) harts: u32,
-    pub(crate) pages: u32,
-    pub(crate) rounds: u32,
-    pub(crate) budget: u32,
-    pub(crate) every: u32,
-    pub(crate) image: Vec<u8>,
-    pub(crate) input: Vec<u8>,
-    pub(crate) plan: Vec<u8>,
-    pub(crate) kept: Vec<Kept>,
+pub struct Parts {
+    /// The version of its text, 1 or 2.
+    pub version: u32,
+    /// How the image is read: 0 as an ELF file, 1 as a flat file.
+    pub format: u8,
+    /// How many harts there are, 1 to 64.
+    pub harts: u32,
+    /// How many pages of 4,096 bytes guest memory has, 1 to 16,384.
+    pub pages: u32,
+    /// How many rounds were done.
+    pub rounds: u32,
+    /// How many instructions a waiting hart may do in its serial turn, 1 to 1,000; 1 in version 1.
+    pub budget: u32,
+    /// Registers are kept after each round whose number is a multiple of this, and after none where it is 0, as in version 1.
+    pub every: u32,
+    /// The file of the guest program.
+    pub image: Vec<u8>,
+    /// What the guest reads.
+    pub input: Vec<u8>,
+    /// The text of the plan.
+    pub plan: Vec<u8>,
+    /// What is kept of each round, in turn.
+    pub kept: Vec<Kept>,
 }
 
 /// A recording of a run: what the run was asked for, and what is kept of the state after each round.
@@ -74,8 +85,8 @@ impl Model for Recording {
 }
 
 impl Recording {
-    /// The recording of these fields.
-    pub(crate) fn of(parts: Parts) -> Recording
+    /// The recording of these fields, each of which is in its range.
+    pub fn of(parts: Parts) -> Recording
         requires { recording.Has (as_recorded parts) }
         ensures { result ≡ as_recorded parts }
     {
@@ -115,14 +126,16 @@ impl Recording {
 
     /// How many harts there are, 1 to 64.
     pub fn harts(&self) -> u32
-        ensures { result ≡ self.now.harts }
+        ensures value { result ≡ self.now.harts }
+        ensures range { (1 ≤ result) × (result ≤ 64) }
     {
         self.parts.harts
     }
 
     /// How many pages of 4,096 bytes guest memory has, 1 to 16,384.
     pub fn pages(&self) -> u32
-        ensures { result ≡ self.now.pages }
+        ensures value { result ≡ self.now.pages }
+        ensures range { (1 ≤ result) × (result ≤ 16384) }
     {
         self.parts.pages
     }
@@ -136,7 +149,8 @@ impl Recording {
 
     /// How many instructions a waiting hart may do in its serial turn, 1 to 1,000.
     pub fn budget(&self) -> u32
-        ensures { result ≡ self.now.budget }
+        ensures value { result ≡ self.now.budget }
+        ensures range { (1 ≤ result) × (result ≤ 1000) }
     {
         self.parts.budget
     }
@@ -171,7 +185,8 @@ impl Recording {
 
     /// What is kept of each round, in turn.
     pub fn kept(&self) -> &[Kept]
-        ensures { map kept_view result.now ≡ self.now.kept }
+        ensures value { map kept_view result.now ≡ self.now.kept }
+        ensures count { length result.now ≡ self.now.rounds }
     {
         self.parts.kept.as_slice()
     }
