@@ -1,0 +1,5 @@
+pub mod Faults
+pub mod First
+pub mod Kept
+pub mod KeptRounds
+pub mod Ranges

@@ -1,0 +1,20 @@
+-- The events of a trace that have a byte in one of some ranges.
+use Rattle.std.specs.Prelude.{ℕ, Bool, List, filter}
+use Rattle.std.specs.List.{list_any}
+use Rattle.pages.specs.declared.access.Range.{Range}
+use Rattle.pages.specs.Memory.{in_range}
+use Rattle.round_schedule.specs.declared.event.Event.{Event}
+use Rattle.round_schedule.specs.Accesses.{address_of, bytes_of}
+use Rattle.round_schedule.specs.Held.{any_byte}
+
+-- whether the address lies in one of the ranges; a range that ends past all addresses does not wrap
+abbrev pub is_watched : List Range → ℕ → Bool
+is_watched ranges x = list_any (λ (r : Range). in_range r.start r.len x) ranges
+
+-- whether one of the bytes that the access speaks of does; a fence speaks of none, a failed store-conditional of those that it did not write
+abbrev pub is_hit : List Range → Event → Bool
+is_hit ranges e = any_byte (is_watched ranges) (address_of e.access) (bytes_of e.access)
+
+-- they are in the order of the trace
+abbrev pub hits : List Range → List Event → List Event
+hits ranges t = filter (is_hit ranges) t

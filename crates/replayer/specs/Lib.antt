@@ -1,0 +1,4 @@
+pub mod Summaries
+pub mod Replayed
+pub mod Refusals
+pub mod Hits

@@ -1,0 +1,37 @@
+-- Why a recording is refused by those who run it: the workers, then the image, then the plan, or want of memory.
+use Rattle.std.specs.Prelude.{◌≡◌, ◌⊎◌, ℕ, ◌<◌, ◌≤◌}
+use Rattle.round_planner.specs.Causes.{IsLeast as IsLeastOfPlan}
+use Rattle.round_planner.specs.declared.plan_error.PlanError.{PlanError as PlanCause}
+use Rattle.elf_loader.specs.Causes.{IsGood, IsLeast as IsLeastOfImage}
+use Rattle.elf_loader.specs.declared.load_error.LoadError.{LoadError as ImageCause}
+use Rattle.host_io.specs.declared.error.RunError.{RunError}
+use Rattle.host_io.specs.declared.error.RunError.TheVariants as refusals
+use Rattle.machine.specs.Settings.{StandsIn}
+use Rattle.recording.specs.Recorded.{Recorded}
+use Rattle.replayer.specs.Replayed.{format_of}
+
+-- 1 to 16 workers
+abbrev pub AreWorkers : ℕ → Type 0
+AreWorkers n = (1 ≤ n) × (n ≤ 16)
+
+abbrev pub AreNoWorkers : ℕ → Type 0
+AreNoWorkers n = (n < 1) ⊎ (16 < n)
+
+-- nothing speaks against its image
+abbrev pub HasImage : Recorded → Type 0
+HasImage r = IsGood (StandsIn (format_of r.format) r.image r.pages)
+
+-- the cause of the least number that speaks against its image
+abbrev pub HasImageCause : Recorded → ImageCause → Type 0
+HasImageCause r cause = IsLeastOfImage (StandsIn (format_of r.format) r.image r.pages) cause
+
+-- the cause of the least number that speaks against the text of its plan
+abbrev pub HasPlanCause : Recorded → PlanCause → Type 0
+HasPlanCause r cause = IsLeastOfPlan r.harts r.plan cause
+
+-- a reason that stands to refuse its run, with workers in range
+abbrev pub HasReason : Recorded → RunError → Type 0
+HasReason r e =
+    (e ≡ refusals.OutOfMemory)
+    ⊎ ((cause : ImageCause) × HasImageCause r cause × (e ≡ refusals.Image cause))
+    ⊎ ((cause : PlanCause) × HasPlanCause r cause × (e ≡ refusals.Plan cause))

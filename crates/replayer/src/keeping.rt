@@ -1,0 +1,231 @@
+ghost use Rattle.std.specs.Prelude.{◌≡◌, ◌≤◌, ◌<◌, ◌↔◌, ◌++◌, ◌∷◌, [], All, true, map, length, IsTrue, IfOk, IfErr, OnOk};
+ghost use Rattle.hart_step.specs.Stops.{has_stop};
+ghost use Rattle.host_io.specs.declared.error.RunError.TheVariants as refusals;
+ghost use Rattle.std.specs.Int.{w64};
+ghost use Rattle.recording.specs.Fields.{HaveEach};
+ghost use Rattle.recording.specs.Grammar.{any, hart_summary, kept_after, registers, summary};
+ghost use Rattle.recording.specs.Views.{hart_view, kept_view, registers_view, summary_view};
+ghost use Rattle.replayer.specs.Summaries.{code_of, hart_summary_of, kept_of, registers_of, summary_of, value_of};
+
+use hart_step::{Hart, Stop};
+use host_io::RunError;
+use machine::Machine;
+use recording::{HartSummary, Kept, Summary};
+use std::alloc::Global;
+
+/// What is kept of the state after a round, with registers where they are due.
+pub(crate) fn keep(
+    alloc: Global,
+    machine: &Machine,
+    every: u32,
+    round: u32,
+) -> Result<Kept, RunError>
+    requires { round ≡ machine.now.state.rounds }
+    ensures kept { IfOk result (λ k. kept_view k ≡ kept_of every machine.now.state) }
+    ensures ranges { IfOk result (λ k. (kept_after machine.now.plan.harts every round).Has (kept_view k)) }
+    ensures refused { IfErr result (λ e. e ≡ refusals.OutOfMemory) }
+{
+    let summary = summary_of(alloc, machine)?;
+    let registers = if every != 0 && round % every == 0 {
+        Some(registers_of_all(alloc, machine.harts())?)
+    } else {
+        None
+    };
+    Ok(Kept { summary, registers })
+}
+
+/// The summary of a state.
+fn summary_of(alloc: Global, machine: &Machine) -> Result<Summary, RunError>
+    ensures summary { IfOk result (λ s. summary_view s ≡ summary_of machine.now.state) }
+    ensures ranges { IfOk result (λ s. (summary machine.now.plan.harts).Has (summary_view s)) }
+    ensures refused { IfErr result (λ e. e ≡ refusals.OutOfMemory) }
+{
+    Ok(Summary {
+        output: machine.output().len() as u64,
+        trace: machine.trace().len() as u64,
+        harts: summaries_of(alloc, machine.harts())?,
+    })
+}
+
+/// The summaries of harts.
+fn summaries_of(alloc: Global, harts: &[Hart]) -> Result<Vec<HartSummary>, RunError>
+    requires { All (λ h. has_stop h.stop ≡ true) harts.now }
+    ensures summaries { IfOk result (λ v. map hart_view v.items ≡ map hart_summary_of harts.now) }
+    ensures ranges { IfOk result (λ v. HaveEach (length harts.now) 0 (λ i. hart_summary) (map hart_view v.items)) }
+    ensures refused { IfErr result (λ e. e ≡ refusals.OutOfMemory) }
+{
+    let mut summaries = Vec::new(alloc);
+    for place in 0..harts.len() {
+        add_summary(&mut summaries, hart_summary_of(&harts[place]))?;
+    }
+    Ok(summaries)
+}
+
+fn add_summary(summaries: &mut Vec<HartSummary>, summary: HartSummary) -> Result<(), RunError>
+    ensures ok { OnOk result (summaries.new.items ≡ summaries.old.items ++ summary ∷ []) }
+    ensures err { IfErr result (λ e. e ≡ refusals.OutOfMemory) }
+{
+    match summaries.push(summary) {
+        Ok(()) => Ok(()),
+        Err(_) => Err(RunError::OutOfMemory),
+    }
+}
+
+/// The summary of a hart.
+fn hart_summary_of(hart: &Hart) -> HartSummary
+    requires { has_stop hart.now.stop ≡ true }
+    ensures summary { hart_view result ≡ hart_summary_of hart.now }
+    ensures ranges { hart_summary.Has (hart_view result) }
+{
+    HartSummary {
+        pc: doubleword(hart.pc),
+        done: doubleword(hart.done),
+        code: code(hart.stop),
+        value: doubleword(value(hart.stop)),
+    }
+}
+
+/// The same number, which eight bytes hold.
+fn doubleword(number: u64) -> u64
+    ensures same { result ≡ number }
+    ensures range { (any w64).Has number }
+{
+    number
+}
+
+/// Registers x1 to x31 of harts.
+fn registers_of_all(alloc: Global, harts: &[Hart]) -> Result<Vec<Vec<u64>>, RunError>
+    ensures registers { IfOk result (λ v. map (λ r. r.items) v.items ≡ map registers_of harts.now) }
+    ensures ranges { IfOk result (λ v. (registers (length harts.now)).Has (map (λ r. r.items) v.items)) }
+    ensures refused { IfErr result (λ e. e ≡ refusals.OutOfMemory) }
+{
+    let mut all = Vec::new(alloc);
+    for place in 0..harts.len() {
+        add_registers(&mut all, registers_of(alloc, &harts[place])?)?;
+    }
+    Ok(all)
+}
+
+fn add_registers(all: &mut Vec<Vec<u64>>, registers: Vec<u64>) -> Result<(), RunError>
+    ensures ok { OnOk result (all.new.items ≡ all.old.items ++ registers ∷ []) }
+    ensures err { IfErr result (λ e. e ≡ refusals.OutOfMemory) }
+{
+    match all.push(registers) {
+        Ok(()) => Ok(()),
+        Err(_) => Err(RunError::OutOfMemory),
+    }
+}
+
+/// Registers x1 to x31 of a hart.
+fn registers_of(alloc: Global, hart: &Hart) -> Result<Vec<u64>, RunError>
+    ensures registers { IfOk result (λ v. v.items ≡ registers_of hart.now) }
+    ensures ranges { IfOk result (λ v. HaveEach 31 1 (λ x. any w64) v.items) }
+    ensures refused { IfErr result (λ e. e ≡ refusals.OutOfMemory) }
+{
+    match hart.x.split_first() {
+        Some((_, registers)) => copied_registers(alloc, registers),
+        None => unreachable!(),
+    }
+}
+
+fn copied_registers(alloc: Global, registers: &[u64]) -> Result<Vec<u64>, RunError>
+    requires { length registers.now ≡ 31 }
+    ensures registers { IfOk result (λ v. v.items ≡ registers.now) }
+    ensures ranges { IfOk result (λ v. HaveEach 31 1 (λ x. any w64) v.items) }
+    ensures refused { IfErr result (λ e. e ≡ refusals.OutOfMemory) }
+{
+    match Vec::from_slice(alloc, registers) {
+        Ok(copy) => Ok(copy),
+        Err(_) => Err(RunError::OutOfMemory),
+    }
+}
+
+/// Whether a hart is what was kept of it.
+fn hart_agrees(kept: &HartSummary, hart: &Hart) -> bool
+    ensures { IsTrue result ↔ hart_view kept.now ≡ hart_summary_of hart.now }
+{
+    kept.pc == hart.pc && kept.done == hart.done && kept.code == code(hart.stop) && kept.value == value(hart.stop)
+}
+
+fn code(stop: Option<Stop>) -> u8
+    ensures { result ≡ code_of stop }
+{
+    match stop {
+        None => 0,
+        Some(stop) => stop.code,
+    }
+}
+
+fn value(stop: Option<Stop>) -> u64
+    ensures { result ≡ value_of stop }
+{
+    match stop {
+        None => 0,
+        Some(stop) => stop.value,
+    }
+}
+
+/// Whether harts are what was kept of them.
+fn harts_agree(kept: &[HartSummary], harts: &[Hart]) -> bool
+    ensures { IsTrue result ↔ map hart_view kept.now ≡ map hart_summary_of harts.now }
+{
+    match (kept, harts) {
+        ([], []) => true,
+        ([first, others @ ..], [hart, rest @ ..]) => hart_agrees(first, hart) && harts_agree(others, rest),
+        _ => false,
+    }
+}
+
+/// Whether the state is what was kept of it, its registers left out.
+fn summary_agrees(kept: &Summary, machine: &Machine) -> bool
+    ensures { IsTrue result ↔ summary_view kept.now ≡ summary_of machine.now.state }
+{
+    kept.output == machine.output().len() as u64
+        && kept.trace == machine.trace().len() as u64
+        && harts_agree(&kept.harts, machine.harts())
+}
+
+/// Whether the state after a round is what was kept of it.
+pub(crate) fn agrees(kept: &Kept, every: u32, round: u32, machine: &Machine) -> bool
+    requires { round ≡ machine.now.state.rounds }
+    ensures { IsTrue result ↔ kept_view kept.now ≡ kept_of every machine.now.state }
+{
+    if !summary_agrees(&kept.summary, machine) {
+        return false;
+    }
+    let due = every != 0 && round % every == 0;
+    match &kept.registers {
+        None => !due,
+        Some(registers) => due && all_registers_agree(registers, machine.harts()),
+    }
+}
+
+/// Whether registers x1 to x31 of harts are what was kept of them.
+fn all_registers_agree(kept: &[Vec<u64>], harts: &[Hart]) -> bool
+    ensures { IsTrue result ↔ map (λ r. r.items) kept.now ≡ map registers_of harts.now }
+{
+    match (kept, harts) {
+        ([], []) => true,
+        ([first, others @ ..], [hart, rest @ ..]) => registers_agree(first, hart) && all_registers_agree(others, rest),
+        _ => false,
+    }
+}
+
+fn registers_agree(kept: &Vec<u64>, hart: &Hart) -> bool
+    ensures { IsTrue result ↔ kept.now.items ≡ registers_of hart.now }
+{
+    match hart.x.split_first() {
+        Some((_, others)) => are_same(kept.as_slice(), others),
+        None => false,
+    }
+}
+
+fn are_same(kept: &[u64], others: &[u64]) -> bool
+    ensures { IsTrue result ↔ kept.now ≡ others.now }
+{
+    match (kept, others) {
+        ([], []) => true,
+        ([first, left @ ..], [other, rest @ ..]) => *first == *other && are_same(left, rest),
+        _ => false,
+    }
+}

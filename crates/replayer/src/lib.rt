@@ -1,0 +1,19 @@
+//! Recordings of runs: made, replayed, and asked which accesses hit some ranges of memory.
+#![tactic(auto)]
+
+mod keeping;
+mod opened;
+mod recorder;
+mod replaying;
+mod verdict;
+mod watching;
+
+pub use recorder::{record, record_with};
+pub use recording::{Cause, ReadError, Recording, migrate, read_recording, write_recording};
+pub use replaying::replay;
+pub use round_schedule::Event as Hit;
+pub use verdict::Verdict;
+pub use watching::watch;
+
+#[cfg(test)]
+mod tests;

@@ -1,0 +1,52 @@
+ghost use Rattle.std.specs.Prelude.{◌≡◌, ◌⊎◌, ◌<◌, ◌≤◌, Some, None, Err, IfOk, IfErr};
+ghost use Rattle.elf_loader.specs.declared.load_error.LoadError.{LoadError as ImageCause};
+ghost use Rattle.round_planner.specs.Quotas.{Planned};
+ghost use Rattle.round_planner.specs.declared.plan_error.PlanError.{PlanError as PlanCause};
+ghost use Rattle.host_io.specs.declared.error.RunError.TheVariants as refusals;
+ghost use Rattle.machine.specs.Settings.{RefusedAs, settings_fault};
+ghost use Rattle.machine.specs.declared.settings.Settings.{Settings as Asked};
+ghost use Rattle.replayer.specs.Refusals.{AreNoWorkers, AreWorkers, HasImage, HasImageCause, HasPlanCause, HasReason};
+ghost use Rattle.replayer.specs.Replayed.{IsPlanFor, format_of, start_of};
+
+use host_io::RunError;
+use machine::{Format, Machine, Settings, prepare};
+use recording::Recording;
+use std::alloc::Global;
+
+/// The machine of a recording's inputs, before the first round.
+#[tactic(auto, using(crate::proofs::Faults::no_workers, crate::proofs::Faults::no_fault))]
+pub(crate) fn opened(
+    alloc: Global,
+    recording: &Recording,
+    workers: u32,
+) -> Result<Machine, RunError>
+    ensures machine { IfOk result (λ m. (plan : Planned) × IsPlanFor recording.now plan × (m ≡ start_of recording.now plan)) }
+    ensures in_range { IfOk result (λ _. AreWorkers workers) }
+    ensures workers { AreNoWorkers workers → result ≡ Err refusals.WorkersOutOfRange }
+    ensures errors { AreWorkers workers → IfErr result (λ e. HasReason recording.now e) }
+    ensures image { (cause : ImageCause) → AreWorkers workers → HasImageCause recording.now cause → RefusedAs (refusals.Image cause) result }
+    ensures plan { (cause : PlanCause) → AreWorkers workers → HasImage recording.now → HasPlanCause recording.now cause → RefusedAs (refusals.Plan cause) result }
+{
+    let settings = settings_of(recording, workers);
+    prepare(alloc, recording.image(), recording.input(), &settings)
+}
+
+/// What a recording says of its run, with so many workers.
+fn settings_of(recording: &Recording, workers: u32) -> Settings<'_>
+    ensures format { result.format ≡ format_of recording.now.format }
+    ensures machine { (result.harts ≡ recording.now.harts) × (result.pages ≡ recording.now.pages) }
+    ensures rounds { (result.rounds ≡ recording.now.rounds) × (result.budget ≡ recording.now.budget) × (result.workers ≡ workers) }
+    ensures plan { result.plan.now ≡ recording.now.plan }
+    ensures bad { AreNoWorkers workers → settings_fault result ≡ Some refusals.WorkersOutOfRange }
+    ensures good { AreWorkers workers → settings_fault result ≡ None }
+{
+    Settings {
+        format: if recording.is_flat() { Format::Flat } else { Format::Elf },
+        harts: recording.harts(),
+        pages: recording.pages(),
+        rounds: recording.rounds(),
+        workers,
+        budget: recording.budget(),
+        plan: recording.plan(),
+    }
+}

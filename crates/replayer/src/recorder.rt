@@ -1,0 +1,163 @@
+ghost use Rattle.std.specs.Prelude.{◌≡◌, ◌≤◌, ◌<◌, ◌^◌, ◌++◌, ◌∷◌, [], map, length, Some, None, Err, IfOk, IfErr, OnOk};
+ghost use Rattle.elf_loader.specs.declared.load_error.LoadError.{LoadError as ImageCause};
+ghost use Rattle.round_planner.specs.Quotas.{Planned};
+ghost use Rattle.round_planner.specs.declared.plan_error.PlanError.{PlanError as PlanCause};
+ghost use Rattle.host_io.specs.declared.error.RunError.{RunError as Refusal};
+ghost use Rattle.host_io.specs.declared.error.RunError.TheVariants as refusals;
+ghost use Rattle.machine.specs.Settings.{IsImage, IsImageCause, IsInRange, IsPlan, IsPlanCause, IsReason, RefusedAs, settings_fault};
+ghost use Rattle.recording.specs.Fields.{HaveEach};
+ghost use Rattle.recording.specs.Grammar.{kept_after};
+ghost use Rattle.recording.specs.Views.{kept_view};
+ghost use Rattle.replayer.specs.Replayed.{number_of, recorded_of, recorded_with};
+ghost use Rattle.replayer.specs.Summaries.{kept_of_rounds};
+
+use crate::keeping::keep;
+use host_io::RunError;
+use machine::{Format, Machine, Settings, prepare};
+use recording::{Kept, Parts, Recording};
+use std::alloc::Global;
+use std::sync::Wait;
+use std::thread::Threads;
+
+/// Runs a guest program for a number of rounds, and records it: what it was asked for, and a summary of the state after each
+/// round. It may wait.
+///
+/// # Errors
+///
+/// The refusals of the settings, then of the image, then of the plan; `OutOfMemory`.
+pub fn record<R: Threads + Wait + Sync>(
+    rt: &R,
+    alloc: Global,
+    image: &[u8],
+    input: &[u8],
+    settings: &Settings<'_>,
+) -> Result<Recording, RunError>
+    ensures recording { IfOk result (λ r. (plan : Planned) × IsPlan settings.now plan × (r ≡ recorded_of settings.now 0 image.now input.now plan)) }
+    ensures settings { (e : Refusal) → settings_fault settings.now ≡ Some e → result ≡ Err e }
+    ensures errors { settings_fault settings.now ≡ None → IfErr result (λ e. IsReason settings.now image.now e) }
+    ensures image { (cause : ImageCause) → settings_fault settings.now ≡ None → IsImageCause settings.now image.now cause → RefusedAs (refusals.Image cause) result }
+    // A plan is refused where the image is good.
+    ensures plan { (cause : PlanCause) → settings_fault settings.now ≡ None → IsImage settings.now image.now → IsPlanCause settings.now cause → RefusedAs (refusals.Plan cause) result }
+{
+    record_with(rt, alloc, image, input, settings, 0)
+}
+
+/// The same with registers after each round whose number is a multiple of `every`, and after none where it is 0.
+///
+/// # Errors
+///
+/// As `record`.
+pub fn record_with<R: Threads + Wait + Sync>(
+    rt: &R,
+    alloc: Global,
+    image: &[u8],
+    input: &[u8],
+    settings: &Settings<'_>,
+    every: u32,
+) -> Result<Recording, RunError>
+    ensures recording { IfOk result (λ r. (plan : Planned) × IsPlan settings.now plan × (r ≡ recorded_of settings.now every image.now input.now plan)) }
+    ensures settings { (e : Refusal) → settings_fault settings.now ≡ Some e → result ≡ Err e }
+    ensures errors { settings_fault settings.now ≡ None → IfErr result (λ e. IsReason settings.now image.now e) }
+    ensures image { (cause : ImageCause) → settings_fault settings.now ≡ None → IsImageCause settings.now image.now cause → RefusedAs (refusals.Image cause) result }
+    // A plan is refused where the image is good.
+    ensures plan { (cause : PlanCause) → settings_fault settings.now ≡ None → IsImage settings.now image.now → IsPlanCause settings.now cause → RefusedAs (refusals.Plan cause) result }
+{
+    let mut machine = prepare(alloc, image, input, settings)?;
+    let kept = keep_rounds(
+        rt,
+        alloc,
+        &mut machine,
+        settings.rounds,
+        every,
+        settings.workers,
+    )?;
+    recording_of(alloc, image, input, settings, every, kept)
+}
+
+/// What is kept of the next rounds of a machine that was just opened, which does them. It may wait.
+fn keep_rounds<R: Threads + Wait + Sync>(
+    rt: &R,
+    alloc: Global,
+    machine: &mut Machine,
+    rounds: u32,
+    every: u32,
+    workers: u32,
+) -> Result<Vec<Kept>, RunError>
+    requires workers { (1 ≤ workers) × (workers ≤ 16) }
+    requires opened { machine.old.state.rounds ≡ 0 }
+    ensures kept { IfOk result (λ v. map kept_view v.items ≡ kept_of_rounds every rounds machine.old) }
+    ensures ranges { IfOk result (λ v. HaveEach rounds 1 (kept_after machine.old.plan.harts every) (map kept_view v.items)) }
+    ensures refused { IfErr result (λ e. e ≡ refusals.OutOfMemory) }
+{
+    let mut kept = Vec::new(alloc);
+    for done in 0..rounds {
+        machine.run(rt, 1, workers)?;
+        let of_round = keep(alloc, machine, every, done + 1)?;
+        add(&mut kept, of_round)?;
+    }
+    Ok(kept)
+}
+
+/// The recording of what a run was asked for, and of what is kept of it.
+fn recording_of(
+    alloc: Global,
+    image: &[u8],
+    input: &[u8],
+    settings: &Settings<'_>,
+    every: u32,
+    kept: Vec<Kept>,
+) -> Result<Recording, RunError>
+    requires settings { IsInRange settings.now }
+    requires kept { HaveEach settings.now.rounds 1 (kept_after settings.now.harts every) (map kept_view kept.items) }
+    ensures ok { IfOk result (λ r. r ≡ recorded_with settings.now every image.now input.now (map kept_view kept.items)) }
+    ensures err { IfErr result (λ e. e ≡ refusals.OutOfMemory) }
+{
+    Ok(Recording::of(Parts {
+        version: 2,
+        format: number_of(settings.format),
+        harts: settings.harts,
+        pages: settings.pages,
+        rounds: settings.rounds,
+        budget: settings.budget,
+        every,
+        image: copied(alloc, image)?,
+        input: copied(alloc, input)?,
+        plan: copied(alloc, settings.plan)?,
+        kept,
+    }))
+}
+
+/// The number of a format in a recording.
+fn number_of(format: Format) -> u8
+    ensures number { result ≡ number_of format }
+    ensures range { result ≤ 1 }
+{
+    match format {
+        Format::Elf => 0,
+        Format::Flat => 1,
+    }
+}
+
+/// The same bytes.
+fn copied(alloc: Global, bytes: &[u8]) -> Result<Vec<u8>, RunError>
+    ensures ok { IfOk result (λ v. v.items ≡ bytes.now) }
+    ensures size { IfOk result (λ v. length v.items < 2 ^ 64) }
+    ensures err { IfErr result (λ e. e ≡ refusals.OutOfMemory) }
+{
+    let _size = bytes.len();
+    match Vec::from_slice(alloc, bytes) {
+        Ok(copy) => Ok(copy),
+        Err(_) => Err(RunError::OutOfMemory),
+    }
+}
+
+/// Adds what is kept of a round.
+fn add(kept: &mut Vec<Kept>, of_round: Kept) -> Result<(), RunError>
+    ensures ok { OnOk result (kept.new.items ≡ kept.old.items ++ of_round ∷ []) }
+    ensures err { IfErr result (λ e. e ≡ refusals.OutOfMemory) }
+{
+    match kept.push(of_round) {
+        Ok(()) => Ok(()),
+        Err(_) => Err(RunError::OutOfMemory),
+    }
+}

@@ -1,0 +1,75 @@
+ghost use Rattle.std.specs.Prelude.{◌≡◌, ◌≤◌, ◌<◌, ◌^◌, map, length, Err, IfOk, IfErr};
+ghost use Rattle.elf_loader.specs.declared.load_error.LoadError.{LoadError as ImageCause};
+ghost use Rattle.round_planner.specs.Quotas.{Planned};
+ghost use Rattle.round_planner.specs.declared.plan_error.PlanError.{PlanError as PlanCause};
+ghost use Rattle.host_io.specs.declared.error.RunError.TheVariants as refusals;
+ghost use Rattle.machine.specs.Settings.{RefusedAs};
+ghost use Rattle.recording.specs.Views.{kept_view};
+ghost use Rattle.replayer.specs.Refusals.{AreNoWorkers, AreWorkers, HasImage, HasImageCause, HasPlanCause, HasReason};
+ghost use Rattle.replayer.specs.Replayed.{IsPlanFor, IsVerdict, IsVerdictOn, start_of};
+
+use crate::keeping::agrees;
+use crate::opened::opened;
+use crate::verdict::Verdict;
+use host_io::RunError;
+use machine::Machine;
+use recording::{Kept, Recording};
+use std::alloc::Global;
+use std::sync::Wait;
+use std::thread::Threads;
+
+/// Runs a recording anew, on 1 to 16 workers, and compares the state after each round with what was kept of it. It ends at the
+/// first difference. It may wait.
+///
+/// # Errors
+///
+/// `WorkersOutOfRange`, then the refusals of the recording's image, then of its plan; `OutOfMemory`.
+pub fn replay<R: Threads + Wait + Sync>(
+    rt: &R,
+    alloc: Global,
+    recording: &Recording,
+    workers: u32,
+) -> Result<Verdict, RunError>
+    ensures verdict { IfOk result (λ v. (plan : Planned) × IsPlanFor recording.now plan × IsVerdict recording.now (start_of recording.now plan) v) }
+    ensures workers { AreNoWorkers workers → result ≡ Err refusals.WorkersOutOfRange }
+    ensures errors { AreWorkers workers → IfErr result (λ e. HasReason recording.now e) }
+    ensures image { (cause : ImageCause) → AreWorkers workers → HasImageCause recording.now cause → RefusedAs (refusals.Image cause) result }
+    // A plan is refused where the image is good.
+    ensures plan { (cause : PlanCause) → AreWorkers workers → HasImage recording.now → HasPlanCause recording.now cause → RefusedAs (refusals.Plan cause) result }
+{
+    let mut machine = opened(alloc, recording, workers)?;
+    // So many rounds are kept, as 32 bits hold.
+    let _rounds = recording.rounds();
+    first_difference(
+        rt,
+        &mut machine,
+        recording.kept(),
+        recording.every(),
+        workers,
+    )
+}
+
+/// Runs a machine that was just opened for as many rounds as were kept, and looks for the first after which its state is
+/// another than what was kept of it. It may wait.
+fn first_difference<R: Threads + Wait + Sync>(
+    rt: &R,
+    machine: &mut Machine,
+    kept: &[Kept],
+    every: u32,
+    workers: u32,
+) -> Result<Verdict, RunError>
+    requires workers { (1 ≤ workers) × (workers ≤ 16) }
+    requires opened { machine.old.state.rounds ≡ 0 }
+    requires rounds { length kept.now < 2 ^ 32 }
+    ensures verdict { IfOk result (λ v. IsVerdictOn (map kept_view kept.now) every machine.old v) }
+    ensures refused { IfErr result (λ e. e ≡ refusals.OutOfMemory) }
+{
+    for place in 0..kept.len() {
+        machine.run(rt, 1, workers)?;
+        let round = place as u32 + 1;
+        if !agrees(&kept[place], every, round, machine) {
+            return Ok(Verdict::Differs(round));
+        }
+    }
+    Ok(Verdict::Same)
+}
