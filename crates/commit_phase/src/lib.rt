@@ -4,6 +4,7 @@
 mod buffer;
 mod buffered;
 mod gate;
+mod in_turn;
 mod part;
 mod shard;
 mod sharing;
@@ -11,6 +12,7 @@ mod sharing;
 pub use buffer::commit_buffer;
 pub use buffered::Buffered;
 pub use gate::{OpenShards, ShardGate};
+pub use in_turn::commit;
 pub use sharing::commit_on;
 
 #[cfg(test)]

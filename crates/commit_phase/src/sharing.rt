@@ -5,8 +5,8 @@ ghost use Rattle.round_schedule.specs.Tables.{entry};
 ghost use Rattle.commit_phase.specs.Commit.{IsWritable, all_buffered, covered_from};
 ghost use Rattle.commit_phase.specs.Shards.{IsShardReady, ShardWritten};
 
-use crate::buffer::break_others;
 use crate::buffered::Buffered;
+use crate::in_turn::break_all;
 use crate::gate::ShardGate;
 use crate::shard::write_all;
 use pages::{Pages, Part};
@@ -16,7 +16,7 @@ use std::thread::{Threads, for_each_chunk_mut, for_each_mut, join_mut};
 /// The most workers of a commit.
 const MOST_WORKERS: usize = 16;
 
-/// Commits the buffers of all harts in hart order, as `commit_buffer` does one after another, with so many workers.
+/// Does what `commit` does, with so many workers.
 ///
 /// Each worker has a shard of guest memory, some pages in a row, and writes the bytes of all buffers that lie in it.
 /// With z the least whole number that is not under the number of pages divided by the number of workers, shard k is
@@ -135,17 +135,4 @@ fn pass_empty<R: Threads + Sync, G: ShardGate + Sync>(rt: &R, first: u32, worker
 fn pass_one<G: ShardGate>(number: u32, gate: &G) {
     gate.pass(number);
     gate.done(number);
-}
-
-/// Breaks the reservations of which the buffer of another hart has a byte.
-fn break_all<B: Buffered>(table: &mut Reservations, rounds: &[B])
-    requires few { length rounds.now ≤ 64 }
-    ensures size { length table.new ≡ length table.old }
-    ensures table { (h : ℕ) → h < length table.old → entry table.new h ≡ unless (covered_from 0 h (map B.bytes rounds.now)) (entry table.old h) }
-{
-    let mut hart = 0;
-    for round in rounds {
-        break_others(table, hart, round.buffer());
-        hart += 1;
-    }
 }

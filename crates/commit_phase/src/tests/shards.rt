@@ -2,7 +2,7 @@ ghost use Rattle.std.specs.Prelude.{◌≡◌, All, IfOk, IsTrue, length};
 ghost use Rattle.commit_phase.specs.Commit.{IsWritable};
 
 use super::{buffer_of, fits};
-use crate::{OpenShards, ShardGate, commit_on};
+use crate::{OpenShards, ShardGate, commit, commit_on};
 use pages::{OutOfMemory, Pages, Piece, Store, Width};
 use reservations::Reservations;
 use std::alloc::Global;
@@ -128,24 +128,65 @@ fn three_buffers(alloc: Global) -> Result<Vec<StoreBuffer>, OutOfMemory> {
     Ok(buffers)
 }
 
+/// Commits buffers on the calling thread, if their bytes may be written.
+fn commit_alone(pages: &mut Pages, table: &mut Reservations, buffers: &[StoreBuffer]) -> bool
+    ensures { length table.new ≡ length table.old }
+{
+    if buffers.len() > 64 || !all_fit(pages, buffers) {
+        return false;
+    }
+    commit(pages, table, buffers);
+    true
+}
+
+/// Reservations of three harts.
+fn reserved() -> Reservations
+    ensures { length result ≡ 3 }
+{
+    let mut table = Reservations::new(3);
+    table.set(0, 0xff8, Width::W8);
+    table.set(1, 0x1000, Width::W4);
+    table.set(2, 0x9ff0, Width::W8);
+    table
+}
+
+/// Whether the bytes of the three buffers were written, in hart order.
+fn are_written(pages: &Pages) -> bool {
+    pages.read(0xff8, Width::W8) == Ok(0x2222_2222_1111_1111)
+        && pages.read(0x1000, Width::W8) == Ok(0x3333_3333)
+        && pages.read(0x9ff8, Width::W8) == Ok(0x5544_0000_0000_0000)
+}
+
+/// Hart 1 wrote bytes of hart 0's reservation, and nobody else those of the other two.
+fn is_broken_for_hart_0(table: &mut Reservations) -> bool
+    requires { length table.old ≡ 3 }
+{
+    !table.take(0, 0xff8, Width::W8)
+        && table.take(1, 0x1000, Width::W4)
+        && table.take(2, 0x9ff0, Width::W8)
+}
+
 #[test]
 fn any_number_of_workers_writes_the_same(rt: HostRuntime) -> Result<(), Fail> {
     let buffers = three_buffers(rt.alloc())?;
     for workers in 1..17 {
         let mut pages = ten_pages(rt.alloc())?;
-        let mut table = Reservations::new(3);
-        table.set(0, 0xff8, Width::W8);
-        table.set(1, 0x1000, Width::W4);
-        table.set(2, 0x9ff0, Width::W8);
+        let mut table = reserved();
         assert!(rt; commit_all(&rt, &mut pages, &mut table, &buffers, workers, &OpenShards));
-        assert!(rt; pages.read(0xff8, Width::W8) == Ok(0x2222_2222_1111_1111));
-        assert!(rt; pages.read(0x1000, Width::W8) == Ok(0x3333_3333));
-        assert!(rt; pages.read(0x9ff8, Width::W8) == Ok(0x5544_0000_0000_0000));
-        // Hart 1 wrote bytes of hart 0's reservation, and nobody else those of the other two.
-        assert!(rt; !table.take(0, 0xff8, Width::W8));
-        assert!(rt; table.take(1, 0x1000, Width::W4));
-        assert!(rt; table.take(2, 0x9ff0, Width::W8));
+        assert!(rt; are_written(&pages));
+        assert!(rt; is_broken_for_hart_0(&mut table));
     }
+    Ok(())
+}
+
+#[test]
+fn one_thread_writes_the_same(rt: HostRuntime) -> Result<(), Fail> {
+    let buffers = three_buffers(rt.alloc())?;
+    let mut pages = ten_pages(rt.alloc())?;
+    let mut table = reserved();
+    assert!(rt; commit_alone(&mut pages, &mut table, &buffers));
+    assert!(rt; are_written(&pages));
+    assert!(rt; is_broken_for_hart_0(&mut table));
     Ok(())
 }
 

@@ -6,7 +6,7 @@ use Rattle.store_buffer.specs.Covered.{stores_of}
 use Rattle.commit_phase.specs.Commit.{covered_from}
 use Rattle.commit_phase.proofs.Breaking.{one_buffer}
 use Rattle.commit_phase.proofs.Sharding.{drop_next}
-use Rattle.commit_phase.proofs.sharing.break_all.Goals as goal
+use Rattle.commit_phase.proofs.in_turn.break_all.Goals as goal
 
 pub loop-round-preserved : goal.loop-round-preserved
 loop-round-preserved g c =

@@ -2,7 +2,7 @@ use Rattle.std.proofs.Common.{◌≡◌, ◌<◌, ℕ, drop, length, map}
 use Rattle.round_schedule.specs.Held.{unless}
 use Rattle.round_schedule.specs.Tables.{entry}
 use Rattle.commit_phase.specs.Commit.{covered_from}
-use Rattle.commit_phase.proofs.sharing.break_all.Given as goal
+use Rattle.commit_phase.proofs.in_turn.break_all.Given as goal
 
 abbrev pub invariant-loop-round : goal.invariant-loop-round
 invariant-loop-round g l = record {

@@ -1,0 +1,13 @@
+use Rattle.std.proofs.Common.{ap, get_or, map, ℕ, List}
+use Rattle.commit_phase.specs.Commit.{all_buffered}
+use Rattle.commit_phase.proofs.Sharding.{memory_back, shard_of_memory}
+use Rattle.commit_phase.proofs.in_turn.commit.Goals as goal
+
+pub write_all-requires-clause-ready : goal.write_all-requires-clause-ready
+write_all-requires-clause-ready g c = λ k d low.
+    shard_of_memory c.parts.result.now c.args.pages.now (get_or (map g.B.Buffered.bytes c.args.rounds.now) k d) c.parts.ensures.ready (c.requires.writable k d low).ready
+
+pub returns-clause-memory : goal.returns-clause-memory
+returns-clause-memory g c =
+    ap (λ (bs : List ℕ). record c.args.pages.now.memory { bytes = bs })
+    (memory_back c.args.pages.now c.parts.result.now c.write_all.new.parts (all_buffered (map g.B.Buffered.bytes c.args.rounds.now)) c.parts.ensures.bytes c.write_all.ensures)
