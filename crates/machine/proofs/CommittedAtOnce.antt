@@ -1,6 +1,5 @@
 -- The commit of all buffers at once is the commit of the rounds that they are of.
-use Rattle.std.proofs.Common.{◌≡◌, ℕ, suc, ◌<◌, ◌==◌, ◌||◌, Bool, false, cond, List, [], ◌∷◌, All, length, map, take, Option, refl, sym, ap, ap₂, ◌∙◌, arith}
-use Rattle.std.proofs.lemmas.List.{take_all}
+use Rattle.std.proofs.Common.{◌≡◌, ℕ, suc, ◌<◌, ◌==◌, ◌||◌, Bool, false, cond, List, [], ◌∷◌, All, length, map, Option, refl, sym, ap, ap₂, ◌∙◌, arith}
 use Rattle.std.proofs.lemmas.List.Elements.{All-cons}
 use Rattle.pages.specs.Memory.{Memory, after, covered, stored}
 use Rattle.pages.specs.Paged.{Paged}
@@ -13,7 +12,7 @@ use Rattle.store_buffer.specs.Covered.{stores_of}
 use Rattle.store_buffer.specs.CoveredLaws.{after_with_stores, covered-with_stores}
 use Rattle.commit_phase.specs.Commit.{Committed, IsWritable, all_buffered, covered_from}
 use Rattle.commit_phase.proofs.Breaking.{unless_same}
-use Rattle.commit_phase.proofs.HartOrder.{committed_over}
+use Rattle.commit_phase.proofs.HartOrder.{all_committed}
 use Rattle.hart_step.specs.declared.hart.Hart.{Hart}
 use Rattle.machine.specs.declared.outcome.Outcome.{Outcome}
 use Rattle.machine.specs.Outcomes.{AreFit, AreOutcomes, AreReady}
@@ -56,11 +55,7 @@ pub record WrittenOver (os : List Outcome) (p q : Paged) (old new : List (Option
 
 pub committed_at_once : (os : List Outcome) (p q : Paged) (old new : List (Option Span)) → WrittenOver os p q old new → (rs : List (HartRound Hart)) → AreOutcomes p.memory rs os → Committed rs p q old new
 committed_at_once os p q old new w rs a =
-    let all : take (length rs) rs ≡ rs = take_all (length rs) rs (omega arith) in
-    committed_over (length rs) rs p q old new (omega arith) (record {
-      memory = w.memory ∙ ap (λ (bs : List ℕ). record p.memory { bytes = bs }) (same_bytes p.memory p.memory.bytes rs os a ∙ ap (λ (ts : List (HartRound Hart)). after p.memory.bytes (all_stores ts)) (sym all));
-      ready = w.ready;
-      spare = w.spare;
-      size = w.size;
-      table = λ h low. w.table h low ∙ unless_same _ _ (entry old h) (λ x. same_cover p.memory 0 h x rs os a ∙ ap (λ (ts : List (HartRound Hart)). covered_by_others h 0 ts x) (sym all));
-    })
+    all_committed rs p q old new
+    (w.memory ∙ ap (λ (bs : List ℕ). record p.memory { bytes = bs }) (same_bytes p.memory p.memory.bytes rs os a))
+    w.ready w.spare w.size
+    (λ h low. w.table h low ∙ unless_same _ _ (entry old h) (λ x. same_cover p.memory 0 h x rs os a))

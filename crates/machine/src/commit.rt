@@ -6,7 +6,7 @@ ghost use Rattle.machine.specs.Outcomes.{AreFit, AreOutcomes, AreReady};
 
 use crate::crew::Crew;
 use crate::outcome::Outcome;
-use commit_phase::{OpenShards, commit_buffer, commit_on};
+use commit_phase::{OpenShards, commit as commit_all, commit_on};
 use pages::Pages;
 use reservations::Reservations;
 use std::thread::Threads;
@@ -32,7 +32,7 @@ pub fn commit<G, R: Threads + Sync>(
     if crew.workers > 1 && stores_lines(outcomes, crew.least_lines) {
         commit_on(crew.rt, pages, table, outcomes, crew.workers, &OpenShards);
     } else {
-        commit_in_turn(pages, table, outcomes);
+        commit_all(pages, table, outcomes);
     }
 }
 
@@ -57,19 +57,4 @@ fn lines_of(buffer: &StoreBuffer) -> usize {
         count = count.saturating_add(1);
     }
     count
-}
-
-/// The same on the calling thread, buffer by buffer.
-fn commit_in_turn(pages: &mut Pages, table: &mut Reservations, outcomes: &[Outcome])
-    requires few { length outcomes.now ≤ 64 }
-    requires fits { AreFit pages.old.memory outcomes.now }
-    requires ready { AreReady pages.old outcomes.now }
-    ensures ready { pages.new.ready ≡ pages.old.ready }
-    ensures spare { pages.new.spare ≡ pages.old.spare }
-    ensures size { length table.new ≡ length table.old }
-    ensures committed { (rs : List (HartRound Hart)) → AreOutcomes pages.old.memory rs outcomes.now → Committed rs pages.old pages.new table.old table.new }
-{
-    for (number, outcome) in outcomes.iter().enumerate() {
-        commit_buffer(pages, table, number as u32, &outcome.buffer);
-    }
 }
