@@ -12,3 +12,5 @@ pub mod TraceKept
 pub mod Good
 pub mod TracedRun
 pub mod Ordered
+pub mod AskedTurns
+pub mod Asked

@@ -4,3 +4,4 @@ pub mod Held
 pub mod Rounds
 pub mod Settings
 pub mod OrderedRun
+pub mod Asked

@@ -1,7 +1,10 @@
 //! The machine: a run of a guest program, round by round, and its report.
 #![tactic(auto)]
 
+mod asked_turn;
+mod asking;
 mod commit;
+mod copying;
 mod crew;
 mod decoding;
 mod emulation;

@@ -35,12 +35,33 @@ pub fn make_room(
     ensures closed { OnOk result (log.new.closed ≡ []) }
     ensures current { OnOk result (log.new.current ≡ []) }
 {
+    make_turn_room(pages, console, log, outcomes, turns)?;
+    make_places(trace, outcomes, turns as usize, adopts)
+}
+
+/// The same without room in the trace.
+pub fn make_turn_room(
+    pages: &mut Pages,
+    console: &mut Console,
+    log: &mut SerialLog,
+    outcomes: &[Outcome],
+    turns: u32,
+) -> Result<(), OutOfMemory>
+    requires { AreFit pages.old.memory outcomes.now }
+    ensures keeps { KeepsPages pages.old pages.new }
+    ensures console { console.new.console ≡ console.old.console }
+    ensures ready { OnOk result (AreReady pages.new outcomes.now) }
+    ensures spares { OnOk result (HasSpares turns pages.new) }
+    ensures output { OnOk result (HasRoom turns console.new) }
+    ensures log_room { OnOk result (turns ≤ log.new.room) }
+    ensures closed { OnOk result (log.new.closed ≡ []) }
+    ensures current { OnOk result (log.new.current ≡ []) }
+{
     make_ready(pages, outcomes)?;
     make_spares(pages, outcomes, turns)?;
     console.reserve(turns as usize)?;
     log.clear();
-    log.reserve(turns as usize)?;
-    make_places(trace, outcomes, turns as usize, adopts)
+    log.reserve(turns as usize)
 }
 
 /// Has as many spare pages; what is ready stays ready.

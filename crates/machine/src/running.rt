@@ -22,7 +22,7 @@ pub(crate) const MOST_WORKERS: u32 = 16;
 const WORTH_A_WORKER: u64 = 16_384;
 
 /// How many stored lines of 64 bytes are worth starting threads for at the commit.
-const MANY_LINES: usize = 16_384;
+pub(crate) const MANY_LINES: usize = 16_384;
 
 /// What a round was.
 #[derive(Clone, Copy, Debug, PartialEq, Eq)]
