@@ -4,6 +4,8 @@
 #[cfg(test)]
 mod budgets;
 #[cfg(test)]
+mod copies;
+#[cfg(test)]
 mod example_files;
 #[cfg(test)]
 mod guests;
@@ -19,6 +21,8 @@ mod lost_update;
 mod memory;
 #[cfg(test)]
 mod orders;
+#[cfg(test)]
+mod past;
 #[cfg(test)]
 mod refusals;
 #[cfg(test)]

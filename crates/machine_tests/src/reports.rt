@@ -1,4 +1,4 @@
-use crate::harness::{answer, report, report_is, report_of, settings};
+use crate::harness::{answer, machine_of, report, report_is, report_of, settings};
 use crate::images::{
     ADDED, CROSSED, CROSSED_AND_FENCED, ECHO, EXIT, MISALIGNED, OWN_STORE, RESERVED,
     STORE_THEN_LOAD,
@@ -391,4 +391,56 @@ fn an_elf_file(rt: HostRuntime) -> Result<(), Fail> {
 fn elf_files_that_are_refused(rt: HostRuntime) {
     assert!(rt; answer(&rt, rt.alloc(), &ELF_EXIT[..63], &elf(2)) == (1, 0));
     assert!(rt; answer(&rt, rt.alloc(), ELF_EXIT, &elf(1)) == (8, 0));
+}
+
+/// What hart 0 is after one round of these words on one page: its pc, how many instructions it has done, its stop code, and x6.
+fn after_a_round<R: Threads + Wait + Sync>(
+    rt: &R,
+    alloc: Global,
+    words: &[u32],
+) -> Result<Option<(u64, u64, u8, u64)>, Fail> {
+    let mut machine = machine_of(alloc, words, 1, b"9\n")?;
+    machine.run(rt, 1, 1)?;
+    Ok(match machine.harts() {
+        [hart] => match hart.stop {
+            Some(stop) => Some((hart.pc, hart.done, stop.code, hart.x[6])),
+            None => None,
+        },
+        _ => None,
+    })
+}
+
+#[test]
+fn reads_at_the_end_of_memory(rt: HostRuntime) -> Result<(), Fail> {
+    // Each begins with ADDI x6,x0,1.
+    for (words, wanted) in [
+        // LUI x5,1; LD x6,-8(x5); ADDI x0,x0,0: the last doubleword of the page, and then the end of the code.
+        (
+            [0x0010_0313, 0x0000_12B7, 0xFF82_B303, 0x0000_0013],
+            (16, 4, 3, 0),
+        ),
+        // LUI x5,1; LD x6,0(x5): the doubleword after the page.
+        (
+            [0x0010_0313, 0x0000_12B7, 0x0002_B303, 0x0000_0013],
+            (8, 2, 6, 1),
+        ),
+        // ADDI x5,x0,-8; LD x6,0(x5): the last doubleword that there are addresses for.
+        (
+            [0x0010_0313, 0xFF80_0293, 0x0002_B303, 0x0000_0013],
+            (8, 2, 6, 1),
+        ),
+        // ADDI x5,x0,-1; LBU x6,0(x5): the last byte that there are addresses for.
+        (
+            [0x0010_0313, 0xFFF0_0293, 0x0002_C303, 0x0000_0013],
+            (8, 2, 6, 1),
+        ),
+        // LUI x5,1; LD x6,-4(x5): not aligned, and past the page.
+        (
+            [0x0010_0313, 0x0000_12B7, 0xFFC2_B303, 0x0000_0013],
+            (8, 2, 5, 1),
+        ),
+    ] {
+        assert!(rt; after_a_round(&rt, rt.alloc(), &words)? == Some(wanted));
+    }
+    Ok(())
 }
