@@ -4,14 +4,19 @@ pub(crate) const ABOUT: &str =
     "Runs a RISC-V program (RV64I with M and A) on 1 to 64 harts, the same way each time.";
 
 pub(crate) const AFTER_HELP: &str = "\
-Example:
+Examples:
   dethart run guest.elf --harts 4 --quota 1
   dethart order guest.elf --harts 4 --quota 1
+  dethart record guest.elf guest.rec --harts 4 --quota 1
+  dethart replay guest.rec
+  dethart watch guest.rec 256 8
+  dethart migrate guest.rec new.rec
 
-dethart run --help lists the options, and what each error N means. dethart order takes the same
-options.
+dethart run --help lists the options, and what each error N means. dethart order and dethart record
+take the same options.
 
-Exit status: 0 the report, the order or a help text was printed, 1 a refusal (error N), 2 a bad command line.";
+Exit status: 0 what was asked for was printed or written, 1 a refusal (error N), 2 a bad command
+line, 3 dethart replay found another run than the recorded one.";
 
 pub(crate) const RUN_ABOUT: &str = "Runs the program in the file IMAGE, and prints the report.";
 
@@ -43,6 +48,11 @@ A refusal is the line 'error N' on standard error, with the exit status 1:
   32  a quota is 0 or over 1000000
   33  a row of the plan has neither one number nor one for each hart
   34  the plan has more than 256 rows
+  41  recording: the first eight bytes aren't there, or aren't the magic
+  42  recording: another version than 1 and 2
+  43  recording: it ends before its fields do
+  44  recording: a field is out of range
+  45  recording: bytes are left after its fields
   51  the number of harts is out of range
   52  the number of pages is out of range
   53  the number of workers is out of range

@@ -1,12 +1,19 @@
 //! The command line as `clap` is told it.
-ghost use Rattle.std.specs.Prelude.{◌≡◌, IfOk};
-ghost use Rattle.clap.specs.Words.{app_of, rule_of};
+ghost use Rattle.std.specs.Prelude.{◌≡◌, IfOk, false};
+ghost use Rattle.clap.specs.Words.{app_of};
 ghost use Rattle.clap.specs.declared.builder.command.Command.TheViews.{out-Command};
-ghost use Rattle.command_line.specs.Options.{defaulted_rule, dethart_app, flat_rule, image_rule, number_rule, program_app, text_rule};
-ghost use Rattle.std.specs.Prelude.{codes, false};
+ghost use Rattle.command_line.specs.Options.{dethart_app, migrate_app, program_app, record_app, replay_app, watch_app};
 
+use crate::arguments::{
+    file, flat, number, number_given, positional, quota, recording, wide_number, wide_positional,
+    workers,
+};
 use crate::help::{ABOUT, AFTER_HELP, ORDER_ABOUT, ORDER_AFTER_HELP, RUN_ABOUT, RUN_AFTER_HELP};
-use clap::{Arg, ArgAction, Command, value_parser};
+use crate::recording_help::{
+    MIGRATE_ABOUT, MIGRATE_AFTER_HELP, RECORD_ABOUT, RECORD_AFTER_HELP, REPLAY_ABOUT,
+    REPLAY_AFTER_HELP, WATCH_ABOUT, WATCH_AFTER_HELP,
+};
+use clap::Command;
 use std::alloc::{AllocError, Global};
 
 /// The command `dethart` with its subcommands.
@@ -20,7 +27,11 @@ pub(crate) fn dethart_command<'a>(alloc: Global) -> Result<Command<'a>, AllocErr
         .subcommand_required(true)
         .disable_help_subcommand(true)
         .subcommand(program_command(alloc, "run", RUN_ABOUT, RUN_AFTER_HELP)?)?
-        .subcommand(program_command(alloc, "order", ORDER_ABOUT, ORDER_AFTER_HELP)?)
+        .subcommand(program_command(alloc, "order", ORDER_ABOUT, ORDER_AFTER_HELP)?)?
+        .subcommand(record_command(alloc)?)?
+        .subcommand(replay_command(alloc)?)?
+        .subcommand(watch_command(alloc)?)?
+        .subcommand(migrate_command(alloc)?)
 }
 
 /// A subcommand that runs a guest program: the image and the options of the run.
@@ -36,7 +47,12 @@ fn program_command<'a>(
     Command::new(alloc, name)
         .about(about)
         .after_help(after_help)
-        .arg(image(alloc))?
+        .arg(positional(
+            alloc,
+            "image",
+            "IMAGE",
+            "The file of the guest program: ELF, or any code with --flat",
+        ))?
         .arg(flat(alloc))?
         .arg(number(alloc, "harts", "1", "Harts: 1 to 64"))?
         .arg(number(
@@ -52,12 +68,7 @@ fn program_command<'a>(
             "The plan from a file; --quota isn't looked at then",
         ))?
         .arg(number(alloc, "rounds", "1000", "Rounds: 0 to 4294967295"))?
-        .arg(number(
-            alloc,
-            "workers",
-            "4",
-            "Threads: 1 to 16; the outcome doesn't depend on it",
-        ))?
+        .arg(workers(alloc))?
         .arg(number(
             alloc,
             "budget",
@@ -71,62 +82,89 @@ fn program_command<'a>(
         ))
 }
 
-/// The argument IMAGE.
-fn image<'a>(alloc: Global) -> Arg<'a>
-    ensures rule { rule_of result ≡ image_rule }
-    ensures local { result.global ≡ false }
+/// The subcommand `record`: what `run` takes, where the recording goes, and which registers it has.
+fn record_command<'a>(alloc: Global) -> Result<Command<'a>, AllocError>
+    ensures app { IfOk result (λ command. app_of command ≡ record_app) }
+    ensures local { IfOk result (λ command. (out-Command command).has_globals ≡ false) }
 {
-    Arg::new(alloc, "image")
-        .value_name("IMAGE")
-        .required(true)
-        .help("The file of the guest program: ELF, or any code with --flat")
+    program_command(alloc, "record", RECORD_ABOUT, RECORD_AFTER_HELP)?
+        .arg(positional(
+            alloc,
+            "out",
+            "OUT",
+            "The file that the recording is written to",
+        ))?
+        .arg(number(
+            alloc,
+            "every",
+            "0",
+            "Record the registers after each N-th round: 0 to 4294967295, 0 never",
+        ))
 }
 
-/// The option `--flat`.
-fn flat<'a>(alloc: Global) -> Arg<'a>
-    ensures rule { rule_of result ≡ flat_rule }
-    ensures local { result.global ≡ false }
+/// The subcommand `replay`: a recording, the hart to print, and which machines are kept.
+fn replay_command<'a>(alloc: Global) -> Result<Command<'a>, AllocError>
+    ensures app { IfOk result (λ command. app_of command ≡ replay_app) }
+    ensures local { IfOk result (λ command. (out-Command command).has_globals ≡ false) }
 {
-    Arg::new(alloc, "flat")
-        .long("flat")
-        .action(ArgAction::SetTrue)
-        .help(
-            "IMAGE is a flat file: bytes from address 0 on, all of them code [default: an ELF file]",
-        )
+    Command::new(alloc, "replay")
+        .about(REPLAY_ABOUT)
+        .after_help(REPLAY_AFTER_HELP)
+        .arg(recording(alloc))?
+        .arg(workers(alloc))?
+        .arg(number_given(alloc, "round", "The round of the hart to print, from 1 on"))?
+        .arg(number(alloc, "hart", "0", "The hart to print, from 0 on"))?
+        .arg(wide_number(
+            alloc,
+            "count",
+            "0",
+            "Print it after this many of the instructions that it did in the round",
+        ))?
+        .arg(number(
+            alloc,
+            "every",
+            "64",
+            "Keep a machine after each N-th round, to go on from: 0 to 4294967295, 0 only the first",
+        ))
 }
 
-/// The option `--quota PLAN`.
-fn quota<'a>(alloc: Global) -> Arg<'a>
-    ensures rule { rule_of result ≡ defaulted_rule (codes "quota") (codes "1000") }
-    ensures local { result.global ≡ false }
+/// The subcommand `watch`: a recording, and the bytes whose accesses are printed.
+fn watch_command<'a>(alloc: Global) -> Result<Command<'a>, AllocError>
+    ensures app { IfOk result (λ command. app_of command ≡ watch_app) }
+    ensures local { IfOk result (λ command. (out-Command command).has_globals ≡ false) }
 {
-    Arg::new(alloc, "quota")
-        .long("quota")
-        .value_name("PLAN")
-        .default_value("1000")
-        .help("Instructions of each hart in a round: a plan of one row, of numbers 1 to 1000000")
+    Command::new(alloc, "watch")
+        .about(WATCH_ABOUT)
+        .after_help(WATCH_AFTER_HELP)
+        .arg(recording(alloc))?
+        .arg(positional(
+            alloc,
+            "address",
+            "ADDRESS",
+            "The address of the first byte that is watched, in decimal, or in hexadecimal after 0x",
+        ))?
+        .arg(wide_positional(
+            alloc,
+            "length",
+            "LENGTH",
+            "How many bytes are watched, in decimal",
+        ))?
+        .arg(workers(alloc))
 }
 
-/// The option `--NAME FILE`, which has no default.
-fn file<'a>(alloc: Global, name: &'a str, help: &'a str) -> Arg<'a>
-    ensures rule { rule_of result ≡ text_rule name.entry.now }
-    ensures local { result.global ≡ false }
+/// The subcommand `migrate`: a recording, and where the new one goes.
+fn migrate_command<'a>(alloc: Global) -> Result<Command<'a>, AllocError>
+    ensures app { IfOk result (λ command. app_of command ≡ migrate_app) }
+    ensures local { IfOk result (λ command. (out-Command command).has_globals ≡ false) }
 {
-    Arg::new(alloc, name)
-        .long(name)
-        .value_name("FILE")
-        .help(help)
-}
-
-/// The option `--NAME N`, of a number of 32 bits.
-fn number<'a>(alloc: Global, name: &'a str, default: &'a str, help: &'a str) -> Arg<'a>
-    ensures rule { rule_of result ≡ number_rule name.entry.now default.entry.now }
-    ensures local { result.global ≡ false }
-{
-    Arg::new(alloc, name)
-        .long(name)
-        .value_name("N")
-        .default_value(default)
-        .value_parser(value_parser!(u32))
-        .help(help)
+    Command::new(alloc, "migrate")
+        .about(MIGRATE_ABOUT)
+        .after_help(MIGRATE_AFTER_HELP)
+        .arg(recording(alloc))?
+        .arg(positional(
+            alloc,
+            "out",
+            "OUT",
+            "The file that the new recording is written to",
+        ))
 }

@@ -1,4 +1,4 @@
-use crate::{Command, Run, parse_line};
+use crate::{Command, Migrate, Record, Replay, Run, Watch, parse_line};
 use clap::error::ErrorKind;
 use std::test::Fail;
 
@@ -24,39 +24,192 @@ static EVERY_OPTION: [&str; 19] = [
     "keys.txt",
 ];
 
+/// What `EVERY_OPTION` says.
+static GIVEN: Run<'static> = Run {
+    image: "guest.bin",
+    flat: true,
+    harts: 3,
+    pages: 7,
+    quota: "9 8 7",
+    plan: Some("odd.txt"),
+    rounds: 0,
+    workers: 2,
+    budget: 50,
+    input: Some("keys.txt"),
+};
+
+/// What a line with no option says.
+static DEFAULTS: Run<'static> = Run {
+    image: "guest.elf",
+    flat: false,
+    harts: 1,
+    pages: 256,
+    quota: "1000",
+    plan: None,
+    rounds: 1000,
+    workers: 4,
+    budget: 1,
+    input: None,
+};
+
 #[test]
 fn reads_options_and_defaults(rt: HostRuntime) -> Result<(), Fail> {
-    let given = Run {
-        image: "guest.bin",
-        flat: true,
-        harts: 3,
-        pages: 7,
-        quota: "9 8 7",
-        plan: Some("odd.txt"),
-        rounds: 0,
+    assert!(rt; parse_line(rt.alloc(), EVERY_OPTION.as_slice())? == Command::Run(GIVEN));
+    assert!(rt;
+        parse_line(rt.alloc(), &["dethart", "run", "guest.elf"])? == Command::Run(DEFAULTS)
+    );
+    assert!(rt;
+        parse_line(rt.alloc(), &["dethart", "order", "guest.elf"])? == Command::Order(DEFAULTS)
+    );
+    Ok(())
+}
+
+static RECORD_WITH_EVERY_OPTION: [&str; 21] = [
+    "dethart",
+    "record",
+    "--every=10",
+    "guest.bin",
+    "--flat",
+    "--harts",
+    "3",
+    "--pages=7",
+    "guest.rec",
+    "--quota",
+    "9 8 7",
+    "--plan",
+    "odd.txt",
+    "--rounds",
+    "0",
+    "--workers",
+    "2",
+    "--budget",
+    "50",
+    "--input",
+    "keys.txt",
+];
+
+#[test]
+fn reads_record(rt: HostRuntime) -> Result<(), Fail> {
+    let given = Record {
+        run: GIVEN,
+        out: "guest.rec",
+        every: 10,
+    };
+    assert!(rt;
+        parse_line(rt.alloc(), RECORD_WITH_EVERY_OPTION.as_slice())? == Command::Record(given)
+    );
+    let defaults = Record {
+        run: DEFAULTS,
+        out: "guest.rec",
+        every: 0,
+    };
+    let words = ["dethart", "record", "guest.elf", "guest.rec"];
+    assert!(rt; parse_line(rt.alloc(), words.as_slice())? == Command::Record(defaults));
+    Ok(())
+}
+
+static REPLAY_WITH_EVERY_OPTION: [&str; 11] = [
+    "dethart",
+    "replay",
+    "--workers",
+    "2",
+    "guest.rec",
+    "--round",
+    "4294967295",
+    "--hart=3",
+    "--count",
+    "18446744073709551615",
+    "--every=0",
+];
+
+#[test]
+fn reads_replay(rt: HostRuntime) -> Result<(), Fail> {
+    let given = Replay {
+        recording: "guest.rec",
         workers: 2,
-        budget: 50,
-        input: Some("keys.txt"),
+        round: Some(4294967295),
+        hart: 3,
+        count: 18446744073709551615,
+        every: 0,
     };
-    assert!(rt; parse_line(rt.alloc(), EVERY_OPTION.as_slice())? == Command::Run(given));
-    let defaults = Run {
-        image: "guest.elf",
-        flat: false,
-        harts: 1,
-        pages: 256,
-        quota: "1000",
-        plan: None,
-        rounds: 1000,
+    assert!(rt;
+        parse_line(rt.alloc(), REPLAY_WITH_EVERY_OPTION.as_slice())? == Command::Replay(given)
+    );
+    let defaults = Replay {
+        recording: "guest.rec",
         workers: 4,
-        budget: 1,
-        input: None,
+        round: None,
+        hart: 0,
+        count: 0,
+        every: 64,
     };
-    assert!(rt;
-        parse_line(rt.alloc(), &["dethart", "run", "guest.elf"])? == Command::Run(defaults)
-    );
-    assert!(rt;
-        parse_line(rt.alloc(), &["dethart", "order", "guest.elf"])? == Command::Order(defaults)
-    );
+    let words = ["dethart", "replay", "guest.rec"];
+    assert!(rt; parse_line(rt.alloc(), words.as_slice())? == Command::Replay(defaults));
+    let of_round = Replay {
+        round: Some(12),
+        ..defaults
+    };
+    let words = ["dethart", "replay", "guest.rec", "--round=12"];
+    assert!(rt; parse_line(rt.alloc(), words.as_slice())? == Command::Replay(of_round));
+    Ok(())
+}
+
+#[test]
+fn reads_watch(rt: HostRuntime) -> Result<(), Fail> {
+    let given = Watch {
+        recording: "guest.rec",
+        address: 18446744073709551615,
+        length: 8,
+        workers: 2,
+    };
+    let words = [
+        "dethart",
+        "watch",
+        "guest.rec",
+        "18446744073709551615",
+        "--workers=2",
+        "8",
+    ];
+    assert!(rt; parse_line(rt.alloc(), words.as_slice())? == Command::Watch(given));
+    let defaults = Watch {
+        recording: "guest.rec",
+        address: 256,
+        length: 0,
+        workers: 4,
+    };
+    let words = ["dethart", "watch", "guest.rec", "256", "0"];
+    assert!(rt; parse_line(rt.alloc(), words.as_slice())? == Command::Watch(defaults));
+    Ok(())
+}
+
+#[test]
+fn reads_addresses(rt: HostRuntime) -> Result<(), Fail> {
+    for (text, address) in [
+        ("0", 0),
+        ("00100", 100),
+        ("0x100", 256),
+        ("0xffffffffffffFFFF", 18446744073709551615),
+    ] {
+        let watch = Watch {
+            recording: "guest.rec",
+            address,
+            length: 1,
+            workers: 4,
+        };
+        let words = ["dethart", "watch", "guest.rec", text, "1"];
+        assert!(rt; parse_line(rt.alloc(), words.as_slice())? == Command::Watch(watch));
+    }
+    Ok(())
+}
+
+#[test]
+fn reads_migrate(rt: HostRuntime) -> Result<(), Fail> {
+    let given = Migrate {
+        recording: "old.rec",
+        out: "new.rec",
+    };
+    let words = ["dethart", "migrate", "old.rec", "new.rec"];
+    assert!(rt; parse_line(rt.alloc(), words.as_slice())? == Command::Migrate(given));
     Ok(())
 }
 
@@ -112,7 +265,7 @@ fn refuses_bad_lines(rt: HostRuntime) {
         )
     );
     assert!(rt; is_refused(&rt, &["dethart", "--help"], ErrorKind::DisplayHelp, 0));
-    for command in ["run", "order"] {
+    for command in ["run", "order", "record", "replay", "watch", "migrate"] {
         assert!(rt;
             is_refused(
                 &rt,
@@ -122,4 +275,82 @@ fn refuses_bad_lines(rt: HostRuntime) {
             )
         );
     }
+}
+
+#[test]
+fn refuses_absent_words(rt: HostRuntime) {
+    let missing = ErrorKind::MissingRequiredArgument;
+    assert!(rt; is_refused(&rt, &["dethart", "record", "a"], missing, 2));
+    assert!(rt; is_refused(&rt, &["dethart", "replay", "--round", "1"], missing, 2));
+    assert!(rt; is_refused(&rt, &["dethart", "watch", "a"], missing, 2));
+    assert!(rt; is_refused(&rt, &["dethart", "watch", "a", "1"], missing, 2));
+    assert!(rt; is_refused(&rt, &["dethart", "migrate", "a"], missing, 2));
+}
+
+#[test]
+fn refuses_bad_numbers(rt: HostRuntime) {
+    let bad = ErrorKind::ValueValidation;
+    assert!(rt;
+        is_refused(
+            &rt,
+            &["dethart", "record", "a", "b", "--every=4294967296"],
+            bad,
+            2
+        )
+    );
+    assert!(rt; is_refused(&rt, &["dethart", "replay", "a", "--round", "x"], bad, 2));
+    assert!(rt;
+        is_refused(
+            &rt,
+            &["dethart", "replay", "a", "--hart=4294967296"],
+            bad,
+            2
+        )
+    );
+    assert!(rt;
+        is_refused(
+            &rt,
+            &["dethart", "replay", "a", "--count=18446744073709551616"],
+            bad,
+            2
+        )
+    );
+    assert!(rt; is_refused(&rt, &["dethart", "replay", "a", "--every=-1"], bad, 2));
+    for address in [
+        "1.5",
+        "",
+        "0x",
+        "0x1g",
+        "ff",
+        "0X10",
+        "18446744073709551616",
+        "0x10000000000000000",
+    ] {
+        assert!(rt; is_refused(&rt, &["dethart", "watch", "a", address, "8"], bad, 2));
+    }
+    assert!(rt; is_refused(&rt, &["dethart", "watch", "a", "1", ""], bad, 2));
+}
+
+#[test]
+fn refuses_unknown_words(rt: HostRuntime) {
+    let unknown = ErrorKind::UnknownArgument;
+    assert!(rt; is_refused(&rt, &["dethart", "record", "a", "b", "--speed"], unknown, 2));
+    assert!(rt; is_refused(&rt, &["dethart", "replay", "a", "--budget=1"], unknown, 2));
+    assert!(rt;
+        is_refused(
+            &rt,
+            &["dethart", "watch", "a", "1", "8", "--harts=2"],
+            unknown,
+            2
+        )
+    );
+    assert!(rt;
+        is_refused(
+            &rt,
+            &["dethart", "migrate", "a", "b", "--workers=2"],
+            unknown,
+            2
+        )
+    );
+    assert!(rt; is_refused(&rt, &["dethart", "migrate", "a", "b", "c"], unknown, 2));
 }

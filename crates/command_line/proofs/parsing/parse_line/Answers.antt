@@ -1,68 +1,81 @@
-use Rattle.std.proofs.Common.{rules, false, true≢false, is_some, ⊎_elim, ◌≡◌, ◌∙◌, List, [], Some, ap, sym, subst, map, option_map, codes}
-use Rattle.clap.specs.Simple.{is_simple}
+use Rattle.std.proofs.Common.{rules, true, false, true≢false, is_some, ◌≡◌, ◌∙◌, inl, inr, List, [], ◌∷◌, Some, ap, sym, subst, map, option_map}
+use Rattle.clap.specs.Simple.{built, is_simple}
 use Rattle.clap.specs.Faults.{is_simple_and_free}
-use Rattle.clap.specs.Words.{App, HasKind, Text, fault_of, found_of, rows_of, subcommand_of, subcommand_rows_of}
-use Rattle.command_line.specs.declared.settings.Command.TheVariants.{Order as OrderCommand, Run as RunCommand}
+use Rattle.clap.specs.Words.{App, HasKind, Row, Text, fault_of, found_of, rows_of, subcommand_name_of, subcommand_of, subcommand_rows_of}
+use Rattle.clap.specs.declared.error.kind.ErrorKind.TheVariants.{ValueValidation}
 use Rattle.command_line.specs.Options.{dethart_app}
-use Rattle.command_line.specs.Reading.{HoldsLine, HoldsRun}
-use Rattle.command_line.proofs.Lines.{simple, simple_and_free, some_is, takes_one, name_of}
+use Rattle.command_line.specs.Reading.{HoldsLine, IsSubcommand, has_bad_address, line_fault}
+use Rattle.command_line.proofs.Lines.{Met, after_clap, is_known, kept_first, name_of, simple, simple_and_free, some_is, takes_one}
 use Rattle.command_line.proofs.parsing.parse_line.Goals as goal
+use Rattle.command_line.proofs.parsing.parse_line.Goals.{In_ok-matches}
 
 pub returns-in_err-matches-clause-fails : goal.returns-in_err-matches-clause-fails
 returns-in_err-matches-clause-fails c =
-    let is = c.in_ok-dethart_command.ensures.app in
+    let is = c.in_ok-command.ensures.app in
     let words : List Text = map (λ s. s.now) c.args.words.now in
     let kinds = c.in_err-matches.ensures.kinds (ap is_simple_and_free is ∙ simple_and_free) in
-    let kinds_here : HasKind (fault_of dethart_app words) c.in_err-matches.field-0.0 = subst (λ (a : App). HasKind (fault_of a words) c.in_err-matches.field-0.0) is kinds in
+    let kinds_here : HasKind (line_fault words) c.in_err-matches.field-0.0 = kept_first c.in_err-matches.field-0.0 (fault_of dethart_app words) _ (subst (λ (a : App). HasKind (fault_of a words) c.in_err-matches.field-0.0) is kinds) in
     search rules
+
+-- clap found nothing to refuse
+no_fault : (c : In_ok-matches) → fault_of dethart_app (map (λ s. s.now) c.args.words.now) ≡ []
+no_fault c =
+    let is = c.in_ok-command.ensures.app in
+    ap (λ (a : App). fault_of a (map (λ s. s.now) c.args.words.now)) (sym is) ∙ c.in_ok-matches.ensures.kinds (ap is_simple_and_free is ∙ simple_and_free)
+
+-- so the line has met a subcommand
+one_met : (c : In_ok-matches) → Met (built dethart_app).subs (subcommand_of dethart_app (map (λ s. s.now) c.args.words.now))
+one_met c = takes_one (map (λ s. s.now) c.args.words.now) (no_fault c)
+
+-- with the rows that the matches have
+rows_met : (c : In_ok-matches) → subcommand_rows_of c.in_ok-matches.matches ≡ Some ((one_met c).name, (one_met c).rows)
+rows_met c =
+    let is = c.in_ok-command.ensures.app in
+    (c.in_ok-matches.ensures.ok.2 (ap is_simple is ∙ simple)).1 ∙ (ap (λ (a : App). subcommand_of a (map (λ s. s.now) c.args.words.now)) is ∙ (one_met c).is)
 
 pub unreachable-requires : goal.unreachable-requires
 unreachable-requires c =
-    let is = c.in_ok-dethart_command.ensures.app in
-    let words : List Text = map (λ s. s.now) c.args.words.now in
-    let none : fault_of dethart_app words ≡ [] = ap (λ (a : App). fault_of a words) (sym is) ∙ c.in_ok-matches.ensures.kinds (ap is_simple_and_free is ∙ simple_and_free) in
-    let one = takes_one words none in
-    let met : subcommand_rows_of c.in_ok-matches.matches ≡ Some (one.name, one.rows) =
-    (c.in_ok-matches.ensures.matches (ap is_simple is ∙ simple)).1 ∙ (ap (λ (a : App). subcommand_of a words) is ∙ one.is) in
-    let name : option_map (λ p. p.0.now) c.subcommand.result ≡ Some one.name = c.subcommand.ensures.name ∙ (name_of _ _ ∙ ap (option_map (λ p. p.0)) met) in
+    let at = (goal.at.unreachable-requires c).In_ok-matches in
+    let name : option_map (λ p. p.0.now) c.subcommand.result ≡ Some (one_met at).name = c.subcommand.ensures.name ∙ (name_of _ _ ∙ ap (option_map (λ p. p.0)) (rows_met at)) in
     let bad : is_some (option_map (λ p. p.0.now) c.subcommand.result) ≡ false = ap (λ o. is_some (option_map (λ p. p.0.now) o)) c.in_default.is in
     absurd (true≢false (sym (ap is_some name) ∙ bad))
 
+-- the name and the rows that are read are those of the line
+is_met : (c : In_ok-matches) (name : Text) (rows : List Row) → Some name ≡ subcommand_name_of c.in_ok-matches.matches
+    → Some rows ≡ option_map (λ p. p.1) (subcommand_rows_of c.in_ok-matches.matches)
+    → subcommand_of dethart_app (map (λ s. s.now) c.args.words.now) ≡ Some (name, rows)
+is_met c name rows n r =
+    let name_is : name ≡ (one_met c).name = some_is _ _ (n ∙ (name_of _ _ ∙ ap (option_map (λ p. p.0)) (rows_met c))) in
+    let rows_is : rows ≡ (one_met c).rows = some_is _ _ (r ∙ ap (option_map (λ p. p.1)) (rows_met c)) in
+    (one_met c).is ∙ (ap (λ t. Some (t, (one_met c).rows)) (sym name_is) ∙ ap (λ t. Some (name, t)) (sym rows_is))
+
+pub command_of-requires : goal.command_of-requires
+command_of-requires c =
+    let at = (goal.at.command_of-requires c).In_ok-matches in
+    let name : c.in-Some.name.now ≡ (one_met at).name = some_is _ _ (c.in-Some.ensures.name ∙ (name_of _ _ ∙ ap (option_map (λ p. p.0)) (rows_met at))) in
+    record { known = subst IsSubcommand (sym name) (is_known (one_met at).name (one_met at).known) }
+
+pub returns-then-has_bad_address-clause-fails : goal.returns-then-has_bad_address-clause-fails
+returns-then-has_bad_address-clause-fails c =
+    let at = (goal.at.returns-then-has_bad_address-clause-fails c).In_ok-matches in
+    let name : Text = c.in-Some.name.now in
+    let rows : List Row = rows_of (found_of c.in-Some.found.now) in
+    let bad : has_bad_address name rows ≡ true = sym c.has_bad_address.ensures ∙ c.if-has_bad_address.true in
+    let kinds : line_fault (map (λ s. s.now) c.args.words.now) ≡ ValueValidation ∷ [] =
+    after_clap (map (λ s. s.now) c.args.words.now) name rows true (no_fault at) (is_met at name rows c.in-Some.ensures.name c.in-Some.ensures.rows) bad in
+    subst (λ k. HasKind k c.in_ok-error.field-0) (sym kinds) (inr (inl c.in_ok-error.ensures.kind))
+
 pub returns-clause-fails : goal.returns-clause-fails
 returns-clause-fails c =
-    let is = c.in_ok-dethart_command.ensures.app in
-    let words : List Text = map (λ s. s.now) c.args.words.now in
-    ap (λ (a : App). fault_of a words) (sym is) ∙ c.in_ok-matches.ensures.kinds (ap is_simple_and_free is ∙ simple_and_free)
-
-pub returns-then-eq-clause-fails : goal.returns-then-eq-clause-fails
-returns-then-eq-clause-fails c =
-    let is = c.in_ok-dethart_command.ensures.app in
-    let words : List Text = map (λ s. s.now) c.args.words.now in
-    ap (λ (a : App). fault_of a words) (sym is) ∙ c.in_ok-matches.ensures.kinds (ap is_simple_and_free is ∙ simple_and_free)
-
-pub returns-then-eq-clause-reads : goal.returns-then-eq-clause-reads
-returns-then-eq-clause-reads c =
-    let is = c.in_ok-dethart_command.ensures.app in
-    let words : List Text = map (λ s. s.now) c.args.words.now in
-    let none : fault_of dethart_app words ≡ [] = ap (λ (a : App). fault_of a words) (sym is) ∙ c.in_ok-matches.ensures.kinds (ap is_simple_and_free is ∙ simple_and_free) in
-    let one = takes_one words none in
-    let met : subcommand_rows_of c.in_ok-matches.matches ≡ Some (one.name, one.rows) =
-    (c.in_ok-matches.ensures.matches (ap is_simple is ∙ simple)).1 ∙ (ap (λ (a : App). subcommand_of a words) is ∙ one.is) in
-    let rows : rows_of (found_of c.in-Some.found.now) ≡ one.rows = some_is _ _ (c.in-Some.ensures.rows ∙ ap (option_map (λ p. p.1)) met) in
-    let name : c.in-Some.name.now ≡ one.name = some_is _ _ (c.in-Some.ensures.name ∙ (name_of _ _ ∙ ap (option_map (λ p. p.0)) met)) in
-    let is_run : c.in-Some.name.now ≡ codes "run" = search rules in
-    subst (λ o. HoldsLine o (RunCommand c.run_of.result)) (sym one.is) (sym name ∙ is_run, subst (λ r. HoldsRun r c.run_of.result) rows c.run_of.ensures)
+    let at = (goal.at.returns-clause-fails c).In_ok-matches in
+    let name : Text = c.in-Some.name.now in
+    let rows : List Row = rows_of (found_of c.in-Some.found.now) in
+    let good : has_bad_address name rows ≡ false = sym c.has_bad_address.ensures ∙ c.if-has_bad_address.false in
+    after_clap (map (λ s. s.now) c.args.words.now) name rows false (no_fault at) (is_met at name rows c.in-Some.ensures.name c.in-Some.ensures.rows) good
 
 pub returns-clause-reads : goal.returns-clause-reads
 returns-clause-reads c =
-    let is = c.in_ok-dethart_command.ensures.app in
-    let words : List Text = map (λ s. s.now) c.args.words.now in
-    let none : fault_of dethart_app words ≡ [] = ap (λ (a : App). fault_of a words) (sym is) ∙ c.in_ok-matches.ensures.kinds (ap is_simple_and_free is ∙ simple_and_free) in
-    let one = takes_one words none in
-    let met : subcommand_rows_of c.in_ok-matches.matches ≡ Some (one.name, one.rows) =
-    (c.in_ok-matches.ensures.matches (ap is_simple is ∙ simple)).1 ∙ (ap (λ (a : App). subcommand_of a words) is ∙ one.is) in
-    let rows : rows_of (found_of c.in-Some.found.now) ≡ one.rows = some_is _ _ (c.in-Some.ensures.rows ∙ ap (option_map (λ p. p.1)) met) in
-    let name : c.in-Some.name.now ≡ one.name = some_is _ _ (c.in-Some.ensures.name ∙ (name_of _ _ ∙ ap (option_map (λ p. p.0)) met)) in
-    let not_run : c.in-Some.name.now ≡ codes "run" → ⊥ = search rules in
-    let is_order : one.name ≡ codes "order" = ⊎_elim (λ e. absurd (not_run (name ∙ e))) (λ e. e) one.known in
-    subst (λ o. HoldsLine o (OrderCommand c.run_of-else-eq.result)) (sym one.is) (is_order, subst (λ r. HoldsRun r c.run_of-else-eq.result) rows c.run_of-else-eq.ensures)
+    let at = (goal.at.returns-clause-reads c).In_ok-matches in
+    let name : Text = c.in-Some.name.now in
+    let rows : List Row = rows_of (found_of c.in-Some.found.now) in
+    subst (λ o. HoldsLine o c.command_of.result) (sym (is_met at name rows c.in-Some.ensures.name c.in-Some.ensures.rows)) c.command_of.ensures

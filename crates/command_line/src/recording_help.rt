@@ -1,0 +1,73 @@
+//! The texts of `--help` of the subcommands that write or read a recording.
+
+pub(crate) const RECORD_ABOUT: &str =
+    "Runs the program in the file IMAGE, and writes a recording of the run to the file OUT.";
+
+pub(crate) const RECORD_AFTER_HELP: &str = "\
+Examples:
+  dethart record guest.elf guest.rec --harts 4
+  dethart record guest.elf guest.rec --harts 4 --quota '100 7 1 1' --every 10
+
+Nothing is printed. The recording has what the run was asked for, all but the number of workers,
+and a summary of its state after each round; with --every also each register of each hart after the
+rounds whose numbers are multiples of it.
+
+A plan is one or more rows of quotas; rounds take its rows in turn. A row is one number, which is
+the quota of each hart, or one for each hart with one space between. A quota is 1 to 1000000.
+
+A refusal is the line 'error N' on standard error, with the exit status 1; dethart run --help lists
+what each N means.
+
+Exit status: 0 the recording was written, 1 a refusal, 2 a bad command line.";
+
+pub(crate) const REPLAY_ABOUT: &str =
+    "Does the run in the file RECORDING again, and says whether it is the recorded one.";
+
+pub(crate) const REPLAY_AFTER_HELP: &str = "\
+Examples:
+  dethart replay guest.rec
+  dethart replay guest.rec --workers 1 --round 12 --hart 3 --count 40
+
+The line 'same' says that the run is the recorded one, and 'differs R' that it isn't, first in round
+R. With --round the hart is printed instead, as the report prints one, after the first COUNT
+instructions that it did in round ROUND, or 'none' where there is no such round or hart or where it
+did fewer.
+
+A refusal is the line 'error N' on standard error, with the exit status 1; dethart run --help lists
+what each N means.
+
+Exit status: 0 the same, or with --round the hart or 'none' was printed, 1 a refusal, 2 a bad
+command line, 3 another run than the recorded one (differs R: first in round R).";
+
+pub(crate) const WATCH_ABOUT: &str =
+    "Does the run in the file RECORDING again, and prints the accesses to some bytes of memory.";
+
+pub(crate) const WATCH_AFTER_HELP: &str = "\
+Examples:
+  dethart watch guest.rec 256 8
+  dethart watch guest.rec 0x100 8
+
+The line 'hits N' comes first, N the number of accesses, and then each access, as its line in the
+report's trace and in the order of the trace. An access is one of them where one of its bytes is
+among the LENGTH bytes from ADDRESS on. ADDRESS and LENGTH are numbers of 64 bits: decimal, and for
+ADDRESS also hexadecimal after 0x.
+
+A refusal is the line 'error N' on standard error, with the exit status 1; dethart run --help lists
+what each N means.
+
+Exit status: 0 the accesses were printed, 1 a refusal, 2 a bad command line.";
+
+pub(crate) const MIGRATE_ABOUT: &str =
+    "Writes the recording in the file RECORDING anew, in version 2, to the file OUT.";
+
+pub(crate) const MIGRATE_AFTER_HELP: &str = "\
+Example:
+  dethart migrate guest.rec new.rec
+
+Nothing is printed. Of a recording of version 1 it makes one with a budget of 1 and without
+registers.
+
+A refusal is the line 'error N' on standard error, with the exit status 1; dethart run --help lists
+what each N means.
+
+Exit status: 0 the recording was written, 1 a refusal, 2 a bad command line.";
