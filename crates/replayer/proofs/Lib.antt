@@ -3,3 +3,4 @@ pub mod First
 pub mod Kept
 pub mod KeptRounds
 pub mod Ranges
+pub mod PastAt

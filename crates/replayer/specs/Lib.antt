@@ -2,3 +2,4 @@ pub mod Summaries
 pub mod Replayed
 pub mod Refusals
 pub mod Hits
+pub mod Past

@@ -144,7 +144,10 @@ fn copied_registers(alloc: Global, registers: &[u64]) -> Result<Vec<u64>, RunErr
 fn hart_agrees(kept: &HartSummary, hart: &Hart) -> bool
     ensures { IsTrue result ↔ hart_view kept.now ≡ hart_summary_of hart.now }
 {
-    kept.pc == hart.pc && kept.done == hart.done && kept.code == code(hart.stop) && kept.value == value(hart.stop)
+    kept.pc == hart.pc
+        && kept.done == hart.done
+        && kept.code == code(hart.stop)
+        && kept.value == value(hart.stop)
 }
 
 fn code(stop: Option<Stop>) -> u8
@@ -171,7 +174,8 @@ fn harts_agree(kept: &[HartSummary], harts: &[Hart]) -> bool
 {
     match (kept, harts) {
         ([], []) => true,
-        ([first, others @ ..], [hart, rest @ ..]) => hart_agrees(first, hart) && harts_agree(others, rest),
+        ([first, others @ ..], [hart, rest @ ..]) => hart_agrees(first, hart)
+            && harts_agree(others, rest),
         _ => false,
     }
 }
@@ -206,7 +210,8 @@ fn all_registers_agree(kept: &[Vec<u64>], harts: &[Hart]) -> bool
 {
     match (kept, harts) {
         ([], []) => true,
-        ([first, others @ ..], [hart, rest @ ..]) => registers_agree(first, hart) && all_registers_agree(others, rest),
+        ([first, others @ ..], [hart, rest @ ..]) => registers_agree(first, hart)
+            && all_registers_agree(others, rest),
         _ => false,
     }
 }

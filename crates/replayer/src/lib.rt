@@ -1,13 +1,15 @@
-//! Recordings of runs: made, replayed, and asked which accesses hit some ranges of memory.
+//! Recordings of runs: made, replayed, and asked about the past, and which accesses hit some ranges of memory.
 #![tactic(auto)]
 
 mod keeping;
 mod opened;
+mod past;
 mod recorder;
 mod replaying;
 mod verdict;
 mod watching;
 
+pub use past::state_at;
 pub use recorder::{record, record_with};
 pub use recording::{Cause, ReadError, Recording, migrate, read_recording, write_recording};
 pub use replaying::replay;

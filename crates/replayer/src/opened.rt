@@ -41,7 +41,11 @@ fn settings_of(recording: &Recording, workers: u32) -> Settings<'_>
     ensures good { AreWorkers workers → settings_fault result ≡ None }
 {
     Settings {
-        format: if recording.is_flat() { Format::Flat } else { Format::Elf },
+        format: if recording.is_flat() {
+            Format::Flat
+        } else {
+            Format::Elf
+        },
         harts: recording.harts(),
         pages: recording.pages(),
         rounds: recording.rounds(),

@@ -1,5 +1,5 @@
 use crate::{
-    Recording, Verdict, migrate, read_recording, record, record_with, replay, watch,
+    Recording, Verdict, migrate, read_recording, record, record_with, replay, state_at, watch,
     write_recording,
 };
 use host_io::{RunError, WriteSink};
@@ -133,7 +133,10 @@ fn reserved_accesses_hit(rt: HostRuntime) -> Result<(), Fail> {
     let alloc = rt.alloc();
     let recording = record(&rt, alloc, &RESERVED, &[], &settings(2, b"3 2\n3 3\n"))?;
     for workers in [1, 4] {
-        let byte = Range { start: 0x107, len: 1 };
+        let byte = Range {
+            start: 0x107,
+            len: 1,
+        };
         let hits = watch(&rt, alloc, &recording, &[byte], workers)?;
         assert_eq!(rt; hits.len(), 3);
         let kinds = match hits.as_slice() {
@@ -147,14 +150,75 @@ fn reserved_accesses_hit(rt: HostRuntime) -> Result<(), Fail> {
             _ => false,
         };
         assert!(rt; kinds);
-        let beside = Range { start: 0x108, len: 8 };
-        let below = Range { start: 0xf8, len: 8 };
-        let empty = Range { start: 0x100, len: 0 };
-        let past_all = Range { start: u64::MAX, len: u64::MAX };
-        let none = watch(&rt, alloc, &recording, &[beside, below, empty, past_all], workers)?;
+        let beside = Range {
+            start: 0x108,
+            len: 8,
+        };
+        let below = Range {
+            start: 0xf8,
+            len: 8,
+        };
+        let empty = Range {
+            start: 0x100,
+            len: 0,
+        };
+        let past_all = Range {
+            start: u64::MAX,
+            len: u64::MAX,
+        };
+        let none = watch(
+            &rt,
+            alloc,
+            &recording,
+            &[beside, below, empty, past_all],
+            workers,
+        )?;
         assert!(rt; none.is_empty());
-        let second = Range { start: 0, len: 0x101 };
-        assert_eq!(rt; watch(&rt, alloc, &recording, &[empty, second], workers)?.len(), 3);
+        let second = Range {
+            start: 0,
+            len: 0x101,
+        };
+        assert_eq!(rt;
+            watch(&rt, alloc, &recording, &[empty, second], workers)?.len(),
+            3
+        );
+    }
+    Ok(())
+}
+
+/// The pc and x7 of a hart within a round of a recording.
+fn pc_and_x7<R: Threads + Wait + Sync>(
+    rt: &R,
+    recording: &Recording,
+    place: (u32, u32, u64),
+    workers: u32,
+) -> Result<Option<(u64, u64)>, RunError> {
+    let (round, hart, count) = place;
+    Ok(
+        match state_at(rt, rt.alloc(), recording, round, hart, count, workers)? {
+            Some(hart) => Some((hart.pc, hart.x[7])),
+            None => None,
+        },
+    )
+}
+
+#[test]
+fn a_hart_within_a_round(rt: HostRuntime) -> Result<(), Fail> {
+    let recording = record(&rt, rt.alloc(), &RESERVED, &[], &settings(2, b"3 2\n3 3\n"))?;
+    for workers in [1, 4] {
+        // Hart 0 stands before the SC when round 2 begins, fails at it in its turn, and does nothing else in that round.
+        assert!(rt; pc_and_x7(&rt, &recording, (2, 0, 0), workers)? == Some((0xc, 0)));
+        assert!(rt; pc_and_x7(&rt, &recording, (2, 0, 1), workers)? == Some((0x10, 1)));
+        assert!(rt; pc_and_x7(&rt, &recording, (2, 0, 2), workers)? == None);
+        // There are rounds 1 and 2, and harts 0 and 1.
+        assert!(rt; pc_and_x7(&rt, &recording, (1, 0, 0), workers)? == Some((0, 0)));
+        assert!(rt; pc_and_x7(&rt, &recording, (0, 0, 0), workers)? == None);
+        assert!(rt; pc_and_x7(&rt, &recording, (3, 0, 0), workers)? == None);
+        assert!(rt; pc_and_x7(&rt, &recording, (2, 2, 0), workers)? == None);
+    }
+    match pc_and_x7(&rt, &recording, (2, 0, 0), 17) {
+        Ok(_) => assert!(rt; false),
+        Err(error) => assert_eq!(rt; error.number(), 53),
     }
     Ok(())
 }

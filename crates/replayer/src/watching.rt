@@ -74,7 +74,11 @@ fn add(events: &mut Vec<Event>, event: Event) -> Result<(), OutOfMemory>
 fn is_hit(event: &Event, ranges: &[Range]) -> bool
     ensures { result ≡ is_hit ranges.now event.now }
 {
-    any_in(ranges, u128::from(address_of(event.access)), bytes_of(event.access))
+    any_in(
+        ranges,
+        u128::from(address_of(event.access)),
+        bytes_of(event.access),
+    )
 }
 
 /// Whether one of so many addresses does.
@@ -89,7 +93,8 @@ fn any_in(ranges: &[Range], address: u128, left: u8) -> bool
 fn is_watched(ranges: &[Range], address: u128) -> bool
     ensures { result ≡ is_watched ranges.now address }
 {
-    ranges.iter().any(|range| u128::from(range.start) <= address && address < u128::from(range.start) + u128::from(range.len))
+    ranges.iter().any(|range| u128::from(range.start) <= address
+        && address < u128::from(range.start) + u128::from(range.len))
 }
 
 fn address_of(access: Access) -> u64

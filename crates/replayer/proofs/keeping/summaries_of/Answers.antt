@@ -6,6 +6,7 @@ use Rattle.replayer.proofs.Kept.{have_seen, one_more_seen}
 use Rattle.replayer.proofs.keeping.summaries_of.Goals as goal
 
 pub loop-place-preserved : goal.loop-place-preserved
-loop-place-preserved c =
-    (rw c.in_ok-add_summary.ensures.ok (one_more_seen hart_view hart_summary_of c.loop-place.summaries.items c.hart_summary_of.result c.args.harts.now c.loop-place.place _ c.loop-place-test.true c.hart_summary_of.ensures.summary c.loop-place.invariant.0),
-    rw c.in_ok-add_summary.ensures.ok (have_seen hart_view c.loop-place.place 0 c.loop-place.place (λ i. hart_summary) c.loop-place.summaries.items c.hart_summary_of.result (omega arith) c.loop-place.invariant.1 c.hart_summary_of.ensures.ranges))
+loop-place-preserved c = (
+  rw c.in_ok-add_summary.ensures.ok (one_more_seen hart_view hart_summary_of c.loop-place.summaries.items c.hart_summary_of.result c.args.harts.now c.loop-place.place _ c.loop-place-test.true c.hart_summary_of.ensures.summary c.loop-place.invariant.0),
+  rw c.in_ok-add_summary.ensures.ok (have_seen hart_view c.loop-place.place 0 c.loop-place.place (λ i. hart_summary) c.loop-place.summaries.items c.hart_summary_of.result (omega arith) c.loop-place.invariant.1 c.hart_summary_of.ensures.ranges),
+)

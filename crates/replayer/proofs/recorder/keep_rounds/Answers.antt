@@ -15,11 +15,12 @@ loop-done-init g c =
 pub loop-done-preserved : goal.loop-done-preserved
 loop-done-preserved g c =
     let there : c.run.new.self ≡ after_rounds (c.loop-done.done + 1) c.args.machine.now = c.in_ok-run.ensures.ok ∙ ap (after_rounds 1) c.loop-done.invariant.0 ∙ more_rounds c.loop-done.done 1 c.args.machine.now in
-    let harts : c.run.new.self.plan.harts ≡ c.args.machine.now.plan.harts = ap (λ (m : Running). m.plan.harts) there in
-    (there,
-    c.in_ok-run.ensures.counted ∙ omega (arith, c.loop-done.invariant.1),
-    rw c.in_ok-add.ensures.ok (keeps_next kept_view c.loop-done.kept.items c.in_ok-of_round.of_round c.args.every c.args.rounds c.loop-done.done c.loop-done.machine c.run.new.self _ c.loop-done-test.true c.in_ok-run.ensures.ok c.in_ok-of_round.ensures.kept c.loop-done.invariant.2),
-    rw c.in_ok-add.ensures.ok (have_seen kept_view c.loop-done.done 1 (c.loop-done.done + 1) (kept_after c.args.machine.now.plan.harts c.args.every) c.loop-done.kept.items c.in_ok-of_round.of_round (omega arith) c.loop-done.invariant.3 (rw (sym harts) c.in_ok-of_round.ensures.ranges)))
+    let harts : c.run.new.self.plan.harts ≡ c.args.machine.now.plan.harts = ap (λ (m : Running). m.plan.harts) there in (
+      there,
+      c.in_ok-run.ensures.counted ∙ omega (arith, c.loop-done.invariant.1),
+      rw c.in_ok-add.ensures.ok (keeps_next kept_view c.loop-done.kept.items c.in_ok-of_round.of_round c.args.every c.args.rounds c.loop-done.done c.loop-done.machine c.run.new.self _ c.loop-done-test.true c.in_ok-run.ensures.ok c.in_ok-of_round.ensures.kept c.loop-done.invariant.2),
+      rw c.in_ok-add.ensures.ok (have_seen kept_view c.loop-done.done 1 (c.loop-done.done + 1) (kept_after c.args.machine.now.plan.harts c.args.every) c.loop-done.kept.items c.in_ok-of_round.of_round (omega arith) c.loop-done.invariant.3 (rw (sym harts) c.in_ok-of_round.ensures.ranges)),
+    )
 
 pub returns-clause-kept : goal.returns-clause-kept
 returns-clause-kept g c = keeps_all (map kept_view c.loop-done.kept.items) c.args.every c.args.rounds c.loop-done.done c.loop-done.machine _ c.loop-done-test.false c.loop-done.invariant.2

@@ -19,8 +19,9 @@ returns-then-not-agrees-clause-verdict g c =
     (omega arith, omega (arith, c.loop-place-test.true, size kept_view c.args.kept.now), λ j lo hi. c.loop-place.invariant.2 j lo (omega (arith, hi)), no)
 
 pub loop-place-preserved : goal.loop-place-preserved
-loop-place-preserved g c =
-    (c.in_ok-run.ensures.ok ∙ ap (after_rounds 1) c.loop-place.invariant.0 ∙ more_rounds c.loop-place.place 1 c.args.machine.now,
-    c.in_ok-run.ensures.counted ∙ omega (arith, c.loop-place.invariant.1),
-    up_to (Agrees (map kept_view c.args.kept.now) c.args.every c.args.machine.now) c.loop-place.place c.loop-place.invariant.2
-      (one_more (map kept_view c.args.kept.now) c.args.every c.args.machine.now c.loop-place.machine c.run.new.self c.loop-place.place (kept_view c.index-kept-place.result) c.loop-place.invariant.0 c.in_ok-run.ensures.ok (placed kept_view c.args.kept.now c.loop-place.place c.index-kept-place.result c.loop-place-test.true c.index-kept-place.is) (c.if-not-agrees.ensures.0 refl)))
+loop-place-preserved g c = (
+  c.in_ok-run.ensures.ok ∙ ap (after_rounds 1) c.loop-place.invariant.0 ∙ more_rounds c.loop-place.place 1 c.args.machine.now,
+  c.in_ok-run.ensures.counted ∙ omega (arith, c.loop-place.invariant.1),
+  up_to (Agrees (map kept_view c.args.kept.now) c.args.every c.args.machine.now) c.loop-place.place c.loop-place.invariant.2
+      (one_more (map kept_view c.args.kept.now) c.args.every c.args.machine.now c.loop-place.machine c.run.new.self c.loop-place.place (kept_view c.index-kept-place.result) c.loop-place.invariant.0 c.in_ok-run.ensures.ok (placed kept_view c.args.kept.now c.loop-place.place c.index-kept-place.result c.loop-place-test.true c.index-kept-place.is) (c.if-not-agrees.ensures.0 refl)),
+)

@@ -1,0 +1,72 @@
+ghost use Rattle.std.specs.Prelude.{◌≡◌, ◌≤◌, ◌<◌, ◌+◌, ◌^◌, Err, IfOk, IfErr};
+ghost use Rattle.elf_loader.specs.declared.load_error.LoadError.{LoadError as ImageCause};
+ghost use Rattle.round_planner.specs.Quotas.{Planned, quotas_of};
+ghost use Rattle.round_planner.specs.declared.plan_error.PlanError.{PlanError as PlanCause};
+ghost use Rattle.host_io.specs.declared.error.RunError.TheVariants as refusals;
+ghost use Rattle.round_schedule.specs.Past.{hart_after};
+ghost use Rattle.hart_step.specs.Words.{words_of};
+ghost use Rattle.machine.specs.Machine.{after_rounds};
+ghost use Rattle.machine.specs.Settings.{RefusedAs};
+ghost use Rattle.replayer.specs.Past.{hart_at};
+ghost use Rattle.replayer.specs.Refusals.{AreNoWorkers, AreWorkers, HasImage, HasImageCause, HasPlanCause, HasReason};
+ghost use Rattle.replayer.specs.Replayed.{IsPlanFor, start_of};
+
+use crate::opened::opened;
+use hart_step::Hart;
+use host_io::RunError;
+use machine::Machine;
+use recording::Recording;
+use std::alloc::Global;
+use std::sync::Wait;
+use std::thread::Threads;
+
+/// Hart `hart` after the first `count` instructions that it did in a round of the recording's run, serial ones counted; with
+/// all of them, the hart at the round's end, with its stop. `None` where there is no such round or hart, or where the hart
+/// did fewer. The first round is round 1. The recording is run anew, on 1 to 16 workers. It may wait.
+///
+/// # Errors
+///
+/// `WorkersOutOfRange`, then the refusals of the recording's image, then of its plan; `OutOfMemory`.
+pub fn state_at<R: Threads + Wait + Sync>(
+    rt: &R,
+    alloc: Global,
+    recording: &Recording,
+    round: u32,
+    hart: u32,
+    count: u64,
+    workers: u32,
+) -> Result<Option<Hart>, RunError>
+    ensures hart { IfOk result (λ h. (plan : Planned) × IsPlanFor recording.now plan × (h ≡ hart_at recording.now.rounds (start_of recording.now plan) round hart count)) }
+    ensures workers { AreNoWorkers workers → result ≡ Err refusals.WorkersOutOfRange }
+    ensures errors { AreWorkers workers → IfErr result (λ e. HasReason recording.now e) }
+    ensures image { (cause : ImageCause) → AreWorkers workers → HasImageCause recording.now cause → RefusedAs (refusals.Image cause) result }
+    // A plan is refused where the image is good.
+    ensures plan { (cause : PlanCause) → AreWorkers workers → HasImage recording.now → HasPlanCause recording.now cause → RefusedAs (refusals.Plan cause) result }
+{
+    let machine = opened(alloc, recording, workers)?;
+    if round == 0 {
+        return Ok(None);
+    }
+    if round > recording.rounds() {
+        return Ok(None);
+    }
+    hart_in_round(rt, machine, round - 1, hart, count, workers)
+}
+
+/// The hart within the round that comes after so many more rounds.
+fn hart_in_round<R: Threads + Wait + Sync>(
+    rt: &R,
+    mut machine: Machine,
+    before: u32,
+    hart: u32,
+    count: u64,
+    workers: u32,
+) -> Result<Option<Hart>, RunError>
+    requires workers { (1 ≤ workers) × (workers ≤ 16) }
+    requires rounds { machine.state.rounds + before + 1 < 2 ^ 32 }
+    ensures hart { IfOk result (λ h. h ≡ hart_after (words_of machine.code) machine.plan.budget (quotas_of machine.plan) (after_rounds before machine).state hart count) }
+    ensures refused { IfErr result (λ e. e ≡ refusals.OutOfMemory) }
+{
+    machine.run(rt, before, workers)?;
+    machine.hart_after(rt, hart, count, workers)
+}
