@@ -4,6 +4,7 @@ ghost use Rattle.host_io.specs.declared.error.RunError.TheVariants as refusals;
 ghost use Rattle.dethart.specs.declared.failure.Failure.TheVariants as failures;
 
 use host_io::RunError;
+use replayer::ReadError;
 use std::alloc::AllocError;
 use std::io;
 
@@ -16,6 +17,8 @@ pub(crate) enum Failure {
     NotText,
     /// The run was refused.
     Refused(RunError),
+    /// The file is no recording.
+    Unread(ReadError),
 }
 
 impl From<RunError> for Failure {
@@ -23,6 +26,14 @@ impl From<RunError> for Failure {
 
     fn from(error: RunError) -> Failure {
         Failure::Refused(error)
+    }
+}
+
+impl From<ReadError> for Failure {
+    ghost from_gives = { λ error failure. failure ≡ failures.Unread error };
+
+    fn from(error: ReadError) -> Failure {
+        Failure::Unread(error)
     }
 }
 
@@ -40,7 +51,7 @@ impl Failure {
         ensures { result ≡ status_of self.now }
     {
         match self {
-            Failure::Refused(_) => 1,
+            Failure::Refused(_) | Failure::Unread(_) => 1,
             Failure::Line(_) | Failure::NotText => 2,
         }
     }
@@ -51,6 +62,10 @@ impl Failure {
             Failure::Line(error) => error.print(rt),
             Failure::NotText => eprintln!(rt; "error: an argument isn't UTF-8"),
             Failure::Refused(error) => {
+                let number = error.number();
+                eprintln!(rt; "error {number}")
+            }
+            Failure::Unread(error) => {
                 let number = error.number();
                 eprintln!(rt; "error {number}")
             }

@@ -1,4 +1,4 @@
-ghost use Rattle.std.specs.Prelude.{◌≡◌, ◌++◌, ◌∷◌, [], IfOk, if◌then◌else◌};
+ghost use Rattle.std.specs.Prelude.{◌≡◌, ◌⊎◌, ◌++◌, ◌∷◌, [], IfOk, IfErr, if◌then◌else◌};
 
 use crate::files::read_file;
 use command_line::Run;
@@ -44,6 +44,48 @@ pub(crate) fn write_run<R: Threads + Wait + Sync, W: Write>(
     asked: Asked,
     out: &mut W,
 ) -> Result<(), RunError> {
+    let files = read_run(rt, run)?;
+    let settings = settings_of(run, files.plan.as_slice());
+    let mut sink = WriteSink::new(out);
+    match asked {
+        Asked::Report => emulate(
+            threads,
+            rt.alloc(),
+            &files.image,
+            &files.input,
+            &settings,
+            &mut sink,
+        ),
+        Asked::Order => order_run(
+            threads,
+            rt.alloc(),
+            &files.image,
+            &files.input,
+            &settings,
+            &mut sink,
+        ),
+    }
+}
+
+/// What a run reads of files.
+#[derive(Drop)]
+pub(crate) struct RunFiles {
+    /// The guest program.
+    pub(crate) image: Vec<u8>,
+    /// The text of the plan.
+    pub(crate) plan: Vec<u8>,
+    /// What the guest reads.
+    pub(crate) input: Vec<u8>,
+}
+
+/// Reads the files of a run.
+///
+/// # Errors
+///
+/// `SourceFailed` where one of them can't be opened or read, and `OutOfMemory`.
+pub(crate) fn read_run(rt: &HostRuntime, run: &Run<'_>) -> Result<RunFiles, RunError>
+    ensures { IfErr result (λ error. (error ≡ RunError.OutOfMemory) ⊎ (error ≡ RunError.SourceFailed)) }
+{
     let image = read_file(rt, run.image)?;
     let plan = match run.plan {
         Some(path) => read_file(rt, path)?,
@@ -53,12 +95,7 @@ pub(crate) fn write_run<R: Threads + Wait + Sync, W: Write>(
         Some(path) => read_file(rt, path)?,
         None => Vec::new(rt.alloc()),
     };
-    let settings = settings_of(run, plan.as_slice());
-    let mut sink = WriteSink::new(out);
-    match asked {
-        Asked::Report => emulate(threads, rt.alloc(), &image, &input, &settings, &mut sink),
-        Asked::Order => order_run(threads, rt.alloc(), &image, &input, &settings, &mut sink),
-    }
+    Ok(RunFiles { image, plan, input })
 }
 
 /// The plan of one row.

@@ -1,4 +1,5 @@
 mod programs;
+mod recorded;
 
 use crate::failure::Failure;
 use crate::files::read_file;

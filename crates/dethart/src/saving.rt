@@ -1,0 +1,71 @@
+//! Recordings in files: a file holds a whole one, or what it held before.
+
+use host_io::{RunError, WriteSink};
+use replayer::{Recording, write_recording};
+use std::fs;
+use std::io::{self, BufWriter, Write};
+
+/// Writes a recording to a file.
+///
+/// It is written under a name of its own, the path with `.part` after it, and renamed when it is whole: so that one that
+/// couldn't be finished is never taken for a recording. What is no plain file, as a device, is written to as it is.
+///
+/// # Errors
+///
+/// `SinkFailed` where the file can't be made or written, and `OutOfMemory`. The path holds then what it held before.
+pub(crate) fn save(rt: &HostRuntime, recording: &Recording, path: &str) -> Result<(), RunError> {
+    if is_other_than_a_file(rt, path) {
+        return write_to(rt, recording, path);
+    }
+    let Ok(part) = format!(in rt.alloc(); "{path}.part") else {
+        return Err(RunError::OutOfMemory);
+    };
+    match write_to(rt, recording, part.as_str()) {
+        Ok(()) => rename(rt, part.as_str(), path),
+        Err(error) => {
+            // What is left of it doesn't matter: it hasn't the name of a recording.
+            let _left = fs::remove_file(rt, part.as_str());
+            Err(error)
+        }
+    }
+}
+
+/// Whether there is something at the path that is no plain file.
+fn is_other_than_a_file(rt: &HostRuntime, path: &str) -> bool {
+    match fs::metadata(rt, path) {
+        Ok(found) => !found.is_file(),
+        Err(_) => false,
+    }
+}
+
+/// Writes the text of a recording to a file, in place of what was there.
+fn write_to(rt: &HostRuntime, recording: &Recording, path: &str) -> Result<(), RunError> {
+    let file = match fs::create(rt, path) {
+        Ok(file) => file,
+        Err(error) => return Err(failed(error.kind())),
+    };
+    let Ok(mut out) = BufWriter::new(rt.alloc(), file) else {
+        return Err(RunError::OutOfMemory);
+    };
+    write_recording(rt.alloc(), recording, &mut WriteSink::new(&mut out))?;
+    match out.flush() {
+        Ok(()) => Ok(()),
+        Err(error) => Err(failed(error.kind())),
+    }
+}
+
+/// Gives the file at a path another name.
+fn rename(rt: &HostRuntime, from: &str, to: &str) -> Result<(), RunError> {
+    match fs::rename(rt, from, to) {
+        Ok(()) => Ok(()),
+        Err(error) => Err(failed(error.kind())),
+    }
+}
+
+/// The refusal for an error of the system at a file that is written.
+fn failed(kind: io::ErrorKind) -> RunError {
+    match kind {
+        io::ErrorKind::OutOfMemory => RunError::OutOfMemory,
+        _ => RunError::SinkFailed,
+    }
+}
