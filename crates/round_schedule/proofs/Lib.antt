@@ -4,6 +4,7 @@ pub mod Forms
 pub mod Holding
 pub mod Local
 pub mod Longest
+pub mod LongestTurn
 pub mod Machines
 pub mod PastAnswers
 pub mod PastAsking

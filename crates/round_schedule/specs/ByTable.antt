@@ -1,18 +1,25 @@
 -- A machine that keeps a table of reservations and never looks at its trace, and what ties it to a run.
 use Rattle.std.specs.Prelude.{◌≡◌, ℕ, zero, suc, ◌+◌, List, [], ◌∷◌, ◌++◌, length, replicate, slice_index, Option, None}
 use Rattle.pages.specs.Memory.{IsBytes, after}
+use Rattle.round_schedule.specs.declared.event.Event.{Event}
 use Rattle.round_schedule.specs.declared.span.Span.{Span}
 use Rattle.round_schedule.specs.Desk.{Counter, counter_from, log_events}
 use Rattle.round_schedule.specs.Held.{unless}
 use Rattle.round_schedule.specs.RoundTrace.{IsRoundTrace}
 use Rattle.round_schedule.specs.Schedule.{Words, HartRound, State, hart_rounds, all_stores, events_from, opening_state, round_of, run_of}
 use Rattle.round_schedule.specs.Sound.{Sound}
-use Rattle.round_schedule.specs.Tables.{covered_by_others, Tied}
+use Rattle.round_schedule.specs.Tables.{Commits, Tied, covered_by_others}
 
 -- the entries of harts h, h + 1, .. after the commit of these rounds
 abbrev pub committed_table : {H : Type 0} → ℕ → List (HartRound H) → List (Option Span) → List (Option Span)
 committed_table h rs [] = []
 committed_table h rs (r ∷ table) = unless (covered_by_others h 0 rs) r ∷ committed_table (suc h) rs table
+
+-- where a table is what the trace says, the table after a commit is what the trace with the round's parallel events says
+abbrev pub CommitsByTable : (H C : Type 0) → Type 0
+CommitsByTable H C =
+    (w : Words H C) → Sound w → (bs : List ℕ) → IsBytes bs → (n : ℕ) (qs : List ℕ) (hs : List H) (old new : List (Option Span)) (t : List Event) →
+    Tied old t → Commits (hart_rounds w bs qs hs) old new → Tied new (t ++ events_from n 0 (hart_rounds w bs qs hs))
 
 -- a state with its table
 pub record Tabled (H C : Type 0) : Type 0 where

@@ -1,5 +1,5 @@
 -- The schedule of a run, over any set of instructions: the round of one hart, the commit, the serial turns, a round, a run.
-use Rattle.std.specs.Prelude.{◌≡◌, ℕ, zero, suc, ◌+◌, ◌<◌, ◌⊎◌, Bool, true, false, if◌then◌else◌, List, [], ◌∷◌, ◌++◌, length, slice_index, Option, option_to_list}
+use Rattle.std.specs.Prelude.{◌≡◌, ℕ, zero, suc, ◌+◌, ◌<◌, ◌≤◌, ◌⊎◌, Bool, true, false, if◌then◌else◌, List, [], ◌∷◌, ◌++◌, length, slice_index, Option, option_to_list}
 use Rattle.pages.specs.declared.access.Store.{Store}
 use Rattle.pages.specs.Memory.{after, last_byte}
 use Rattle.round_schedule.specs.declared.access.Access.{Access}
@@ -168,6 +168,48 @@ turn_from w n i (suc k) p =
 abbrev pub turn_of : {H C : Type 0} → Words H C → ℕ → State H C → ℕ → HartRound H → Turn H C
 turn_of w budget s i r =
     turn_from w s.rounds i (if r.waits then budget else 0) (record { hart = r.last.hart; bytes = s.bytes; console = s.console; trace = s.trace })
+
+-- the same as a sequence of states, each from the one before by one instruction
+
+-- the state after an instruction that is done: memory has its stores, and the trace the access that it left
+abbrev pub turn_went : {H C : Type 0} → ℕ → ℕ → Turn H C → SerialOutcome H C → Option Access → Turn H C
+turn_went n i p o a = record { hart = o.hart; bytes = after p.bytes o.stores; console = o.console; trace = p.trace ++ events_of n i Serial (option_to_list a) }
+
+-- the state after one that waits or stops its hart: the hart is as the instruction leaves it, and all else is as it was
+abbrev pub turn_halted : {H C : Type 0} → Turn H C → SerialOutcome H C → Turn H C
+turn_halted p o = record p { hart = o.hart }
+
+-- a further instruction of hart i's turn in round n: the hart isn't stopped, and its next instruction is done
+abbrev pub TurnGoes : {H C : Type 0} → Words H C → ℕ → ℕ → Turn H C → Turn H C → Type 0
+TurnGoes w n i p q = (w.stopped p.hart ≡ false) × ((a : Option Access) × ((serial_next w n i p).answer ≡ Done a) × (q ≡ turn_went n i p (serial_next w n i p) a))
+
+-- a sequence of instructions that begins at p and leads to t: the states after each of them, in order
+abbrev pub TurnReaches : {H C : Type 0} → Words H C → ℕ → ℕ → Turn H C → List (Turn H C) → Turn H C → Type 0
+TurnReaches w n i p [] t = t ≡ p
+TurnReaches w n i p (q ∷ qs) t = TurnGoes w n i p q × TurnReaches w n i q qs t
+
+-- the sequence may end only here, with j instructions of the budget left: none are left, the hart is or gets stopped, or its next one waits
+abbrev pub TurnEnds : {H C : Type 0} → Words H C → ℕ → ℕ → ℕ → Turn H C → Turn H C → Type 0
+TurnEnds w n i j t r =
+    ((j ≡ 0) × (r ≡ t))
+    ⊎ (((w.stopped t.hart ≡ true) × (r ≡ t))
+    ⊎ (((0 < j) × (w.stopped t.hart ≡ false) × ((serial_next w n i t).answer ≡ Waits) × (r ≡ turn_halted t (serial_next w n i t)))
+    ⊎ ((code : ℕ) × (0 < j) × (w.stopped t.hart ≡ false) × ((serial_next w n i t).answer ≡ Stopped code) × (r ≡ turn_halted t (serial_next w n i t)))))
+
+-- a hart's serial turn is a sequence of at most k instructions up to where it may end, and r is how it ends
+abbrev pub IsSerialTurn : {H C : Type 0} → Words H C → ℕ → ℕ → ℕ → Turn H C → List (Turn H C) → Turn H C → Type 0
+IsSerialTurn {H} {C} w n i k p qs r = (j : ℕ) × (t : Turn H C) × (length qs + j ≡ k) × TurnReaches w n i p qs t × TurnEnds w n i j t r
+
+-- exactly one sequence is a turn, it ends as `turn_from` says, and each sequence of at most k instructions is a beginning of it
+pub record HasOneTurn {H C : Type 0} (w : Words H C) (n i k : ℕ) (p : Turn H C) : Type 0 where
+  pub states : List (Turn H C)
+  pub turn : IsSerialTurn w n i k p states (turn_from w n i k p)
+  pub only : (qs : List (Turn H C)) (r : Turn H C) → IsSerialTurn w n i k p qs r → (qs ≡ states) × (r ≡ turn_from w n i k p)
+  pub longest : (qs : List (Turn H C)) (t : Turn H C) → length qs ≤ k → TurnReaches w n i p qs t → (rest : List (Turn H C)) × (qs ++ rest ≡ states)
+
+-- so it is from each state, within each budget
+abbrev pub SerialTurnIsLongest : (H C : Type 0) → Type 0
+SerialTurnIsLongest H C = (w : Words H C) (n i k : ℕ) (p : Turn H C) → HasOneTurn w n i k p
 
 abbrev pub joined : {H C : Type 0} → State H C → Turn H C → State H C
 joined s p = record { harts = s.harts ++ p.hart ∷ []; bytes = p.bytes; console = p.console; trace = p.trace; rounds = s.rounds }

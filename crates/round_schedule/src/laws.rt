@@ -1,12 +1,12 @@
 //! Laws of the definitions, each the contract of a function that does nothing.
 
 ghost use Rattle.round_schedule.specs.HeldBy.{HeldIsByLastReserve};
-ghost use Rattle.round_schedule.specs.ByTable.{RoundsByTable, RunsByTable};
+ghost use Rattle.round_schedule.specs.ByTable.{CommitsByTable, RoundsByTable, RunsByTable};
 ghost use Rattle.round_schedule.specs.Desk.{SerialPhaseByTable};
 ghost use Rattle.round_schedule.specs.Past.{PastEndsInRound};
 ghost use Rattle.round_schedule.specs.Places.{EventsPass, PlacesOfRunsRise};
 ghost use Rattle.round_schedule.specs.Preserved.{RoundsPreserve};
-ghost use Rattle.round_schedule.specs.Schedule.{CommitIsLastStore, HartRoundIsLongest};
+ghost use Rattle.round_schedule.specs.Schedule.{CommitIsLastStore, HartRoundIsLongest, SerialTurnIsLongest};
 ghost use Rattle.round_schedule.specs.Sound.{TracesAreRoundTraces};
 ghost use Rattle.round_schedule.specs.Stopped.{StoppedRunsPass};
 
@@ -17,6 +17,15 @@ ghost use Rattle.round_schedule.specs.Stopped.{StoppedRunsPass};
 /// instruction that has to wait for the serial phase. There is exactly one such round.
 pub fn hart_round_is_longest<H, C>()
     ensures { HartRoundIsLongest H C }
+{}
+
+/// A hart's serial turn is the one longest sequence of its instructions, up to the budget.
+///
+/// Each instruction reads memory, the console and the hart's reservation as the ones before it left them, and the number
+/// of the round. The sequence ends where the budget is used up, where the hart is stopped or gets stopped, or before an
+/// instruction that waits. There is exactly one such turn, and each sequence within the budget is a beginning of it.
+pub fn serial_turn_is_longest<H, C>()
+    ensures { SerialTurnIsLongest H C }
 {}
 
 /// Each byte after the commit is that of the last store to it in hart order, and else the byte of the round's start.
@@ -44,6 +53,12 @@ pub fn traces_are_round_traces<H, C>()
 /// table after it is what the trace after it says.
 pub fn serial_phase_by_table<H, C>()
     ensures { SerialPhaseByTable H C }
+{}
+
+/// Where a table of reservations is what the trace says, the table after a commit is what the trace with the round's
+/// parallel events says.
+pub fn commits_by_table<H, C>()
+    ensures { CommitsByTable H C }
 {}
 
 /// Over sound instructions, and where the table is what the trace says, a round over the table is the round over the
