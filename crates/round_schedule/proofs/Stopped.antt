@@ -1,12 +1,12 @@
 -- Where all harts have stopped, a round does nothing, and so does a run.
-use Rattle.std.proofs.Common.{◌≡◌, ℕ, zero, suc, ◌+◌, Bool, true, false, if◌then◌else◌, List, [], ◌∷◌, ◌++◌, All, refl, sym, ap, ◌∙◌, subst, arith, append_assoc}
+use Rattle.std.proofs.Common.{◌≡◌, ℕ, zero, suc, ◌+◌, Bool, true, false, if◌then◌else◌, List, [], ◌∷◌, ◌++◌, All, refl, sym, ap, ◌∙◌, arith, append_assoc}
 use Rattle.std.proofs.lemmas.Bool.{false≢true}
 use Rattle.std.proofs.lemmas.List.{append-nil}
 use Rattle.std.proofs.lemmas.List.Elements.{All-head}
 use Rattle.pages.specs.declared.access.Store.{Store}
 use Rattle.pages.specs.Memory.{after}
 use Rattle.round_schedule.specs.declared.event.Event.{Event}
-use Rattle.round_schedule.specs.Schedule.{HartRound, Progress, State, Turn, Words, all_stores, began, by_answer, committed, ended, events_from, first_or_zero, hart_round_of, hart_rounds, joined, next_of, rest_of, round_from, round_of, run_of, serial_from, turn_from, turn_of}
+use Rattle.round_schedule.specs.Schedule.{HartRound, State, Words, all_stores, began, by_answer, committed, ended, events_from, first_or_zero, hart_rounds, next_of, rest_of, round_from, round_of, run_of, serial_from, turn_from}
 use Rattle.round_schedule.specs.Stopped.{StoppedRunsPass}
 
 module _ {H C : Type 0} (w : Words H C) where
