@@ -6,8 +6,8 @@ ghost use Rattle.commit_phase.specs.Commit.{IsWritable, all_buffered, covered_fr
 ghost use Rattle.commit_phase.specs.Shards.{IsShardReady, ShardWritten};
 
 use crate::buffered::Buffered;
-use crate::in_turn::break_all;
 use crate::gate::ShardGate;
+use crate::in_turn::break_all;
 use crate::shard::write_all;
 use pages::{Pages, Part};
 use reservations::Reservations;
