@@ -124,7 +124,7 @@ fn replay_command<'a>(alloc: Global) -> Result<Command<'a>, AllocError>
             alloc,
             "every",
             "64",
-            "Keep a machine after each N-th round, to go on from: 0 to 4294967295, 0 only the first",
+            "Of no effect so far: one question goes on from the first round",
         ))
 }
 
