@@ -189,13 +189,14 @@ fn reserved_accesses_hit(rt: HostRuntime) -> Result<(), Fail> {
 /// The pc and x7 of a hart within a round of a recording.
 fn pc_and_x7<R: Threads + Wait + Sync>(
     rt: &R,
+    alloc: Global,
     recording: &Recording,
     place: (u32, u32, u64),
     workers: u32,
 ) -> Result<Option<(u64, u64)>, RunError> {
     let (round, hart, count) = place;
     Ok(
-        match state_at(rt, rt.alloc(), recording, round, hart, count, workers)? {
+        match state_at(rt, alloc, recording, round, hart, count, workers)? {
             Some(hart) => Some((hart.pc, hart.x[7])),
             None => None,
         },
@@ -204,19 +205,20 @@ fn pc_and_x7<R: Threads + Wait + Sync>(
 
 #[test]
 fn a_hart_within_a_round(rt: HostRuntime) -> Result<(), Fail> {
-    let recording = record(&rt, rt.alloc(), &RESERVED, &[], &settings(2, b"3 2\n3 3\n"))?;
+    let alloc = rt.alloc();
+    let recording = record(&rt, alloc, &RESERVED, &[], &settings(2, b"3 2\n3 3\n"))?;
     for workers in [1, 4] {
         // Hart 0 stands before the SC when round 2 begins, fails at it in its turn, and does nothing else in that round.
-        assert!(rt; pc_and_x7(&rt, &recording, (2, 0, 0), workers)? == Some((0xc, 0)));
-        assert!(rt; pc_and_x7(&rt, &recording, (2, 0, 1), workers)? == Some((0x10, 1)));
-        assert!(rt; pc_and_x7(&rt, &recording, (2, 0, 2), workers)? == None);
+        assert!(rt; pc_and_x7(&rt, alloc, &recording, (2, 0, 0), workers)? == Some((0xc, 0)));
+        assert!(rt; pc_and_x7(&rt, alloc, &recording, (2, 0, 1), workers)? == Some((0x10, 1)));
+        assert!(rt; pc_and_x7(&rt, alloc, &recording, (2, 0, 2), workers)? == None);
         // There are rounds 1 and 2, and harts 0 and 1.
-        assert!(rt; pc_and_x7(&rt, &recording, (1, 0, 0), workers)? == Some((0, 0)));
-        assert!(rt; pc_and_x7(&rt, &recording, (0, 0, 0), workers)? == None);
-        assert!(rt; pc_and_x7(&rt, &recording, (3, 0, 0), workers)? == None);
-        assert!(rt; pc_and_x7(&rt, &recording, (2, 2, 0), workers)? == None);
+        assert!(rt; pc_and_x7(&rt, alloc, &recording, (1, 0, 0), workers)? == Some((0, 0)));
+        assert!(rt; pc_and_x7(&rt, alloc, &recording, (0, 0, 0), workers)? == None);
+        assert!(rt; pc_and_x7(&rt, alloc, &recording, (3, 0, 0), workers)? == None);
+        assert!(rt; pc_and_x7(&rt, alloc, &recording, (2, 2, 0), workers)? == None);
     }
-    match pc_and_x7(&rt, &recording, (2, 0, 0), 17) {
+    match pc_and_x7(&rt, alloc, &recording, (2, 0, 0), 17) {
         Ok(_) => assert!(rt; false),
         Err(error) => assert_eq!(rt; error.number(), 53),
     }

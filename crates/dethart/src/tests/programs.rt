@@ -25,7 +25,7 @@ fn answer<R: Threads + Wait + Sync>(
     let answer = match parse_line(rt.alloc(), words) {
         Ok(Command::Run(run)) => write_run(rt, threads, &run, Asked::Report, &mut text),
         Ok(Command::Order(run)) => write_run(rt, threads, &run, Asked::Order, &mut text),
-        Err(_error) => return (2, text),
+        _ => return (2, text),
     };
     match answer {
         Ok(()) => (0, text),
