@@ -4,8 +4,6 @@
 #[cfg(test)]
 mod budgets;
 #[cfg(test)]
-mod copies;
-#[cfg(test)]
 mod example_files;
 #[cfg(test)]
 mod guests;
@@ -21,8 +19,6 @@ mod lost_update;
 mod memory;
 #[cfg(test)]
 mod orders;
-#[cfg(test)]
-mod past;
 #[cfg(test)]
 mod refusals;
 #[cfg(test)]
