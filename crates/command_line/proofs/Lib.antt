@@ -1,4 +1,5 @@
 mod Chains
 mod Lines
-mod Numbers
+mod Numerals
+mod Pairs
 mod Texts

@@ -9,7 +9,7 @@ use Rattle.clap.specs.declared.error.kind.ErrorKind.TheVariants.{ValueValidation
 use Rattle.clap.specs.Walk.{answers_to, finished, nothing_held, rows_after, settled, walk, walk_from}
 use Rattle.clap.specs.Words.{Row, Text, subcommand_of}
 use Rattle.command_line.specs.Options.{dethart_app}
-use Rattle.command_line.specs.Reading.{IsSubcommand, address_fault, has_bad_address, line_fault}
+use Rattle.command_line.specs.Reading.{IsSubcommand, word_fault, has_bad_word, line_fault}
 
 pub simple : is_simple dethart_app ≡ true
 simple = refl
@@ -73,8 +73,13 @@ is_known name (inr (inl e)) = inr (inl e)
 is_known name (inr (inr (inl e))) = inr (inr (inl e))
 is_known name (inr (inr (inr (inl e)))) = inr (inr (inr (inl e)))
 is_known name (inr (inr (inr (inr (inl e))))) = inr (inr (inr (inr (inl e))))
-is_known name (inr (inr (inr (inr (inr (inl e)))))) = inr (inr (inr (inr (inr e))))
-is_known name (inr (inr (inr (inr (inr (inr e)))))) = absurd e
+is_known name (inr (inr (inr (inr (inr (inl e)))))) = inr (inr (inr (inr (inr (inl e)))))
+is_known name (inr (inr (inr (inr (inr (inr (inl e))))))) = inr (inr (inr (inr (inr (inr (inl e))))))
+is_known name (inr (inr (inr (inr (inr (inr (inr (inl e)))))))) = inr (inr (inr (inr (inr (inr (inr (inl e)))))))
+is_known name (inr (inr (inr (inr (inr (inr (inr (inr (inl e))))))))) = inr (inr (inr (inr (inr (inr (inr (inr (inl e))))))))
+is_known name (inr (inr (inr (inr (inr (inr (inr (inr (inr (inl e)))))))))) = inr (inr (inr (inr (inr (inr (inr (inr (inr (inl e)))))))))
+is_known name (inr (inr (inr (inr (inr (inr (inr (inr (inr (inr (inl e))))))))))) = inr (inr (inr (inr (inr (inr (inr (inr (inr (inr e)))))))))
+is_known name (inr (inr (inr (inr (inr (inr (inr (inr (inr (inr (inr e))))))))))) = absurd e
 
 -- an error of clap's is one of the line's
 pub kept_first : (e : Error) (a b : Kinds) → HasKind a e → HasKind (or_else a b) e
@@ -83,12 +88,12 @@ kept_first e (k ∷ ks) b (inl h) = inl h
 kept_first e [] b (inr h) = absurd h
 kept_first e (k ∷ ks) b (inr h) = inr h
 
--- where clap has none, the ADDRESS says which there is
+-- where clap has none, the words that the program reads say which there is
 pub after_clap : (words : List Text) (name : Text) (rows : List Row) (bad : Bool) → fault_of dethart_app words ≡ [] → subcommand_of dethart_app words ≡ Some (name, rows)
-    → has_bad_address name rows ≡ bad → line_fault words ≡ cond bad (ValueValidation ∷ []) []
+    → has_bad_word name rows ≡ bad → line_fault words ≡ cond bad (ValueValidation ∷ []) []
 after_clap words name rows bad none is e =
-    ap (λ k. or_else k (address_fault (subcommand_of dethart_app words))) none
-    ∙ (ap address_fault is ∙ ap (λ b. cond b (ValueValidation ∷ []) []) e)
+    ap (λ k. or_else k (word_fault (subcommand_of dethart_app words))) none
+    ∙ (ap word_fault is ∙ ap (λ b. cond b (ValueValidation ∷ []) []) e)
 
 -- the name of the subcommand, by its rows
 pub name_of : {X : Type 0} (f : X → Text × List Row) (o : Option X) → option_map (λ x. (f x).0) o ≡ option_map (λ p. p.0) (option_map f o)

@@ -1,5 +1,5 @@
--- A text with a default, as text, and a text with a front that may be there.
-use Rattle.std.proofs.Common.{◌≡◌, ◌∙◌, ℕ, List, Option, Some, None, Bor, true, false, refl, sym, ap, subst, nat_eq, option_map, unwrap_or}
+-- A text with a default, as text, a text with a front that may be there, and an answer that is none.
+use Rattle.std.proofs.Common.{◌≡◌, ◌∙◌, ℕ, Bool, List, Option, Some, None, Bor, true, false, refl, sym, ap, subst, nat_eq, not, option_map, true≢false, unwrap_or}
 use Rattle.std.specs.Str.{IsCharBoundary}
 use Rattle.std.specs.Str.Pattern.{FindsTextPrefix, StripsPrefix}
 use Rattle.std.specs.List.{starts_with}
@@ -18,3 +18,9 @@ has_front front text rest h = starts_text true front text (h.0, h.1, subst (λ k
 
 pub lacks_front : (front text : List ℕ) → FindsTextPrefix front text None → false ≡ starts_with nat_eq text front
 lacks_front front text h = starts_text false front text h
+
+pub turned : (a b : Bool) → a ≡ not b → b ≡ not a
+turned true true e = absurd (true≢false e)
+turned true false e = refl
+turned false true e = refl
+turned false false e = absurd (true≢false (sym e))

@@ -1,7 +1,7 @@
 -- The command line, as a command of clap.
-use Rattle.std.specs.Prelude.{List, [], ◌∷◌, Some, true, codes, pos}
+use Rattle.std.specs.Prelude.{List, [], ◌∷◌, Some, true, codes, fold, pos}
 use Rattle.clap.specs.Words.{App, Rule, Text, new_app, new_rule, with_rule, with_subcommand}
-use Rattle.clap.specs.declared.builder.action.ArgAction.TheVariants.{SetTrue}
+use Rattle.clap.specs.declared.builder.action.ArgAction.TheVariants.{Append, SetTrue}
 use Rattle.clap.specs.declared.builder.value_parser.ValueParser.{ValueParser}
 use Rattle.clap.specs.declared.builder.value_parser.ValueParser.TheVariants as parser
 
@@ -16,13 +16,20 @@ wide = parser.Unsigned 0 18446744073709551615
 abbrev pub positional_rule : Text → Rule
 positional_rule id = record (new_rule id) { value_names = 1; required = true }
 
--- the same of a number of 64 bits
+-- the same of a number of 32 bits, or of 64
+abbrev pub number_positional_rule : Text → Rule
+number_positional_rule id = record (positional_rule id) { parser = Some narrow }
+
 abbrev pub wide_positional_rule : Text → Rule
 wide_positional_rule id = record (positional_rule id) { parser = Some wide }
 
--- the option --flat
-abbrev pub flat_rule : Rule
-flat_rule = record (new_rule (codes "flat")) { long = Some (codes "flat"); action = Some SetTrue }
+-- one argument or more of the name, of which one must be there
+abbrev pub several_rule : Text → Rule
+several_rule id = record (positional_rule id) { action = Some Append }
+
+-- an option --NAME without a value
+abbrev pub flag_rule : Text → Rule
+flag_rule name = record (new_rule name) { long = Some name; action = Some SetTrue }
 
 -- an option --NAME with a value
 abbrev pub text_rule : Text → Rule
@@ -31,6 +38,10 @@ text_rule name = record (new_rule name) { long = Some name; value_names = 1 }
 -- the same where the value is a number of 32 bits
 abbrev pub number_given_rule : Text → Rule
 number_given_rule name = record (text_rule name) { parser = Some narrow }
+
+-- and one that must be there
+abbrev pub number_wanted_rule : Text → Rule
+number_wanted_rule name = record (number_given_rule name) { required = true }
 
 -- an option --NAME with a value and a default
 abbrev pub defaulted_rule : Text → Text → Rule
@@ -43,19 +54,77 @@ number_rule name default = record (defaulted_rule name default) { parser = Some 
 abbrev pub wide_number_rule : Text → Text → Rule
 wide_number_rule name default = record (defaulted_rule name default) { parser = Some wide }
 
--- what `run` and `order` take
-abbrev pub run_rules : List Rule
-run_rules =
+-- the option --see, which may be there several times, each time with two values
+abbrev pub see_rule : Rule
+see_rule = record (new_rule (codes "see")) {
+  long = Some (codes "see");
+  value_names = 2;
+  action = Some Append;
+}
+
+-- what a guest program is run with; without --rounds there are so many
+abbrev pub program_rules : Text → List Rule
+program_rules rounds =
     positional_rule (codes "image")
-    ∷ flat_rule
+    ∷ flag_rule (codes "flat")
     ∷ number_rule (codes "harts") (codes "1")
     ∷ number_rule (codes "pages") (codes "256")
-    ∷ defaulted_rule (codes "quota") (codes "1000")
-    ∷ text_rule (codes "plan")
-    ∷ number_rule (codes "rounds") (codes "1000")
+    ∷ number_rule (codes "rounds") rounds
     ∷ number_rule (codes "workers") (codes "4")
-    ∷ number_rule (codes "budget") (codes "1")
     ∷ text_rule (codes "input")
+    ∷ flag_rule (codes "progress")
+    ∷ []
+
+-- which plan a run goes by: one that the line gives, or one of the family
+abbrev pub plan_rules : List Rule
+plan_rules =
+    defaulted_rule (codes "quota") (codes "1000")
+    ∷ text_rule (codes "plan")
+    ∷ number_rule (codes "budget") (codes "1")
+    ∷ number_given_rule (codes "plan-number")
+    ∷ wide_number_rule (codes "seed") (codes "1")
+    ∷ []
+
+-- what of a run is printed
+abbrev pub print_rules : List Rule
+print_rules =
+    defaulted_rule (codes "show") (codes "report")
+    ∷ flag_rule (codes "no-trace")
+    ∷ flag_rule (codes "strict")
+    ∷ []
+
+-- where a recording goes, and which registers it has
+abbrev pub record_rules : List Rule
+record_rules = positional_rule (codes "out") ∷ number_rule (codes "every") (codes "0") ∷ []
+
+-- what is drawn
+abbrev pub draw_rules : List Rule
+draw_rules =
+    see_rule ∷ number_given_rule (codes "from") ∷ number_given_rule (codes "to") ∷ []
+
+-- the family of plans that a program is run by, and what is seen of each run
+abbrev pub search_rules : List Rule
+search_rules = wide_number_rule (codes "seed") (codes "1") ∷ see_rule ∷ []
+
+-- which plans of the family these are
+abbrev pub hunt_rules : List Rule
+hunt_rules =
+    number_rule (codes "plans") (codes "1000") ∷ number_rule (codes "first") (codes "0") ∷ []
+
+-- the plan of the family that is made smaller
+abbrev pub shrink_rules : List Rule
+shrink_rules = number_wanted_rule (codes "plan-number") ∷ []
+
+-- what `merge` takes
+abbrev pub merge_rules : List Rule
+merge_rules = several_rule (codes "table") ∷ []
+
+-- what `plan` takes
+abbrev pub family_rules : List Rule
+family_rules =
+    number_positional_rule (codes "number")
+    ∷ number_rule (codes "harts") (codes "1")
+    ∷ wide_number_rule (codes "seed") (codes "1")
     ∷ []
 
 -- what `replay` takes
@@ -82,19 +151,30 @@ watch_rules =
 abbrev pub migrate_rules : List Rule
 migrate_rules = positional_rule (codes "recording") ∷ positional_rule (codes "out") ∷ []
 
+-- the command with these arguments too, one after another
+abbrev pub with_rules : App → List Rule → App
+with_rules = fold with_rule
+
 -- a subcommand that takes these
 abbrev pub taking : Text → List Rule → App
-taking name rules = record { top = record (new_app name).top { rules = rules }; subs = [] }
+taking name rules = with_rules (new_app name) rules
 
--- a subcommand that runs a guest program
-abbrev pub program_app : Text → App
-program_app name = taking name run_rules
+-- a subcommand that runs a guest program by one plan
+abbrev pub running : Text → App
+running name = with_rules (taking name (program_rules (codes "1000"))) plan_rules
 
--- `record` takes what `run` does, and two more
+-- a subcommand that runs a guest program by plans of the family
+abbrev pub searching : Text → App
+searching name = with_rules (taking name (program_rules (codes "10000"))) search_rules
+
+abbrev pub run_app : App
+run_app = with_rules (running (codes "run")) print_rules
+
+abbrev pub order_app : App
+order_app = running (codes "order")
+
 abbrev pub record_app : App
-record_app = with_rule
-    (with_rule (program_app (codes "record")) (positional_rule (codes "out")))
-    (number_rule (codes "every") (codes "0"))
+record_app = with_rules (running (codes "record")) record_rules
 
 abbrev pub replay_app : App
 replay_app = taking (codes "replay") replay_rules
@@ -105,25 +185,47 @@ watch_app = taking (codes "watch") watch_rules
 abbrev pub migrate_app : App
 migrate_app = taking (codes "migrate") migrate_rules
 
--- `dethart` without its subcommands, of which it must be given one
+abbrev pub hunt_app : App
+hunt_app = with_rules (searching (codes "hunt")) hunt_rules
+
+abbrev pub shrink_app : App
+shrink_app = with_rules (searching (codes "shrink")) shrink_rules
+
+abbrev pub merge_app : App
+merge_app = taking (codes "merge") merge_rules
+
+abbrev pub plan_app : App
+plan_app = taking (codes "plan") family_rules
+
+abbrev pub draw_app : App
+draw_app = with_rules (running (codes "draw")) draw_rules
+
+-- `dethart` without its subcommands, of which it must be given one where it isn't asked for its version
 abbrev pub bare_app : App
 bare_app = record {
   top = record (new_app (codes "dethart")).top {
+    has_version = true;
     subcommand_required = true;
     disable_help_subcommand = true;
   };
   subs = [];
 }
 
+-- the subcommands
+abbrev pub subcommands : List App
+subcommands =
+    run_app
+    ∷ order_app
+    ∷ record_app
+    ∷ replay_app
+    ∷ watch_app
+    ∷ migrate_app
+    ∷ hunt_app
+    ∷ shrink_app
+    ∷ merge_app
+    ∷ plan_app
+    ∷ draw_app
+    ∷ []
+
 abbrev pub dethart_app : App
-dethart_app = with_subcommand
-    (with_subcommand
-    (with_subcommand
-    (with_subcommand
-    (with_subcommand
-    (with_subcommand bare_app (program_app (codes "run")).top)
-    (program_app (codes "order")).top)
-    record_app.top)
-    replay_app.top)
-    watch_app.top)
-    migrate_app.top
+dethart_app = fold (λ app sub. with_subcommand app sub.top) bare_app subcommands

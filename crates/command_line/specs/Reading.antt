@@ -1,21 +1,34 @@
 -- What a command line says, by the matches that clap has on it.
-use Rattle.std.specs.Prelude.{◌≡◌, ◌⊎◌, ◌^◌, ◌&&◌, ℕ, Bool, true, false, List, [], ◌∷◌, Option, Some, None}
-use Rattle.std.specs.Prelude.{if◌then◌else◌, nat_eq, nat_lt, not, codes, drop, length, is_some, option_and_then, option_map, unwrap_or}
-use Rattle.std.specs.List.{list_all, starts_with}
+use Rattle.std.specs.Prelude.{◌≡◌, ◌⊎◌, ◌^◌, ◌&&◌, ◌||◌, ℕ, Bool, true, false, List, [], ◌∷◌, Option, Some, None}
+use Rattle.std.specs.Prelude.{if◌then◌else◌, nat_eq, nat_lt, not, codes, drop, length, is_some, map, option_and_then, option_map, unwrap_or}
+use Rattle.std.specs.List.{list_all, list_any, starts_with}
+use Rattle.std.specs.Option.{option_map_or}
 use Rattle.std.specs.Str.{bytes_eq}
 use Rattle.std.specs.Char.{digit_value}
 use Rattle.std.specs.Str.Parse.{digits_value, without_leading_plus}
 use Rattle.clap.specs.Kinds.{or_else}
-use Rattle.clap.specs.Words.{Kinds, Row, Text, fault_of, first_of, one_of, subcommand_of}
+use Rattle.clap.specs.Words.{Kinds, Row, Text, all_of, fault_of, first_of, one_of, subcommand_of}
 use Rattle.clap.specs.declared.error.kind.ErrorKind.TheVariants.{ValueValidation}
 use Rattle.command_line.specs.Options.{dethart_app}
 use Rattle.command_line.specs.declared.settings.Command.{Command}
 use Rattle.command_line.specs.declared.settings.Command.TheVariants as command
+use Rattle.command_line.specs.declared.settings.Bytes.{Bytes}
+use Rattle.command_line.specs.declared.settings.Draw.{Draw}
+use Rattle.command_line.specs.declared.settings.Hunt.{Hunt}
+use Rattle.command_line.specs.declared.settings.Merge.{Merge}
 use Rattle.command_line.specs.declared.settings.Migrate.{Migrate}
+use Rattle.command_line.specs.declared.settings.Plan.{Plan}
+use Rattle.command_line.specs.declared.settings.PlanChoice.{PlanChoice}
+use Rattle.command_line.specs.declared.settings.Print.{Print}
+use Rattle.command_line.specs.declared.settings.Program.{Program}
 use Rattle.command_line.specs.declared.settings.Record.{Record}
 use Rattle.command_line.specs.declared.settings.Replay.{Replay}
 use Rattle.command_line.specs.declared.settings.Run.{Run}
+use Rattle.command_line.specs.declared.settings.Search.{Search}
+use Rattle.command_line.specs.declared.settings.Shrink.{Shrink}
+use Rattle.command_line.specs.declared.settings.Shown.{Shown}
 use Rattle.command_line.specs.declared.settings.Watch.{Watch}
+use Rattle.command_line.specs.declared.settings.Shown.TheVariants as shown
 
 -- the text is one or more digits in the radix, after a plus that may be there, of a number of so many bits
 abbrev pub is_number : ℕ → ℕ → Text → Bool
@@ -43,24 +56,72 @@ address_in text = if starts_with nat_eq text (codes "0x") then number_in 64 16 (
 abbrev pub number_or : ℕ → Option Text → ℕ
 number_or default text = unwrap_or (number_given 32 text) default
 
+-- the same of 64 bits
+abbrev pub wide_number_or : ℕ → Option Text → ℕ
+wide_number_or default text = unwrap_or (number_given 64 text) default
+
 -- what `watch` is given as ADDRESS
 abbrev pub address_given : List Row → Option ℕ
 address_given rows = option_and_then address_in (first_of (codes "address") rows)
 
+-- the texts two by two
+abbrev pub pairs : List Text → List (Text × Text)
+pairs [] = []
+pairs (text ∷ []) = []
+pairs (first ∷ second ∷ rest) = (first, second) ∷ pairs rest
+
+-- what each --see is given as ADDRESS and LENGTH
+abbrev pub seen_given : List Row → List (Text × Text)
+seen_given rows = pairs (unwrap_or (all_of (codes "see") rows) [])
+
+-- the bytes that ADDRESS and LENGTH say
+abbrev pub bytes_of : Text × Text → Bytes
+bytes_of given = record {
+  address = unwrap_or (address_in given.0) 0;
+  length = unwrap_or (number_in 64 10 given.1) 0;
+}
+
+-- what the word after --show asks for
+abbrev pub shown_in : Text → Option Shown
+shown_in text = if bytes_eq text (codes "report") then Some shown.Report
+    else if bytes_eq text (codes "output") then Some shown.Output
+    else if bytes_eq text (codes "harts") then Some shown.Harts else None
+
+-- what `run` is given after --show
+abbrev pub shown_given : List Row → Option Shown
+shown_given rows = option_and_then shown_in (first_of (codes "show") rows)
+
+-- the flag is set where the text that clap states for it is `true`
+abbrev pub HoldsFlag : Option Text → Bool → Type 0
+HoldsFlag text flag = (text ≡ Some (codes "true") → flag ≡ true)
+    × (text ≡ Some (codes "false") → flag ≡ false) × (text ≡ None → flag ≡ false)
+
 -- each value is the one that clap states for its name
-pub record HoldsRun (rows : List Row) (run : Run) : Type 0 where
-  pub image : run.image.now ≡ unwrap_or (first_of (codes "image") rows) []
-  pub flat : one_of (codes "flat") rows ≡ Some (codes "true") → run.flat ≡ true
-  pub not_flat : one_of (codes "flat") rows ≡ Some (codes "false") → run.flat ≡ false
-  pub elf : one_of (codes "flat") rows ≡ None → run.flat ≡ false
-  pub harts : run.harts ≡ number_or 1 (one_of (codes "harts") rows)
-  pub pages : run.pages ≡ number_or 256 (one_of (codes "pages") rows)
-  pub quota : run.quota.now ≡ unwrap_or (first_of (codes "quota") rows) (codes "1000")
-  pub plan : option_map (λ s. s.now) run.plan ≡ first_of (codes "plan") rows
-  pub rounds : run.rounds ≡ number_or 1000 (one_of (codes "rounds") rows)
-  pub workers : run.workers ≡ number_or 4 (one_of (codes "workers") rows)
-  pub budget : run.budget ≡ number_or 1 (one_of (codes "budget") rows)
-  pub input : option_map (λ s. s.now) run.input ≡ first_of (codes "input") rows
+pub record HoldsProgram (default_rounds : ℕ) (rows : List Row) (program : Program) : Type 0 where
+  pub image : program.image.now ≡ unwrap_or (first_of (codes "image") rows) []
+  pub flat : HoldsFlag (one_of (codes "flat") rows) program.flat
+  pub harts : program.harts ≡ number_or 1 (one_of (codes "harts") rows)
+  pub pages : program.pages ≡ number_or 256 (one_of (codes "pages") rows)
+  pub rounds : program.rounds ≡ number_or default_rounds (one_of (codes "rounds") rows)
+  pub workers : program.workers ≡ number_or 4 (one_of (codes "workers") rows)
+  pub input : option_map (λ s. s.now) program.input ≡ first_of (codes "input") rows
+  pub progress : HoldsFlag (one_of (codes "progress") rows) program.progress
+
+pub record HoldsPlanChoice (rows : List Row) (plan : PlanChoice) : Type 0 where
+  pub quota : plan.quota.now ≡ unwrap_or (first_of (codes "quota") rows) (codes "1000")
+  pub file : option_map (λ s. s.now) plan.file ≡ first_of (codes "plan") rows
+  pub budget : plan.budget ≡ number_or 1 (one_of (codes "budget") rows)
+  pub number : plan.number ≡ number_given 32 (one_of (codes "plan-number") rows)
+  pub seed : plan.seed ≡ wide_number_or 1 (one_of (codes "seed") rows)
+
+abbrev pub HoldsRun : List Row → Run → Type 0
+HoldsRun rows run = HoldsProgram 1000 rows run.program × HoldsPlanChoice rows run.plan
+
+pub record HoldsPrint (rows : List Row) (print : Print) : Type 0 where
+  pub run : HoldsRun rows print.run
+  pub show : print.show ≡ unwrap_or (shown_given rows) shown.Report
+  pub no_trace : HoldsFlag (one_of (codes "no-trace") rows) print.no_trace
+  pub strict : HoldsFlag (one_of (codes "strict") rows) print.strict
 
 pub record HoldsRecord (rows : List Row) (r : Record) : Type 0 where
   pub run : HoldsRun rows r.run
@@ -72,27 +133,60 @@ pub record HoldsReplay (rows : List Row) (replay : Replay) : Type 0 where
   pub workers : replay.workers ≡ number_or 4 (one_of (codes "workers") rows)
   pub round : replay.round ≡ number_given 32 (one_of (codes "round") rows)
   pub hart : replay.hart ≡ number_or 0 (one_of (codes "hart") rows)
-  pub count : replay.count ≡ unwrap_or (number_given 64 (one_of (codes "count") rows)) 0
+  pub count : replay.count ≡ wide_number_or 0 (one_of (codes "count") rows)
   pub every : replay.every ≡ number_or 64 (one_of (codes "every") rows)
 
 pub record HoldsWatch (rows : List Row) (watch : Watch) : Type 0 where
   pub recording : watch.recording.now ≡ unwrap_or (first_of (codes "recording") rows) []
   pub address : watch.address ≡ unwrap_or (address_given rows) 0
-  pub length : watch.length ≡ unwrap_or (number_given 64 (one_of (codes "length") rows)) 0
+  pub length : watch.length ≡ wide_number_or 0 (one_of (codes "length") rows)
   pub workers : watch.workers ≡ number_or 4 (one_of (codes "workers") rows)
 
 pub record HoldsMigrate (rows : List Row) (migrate : Migrate) : Type 0 where
   pub recording : migrate.recording.now ≡ unwrap_or (first_of (codes "recording") rows) []
   pub out : migrate.out.now ≡ unwrap_or (first_of (codes "out") rows) []
 
+pub record HoldsSearch (rows : List Row) (search : Search) : Type 0 where
+  pub program : HoldsProgram 10000 rows search.program
+  pub seed : search.seed ≡ wide_number_or 1 (one_of (codes "seed") rows)
+  pub seen : search.seen.items ≡ map bytes_of (seen_given rows)
+
+pub record HoldsHunt (rows : List Row) (hunt : Hunt) : Type 0 where
+  pub search : HoldsSearch rows hunt.search
+  pub plans : hunt.plans ≡ number_or 1000 (one_of (codes "plans") rows)
+  pub first : hunt.first ≡ number_or 0 (one_of (codes "first") rows)
+
+pub record HoldsShrink (rows : List Row) (shrink : Shrink) : Type 0 where
+  pub search : HoldsSearch rows shrink.search
+  pub plan_number : shrink.plan_number ≡ number_or 0 (one_of (codes "plan-number") rows)
+
+pub record HoldsMerge (rows : List Row) (merge : Merge) : Type 0 where
+  pub tables : map (λ s. s.now) merge.tables.items ≡ unwrap_or (all_of (codes "table") rows) []
+
+pub record HoldsPlan (rows : List Row) (plan : Plan) : Type 0 where
+  pub number : plan.number ≡ number_or 0 (one_of (codes "number") rows)
+  pub harts : plan.harts ≡ number_or 1 (one_of (codes "harts") rows)
+  pub seed : plan.seed ≡ wide_number_or 1 (one_of (codes "seed") rows)
+
+pub record HoldsDraw (rows : List Row) (draw : Draw) : Type 0 where
+  pub run : HoldsRun rows draw.run
+  pub seen : draw.seen.items ≡ map bytes_of (seen_given rows)
+  pub from : draw.from ≡ number_given 32 (one_of (codes "from") rows)
+  pub to : draw.to ≡ number_given 32 (one_of (codes "to") rows)
+
 -- the line is of the subcommand of that name, and holds its values
 abbrev pub HoldsNamed : Text → List Row → Command → Type 0
-HoldsNamed name rows (command.Run run) = (name ≡ codes "run") × HoldsRun rows run
+HoldsNamed name rows (command.Run print) = (name ≡ codes "run") × HoldsPrint rows print
 HoldsNamed name rows (command.Order run) = (name ≡ codes "order") × HoldsRun rows run
 HoldsNamed name rows (command.Record r) = (name ≡ codes "record") × HoldsRecord rows r
 HoldsNamed name rows (command.Replay replay) = (name ≡ codes "replay") × HoldsReplay rows replay
 HoldsNamed name rows (command.Watch watch) = (name ≡ codes "watch") × HoldsWatch rows watch
 HoldsNamed name rows (command.Migrate migrate) = (name ≡ codes "migrate") × HoldsMigrate rows migrate
+HoldsNamed name rows (command.Hunt hunt) = (name ≡ codes "hunt") × HoldsHunt rows hunt
+HoldsNamed name rows (command.Shrink shrink) = (name ≡ codes "shrink") × HoldsShrink rows shrink
+HoldsNamed name rows (command.Merge merge) = (name ≡ codes "merge") × HoldsMerge rows merge
+HoldsNamed name rows (command.Plan plan) = (name ≡ codes "plan") × HoldsPlan rows plan
+HoldsNamed name rows (command.Draw draw) = (name ≡ codes "draw") × HoldsDraw rows draw
 
 -- the subcommand is the one that the line is of, and the line holds its values
 abbrev pub HoldsLine : Option (Text × List Row) → Command → Type 0
@@ -103,15 +197,33 @@ HoldsLine (Some met) line = HoldsNamed met.0 met.1 line
 abbrev pub IsSubcommand : Text → Type 0
 IsSubcommand name = (name ≡ codes "run") ⊎ (name ≡ codes "order") ⊎ (name ≡ codes "record")
     ⊎ (name ≡ codes "replay") ⊎ (name ≡ codes "watch") ⊎ (name ≡ codes "migrate")
+    ⊎ (name ≡ codes "hunt") ⊎ (name ≡ codes "shrink") ⊎ (name ≡ codes "merge")
+    ⊎ (name ≡ codes "plan") ⊎ (name ≡ codes "draw")
 
--- clap takes each text as ADDRESS, and this one is none
+-- ADDRESS of `watch` is none
 abbrev pub has_bad_address : Text → List Row → Bool
 has_bad_address name rows = bytes_eq name (codes "watch") && not (is_some (address_given rows))
 
-abbrev pub address_fault : Option (Text × List Row) → Kinds
-address_fault None = []
-address_fault (Some met) = if has_bad_address met.0 met.1 then ValueValidation ∷ [] else []
+-- the texts are no ADDRESS and LENGTH
+abbrev pub is_bad_pair : Text × Text → Bool
+is_bad_pair given = not (is_some (address_in given.0) && is_some (number_in 64 10 given.1))
 
--- the kinds of error that the words may give: those of clap, and where there are none, that of a bad ADDRESS
+-- ADDRESS or LENGTH of a --see is none
+abbrev pub has_bad_bytes : List Row → Bool
+has_bad_bytes rows = list_any is_bad_pair (seen_given rows)
+
+-- the word after --show asks for nothing that there is
+abbrev pub has_bad_show : List Row → Bool
+has_bad_show rows = option_map_or (λ text. not (is_some (shown_in text))) (first_of (codes "show") rows) false
+
+-- clap takes each text as such a word, and this one is none
+abbrev pub has_bad_word : Text → List Row → Bool
+has_bad_word name rows = has_bad_address name rows || (has_bad_bytes rows || has_bad_show rows)
+
+abbrev pub word_fault : Option (Text × List Row) → Kinds
+word_fault None = []
+word_fault (Some met) = if has_bad_word met.0 met.1 then ValueValidation ∷ [] else []
+
+-- the kinds of error that the words may give: those of clap, and where there are none, that of a bad word
 abbrev pub line_fault : List Text → Kinds
-line_fault words = or_else (fault_of dethart_app words) (address_fault (subcommand_of dethart_app words))
+line_fault words = or_else (fault_of dethart_app words) (word_fault (subcommand_of dethart_app words))

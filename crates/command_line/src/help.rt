@@ -1,7 +1,7 @@
 //! The texts of `--help`.
 
 pub(crate) const ABOUT: &str =
-    "Runs a RISC-V program (RV64I with M and A) on 1 to 64 harts, the same way each time.";
+    "Runs a RISC-V program (RV64I with M and A) on 1 to 64 harts, the same each time.";
 
 pub(crate) const AFTER_HELP: &str = "\
 Examples:
@@ -11,23 +11,53 @@ Examples:
   dethart replay guest.rec
   dethart watch guest.rec 256 8
   dethart migrate guest.rec new.rec
+  dethart hunt guest.elf --harts 4 > table.txt
+  dethart shrink guest.elf --harts 4 --plan-number 35
+  dethart merge table.txt next.txt
+  dethart plan 35 --harts 4
+  dethart draw guest.elf --harts 4 --to 8 > run.svg
 
-dethart run --help lists the options, and what each error N means. dethart order and dethart record
-take the same options.
+dethart run --help lists the options of a run, why a hart stops, and what each
+error N means. dethart order, record and draw take the same options, but for
+those that say what is printed.
 
-Exit status: 0 what was asked for was printed or written, 1 a refusal (error N), 2 a bad command
-line, 3 dethart replay found another run than the recorded one.";
+Exit status: 0 what was asked for was printed or written, 1 a refusal (error N),
+2 a bad command line, 3 dethart replay found another run than the recorded one,
+4 dethart hunt found more endings than one, or one in which not all harts
+exited, or dethart run --strict found a hart that didn't exit with value 0.";
 
-pub(crate) const RUN_ABOUT: &str = "Runs the program in the file IMAGE, and prints the report.";
+pub(crate) const RUN_ABOUT: &str = "Runs the program in IMAGE, and prints the report.";
 
 pub(crate) const RUN_AFTER_HELP: &str = "\
 Examples:
   dethart run guest.elf --harts 4
   dethart run guest.bin --flat --harts 3 --quota '100 7 1'
   dethart run guest.elf --harts 4 --plan odd.txt --rounds 20 --input keys.txt
+  dethart run guest.elf --harts 4 --plan-number 35 --no-trace
+  dethart run guest.elf --show output --strict
 
-A plan is one or more rows of quotas; rounds take its rows in turn. A row is one number, which is
-the quota of each hart, or one for each hart with one space between. A quota is 1 to 1000000.
+The report has rounds, harts, memory, output and trace; --no-trace leaves the
+trace out. With --show output only the bytes that the guest put out are printed,
+as they are, and with --show harts only the report's lines on rounds and harts,
+and how many bytes were put out.
+
+A plan is one or more rows of quotas; rounds take its rows in turn. A quota is
+how many instructions a hart does in a round: 1 to 1000000. A row is one number,
+which is the quota of each hart, or one for each hart with one space between. A
+hart that waits for its serial turn may then do BUDGET instructions. With
+--plan-number all this is that of plan N of the family that the seed stands for.
+
+A hart that stops is done, with one of these codes:
+   1  the exit call, which the report shows as 'exit VALUE'; VALUE is x10
+   2  an illegal word
+   3  the fetch of a word that isn't code
+   4  a taken jump or branch to a target that isn't a multiple of 4
+   5  a misaligned load
+   6  a load outside memory
+   7  a misaligned store
+   8  a store outside memory
+   9  a store to code
+  10  EBREAK
 
 A refusal is the line 'error N' on standard error, with the exit status 1:
    1  ELF: the file is shorter than 64 bytes
@@ -35,7 +65,8 @@ A refusal is the line 'error N' on standard error, with the exit status 1:
    3  ELF: it isn't of 64 bits, little-endian, version 1
    4  ELF: it isn't an executable (e_type isn't 2)
    5  ELF: it isn't for RISC-V (e_machine isn't 243)
-   6  ELF: e_phentsize isn't 56, e_phnum is 0 or over 64, or the program headers pass the file's end
+   6  ELF: e_phentsize isn't 56, e_phnum is 0 or over 64, or the program headers
+      pass the file's end
    7  ELF: a segment passes the file's end, or its p_filesz is over its p_memsz
    8  a segment, or a flat file, passes the end of guest memory
    9  ELF: two segments share an address
@@ -59,24 +90,26 @@ A refusal is the line 'error N' on standard error, with the exit status 1:
   54  4294967295 rounds were done before
   55  the budget is out of range
   61  a file couldn't be opened or read
+  71  a text isn't a table of endings
+  72  the tables don't adjoin, or aren't of one hunt
 
-Exit status: 0 the report was printed, 1 a refusal, 2 a bad command line.";
+Exit status: 0 what was asked for was printed, 1 a refusal, 2 a bad command
+line, and with --strict 4 where a hart runs on, was stopped by a fault or exited
+with another value than 0; what was asked for is printed then too.";
 
 pub(crate) const ORDER_ABOUT: &str =
-    "Runs the program in the file IMAGE, and prints the order of its memory operations.";
+    "Runs the program in IMAGE, and prints its memory operations in order.";
 
 pub(crate) const ORDER_AFTER_HELP: &str = "\
 Example:
   dethart order guest.elf --harts 4
 
-The line 'order N' comes first, and then the N memory operations in their order in global memory,
-each as in the report's trace. The last line is 'checked yes' where a checker found that the order
-meets the memory model RVWMO, and else 'checked no'.
+The line 'order N' comes first, and then the N memory operations in their order
+in global memory, each as in the report's trace. The last line is 'checked yes'
+where a checker found that the order meets the memory model RVWMO, and else
+'checked no'.
 
-A plan is one or more rows of quotas; rounds take its rows in turn. A row is one number, which is
-the quota of each hart, or one for each hart with one space between. A quota is 1 to 1000000.
-
-A refusal is the line 'error N' on standard error, with the exit status 1; dethart run --help lists
-what each N means.
+dethart run --help says what a plan is, and what each error N means: a refusal
+is the line 'error N' on standard error, with the exit status 1.
 
 Exit status: 0 the order was printed, 1 a refusal, 2 a bad command line.";

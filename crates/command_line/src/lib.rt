@@ -2,14 +2,25 @@
 #![tactic(auto)]
 
 mod arguments;
+mod families;
+mod family_help;
+mod family_options;
 mod help;
+mod numbers;
 mod options;
 mod parsing;
+mod program_options;
 mod recording_help;
+mod run_options;
+mod runs;
+mod seen;
 mod settings;
 
 pub use parsing::parse_line;
-pub use settings::{Command, Migrate, Record, Replay, Run, Watch};
+pub use settings::{
+    Bytes, Command, Draw, Hunt, Merge, Migrate, Plan, PlanChoice, Print, Program, Record, Replay,
+    Run, Search, Shown, Shrink, Watch,
+};
 
 #[cfg(test)]
 mod tests;

@@ -1,22 +1,19 @@
 //! The texts of `--help` of the subcommands that write or read a recording.
 
-pub(crate) const RECORD_ABOUT: &str =
-    "Runs the program in the file IMAGE, and writes a recording of the run to the file OUT.";
+pub(crate) const RECORD_ABOUT: &str = "Runs the program in IMAGE, and writes a recording to OUT.";
 
 pub(crate) const RECORD_AFTER_HELP: &str = "\
 Examples:
   dethart record guest.elf guest.rec --harts 4
   dethart record guest.elf guest.rec --harts 4 --quota '100 7 1 1' --every 10
 
-Nothing is printed. The recording has what the run was asked for, all but the number of workers,
-and a summary of its state after each round; with --every also each register of each hart after the
-rounds whose numbers are multiples of it.
+Nothing is printed. The recording has what the run was asked for, all but the
+number of workers, and a summary of its state after each round; with --every
+also each register of each hart after the rounds whose numbers are multiples of
+it.
 
-A plan is one or more rows of quotas; rounds take its rows in turn. A row is one number, which is
-the quota of each hart, or one for each hart with one space between. A quota is 1 to 1000000.
-
-A refusal is the line 'error N' on standard error, with the exit status 1; dethart run --help lists
-what each N means.
+dethart run --help says what a plan is, and what each error N means: a refusal
+is the line 'error N' on standard error, with the exit status 1.
 
 Exit status: 0 the recording was written, 1 a refusal, 2 a bad command line.";
 
@@ -58,16 +55,16 @@ what each N means.
 Exit status: 0 the accesses were printed, 1 a refusal, 2 a bad command line.";
 
 pub(crate) const MIGRATE_ABOUT: &str =
-    "Writes the recording in the file RECORDING anew, in version 2, to the file OUT.";
+    "Writes the recording in RECORDING anew, in version 2, to OUT.";
 
 pub(crate) const MIGRATE_AFTER_HELP: &str = "\
 Example:
   dethart migrate guest.rec new.rec
 
-Nothing is printed. Of a recording of version 1 it makes one with a budget of 1 and without
-registers.
+Nothing is printed. Of a recording of version 1 it makes one with a budget of 1
+and without registers.
 
-A refusal is the line 'error N' on standard error, with the exit status 1; dethart run --help lists
-what each N means.
+A refusal is the line 'error N' on standard error, with the exit status 1;
+dethart run --help lists what each N means.
 
 Exit status: 0 the recording was written, 1 a refusal, 2 a bad command line.";

@@ -1,8 +1,8 @@
 /// What a command line asks for.
-#[derive(Clone, Copy, Debug, PartialEq, Eq, Drop)]
+#[derive(Debug, PartialEq, Eq, Drop)]
 pub enum Command<'a> {
-    /// `run IMAGE`: run a guest program, and print the report.
-    Run(Run<'a>),
+    /// `run IMAGE`: run a guest program, and print what is asked for.
+    Run(Print<'a>),
     /// `order IMAGE`: run it, and print the order of its memory operations.
     Order(Run<'a>),
     /// `record IMAGE OUT`: run it, and write a recording of the run.
@@ -13,11 +13,21 @@ pub enum Command<'a> {
     Watch(Watch<'a>),
     /// `migrate RECORDING OUT`: write a recording anew in the newest version.
     Migrate(Migrate<'a>),
+    /// `hunt IMAGE`: run a guest program by many plans, and print the table of its endings.
+    Hunt(Hunt<'a>),
+    /// `shrink IMAGE --plan-number N`: make a plan smaller that leads to the same ending.
+    Shrink(Shrink<'a>),
+    /// `merge TABLE..`: make one table of those of hunts that adjoin.
+    Merge(Merge<'a>),
+    /// `plan N`: print a plan of the family.
+    Plan(Plan),
+    /// `draw IMAGE`: run a guest program, and draw the run.
+    Draw(Draw<'a>),
 }
 
-/// The words after `run` or `order`. The numbers are as they were given: their ranges are not tested here.
+/// A guest program, and what it is run with. The numbers are as they were given: their ranges are not tested here.
 #[derive(Clone, Copy, Debug, PartialEq, Eq, Drop)]
-pub struct Run<'a> {
+pub struct Program<'a> {
     /// The path of the image.
     pub image: &'a str,
     /// The image is a flat file, and not an ELF file.
@@ -26,18 +36,62 @@ pub struct Run<'a> {
     pub harts: u32,
     /// The size of guest memory, in pages of 4096 bytes.
     pub pages: u32,
-    /// The plan's one row, where no file has the plan.
-    pub quota: &'a str,
-    /// The path of the file that has the plan. Where it is given, `quota` isn't looked at.
-    pub plan: Option<&'a str>,
     /// The number of rounds.
     pub rounds: u32,
     /// The number of threads.
     pub workers: u32,
-    /// How many instructions a waiting hart may do in its serial turn.
-    pub budget: u32,
     /// The path of the file that the guest reads; none is an empty input.
     pub input: Option<&'a str>,
+    /// It is said meanwhile how far the work is.
+    pub progress: bool,
+}
+
+/// Which plan a run goes by.
+#[derive(Clone, Copy, Debug, PartialEq, Eq, Drop)]
+pub struct PlanChoice<'a> {
+    /// The plan's one row, where no file has the plan.
+    pub quota: &'a str,
+    /// The path of the file that has the plan. Where it is given, `quota` isn't looked at.
+    pub file: Option<&'a str>,
+    /// How many instructions a waiting hart may do in its serial turn.
+    pub budget: u32,
+    /// The number of a plan of the family. Where it is given, `quota`, `file` and `budget` aren't looked at.
+    pub number: Option<u32>,
+    /// The seed of the family. Where there is no number, it isn't looked at.
+    pub seed: u64,
+}
+
+/// One run: the words after `order`, and a part of those after `run`, `record` and `draw`.
+#[derive(Clone, Copy, Debug, PartialEq, Eq, Drop)]
+pub struct Run<'a> {
+    /// The program that is run.
+    pub program: Program<'a>,
+    /// The plan that it is run by.
+    pub plan: PlanChoice<'a>,
+}
+
+/// What of a run is printed.
+#[derive(Clone, Copy, Debug, PartialEq, Eq, Drop)]
+pub enum Shown {
+    /// The report of the state after it.
+    Report,
+    /// What the guest wrote, and nothing else.
+    Output,
+    /// A line for each hart.
+    Harts,
+}
+
+/// The words after `run`.
+#[derive(Clone, Copy, Debug, PartialEq, Eq, Drop)]
+pub struct Print<'a> {
+    /// The run.
+    pub run: Run<'a>,
+    /// What is printed of it.
+    pub show: Shown,
+    /// The report ends before its trace.
+    pub no_trace: bool,
+    /// The exit status says where a hart didn't end well.
+    pub strict: bool,
 }
 
 /// The words after `record`.
@@ -89,4 +143,75 @@ pub struct Migrate<'a> {
     pub recording: &'a str,
     /// The path of the file that the new one is written to.
     pub out: &'a str,
+}
+
+/// A range of bytes in guest memory: the two words after `--see`.
+#[derive(Clone, Copy, Debug, PartialEq, Eq, Drop)]
+pub struct Bytes {
+    /// The address of the first byte.
+    pub address: u64,
+    /// How many bytes there are.
+    pub length: u64,
+}
+
+/// Runs of a program by plans of a family: a part of the words after `hunt` and `shrink`.
+#[derive(Debug, PartialEq, Eq, Drop)]
+pub struct Search<'a> {
+    /// The program that is run.
+    pub program: Program<'a>,
+    /// The seed of the family.
+    pub seed: u64,
+    /// The bytes by which two endings differ, beside stops and output.
+    pub seen: Vec<Bytes>,
+}
+
+/// The words after `hunt`.
+#[derive(Debug, PartialEq, Eq, Drop)]
+pub struct Hunt<'a> {
+    /// The runs.
+    pub search: Search<'a>,
+    /// How many plans the program is run by.
+    pub plans: u32,
+    /// The number of the first of these.
+    pub first: u32,
+}
+
+/// The words after `shrink`.
+#[derive(Debug, PartialEq, Eq, Drop)]
+pub struct Shrink<'a> {
+    /// The runs.
+    pub search: Search<'a>,
+    /// The number of the plan to make smaller.
+    pub plan_number: u32,
+}
+
+/// The words after `merge`.
+#[derive(Debug, PartialEq, Eq, Drop)]
+pub struct Merge<'a> {
+    /// The paths of the tables, in the order of the line.
+    pub tables: Vec<&'a str>,
+}
+
+/// The words after `plan`.
+#[derive(Clone, Copy, Debug, PartialEq, Eq, Drop)]
+pub struct Plan {
+    /// The number of the plan.
+    pub number: u32,
+    /// The number of harts.
+    pub harts: u32,
+    /// The seed of the family.
+    pub seed: u64,
+}
+
+/// The words after `draw`.
+#[derive(Debug, PartialEq, Eq, Drop)]
+pub struct Draw<'a> {
+    /// The run to draw.
+    pub run: Run<'a>,
+    /// The bytes to which accesses are drawn; where there are none, all are.
+    pub seen: Vec<Bytes>,
+    /// The first round that is drawn, where the line says one.
+    pub from: Option<u32>,
+    /// The last round that is drawn, where the line says one.
+    pub to: Option<u32>,
 }

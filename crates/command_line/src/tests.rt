@@ -1,8 +1,11 @@
-use crate::{Command, Migrate, Record, Replay, Run, Watch, parse_line};
+use crate::{
+    Bytes, Command, Draw, Hunt, Migrate, Plan, PlanChoice, Print, Program, Record, Replay, Run,
+    Search, Shown, Shrink, Watch, parse_line,
+};
 use clap::error::ErrorKind;
 use std::test::Fail;
 
-static EVERY_OPTION: [&str; 19] = [
+static EVERY_OPTION: [&str; 27] = [
     "dethart",
     "run",
     "--flat",
@@ -22,41 +25,75 @@ static EVERY_OPTION: [&str; 19] = [
     "50",
     "--input",
     "keys.txt",
+    "--progress",
+    "--plan-number",
+    "35",
+    "--seed=18446744073709551615",
+    "--show",
+    "harts",
+    "--no-trace",
+    "--strict",
 ];
 
-/// What `EVERY_OPTION` says.
+/// What `EVERY_OPTION` says of the run.
 static GIVEN: Run<'static> = Run {
-    image: "guest.bin",
-    flat: true,
-    harts: 3,
-    pages: 7,
-    quota: "9 8 7",
-    plan: Some("odd.txt"),
-    rounds: 0,
-    workers: 2,
-    budget: 50,
-    input: Some("keys.txt"),
+    program: Program {
+        image: "guest.bin",
+        flat: true,
+        harts: 3,
+        pages: 7,
+        rounds: 0,
+        workers: 2,
+        input: Some("keys.txt"),
+        progress: true,
+    },
+    plan: PlanChoice {
+        quota: "9 8 7",
+        file: Some("odd.txt"),
+        budget: 50,
+        number: Some(35),
+        seed: 18446744073709551615,
+    },
 };
 
-/// What a line with no option says.
+/// What a line with no option says of the run.
 static DEFAULTS: Run<'static> = Run {
-    image: "guest.elf",
-    flat: false,
-    harts: 1,
-    pages: 256,
-    quota: "1000",
-    plan: None,
-    rounds: 1000,
-    workers: 4,
-    budget: 1,
-    input: None,
+    program: Program {
+        image: "guest.elf",
+        flat: false,
+        harts: 1,
+        pages: 256,
+        rounds: 1000,
+        workers: 4,
+        input: None,
+        progress: false,
+    },
+    plan: PlanChoice {
+        quota: "1000",
+        file: None,
+        budget: 1,
+        number: None,
+        seed: 1,
+    },
 };
 
 #[test]
 fn reads_options_and_defaults(rt: HostRuntime) -> Result<(), Fail> {
-    assert!(rt; parse_line(rt.alloc(), EVERY_OPTION.as_slice())? == Command::Run(GIVEN));
+    let given = Print {
+        run: GIVEN,
+        show: Shown::Harts,
+        no_trace: true,
+        strict: true,
+    };
+    assert!(rt; parse_line(rt.alloc(), EVERY_OPTION.as_slice())? == Command::Run(given));
+    let defaults = Print {
+        run: DEFAULTS,
+        show: Shown::Report,
+        no_trace: false,
+        strict: false,
+    };
     assert!(rt;
-        parse_line(rt.alloc(), &["dethart", "run", "guest.elf"])? == Command::Run(DEFAULTS)
+        parse_line(rt.alloc(), &["dethart", "run", "guest.elf"])? == Command::Run(defaults)
     );
     assert!(rt;
         parse_line(rt.alloc(), &["dethart", "order", "guest.elf"])? == Command::Order(DEFAULTS)
@@ -64,47 +101,15 @@ fn reads_options_and_defaults(rt: HostRuntime) -> Result<(), Fail> {
     Ok(())
 }
 
-static RECORD_WITH_EVERY_OPTION: [&str; 21] = [
-    "dethart",
-    "record",
-    "--every=10",
-    "guest.bin",
-    "--flat",
-    "--harts",
-    "3",
-    "--pages=7",
-    "guest.rec",
-    "--quota",
-    "9 8 7",
-    "--plan",
-    "odd.txt",
-    "--rounds",
-    "0",
-    "--workers",
-    "2",
-    "--budget",
-    "50",
-    "--input",
-    "keys.txt",
-];
-
 #[test]
 fn reads_record(rt: HostRuntime) -> Result<(), Fail> {
     let given = Record {
-        run: GIVEN,
+        run: DEFAULTS,
         out: "guest.rec",
         every: 10,
     };
-    assert!(rt;
-        parse_line(rt.alloc(), RECORD_WITH_EVERY_OPTION.as_slice())? == Command::Record(given)
-    );
-    let defaults = Record {
-        run: DEFAULTS,
-        out: "guest.rec",
-        every: 0,
-    };
-    let words = ["dethart", "record", "guest.elf", "guest.rec"];
-    assert!(rt; parse_line(rt.alloc(), words.as_slice())? == Command::Record(defaults));
+    let words = ["dethart", "record", "--every=10", "guest.elf", "guest.rec"];
+    assert!(rt; parse_line(rt.alloc(), words.as_slice())? == Command::Record(given));
     Ok(())
 }
 
@@ -213,6 +218,112 @@ fn reads_migrate(rt: HostRuntime) -> Result<(), Fail> {
     Ok(())
 }
 
+static HUNT_WITH_EVERY_OPTION: [&str; 13] = [
+    "dethart",
+    "hunt",
+    "--see",
+    "0x20000",
+    "8",
+    "guest.elf",
+    "--plans=200",
+    "--first",
+    "7",
+    "--seed=9",
+    "--see",
+    "24",
+    "1",
+];
+
+#[test]
+fn reads_hunt(rt: HostRuntime) -> Result<(), Fail> {
+    let seen = [
+        Bytes {
+            address: 131072,
+            length: 8,
+        },
+        Bytes {
+            address: 24,
+            length: 1,
+        },
+    ];
+    let program = Program {
+        rounds: 10000,
+        ..DEFAULTS.program
+    };
+    let given = Hunt {
+        search: Search {
+            program,
+            seed: 9,
+            seen: Vec::from_slice(rt.alloc(), seen.as_slice())?,
+        },
+        plans: 200,
+        first: 7,
+    };
+    assert!(rt; parse_line(rt.alloc(), HUNT_WITH_EVERY_OPTION.as_slice())? == Command::Hunt(given));
+    let defaults = Hunt {
+        search: Search {
+            program,
+            seed: 1,
+            seen: Vec::new(rt.alloc()),
+        },
+        plans: 1000,
+        first: 0,
+    };
+    let words = ["dethart", "hunt", "guest.elf"];
+    assert!(rt; parse_line(rt.alloc(), words.as_slice())? == Command::Hunt(defaults));
+    Ok(())
+}
+
+#[test]
+fn reads_shrink_and_draw(rt: HostRuntime) -> Result<(), Fail> {
+    let shrink = Shrink {
+        search: Search {
+            program: Program {
+                rounds: 10000,
+                ..DEFAULTS.program
+            },
+            seed: 1,
+            seen: Vec::new(rt.alloc()),
+        },
+        plan_number: 35,
+    };
+    let words = ["dethart", "shrink", "guest.elf", "--plan-number=35"];
+    assert!(rt; parse_line(rt.alloc(), words.as_slice())? == Command::Shrink(shrink));
+    let draw = Draw {
+        run: DEFAULTS,
+        seen: Vec::new(rt.alloc()),
+        from: Some(3),
+        to: None,
+    };
+    let words = ["dethart", "draw", "guest.elf", "--from", "3"];
+    assert!(rt; parse_line(rt.alloc(), words.as_slice())? == Command::Draw(draw));
+    Ok(())
+}
+
+/// Whether the words are of `merge`, with the tables `a.txt`, `b.txt` and `c.txt`.
+fn merges_three(rt: &HostRuntime, words: &[&str]) -> bool {
+    match parse_line(rt.alloc(), words) {
+        Ok(Command::Merge(merge)) => match merge.tables.as_slice() {
+            [first, second, third] => *first == "a.txt" && *second == "b.txt" && *third == "c.txt",
+            _ => false,
+        },
+        _ => false,
+    }
+}
+
+#[test]
+fn reads_merge_and_plan(rt: HostRuntime) -> Result<(), Fail> {
+    assert!(rt; merges_three(&rt, &["dethart", "merge", "a.txt", "b.txt", "c.txt"]));
+    let plan = Plan {
+        number: 35,
+        harts: 2,
+        seed: 1,
+    };
+    let words = ["dethart", "plan", "35", "--harts", "2"];
+    assert!(rt; parse_line(rt.alloc(), words.as_slice())? == Command::Plan(plan));
+    Ok(())
+}
+
 /// Whether the words are refused with this kind, and this exit status.
 fn is_refused(rt: &HostRuntime, words: &[&str], kind: ErrorKind, status: i32) -> bool {
     match parse_line(rt.alloc(), words) {
@@ -265,7 +376,11 @@ fn refuses_bad_lines(rt: HostRuntime) {
         )
     );
     assert!(rt; is_refused(&rt, &["dethart", "--help"], ErrorKind::DisplayHelp, 0));
-    for command in ["run", "order", "record", "replay", "watch", "migrate"] {
+    assert!(rt; is_refused(&rt, &["dethart", "--version"], ErrorKind::DisplayVersion, 0));
+    for command in [
+        "run", "order", "record", "replay", "watch", "migrate", "hunt", "shrink", "merge", "plan",
+        "draw",
+    ] {
         assert!(rt;
             is_refused(
                 &rt,
@@ -285,6 +400,9 @@ fn refuses_absent_words(rt: HostRuntime) {
     assert!(rt; is_refused(&rt, &["dethart", "watch", "a"], missing, 2));
     assert!(rt; is_refused(&rt, &["dethart", "watch", "a", "1"], missing, 2));
     assert!(rt; is_refused(&rt, &["dethart", "migrate", "a"], missing, 2));
+    assert!(rt; is_refused(&rt, &["dethart", "shrink", "a"], missing, 2));
+    assert!(rt; is_refused(&rt, &["dethart", "merge"], missing, 2));
+    assert!(rt; is_refused(&rt, &["dethart", "plan"], missing, 2));
 }
 
 #[test]
@@ -329,6 +447,21 @@ fn refuses_bad_numbers(rt: HostRuntime) {
         assert!(rt; is_refused(&rt, &["dethart", "watch", "a", address, "8"], bad, 2));
     }
     assert!(rt; is_refused(&rt, &["dethart", "watch", "a", "1", ""], bad, 2));
+    assert!(rt; is_refused(&rt, &["dethart", "plan", "4294967296"], bad, 2));
+}
+
+#[test]
+fn refuses_bad_words(rt: HostRuntime) {
+    let bad = ErrorKind::ValueValidation;
+    for (address, length) in [("ff", "1"), ("1", "0x1"), ("1", "")] {
+        let words = [
+            "dethart", "hunt", "a", "--see", "0", "1", "--see", address, length,
+        ];
+        assert!(rt; is_refused(&rt, words.as_slice(), bad, 2));
+    }
+    assert!(rt; is_refused(&rt, &["dethart", "run", "a", "--show=trace"], bad, 2));
+    let number = ErrorKind::WrongNumberOfValues;
+    assert!(rt; is_refused(&rt, &["dethart", "draw", "a", "--see", "1"], number, 2));
 }
 
 #[test]

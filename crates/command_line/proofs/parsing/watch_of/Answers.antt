@@ -2,7 +2,7 @@ use Rattle.std.proofs.Common.{◌∙◌, ap, codes, unwrap_or}
 use Rattle.clap.specs.Words.{found_of}
 use Rattle.clap.proofs.WalkLemmas.{first_value-rows, one_text-rows}
 use Rattle.command_line.proofs.Texts.{text_or}
-use Rattle.command_line.specs.Reading.{number_given, number_or}
+use Rattle.command_line.specs.Reading.{number_or, wide_number_or}
 use Rattle.command_line.proofs.parsing.watch_of.Goals as goal
 
 pub returns : goal.returns
@@ -11,6 +11,6 @@ returns c =
     record {
       recording = text_or c.get_str.result _ _ _ c.unwrap_or.ensures (c.get_str.ensures ∙ first_value-rows f (codes "recording"));
       address = c.unwrap_or-2.ensures ∙ ap (λ o. unwrap_or o 0) c.address_given.ensures;
-      length = c.unwrap_or-3.ensures ∙ ap (λ o. unwrap_or o 0) (c.wide_given.ensures ∙ ap (number_given 64) (one_text-rows f (codes "length")));
+      length = c.wide_number_of.ensures ∙ ap (wide_number_or 0) (one_text-rows f (codes "length"));
       workers = c.number_of.ensures ∙ ap (number_or 4) (one_text-rows f (codes "workers"));
     }

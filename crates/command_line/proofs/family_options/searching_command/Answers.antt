@@ -1,0 +1,18 @@
+use Rattle.std.proofs.Common.{codes}
+use Rattle.std.specs.Prelude.{IfOk}
+use Rattle.command_line.proofs.Chains.{Stands, last_one, local_at, one_more, shape_at}
+use Rattle.command_line.specs.Options.{program_rules, searching, taking}
+use Rattle.command_line.proofs.family_options.searching_command.Goals as goal
+use Rattle.command_line.proofs.family_options.searching_command.Goals.{After-arg-2}
+
+stands : (c : After-arg-2) → IfOk c.arg-2.result (λ command. Stands command (searching c.args.name.now))
+stands c =
+    let s0 : Stands c.in_ok-program_command.field-0 (taking c.args.name.now (program_rules (codes "10000"))) = record { shape = c.in_ok-program_command.ensures.app; local = c.in_ok-program_command.ensures.local } in
+    let s1 = one_more _ _ c.in_ok-arg.field-0 _ _ s0 c.seed.ensures.rule c.seed.ensures.local c.in_ok-arg.ensures in
+    last_one _ _ c.arg-2.result _ _ s1 c.see.ensures.rule c.see.ensures.local c.arg-2.ensures
+
+pub returns-clause-app : goal.returns-clause-app
+returns-clause-app c = shape_at c.arg-2.result (searching c.args.name.now) (stands (goal.at.returns-clause-app c).After-arg-2)
+
+pub returns-clause-local : goal.returns-clause-local
+returns-clause-local c = local_at c.arg-2.result (searching c.args.name.now) (stands (goal.at.returns-clause-local c).After-arg-2)

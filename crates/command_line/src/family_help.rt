@@ -1,0 +1,109 @@
+//! The texts of `--help` of the subcommands that go over plans of a family, or draw a run.
+
+pub(crate) const HUNT_ABOUT: &str =
+    "Runs the program in IMAGE by many plans, and prints how it ends.";
+
+pub(crate) const HUNT_AFTER_HELP: &str = "\
+Examples:
+  dethart hunt guest.elf --harts 2
+  dethart hunt guest.elf --harts 3 --see 0x20000 8 --see 131088 4
+  dethart hunt guest.elf --harts 2 --first 1000 > second.txt
+
+The program is run by PLANS plans of the family that the seed stands for, from
+the number FIRST on. Two runs have the same ending where each hart ended in the
+same way, the same bytes were put out, and the LENGTH bytes from ADDRESS on of
+each --see are the same. ADDRESS is decimal, or hexadecimal after 0x, and LENGTH
+is decimal. What is printed is the table of the endings:
+
+  plans FIRST COUNT seed S
+  endings E
+  ending K plans COUNT first PLAN
+  hart H exit VALUE, hart H stop CODE, or hart H running
+  see ADDRESS LENGTH BYTES
+  output LENGTH \"TEXT\"
+  end
+
+The lines from 'ending' to 'output' are there for each ending, with a line for
+each hart and for each --see: COUNT of the plans lead to it, and PLAN is the
+first of these. dethart run --help lists each CODE. 'running' says only that the
+limit of rounds was reached. No plan of these ends otherwise, within this limit
+of rounds.
+
+This repeats a run that was found, with the other options of the hunt, which
+runs 10000 rounds where it isn't told otherwise:
+  dethart run IMAGE .. --rounds 10000 --plan-number PLAN --seed S
+
+A refusal is the line 'error N' on standard error, with the exit status 1;
+dethart run --help lists what each N means.
+
+Exit status: 0 there is one ending and all harts exited in it, 4 the table has
+another number of endings or one in which a hart didn't exit, 1 a refusal, 2 a
+bad command line.";
+
+pub(crate) const SHRINK_ABOUT: &str =
+    "Looks for a smaller plan by which the program in IMAGE ends the same.";
+
+pub(crate) const SHRINK_AFTER_HELP: &str = "\
+Example:
+  dethart shrink guest.elf --harts 2 --plan-number 35
+
+It begins with plan N of the family that the seed stands for, and makes it
+smaller, one step after another, as long as the program ends as by plan N: each
+hart in the same way, with the same output, and with the same bytes of each
+--see. The plan that is left is printed. No single step leads on from it to the
+same ending.
+
+A refusal is the line 'error N' on standard error, with the exit status 1;
+dethart run --help lists what each N means.
+
+Exit status: 0 the plan was printed, 1 a refusal, 2 a bad command line.";
+
+pub(crate) const MERGE_ABOUT: &str = "Makes one table of endings of those in the files.";
+
+pub(crate) const MERGE_AFTER_HELP: &str = "\
+Example:
+  dethart hunt guest.elf --harts 2 --first 0 --plans 500 > first.txt
+  dethart hunt guest.elf --harts 2 --first 500 --plans 500 > second.txt
+  dethart merge first.txt second.txt
+
+Each TABLE is what dethart hunt or dethart merge printed, of one program with
+the same options; the plans of each go on where those of the one before it end.
+What is printed is the table of one hunt over all these plans.
+
+A refusal is the line 'error N' on standard error, with the exit status 1;
+dethart run --help lists what each N means.
+
+Exit status: 0 the table was printed, 1 a refusal, 2 a bad command line.";
+
+pub(crate) const PLAN_ABOUT: &str = "Prints plan N of the family that the seed stands for.";
+
+pub(crate) const PLAN_AFTER_HELP: &str = "\
+Example:
+  dethart plan 35 --harts 2
+
+By this plan dethart run --plan-number 35 --harts 2 runs a program.
+
+A refusal is the line 'error N' on standard error, with the exit status 1;
+dethart run --help lists what each N means.
+
+Exit status: 0 the plan was printed, 1 a refusal, 2 a bad command line.";
+
+pub(crate) const DRAW_ABOUT: &str =
+    "Runs the program in IMAGE, and prints a picture of the run (SVG).";
+
+pub(crate) const DRAW_AFTER_HELP: &str = "\
+Examples:
+  dethart draw guest.elf --harts 2 --quota 1 --to 8 > run.svg
+  dethart draw guest.elf --harts 2 --see 0x20000 8 > run.svg
+
+The picture has a column for each hart, a band for each round, and a box for
+each memory operation, with an arrow to it from each store that it read bytes
+of. With --see it has the operations on the LENGTH bytes from ADDRESS on only,
+and with --from and --to those of these rounds only. ADDRESS is decimal, or
+hexadecimal after 0x, and LENGTH is decimal. It has at most 400 operations, and
+a line that says how many more there are.
+
+dethart run --help says what a plan is, and what each error N means: a refusal
+is the line 'error N' on standard error, with the exit status 1.
+
+Exit status: 0 the picture was printed, 1 a refusal, 2 a bad command line.";
