@@ -17,4 +17,4 @@ mod Parting
 mod Preserving
 mod ProgramBounds
 mod Sourcing
-mod Valuing
+pub mod Valuing

@@ -194,6 +194,23 @@ serial_from t pos p g r x hr s w seen = elim seen.1 [
   | inr b ↦ (seen.0, b.earlier)
 ]
 
+-- the source of a parallel load in the order is the last write that it may see, and so is that of a serial one
+pub parallel_source : (t : List Event) (opening : ℕ → ℕ) (budget : ℕ) (pos : ℕ → ℕ) → IsRoundTrace t opening budget → GoesByRank t pos →
+    (r x : ℕ) → reads_at t r x ≡ true → is_serial (event t r).phase ≡ false → (s : Option ℕ) → IsLatest (λ w. w) (SeenInParallel t r x) s → IsSource t pos r x s
+parallel_source t opening budget pos i g r x h phase s last =
+    let p = phased t opening budget i in
+    let hr = loads_at t r x h in
+    latest_alike (λ w. w) pos (SeenInParallel t r x) (MaySee t pos r x) (parallel_to t pos p g r x hr phase) (parallel_from t pos p g r x hr phase)
+    (λ a b ha hb. stores_alike t pos p g a b (stores_at t a x ha.0) (stores_at t b x hb.0)) s last
+
+pub serial_source : (t : List Event) (opening : ℕ → ℕ) (budget : ℕ) (pos : ℕ → ℕ) → IsRoundTrace t opening budget → GoesByRank t pos →
+    (r x : ℕ) → reads_at t r x ≡ true → is_serial (event t r).phase ≡ true → (s : Option ℕ) → IsLatest (λ w. w) (SeenInSerial t r x) s → IsSource t pos r x s
+serial_source t opening budget pos i g r x h phase s last =
+    let p = phased t opening budget i in
+    let hr = loads_at t r x h in
+    latest_alike (λ w. w) pos (SeenInSerial t r x) (MaySee t pos r x) (serial_to t pos p g r x hr phase) (serial_from t pos p g r x hr phase)
+    (λ a b ha hb. stores_alike t pos p g a b (stores_at t a x ha.0) (stores_at t b x hb.0)) s last
+
 pub load_value : (t : List Event) (opening : ℕ → ℕ) (budget : ℕ) (pos : ℕ → ℕ) → IsRoundTrace t opening budget → GoesByRank t pos → LoadValueAxiom t opening pos
 load_value t opening budget pos i g r x h = by_phase (is_serial (event t r).phase) refl
   where
