@@ -9,6 +9,7 @@ mod tail;
 mod text;
 mod writer;
 
+pub use line::Line;
 pub use order::write_order;
 pub use state::write_state;
 pub use text::{write_event, write_hart};
