@@ -1,0 +1,7 @@
+use Rattle.std.proofs.Common.{◌≡◌, ◌++◌, [], take}
+use Rattle.picture.specs.Boxes.{box_text}
+use Rattle.picture.specs.Layout.{each_with_earlier}
+use Rattle.picture.proofs.page.event_boxes.Given as goal
+
+abbrev pub invariant-loop-number : goal.invariant-loop-number
+invariant-loop-number l = l.line ≡ l.fn.line ++ each_with_earlier (box_text l.trace.events) [] (take l.number l.boxes)

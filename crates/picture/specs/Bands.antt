@@ -1,0 +1,43 @@
+-- The bands of rounds, each with its parallel part above its serial part, and the columns of harts.
+use Rattle.std.specs.Prelude.{ℕ, ◌+◌, ◌-◌, ◌==◌, if◌then◌else◌, List, [], ◌∷◌, ◌++◌, codes, Option, Some, None}
+use Rattle.std.specs.Fmt.{decimal}
+use Rattle.round_schedule.specs.declared.event.Event.{Event}
+use Rattle.round_schedule.specs.declared.event.Phase.{Phase}
+use Rattle.round_schedule.specs.declared.event.Phase.TheVariants.{Parallel, Serial}
+use Rattle.hart_step.specs.declared.hart.Hart.{Hart}
+use Rattle.hart_step.specs.declared.hart.Stop.{Stop}
+use Rattle.picture.specs.declared.event_box.EventBox.{EventBox}
+use Rattle.picture.specs.Elements.{down_text, label_text, rectangle_text}
+use Rattle.picture.specs.Layout.{last_top_of_part, left_of, opens_part}
+
+abbrev pub phase_text : Phase → List ℕ
+phase_text Parallel = codes "parallel"
+phase_text Serial = codes "serial"
+
+-- the band of a part of a round, down to its last box
+unfoldable pub band_text : ℕ → ℕ → EventBox → List ℕ
+band_text width last b =
+    rectangle_text (phase_text b.event.phase) (record { x = 0; y = b.top - 22; width = width; height = (last + 76) - b.top })
+    ++ label_text (codes "label") (record { x = 10; y = b.top + 14 }) (codes "round " ++ decimal b.event.round)
+    ++ label_text (codes "label") (record { x = 10; y = b.top + 30 }) (phase_text b.event.phase)
+
+-- a part has one band, with its first box
+abbrev pub band_at : ℕ → List EventBox → List EventBox → EventBox → List ℕ
+band_at width all earlier b = if opens_part earlier b.event then band_text width (last_top_of_part all b.event) b else []
+
+-- why a hart has stopped; nothing where it runs
+abbrev pub stop_text : Option Stop → List ℕ
+stop_text None = []
+stop_text (Some s) = if s.code == 1 then codes "exit " ++ decimal s.value else codes "stop " ++ decimal s.code
+
+-- a hart's column: its number above it, a line, and below it how it stopped
+unfoldable pub column_text : ℕ → ℕ → Hart → List ℕ
+column_text bottom h hart =
+    label_text (codes "head") (record { x = left_of h; y = 142 }) (codes "hart " ++ decimal h)
+    ++ down_text (codes "column") (record { x = left_of h + 89; y = 150 }) (bottom + 18)
+    ++ label_text (codes "label") (record { x = left_of h; y = bottom + 34 }) (stop_text hart.stop)
+
+-- the columns of harts h, h + 1, ..
+abbrev pub columns_text : ℕ → ℕ → List Hart → List ℕ
+columns_text bottom h [] = []
+columns_text bottom h (hart ∷ harts) = column_text bottom h hart ++ columns_text bottom (h + 1) harts

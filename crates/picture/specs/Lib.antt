@@ -1,0 +1,11 @@
+pub mod Views
+pub mod Sources
+pub mod Marks
+pub mod Layout
+pub mod Style
+pub mod Elements
+pub mod Boxes
+pub mod Arrows
+pub mod Bands
+pub mod Picture
+pub mod Laws

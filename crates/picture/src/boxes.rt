@@ -1,0 +1,89 @@
+ghost use Rattle.std.specs.Prelude.{◌≡◌, ◌≤◌, ◌++◌, OnOk};
+ghost use Rattle.picture.specs.Boxes.{box_class, box_text, line_at, lines_text, outline_text, waited_text};
+
+use crate::access::{loads, value_read as read_by};
+use crate::elements::{Point, Rectangle, add_rectangle, start_label, wait_mark};
+use crate::event_box::EventBox;
+use crate::labels::{access, value_read, written};
+use crate::layout::{is_serial, left_of, opens_turn};
+use crate::lost::is_lost;
+use memory_order::Trace;
+use pages::OutOfMemory;
+use report::Line;
+
+fn box_class(lost: bool) -> &'static str
+    ensures { result.now ≡ box_class lost }
+{
+    if lost { "lost" } else { "box" }
+}
+
+fn line_at(shown: &EventBox, down: u64) -> Point
+    requires { down ≤ 48 }
+    ensures { result ≡ line_at shown.now down }
+{
+    Point {
+        x: left_of(shown.event.hart as u64) + 8,
+        y: shown.top as u64 + down,
+    }
+}
+
+#[tactic(auto, unfolding(crate::specs::Boxes::outline_text))]
+fn outline(line: &mut Line, trace: &Trace, shown: &EventBox) -> Result<(), OutOfMemory>
+    ensures { OnOk result (line.new ≡ line.old ++ outline_text trace.now.events shown.now) }
+{
+    let shape = Rectangle {
+        x: left_of(shown.event.hart as u64),
+        y: shown.top as u64,
+        width: 178,
+        height: 48,
+    };
+    add_rectangle(line, box_class(is_lost(trace, shown.place)), shape)
+}
+
+/// Adds the three lines of a box.
+#[tactic(auto, unfolding(crate::specs::Boxes::lines_text))]
+fn lines(line: &mut Line, shown: &EventBox) -> Result<(), OutOfMemory>
+    ensures { OnOk result (line.new ≡ line.old ++ lines_text shown.now) }
+{
+    let done = &shown.event.access;
+    start_label(line, "line", line_at(shown, 15))?;
+    access(line, done)?;
+    line.text("</text>\n")?;
+    start_label(line, "line", line_at(shown, 28))?;
+    value_read(line, read_by(done))?;
+    line.text("</text>\n")?;
+    let down = if loads(done) { 41 } else { 28 };
+    start_label(line, "line", line_at(shown, down))?;
+    written(line, done)?;
+    line.text("</text>\n")
+}
+
+/// Adds a mark where the hart had waited for the event.
+#[tactic(auto, unfolding(crate::specs::Boxes::waited_text))]
+fn waited(line: &mut Line, earlier: &[EventBox], shown: &EventBox) -> Result<(), OutOfMemory>
+    ensures { OnOk result (line.new ≡ line.old ++ waited_text earlier.now shown.now) }
+{
+    if !is_serial(shown.event.phase) || !opens_turn(earlier, &shown.event) {
+        return Ok(());
+    }
+    let at = Point {
+        x: left_of(shown.event.hart as u64) + 6,
+        y: (shown.top as u64).saturating_sub(15),
+    };
+    wait_mark(line, at)
+}
+
+/// Adds the box of an event, with its marks.
+#[tactic(auto, unfolding(crate::specs::Boxes::box_text))]
+pub(crate) fn event_box(
+    line: &mut Line,
+    trace: &Trace,
+    earlier: &[EventBox],
+    shown: &EventBox,
+) -> Result<(), OutOfMemory>
+    ensures { OnOk result (line.new ≡ line.old ++ box_text trace.now.events earlier.now shown.now) }
+{
+    outline(line, trace, shown)?;
+    lines(line, shown)?;
+    waited(line, earlier, shown)
+}

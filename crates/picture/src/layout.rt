@@ -1,0 +1,167 @@
+ghost use Rattle.std.specs.Prelude.{◌≡◌, ◌+◌, ◌<◌, ◌≤◌, ◌^◌, IfOk, length};
+ghost use Rattle.std.specs.List.{list_any};
+ghost use Rattle.round_schedule.specs.Events.{is_serial};
+ghost use Rattle.picture.specs.Layout.{are_beside, boxes_of, last_top, last_top_of_part, left_of, opens_part, opens_turn, same_part, same_turn, step, top_under, width_for};
+
+use crate::access::event_at;
+use crate::event_box::EventBox;
+use memory_order::Trace;
+use pages::OutOfMemory;
+use round_schedule::{Event, Phase};
+use std::alloc::Global;
+
+/// The most events that a picture shows.
+pub(crate) const MOST: usize = 400;
+
+/// The left edge of a hart's column.
+pub(crate) fn left_of(hart: u64) -> u64
+    requires { hart ≤ 255 }
+    ensures { result ≡ left_of hart }
+{
+    130 + 230 * hart
+}
+
+/// How wide the picture of so many harts is.
+pub(crate) fn width_for(harts: usize) -> u64
+    requires { harts ≤ 64 }
+    ensures { result ≡ width_for harts }
+{
+    left_of(harts.max(2) as u64)
+}
+
+pub(crate) fn is_serial(phase: Phase) -> bool
+    ensures { result ≡ is_serial phase }
+{
+    match phase {
+        Phase::Parallel => false,
+        Phase::Serial => true,
+    }
+}
+
+/// Whether two events are of the same phase of the same round.
+pub(crate) fn is_same_part(one: &Event, other: &Event) -> bool
+    ensures { result ≡ same_part one.now other.now }
+{
+    one.round == other.round && is_serial(one.phase) == is_serial(other.phase)
+}
+
+fn are_beside(one: &Event, other: &Event) -> bool
+    ensures { result ≡ are_beside one.now other.now }
+{
+    is_same_part(one, other) && !is_serial(one.phase) && one.hart != other.hart
+}
+
+fn step(one: &Event, other: &Event) -> u64
+    ensures step { result ≡ step one.now other.now }
+    ensures small { result ≤ 92 }
+{
+    if is_same_part(one, other) {
+        68
+    } else if one.round == other.round {
+        78
+    } else {
+        92
+    }
+}
+
+/// The top of an event's box, under the boxes before it.
+fn top_under(boxes: &[EventBox], event: &Event) -> u64
+    ensures top { result ≡ top_under boxes.now event.now }
+    ensures low { result < 2 ^ 32 + 92 }
+{
+    match boxes {
+        [] => 176,
+        [first, rest @ ..] => {
+            let under_rest = top_under(rest, event);
+            if are_beside(&first.event, event) {
+                under_rest
+            } else {
+                under_rest.max(first.top as u64 + step(&first.event, event))
+            }
+        }
+    }
+}
+
+/// The boxes of the events at these places of a trace.
+pub(crate) fn boxes_of(
+    alloc: Global,
+    trace: &Trace,
+    places: &[usize],
+) -> Result<Vec<EventBox>, OutOfMemory>
+    requires { length places.now ≤ 400 }
+    ensures { IfOk result (λ v. v.items ≡ boxes_of trace.now.events places.now) }
+{
+    let mut boxes = Vec::new(alloc);
+    for place in places {
+        let event = event_at(trace, *place);
+        let top = top_under(&boxes, &event);
+        let next = EventBox {
+            place: *place,
+            event,
+            top: top as u32,
+        };
+        boxes.push(next)?;
+    }
+    Ok(boxes)
+}
+
+/// The greatest top of the boxes of an event's part; 0 where there are none.
+pub(crate) fn last_top_of_part(boxes: &[EventBox], event: &Event) -> u64
+    ensures top { result ≡ last_top_of_part boxes.now event.now }
+    ensures low { result < 2 ^ 32 }
+{
+    match boxes {
+        [] => 0,
+        [first, rest @ ..] => {
+            let last = last_top_of_part(rest, event);
+            if is_same_part(&first.event, event) {
+                last.max(first.top as u64)
+            } else {
+                last
+            }
+        }
+    }
+}
+
+/// The greatest top of all boxes, and where the first box stands at least.
+pub(crate) fn last_top(boxes: &[EventBox]) -> u64
+    ensures top { result ≡ last_top boxes.now }
+    ensures low { result < 2 ^ 32 }
+{
+    match boxes {
+        [] => 176,
+        [first, rest @ ..] => last_top(rest).max(first.top as u64),
+    }
+}
+
+fn is_same_turn(one: &Event, other: &Event) -> bool
+    ensures { result ≡ same_turn one.now other.now }
+{
+    is_same_part(one, other) && one.hart == other.hart
+}
+
+fn has_part(boxes: &[EventBox], event: &Event) -> bool
+    ensures { result ≡ list_any (λ b. same_part b.event event.now) boxes.now }
+{
+    boxes.iter().any(|shown| is_same_part(&shown.event, event))
+}
+
+fn has_turn(boxes: &[EventBox], event: &Event) -> bool
+    ensures { result ≡ list_any (λ b. same_turn b.event event.now) boxes.now }
+{
+    boxes.iter().any(|shown| is_same_turn(&shown.event, event))
+}
+
+/// Whether an event is the first of its part.
+pub(crate) fn opens_part(earlier: &[EventBox], event: &Event) -> bool
+    ensures { result ≡ opens_part earlier.now event.now }
+{
+    !has_part(earlier, event)
+}
+
+/// Whether an event is its hart's first in its part.
+pub(crate) fn opens_turn(earlier: &[EventBox], event: &Event) -> bool
+    ensures { result ≡ opens_turn earlier.now event.now }
+{
+    !has_turn(earlier, event)
+}

@@ -1,0 +1,179 @@
+ghost use Rattle.std.specs.Prelude.{◌≡◌, ◌⊎◌, ◌≤◌, ◌<◌, ◌++◌, ◌+◌, ◌^◌, [], Err, IfErr, OnErr, OnOk, length};
+ghost use Rattle.host_io.specs.Taken.{BeganText};
+ghost use Rattle.picture.specs.Arrows.{arrows_to};
+ghost use Rattle.picture.specs.Bands.{band_at};
+ghost use Rattle.picture.specs.Boxes.{box_text};
+ghost use Rattle.picture.specs.Layout.{each_with_earlier};
+ghost use Rattle.picture.specs.Picture.{drawing_text, page_text, picture_text, rest_text, start_text, view_box_text};
+
+use crate::arrows::arrows_to;
+use crate::bands::{band_at, columns};
+use crate::boxes::event_box;
+use crate::elements::{Point, Rectangle, add_rectangle, attribute, start_label};
+use crate::event_box::EventBox;
+use crate::layout::{MOST, boxes_of, last_top, width_for};
+use crate::style::{legend, root, start_of_view_box, style};
+use crate::view::{View, places_seen};
+use hart_step::Hart;
+use host_io::{RunError, Sink, put_all};
+use memory_order::Trace;
+use pages::OutOfMemory;
+use report::Line;
+use std::alloc::Global;
+
+#[tactic(auto, unfolding(crate::specs::Picture::view_box_text))]
+fn view_box(line: &mut Line, width: u64, height: u64) -> Result<(), OutOfMemory>
+    ensures { OnOk result (line.new ≡ line.old ++ view_box_text width height) }
+{
+    line.text(start_of_view_box())?;
+    line.decimal(width)?;
+    line.text(" ")?;
+    line.decimal(height)?;
+    line.text("'>\n")
+}
+
+#[tactic(auto, unfolding(crate::specs::Picture::start_text))]
+fn start(line: &mut Line, width: u64, height: u64) -> Result<(), OutOfMemory>
+    ensures { OnOk result (line.new ≡ line.old ++ start_text width height) }
+{
+    line.text(root())?;
+    attribute(line, " width='", width)?;
+    attribute(line, " height='", height)?;
+    view_box(line, width, height)
+}
+
+#[tactic(auto, unfolding(crate::specs::Picture::page_text))]
+fn page(line: &mut Line, width: u64, height: u64) -> Result<(), OutOfMemory>
+    ensures { OnOk result (line.new ≡ line.old ++ page_text width height) }
+{
+    let shape = Rectangle {
+        x: 0,
+        y: 0,
+        width,
+        height,
+    };
+    add_rectangle(line, "page", shape)
+}
+
+#[tactic(auto, unfolding(crate::specs::Picture::rest_text))]
+fn rest(line: &mut Line, bottom: u64, left_out: usize) -> Result<(), OutOfMemory>
+    requires { bottom < 2 ^ 33 }
+    ensures { OnOk result (line.new ≡ line.old ++ rest_text bottom left_out) }
+{
+    if left_out == 0 {
+        return Ok(());
+    }
+    let at = Point {
+        x: 10,
+        y: bottom + 58,
+    };
+    start_label(line, "label", at)?;
+    line.decimal(left_out as u64)?;
+    line.text(" events are left out")?;
+    line.text("</text>\n")
+}
+
+fn bands(line: &mut Line, width: u64, boxes: &[EventBox]) -> Result<(), OutOfMemory>
+    ensures { OnOk result (line.new ≡ line.old ++ each_with_earlier (band_at width boxes.now) [] boxes.now) }
+{
+    for (number, shown) in boxes.iter().enumerate() {
+        band_at(line, width, boxes, &boxes[..number], shown)?;
+    }
+    Ok(())
+}
+
+fn arrows(
+    alloc: Global,
+    line: &mut Line,
+    trace: &Trace,
+    boxes: &[EventBox],
+) -> Result<(), OutOfMemory>
+    ensures { OnOk result (line.new ≡ line.old ++ each_with_earlier (arrows_to trace.now.events) [] boxes.now) }
+{
+    for (number, shown) in boxes.iter().enumerate() {
+        arrows_to(alloc, line, trace, &boxes[..number], shown)?;
+    }
+    Ok(())
+}
+
+fn event_boxes(line: &mut Line, trace: &Trace, boxes: &[EventBox]) -> Result<(), OutOfMemory>
+    ensures { OnOk result (line.new ≡ line.old ++ each_with_earlier (box_text trace.now.events) [] boxes.now) }
+{
+    for (number, shown) in boxes.iter().enumerate() {
+        event_box(line, trace, &boxes[..number], shown)?;
+    }
+    Ok(())
+}
+
+#[tactic(auto, unfolding(crate::specs::Picture::drawing_text))]
+fn drawing(
+    alloc: Global,
+    line: &mut Line,
+    trace: &Trace,
+    harts: &[Hart],
+    boxes: &[EventBox],
+    left_out: usize,
+) -> Result<(), OutOfMemory>
+    requires { length harts.now ≤ 64 }
+    ensures { OnOk result (line.new ≡ line.old ++ drawing_text trace.now.events harts.now boxes.now left_out) }
+{
+    let width = width_for(harts.len());
+    let bottom = last_top(boxes) + 48;
+    start(line, width, bottom + 74)?;
+    line.text(style())?;
+    page(line, width, bottom + 74)?;
+    line.text(legend())?;
+    bands(line, width, boxes)?;
+    columns(line, bottom, 0, harts)?;
+    arrows(alloc, line, trace, boxes)?;
+    event_boxes(line, trace, boxes)?;
+    rest(line, bottom, left_out)?;
+    line.text("</svg>\n")
+}
+
+fn picture(
+    alloc: Global,
+    line: &mut Line,
+    trace: &Trace,
+    harts: &[Hart],
+    view: &View<'_>,
+) -> Result<(), OutOfMemory>
+    requires { length harts.now ≤ 64 }
+    ensures { OnOk result (line.new ≡ line.old ++ picture_text trace.now.events harts.now view.now) }
+{
+    let mut places = places_seen(alloc, view, trace)?;
+    let left_out = places.len().saturating_sub(MOST);
+    places.truncate(MOST);
+    let boxes = boxes_of(alloc, trace, &places)?;
+    drawing(alloc, line, trace, harts, &boxes, left_out)
+}
+
+/// Writes a picture of a run, as SVG: its trace, with the harts as they were at its end.
+///
+/// Each hart has a column, and each round a band, its parallel part above its serial part. Each event that the view shows is
+/// a box, at most 400 of them; program order goes from top to bottom. Each store has an arrow to each event that read a
+/// byte of it, and an event that read what memory opened with has a short one from above. A store that another hart
+/// overwrote, and that nobody read, is marked: so a lost update looks. So is the first event of a hart that had waited for
+/// the serial part of a round.
+///
+/// # Errors
+///
+/// `OutOfMemory`: nothing is written then. `SinkFailed`: a beginning of the picture is.
+pub fn write_picture<S: Sink>(
+    alloc: Global,
+    trace: &Trace,
+    harts: &[Hart],
+    view: &View<'_>,
+    out: &mut S,
+) -> Result<(), RunError>
+    requires { length harts.now ≤ 64 }
+    ensures ok { OnOk result (S.took out.new ≡ S.took out.old ++ picture_text trace.now.events harts.now view.now) }
+    ensures begun { OnErr result (BeganText (S.took out.old) (S.took out.new) (picture_text trace.now.events harts.now view.now)) }
+    ensures sink { result ≡ Err RunError.SinkFailed → S.failures out.old < S.failures out.new }
+    ensures memory { result ≡ Err RunError.OutOfMemory → S.took out.new ≡ S.took out.old }
+    ensures errors { IfErr result (λ e. (e ≡ RunError.OutOfMemory) ⊎ (e ≡ RunError.SinkFailed)) }
+{
+    let mut line = Line::new(alloc);
+    picture(alloc, &mut line, trace, harts, view)?;
+    put_all(out, line.as_bytes())
+}

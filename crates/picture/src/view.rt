@@ -1,0 +1,69 @@
+ghost use Rattle.std.specs.Prelude.{◌≡◌, IfOk};
+ghost use Rattle.std.specs.List.{list_any};
+ghost use Rattle.round_schedule.specs.Positions.{event};
+ghost use Rattle.picture.specs.Views.{is_seen, is_shown, places_seen, touches};
+
+use crate::access::{address, byte_count, event_at, is_in_range};
+use memory_order::Trace;
+use pages::{OutOfMemory, Range};
+use round_schedule::{Access, Event};
+use std::alloc::Global;
+
+/// What a picture shows of a run.
+#[derive(Clone, Copy, Debug)]
+pub struct View<'a> {
+    /// Only events that touch a byte of one of these ranges are shown; all of them, where there is no range.
+    pub ranges: &'a [Range],
+    /// The first round that is shown.
+    pub from: u32,
+    /// The last round that is shown.
+    pub to: u32,
+}
+
+fn touches(access: &Access, range: &Range) -> bool
+    ensures { result ≡ touches access.now range.now }
+{
+    let first = address(access);
+    let count = byte_count(access);
+    (is_in_range(range.start, range.len, first) && count > 0)
+        || (is_in_range(first, count, range.start) && range.len > 0)
+}
+
+fn touches_any(ranges: &[Range], access: &Access) -> bool
+    ensures { result ≡ list_any (touches access.now) ranges.now }
+{
+    ranges.iter().any(|range| touches(access, range))
+}
+
+fn is_seen(ranges: &[Range], access: &Access) -> bool
+    ensures { result ≡ is_seen ranges.now access.now }
+{
+    ranges.is_empty() || touches_any(ranges, access)
+}
+
+fn is_shown(view: &View<'_>, event: &Event) -> bool
+    ensures { result ≡ is_shown view.now event.now }
+{
+    view.from <= event.round && event.round <= view.to && is_seen(view.ranges, &event.access)
+}
+
+fn is_shown_at(view: &View<'_>, trace: &Trace, place: usize) -> bool
+    ensures { result ≡ is_shown view.now (event trace.now.events place) }
+{
+    is_shown(view, &event_at(trace, place))
+}
+
+/// The places of the events that the view shows, in rising order.
+#[tactic(auto, unfolding(crate::specs::Views::places_seen))]
+pub(crate) fn places_seen(
+    alloc: Global,
+    view: &View<'_>,
+    trace: &Trace,
+) -> Result<Vec<usize>, OutOfMemory>
+    ensures { IfOk result (λ v. v.items ≡ places_seen view.now trace.now.events) }
+{
+    let places: Vec<usize> = (0..trace.len())
+        .filter(|place| is_shown_at(view, trace, *place))
+        .collect(alloc)?;
+    Ok(places)
+}
