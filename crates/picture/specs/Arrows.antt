@@ -47,7 +47,7 @@ arrows_from ss b (a ∷ as') = arrow_from ss b a ++ arrows_from ss b as'
 unfoldable pub opening_text : List (Option ℕ) → EventBox → List ℕ
 opening_text ss b =
     if list_any is_opening ss
-    then down_text (codes "opening") (record { x = left_of b.event.hart + 26; y = b.top - 18 }) b.top
+    then down_text (codes "opening") (record { x = left_of b.event.hart + 26; y = b.top - 15 }) b.top
     else []
 
 -- all arrows to a box

@@ -111,7 +111,7 @@ fn opening_arrow(line: &mut Line, found: &[Option<usize>], to: &EventBox) -> Res
     }
     let from = Point {
         x: left_of(to.event.hart as u64) + 26,
-        y: (to.top as u64).saturating_sub(18),
+        y: (to.top as u64).saturating_sub(15),
     };
     line_down(line, "opening", from, to.top as u64)
 }

@@ -17,12 +17,13 @@ text{fill:#111;font:12px sans-serif}
 .lost{fill:#fff;stroke:#b30000;stroke-width:3;stroke-dasharray:7 3}
 .own{fill:none;stroke:#8a8a8a;stroke-width:1.2;marker-end:url(#grey)}
 .other{fill:none;stroke:#0061b5;stroke-width:2.6;marker-end:url(#blue)}
-.opening{fill:none;stroke:#555;stroke-dasharray:3 2;marker-end:url(#dark)}
+.opening{fill:none;stroke:#555;stroke-dasharray:3 2;marker-start:url(#ring);marker-end:url(#dark)}
 </style>
 <defs>
 <marker id='grey' viewBox='0 0 8 8' refX='8' refY='4' markerWidth='7' markerHeight='7' orient='auto' markerUnits='userSpaceOnUse'><path d='M0 0L8 4L0 8Z' fill='#8a8a8a'/></marker>
 <marker id='blue' viewBox='0 0 8 8' refX='8' refY='4' markerWidth='11' markerHeight='11' orient='auto' markerUnits='userSpaceOnUse'><path d='M0 0L8 4L0 8Z' fill='#0061b5'/></marker>
 <marker id='dark' viewBox='0 0 8 8' refX='8' refY='4' markerWidth='6' markerHeight='6' orient='auto' markerUnits='userSpaceOnUse'><path d='M0 0L8 4L0 8Z' fill='#555'/></marker>
+<marker id='ring' viewBox='0 0 8 8' refX='4' refY='4' markerWidth='7' markerHeight='7' markerUnits='userSpaceOnUse'><circle cx='4' cy='4' r='3' fill='#fff' stroke='#555'/></marker>
 <path id='wait' d='M0 0H10L0 12H10Z' fill='#333'/>
 </defs>
 ";
