@@ -1,0 +1,50 @@
+ghost use Rattle.std.specs.Prelude.{◌≡◌, ◌⊎◌, ◌<◌, ◌++◌, Some, None, Err, IfErr, OnOk, OnErr};
+ghost use Rattle.elf_loader.specs.declared.load_error.LoadError.{LoadError as ImageCause};
+ghost use Rattle.round_planner.specs.Quotas.{Planned};
+ghost use Rattle.round_planner.specs.declared.plan_error.PlanError.{PlanError as PlanCause};
+ghost use Rattle.host_io.specs.Taken.{BeganText};
+ghost use Rattle.host_io.specs.declared.error.RunError.{RunError as Refusal};
+ghost use Rattle.host_io.specs.declared.error.RunError.TheVariants as refusals;
+ghost use Rattle.machine.specs.Settings.{IsImage, IsImageCause, IsPlan, IsPlanCause, IsReason, RefusedAs, settings_fault};
+ghost use Rattle.drawing.specs.Drawn.{picture_after};
+
+use host_io::{RunError, Sink};
+use machine::{Settings, prepare};
+use picture::{View, write_picture};
+use std::alloc::Global;
+use std::sync::Wait;
+use std::thread::Threads;
+
+/// Runs a guest program for a number of rounds, and writes a picture of what the view shows of the run.
+///
+/// # Errors
+///
+/// The refusals of the settings, then of the image, then of the plan; `OutOfMemory`; `SinkFailed`. Nothing is written
+/// before all rounds are done.
+pub fn draw_run<S: Sink, R: Threads + Wait + Sync>(
+    rt: &R,
+    alloc: Global,
+    image: &[u8],
+    input: &[u8],
+    settings: &Settings<'_>,
+    view: &View<'_>,
+    out: &mut S,
+) -> Result<(), RunError>
+    // The sink took the picture of the run that the definitions name.
+    ensures draws { OnOk result ((plan : Planned) × IsPlan settings.now plan × (S.took out.new ≡ S.took out.old ++ picture_after settings.now image.now input.now plan view.now)) }
+    // Else it took nothing, or a beginning of that picture.
+    ensures begun { OnErr result ((S.took out.new ≡ S.took out.old) ⊎ ((plan : Planned) × IsPlan settings.now plan × BeganText (S.took out.old) (S.took out.new) (picture_after settings.now image.now input.now plan view.now))) }
+    // Where anything else than the sink refuses, it took nothing.
+    ensures untouched { IfErr result (λ e. (e ≡ refusals.SinkFailed) ⊎ (S.took out.new ≡ S.took out.old)) }
+    // Numbers out of range are refused first.
+    ensures settings { (e : Refusal) → settings_fault settings.now ≡ Some e → result ≡ Err e }
+    // What is refused then is for a reason that stands.
+    ensures errors { settings_fault settings.now ≡ None → IfErr result (λ e. IsReason settings.now image.now e ⊎ ((e ≡ refusals.SinkFailed) × (S.failures out.old < S.failures out.new))) }
+    ensures image { (cause : ImageCause) → settings_fault settings.now ≡ None → IsImageCause settings.now image.now cause → RefusedAs (refusals.Image cause) result }
+    // A plan is refused where the image is good.
+    ensures plan { (cause : PlanCause) → settings_fault settings.now ≡ None → IsImage settings.now image.now → IsPlanCause settings.now cause → RefusedAs (refusals.Plan cause) result }
+{
+    let mut machine = prepare(alloc, image, input, settings)?;
+    machine.run(rt, settings.rounds, settings.workers)?;
+    write_picture(alloc, machine.trace(), machine.harts(), view, out)
+}
