@@ -1,4 +1,5 @@
 pub mod Checks
 pub mod Found
+pub mod Texts
 pub mod Told
 pub mod Unique

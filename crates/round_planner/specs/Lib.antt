@@ -1,5 +1,6 @@
 pub mod Causes
 pub mod Grammar
+pub mod PlanText
 pub mod Quotas
 pub mod Reading
 pub mod Rows

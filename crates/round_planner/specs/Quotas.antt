@@ -8,6 +8,9 @@ pub record Planned : Type 0 where
   pub rows : List (List ℕ)
   pub budget : ℕ
 
+abbrev pub planned : ℕ → List (List ℕ) → ℕ → Planned
+planned harts rows budget = record { harts = harts; rows = rows; budget = budget }
+
 -- what a row says of each hart
 abbrev pub spread : ℕ → List ℕ → List ℕ
 spread harts quotas = if length quotas == 1 then replicate harts (slice_index quotas 0) else quotas

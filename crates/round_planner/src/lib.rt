@@ -4,8 +4,9 @@
 mod plan;
 mod plan_error;
 mod reader;
+mod text;
 
-pub use plan::{Plan, reading_is_unique};
+pub use plan::{Plan, reading_is_unique, text_is_the_plans};
 pub use plan_error::PlanError;
 
 #[cfg(test)]

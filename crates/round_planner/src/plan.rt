@@ -1,14 +1,16 @@
-ghost use Rattle.std.specs.Prelude.{◌≡◌, ◌<◌, ◌≤◌, ◌⊎◌, ◌≢◌, ◌+◌, ℕ, List, All, map, length, IfOk, IfErr, Err};
+ghost use Rattle.std.specs.Prelude.{◌≡◌, ◌<◌, ◌≤◌, ◌⊎◌, ◌≢◌, ◌+◌, ℕ, List, All, map, length, IfOk, IfErr, OnOk, Ok, Err};
 ghost use Rattle.std.specs.List.{list_any};
 ghost use Rattle.round_planner.specs.Causes.{IsLeast, Stands, checked};
 ghost use Rattle.round_planner.specs.Grammar.{IsPlanText, ReadingIsUnique, numbers_of};
-ghost use Rattle.round_planner.specs.Quotas.{IsQuota, quota_of, quotas_of};
+ghost use Rattle.round_planner.specs.PlanText.{ReadsAs, TextIsThePlans, plan_text};
+ghost use Rattle.round_planner.specs.Quotas.{IsQuota, planned, quota_of, quotas_of};
 ghost use Rattle.round_planner.specs.Rows.{has_odd_row, has_out_of_range, is_out_of_range};
 ghost use Rattle.round_planner.specs.declared.plan_error.PlanError.{PlanError as Cause};
 ghost use Rattle.round_planner.specs.declared.plan_error.PlanError.TheVariants as causes;
 
 use crate::plan_error::PlanError;
 use crate::reader::read_rows;
+use crate::text::write_rows;
 use pages::OutOfMemory;
 use std::alloc::{AllocError, Global};
 use std::marker::Model;
@@ -121,6 +123,30 @@ impl Plan {
         })
     }
 
+    /// The plan of these rows, for a number of harts, with a budget.
+    ///
+    /// # Errors
+    ///
+    /// The least cause that stands in the numbers.
+    pub fn of_rows(rows: Vec<Vec<u32>>, harts: u32, budget: u32) -> Result<Plan, PlanError>
+        requires some_harts { 1 ≤ harts }
+        requires few_harts { harts ≤ 64 }
+        requires some_rows { 1 ≤ length rows.items }
+        requires some_budget { 1 ≤ budget }
+        requires few_budget { budget ≤ 1000 }
+        ensures plan { IfOk result (λ p. p ≡ planned harts (map (λ r. r.items) rows.items) budget) }
+        // It is refused exactly where a cause stands in the numbers, by the least.
+        ensures accepted { OnOk result (checked harts (map (λ r. r.items) rows.items) ≡ Ok tt) }
+        ensures refused { IfErr result (λ e. checked harts (map (λ r. r.items) rows.items) ≡ Err e) }
+    {
+        check_rows(&rows, harts)?;
+        Ok(Plan {
+            harts,
+            rows,
+            budget,
+        })
+    }
+
     /// How many instructions a hart may do in the parallel phase of a round. Rounds are counted from 1, harts from 0.
     #[inline]
     pub fn quota(&self, round: u32, hart: u32) -> u32
@@ -168,6 +194,20 @@ impl Plan {
         self.budget = budget;
     }
 
+    /// The text of the plan: it reads as the plan's rows. The budget is no part of it.
+    ///
+    /// # Errors
+    ///
+    /// `OutOfMemory` where the text found no memory.
+    pub fn text(&self, alloc: Global) -> Result<Vec<u8>, OutOfMemory>
+        ensures text { IfOk result (λ v. v.items ≡ plan_text self.now.rows) }
+        ensures reads { IfOk result (λ v. ReadsAs v.items self.now.rows) }
+    {
+        let mut text = Vec::new(alloc);
+        write_rows(&mut text, &self.rows)?;
+        Ok(text)
+    }
+
     /// An equal plan.
     pub fn copy(&self, alloc: Global) -> Result<Plan, OutOfMemory>
         ensures { IfOk result (λ p. p ≡ self.now) }
@@ -180,6 +220,11 @@ impl Plan {
         })
     }
 }
+
+/// The text of a plan reads as its rows, and as no others.
+pub fn text_is_the_plans()
+    ensures { TextIsThePlans }
+{}
 
 /// No text has two readings as a plan.
 pub fn reading_is_unique()

@@ -83,3 +83,14 @@ fn rows_take_turns(rt: HostRuntime) -> Result<(), Fail> {
     }
     Ok(())
 }
+
+#[test]
+fn rows_make_a_plan_and_its_text(rt: HostRuntime) -> Result<(), Fail> {
+    let mut rows = Vec::new(rt.alloc());
+    rows.push([10, 200].to_vec(rt.alloc())?)?;
+    rows.push([1_000_000].to_vec(rt.alloc())?)?;
+    let plan = Plan::of_rows(rows, 2, 7)?;
+    assert_eq!(rt; plan.budget(), 7);
+    assert!(rt; plan.text(rt.alloc())?.as_slice() == b"10 200\n1000000\n".as_slice());
+    Ok(())
+}

@@ -1,0 +1,10 @@
+//! A family of plans: plan after plan out of a seed, so that many schedules of a guest can be tried.
+#![tactic(auto)]
+
+mod draw;
+mod family;
+
+pub use family::{Family, plans_are_accepted};
+
+#[cfg(test)]
+mod tests;
