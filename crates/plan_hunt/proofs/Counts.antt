@@ -1,0 +1,20 @@
+-- How many plans lead to an ending.
+use Rattle.std.proofs.Common.{◌≡◌, ◌≢◌, ℕ, zero, suc, ◌+◌, ◌<◌, ◌≤◌, inl, inr, refl, sym, ◌∙◌, ap, arith}
+use Rattle.plan_hunt.specs.Endings.{Ended}
+use Rattle.plan_hunt.specs.Tables.{IsCount}
+
+pub count_unique : (ends : ℕ → Ended) (first n : ℕ) (e : Ended) (j k : ℕ) → IsCount ends first e n j → IsCount ends first e n k → j ≡ k
+count_unique ends first zero e j k a b = a ∙ sym b
+count_unique ends first (suc n) e j k (inl a) (inl b) = a.1.1 ∙ ap suc (count_unique ends first n e a.1.0 b.1.0 a.1.2 b.1.2) ∙ sym b.1.1
+count_unique ends first (suc n) e j k (inl a) (inr b) = absurd (b.0 a.0)
+count_unique ends first (suc n) e j k (inr a) (inl b) = absurd (a.0 b.0)
+count_unique ends first (suc n) e j k (inr a) (inr b) = count_unique ends first n e j k a.1 b.1
+
+pub count_within : (ends : ℕ → Ended) (first n : ℕ) (e : Ended) (k : ℕ) → IsCount ends first e n k → k ≤ n
+count_within ends first zero e k a = omega (arith, a)
+count_within ends first (suc n) e k (inl a) = omega (arith, a.1.1, count_within ends first n e a.1.0 a.1.2)
+count_within ends first (suc n) e k (inr a) = omega (arith, count_within ends first n e k a.1)
+
+pub count_none : (ends : ℕ → Ended) (first n : ℕ) (e : Ended) → ((i : ℕ) → first ≤ i → i < first + n → ends i ≢ e) → IsCount ends first e n 0
+count_none ends first zero e h = refl
+count_none ends first (suc n) e h = inr (h (first + n) (omega arith) (omega arith), count_none ends first n e (λ i l m. h i l (omega (arith, m))))

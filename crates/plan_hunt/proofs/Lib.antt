@@ -1,0 +1,5 @@
+pub mod Added
+pub mod Counts
+pub mod Same
+pub mod Slots
+pub mod Unique

@@ -1,0 +1,4 @@
+pub mod Adding
+pub mod Endings
+pub mod Tables
+pub mod Working

@@ -1,0 +1,78 @@
+ghost use Rattle.std.specs.Prelude.{◌≡◌, ◌↔◌, IsTrue};
+ghost use Rattle.plan_hunt.specs.Endings.{ended};
+
+use hart_step::Stop;
+use std::marker::Model;
+
+/// How a run ended: why each hart stopped, the output, and the bytes of memory that are looked at.
+///
+/// It has no registers and no counts of instructions: they differ from plan to plan where nothing else does.
+#[derive(Drop)]
+pub struct Ending {
+    stops: Vec<Option<Stop>>,
+    output: Vec<u8>,
+    seen: Vec<u8>,
+}
+
+impl Model for Ending {
+    ghost use Rattle.plan_hunt.specs.Endings.{Ended};
+
+    ghost Value = { Ended };
+
+    ghost view = { λ e. record { stops = e.stops.items; output = e.output.items; seen = e.seen.items } };
+}
+
+impl Ending {
+    /// The ending with these stops, hart by hart, this output and these bytes.
+    pub fn new(stops: Vec<Option<Stop>>, output: Vec<u8>, seen: Vec<u8>) -> Self
+        ensures { result ≡ ended stops.items output.items seen.items }
+    {
+        Ending {
+            stops,
+            output,
+            seen,
+        }
+    }
+
+    /// Why each hart stopped, or `None` for a hart that still ran when the rounds were over.
+    pub fn stops(&self) -> &[Option<Stop>]
+        ensures { result.now ≡ self.now.stops }
+    {
+        self.stops.as_slice()
+    }
+
+    /// The bytes that the guest wrote.
+    pub fn output(&self) -> &[u8]
+        ensures { result.now ≡ self.now.output }
+    {
+        self.output.as_slice()
+    }
+
+    /// The bytes of memory that are looked at, range after range.
+    pub fn seen(&self) -> &[u8]
+        ensures { result.now ≡ self.now.seen }
+    {
+        self.seen.as_slice()
+    }
+
+    /// Whether two endings are the same.
+    pub fn is_same(&self, other: &Ending) -> bool
+        ensures { IsTrue result ↔ (self.now ≡ other.now) }
+    {
+        are_same_stops(&self.stops, &other.stops)
+            && are_same_bytes(&self.output, &other.output)
+            && are_same_bytes(&self.seen, &other.seen)
+    }
+}
+
+fn are_same_stops(stops: &[Option<Stop>], others: &[Option<Stop>]) -> bool
+    ensures { IsTrue result ↔ (stops.now ≡ others.now) }
+{
+    stops == others
+}
+
+fn are_same_bytes(bytes: &[u8], others: &[u8]) -> bool
+    ensures { IsTrue result ↔ (bytes.now ≡ others.now) }
+{
+    bytes == others
+}

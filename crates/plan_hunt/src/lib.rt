@@ -1,0 +1,17 @@
+//! The endings of a guest's runs under many plans: which there are, how often each comes, and the first plan that leads there.
+#![tactic(auto)]
+
+mod adding;
+mod ending;
+mod row;
+mod runs;
+mod tabulating;
+mod working;
+
+pub use ending::Ending;
+pub use row::Row;
+pub use runs::Runs;
+pub use tabulating::{tables_are_unique, tabulate};
+
+#[cfg(test)]
+mod tests;
