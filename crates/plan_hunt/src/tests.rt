@@ -6,6 +6,7 @@ use std::test::Fail;
 use std::thread::Threads;
 
 /// A guest that writes the remainder of the plan's number by 3.
+#[derive(Drop)]
 struct Remainders {
     alloc: Global,
 }
