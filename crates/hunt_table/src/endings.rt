@@ -1,0 +1,150 @@
+ghost use Rattle.std.specs.Prelude.{◌≡◌, ◌+◌, ◌<◌, ◌≤◌, ◌++◌, codes, drop, OnOk, take};
+ghost use Rattle.report.specs.Report.{bytes_text};
+ghost use Rattle.report.specs.Text.{stop_text};
+ghost use Rattle.hunt_table.specs.Text.{ending_line, ending_text, output_line, quoted, quoted_byte, seen_line, seen_lines, stop_line, stop_lines};
+
+use crate::header::SeenRange;
+use hart_step::Stop;
+use pages::OutOfMemory;
+use plan_hunt::Row;
+use report::Line;
+
+/// Adds a byte as it is written between quotes.
+#[tactic(auto, unfolding(crate::specs::Text::quoted_byte))]
+fn add_quoted_byte(line: &mut Line, byte: u8) -> Result<(), OutOfMemory>
+    ensures { OnOk result (line.new ≡ line.old ++ quoted_byte byte) }
+{
+    match byte {
+        b'"' => line.text("\\\""),
+        b'\\' => line.text("\\\\"),
+        b'\n' => line.text("\\n"),
+        b' '..=b'~' => line.bytes(&[byte]),
+        _ => {
+            line.text("\\x")?;
+            line.hex(u64::from(byte), 2)
+        }
+    }
+}
+
+fn add_quoted(line: &mut Line, bytes: &[u8]) -> Result<(), OutOfMemory>
+    ensures { OnOk result (line.new ≡ line.old ++ quoted bytes.now) }
+{
+    for byte in bytes {
+        add_quoted_byte(line, *byte)?;
+    }
+    Ok(())
+}
+
+/// Adds the line of the output.
+#[tactic(auto, unfolding(crate::specs::Text::output_line))]
+fn add_output(line: &mut Line, output: &[u8]) -> Result<(), OutOfMemory>
+    ensures { OnOk result (line.new ≡ line.old ++ output_line output.now) }
+{
+    line.text("output ")?;
+    line.decimal(output.len() as u64)?;
+    line.text(" \"")?;
+    add_quoted(line, output)?;
+    line.text("\"\n")
+}
+
+fn add_stop_text(line: &mut Line, stop: Option<Stop>) -> Result<(), OutOfMemory>
+    ensures { OnOk result (line.new ≡ line.old ++ stop_text stop) }
+{
+    match stop {
+        None => line.text("running"),
+        Some(Stop { code: 1, value }) => {
+            line.text("exit ")?;
+            line.hex(value, 16)
+        }
+        Some(Stop { code, .. }) => {
+            line.text("stop ")?;
+            line.decimal(u64::from(code))
+        }
+    }
+}
+
+/// Adds the line of a hart.
+#[tactic(auto, unfolding(crate::specs::Text::stop_line))]
+fn add_stop(line: &mut Line, hart: u64, stop: Option<Stop>) -> Result<(), OutOfMemory>
+    ensures { OnOk result (line.new ≡ line.old ++ stop_line hart stop) }
+{
+    line.text("hart ")?;
+    line.decimal(hart)?;
+    line.text(" ")?;
+    add_stop_text(line, stop)?;
+    line.text("\n")
+}
+
+fn add_stops(line: &mut Line, stops: &[Option<Stop>]) -> Result<(), OutOfMemory>
+    ensures { OnOk result (line.new ≡ line.old ++ stop_lines 0 stops.now) }
+{
+    for (hart, stop) in stops.iter().enumerate() {
+        add_stop(line, hart as u64, *stop)?;
+    }
+    Ok(())
+}
+
+fn add_bytes(line: &mut Line, bytes: &[u8]) -> Result<(), OutOfMemory>
+    ensures { OnOk result (line.new ≡ line.old ++ bytes_text bytes.now) }
+{
+    for byte in bytes {
+        line.hex(u64::from(*byte), 2)?;
+    }
+    Ok(())
+}
+
+/// Adds the line of a range.
+#[tactic(auto, unfolding(crate::specs::Text::seen_line))]
+fn add_range(line: &mut Line, range: SeenRange, bytes: &[u8]) -> Result<(), OutOfMemory>
+    ensures { OnOk result (line.new ≡ line.old ++ seen_line range bytes.now) }
+{
+    line.text("see ")?;
+    line.hex(u64::from(range.address), 8)?;
+    line.text(" ")?;
+    line.decimal(u64::from(range.length))?;
+    line.text(" ")?;
+    add_bytes(line, bytes)?;
+    line.text("\n")
+}
+
+fn add_ranges(line: &mut Line, ranges: &[SeenRange], seen: &[u8]) -> Result<(), OutOfMemory>
+    ensures { OnOk result (line.new ≡ line.old ++ seen_lines ranges.now seen.now) }
+{
+    let mut rest = seen;
+    for range in ranges {
+        let length = rest.len().min(range.length as usize);
+        add_range(line, *range, &rest[..length])?;
+        rest = &rest[length..];
+    }
+    Ok(())
+}
+
+/// Adds how many plans lead to an ending, and the first of them.
+#[tactic(auto, unfolding(crate::specs::Text::ending_line))]
+fn add_plans(line: &mut Line, number: u64, row: &Row) -> Result<(), OutOfMemory>
+    ensures { OnOk result (line.new ≡ line.old ++ ending_line number row.now) }
+{
+    line.text("ending ")?;
+    line.decimal(number)?;
+    line.text(" plans ")?;
+    line.decimal(u64::from(row.plans))?;
+    line.text(" first ")?;
+    line.decimal(u64::from(row.first))?;
+    line.text("\n")
+}
+
+/// Adds an ending.
+#[tactic(auto, unfolding(crate::specs::Text::ending_text))]
+pub(crate) fn add_ending(
+    line: &mut Line,
+    ranges: &[SeenRange],
+    number: u64,
+    row: &Row,
+) -> Result<(), OutOfMemory>
+    ensures { OnOk result (line.new ≡ line.old ++ ending_text ranges.now number row.now) }
+{
+    add_plans(line, number, row)?;
+    add_stops(line, row.ending.stops())?;
+    add_ranges(line, ranges, row.ending.seen())?;
+    add_output(line, row.ending.output())
+}
