@@ -1,4 +1,5 @@
 pub mod Adding
 pub mod Endings
+pub mod Joining
 pub mod Tables
 pub mod Working

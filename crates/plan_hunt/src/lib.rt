@@ -3,12 +3,14 @@
 
 mod adding;
 mod ending;
+mod joining;
 mod row;
 mod runs;
 mod tabulating;
 mod working;
 
 pub use ending::Ending;
+pub use joining::join;
 pub use row::Row;
 pub use runs::Runs;
 pub use tabulating::{tables_are_unique, tabulate};

@@ -25,16 +25,31 @@ impl Runs for Remainders {
     }
 }
 
+/// Whether the rows are those of plans 5 to 11.
+fn are_rows(rows: &[Row]) -> bool {
+    let expected = [(2, 5, 3), (0, 6, 2), (1, 7, 2)];
+    rows.len() == expected.len()
+        && rows.iter().zip(expected).all(|(row, (remainder, first, plans))| {
+            row.ending.output() == [remainder].as_slice()
+                && row.first == first
+                && row.plans == plans
+        })
+}
+
 #[test]
 fn each_ending_is_told_once(rt: HostRuntime) -> Result<(), Fail> {
     let guest = Remainders { alloc: rt.alloc() };
     let rows = tabulate(&rt, rt.alloc(), &guest, 5, 7, 3)?;
-    let expected = [(2, 5, 3), (0, 6, 2), (1, 7, 2)];
-    assert_eq!(rt; rows.len(), expected.len());
-    for (row, (remainder, first, plans)) in rows.iter().zip(expected) {
-        assert!(rt; row.ending.output() == [remainder].as_slice());
-        assert_eq!(rt; row.first, first);
-        assert_eq!(rt; row.plans, plans);
-    }
+    assert!(rt; are_rows(&rows));
+    Ok(())
+}
+
+#[test]
+fn tables_that_adjoin_are_joined(rt: HostRuntime) -> Result<(), Fail> {
+    let guest = Remainders { alloc: rt.alloc() };
+    let mut rows = tabulate(&rt, rt.alloc(), &guest, 5, 2, 1)?;
+    let others = tabulate(&rt, rt.alloc(), &guest, 7, 5, 2)?;
+    join(&mut rows, others)?;
+    assert!(rt; are_rows(&rows));
     Ok(())
 }
