@@ -134,11 +134,13 @@ fn refused_texts(rt: HostRuntime) -> Result<(), Fail> {
     Ok(())
 }
 
-/// Whether each beginning of a text is refused: by 41 up to its first eight bytes, and by 43 up to its last.
+/// Whether each beginning of a text is refused: by 41 up to its first eight bytes, and by 43 up to its last, as the grammar
+/// says too.
 fn beginnings_are_refused(alloc: Global, text: &[u8]) -> bool {
     for (length, _) in text.iter().enumerate() {
+        let beginning = &text[..length];
         let wanted = if length < 8 { 41 } else { 43 };
-        if answer(alloc, &text[..length]) != wanted {
+        if answer(alloc, beginning) != wanted || number_of(beginning) != wanted {
             return false;
         }
     }
@@ -146,9 +148,11 @@ fn beginnings_are_refused(alloc: Global, text: &[u8]) -> bool {
 }
 
 #[test]
-fn every_beginning(rt: HostRuntime) {
+fn every_beginning(rt: HostRuntime) -> Result<(), Fail> {
     assert!(rt; beginnings_are_refused(rt.alloc(), &VERSION_1));
     assert!(rt; beginnings_are_refused(rt.alloc(), &VERSION_2));
+    assert!(rt; beginnings_are_refused(rt.alloc(), &with_registers(rt.alloc())?));
+    Ok(())
 }
 
 /// Whether a text with any one byte changed to 00, 7f, 80 or ff has the answer of the grammar.
