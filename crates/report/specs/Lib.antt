@@ -2,3 +2,4 @@ pub mod Text
 pub mod Pending
 pub mod Report
 pub mod Order
+pub mod Shown

@@ -4,6 +4,7 @@
 mod line;
 mod order;
 mod rows;
+mod shown;
 mod state;
 mod tail;
 mod text;
@@ -11,6 +12,7 @@ mod writer;
 
 pub use line::Line;
 pub use order::write_order;
+pub use shown::{write_summary, write_untraced};
 pub use state::write_state;
 pub use text::{write_event, write_hart};
 

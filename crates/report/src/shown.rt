@@ -1,0 +1,98 @@
+ghost use Rattle.std.specs.Prelude.{◌≡◌, ◌⊎◌, ◌<◌, ◌++◌, [], OnOk, OnErr, IfErr, Err};
+ghost use Rattle.host_io.specs.Taken.{BeganText};
+ghost use Rattle.report.specs.Pending.{Wrote, way};
+ghost use Rattle.report.specs.Shown.{output_line, state_text, summary_text};
+
+use crate::line::Line;
+use crate::state::{put_count, put_end, put_harts, put_memory, put_output};
+use crate::writer::put_line;
+use hart_step::Hart;
+use host_io::{RunError, Sink};
+use pages::Pages;
+use std::alloc::Global;
+
+/// Writes the report of a state without its events: the harts, memory and the console's output.
+///
+/// # Errors
+///
+/// `OutOfMemory` where a line found no memory, and `SinkFailed` where the sink failed. A beginning of the
+/// text is out then.
+pub fn write_untraced<S: Sink>(
+    alloc: Global,
+    rounds: u32,
+    harts: &[Hart],
+    pages: &Pages,
+    output: &[u8],
+    out: &mut S,
+) -> Result<(), RunError>
+    ensures ok { OnOk result (S.took out.new ≡ S.took out.old ++ state_text rounds harts.now pages.now.memory.bytes output.now) }
+    ensures begun { OnErr result (BeganText (S.took out.old) (S.took out.new) (state_text rounds harts.now pages.now.memory.bytes output.now)) }
+    ensures sink { result ≡ Err RunError.SinkFailed → S.failures out.old < S.failures out.new }
+    ensures errors { IfErr result (λ e. (e ≡ RunError.OutOfMemory) ⊎ (e ≡ RunError.SinkFailed)) }
+{
+    let mut line = Line::new(alloc);
+    put_untraced(out, &mut line, rounds, harts, pages, output)
+}
+
+fn put_untraced<S: Sink>(
+    out: &mut S,
+    line: &mut Line,
+    rounds: u32,
+    harts: &[Hart],
+    pages: &Pages,
+    output: &[u8],
+) -> Result<(), RunError>
+    ensures wrote { Wrote (state_text rounds harts.now pages.now.memory.bytes output.now) (way (S.took out.old) (S.failures out.old) line.old) result (way (S.took out.new) (S.failures out.new) line.new) }
+    ensures empty { OnOk result (line.new ≡ []) }
+{
+    put_count(out, line, "rounds ", rounds as u64)?;
+    put_harts(out, line, harts)?;
+    put_memory(out, line, pages)?;
+    put_output(out, line, output)?;
+    put_end(out, line)
+}
+
+/// Writes the lines of the rounds and the harts, and how many bytes of output there are.
+///
+/// # Errors
+///
+/// Those of `write_untraced`.
+pub fn write_summary<S: Sink>(
+    alloc: Global,
+    rounds: u32,
+    harts: &[Hart],
+    output: &[u8],
+    out: &mut S,
+) -> Result<(), RunError>
+    ensures ok { OnOk result (S.took out.new ≡ S.took out.old ++ summary_text rounds harts.now output.now) }
+    ensures begun { OnErr result (BeganText (S.took out.old) (S.took out.new) (summary_text rounds harts.now output.now)) }
+    ensures sink { result ≡ Err RunError.SinkFailed → S.failures out.old < S.failures out.new }
+    ensures errors { IfErr result (λ e. (e ≡ RunError.OutOfMemory) ⊎ (e ≡ RunError.SinkFailed)) }
+{
+    let mut line = Line::new(alloc);
+    put_summary(out, &mut line, rounds, harts, output)
+}
+
+fn put_summary<S: Sink>(
+    out: &mut S,
+    line: &mut Line,
+    rounds: u32,
+    harts: &[Hart],
+    output: &[u8],
+) -> Result<(), RunError>
+    ensures wrote { Wrote (summary_text rounds harts.now output.now) (way (S.took out.old) (S.failures out.old) line.old) result (way (S.took out.new) (S.failures out.new) line.new) }
+    ensures empty { OnOk result (line.new ≡ []) }
+{
+    put_count(out, line, "rounds ", rounds as u64)?;
+    put_harts(out, line, harts)?;
+    put_output_line(out, line, output)
+}
+
+/// Puts the line of how many bytes of output there are, and all that was to be put before it.
+fn put_output_line<S: Sink>(out: &mut S, line: &mut Line, output: &[u8]) -> Result<(), RunError>
+    ensures wrote { Wrote (output_line output.now) (way (S.took out.old) (S.failures out.old) line.old) result (way (S.took out.new) (S.failures out.new) line.new) }
+    ensures empty { OnOk result (line.new ≡ []) }
+{
+    put_count(out, line, "output ", output.len() as u64)?;
+    put_line(out, line)
+}
