@@ -1,11 +1,10 @@
 -- A hart within the next round, from a shorter round of it or from two short turns.
-use Rattle.std.proofs.Common.{◌<◌, ◌≤◌, ◌%◌, ◌^◌, length, ◌-◌, get_or, slice_get, slice_index, All, arith, ◌≡◌, ℕ, zero, suc, ◌+◌, Bool, true, false, cond, nat_lt, nat_eq, List, [], ◌∷◌, Option, Some, None, Result, Ok, Err, IfOk, refl, sym, ap, subst, ◌∙◌}
+use Rattle.std.proofs.Common.{◌<◌, ◌≤◌, ◌%◌, ◌^◌, length, ◌-◌, get_or, slice_get, slice_index, All, arith, ◌≡◌, ℕ, zero, suc, ◌+◌, Bool, true, false, cond, nat_lt, nat_eq, List, [], ◌∷◌, Option, Some, None, refl, sym, ap, subst, ◌∙◌}
 use Rattle.std.proofs.lemmas.Bool.Decides.{nat_tests}
 use Rattle.pages.specs.Memory.{IsBytes, Memory}
 use Rattle.pages.specs.Paged.{Paged}
 use Rattle.pages.specs.declared.access.Range.{Range}
 use Rattle.pages.specs.declared.access.Store.{Store}
-use Rattle.pages.specs.declared.out_of_memory.OutOfMemory.{OutOfMemory}
 use Rattle.round_schedule.specs.declared.access.Access.{Access}
 use Rattle.round_schedule.specs.declared.access.Stepped.{Stepped}
 use Rattle.round_schedule.specs.declared.access.Stepped.TheVariants.{Done, Waits, Stopped}
@@ -197,11 +196,6 @@ asked_of plan n hs gs p t c es os i count done h o same a low_i at_h at_o by_don
     let quota : slice_index (quotas_of plan n) i ≤ 1000000 = omega (arith, (quotas i 0 (omega (arith, low_i, harts, sized))).1) in
     subst (λ (k : ℕ). AskedAt m.code plan.budget (quotas_of plan) s t i count k h o.hart o.waits) (sym by_done)
     (asked_at m.code plan.budget (quotas_of plan) s t i count h tied size bytes (at_index hs i h low_i at_h) low_i quota small low o.hart o.waits is.hart is.waits)
-
--- an answer that is what was found
-pub if_found : (r : Result (Option Hart) OutOfMemory) (P : Option Hart → Type 0) (z : Option Hart) → IfOk r P → ((h : Option Hart) → P h → h ≡ z) → IfOk r (λ (h : Option Hart). h ≡ z)
-if_found (Ok h) P z p f = f h p
-if_found (Err e) P z p f = tt
 
 -- ---- no such hart
 

@@ -10,6 +10,9 @@ pub mod Repeated
 pub mod SizeKept
 pub mod TraceKept
 pub mod Good
+pub mod Counted
+pub mod UntracedRounds
+pub mod TracedMachine
 pub mod TracedRun
 pub mod Ordered
 pub mod AskedTurns

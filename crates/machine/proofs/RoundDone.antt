@@ -1,5 +1,5 @@
 -- From the parts of a round to the round.
-use Rattle.std.proofs.Common.{◌≡◌, ℕ, zero, suc, ◌+◌, ◌*◌, ◌/◌, ◌%◌, ◌^◌, ◌<◌, ◌≤◌, ◌==◌, List, [], ◌∷◌, ◌++◌, length, get_or, min, Bool, true, false, cond, Option, Some, None, refl, sym, ap, ◌∙◌, subst, arith, length-append}
+use Rattle.std.proofs.Common.{◌≡◌, ℕ, zero, suc, ◌+◌, ◌*◌, ◌/◌, ◌%◌, ◌^◌, ◌<◌, ◌≤◌, ◌==◌, List, [], ◌∷◌, ◌++◌, length, get_or, min, Bool, true, false, cond, Option, Some, None, refl, sym, ap, ◌∙◌, subst, arith, append_assoc, length-append}
 use Rattle.std.specs.Prelude.{option_to_list}
 use Rattle.std.proofs.Math.Nat.{div-div-eq-div-mul, div-one, zero-div, pow-succ'}
 use Rattle.pages.specs.Memory.{IsBytes, Memory, after, stored}
@@ -27,7 +27,7 @@ use Rattle.serial_phase.specs.Phase.{TakesTurns, serial_done, waiting_rounds, is
 use Rattle.serial_phase.specs.Roomed.{Roomed}
 use Rattle.serial_phase.specs.Turns.{Turns}
 use Rattle.machine.specs.declared.outcome.Outcome.{Outcome}
-use Rattle.machine.specs.Outcomes.{AreOutcomes, mask_of, waits_of, harts_of, outcome_events, turns_of, count_log, count_true}
+use Rattle.machine.specs.Outcomes.{AreOutcomes, mask_of, waits_of, harts_of, outcome_events, round_events, turns_of, count_log, count_true}
 use Rattle.machine.specs.Machine.{count_waiting}
 use Rattle.machine.specs.Rounds.{parts_after, next_parts, IsFinished, IsRoundDone}
 
@@ -149,20 +149,24 @@ pub spares_left : (n m : ℕ) (p q : Paged) → m ≡ n → q.ready ≡ p.ready 
 spares_left n m p q s e f h = subst (λ (k : ℕ). HasSpares k q) (sym s) (same_spares n p q e f h)
 
 -- the parts of a round: the outcomes, the commit, the serial phase, and the events
-pub record RoundParts (plan : Planned) (n : ℕ) (hs gs : List Hart) (p q r s : Paged) (t u v : List (Option Span)) (c d : Roomed) (es fs : List Event) (os : List Outcome) (k : Turns) : Type 0 where
+pub record RoundParts (plan : Planned) (n : ℕ) (hs gs : List Hart) (p q r s : Paged) (t u v : List (Option Span)) (c d : Roomed) (more : List Event) (os : List Outcome) (k : Turns) : Type 0 where
   pub outcomes : AreOutcomes p.memory (hart_rounds (words_of p.memory.code) p.memory.bytes (quotas_of plan n) hs) os
   pub kept : q.memory ≡ p.memory
   pub committed : Committed (hart_rounds (words_of p.memory.code) p.memory.bytes (quotas_of plan n) hs) q r t u
   pub served : TakesTurns (serial_done plan.budget (n + 1) (mask_of (waits_of os)) (harts_of os) r u c) gs r s v d k
-  pub events : fs ≡ (es ++ outcome_events (n + 1) 0 os) ++ log_events (n + 1) 0 k.closed
+  pub events : more ≡ round_events (n + 1) os k.closed
 
-pub round_done : (plan : Planned) (n : ℕ) (hs gs : List Hart) (p q r s : Paged) (t u v : List (Option Span)) (c d : Roomed) (es fs : List Event) (os : List Outcome) (k : Turns) →
-    RoundParts plan n hs gs p q r s t u v c d es fs os k → IsRoundDone (next_parts plan n hs p t c.console es) gs p s v d.console fs
+-- a round that is done, and its events
+pub record DoneWith (r : Tabled Hart ConsoleState) (gs : List Hart) (p s : Paged) (v : List (Option Span)) (d : ConsoleState) (more : List Event) : Type 0 where
+  pub done : IsRoundDone r gs p s v d
+  pub events : more ≡ r.state.trace
+
+pub round_done : (plan : Planned) (n : ℕ) (hs gs : List Hart) (p q r s : Paged) (t u v : List (Option Span)) (c d : Roomed) (more : List Event) (os : List Outcome) (k : Turns) →
+    RoundParts plan n hs gs p q r s t u v c d more os k → DoneWith (next_parts plan n hs p t c.console) gs p s v d.console more
 unfolding tabled_round
-round_done plan n hs gs p q r s t u v c d es fs os k x =
+round_done plan n hs gs p q r s t u v c d more os k x =
     let W = words_of p.memory.code in
     let rs = hart_rounds W p.memory.bytes (quotas_of plan n) hs in
-    let m0 : Memory = p.memory in
     let memory : r.memory ≡ stored p.memory (all_stores rs) = x.committed.memory ∙ ap (λ (m : Memory). stored m (all_stores rs)) x.kept in
     let start : Counter Hart ConsoleState = record { harts = []; bytes = after p.memory.bytes (all_stores rs); console = c.console; table = committed_table 0 rs t; log = [] } in
     let done : serial_done plan.budget (n + 1) (mask_of (waits_of os)) (harts_of os) r u c ≡ counter_from W plan.budget (n + 1) 0 rs start =
@@ -170,14 +174,16 @@ round_done plan n hs gs p q r s t u v c d es fs os k x =
     ∙ ap (λ (m : Memory). counter_from (words_of m.code) plan.budget (n + 1) 0 rs (record { harts = []; bytes = m.bytes; console = c.console; table = u; log = [] })) memory
     ∙ ap (λ (y : List (Option Span)). counter_from W plan.budget (n + 1) 0 rs (record { harts = []; bytes = after p.memory.bytes (all_stores rs); console = c.console; table = y; log = [] })) x.committed.table in
     record {
-      harts = x.served.harts ∙ ap (λ (y : Counter Hart ConsoleState). y.harts) done;
-      bytes = x.served.pages.bytes ∙ ap (λ (y : Counter Hart ConsoleState). y.bytes) done;
-      code = x.served.pages.code ∙ ap (λ (m : Memory). m.code) memory;
-      console = x.served.console ∙ ap (λ (y : Counter Hart ConsoleState). y.console) done;
-      trace = x.events
-          ∙ ap (λ (y : List Event). (es ++ y) ++ log_events (n + 1) 0 k.closed) (events_are p.memory (n + 1) 0 rs os x.outcomes)
-          ∙ ap (λ (y : List (List Access)). (es ++ events_from (n + 1) 0 rs) ++ log_events (n + 1) 0 y) (x.served.log ∙ ap (λ (y : Counter Hart ConsoleState). y.log) done);
-      table = x.served.table ∙ ap (λ (y : Counter Hart ConsoleState). y.table) done;
+      done = record {
+        harts = x.served.harts ∙ ap (λ (y : Counter Hart ConsoleState). y.harts) done;
+        bytes = x.served.pages.bytes ∙ ap (λ (y : Counter Hart ConsoleState). y.bytes) done;
+        code = x.served.pages.code ∙ ap (λ (m : Memory). m.code) memory;
+        console = x.served.console ∙ ap (λ (y : Counter Hart ConsoleState). y.console) done;
+        table = x.served.table ∙ ap (λ (y : Counter Hart ConsoleState). y.table) done;
+      };
+      events = x.events
+          ∙ ap (λ (y : List Event). y ++ log_events (n + 1) 0 k.closed) (events_are p.memory (n + 1) 0 rs os x.outcomes)
+          ∙ ap (λ (y : List (List Access)). events_from (n + 1) 0 rs ++ log_events (n + 1) 0 y) (x.served.log ∙ ap (λ (y : Counter Hart ConsoleState). y.log) done);
     }
 
 -- the log of the serial phase
@@ -198,15 +204,15 @@ pub length-rounds : (W : Words Hart ConsoleState) (bs qs : List ℕ) (hs : List 
 length-rounds W bs qs [] = refl
 length-rounds W bs qs (h ∷ hs) = ap suc (length-rounds W bs (rest_of qs) hs)
 
-pub finished_done : (plan : Planned) (n : ℕ) (hs gs : List Hart) (p s : Paged) (t v : List (Option Span)) (c d : ConsoleState) (es fs : List Event) (os : List Outcome) →
-    AreOutcomes p.memory (hart_rounds (words_of p.memory.code) p.memory.bytes (quotas_of plan n) hs) os → IsFinished plan.budget (n + 1) os gs p s t v c d es fs →
-    IsRoundDone (next_parts plan n hs p t c es) gs p s v d fs
-finished_done plan n hs gs p s t v c d es fs os a x =
+pub finished_done : (plan : Planned) (n : ℕ) (hs gs : List Hart) (p s : Paged) (t v : List (Option Span)) (c d : ConsoleState) (more : List Event) (os : List Outcome) →
+    AreOutcomes p.memory (hart_rounds (words_of p.memory.code) p.memory.bytes (quotas_of plan n) hs) os → IsFinished plan.budget (n + 1) os gs p s t v c d more →
+    DoneWith (next_parts plan n hs p t c) gs p s v d more
+finished_done plan n hs gs p s t v c d more os a x =
     let rs = hart_rounds (words_of p.memory.code) p.memory.bytes (quotas_of plan n) hs in
-    let done = round_done plan n hs gs p x.ready x.after s t x.table v x.before x.behind es fs os x.log
+    let done = round_done plan n hs gs p x.ready x.after s t x.table v x.before x.behind more os x.log
     (record { outcomes = a; kept = x.kept; committed = x.committed rs a; served = x.served; events = x.events }) in
-    subst (λ (y : ConsoleState). IsRoundDone (next_parts plan n hs p t c es) gs p s v y fs) x.shown
-    (subst (λ (y : ConsoleState). IsRoundDone (next_parts plan n hs p t y es) gs p s v x.behind.console fs) x.console done)
+    subst (λ (y : ConsoleState). DoneWith (next_parts plan n hs p t c) gs p s v y more) x.shown
+    (subst (λ (y : ConsoleState). DoneWith (next_parts plan n hs p t y) gs p s v x.behind.console more) x.console done)
 
 pub waited_is : (m : Memory) (rs : List (HartRound Hart)) (os : List Outcome) → AreOutcomes m rs os → count_true (waits_of os) ≡ count_waiting rs
 waited_is m [] [] a = refl
@@ -217,15 +223,31 @@ waited_is m (r ∷ rs) (o ∷ os) a = ap (λ (b : Bool). cond b 1 0 + count_true
 abbrev pub whole : List Hart → List ℕ → ConsoleState → List Event → ℕ → State Hart ConsoleState
 whole hs bs c es k = record { harts = hs; bytes = bs; console = c; trace = es; rounds = k }
 
+-- the parts with the events so far
+abbrev pub traced_parts : ℕ → List Hart → List ℕ → List (Option Span) → ConsoleState → List Event → Tabled Hart ConsoleState
+traced_parts n hs bs t c es = record { state = whole hs bs c es n; table = t }
+
+-- a round over the table looks at no event: it only adds its own
+pub only_added : (W : Words Hart ConsoleState) (budget : ℕ) (quotas : ℕ → List ℕ) (n : ℕ) (hs : List Hart) (bs : List ℕ) (t : List (Option Span)) (c : ConsoleState) (es : List Event) →
+    let r = tabled_round W budget quotas (traced_parts n hs bs t c []) in
+    tabled_round W budget quotas (traced_parts n hs bs t c es) ≡ record { state = whole r.state.harts r.state.bytes r.state.console (es ++ r.state.trace) r.state.rounds; table = r.table }
+unfolding tabled_round
+only_added W budget quotas n hs bs t c es =
+    let rs = hart_rounds W bs (quotas n) hs in
+    let r = tabled_round W budget quotas (traced_parts n hs bs t c []) in
+    ap (λ (y : List Event). record { state = whole r.state.harts r.state.bytes r.state.console y r.state.rounds; table = r.table })
+    (append_assoc es (events_from (n + 1) 0 rs) _)
+
 -- the state after a round, and what ties its parts together
 pub record RoundOver (plan : Planned) (n : ℕ) (hs gs : List Hart) (p s : Paged) (t v : List (Option Span)) (c d : ConsoleState) (es fs : List Event) : Type 0 where
-  pub same : whole gs s.memory.bytes d fs (n + 1) ≡ round_of (words_of p.memory.code) plan.budget (quotas_of plan) (parts_after n hs p t c es).state
+  pub same : whole gs s.memory.bytes d fs (n + 1) ≡ round_of (words_of p.memory.code) plan.budget (quotas_of plan) (whole hs p.memory.bytes c es n)
   pub code : s.memory.code ≡ p.memory.code
   pub tied : Tied v fs
   pub size : length v ≡ length t
   pub harts : length gs ≡ length hs
 
-rounds_next : (W : Words Hart ConsoleState) (budget : ℕ) (quotas : ℕ → List ℕ) (m : Tabled Hart ConsoleState) → m.state.rounds + 1 ≡ (tabled_round W budget quotas m).state.rounds
+-- the round is counted
+pub rounds_next : (W : Words Hart ConsoleState) (budget : ℕ) (quotas : ℕ → List ℕ) (m : Tabled Hart ConsoleState) → m.state.rounds + 1 ≡ (tabled_round W budget quotas m).state.rounds
 unfolding tabled_round
 rounds_next W budget quotas m = refl
 
@@ -239,26 +261,31 @@ same_state hs bs c es k z e1 e2 e3 e4 e5 =
     ∙ ap (λ (y : ℕ). whole z.harts z.bytes z.console z.trace y) e5
 
 pub round_over : (plan : Planned) (n : ℕ) (hs gs : List Hart) (p s : Paged) (t v : List (Option Span)) (c d : ConsoleState) (es fs : List Event) →
-    IsBytes p.memory.bytes → Tied t es → length t ≡ length hs → IsRoundDone (next_parts plan n hs p t c es) gs p s v d fs → RoundOver plan n hs gs p s t v c d es fs
-round_over plan n hs gs p s t v c d es fs small tied size x =
+    IsBytes p.memory.bytes → Tied t es → length t ≡ length hs → IsRoundDone (next_parts plan n hs p t c) gs p s v d → fs ≡ es ++ (next_parts plan n hs p t c).state.trace →
+    RoundOver plan n hs gs p s t v c d es fs
+round_over plan n hs gs p s t v c d es fs small tied size x more =
     let W = words_of p.memory.code in
-    let m = parts_after n hs p t c es in
-    let r = next_parts plan n hs p t c es in
+    let m = traced_parts n hs p.memory.bytes t c es in
+    let r = next_parts plan n hs p t c in
+    let all : Tabled Hart ConsoleState = record { state = whole r.state.harts r.state.bytes r.state.console (es ++ r.state.trace) r.state.rounds; table = r.table } in
+    let is : tabled_round W plan.budget (quotas_of plan) m ≡ all = only_added W plan.budget (quotas_of plan) n hs p.memory.bytes t c es in
     let one : RoundByTable W plan.budget (quotas_of plan) m = rounds_by_table Hart ConsoleState W plan.budget (quotas_of plan) m (sound p.memory.code) small tied size in
     record {
-      same = same_state gs s.memory.bytes d fs (n + 1) r.state x.harts x.bytes x.console x.trace (rounds_next W plan.budget (quotas_of plan) m) ∙ one.same;
+      same = same_state gs s.memory.bytes d fs (n + 1) all.state x.harts x.bytes x.console more (rounds_next W plan.budget (quotas_of plan) (parts_after n hs p t c))
+          ∙ ap (λ (y : Tabled Hart ConsoleState). y.state) (sym is) ∙ one.same;
       code = x.code;
-      tied = subst (λ (y : List Event). Tied v y) (sym x.trace) (subst (λ (y : List (Option Span)). Tied y r.state.trace) (sym x.table) one.tied);
-      size = ap length x.table ∙ one.size;
-      harts = ap length x.harts ∙ one.harts;
+      tied = subst (λ (y : List Event). Tied v y) (sym more)
+          (subst (λ (y : List (Option Span)). Tied y (es ++ r.state.trace)) (sym x.table) (subst (λ (y : Tabled Hart ConsoleState). Tied y.table y.state.trace) is one.tied));
+      size = ap length x.table ∙ ap (λ (y : Tabled Hart ConsoleState). length y.table) (sym is) ∙ one.size;
+      harts = ap length x.harts ∙ ap (λ (y : Tabled Hart ConsoleState). length y.state.harts) (sym is) ∙ one.harts;
     }
 
 -- a round that goes on so is finished
-pub finished_from : (budget n : ℕ) (os : List Outcome) (gs : List Hart) (p ready after' s : Paged) (t u v : List (Option Span)) (c : ConsoleState) (es : List Event) (before behind : Roomed) (log : Turns) →
+pub finished_from : (budget n : ℕ) (os : List Outcome) (gs : List Hart) (p ready after' s : Paged) (t u v : List (Option Span)) (c : ConsoleState) (before behind : Roomed) (log : Turns) →
     ready.memory ≡ p.memory → ((rs : List (HartRound Hart)) → AreOutcomes p.memory rs os → Committed rs ready after' t u) → before.console ≡ c →
     TakesTurns (serial_done budget n (mask_of (waits_of os)) (harts_of os) after' u before) gs after' s v behind log →
-    IsFinished budget n os gs p s t v c behind.console es ((es ++ outcome_events n 0 os) ++ log_events n 0 log.closed)
-finished_from budget n os gs p ready after' s t u v c es before behind log kept committed console served = record {
+    IsFinished budget n os gs p s t v c behind.console (round_events n os log.closed)
+finished_from budget n os gs p ready after' s t u v c before behind log kept committed console served = record {
   ready = ready;
   after = after';
   table = u;

@@ -9,7 +9,7 @@ use Rattle.round_schedule.specs.declared.event.Event.{Event}
 use Rattle.round_schedule.specs.declared.span.Span.{Span}
 use Rattle.round_schedule.specs.declared.access.Access.{Access}
 use Rattle.round_schedule.specs.declared.event.Phase.TheVariants.{Parallel, Serial}
-use Rattle.round_schedule.specs.ByTable.{RoundByTable}
+use Rattle.round_schedule.specs.ByTable.{RoundByTable, Tabled}
 use Rattle.round_schedule.specs.Desk.{log_events}
 use Rattle.round_schedule.specs.Events.{event_of, events_of}
 use Rattle.round_schedule.specs.Places.{Placed}
@@ -30,7 +30,8 @@ use Rattle.machine.specs.Held.{most_of_round}
 use Rattle.machine.specs.Machine.{opening_hart, opening_harts}
 use Rattle.machine.specs.declared.outcome.Outcome.{Outcome}
 use Rattle.machine.specs.Outcomes.{HasPlaces, outcome_events}
-use Rattle.machine.specs.Rounds.{next_parts, parts_after}
+use Rattle.machine.specs.Rounds.{next_parts}
+use Rattle.machine.proofs.RoundDone.{only_added, traced_parts, whole}
 
 -- no hart has done anything before the first round
 pub placed_first : (entry n i k : ℕ) → Placed (λ (h : Hart). h.done) 0 (opening_harts entry n i k) []
@@ -44,20 +45,22 @@ placed_first entry n i k = record {
     none_done i zero = λ a d l. absurd (omega (arith, l))
     none_done i (suc k) = All-cons (λ (h : Hart). h.done ≤ 0) (opening_hart entry n i) (opening_harts entry n (suc i) k) (omega arith) (none_done (suc i) k)
 
-low : (plan : Planned) → ((m : ℕ) → All IsQuota (quotas_of plan m)) → (m : ℕ) → All (λ q. q ≤ 1000000) (quotas_of plan m)
-low plan quotas m = All-weaker IsQuota (λ q. q ≤ 1000000) (λ q h. h.1) (quotas_of plan m) (quotas m)
+-- no quota of the plan is above a million
+pub low_quotas : (plan : Planned) → ((m : ℕ) → All IsQuota (quotas_of plan m)) → (m : ℕ) → All (λ q. q ≤ 1000000) (quotas_of plan m)
+low_quotas plan quotas m = All-weaker IsQuota (λ q. q ≤ 1000000) (λ q h. h.1) (quotas_of plan m) (quotas m)
 
 -- after one more round
 pub next_is_trace : (plan : Planned) (n : ℕ) (hs : List Hart) (p : Paged) (t : List (Option Span)) (c : ConsoleState) (es : List Event) →
     IsBytes p.memory.bytes → length p.memory.bytes ≤ 2 ^ 26 → Tied t es → length t ≡ length hs → ((m : ℕ) → All IsQuota (quotas_of plan m)) → plan.budget ≤ 1000 → n + 1 < 2 ^ 32 →
-    IsTrace es → Placed (λ (h : Hart). h.done) (most_of_round * n) hs es → IsTrace (next_parts plan n hs p t c es).state.trace
+    IsTrace es → Placed (λ (h : Hart). h.done) (most_of_round * n) hs es → IsTrace (es ++ (next_parts plan n hs p t c).state.trace)
 next_is_trace plan n hs p t c es small size tied table quotas budget few tr placed =
     let W = words_of p.memory.code in
-    let m = parts_after n hs p t c es in
+    let m = traced_parts n hs p.memory.bytes t c es in
     let one : RoundByTable W plan.budget (quotas_of plan) m = rounds_by_table Hart ConsoleState W plan.budget (quotas_of plan) m (sound p.memory.code) small tied table in
-    subst (λ (s : State Hart ConsoleState). IsTrace s.trace) (sym one.same)
-    (round_leaves_trace W (λ (h : Hart). h.done) (has_forms p.memory.code) (counts_done p.memory.code) (most_of_round * n) 1000000 plan.budget (quotas_of plan) m.state (low plan quotas)
-    (omega (arith, budget, few)) small (omega (arith, size)) tr placed)
+    subst (λ (y : Tabled Hart ConsoleState). IsTrace y.state.trace) (only_added W plan.budget (quotas_of plan) n hs p.memory.bytes t c es)
+    (subst (λ (s : State Hart ConsoleState). IsTrace s.trace) (sym one.same)
+    (round_leaves_trace W (λ (h : Hart). h.done) (has_forms p.memory.code) (counts_done p.memory.code) (most_of_round * n) 1000000 plan.budget (quotas_of plan) m.state (low_quotas plan quotas)
+    (omega (arith, budget, few)) small (omega (arith, size)) tr placed))
 
 pub placed_more : (a b : ℕ) (hs : List Hart) (t : List Event) → a ≤ b → Placed (λ (h : Hart). h.done) a hs t → Placed (λ (h : Hart). h.done) b hs t
 placed_more a b hs t l p = record {
@@ -67,15 +70,15 @@ placed_more a b hs t l p = record {
 }
 
 pub next_placed : (plan : Planned) (n : ℕ) (hs : List Hart) (p : Paged) (t : List (Option Span)) (c : ConsoleState) (es : List Event) (s : State Hart ConsoleState) →
-    s ≡ round_of (words_of p.memory.code) plan.budget (quotas_of plan) (parts_after n hs p t c es).state →
+    s ≡ round_of (words_of p.memory.code) plan.budget (quotas_of plan) (whole hs p.memory.bytes c es n) →
     ((m : ℕ) → All IsQuota (quotas_of plan m)) → plan.budget ≤ 1000 → n + 1 < 2 ^ 32 →
     Placed (λ (h : Hart). h.done) (most_of_round * n) hs es → Placed (λ (h : Hart). h.done) (most_of_round * (n + 1)) s.harts s.trace
 next_placed plan n hs p t c es s same quotas budget few placed =
     let W = words_of p.memory.code in
-    let m = (parts_after n hs p t c es).state in
+    let m = whole hs p.memory.bytes c es n in
     subst (λ (z : State Hart ConsoleState). Placed (λ (h : Hart). h.done) (most_of_round * (n + 1)) z.harts z.trace) (sym same)
     (placed_more (most_of_round * n + 1000000 + plan.budget) (most_of_round * (n + 1)) (round_of W plan.budget (quotas_of plan) m).harts (round_of W plan.budget (quotas_of plan) m).trace (omega (arith, budget))
-    (places_kept W (λ (h : Hart). h.done) (counts_done p.memory.code) (most_of_round * n) 1000000 plan.budget (quotas_of plan) m (low plan quotas) (omega (arith, budget, few)) placed))
+    (places_kept W (λ (h : Hart). h.done) (counts_done p.memory.code) (most_of_round * n) 1000000 plan.budget (quotas_of plan) m (low_quotas plan quotas) (omega (arith, budget, few)) placed))
 
 -- ---- the events of a round, hart by hart
 

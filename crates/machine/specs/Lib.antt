@@ -5,3 +5,4 @@ pub mod Rounds
 pub mod Settings
 pub mod OrderedRun
 pub mod Asked
+pub mod Untraced

@@ -7,6 +7,7 @@ use Rattle.store_buffer.specs.Covered.{with_stores}
 use Rattle.round_schedule.specs.declared.access.Access.{Access}
 use Rattle.round_schedule.specs.declared.event.Event.{Event}
 use Rattle.round_schedule.specs.declared.event.Phase.TheVariants.{Parallel}
+use Rattle.round_schedule.specs.Desk.{log_events}
 use Rattle.round_schedule.specs.Events.{events_of}
 use Rattle.round_schedule.specs.Schedule.{HartRound}
 use Rattle.hart_step.specs.declared.hart.Hart.{Hart}
@@ -68,6 +69,10 @@ harts_of (o ∷ os) = o.hart ∷ harts_of os
 abbrev pub outcome_events : ℕ → ℕ → List Outcome → List Event
 outcome_events n i [] = []
 outcome_events n i (o ∷ os) = events_of n i Parallel o.log ++ outcome_events n (suc i) os
+
+-- the events of a round: those of the outcomes, and those of the serial turns
+abbrev pub round_events : ℕ → List Outcome → List (List Access) → List Event
+round_events n os closed = outcome_events n 0 os ++ log_events n 0 closed
 
 abbrev pub count_accesses : List Outcome → ℕ
 count_accesses [] = 0

@@ -6,12 +6,15 @@ ghost use Rattle.round_planner.specs.Quotas.{quotas_of};
 ghost use Rattle.hart_step.specs.CodeTables.{Shows};
 ghost use Rattle.hart_step.specs.Numbers.{minus};
 ghost use Rattle.hart_step.specs.Words.{words_of};
+ghost use Rattle.machine.specs.Machine.{Running};
+ghost use Rattle.machine.specs.Untraced.{IsUntraced};
 
 use crate::asked_turn::{TurnPlace, ask_turn};
 use crate::crew::Crew;
 use crate::machine::Machine;
 use crate::outcome::outcomes_of;
 use crate::running::{MANY_LINES, MOST_WORKERS};
+use crate::untraced::UntracedMachine;
 use hart_step::{Buffered, CodeTable, Hart, hart_round};
 use host_io::RunError;
 use pages::{OutOfMemory, Pages};
@@ -41,10 +44,10 @@ impl Machine {
         if workers < 1 || workers > MOST_WORKERS {
             return Err(RunError::WorkersOutOfRange);
         }
-        if self.rounds == u32::MAX {
+        if self.bare.rounds() == u32::MAX {
             return Err(RunError::RoundsExhausted);
         }
-        if hart >= self.plan.harts() {
+        if hart as usize >= self.bare.harts().len() {
             return Ok(None);
         }
         let crew = Crew {
@@ -53,9 +56,12 @@ impl Machine {
             gate: &Open,
             least_lines: MANY_LINES,
         };
-        Ok(self.ask(&crew, hart, count)?)
+        let Machine { bare, .. } = self;
+        Ok(bare.ask(&crew, hart, count)?)
     }
+}
 
+impl UntracedMachine {
     /// The same of a hart that there is, where there is a next round.
     fn ask<R: Threads + Wait + Sync>(
         self,
@@ -64,15 +70,16 @@ impl Machine {
         count: u64,
     ) -> Result<Option<Hart>, OutOfMemory>
         requires workers { (1 ≤ crew.now.workers) × (crew.now.workers ≤ 16) }
-        requires rounds { self.state.rounds + 1 < 2 ^ 32 }
-        requires hart { hart < length self.state.harts }
-        ensures { IfOk result (λ h. h ≡ hart_after (words_of self.code) self.plan.budget (quotas_of self.plan) self.state hart count) }
+        requires rounds { self.rounds + 1 < 2 ^ 32 }
+        requires hart { hart < length self.harts }
+        requires run { (m : Running) × IsUntraced m self }
+        ensures { IfOk result (λ h. (m : Running) → IsUntraced m self → h ≡ hart_after (words_of m.code) m.plan.budget (quotas_of m.plan) m.state hart count) }
     {
         // The types keep: bytes in memory, at most 64 harts with quotas in range, and a budget of at most 1,000.
         self.pages.bytes_fit();
         let _harts = self.plan.harts();
         let budget = self.plan.budget();
-        let Machine {
+        let UntracedMachine {
             harts,
             mut pages,
             table,

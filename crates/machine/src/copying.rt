@@ -2,6 +2,7 @@ ghost use Rattle.std.specs.Prelude.{◌≡◌, IfOk, IfErr};
 ghost use Rattle.host_io.specs.declared.error.RunError.TheVariants as refusals;
 
 use crate::machine::Machine;
+use crate::untraced::UntracedMachine;
 use hart_step::{CodeTable, Hart};
 use host_io::RunError;
 use pages::OutOfMemory;
@@ -20,10 +21,29 @@ impl Machine {
         ensures same { IfOk result (λ m. m ≡ self.now) }
         ensures refused { IfErr result (λ e. e ≡ refusals.OutOfMemory) }
     {
+        Ok(Machine {
+            bare: self.bare.copy()?,
+            trace: self.trace.copy(self.bare.allocator())?,
+        })
+    }
+}
+
+impl UntracedMachine {
+    /// A machine that is equal to this one.
+    ///
+    /// Pages that were written to are copied. The words of the code are decoded anew.
+    ///
+    /// # Errors
+    ///
+    /// `OutOfMemory` alone.
+    pub fn copy(&self) -> Result<UntracedMachine, RunError>
+        ensures same { IfOk result (λ u. u ≡ self.now) }
+        ensures refused { IfErr result (λ e. e ≡ refusals.OutOfMemory) }
+    {
         let alloc = self.pages.allocator();
         let pages = self.pages.copy(alloc)?;
         let table = CodeTable::new(alloc, &pages, self.table.first(), self.table.words().len())?;
-        Ok(Machine {
+        Ok(UntracedMachine {
             harts: copied(alloc, &self.harts)?,
             pages,
             table,
@@ -31,9 +51,9 @@ impl Machine {
             console: self.console.copy(alloc)?,
             // No turn is under way between two rounds.
             log: SerialLog::new(alloc),
-            trace: self.trace.copy(alloc)?,
             plan: self.plan.copy(alloc)?,
             rounds: self.rounds,
+            events: self.events,
             work: self.work,
         })
     }

@@ -64,10 +64,10 @@ impl Machine {
     {
         write_state(
             alloc,
-            self.rounds,
-            &self.harts,
-            &self.pages,
-            self.console.output(),
+            self.bare.rounds(),
+            self.bare.harts(),
+            self.bare.pages(),
+            self.bare.output(),
             &self.trace,
             out,
         )

@@ -23,6 +23,30 @@ pub fn total_accesses(outcomes: &[Outcome]) -> Option<usize>
     }
 }
 
+/// How many accesses the harts made in their rounds, which did a million instructions each at most.
+pub fn access_count(outcomes: &[Outcome]) -> u64
+    requires { count_accesses outcomes.now < 2 ^ 32 }
+    ensures { result ≡ count_accesses outcomes.now }
+{
+    match outcomes {
+        [] => 0,
+        [first, rest @ ..] => first.log.len() as u64 + access_count(rest),
+    }
+}
+
+/// How many accesses there are in the serial turns of harts `first`, `first` + 1, .., `left` of them.
+pub fn serial_count(log: &SerialLog, first: u32, left: u32) -> u64
+    requires harts { first + left ≡ length log.now.closed }
+    requires few { length log.now.closed ≤ 64 }
+    requires fits { count_log (drop first log.now.closed) < 2 ^ 32 }
+    ensures { result ≡ count_log (drop first log.now.closed) }
+{
+    if left == 0 {
+        return 0;
+    }
+    log.events(first).len() as u64 + serial_count(log, first + 1, left - 1)
+}
+
 /// How many instructions the serial turns may do together.
 pub fn turns_needed(outcomes: &[Outcome], budget: u32) -> u32
     requires few { length outcomes.now ≤ 64 }

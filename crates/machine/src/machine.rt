@@ -5,46 +5,31 @@ ghost use Rattle.memory_order.specs.Traced.{opening_at};
 ghost use Rattle.hart_step.specs.Stops.{has_stop};
 ghost use Rattle.machine.specs.Machine.{opening};
 
-use crate::decoding::decode_code;
-use crate::opening::opening_harts;
+use crate::untraced::UntracedMachine;
 use elf_loader::Image;
-use hart_step::{CodeTable, Hart};
+use hart_step::Hart;
 use host_io::RunError;
 use memory_order::Trace;
-use pages::Pages;
-use reservations::Reservations;
 use round_planner::Plan;
-use serial_phase::{Console, SerialLog};
 use std::alloc::Global;
 use std::marker::Model;
 
-/// A guest program between two rounds.
+/// A guest program between two rounds, and the trace of its run.
 #[derive(Drop)]
 pub struct Machine {
-    pub(crate) harts: Vec<Hart>,
-    pub(crate) pages: Pages,
-    pub(crate) table: CodeTable,
-    pub(crate) reservations: Reservations,
-    pub(crate) console: Console,
-    pub(crate) log: SerialLog,
+    pub(crate) bare: UntracedMachine,
     pub(crate) trace: Trace,
-    pub(crate) plan: Plan,
-    pub(crate) rounds: u32,
-    /// How many instructions the last round of `run` did, where there was one: about what the next has to do.
-    pub(crate) work: Option<u64>,
 }
 
 impl Model for Machine {
-    ghost use Rattle.std.specs.Prelude.{length};
     ghost use Rattle.machine.specs.Machine.{Running};
-    ghost use Rattle.memory_order.specs.Traced.{opening_bytes};
-    ghost use Rattle.machine.specs.Held.{HoldsTogether};
+    ghost use Rattle.machine.specs.Untraced.{HoldsTogether, traced};
 
     ghost Value = { Running };
 
-    ghost view = { λ m. record { state = record { harts = m.harts.items; bytes = m.pages.memory.bytes; console = m.console.console; trace = m.trace.events; rounds = m.rounds }; code = m.pages.memory.code; plan = m.plan; opening = opening_bytes m.trace.opening (length m.pages.memory.bytes) } };
+    ghost view = { λ m. traced m.bare m.trace };
 
-    ghost invariant = { λ m. HoldsTogether m.harts.items m.plan.harts m.reservations m.trace.events m.trace.opening m.pages.memory m.table m.rounds };
+    ghost invariant = { λ m. HoldsTogether m.bare m.trace };
 }
 
 impl Machine {
@@ -57,22 +42,11 @@ impl Machine {
         ensures machine { IfOk result (λ m. m ≡ opening image input.items plan) }
         ensures refused { IfErr result (λ e. e ≡ refusals.OutOfMemory) }
     {
-        let pages = Pages::new(alloc, image.pages(), image.pieces(), image.code())?;
-        let entry = image.entry();
-        let table = decode_code(alloc, &pages, entry)?;
-        let harts = opening_harts(alloc, entry, plan.harts())?;
-        Ok(Machine {
-            reservations: Reservations::new(plan.harts()),
-            harts,
-            pages,
-            table,
-            console: Console::new(alloc, input),
-            log: SerialLog::new(alloc),
-            trace: Trace::new(alloc, image.into_pieces()),
-            plan,
-            rounds: 0,
-            work: None,
-        })
+        // It tells how many bytes the pieces fill.
+        let _pieces = image.pieces();
+        let bare = UntracedMachine::open(alloc, &image, input, plan)?;
+        let trace = Trace::new(alloc, image.into_pieces());
+        Ok(Machine { bare, trace })
     }
 
     /// The harts, in hart order. One that has stopped did so with a code of 1 to 10, and with a value in the exit call alone.
@@ -81,7 +55,7 @@ impl Machine {
         ensures count { length result.now ≡ self.now.plan.harts }
         ensures stops { All (λ h. has_stop h.stop ≡ true) result.now }
     {
-        self.harts.as_slice()
+        self.bare.harts()
     }
 
     /// The byte at an address, or `None` outside guest memory.
@@ -89,17 +63,14 @@ impl Machine {
         ensures inside { addr < length self.now.state.bytes → result ≡ Some (slice_index self.now.state.bytes addr) }
         ensures outside { length self.now.state.bytes ≤ addr → result ≡ None }
     {
-        if addr >= 4096 * u64::from(self.pages.count()) {
-            return None;
-        }
-        Some(self.pages.byte(addr))
+        self.bare.byte(addr)
     }
 
     /// The output so far.
     pub fn output(&self) -> &[u8]
         ensures { result.now ≡ self.now.state.console.output }
     {
-        self.console.output()
+        self.bare.output()
     }
 
     /// The trace so far, over the bytes that memory opened with.
@@ -123,6 +94,6 @@ impl Machine {
     pub(crate) fn bytes_fit(&self)
         ensures { IsBytes self.now.state.bytes }
     {
-        self.pages.bytes_fit();
+        self.bare.bytes_fit();
     }
 }

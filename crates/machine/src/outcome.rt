@@ -7,7 +7,6 @@ ghost use Rattle.round_lock.specs.Starts.{rounds_of};
 ghost use Rattle.machine.specs.Outcomes.{AreOutcomes};
 
 use crate::crew::Crew;
-use crate::events::are_long;
 use commit_phase::Buffered;
 use hart_step::{CodeTable, Hart};
 use memory_order::Log;
@@ -62,7 +61,7 @@ pub fn outcomes_of<G: Gate + Sync, R: Threads + Wait + Sync>(
     let _harts = plan.harts();
     let quotas = quotas_in(pages.allocator(), plan, round)?;
     let start = RoundStart::new(pages, table, harts, &quotas);
-    share_logs(outcomes_by::<Brand, G, R>(crew, &start)?)
+    outcomes_by::<Brand, G, R>(crew, &start)
 }
 
 /// Does the rounds of all harts: a lone worker without a book.
@@ -155,16 +154,4 @@ fn add(outcomes: &mut Vec<Outcome>, outcome: Outcome) -> Result<(), OutOfMemory>
         Ok(()) => Ok(()),
         Err(_) => Err(OutOfMemory),
     }
-}
-
-/// Puts the logs of a long round into the form that copies of a trace share.
-fn share_logs(mut outcomes: Vec<Outcome>) -> Result<Vec<Outcome>, OutOfMemory>
-    ensures { IfOk result (λ os. os.items ≡ outcomes.items) }
-{
-    if are_long(&outcomes) {
-        for number in 0..outcomes.len() {
-            outcomes[number].log.share()?;
-        }
-    }
-    Ok(outcomes)
 }

@@ -42,7 +42,7 @@ pub fn prepare(
 }
 
 /// The bytes of the input.
-fn copied(alloc: Global, input: &[u8]) -> Result<Vec<u8>, RunError>
+pub(crate) fn copied(alloc: Global, input: &[u8]) -> Result<Vec<u8>, RunError>
     ensures ok { IfOk result (λ v. v.items ≡ input.now) }
     ensures err { IfErr result (λ e. e ≡ refusals.OutOfMemory) }
 {
@@ -53,7 +53,12 @@ fn copied(alloc: Global, input: &[u8]) -> Result<Vec<u8>, RunError>
 }
 
 /// The image of a file.
-fn load(alloc: Global, format: Format, file: &[u8], pages: u32) -> Result<Image, RunError>
+pub(crate) fn load(
+    alloc: Global,
+    format: Format,
+    file: &[u8],
+    pages: u32,
+) -> Result<Image, RunError>
     requires some_pages { 1 ≤ pages }
     requires few_pages { pages ≤ 16384 }
     ensures image { IfOk result (λ i. i ≡ image_of format file.now pages) }
@@ -84,7 +89,12 @@ fn load_as(alloc: Global, format: Format, file: &[u8], pages: u32) -> Result<Ima
 }
 
 /// The plan of a text.
-fn read_plan(alloc: Global, text: &[u8], harts: u32, budget: u32) -> Result<Plan, RunError>
+pub(crate) fn read_plan(
+    alloc: Global,
+    text: &[u8],
+    harts: u32,
+    budget: u32,
+) -> Result<Plan, RunError>
     requires some_harts { 1 ≤ harts }
     requires few_harts { harts ≤ 64 }
     requires some_budget { 1 ≤ budget }

@@ -11,35 +11,7 @@ use pages::{OutOfMemory, Pages};
 use serial_phase::{Console, SerialLog};
 
 /// Asks for all that the commit and the serial turns of a round may need, so that nothing is refused after
-/// them: the pages, the spare pages, and room in the trace, the output and the log.
-pub fn make_room(
-    pages: &mut Pages,
-    console: &mut Console,
-    log: &mut SerialLog,
-    trace: &mut Trace,
-    outcomes: &[Outcome],
-    turns: u32,
-    adopts: bool,
-) -> Result<(), OutOfMemory>
-    requires { AreFit pages.old.memory outcomes.now }
-    ensures keeps { KeepsPages pages.old pages.new }
-    ensures console { console.new.console ≡ console.old.console }
-    ensures trace { trace.new.events ≡ trace.old.events }
-    ensures opening { trace.new.opening ≡ trace.old.opening }
-    ensures ready { OnOk result (AreReady pages.new outcomes.now) }
-    ensures spares { OnOk result (HasSpares turns pages.new) }
-    ensures output { OnOk result (HasRoom turns console.new) }
-    ensures places { OnOk result (HasPlaces adopts outcomes.now trace.new) }
-    ensures events { OnOk result (count_copied adopts outcomes.now + turns ≤ trace.new.room) }
-    ensures log_room { OnOk result (turns ≤ log.new.room) }
-    ensures closed { OnOk result (log.new.closed ≡ []) }
-    ensures current { OnOk result (log.new.current ≡ []) }
-{
-    make_turn_room(pages, console, log, outcomes, turns)?;
-    make_places(trace, outcomes, turns as usize, adopts)
-}
-
-/// The same without room in the trace.
+/// them: the pages, the spare pages, and room in the output and the log.
 pub fn make_turn_room(
     pages: &mut Pages,
     console: &mut Console,
@@ -77,7 +49,7 @@ fn make_spares(pages: &mut Pages, outcomes: &[Outcome], spare: u32) -> Result<()
 }
 
 /// Has room in the trace for the logs of the harts, or for their accesses as events, and for the events of so many turns.
-fn make_places(
+pub fn make_places(
     trace: &mut Trace,
     outcomes: &[Outcome],
     turns: usize,

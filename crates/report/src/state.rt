@@ -63,7 +63,11 @@ fn put_trace<S: Sink>(out: &mut S, line: &mut Line, trace: &Trace) -> Result<(),
     put_events(out, line, trace)
 }
 
-pub(crate) fn put_harts<S: Sink>(out: &mut S, line: &mut Line, harts: &[Hart]) -> Result<(), RunError>
+pub(crate) fn put_harts<S: Sink>(
+    out: &mut S,
+    line: &mut Line,
+    harts: &[Hart],
+) -> Result<(), RunError>
     ensures { Wrote (harts_text 0 harts.now) (way (S.took out.old) (S.failures out.old) line.old) result (way (S.took out.new) (S.failures out.new) line.new) }
 {
     for (number, hart) in harts.iter().enumerate() {
@@ -95,7 +99,11 @@ fn put_pages<S: Sink>(out: &mut S, line: &mut Line, pages: &Pages) -> Result<(),
     Ok(())
 }
 
-pub(crate) fn put_memory<S: Sink>(out: &mut S, line: &mut Line, pages: &Pages) -> Result<(), RunError>
+pub(crate) fn put_memory<S: Sink>(
+    out: &mut S,
+    line: &mut Line,
+    pages: &Pages,
+) -> Result<(), RunError>
     ensures { Wrote (memory_text pages.now.memory.bytes) (way (S.took out.old) (S.failures out.old) line.old) result (way (S.took out.new) (S.failures out.new) line.new) }
 {
     put_count(out, line, "memory ", pages.count() as u64)?;
@@ -118,7 +126,11 @@ fn put_rows<S: Sink>(out: &mut S, line: &mut Line, output: &[u8]) -> Result<(), 
     Ok(())
 }
 
-pub(crate) fn put_output<S: Sink>(out: &mut S, line: &mut Line, output: &[u8]) -> Result<(), RunError>
+pub(crate) fn put_output<S: Sink>(
+    out: &mut S,
+    line: &mut Line,
+    output: &[u8],
+) -> Result<(), RunError>
     ensures { Wrote (output_text output.now) (way (S.took out.old) (S.failures out.old) line.old) result (way (S.took out.new) (S.failures out.new) line.new) }
 {
     put_count(out, line, "output ", output.len() as u64)?;

@@ -5,5 +5,5 @@ use Rattle.machine.proofs.machine.Machine.trace.Goals as goal
 
 pub returns-clause-opening : goal.returns-clause-opening
 returns-clause-opening c = λ x.
-    opening_is c.self.inside.trace.opening (length c.self.inside.pages.memory.bytes) c.self.invariant.beyond x
+    opening_is c.self.inside.trace.opening (length c.self.inside.bare.bytes) c.self.invariant.beyond x
     ∙ ap (λ (m : Running). slice_index m.opening x) c.self.view_is

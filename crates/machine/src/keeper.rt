@@ -1,0 +1,98 @@
+ghost use Rattle.std.specs.Prelude.{◌≡◌, ℕ, ◌+◌, ◌≤◌, ◌++◌, Bool, List, [], length, IfOk};
+ghost use Rattle.round_schedule.specs.declared.event.Event.{Event as Happened};
+ghost use Rattle.memory_order.specs.Traced.{IsTrace, Laid};
+ghost use Rattle.machine.specs.declared.outcome.Outcome.{Outcome as Left};
+ghost use Rattle.machine.specs.Outcomes.{HasPlaces, count_copied, count_log, round_events};
+
+use crate::events::{add_parallel, add_serial, are_long};
+use crate::outcome::Outcome;
+use crate::room::make_places;
+use memory_order::Trace;
+use pages::OutOfMemory;
+use serial_phase::SerialLog;
+
+/// What becomes of the events of rounds: a trace keeps them, and `NoTrace` lets them go.
+pub trait EventKeeper {
+    // Its events are these, where it keeps any.
+    ghost keeps: { Self → List Happened → Type 0 };
+
+    // The bytes that memory opened with, where it keeps events.
+    ghost opens_with: { Self → List Laid };
+
+    // It may keep these events.
+    ghost may_keep: { List Happened → Type 0 };
+
+    // It has room for the events of these outcomes, handed over or copied, and of turns of so many instructions.
+    ghost has_room: { Self → Bool → List Left → ℕ → Type 0 };
+
+    /// Asks for the room that the events of a round may need. Answers whether the logs of the harts are to be handed over.
+    fn make_room(&mut self, outcomes: &mut [Outcome], turns: u32) -> Result<bool, OutOfMemory>
+        ensures kept { (es : List Happened) → keeps self.old es → keeps self.new es }
+        ensures opening { opens_with self.new ≡ opens_with self.old }
+        ensures outcomes { outcomes.new ≡ outcomes.old }
+        ensures room { IfOk result (λ adopts. has_room self.new adopts outcomes.new turns) };
+
+    /// Adds the events of a round, for which room was made. It takes no memory.
+    fn add(&mut self, round: u32, outcomes: &mut [Outcome], log: &SerialLog, adopts: bool)
+        requires harts { length log.now.closed ≡ length outcomes.old }
+        requires few { length outcomes.old ≤ 64 }
+        requires room { (turns : ℕ) × has_room self.old adopts outcomes.old turns × (count_log log.now.closed ≤ turns) }
+        requires sound { (es : List Happened) × keeps self.old es × may_keep (es ++ round_events round outcomes.old log.now.closed) }
+        ensures kept { (es : List Happened) → keeps self.old es → keeps self.new (es ++ round_events round outcomes.old log.now.closed) }
+        ensures opening { opens_with self.new ≡ opens_with self.old };
+}
+
+impl EventKeeper for Trace {
+    ghost keeps = { λ t es. t.events ≡ es };
+
+    ghost opens_with = { λ t. t.opening };
+
+    ghost may_keep = { IsTrace };
+
+    ghost has_room = { λ t adopts os turns. HasPlaces adopts os t × (count_copied adopts os + turns ≤ t.room) };
+
+    fn make_room(&mut self, outcomes: &mut [Outcome], turns: u32) -> Result<bool, OutOfMemory> {
+        let adopts = are_long(outcomes);
+        if adopts {
+            share_logs(outcomes)?;
+        }
+        make_places(self, outcomes, turns as usize, adopts)?;
+        Ok(adopts)
+    }
+
+    fn add(&mut self, round: u32, outcomes: &mut [Outcome], log: &SerialLog, adopts: bool) {
+        let count = outcomes.len() as u32;
+        add_parallel(self, round, 0, outcomes, adopts);
+        add_serial(self, round, 0, count, log);
+    }
+}
+
+/// Puts the logs of a long round into the form that copies of a trace share.
+fn share_logs(outcomes: &mut [Outcome]) -> Result<(), OutOfMemory>
+    ensures { outcomes.new ≡ outcomes.old }
+{
+    for number in 0..outcomes.len() {
+        outcomes[number].log.share()?;
+    }
+    Ok(())
+}
+
+/// No trace is kept.
+#[derive(Drop)]
+pub struct NoTrace;
+
+impl EventKeeper for NoTrace {
+    ghost keeps = { λ _ _. Unit {0} };
+
+    ghost opens_with = { λ _. [] };
+
+    ghost may_keep = { λ _. Unit {0} };
+
+    ghost has_room = { λ _ _ _ _. Unit {0} };
+
+    fn make_room(&mut self, _outcomes: &mut [Outcome], _turns: u32) -> Result<bool, OutOfMemory> {
+        Ok(false)
+    }
+
+    fn add(&mut self, _round: u32, _outcomes: &mut [Outcome], _log: &SerialLog, _adopts: bool) {}
+}

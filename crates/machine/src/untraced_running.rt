@@ -1,0 +1,276 @@
+ghost use Rattle.std.specs.Prelude.{◌≡◌, ◌<◌, ◌≤◌, ◌+◌, ◌-◌, ◌^◌, ◌⊎◌, ◌++◌, ℕ, List, length, Err, IfOk, IfErr, OnOk, OnErr};
+ghost use Rattle.host_io.specs.declared.error.RunError.TheVariants as refusals;
+ghost use Rattle.round_schedule.specs.declared.event.Event.{Event};
+ghost use Rattle.round_schedule.specs.Schedule.{hart_rounds};
+ghost use Rattle.round_planner.specs.Quotas.{quotas_of};
+ghost use Rattle.hart_step.specs.Words.{words_of};
+ghost use Rattle.memory_order.specs.Traced.{IsTrace};
+ghost use Rattle.machine.specs.Machine.{count_stopped, count_waiting};
+ghost use Rattle.machine.specs.Untraced.{AreAdded, AreLast, HasRun, IsAfter, MayGoOn, next_events, untraced_round};
+
+use crate::crew::Crew;
+use crate::keeper::{EventKeeper, NoTrace};
+use crate::round::do_round;
+use crate::running::{MANY_LINES, MOST_WORKERS, RoundNote, stopped_count, workers_for};
+use crate::untraced::UntracedMachine;
+use host_io::RunError;
+use memory_order::Trace;
+use pages::OutOfMemory;
+use parallel_phase::{Gate, Open};
+use std::sync::Wait;
+use std::thread::Threads;
+
+impl UntracedMachine {
+    /// Does so many rounds, on 1 to 16 workers. It may wait.
+    ///
+    /// How many workers there are makes no difference to the machine. A round in which there is little to do stays on the
+    /// calling thread, and so does a commit of few stores. Once all harts have stopped, the rounds that are left cost nothing.
+    ///
+    /// # Errors
+    ///
+    /// `WorkersOutOfRange`: the machine is as it was. `RoundsExhausted` where there would be more than 4,294,967,295 rounds:
+    /// those that fit are done. `OutOfMemory`: fewer rounds are done, each of them whole.
+    pub fn run<R: Threads + Wait + Sync>(
+        &mut self,
+        rt: &R,
+        rounds: u32,
+        workers: u32,
+    ) -> Result<(), RunError>
+        ensures ok { OnOk result (IsAfter rounds self.old self.new) }
+        ensures enough { OnOk result (self.old.rounds + rounds < 2 ^ 32) }
+        ensures counted { OnOk result (self.new.rounds ≡ self.old.rounds + rounds) }
+        ensures fewer { result ≡ Err refusals.OutOfMemory → (k : ℕ) × (k < rounds) × IsAfter k self.old self.new }
+        ensures exhausted { result ≡ Err refusals.RoundsExhausted → (2 ^ 32 ≤ self.old.rounds + rounds) × IsAfter (2 ^ 32 - 1 - self.old.rounds) self.old self.new }
+        ensures workers { (workers < 1) ⊎ (16 < workers) → (result ≡ Err refusals.WorkersOutOfRange) × (self.new ≡ self.old) }
+        ensures errors { 1 ≤ workers → workers ≤ 16 → IfErr result (λ e. (e ≡ refusals.OutOfMemory) ⊎ (e ≡ refusals.RoundsExhausted)) }
+        ensures refused { 1 ≤ workers → workers ≤ 16 → self.old.rounds + rounds < 2 ^ 32 → IfErr result (λ e. e ≡ refusals.OutOfMemory) }
+    {
+        self.run_keeping(rt, rounds, workers, &mut NoTrace)
+    }
+
+    /// The same, and adds the events of these rounds to a trace that holds the last events of the run. It may be empty.
+    ///
+    /// # Errors
+    ///
+    /// Those of `run`. The trace has the events of the rounds that are done.
+    pub fn run_noting<R: Threads + Wait + Sync>(
+        &mut self,
+        rt: &R,
+        rounds: u32,
+        workers: u32,
+        trace: &mut Trace,
+    ) -> Result<(), RunError>
+        requires { AreLast self.old trace.old.events }
+        ensures last { AreLast self.new trace.new.events }
+        ensures ok { OnOk result (IsAfter rounds self.old self.new) }
+        ensures events { OnOk result (AreAdded rounds self.old trace.old.events trace.new.events) }
+        ensures opening { trace.new.opening ≡ trace.old.opening }
+        ensures enough { OnOk result (self.old.rounds + rounds < 2 ^ 32) }
+        ensures counted { OnOk result (self.new.rounds ≡ self.old.rounds + rounds) }
+        ensures fewer { result ≡ Err refusals.OutOfMemory → (k : ℕ) × (k < rounds) × IsAfter k self.old self.new × AreAdded k self.old trace.old.events trace.new.events }
+        ensures exhausted { result ≡ Err refusals.RoundsExhausted → (2 ^ 32 ≤ self.old.rounds + rounds) × IsAfter (2 ^ 32 - 1 - self.old.rounds) self.old self.new × AreAdded (2 ^ 32 - 1 - self.old.rounds) self.old trace.old.events trace.new.events }
+        ensures workers { (workers < 1) ⊎ (16 < workers) → (result ≡ Err refusals.WorkersOutOfRange) × (self.new ≡ self.old) × (trace.new.events ≡ trace.old.events) }
+        ensures errors { 1 ≤ workers → workers ≤ 16 → IfErr result (λ e. (e ≡ refusals.OutOfMemory) ⊎ (e ≡ refusals.RoundsExhausted)) }
+        ensures refused { 1 ≤ workers → workers ≤ 16 → self.old.rounds + rounds < 2 ^ 32 → IfErr result (λ e. e ≡ refusals.OutOfMemory) }
+    {
+        self.check_to_go_on();
+        self.run_keeping(rt, rounds, workers, trace)
+    }
+
+    /// Does so many rounds, and has their events kept.
+    pub(crate) fn run_keeping<E: EventKeeper, R: Threads + Wait + Sync>(
+        &mut self,
+        rt: &R,
+        rounds: u32,
+        workers: u32,
+        keeper: &mut E,
+    ) -> Result<(), RunError>
+        requires kept { (es : List Event) × E.keeps keeper.old es }
+        requires sound { (n : ℕ) (es : List Event) → self.old.rounds + n < 2 ^ 32 → E.keeps keeper.old es → MayGoOn E.may_keep n es self.old }
+        ensures some { (k : ℕ) × HasRun k self.old self.new (E.keeps keeper.old) (E.keeps keeper.new) }
+        ensures ok { OnOk result (HasRun rounds self.old self.new (E.keeps keeper.old) (E.keeps keeper.new)) }
+        ensures enough { OnOk result (self.old.rounds + rounds < 2 ^ 32) }
+        ensures fewer { result ≡ Err refusals.OutOfMemory → (k : ℕ) × (k < rounds) × HasRun k self.old self.new (E.keeps keeper.old) (E.keeps keeper.new) }
+        ensures exhausted { result ≡ Err refusals.RoundsExhausted → (2 ^ 32 ≤ self.old.rounds + rounds) × HasRun (2 ^ 32 - 1 - self.old.rounds) self.old self.new (E.keeps keeper.old) (E.keeps keeper.new) }
+        ensures opening { E.opens_with keeper.new ≡ E.opens_with keeper.old }
+        ensures workers { (workers < 1) ⊎ (16 < workers) → (result ≡ Err refusals.WorkersOutOfRange) × (self.new ≡ self.old) × (keeper.new ≡ keeper.old) }
+        ensures errors { 1 ≤ workers → workers ≤ 16 → IfErr result (λ e. (e ≡ refusals.OutOfMemory) ⊎ (e ≡ refusals.RoundsExhausted)) }
+        ensures refused { 1 ≤ workers → workers ≤ 16 → self.old.rounds + rounds < 2 ^ 32 → IfErr result (λ e. e ≡ refusals.OutOfMemory) }
+    {
+        if workers < 1 || workers > MOST_WORKERS {
+            return Err(RunError::WorkersOutOfRange);
+        }
+        let left = u32::MAX - self.rounds;
+        if rounds > left {
+            self.run_within(rt, left, workers, keeper)?;
+            return Err(RunError::RoundsExhausted);
+        }
+        self.run_within(rt, rounds, workers, keeper)?;
+        Ok(())
+    }
+
+    /// The last events of a run go on with those of its next rounds, since the types keep: bytes in memory, at most 16,384
+    /// pages, at most 64 harts with quotas in range, and a budget of at most 1,000.
+    pub(crate) fn check_to_go_on(&self)
+        ensures { (n : ℕ) (es : List Event) → self.now.rounds + n < 2 ^ 32 → AreLast self.now es → MayGoOn IsTrace n es self.now }
+    {
+        self.pages.bytes_fit();
+        let _harts = self.plan.harts();
+        let _budget = self.plan.budget();
+        let _pages = self.pages.count();
+    }
+
+    /// Does so many rounds, where as many can be counted, and has their events kept.
+    fn run_within<E: EventKeeper, R: Threads + Wait + Sync>(
+        &mut self,
+        rt: &R,
+        rounds: u32,
+        workers: u32,
+        keeper: &mut E,
+    ) -> Result<(), OutOfMemory>
+        requires workers { (1 ≤ workers) × (workers ≤ 16) }
+        requires rounds { self.old.rounds + rounds < 2 ^ 32 }
+        requires sound { (es : List Event) × E.keeps keeper.old es × MayGoOn E.may_keep rounds es self.old }
+        ensures ok { OnOk result (HasRun rounds self.old self.new (E.keeps keeper.old) (E.keeps keeper.new)) }
+        ensures fewer { OnErr result ((k : ℕ) × (k < rounds) × HasRun k self.old self.new (E.keeps keeper.old) (E.keeps keeper.new)) }
+        ensures opening { E.opens_with keeper.new ≡ E.opens_with keeper.old }
+    {
+        for done in 0..rounds {
+            if self.running_harts() == 0 {
+                self.pass(rounds - done);
+                return Ok(());
+            }
+            self.round_of_run(rt, workers, keeper)?;
+        }
+        Ok(())
+    }
+
+    /// Does one round, on as many workers as it is worth.
+    fn round_of_run<E: EventKeeper, R: Threads + Wait + Sync>(
+        &mut self,
+        rt: &R,
+        workers: u32,
+        keeper: &mut E,
+    ) -> Result<(), OutOfMemory>
+        requires workers { (1 ≤ workers) × (workers ≤ 16) }
+        requires rounds { self.old.rounds + 1 < 2 ^ 32 }
+        requires sound { (es : List Event) × E.keeps keeper.old es × E.may_keep (es ++ next_events self.old) }
+        ensures ok { OnOk result (self.new ≡ untraced_round self.old) }
+        ensures run { OnOk result (HasRun 1 self.old self.new (E.keeps keeper.old) (E.keeps keeper.new)) }
+        ensures kept { OnOk result ((es : List Event) → E.keeps keeper.old es → E.keeps keeper.new (es ++ next_events self.old)) }
+        ensures opening { E.opens_with keeper.new ≡ E.opens_with keeper.old }
+        ensures err { OnErr result (self.new ≡ self.old) }
+        ensures untold { OnErr result ((es : List Event) → E.keeps keeper.old es → E.keeps keeper.new es) }
+    {
+        let before = self.instructions_done();
+        let workers = workers_for(self.expected_work(), self.running_harts(), workers);
+        let crew = Crew {
+            rt,
+            workers,
+            gate: &Open,
+            least_lines: MANY_LINES,
+        };
+        self.round_by(crew, keeper)?;
+        self.note_work(before);
+        Ok(())
+    }
+
+    /// Notes how many instructions the last round did, where so many were done before it.
+    fn note_work(&mut self, before: u64)
+        ensures { self.new ≡ self.old }
+    {
+        self.work = Some(self.instructions_done().wrapping_sub(before));
+    }
+
+    /// Does so many rounds of a machine whose harts have all stopped.
+    fn pass(&mut self, rounds: u32)
+        requires stopped { count_stopped self.old.harts ≡ length self.old.harts }
+        requires rounds { self.old.rounds + rounds < 2 ^ 32 }
+        ensures { self.new ≡ record self.old { rounds = self.old.rounds + rounds } }
+    {
+        self.rounds += rounds;
+    }
+
+    /// Does one round by a crew, and has its events kept.
+    pub(crate) fn round_by<E: EventKeeper, G: Gate + Sync, R: Threads + Wait + Sync>(
+        &mut self,
+        crew: Crew<'_, G, R>,
+        keeper: &mut E,
+    ) -> Result<RoundNote, OutOfMemory>
+        requires workers { (1 ≤ crew.workers) × (crew.workers ≤ 16) }
+        requires rounds { self.old.rounds + 1 < 2 ^ 32 }
+        requires sound { (es : List Event) × E.keeps keeper.old es × E.may_keep (es ++ next_events self.old) }
+        ensures ok { OnOk result (self.new ≡ untraced_round self.old) }
+        ensures run { OnOk result (HasRun 1 self.old self.new (E.keeps keeper.old) (E.keeps keeper.new)) }
+        ensures kept { OnOk result ((es : List Event) → E.keeps keeper.old es → E.keeps keeper.new (es ++ next_events self.old)) }
+        ensures opening { E.opens_with keeper.new ≡ E.opens_with keeper.old }
+        ensures round { IfOk result (λ n. n.round ≡ self.new.rounds) }
+        ensures waited { IfOk result (λ n. n.waited ≡ count_waiting (hart_rounds (words_of self.old.code) self.old.bytes (quotas_of self.old.plan self.old.rounds) self.old.harts)) }
+        ensures stopped { IfOk result (λ n. n.stopped ≡ count_stopped self.new.harts) }
+        ensures err { OnErr result (self.new ≡ self.old) }
+        ensures untold { OnErr result ((es : List Event) → E.keeps keeper.old es → E.keeps keeper.new es) }
+    {
+        self.pages.bytes_fit();
+        // The types keep: at most 64 harts with quotas in range, a budget of at most 1,000, at most 16,384 pages.
+        let _harts = self.plan.harts();
+        let _budget = self.plan.budget();
+        let _pages = self.pages.count();
+        let counts = do_round(
+            &crew,
+            &mut self.pages,
+            &self.table,
+            &mut self.reservations,
+            &mut self.console,
+            &mut self.log,
+            keeper,
+            &mut self.harts,
+            &self.plan,
+            self.rounds,
+        )?;
+        self.rounds += 1;
+        self.events += counts.events;
+        Ok(RoundNote {
+            round: self.rounds,
+            waited: counts.waited,
+            stopped: stopped_count(&self.harts),
+        })
+    }
+
+    /// How many instructions the harts have done together.
+    fn instructions_done(&self) -> u64 {
+        let mut done: u64 = 0;
+        for hart in &self.harts {
+            done = done.wrapping_add(hart.done);
+        }
+        done
+    }
+
+    /// How many harts have not stopped.
+    fn running_harts(&self) -> u32
+        ensures { result + count_stopped self.now.harts ≡ length self.now.harts }
+    {
+        // At most 64.
+        let _harts = self.plan.harts();
+        self.harts.len() as u32 - stopped_count(&self.harts)
+    }
+
+    /// About how many instructions the harts do together in the next round: as many as in the last one, or as the plan allows.
+    fn expected_work(&self) -> u64 {
+        match self.work {
+            Some(work) => work,
+            None => self.most_work(),
+        }
+    }
+
+    /// How many instructions the harts may do together in the next round, outside their serial turns.
+    fn most_work(&self) -> u64 {
+        if self.rounds == u32::MAX {
+            return 0;
+        }
+        let mut work: u64 = 0;
+        for hart in 0..self.plan.harts() {
+            work = work.wrapping_add(u64::from(self.plan.quota(self.rounds + 1, hart)));
+        }
+        work
+    }
+}
