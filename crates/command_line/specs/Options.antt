@@ -23,10 +23,6 @@ number_positional_rule id = record (positional_rule id) { parser = Some narrow }
 abbrev pub wide_positional_rule : Text → Rule
 wide_positional_rule id = record (positional_rule id) { parser = Some wide }
 
--- one argument or more of the name, of which one must be there
-abbrev pub several_rule : Text → Rule
-several_rule id = record (positional_rule id) { action = Some Append }
-
 -- an option --NAME without a value
 abbrev pub flag_rule : Text → Rule
 flag_rule name = record (new_rule name) { long = Some name; action = Some SetTrue }
@@ -38,10 +34,6 @@ text_rule name = record (new_rule name) { long = Some name; value_names = 1 }
 -- the same where the value is a number of 32 bits
 abbrev pub number_given_rule : Text → Rule
 number_given_rule name = record (text_rule name) { parser = Some narrow }
-
--- and one that must be there
-abbrev pub number_wanted_rule : Text → Rule
-number_wanted_rule name = record (number_given_rule name) { required = true }
 
 -- an option --NAME with a value and a default
 abbrev pub defaulted_rule : Text → Text → Rule
@@ -72,7 +64,6 @@ program_rules rounds =
     ∷ number_rule (codes "rounds") rounds
     ∷ number_rule (codes "workers") (codes "4")
     ∷ text_rule (codes "input")
-    ∷ flag_rule (codes "progress")
     ∷ []
 
 -- which plan a run goes by: one that the line gives, or one of the family
@@ -110,14 +101,6 @@ search_rules = wide_number_rule (codes "seed") (codes "1") ∷ see_rule ∷ []
 abbrev pub hunt_rules : List Rule
 hunt_rules =
     number_rule (codes "plans") (codes "1000") ∷ number_rule (codes "first") (codes "0") ∷ []
-
--- the plan of the family that is made smaller
-abbrev pub shrink_rules : List Rule
-shrink_rules = number_wanted_rule (codes "plan-number") ∷ []
-
--- what `merge` takes
-abbrev pub merge_rules : List Rule
-merge_rules = several_rule (codes "table") ∷ []
 
 -- what `plan` takes
 abbrev pub family_rules : List Rule
@@ -188,12 +171,6 @@ migrate_app = taking (codes "migrate") migrate_rules
 abbrev pub hunt_app : App
 hunt_app = with_rules (searching (codes "hunt")) hunt_rules
 
-abbrev pub shrink_app : App
-shrink_app = with_rules (searching (codes "shrink")) shrink_rules
-
-abbrev pub merge_app : App
-merge_app = taking (codes "merge") merge_rules
-
 abbrev pub plan_app : App
 plan_app = taking (codes "plan") family_rules
 
@@ -221,8 +198,6 @@ subcommands =
     ∷ watch_app
     ∷ migrate_app
     ∷ hunt_app
-    ∷ shrink_app
-    ∷ merge_app
     ∷ plan_app
     ∷ draw_app
     ∷ []

@@ -15,7 +15,6 @@ use Rattle.command_line.specs.declared.settings.Command.TheVariants as command
 use Rattle.command_line.specs.declared.settings.Bytes.{Bytes}
 use Rattle.command_line.specs.declared.settings.Draw.{Draw}
 use Rattle.command_line.specs.declared.settings.Hunt.{Hunt}
-use Rattle.command_line.specs.declared.settings.Merge.{Merge}
 use Rattle.command_line.specs.declared.settings.Migrate.{Migrate}
 use Rattle.command_line.specs.declared.settings.Plan.{Plan}
 use Rattle.command_line.specs.declared.settings.PlanChoice.{PlanChoice}
@@ -25,7 +24,6 @@ use Rattle.command_line.specs.declared.settings.Record.{Record}
 use Rattle.command_line.specs.declared.settings.Replay.{Replay}
 use Rattle.command_line.specs.declared.settings.Run.{Run}
 use Rattle.command_line.specs.declared.settings.Search.{Search}
-use Rattle.command_line.specs.declared.settings.Shrink.{Shrink}
 use Rattle.command_line.specs.declared.settings.Shown.{Shown}
 use Rattle.command_line.specs.declared.settings.Watch.{Watch}
 use Rattle.command_line.specs.declared.settings.Shown.TheVariants as shown
@@ -105,7 +103,6 @@ pub record HoldsProgram (default_rounds : ℕ) (rows : List Row) (program : Prog
   pub rounds : program.rounds ≡ number_or default_rounds (one_of (codes "rounds") rows)
   pub workers : program.workers ≡ number_or 4 (one_of (codes "workers") rows)
   pub input : option_map (λ s. s.now) program.input ≡ first_of (codes "input") rows
-  pub progress : HoldsFlag (one_of (codes "progress") rows) program.progress
 
 pub record HoldsPlanChoice (rows : List Row) (plan : PlanChoice) : Type 0 where
   pub quota : plan.quota.now ≡ unwrap_or (first_of (codes "quota") rows) (codes "1000")
@@ -156,13 +153,6 @@ pub record HoldsHunt (rows : List Row) (hunt : Hunt) : Type 0 where
   pub plans : hunt.plans ≡ number_or 1000 (one_of (codes "plans") rows)
   pub first : hunt.first ≡ number_or 0 (one_of (codes "first") rows)
 
-pub record HoldsShrink (rows : List Row) (shrink : Shrink) : Type 0 where
-  pub search : HoldsSearch rows shrink.search
-  pub plan_number : shrink.plan_number ≡ number_or 0 (one_of (codes "plan-number") rows)
-
-pub record HoldsMerge (rows : List Row) (merge : Merge) : Type 0 where
-  pub tables : map (λ s. s.now) merge.tables.items ≡ unwrap_or (all_of (codes "table") rows) []
-
 pub record HoldsPlan (rows : List Row) (plan : Plan) : Type 0 where
   pub number : plan.number ≡ number_or 0 (one_of (codes "number") rows)
   pub harts : plan.harts ≡ number_or 1 (one_of (codes "harts") rows)
@@ -183,8 +173,6 @@ HoldsNamed name rows (command.Replay replay) = (name ≡ codes "replay") × Hold
 HoldsNamed name rows (command.Watch watch) = (name ≡ codes "watch") × HoldsWatch rows watch
 HoldsNamed name rows (command.Migrate migrate) = (name ≡ codes "migrate") × HoldsMigrate rows migrate
 HoldsNamed name rows (command.Hunt hunt) = (name ≡ codes "hunt") × HoldsHunt rows hunt
-HoldsNamed name rows (command.Shrink shrink) = (name ≡ codes "shrink") × HoldsShrink rows shrink
-HoldsNamed name rows (command.Merge merge) = (name ≡ codes "merge") × HoldsMerge rows merge
 HoldsNamed name rows (command.Plan plan) = (name ≡ codes "plan") × HoldsPlan rows plan
 HoldsNamed name rows (command.Draw draw) = (name ≡ codes "draw") × HoldsDraw rows draw
 
@@ -197,8 +185,7 @@ HoldsLine (Some met) line = HoldsNamed met.0 met.1 line
 abbrev pub IsSubcommand : Text → Type 0
 IsSubcommand name = (name ≡ codes "run") ⊎ (name ≡ codes "order") ⊎ (name ≡ codes "record")
     ⊎ (name ≡ codes "replay") ⊎ (name ≡ codes "watch") ⊎ (name ≡ codes "migrate")
-    ⊎ (name ≡ codes "hunt") ⊎ (name ≡ codes "shrink") ⊎ (name ≡ codes "merge")
-    ⊎ (name ≡ codes "plan") ⊎ (name ≡ codes "draw")
+    ⊎ (name ≡ codes "hunt") ⊎ (name ≡ codes "plan") ⊎ (name ≡ codes "draw")
 
 -- ADDRESS of `watch` is none
 abbrev pub has_bad_address : Text → List Row → Bool

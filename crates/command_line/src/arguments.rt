@@ -1,7 +1,7 @@
 //! The arguments and options of the subcommands.
 ghost use Rattle.std.specs.Prelude.{◌≡◌, codes, false};
 ghost use Rattle.clap.specs.Words.{rule_of};
-ghost use Rattle.command_line.specs.Options.{defaulted_rule, flag_rule, number_given_rule, number_positional_rule, number_rule, number_wanted_rule, positional_rule, see_rule, several_rule, text_rule, wide_number_rule, wide_positional_rule};
+ghost use Rattle.command_line.specs.Options.{defaulted_rule, flag_rule, number_given_rule, number_positional_rule, number_rule, positional_rule, see_rule, text_rule, wide_number_rule, wide_positional_rule};
 
 use clap::{Arg, ArgAction, value_parser};
 use std::alloc::Global;
@@ -59,14 +59,6 @@ pub(crate) fn recording<'a>(alloc: Global) -> Arg<'a>
         "RECORDING",
         "The file that dethart record or dethart migrate wrote",
     )
-}
-
-/// Arguments of one name, of which one must be there.
-pub(crate) fn several<'a>(alloc: Global, id: &'a str, value_name: &'a str, help: &'a str) -> Arg<'a>
-    ensures rule { rule_of result ≡ several_rule id.entry.now }
-    ensures local { result.global ≡ false }
-{
-    positional(alloc, id, value_name, help).action(ArgAction::Append)
 }
 
 /// The option `--NAME` without a value.
@@ -175,14 +167,6 @@ pub(crate) fn seed<'a>(alloc: Global) -> Arg<'a>
     ensures local { result.global ≡ false }
 {
     wide_number(alloc, "seed", "1", "Which family: any number of 64 bits")
-}
-
-/// The option `--NAME N`, of a number of 32 bits, which must be there.
-pub(crate) fn number_wanted<'a>(alloc: Global, name: &'a str, help: &'a str) -> Arg<'a>
-    ensures rule { rule_of result ≡ number_wanted_rule name.entry.now }
-    ensures local { result.global ≡ false }
-{
-    number_given(alloc, name, help).required(true)
 }
 
 /// The option `--NAME N`, of a number of 32 bits, which has no default.

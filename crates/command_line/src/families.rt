@@ -1,16 +1,16 @@
 //! What the matches of the subcommands that go over plans of a family say.
-ghost use Rattle.std.specs.Prelude.{◌≡◌, [], IfOk, codes, map, unwrap_or};
-ghost use Rattle.clap.specs.Words.{all_of, found_of, rows_of};
-ghost use Rattle.command_line.specs.Reading.{HoldsHunt, HoldsMerge, HoldsPlan, HoldsSearch, HoldsShrink};
+ghost use Rattle.std.specs.Prelude.{◌≡◌, IfOk};
+ghost use Rattle.clap.specs.Words.{found_of, rows_of};
+ghost use Rattle.command_line.specs.Reading.{HoldsHunt, HoldsPlan, HoldsSearch};
 
 use crate::numbers::{number_of, wide_number_of};
 use crate::runs::program_of;
 use crate::seen::seen_of;
-use crate::settings::{Hunt, Merge, Plan, Search, Shrink};
+use crate::settings::{Hunt, Plan, Search};
 use clap::ArgMatches;
 use std::alloc::{AllocError, Global};
 
-/// What the matches of `hunt` and `shrink` say of the runs.
+/// What the matches of `hunt` say of the runs.
 fn search_of<'a>(alloc: Global, matches: &ArgMatches<'a>) -> Result<Search<'a>, AllocError>
     ensures { IfOk result (HoldsSearch (rows_of (found_of matches.now))) }
 {
@@ -32,38 +32,6 @@ pub(crate) fn hunt_of<'a>(alloc: Global, matches: &ArgMatches<'a>) -> Result<Hun
         plans: number_of(matches, "plans", 1000),
         first: number_of(matches, "first", 0),
     })
-}
-
-/// What the matches of `shrink` say.
-pub(crate) fn shrink_of<'a>(
-    alloc: Global,
-    matches: &ArgMatches<'a>,
-) -> Result<Shrink<'a>, AllocError>
-    ensures { IfOk result (HoldsShrink (rows_of (found_of matches.now))) }
-{
-    let search = search_of(alloc, matches)?;
-    Ok(Shrink {
-        search,
-        plan_number: number_of(matches, "plan-number", 0),
-    })
-}
-
-/// What the matches of `merge` say.
-pub(crate) fn merge_of<'a>(alloc: Global, matches: &ArgMatches<'a>) -> Result<Merge<'a>, AllocError>
-    ensures { IfOk result (HoldsMerge (rows_of (found_of matches.now))) }
-{
-    let tables = tables_of(alloc, matches)?;
-    Ok(Merge { tables })
-}
-
-/// The paths that `merge` is given.
-fn tables_of<'a>(alloc: Global, matches: &ArgMatches<'a>) -> Result<Vec<&'a str>, AllocError>
-    ensures { IfOk result (λ paths. map (λ s. s.now) paths.items ≡ unwrap_or (all_of (codes "table") (rows_of (found_of matches.now))) []) }
-{
-    match matches.get_strs("table") {
-        Some(paths) => Vec::from_slice(alloc, paths),
-        None => Ok(Vec::new(alloc)),
-    }
 }
 
 /// What the matches of `plan` say.

@@ -40,41 +40,6 @@ Exit status: 0 there is one ending and all harts exited in it, 4 the table has
 another number of endings or one in which a hart didn't exit, 1 a refusal, 2 a
 bad command line.";
 
-pub(crate) const SHRINK_ABOUT: &str =
-    "Looks for a smaller plan by which the program in IMAGE ends the same.";
-
-pub(crate) const SHRINK_AFTER_HELP: &str = "\
-Example:
-  dethart shrink guest.elf --harts 2 --plan-number 35
-
-It begins with plan N of the family that the seed stands for, and makes it
-smaller, one step after another, as long as the program ends as by plan N: each
-hart in the same way, with the same output, and with the same bytes of each
---see. The plan that is left is printed. No single step leads on from it to the
-same ending.
-
-A refusal is the line 'error N' on standard error, with the exit status 1;
-dethart run --help lists what each N means.
-
-Exit status: 0 the plan was printed, 1 a refusal, 2 a bad command line.";
-
-pub(crate) const MERGE_ABOUT: &str = "Makes one table of endings of those in the files.";
-
-pub(crate) const MERGE_AFTER_HELP: &str = "\
-Example:
-  dethart hunt guest.elf --harts 2 --first 0 --plans 500 > first.txt
-  dethart hunt guest.elf --harts 2 --first 500 --plans 500 > second.txt
-  dethart merge first.txt second.txt
-
-Each TABLE is what dethart hunt or dethart merge printed, of one program with
-the same options; the plans of each go on where those of the one before it end.
-What is printed is the table of one hunt over all these plans.
-
-A refusal is the line 'error N' on standard error, with the exit status 1;
-dethart run --help lists what each N means.
-
-Exit status: 0 the table was printed, 1 a refusal, 2 a bad command line.";
-
 pub(crate) const PLAN_ABOUT: &str = "Prints plan N of the family that the seed stands for.";
 
 pub(crate) const PLAN_AFTER_HELP: &str = "\

@@ -2,13 +2,10 @@
 ghost use Rattle.std.specs.Prelude.{◌≡◌, IfOk, false};
 ghost use Rattle.clap.specs.Words.{app_of};
 ghost use Rattle.clap.specs.declared.builder.command.Command.TheViews.{out-Command};
-ghost use Rattle.command_line.specs.Options.{hunt_app, merge_app, plan_app, searching, shrink_app};
+ghost use Rattle.command_line.specs.Options.{hunt_app, plan_app, searching};
 
-use crate::arguments::{number, number_positional, number_wanted, see, seed, several};
-use crate::family_help::{
-    HUNT_ABOUT, HUNT_AFTER_HELP, MERGE_ABOUT, MERGE_AFTER_HELP, PLAN_ABOUT, PLAN_AFTER_HELP,
-    SHRINK_ABOUT, SHRINK_AFTER_HELP,
-};
+use crate::arguments::{number, number_positional, see, seed};
+use crate::family_help::{HUNT_ABOUT, HUNT_AFTER_HELP, PLAN_ABOUT, PLAN_AFTER_HELP};
 use crate::program_options::program_command;
 use clap::Command;
 use std::alloc::{AllocError, Global};
@@ -19,36 +16,8 @@ pub(crate) fn hunt_command<'a>(alloc: Global) -> Result<Command<'a>, AllocError>
     ensures local { IfOk result (λ command. (out-Command command).has_globals ≡ false) }
 {
     searching_command(alloc, "hunt", HUNT_ABOUT, HUNT_AFTER_HELP)?
-        .arg(number(alloc, "plans", "1000", "Plans: 0 to 4294967295"))?
+        .arg(number(alloc, "plans", "1000", "Plans: 1 to 4294967295"))?
         .arg(number(alloc, "first", "0", "Number of the first plan"))
-}
-
-/// The subcommand `shrink`: how the program is run, and by which plan of the family.
-pub(crate) fn shrink_command<'a>(alloc: Global) -> Result<Command<'a>, AllocError>
-    ensures app { IfOk result (λ command. app_of command ≡ shrink_app) }
-    ensures local { IfOk result (λ command. (out-Command command).has_globals ≡ false) }
-{
-    searching_command(alloc, "shrink", SHRINK_ABOUT, SHRINK_AFTER_HELP)?.arg(number_wanted(
-        alloc,
-        "plan-number",
-        "Number of the plan to make smaller",
-    ))
-}
-
-/// The subcommand `merge`: the tables of hunts.
-pub(crate) fn merge_command<'a>(alloc: Global) -> Result<Command<'a>, AllocError>
-    ensures app { IfOk result (λ command. app_of command ≡ merge_app) }
-    ensures local { IfOk result (λ command. (out-Command command).has_globals ≡ false) }
-{
-    Command::new(alloc, "merge")
-        .about(MERGE_ABOUT)
-        .after_help(MERGE_AFTER_HELP)
-        .arg(several(
-            alloc,
-            "table",
-            "TABLE",
-            "A file that dethart hunt or dethart merge printed",
-        ))
 }
 
 /// The subcommand `plan`: a plan of the family, and for how many harts.

@@ -18,8 +18,8 @@ mod settings;
 
 pub use parsing::parse_line;
 pub use settings::{
-    Bytes, Command, Draw, Hunt, Merge, Migrate, Plan, PlanChoice, Print, Program, Record, Replay,
-    Run, Search, Shown, Shrink, Watch,
+    Bytes, Command, Draw, Hunt, Migrate, Plan, PlanChoice, Print, Program, Record, Replay, Run,
+    Search, Shown, Watch,
 };
 
 #[cfg(test)]

@@ -7,7 +7,7 @@ ghost use Rattle.command_line.specs.Options.{dethart_app, migrate_app, replay_ap
 use crate::arguments::{
     number, number_given, positional, recording, wide_number, wide_positional, workers,
 };
-use crate::family_options::{hunt_command, merge_command, plan_command, shrink_command};
+use crate::family_options::{hunt_command, plan_command};
 use crate::help::{ABOUT, AFTER_HELP};
 use crate::recording_help::{
     MIGRATE_ABOUT, MIGRATE_AFTER_HELP, REPLAY_ABOUT, REPLAY_AFTER_HELP, WATCH_ABOUT,
@@ -38,8 +38,6 @@ pub(crate) fn dethart_command<'a>(alloc: Global) -> Result<Command<'a>, AllocErr
         .subcommand(watch_command(alloc)?)?
         .subcommand(migrate_command(alloc)?)?
         .subcommand(hunt_command(alloc)?)?
-        .subcommand(shrink_command(alloc)?)?
-        .subcommand(merge_command(alloc)?)?
         .subcommand(plan_command(alloc)?)?
         .subcommand(draw_command(alloc)?)
 }

@@ -4,7 +4,7 @@ ghost use Rattle.clap.specs.Words.{FailsBy, found_of, rows_of, subcommand_of};
 ghost use Rattle.command_line.specs.Options.{dethart_app};
 ghost use Rattle.command_line.specs.Reading.{HoldsLine, HoldsMigrate, HoldsNamed, HoldsReplay, HoldsWatch, IsSubcommand, address_given, has_bad_address, has_bad_word, line_fault};
 
-use crate::families::{hunt_of, merge_of, plan_of, shrink_of};
+use crate::families::{hunt_of, plan_of};
 use crate::numbers::{address_in, number_given, number_of, wide_number_of};
 use crate::options::dethart_command;
 use crate::runs::{draw_of, has_bad_show, print_of, record_of, run_of};
@@ -61,8 +61,6 @@ fn command_of<'a>(
         "watch" => Command::Watch(watch_of(matches)),
         "migrate" => Command::Migrate(migrate_of(matches)),
         "hunt" => Command::Hunt(hunt_of(alloc, matches)?),
-        "shrink" => Command::Shrink(shrink_of(alloc, matches)?),
-        "merge" => Command::Merge(merge_of(alloc, matches)?),
         "plan" => Command::Plan(plan_of(matches)),
         // There is no other than `draw`.
         _ => Command::Draw(draw_of(alloc, matches)?),

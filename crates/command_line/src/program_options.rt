@@ -37,6 +37,5 @@ pub(crate) fn program_command<'a>(
         .arg(number(alloc, "pages", "256", "Pages of 4096 bytes: 1 to 16384"))?
         .arg(number(alloc, "rounds", rounds, "Rounds: 0 to 4294967295"))?
         .arg(workers(alloc))?
-        .arg(file(alloc, "input", "What the guest reads [default: no input]"))?
-        .arg(flag(alloc, "progress", "Say on standard error how far it is"))
+        .arg(file(alloc, "input", "What the guest reads [default: no input]"))
 }

@@ -15,10 +15,6 @@ pub enum Command<'a> {
     Migrate(Migrate<'a>),
     /// `hunt IMAGE`: run a guest program by many plans, and print the table of its endings.
     Hunt(Hunt<'a>),
-    /// `shrink IMAGE --plan-number N`: make a plan smaller that leads to the same ending.
-    Shrink(Shrink<'a>),
-    /// `merge TABLE..`: make one table of those of hunts that adjoin.
-    Merge(Merge<'a>),
     /// `plan N`: print a plan of the family.
     Plan(Plan),
     /// `draw IMAGE`: run a guest program, and draw the run.
@@ -42,8 +38,6 @@ pub struct Program<'a> {
     pub workers: u32,
     /// The path of the file that the guest reads; none is an empty input.
     pub input: Option<&'a str>,
-    /// It is said meanwhile how far the work is.
-    pub progress: bool,
 }
 
 /// Which plan a run goes by.
@@ -154,7 +148,7 @@ pub struct Bytes {
     pub length: u64,
 }
 
-/// Runs of a program by plans of a family: a part of the words after `hunt` and `shrink`.
+/// Runs of a program by plans of a family: a part of the words after `hunt`.
 #[derive(Debug, PartialEq, Eq, Drop)]
 pub struct Search<'a> {
     /// The program that is run.
@@ -174,22 +168,6 @@ pub struct Hunt<'a> {
     pub plans: u32,
     /// The number of the first of these.
     pub first: u32,
-}
-
-/// The words after `shrink`.
-#[derive(Debug, PartialEq, Eq, Drop)]
-pub struct Shrink<'a> {
-    /// The runs.
-    pub search: Search<'a>,
-    /// The number of the plan to make smaller.
-    pub plan_number: u32,
-}
-
-/// The words after `merge`.
-#[derive(Debug, PartialEq, Eq, Drop)]
-pub struct Merge<'a> {
-    /// The paths of the tables, in the order of the line.
-    pub tables: Vec<&'a str>,
 }
 
 /// The words after `plan`.

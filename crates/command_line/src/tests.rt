@@ -1,11 +1,11 @@
 use crate::{
     Bytes, Command, Draw, Hunt, Migrate, Plan, PlanChoice, Print, Program, Record, Replay, Run,
-    Search, Shown, Shrink, Watch, parse_line,
+    Search, Shown, Watch, parse_line,
 };
 use clap::error::ErrorKind;
 use std::test::Fail;
 
-static EVERY_OPTION: [&str; 27] = [
+static EVERY_OPTION: [&str; 26] = [
     "dethart",
     "run",
     "--flat",
@@ -25,7 +25,6 @@ static EVERY_OPTION: [&str; 27] = [
     "50",
     "--input",
     "keys.txt",
-    "--progress",
     "--plan-number",
     "35",
     "--seed=18446744073709551615",
@@ -45,7 +44,6 @@ static GIVEN: Run<'static> = Run {
         rounds: 0,
         workers: 2,
         input: Some("keys.txt"),
-        progress: true,
     },
     plan: PlanChoice {
         quota: "9 8 7",
@@ -66,7 +64,6 @@ static DEFAULTS: Run<'static> = Run {
         rounds: 1000,
         workers: 4,
         input: None,
-        progress: false,
     },
     plan: PlanChoice {
         quota: "1000",
@@ -275,20 +272,7 @@ fn reads_hunt(rt: HostRuntime) -> Result<(), Fail> {
 }
 
 #[test]
-fn reads_shrink_and_draw(rt: HostRuntime) -> Result<(), Fail> {
-    let shrink = Shrink {
-        search: Search {
-            program: Program {
-                rounds: 10000,
-                ..DEFAULTS.program
-            },
-            seed: 1,
-            seen: Vec::new(rt.alloc()),
-        },
-        plan_number: 35,
-    };
-    let words = ["dethart", "shrink", "guest.elf", "--plan-number=35"];
-    assert!(rt; parse_line(rt.alloc(), words.as_slice())? == Command::Shrink(shrink));
+fn reads_draw(rt: HostRuntime) -> Result<(), Fail> {
     let draw = Draw {
         run: DEFAULTS,
         seen: Vec::new(rt.alloc()),
@@ -300,20 +284,8 @@ fn reads_shrink_and_draw(rt: HostRuntime) -> Result<(), Fail> {
     Ok(())
 }
 
-/// Whether the words are of `merge`, with the tables `a.txt`, `b.txt` and `c.txt`.
-fn merges_three(rt: &HostRuntime, words: &[&str]) -> bool {
-    match parse_line(rt.alloc(), words) {
-        Ok(Command::Merge(merge)) => match merge.tables.as_slice() {
-            [first, second, third] => *first == "a.txt" && *second == "b.txt" && *third == "c.txt",
-            _ => false,
-        },
-        _ => false,
-    }
-}
-
 #[test]
-fn reads_merge_and_plan(rt: HostRuntime) -> Result<(), Fail> {
-    assert!(rt; merges_three(&rt, &["dethart", "merge", "a.txt", "b.txt", "c.txt"]));
+fn reads_plan(rt: HostRuntime) -> Result<(), Fail> {
     let plan = Plan {
         number: 35,
         harts: 2,
@@ -378,8 +350,7 @@ fn refuses_bad_lines(rt: HostRuntime) {
     assert!(rt; is_refused(&rt, &["dethart", "--help"], ErrorKind::DisplayHelp, 0));
     assert!(rt; is_refused(&rt, &["dethart", "--version"], ErrorKind::DisplayVersion, 0));
     for command in [
-        "run", "order", "record", "replay", "watch", "migrate", "hunt", "shrink", "merge", "plan",
-        "draw",
+        "run", "order", "record", "replay", "watch", "migrate", "hunt", "plan", "draw",
     ] {
         assert!(rt;
             is_refused(
@@ -400,8 +371,6 @@ fn refuses_absent_words(rt: HostRuntime) {
     assert!(rt; is_refused(&rt, &["dethart", "watch", "a"], missing, 2));
     assert!(rt; is_refused(&rt, &["dethart", "watch", "a", "1"], missing, 2));
     assert!(rt; is_refused(&rt, &["dethart", "migrate", "a"], missing, 2));
-    assert!(rt; is_refused(&rt, &["dethart", "shrink", "a"], missing, 2));
-    assert!(rt; is_refused(&rt, &["dethart", "merge"], missing, 2));
     assert!(rt; is_refused(&rt, &["dethart", "plan"], missing, 2));
 }
 

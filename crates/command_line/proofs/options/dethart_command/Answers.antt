@@ -6,9 +6,9 @@ use Rattle.clap.specs.declared.builder.command.Command.TheViews.{out-Command}
 use Rattle.command_line.specs.Options.{bare_app, dethart_app}
 use Rattle.command_line.proofs.Chains.{Stands, last_command, local_at, one_command, shape_at}
 use Rattle.command_line.proofs.options.dethart_command.Goals as goal
-use Rattle.command_line.proofs.options.dethart_command.Goals.{After-subcommand-11}
+use Rattle.command_line.proofs.options.dethart_command.Goals.{After-subcommand-9}
 
-stands : (c : After-subcommand-11) → IfOk c.subcommand-11.result (λ command. Stands command dethart_app)
+stands : (c : After-subcommand-9) → IfOk c.subcommand-9.result (λ command. Stands command dethart_app)
 stands c =
     let wanting : App → App = λ a. record { top = record a.top { has_version = true; subcommand_required = true; disable_help_subcommand = true }; subs = a.subs } in
     let told : app_of c.disable_help_subcommand.result ≡ bare_app =
@@ -30,13 +30,11 @@ stands c =
     let s5 = one_command _ _ c.in_ok-subcommand-5.field-0 _ _ s4 c.in_ok-watch_command.ensures.app c.in_ok-watch_command.ensures.local c.in_ok-subcommand-5.ensures in
     let s6 = one_command _ _ c.in_ok-subcommand-6.field-0 _ _ s5 c.in_ok-migrate_command.ensures.app c.in_ok-migrate_command.ensures.local c.in_ok-subcommand-6.ensures in
     let s7 = one_command _ _ c.in_ok-subcommand-7.field-0 _ _ s6 c.in_ok-hunt_command.ensures.app c.in_ok-hunt_command.ensures.local c.in_ok-subcommand-7.ensures in
-    let s8 = one_command _ _ c.in_ok-subcommand-8.field-0 _ _ s7 c.in_ok-shrink_command.ensures.app c.in_ok-shrink_command.ensures.local c.in_ok-subcommand-8.ensures in
-    let s9 = one_command _ _ c.in_ok-subcommand-9.field-0 _ _ s8 c.in_ok-merge_command.ensures.app c.in_ok-merge_command.ensures.local c.in_ok-subcommand-9.ensures in
-    let s10 = one_command _ _ c.in_ok-subcommand-10.field-0 _ _ s9 c.in_ok-plan_command.ensures.app c.in_ok-plan_command.ensures.local c.in_ok-subcommand-10.ensures in
-    last_command _ _ c.subcommand-11.result _ _ s10 c.in_ok-draw_command.ensures.app c.in_ok-draw_command.ensures.local c.subcommand-11.ensures
+    let s8 = one_command _ _ c.in_ok-subcommand-8.field-0 _ _ s7 c.in_ok-plan_command.ensures.app c.in_ok-plan_command.ensures.local c.in_ok-subcommand-8.ensures in
+    last_command _ _ c.subcommand-9.result _ _ s8 c.in_ok-draw_command.ensures.app c.in_ok-draw_command.ensures.local c.subcommand-9.ensures
 
 pub returns-clause-app : goal.returns-clause-app
-returns-clause-app c = shape_at c.subcommand-11.result dethart_app (stands (goal.at.returns-clause-app c).After-subcommand-11)
+returns-clause-app c = shape_at c.subcommand-9.result dethart_app (stands (goal.at.returns-clause-app c).After-subcommand-9)
 
 pub returns-clause-local : goal.returns-clause-local
-returns-clause-local c = local_at c.subcommand-11.result dethart_app (stands (goal.at.returns-clause-local c).After-subcommand-11)
+returns-clause-local c = local_at c.subcommand-9.result dethart_app (stands (goal.at.returns-clause-local c).After-subcommand-9)
