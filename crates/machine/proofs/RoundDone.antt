@@ -2,7 +2,7 @@
 use Rattle.std.proofs.Common.{◌≡◌, ℕ, zero, suc, ◌+◌, ◌*◌, ◌/◌, ◌%◌, ◌^◌, ◌<◌, ◌≤◌, ◌==◌, List, [], ◌∷◌, ◌++◌, length, get_or, min, Bool, true, false, cond, Option, Some, None, refl, sym, ap, ◌∙◌, subst, arith, append_assoc, length-append}
 use Rattle.std.specs.Prelude.{option_to_list}
 use Rattle.std.proofs.Math.Nat.{div-div-eq-div-mul, div-one, zero-div, pow-succ'}
-use Rattle.pages.specs.Memory.{IsBytes, Memory, after, stored}
+use Rattle.pages.specs.Memory.{Memory, after, stored}
 use Rattle.pages.specs.Paged.{Paged, count_unready}
 use Rattle.round_schedule.specs.declared.access.Access.{Access}
 use Rattle.round_schedule.specs.declared.access.Stepped.{Stepped}
@@ -10,26 +10,23 @@ use Rattle.round_schedule.specs.declared.access.Stepped.TheVariants.{Done, Waits
 use Rattle.round_schedule.specs.declared.event.Event.{Event}
 use Rattle.round_schedule.specs.declared.event.Phase.TheVariants.{Parallel}
 use Rattle.round_schedule.specs.declared.span.Span.{Span}
-use Rattle.round_schedule.specs.ByTable.{RoundByTable, Tabled, tabled_round, committed_table}
+use Rattle.round_schedule.specs.ByTable.{Tabled, tabled_round, committed_table}
 use Rattle.round_schedule.specs.Desk.{Desk, Counter, updated_by, desk_from, desk_turned, desk_next, desk_of, counter_from, counter_joined, log_events}
 use Rattle.round_schedule.specs.Events.{events_of}
-use Rattle.round_schedule.specs.Tables.{Tied}
-use Rattle.round_schedule.proofs.Machines.{rounds_by_table}
-use Rattle.round_schedule.specs.Schedule.{State, round_of, Words, HartRound, SerialOutcome, hart_rounds, all_stores, events_from, rest_of}
+use Rattle.round_schedule.specs.Schedule.{State, Words, HartRound, SerialOutcome, hart_rounds, all_stores, events_from, rest_of}
 use Rattle.commit_phase.specs.Commit.{Committed}
 use Rattle.round_planner.specs.Quotas.{Planned, quotas_of}
 use Rattle.hart_step.specs.declared.hart.Hart.{Hart}
 use Rattle.hart_step.specs.Console.{ConsoleState}
 use Rattle.hart_step.specs.Room.{HasSpares}
 use Rattle.hart_step.specs.Words.{words_of}
-use Rattle.hart_step.proofs.Soundness.{sound}
 use Rattle.serial_phase.specs.Phase.{TakesTurns, serial_done, waiting_rounds, is_waiting, budget_of, budget_from}
 use Rattle.serial_phase.specs.Roomed.{Roomed}
 use Rattle.serial_phase.specs.Turns.{Turns}
 use Rattle.machine.specs.declared.outcome.Outcome.{Outcome}
 use Rattle.machine.specs.Outcomes.{AreOutcomes, mask_of, waits_of, harts_of, outcome_events, round_events, turns_of, count_log, count_true}
 use Rattle.machine.specs.Machine.{count_waiting}
-use Rattle.machine.specs.Rounds.{parts_after, next_parts, IsFinished, IsRoundDone}
+use Rattle.machine.specs.Rounds.{next_parts, IsFinished, IsRoundDone}
 
 -- ---- which harts wait
 
@@ -238,47 +235,10 @@ only_added W budget quotas n hs bs t c es =
     ap (λ (y : List Event). record { state = whole r.state.harts r.state.bytes r.state.console y r.state.rounds; table = r.table })
     (append_assoc es (events_from (n + 1) 0 rs) _)
 
--- the state after a round, and what ties its parts together
-pub record RoundOver (plan : Planned) (n : ℕ) (hs gs : List Hart) (p s : Paged) (t v : List (Option Span)) (c d : ConsoleState) (es fs : List Event) : Type 0 where
-  pub same : whole gs s.memory.bytes d fs (n + 1) ≡ round_of (words_of p.memory.code) plan.budget (quotas_of plan) (whole hs p.memory.bytes c es n)
-  pub code : s.memory.code ≡ p.memory.code
-  pub tied : Tied v fs
-  pub size : length v ≡ length t
-  pub harts : length gs ≡ length hs
-
 -- the round is counted
 pub rounds_next : (W : Words Hart ConsoleState) (budget : ℕ) (quotas : ℕ → List ℕ) (m : Tabled Hart ConsoleState) → m.state.rounds + 1 ≡ (tabled_round W budget quotas m).state.rounds
 unfolding tabled_round
 rounds_next W budget quotas m = refl
-
-same_state : (hs : List Hart) (bs : List ℕ) (c : ConsoleState) (es : List Event) (k : ℕ) (z : State Hart ConsoleState) → hs ≡ z.harts → bs ≡ z.bytes → c ≡ z.console → es ≡ z.trace → k ≡ z.rounds →
-    whole hs bs c es k ≡ z
-same_state hs bs c es k z e1 e2 e3 e4 e5 =
-    ap (λ (y : List Hart). whole y bs c es k) e1
-    ∙ ap (λ (y : List ℕ). whole z.harts y c es k) e2
-    ∙ ap (λ (y : ConsoleState). whole z.harts z.bytes y es k) e3
-    ∙ ap (λ (y : List Event). whole z.harts z.bytes z.console y k) e4
-    ∙ ap (λ (y : ℕ). whole z.harts z.bytes z.console z.trace y) e5
-
-pub round_over : (plan : Planned) (n : ℕ) (hs gs : List Hart) (p s : Paged) (t v : List (Option Span)) (c d : ConsoleState) (es fs : List Event) →
-    IsBytes p.memory.bytes → Tied t es → length t ≡ length hs → IsRoundDone (next_parts plan n hs p t c) gs p s v d → fs ≡ es ++ (next_parts plan n hs p t c).state.trace →
-    RoundOver plan n hs gs p s t v c d es fs
-round_over plan n hs gs p s t v c d es fs small tied size x more =
-    let W = words_of p.memory.code in
-    let m = traced_parts n hs p.memory.bytes t c es in
-    let r = next_parts plan n hs p t c in
-    let all : Tabled Hart ConsoleState = record { state = whole r.state.harts r.state.bytes r.state.console (es ++ r.state.trace) r.state.rounds; table = r.table } in
-    let is : tabled_round W plan.budget (quotas_of plan) m ≡ all = only_added W plan.budget (quotas_of plan) n hs p.memory.bytes t c es in
-    let one : RoundByTable W plan.budget (quotas_of plan) m = rounds_by_table Hart ConsoleState W plan.budget (quotas_of plan) m (sound p.memory.code) small tied size in
-    record {
-      same = same_state gs s.memory.bytes d fs (n + 1) all.state x.harts x.bytes x.console more (rounds_next W plan.budget (quotas_of plan) (parts_after n hs p t c))
-          ∙ ap (λ (y : Tabled Hart ConsoleState). y.state) (sym is) ∙ one.same;
-      code = x.code;
-      tied = subst (λ (y : List Event). Tied v y) (sym more)
-          (subst (λ (y : List (Option Span)). Tied y (es ++ r.state.trace)) (sym x.table) (subst (λ (y : Tabled Hart ConsoleState). Tied y.table y.state.trace) is one.tied));
-      size = ap length x.table ∙ ap (λ (y : Tabled Hart ConsoleState). length y.table) (sym is) ∙ one.size;
-      harts = ap length x.harts ∙ ap (λ (y : Tabled Hart ConsoleState). length y.state.harts) (sym is) ∙ one.harts;
-    }
 
 -- a round that goes on so is finished
 pub finished_from : (budget n : ℕ) (os : List Outcome) (gs : List Hart) (p ready after' s : Paged) (t u v : List (Option Span)) (c : ConsoleState) (before behind : Roomed) (log : Turns) →

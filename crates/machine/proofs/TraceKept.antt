@@ -1,37 +1,21 @@
 -- The events of a machine stay a trace over a round.
-use Rattle.std.proofs.Common.{◌≡◌, ℕ, if◌then◌else◌, zero, suc, ◌+◌, ◌-◌, ◌*◌, ◌^◌, ◌<◌, ◌≤◌, Bool, true, false, List, [], ◌∷◌, ◌++◌, length, get_or, take, drop, All, Option, refl, sym, ap, ◌∙◌, subst, arith, append_assoc, drop-cons, length-append, take_all}
+use Rattle.std.proofs.Common.{◌≡◌, ℕ, if◌then◌else◌, zero, suc, ◌+◌, ◌-◌, ◌<◌, ◌≤◌, Bool, true, false, List, [], ◌∷◌, ◌++◌, length, get_or, take, drop, All, refl, sym, ap, ◌∙◌, subst, arith, append_assoc, drop-cons, length-append, take_all}
 use Rattle.std.proofs.lemmas.Bool.{false≢true}
 use Rattle.std.proofs.lemmas.List.{length-map}
 use Rattle.std.proofs.lemmas.List.Elements.{All-cons}
-use Rattle.pages.specs.Memory.{IsBytes}
-use Rattle.pages.specs.Paged.{Paged}
 use Rattle.round_schedule.specs.declared.event.Event.{Event}
-use Rattle.round_schedule.specs.declared.span.Span.{Span}
 use Rattle.round_schedule.specs.declared.access.Access.{Access}
 use Rattle.round_schedule.specs.declared.event.Phase.TheVariants.{Parallel, Serial}
-use Rattle.round_schedule.specs.ByTable.{RoundByTable, Tabled}
 use Rattle.round_schedule.specs.Desk.{log_events}
 use Rattle.round_schedule.specs.Events.{event_of, events_of}
 use Rattle.round_schedule.specs.Places.{Placed}
-use Rattle.round_schedule.specs.Schedule.{State, round_of}
-use Rattle.round_schedule.specs.Tables.{Tied}
-use Rattle.round_schedule.proofs.Machines.{rounds_by_table}
 use Rattle.round_schedule.proofs.Phases.{All-weaker}
-use Rattle.round_schedule.proofs.Rising.{places_kept}
 use Rattle.round_planner.specs.Quotas.{IsQuota, Planned, quotas_of}
 use Rattle.hart_step.specs.declared.hart.Hart.{Hart}
-use Rattle.hart_step.specs.Console.{ConsoleState}
-use Rattle.hart_step.specs.Words.{words_of}
-use Rattle.hart_step.proofs.Formation.{has_forms}
-use Rattle.hart_step.proofs.Soundness.{counts_done, sound}
 use Rattle.memory_order.specs.Traced.{IsTrace, Traced}
-use Rattle.memory_order.proofs.RunForms.{round_leaves_trace}
-use Rattle.machine.specs.Held.{most_of_round}
 use Rattle.machine.specs.Machine.{opening_hart, opening_harts}
 use Rattle.machine.specs.declared.outcome.Outcome.{Outcome}
 use Rattle.machine.specs.Outcomes.{HasPlaces, outcome_events}
-use Rattle.machine.specs.Rounds.{next_parts}
-use Rattle.machine.proofs.RoundDone.{only_added, traced_parts, whole}
 
 -- no hart has done anything before the first round
 pub placed_first : (entry n i k : ℕ) → Placed (λ (h : Hart). h.done) 0 (opening_harts entry n i k) []
@@ -49,36 +33,13 @@ placed_first entry n i k = record {
 pub low_quotas : (plan : Planned) → ((m : ℕ) → All IsQuota (quotas_of plan m)) → (m : ℕ) → All (λ q. q ≤ 1000000) (quotas_of plan m)
 low_quotas plan quotas m = All-weaker IsQuota (λ q. q ≤ 1000000) (λ q h. h.1) (quotas_of plan m) (quotas m)
 
--- after one more round
-pub next_is_trace : (plan : Planned) (n : ℕ) (hs : List Hart) (p : Paged) (t : List (Option Span)) (c : ConsoleState) (es : List Event) →
-    IsBytes p.memory.bytes → length p.memory.bytes ≤ 2 ^ 26 → Tied t es → length t ≡ length hs → ((m : ℕ) → All IsQuota (quotas_of plan m)) → plan.budget ≤ 1000 → n + 1 < 2 ^ 32 →
-    IsTrace es → Placed (λ (h : Hart). h.done) (most_of_round * n) hs es → IsTrace (es ++ (next_parts plan n hs p t c).state.trace)
-next_is_trace plan n hs p t c es small size tied table quotas budget few tr placed =
-    let W = words_of p.memory.code in
-    let m = traced_parts n hs p.memory.bytes t c es in
-    let one : RoundByTable W plan.budget (quotas_of plan) m = rounds_by_table Hart ConsoleState W plan.budget (quotas_of plan) m (sound p.memory.code) small tied table in
-    subst (λ (y : Tabled Hart ConsoleState). IsTrace y.state.trace) (only_added W plan.budget (quotas_of plan) n hs p.memory.bytes t c es)
-    (subst (λ (s : State Hart ConsoleState). IsTrace s.trace) (sym one.same)
-    (round_leaves_trace W (λ (h : Hart). h.done) (has_forms p.memory.code) (counts_done p.memory.code) (most_of_round * n) 1000000 plan.budget (quotas_of plan) m.state (low_quotas plan quotas)
-    (omega (arith, budget, few)) small (omega (arith, size)) tr placed))
-
+-- with a higher bound
 pub placed_more : (a b : ℕ) (hs : List Hart) (t : List Event) → a ≤ b → Placed (λ (h : Hart). h.done) a hs t → Placed (λ (h : Hart). h.done) b hs t
 placed_more a b hs t l p = record {
   rising = p.rising;
   below = p.below;
   counts = All-weaker (λ (h : Hart). h.done ≤ a) (λ (h : Hart). h.done ≤ b) (λ h m. omega (arith, l, m)) hs p.counts;
 }
-
-pub next_placed : (plan : Planned) (n : ℕ) (hs : List Hart) (p : Paged) (t : List (Option Span)) (c : ConsoleState) (es : List Event) (s : State Hart ConsoleState) →
-    s ≡ round_of (words_of p.memory.code) plan.budget (quotas_of plan) (whole hs p.memory.bytes c es n) →
-    ((m : ℕ) → All IsQuota (quotas_of plan m)) → plan.budget ≤ 1000 → n + 1 < 2 ^ 32 →
-    Placed (λ (h : Hart). h.done) (most_of_round * n) hs es → Placed (λ (h : Hart). h.done) (most_of_round * (n + 1)) s.harts s.trace
-next_placed plan n hs p t c es s same quotas budget few placed =
-    let W = words_of p.memory.code in
-    let m = whole hs p.memory.bytes c es n in
-    subst (λ (z : State Hart ConsoleState). Placed (λ (h : Hart). h.done) (most_of_round * (n + 1)) z.harts z.trace) (sym same)
-    (placed_more (most_of_round * n + 1000000 + plan.budget) (most_of_round * (n + 1)) (round_of W plan.budget (quotas_of plan) m).harts (round_of W plan.budget (quotas_of plan) m).trace (omega (arith, budget))
-    (places_kept W (λ (h : Hart). h.done) (counts_done p.memory.code) (most_of_round * n) 1000000 plan.budget (quotas_of plan) m (low_quotas plan quotas) (omega (arith, budget, few)) placed))
 
 -- ---- the events of a round, hart by hart
 
