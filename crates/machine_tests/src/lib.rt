@@ -26,4 +26,6 @@ mod reports;
 #[cfg(test)]
 mod rounds;
 #[cfg(test)]
+mod untraced;
+#[cfg(test)]
 mod workers;

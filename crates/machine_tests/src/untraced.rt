@@ -1,0 +1,66 @@
+//! Runs that keep no trace.
+
+ghost use Rattle.std.specs.Prelude.{[], IfOk};
+ghost use Rattle.machine.specs.Untraced.{AreLast};
+
+use crate::harness::{flat, settings};
+use crate::images::RESERVED;
+use host_io::RunError;
+use machine::{Trace, UntracedMachine, prepare_untraced};
+use std::alloc::Global;
+use std::sync::Wait;
+use std::thread::Threads;
+
+/// A store of another hart between LR and SC: two rounds, in which three events happen.
+fn reserved(alloc: Global) -> Result<UntracedMachine, RunError>
+    ensures { IfOk result (λ u. AreLast u []) }
+{
+    let settings = settings(2, 2, b"3 2\n3 3\n");
+    prepare_untraced(alloc, &flat(alloc, &RESERVED)?, &[], &settings)
+}
+
+/// Whether it is the machine after the two rounds.
+fn has_ended(machine: &UntracedMachine) -> bool {
+    let [first, second] = machine.harts() else {
+        return false;
+    };
+    first.pc == 0x10
+        && first.done == 4
+        && first.x[7] == 1
+        && second.pc == 0x18
+        && second.done == 5
+        && machine.byte(0x100) == Some(0)
+        && machine.byte(0x101) == Some(1)
+        && machine.byte(0x1000).is_none()
+        && machine.output().is_empty()
+        && machine.events() == 3
+        && machine.rounds() == 2
+}
+
+fn runs<R: Threads + Wait + Sync>(rt: &R, alloc: Global) -> Result<bool, RunError> {
+    let mut machine = reserved(alloc)?;
+    machine.run(rt, 2, 1)?;
+    Ok(has_ended(&machine))
+}
+
+#[test]
+fn a_run_without_a_trace_ends_as_the_run_does(rt: HostRuntime) {
+    let ended = runs(&rt, rt.alloc());
+    assert!(rt; matches!(&ended, Ok(true)));
+}
+
+/// Round by round: one event in the first round, and two in the second.
+fn notes<R: Threads + Wait + Sync>(rt: &R, alloc: Global) -> Result<bool, RunError> {
+    let mut machine = reserved(alloc)?;
+    let mut trace = Trace::new(alloc, Vec::new(alloc));
+    machine.run_noting(rt, 1, 1, &mut trace)?;
+    let first = trace.len();
+    machine.run_noting(rt, 1, 1, &mut trace)?;
+    Ok(first == 1 && trace.len() == 3 && has_ended(&machine))
+}
+
+#[test]
+fn events_are_noted_in_a_trace_that_is_lent(rt: HostRuntime) {
+    let noted = notes(&rt, rt.alloc());
+    assert!(rt; matches!(&noted, Ok(true)));
+}
