@@ -1,5 +1,5 @@
 -- What a recording keeps of the states of a run.
-use Rattle.std.specs.Prelude.{ℕ, zero, suc, if◌then◌else◌, List, [], ◌∷◌, length, map, drop, Option, Some, None}
+use Rattle.std.specs.Prelude.{◌≡◌, ℕ, zero, suc, if◌then◌else◌, List, [], ◌∷◌, length, map, drop, Option, Some, None}
 use Rattle.round_schedule.specs.Schedule.{State}
 use Rattle.hart_step.specs.declared.hart.Hart.{Hart}
 use Rattle.hart_step.specs.declared.hart.Stop.{Stop}
@@ -7,6 +7,7 @@ use Rattle.hart_step.specs.Console.{ConsoleState}
 use Rattle.machine.specs.Machine.{Running, after_round}
 use Rattle.recording.specs.Grammar.{is_due}
 use Rattle.recording.specs.Recorded.{HartSummary, Summary, Kept}
+use Rattle.replayer.specs.declared.keeping.Seen.{Seen}
 
 -- why a hart has stopped, and 0 while it runs
 abbrev pub code_of : Option Stop → ℕ
@@ -38,3 +39,19 @@ kept_of every s = record { summary = summary_of s; registers = if is_due every s
 unfoldable pub kept_of_rounds : ℕ → ℕ → Running → List Kept
 kept_of_rounds every zero m = []
 kept_of_rounds every (suc n) m = kept_of every (after_round m).state ∷ kept_of_rounds every n (after_round m)
+
+-- ---- from what is seen of a state
+
+-- its harts, how long its output and its trace are, and how many rounds there were
+pub record IsSeenOf (v : Seen) (s : State Hart ConsoleState) : Type 0 where
+  pub harts : v.harts.now ≡ s.harts
+  pub output : v.output ≡ length s.console.output
+  pub trace : v.trace ≡ length s.trace
+  pub round : v.round ≡ s.rounds
+
+-- the summary, and what is kept; they are those of each state of which this is seen
+abbrev pub summary_in : Seen → Summary
+summary_in v = record { output = v.output; trace = v.trace; harts = map hart_summary_of v.harts.now }
+
+abbrev pub kept_in : ℕ → Seen → Kept
+kept_in every v = record { summary = summary_in v; registers = if is_due every v.round then Some (map registers_of v.harts.now) else None }

@@ -5,7 +5,7 @@ ghost use Rattle.std.specs.Int.{w64};
 ghost use Rattle.recording.specs.Fields.{HaveEach};
 ghost use Rattle.recording.specs.Grammar.{any, hart_summary, kept_after, registers, summary};
 ghost use Rattle.recording.specs.Views.{hart_view, kept_view, registers_view, summary_view};
-ghost use Rattle.replayer.specs.Summaries.{code_of, hart_summary_of, kept_of, registers_of, summary_of, value_of};
+ghost use Rattle.replayer.specs.Summaries.{IsSeenOf, code_of, hart_summary_of, kept_in, registers_of, summary_in, value_of};
 
 use hart_step::{Hart, Stop};
 use host_io::RunError;
@@ -13,21 +13,45 @@ use machine::Machine;
 use recording::{HartSummary, Kept, Summary};
 use std::alloc::Global;
 
-/// What is kept of the state after a round, with registers where they are due.
-pub(crate) fn keep(
-    alloc: Global,
-    machine: &Machine,
-    every: u32,
-    round: u32,
-) -> Result<Kept, RunError>
+/// What is seen of the state after a round, and of no more is anything kept.
+#[derive(Drop)]
+pub(crate) struct Seen<'a> {
+    /// The harts, in hart order.
+    pub(crate) harts: &'a [Hart],
+    /// How many bytes of output there are.
+    pub(crate) output: u64,
+    /// How many events the trace has.
+    pub(crate) trace: u64,
+    /// The round's number, and 0 before the first one.
+    pub(crate) round: u32,
+}
+
+/// What is seen of a machine that did so many rounds.
+pub(crate) fn seen_of(machine: &Machine, round: u32) -> Seen<'_>
     requires { round ≡ machine.now.state.rounds }
-    ensures kept { IfOk result (λ k. kept_view k ≡ kept_of every machine.now.state) }
-    ensures ranges { IfOk result (λ k. (kept_after machine.now.plan.harts every round).Has (kept_view k)) }
+    ensures seen { IsSeenOf result machine.now.state }
+    ensures harts { length result.harts.now ≡ machine.now.plan.harts }
+    ensures round { result.round ≡ round }
+    ensures stops { All (λ h. has_stop h.stop ≡ true) result.harts.now }
+{
+    Seen {
+        harts: machine.harts(),
+        output: machine.output().len() as u64,
+        trace: machine.trace().len() as u64,
+        round,
+    }
+}
+
+/// What is kept of a state, with registers where they are due.
+pub(crate) fn keep(alloc: Global, seen: &Seen<'_>, every: u32) -> Result<Kept, RunError>
+    requires { All (λ h. has_stop h.stop ≡ true) seen.now.harts.now }
+    ensures kept { IfOk result (λ k. kept_view k ≡ kept_in every seen.now) }
+    ensures ranges { IfOk result (λ k. (kept_after (length seen.now.harts.now) every seen.now.round).Has (kept_view k)) }
     ensures refused { IfErr result (λ e. e ≡ refusals.OutOfMemory) }
 {
-    let summary = summary_of(alloc, machine)?;
-    let registers = if every != 0 && round % every == 0 {
-        Some(registers_of_all(alloc, machine.harts())?)
+    let summary = summary_of(alloc, seen)?;
+    let registers = if every != 0 && seen.round % every == 0 {
+        Some(registers_of_all(alloc, seen.harts)?)
     } else {
         None
     };
@@ -35,15 +59,16 @@ pub(crate) fn keep(
 }
 
 /// The summary of a state.
-fn summary_of(alloc: Global, machine: &Machine) -> Result<Summary, RunError>
-    ensures summary { IfOk result (λ s. summary_view s ≡ summary_of machine.now.state) }
-    ensures ranges { IfOk result (λ s. (summary machine.now.plan.harts).Has (summary_view s)) }
+fn summary_of(alloc: Global, seen: &Seen<'_>) -> Result<Summary, RunError>
+    requires { All (λ h. has_stop h.stop ≡ true) seen.now.harts.now }
+    ensures summary { IfOk result (λ s. summary_view s ≡ summary_in seen.now) }
+    ensures ranges { IfOk result (λ s. (summary (length seen.now.harts.now)).Has (summary_view s)) }
     ensures refused { IfErr result (λ e. e ≡ refusals.OutOfMemory) }
 {
     Ok(Summary {
-        output: machine.output().len() as u64,
-        trace: machine.trace().len() as u64,
-        harts: summaries_of(alloc, machine.harts())?,
+        output: doubleword(seen.output),
+        trace: doubleword(seen.trace),
+        harts: summaries_of(alloc, seen.harts)?,
     })
 }
 
@@ -180,27 +205,24 @@ fn harts_agree(kept: &[HartSummary], harts: &[Hart]) -> bool
     }
 }
 
-/// Whether the state is what was kept of it, its registers left out.
-fn summary_agrees(kept: &Summary, machine: &Machine) -> bool
-    ensures { IsTrue result ↔ summary_view kept.now ≡ summary_of machine.now.state }
+/// Whether a state is what was kept of it, its registers left out.
+fn summary_agrees(kept: &Summary, seen: &Seen<'_>) -> bool
+    ensures { IsTrue result ↔ summary_view kept.now ≡ summary_in seen.now }
 {
-    kept.output == machine.output().len() as u64
-        && kept.trace == machine.trace().len() as u64
-        && harts_agree(&kept.harts, machine.harts())
+    kept.output == seen.output && kept.trace == seen.trace && harts_agree(&kept.harts, seen.harts)
 }
 
-/// Whether the state after a round is what was kept of it.
-pub(crate) fn agrees(kept: &Kept, every: u32, round: u32, machine: &Machine) -> bool
-    requires { round ≡ machine.now.state.rounds }
-    ensures { IsTrue result ↔ kept_view kept.now ≡ kept_of every machine.now.state }
+/// Whether a state is what was kept of it.
+pub(crate) fn agrees(kept: &Kept, every: u32, seen: &Seen<'_>) -> bool
+    ensures { IsTrue result ↔ kept_view kept.now ≡ kept_in every seen.now }
 {
-    if !summary_agrees(&kept.summary, machine) {
+    if !summary_agrees(&kept.summary, seen) {
         return false;
     }
-    let due = every != 0 && round % every == 0;
+    let due = every != 0 && seen.round % every == 0;
     match &kept.registers {
         None => !due,
-        Some(registers) => due && all_registers_agree(registers, machine.harts()),
+        Some(registers) => due && all_registers_agree(registers, seen.harts),
     }
 }
 

@@ -11,7 +11,7 @@ ghost use Rattle.recording.specs.Views.{kept_view};
 ghost use Rattle.replayer.specs.Replayed.{number_of, recorded_of, recorded_with};
 ghost use Rattle.replayer.specs.Summaries.{kept_of_rounds};
 
-use crate::keeping::keep;
+use crate::keeping::{keep, seen_of};
 use host_io::RunError;
 use machine::{Format, Machine, Settings, prepare};
 use recording::{Kept, Parts, Recording};
@@ -92,7 +92,7 @@ fn keep_rounds<R: Threads + Wait + Sync>(
     let mut kept = Vec::new(alloc);
     for done in 0..rounds {
         machine.run(rt, 1, workers)?;
-        let of_round = keep(alloc, machine, every, done + 1)?;
+        let of_round = keep(alloc, &seen_of(machine, done + 1), every)?;
         add(&mut kept, of_round)?;
     }
     Ok(kept)

@@ -8,7 +8,7 @@ ghost use Rattle.recording.specs.Views.{kept_view};
 ghost use Rattle.replayer.specs.Refusals.{AreNoWorkers, AreWorkers, HasImage, HasImageCause, HasPlanCause, HasReason};
 ghost use Rattle.replayer.specs.Replayed.{IsPlanFor, IsVerdict, IsVerdictOn, start_of};
 
-use crate::keeping::agrees;
+use crate::keeping::{agrees, seen_of};
 use crate::opened::opened;
 use crate::verdict::Verdict;
 use host_io::RunError;
@@ -67,7 +67,7 @@ fn first_difference<R: Threads + Wait + Sync>(
     for place in 0..kept.len() {
         machine.run(rt, 1, workers)?;
         let round = place as u32 + 1;
-        if !agrees(&kept[place], every, round, machine) {
+        if !agrees(&kept[place], every, &seen_of(machine, round)) {
             return Ok(Verdict::Differs(round));
         }
     }

@@ -1,0 +1,10 @@
+-- What is kept of what is seen of a state is what is kept of the state.
+use Rattle.std.proofs.Common.{◌≡◌, ℕ, refl}
+use Rattle.round_schedule.specs.Schedule.{State}
+use Rattle.hart_step.specs.Console.{ConsoleState}
+use Rattle.hart_step.specs.declared.hart.Hart.{Hart}
+use Rattle.replayer.specs.declared.keeping.Seen.{Seen}
+use Rattle.replayer.specs.Summaries.{IsSeenOf, kept_in, kept_of}
+
+pub seen_is : (every : ℕ) (v : Seen) (s : State Hart ConsoleState) → IsSeenOf v s → kept_in every v ≡ kept_of every s
+seen_is every v s e = rw (e.harts, e.output, e.trace, e.round) refl
