@@ -5,3 +5,5 @@ pub mod Kept
 pub mod KeptRounds
 pub mod Ranges
 pub mod PastAt
+pub mod Counted
+pub mod Grown

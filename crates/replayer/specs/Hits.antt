@@ -1,5 +1,5 @@
 -- The events of a trace that have a byte in one of some ranges.
-use Rattle.std.specs.Prelude.{ℕ, Bool, List, filter}
+use Rattle.std.specs.Prelude.{ℕ, ◌&&◌, Bool, nat_le, List, filter}
 use Rattle.std.specs.List.{list_any}
 use Rattle.pages.specs.declared.access.Range.{Range}
 use Rattle.pages.specs.Memory.{in_range}
@@ -18,3 +18,11 @@ is_hit ranges e = any_byte (is_watched ranges) (address_of e.access) (bytes_of e
 -- they are in the order of the trace
 abbrev pub hits : List Range → List Event → List Event
 hits ranges t = filter (is_hit ranges) t
+
+-- whether the event is of a round from `from` to `to`, both counted
+abbrev pub is_within : ℕ → ℕ → Event → Bool
+is_within from to e = nat_le from e.round && nat_le e.round to
+
+-- the events of those rounds, in the order of the trace
+abbrev pub of_rounds : ℕ → ℕ → List Event → List Event
+of_rounds from to es = filter (is_within from to) es

@@ -15,7 +15,7 @@ pub use recording::{Cause, ReadError, Recording, migrate, read_recording, write_
 pub use replaying::replay;
 pub use round_schedule::Event as Hit;
 pub use verdict::Verdict;
-pub use watching::watch;
+pub use watching::{watch, watch_rounds};
 
 #[cfg(test)]
 mod tests;

@@ -7,7 +7,7 @@ ghost use Rattle.machine.specs.Settings.{RefusedAs};
 ghost use Rattle.pages.specs.Memory.{width_bytes};
 ghost use Rattle.round_schedule.specs.Accesses.{address_of, bytes_of};
 ghost use Rattle.round_schedule.specs.Held.{any_byte};
-ghost use Rattle.replayer.specs.Hits.{hits, is_hit, is_watched};
+ghost use Rattle.replayer.specs.Hits.{hits, is_hit, is_watched, of_rounds};
 ghost use Rattle.replayer.specs.Refusals.{AreNoWorkers, AreWorkers, HasImage, HasImageCause, HasPlanCause, HasReason};
 ghost use Rattle.replayer.specs.Replayed.{IsPlanFor, hits_of, start_of};
 
@@ -46,6 +46,51 @@ pub fn watch<R: Threads + Wait + Sync>(
     let mut machine = opened(alloc, recording, workers)?;
     machine.run(rt, recording.rounds(), workers)?;
     Ok(hits_in(alloc, machine.trace(), ranges)?)
+}
+
+/// What `watch` gives, of the rounds from `from` to `to` alone, both counted. It runs no further than round `to`. It may wait.
+///
+/// # Errors
+///
+/// As `watch`.
+pub fn watch_rounds<R: Threads + Wait + Sync>(
+    rt: &R,
+    alloc: Global,
+    recording: &Recording,
+    ranges: &[Range],
+    from: u32,
+    to: u32,
+    workers: u32,
+) -> Result<Vec<Event>, RunError>
+    ensures hits { IfOk result (λ v. (plan : Planned) × IsPlanFor recording.now plan × (v.items ≡ of_rounds from to (hits_of recording.now (start_of recording.now plan) ranges.now))) }
+    ensures workers { AreNoWorkers workers → result ≡ Err refusals.WorkersOutOfRange }
+    ensures errors { AreWorkers workers → IfErr result (λ e. HasReason recording.now e) }
+    ensures image { (cause : ImageCause) → AreWorkers workers → HasImageCause recording.now cause → RefusedAs (refusals.Image cause) result }
+    // A plan is refused where the image is good.
+    ensures plan { (cause : PlanCause) → AreWorkers workers → HasImage recording.now → HasPlanCause recording.now cause → RefusedAs (refusals.Plan cause) result }
+{
+    let mut machine = opened(alloc, recording, workers)?;
+    machine.run(rt, recording.rounds().min(to), workers)?;
+    Ok(hits_within(alloc, machine.trace(), ranges, from, to)?)
+}
+
+/// The events of some rounds that hit one of the ranges, in the order of the trace.
+fn hits_within(
+    alloc: Global,
+    trace: &Trace,
+    ranges: &[Range],
+    from: u32,
+    to: u32,
+) -> Result<Vec<Event>, OutOfMemory>
+    ensures { IfOk result (λ v. v.items ≡ of_rounds from to (hits ranges.now trace.now.events)) }
+{
+    let mut found = Vec::new(alloc);
+    for event in trace.events() {
+        if is_hit(&event, ranges) && from <= event.round && event.round <= to {
+            add(&mut found, event)?;
+        }
+    }
+    Ok(found)
 }
 
 /// The events that hit one of the ranges, in the order of the trace.
