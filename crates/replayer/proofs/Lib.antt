@@ -7,3 +7,5 @@ pub mod Ranges
 pub mod PastAt
 pub mod Counted
 pub mod Grown
+pub mod KeptMachines
+pub mod Verdicts

@@ -3,3 +3,4 @@ pub mod Replayed
 pub mod Refusals
 pub mod Hits
 pub mod Past
+pub mod Checkpoints

@@ -67,6 +67,13 @@ IsVerdictOn ks every m (Differs k) = (1 ≤ k) × (k ≤ length ks) × ((j : ℕ
 abbrev pub IsVerdict : Recorded → Running → Verdict → Type 0
 IsVerdict r m v = IsVerdictOn r.kept r.every m v
 
+-- the verdict after one more round, by the one before it and by whether the state after that round, n, is what was kept
+abbrev pub IsNextVerdict : Verdict → Type 0 → ℕ → Verdict → Type 0
+IsNextVerdict Same Kept n Same = Kept
+IsNextVerdict Same Kept n (Differs k) = (k ≡ n) × (Kept → ⊥)
+IsNextVerdict (Differs j) Kept n Same = ⊥
+IsNextVerdict (Differs j) Kept n (Differs k) = k ≡ j
+
 -- ---- which accesses hit
 
 -- the hits of the run that begins at m, in the order of its trace

@@ -1,6 +1,7 @@
 //! Recordings of runs: made, replayed, and asked about the past, and which accesses hit some ranges of memory.
 #![tactic(auto)]
 
+mod checkpoints;
 mod keeping;
 mod opened;
 mod past;
@@ -9,6 +10,7 @@ mod replaying;
 mod verdict;
 mod watching;
 
+pub use checkpoints::Replay;
 pub use past::state_at;
 pub use recorder::{record, record_with};
 pub use recording::{Cause, ReadError, Recording, migrate, read_recording, write_recording};

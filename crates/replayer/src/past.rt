@@ -54,7 +54,7 @@ pub fn state_at<R: Threads + Wait + Sync>(
 }
 
 /// The hart within the round that comes after so many more rounds.
-fn hart_in_round<R: Threads + Wait + Sync>(
+pub(crate) fn hart_in_round<R: Threads + Wait + Sync>(
     rt: &R,
     mut machine: Machine,
     before: u32,

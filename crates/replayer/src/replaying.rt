@@ -6,9 +6,10 @@ ghost use Rattle.host_io.specs.declared.error.RunError.TheVariants as refusals;
 ghost use Rattle.machine.specs.Settings.{RefusedAs};
 ghost use Rattle.recording.specs.Views.{kept_view};
 ghost use Rattle.replayer.specs.Refusals.{AreNoWorkers, AreWorkers, HasImage, HasImageCause, HasPlanCause, HasReason};
-ghost use Rattle.replayer.specs.Replayed.{IsPlanFor, IsVerdict, IsVerdictOn, start_of};
+ghost use Rattle.replayer.specs.Replayed.{IsNextVerdict, IsPlanFor, IsVerdict, IsVerdictOn, start_of};
+ghost use Rattle.replayer.specs.Summaries.{kept_in};
 
-use crate::keeping::{agrees, seen_of};
+use crate::keeping::{Seen, agrees, seen_of};
 use crate::opened::opened;
 use crate::verdict::Verdict;
 use host_io::RunError;
@@ -72,4 +73,18 @@ fn first_difference<R: Threads + Wait + Sync>(
         }
     }
     Ok(Verdict::Same)
+}
+
+/// The verdict after one more round, where the one on the rounds before it is this.
+pub(crate) fn next_verdict(before: Verdict, kept: &Kept, every: u32, seen: &Seen<'_>) -> Verdict
+    ensures { IsNextVerdict before (kept_view kept.now ≡ kept_in every seen.now) seen.now.round result }
+{
+    match before {
+        Verdict::Differs(_) => before,
+        Verdict::Same => if agrees(kept, every, seen) {
+            Verdict::Same
+        } else {
+            Verdict::Differs(seen.round)
+        },
+    }
 }

@@ -1,0 +1,182 @@
+-- The machines that are kept of a run, round after round.
+use Rattle.std.proofs.Common.{◌≡◌, ℕ, zero, suc, ◌+◌, ◌-◌, ◌*◌, ◌/◌, ◌%◌, ◌<◌, ◌≤◌, ◌==◌, Bool, true, false, List, [], ◌∷◌, ◌++◌, length, slice_get, Option, Some, None, refl, sym, ap, subst, ◌∙◌, arith, inl, inr}
+use Rattle.std.specs.Prelude.{◌&&◌, if◌then◌else◌, not}
+use Rattle.std.proofs.lemmas.List.{append-nil}
+use Rattle.std.proofs.lemmas.Bool.{cases_lt}
+use Rattle.std.proofs.lemmas.Bool.Decides.{nat_tests}
+use Rattle.std.proofs.lemmas.Option.{slice_get_within}
+use Rattle.std.specs.Prelude.{nat_lt}
+use Rattle.std.proofs.Math.Nat.{lt_of_mul-lt-mul_left}
+use Rattle.machine.specs.Machine.{Running, after_rounds}
+use Rattle.machine.proofs.Repeated.{more_rounds, no_rounds}
+use Rattle.replayer.proofs.Counted.{rounds_after}
+use Rattle.recording.specs.Grammar.{is_due}
+use Rattle.replayer.specs.Checkpoints.{AreCheckpoints, Opened, checkpoints_of, kept_machine}
+
+-- ---- quotients
+
+one_due : (e n : ℕ) → 0 < e → (n + 1) % e ≡ 0 → (n + 1) / e ≡ n / e + 1
+one_due e n some due =
+    let low : n / e < (n + 1) / e = lt_of_mul-lt-mul_left e (omega (arith, some, due)) in
+    let high : (n + 1) / e < n / e + 2 = lt_of_mul-lt-mul_left e (omega (arith, some, due)) in
+    omega (arith, low, high)
+
+none_due : (e n : ℕ) → 0 < e → 0 < (n + 1) % e → (n + 1) / e ≡ n / e
+none_due e n some due =
+    let low : n / e < (n + 1) / e + 1 = lt_of_mul-lt-mul_left e (omega (arith, some, due)) in
+    let high : (n + 1) / e < n / e + 1 = lt_of_mul-lt-mul_left e (omega (arith, some, due)) in
+    omega (arith, low, high)
+
+-- how many are kept where some are
+by_none : (b : Bool) (n : ℕ) → b ≡ false → (if b then 1 else n) ≡ n
+by_none b n e = rw e refl
+
+of_some : (e n : ℕ) → checkpoints_of (suc e) n ≡ n / suc e + 1
+of_some e n = by_none (suc e == 0) (n / suc e + 1) (grind (arith, nat_tests))
+
+-- ---- what is at a place of a list with one more
+
+at_front : {A : Type 0} (xs : List A) (x : A) (k : ℕ) → k < length xs → slice_get (xs ++ x ∷ []) k ≡ slice_get xs k
+at_front [] x k lt = absurd (omega (arith, lt))
+at_front (y ∷ ys) x zero lt = refl
+at_front (y ∷ ys) x (suc k) lt = at_front ys x k (omega (arith, lt))
+
+at_last : {A : Type 0} (xs : List A) (x : A) → slice_get (xs ++ x ∷ []) (length xs) ≡ Some x
+at_last [] x = refl
+at_last (y ∷ ys) x = at_last ys x
+
+one_longer : {A : Type 0} (xs : List A) (x : A) → length (xs ++ x ∷ []) ≡ suc (length xs)
+one_longer [] x = refl
+one_longer (y ∷ ys) x = ap suc (one_longer ys x)
+
+-- ---- one more round
+
+abbrev later_with : Bool → List Running → Running → List Running
+later_with due later now = later ++ (if due then now ∷ [] else [])
+
+pub kept_first : (every : ℕ) (start : Running) → AreCheckpoints every 0 start []
+kept_first every start = record { count = counted every; each = λ k lt. absurd (omega (arith, lt)) }
+  where
+    counted : (e : ℕ) → 1 ≡ checkpoints_of e 0
+    counted zero = refl
+    counted (suc e) = omega (arith, of_some e 0)
+
+kept_as_before : (every n : ℕ) (start now : Running) (later : List Running) → checkpoints_of every (n + 1) ≡ checkpoints_of every n → AreCheckpoints every n start later → AreCheckpoints every (n + 1) start (later_with false later now)
+kept_as_before every n start now later same before =
+    subst (AreCheckpoints every (n + 1) start) (sym (append-nil later)) (record { count = before.count ∙ sym same; each = before.each })
+
+kept_with_now : (every n : ℕ) (start now : Running) (later : List Running) → checkpoints_of every (n + 1) ≡ suc (checkpoints_of every n) → suc (length later) * every ≡ n + 1 → now ≡ after_rounds (n + 1) start →
+    AreCheckpoints every n start later → AreCheckpoints every (n + 1) start (later_with true later now)
+kept_with_now every n start now later more place there before = record {
+  count = ap suc (one_longer later now) ∙ ap suc before.count ∙ sym more;
+  each = by_place;
+}
+  where
+    last : slice_get (later ++ now ∷ []) (length later) ≡ Some (after_rounds (suc (length later) * every) start)
+    last = at_last later now ∙ ap (λ (m : Running). Some m) there ∙ ap (λ (k : ℕ). Some (after_rounds k start)) (sym place)
+
+    by_place : (k : ℕ) → k < length (later ++ now ∷ []) → slice_get (later ++ now ∷ []) k ≡ Some (after_rounds (suc k * every) start)
+    by_place k lt = elim (cases_lt k (length later)) [
+      | inl low ↦ at_front later now k low ∙ before.each k low
+      | inr high ↦ subst (λ (j : ℕ). slice_get (later ++ now ∷ []) j ≡ Some (after_rounds (suc j * every) start)) (omega (arith, high, lt, one_longer later now)) last
+    ]
+
+by_due : (e n : ℕ) (start now : Running) (later : List Running) (due : Bool) → ((n + 1) % suc e == 0) ≡ due → now ≡ after_rounds (n + 1) start →
+    AreCheckpoints (suc e) n start later → AreCheckpoints (suc e) (n + 1) start (later_with due later now)
+by_due e n start now later true is there before =
+    let due : (n + 1) % suc e ≡ 0 = grind (arith, nat_tests, is) in
+    let more : (n + 1) / suc e ≡ n / suc e + 1 = one_due (suc e) n (omega arith) due in
+    let same : suc (length later) ≡ (n + 1) / suc e = omega (arith, more, before.count, of_some e n) in
+    let place : suc (length later) * suc e ≡ n + 1 = ap (λ (k : ℕ). k * suc e) same ∙ omega (arith, due) in
+    kept_with_now (suc e) n start now later (omega (arith, more, of_some e n, of_some e (n + 1))) place there before
+by_due e n start now later false is there before =
+    let due : 0 < (n + 1) % suc e = grind (arith, nat_tests, is) in
+    kept_as_before (suc e) n start now later (omega (arith, none_due (suc e) n (omega arith) due, of_some e n, of_some e (n + 1))) before
+
+by_test_alone : (b c : Bool) → b ≡ false → (not b && c) ≡ c
+by_test_alone b c e = rw e refl
+
+due_of_some : (e n : ℕ) → is_due (suc e) n ≡ (n % suc e == 0)
+due_of_some e n = by_test_alone (suc e == 0) (n % suc e == 0) (grind (arith, nat_tests))
+
+-- what is kept after one more round, after which the machine is `now`
+pub kept_next : (every n : ℕ) (start now : Running) (later : List Running) → now ≡ after_rounds (n + 1) start →
+    AreCheckpoints every n start later → AreCheckpoints every (n + 1) start (later ++ (if is_due every (n + 1) then now ∷ [] else []))
+kept_next zero n start now later there before = kept_as_before zero n start now later refl before
+kept_next (suc e) n start now later there before =
+    subst (λ (due : Bool). AreCheckpoints (suc e) (n + 1) start (later_with due later now)) (sym (due_of_some e (n + 1)))
+    (by_due e n start now later ((n + 1) % suc e == 0) refl there before)
+
+-- ---- what is found of them
+
+if_low : (b : Bool) (m : Running) → b ≡ true → (if b then Some m else None) ≡ Some m
+if_low b m e = rw e refl
+
+if_high : (b : Bool) (m : Running) → b ≡ false → (if b then Some m else None) ≡ None
+if_high b m e = rw e refl
+
+is_low : (k n : ℕ) → k < n → nat_lt k n ≡ true
+is_low k n lt = grind (arith, nat_tests, lt)
+
+is_high : (k n : ℕ) → n ≤ k → nat_lt k n ≡ false
+is_high k n le = grind (arith, nat_tests, le)
+
+abbrev some : Running → Option Running
+some m = Some m
+
+pub found_first : (o : Opened) (later : List Running) → AreCheckpoints o.every o.rounds o.start later → kept_machine o 0 ≡ Some o.start
+found_first o later are =
+    let none : 0 * o.every ≡ 0 = omega arith in
+    if_low (nat_lt 0 (checkpoints_of o.every o.rounds)) (after_rounds (0 * o.every) o.start) (is_low 0 (checkpoints_of o.every o.rounds) (omega (arith, are.count)))
+    ∙ ap (λ (k : ℕ). Some (after_rounds k o.start)) none
+    ∙ ap (λ (m : Running). Some m) (sym (no_rounds o.start))
+
+pub found_later : (o : Opened) (later : List Running) (k : ℕ) (m : Running) → AreCheckpoints o.every o.rounds o.start later → 1 ≤ k → slice_get later (k - 1) ≡ Some m → kept_machine o k ≡ Some m
+found_later o later zero m are some at = absurd (omega (arith, some))
+found_later o later (suc k) m are some at =
+    let less : suc k - 1 ≡ k = omega arith in
+    let here : slice_get later k ≡ Some m = subst (λ (i : ℕ). slice_get later i ≡ Some m) less at in
+    let low : k < length later = slice_get_within later k m here in
+    if_low (nat_lt (suc k) (checkpoints_of o.every o.rounds)) (after_rounds (suc k * o.every) o.start) (is_low (suc k) (checkpoints_of o.every o.rounds) (omega (arith, low, are.count)))
+    ∙ sym (are.each k low) ∙ here
+
+pub found_none : (o : Opened) (later : List Running) (k : ℕ) → AreCheckpoints o.every o.rounds o.start later → 1 ≤ k → length later ≤ k - 1 → kept_machine o k ≡ None
+found_none o later k are some high =
+    if_high (nat_lt k (checkpoints_of o.every o.rounds)) (after_rounds (k * o.every) o.start) (is_high k (checkpoints_of o.every o.rounds) (omega (arith, high, some, are.count)))
+
+by_test : (b : Bool) (x m : Running) → (if b then Some x else None) ≡ Some m → m ≡ x
+by_test true x m e = cc
+by_test false x m e = absurd cc
+
+-- the machine that is found
+pub found_is : (o : Opened) (k : ℕ) (m : Running) → kept_machine o k ≡ Some m → m ≡ after_rounds (k * o.every) o.start
+found_is o k m e = by_test (nat_lt k (checkpoints_of o.every o.rounds)) (after_rounds (k * o.every) o.start) m e
+
+no_none : (m : Running) → some m ≡ None → ⊥
+no_none m e = absurd cc
+
+pub is_found : (o : Opened) (k : ℕ) → k < checkpoints_of o.every o.rounds → kept_machine o k ≡ None → ⊥
+is_found o k low e =
+    no_none (after_rounds (k * o.every) o.start) (sym (if_low (nat_lt k (checkpoints_of o.every o.rounds)) (after_rounds (k * o.every) o.start) (is_low k (checkpoints_of o.every o.rounds) low)) ∙ e)
+
+-- ---- which one is the last before a round
+
+quotient_up : (e m n : ℕ) → 0 < e → m ≤ n → m / e ≤ n / e
+quotient_up e m n some le =
+    let lt : m / e < n / e + 1 = lt_of_mul-lt-mul_left e (omega (arith, some, le)) in
+    omega (arith, lt)
+
+pub last_there : (every rounds all : ℕ) → 0 < every → rounds ≤ all → rounds / every < checkpoints_of every all
+last_there zero rounds all some le = absurd (omega (arith, some))
+last_there (suc e) rounds all some le = omega (arith, quotient_up (suc e) rounds all (omega arith) le, of_some e all)
+
+-- after the rounds that are left, a copy of it is the machine after as many rounds as are wanted
+pub going_on : (o : Opened) (k left rounds every : ℕ) (m copy : Running) → every ≡ o.every → k * every + left ≡ rounds → kept_machine o k ≡ Some m → copy ≡ m → after_rounds left copy ≡ after_rounds rounds o.start
+going_on o k left rounds every m copy same sum at e =
+    let whole : k * o.every + left ≡ rounds = subst (λ (n : ℕ). k * n + left ≡ rounds) same sum in
+    ap (after_rounds left) (e ∙ found_is o k m at) ∙ more_rounds (k * o.every) left o.start ∙ ap (λ (n : ℕ). after_rounds n o.start) whole
+
+pub going_counted : (o : Opened) (k left rounds every : ℕ) (m copy : Running) → every ≡ o.every → k * every + left ≡ rounds → kept_machine o k ≡ Some m → copy ≡ m → o.start.state.rounds ≡ 0 → copy.state.rounds + left ≡ rounds
+going_counted o k left rounds every m copy same sum at e none =
+    let whole : k * o.every + left ≡ rounds = subst (λ (n : ℕ). k * n + left ≡ rounds) same sum in
+    omega (arith, whole, none, ap (λ (r : Running). r.state.rounds) (e ∙ found_is o k m at), rounds_after (k * o.every) o.start)

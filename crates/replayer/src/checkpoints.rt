@@ -1,0 +1,216 @@
+ghost use Rattle.std.specs.Prelude.{◌≡◌, ℕ, ◌≤◌, ◌<◌, ◌+◌, ◌*◌, ◌++◌, ◌∷◌, [], if◌then◌else◌, map, Some, None, Err, IfOk, IfErr, OnOk, MatchOption};
+ghost use Rattle.elf_loader.specs.declared.load_error.LoadError.{LoadError as ImageCause};
+ghost use Rattle.round_planner.specs.Quotas.{Planned};
+ghost use Rattle.round_planner.specs.declared.plan_error.PlanError.{PlanError as PlanCause};
+ghost use Rattle.host_io.specs.declared.error.RunError.TheVariants as refusals;
+ghost use Rattle.machine.specs.Machine.{after_rounds};
+ghost use Rattle.machine.specs.Settings.{RefusedAs};
+ghost use Rattle.recording.specs.Grammar.{is_due};
+ghost use Rattle.replayer.specs.Checkpoints.{AreCheckpoints, IsOpened, checkpoints_of, kept_machine};
+ghost use Rattle.replayer.specs.Past.{hart_at};
+ghost use Rattle.replayer.specs.Refusals.{AreNoWorkers, AreWorkers, HasImage, HasImageCause, HasPlanCause, HasReason};
+ghost use Rattle.replayer.specs.Replayed.{IsPlanFor, IsVerdict};
+
+use crate::keeping::seen_of;
+use crate::opened::opened;
+use crate::past::hart_in_round;
+use crate::replaying::next_verdict;
+use crate::verdict::Verdict;
+use hart_step::Hart;
+use host_io::RunError;
+use machine::Machine;
+use recording::Recording;
+use std::alloc::Global;
+use std::marker::Model;
+use std::sync::Wait;
+use std::thread::Threads;
+
+/// An opened recording: whether its run is the recorded one, and machines of that run, kept to go on from.
+#[derive(Drop)]
+pub struct Replay {
+    rounds: u32,
+    every: u32,
+    verdict: Verdict,
+    /// The machine before the first round.
+    start: Machine,
+    /// The machines after the rounds that are multiples of `every`, in turn.
+    later: Vec<Machine>,
+}
+
+impl Model for Replay {
+    ghost use Rattle.std.specs.Prelude.{◌≡◌};
+    ghost use Rattle.replayer.specs.Checkpoints.{Opened, AreCheckpoints};
+
+    ghost Value = { Opened };
+
+    ghost view = { λ r. record { rounds = r.rounds; start = r.start; every = r.every; verdict = r.verdict } };
+
+    ghost invariant = { λ r. (r.start.state.rounds ≡ 0) × AreCheckpoints r.every r.rounds r.start r.later.items };
+}
+
+impl Replay {
+    /// Runs a recording anew, on 1 to 16 workers, as `replay` does, and goes on after a difference. It keeps the machine before
+    /// the first round and the one after each round that is a multiple of `every`; with 0, the one before the first alone. It
+    /// may wait.
+    ///
+    /// Each kept machine takes the memory of the pages that are ready then and of the output; most of the trace is shared.
+    ///
+    /// # Errors
+    ///
+    /// `WorkersOutOfRange`, then the refusals of the recording's image, then of its plan; `OutOfMemory`.
+    pub fn open<R: Threads + Wait + Sync>(
+        rt: &R,
+        alloc: Global,
+        recording: &Recording,
+        every: u32,
+        workers: u32,
+    ) -> Result<Replay, RunError>
+        ensures opened { IfOk result (λ p. (plan : Planned) × IsPlanFor recording.now plan × IsOpened recording.now plan every p) }
+        ensures workers { AreNoWorkers workers → result ≡ Err refusals.WorkersOutOfRange }
+        ensures errors { AreWorkers workers → IfErr result (λ e. HasReason recording.now e) }
+        ensures image { (cause : ImageCause) → AreWorkers workers → HasImageCause recording.now cause → RefusedAs (refusals.Image cause) result }
+        // A plan is refused where the image is good.
+        ensures plan { (cause : PlanCause) → AreWorkers workers → HasImage recording.now → HasPlanCause recording.now cause → RefusedAs (refusals.Plan cause) result }
+    {
+        let start = opened(alloc, recording, workers)?;
+        let mut machine = start.copy()?;
+        let (verdict, later) = run_keeping(rt, alloc, &mut machine, recording, every, workers)?;
+        Ok(Replay {
+            rounds: recording.rounds(),
+            every,
+            verdict,
+            start,
+            later,
+        })
+    }
+
+    /// Whether the run is the recorded one.
+    pub fn verdict(&self) -> Verdict
+        ensures { result ≡ self.now.verdict }
+    {
+        self.verdict
+    }
+
+    /// How many machines are kept.
+    pub fn checkpoints(&self) -> usize
+        ensures { result ≡ checkpoints_of self.now.every self.now.rounds }
+    {
+        self.later.len() + 1
+    }
+
+    /// The machine after round `number` times `every`, or `None` from `checkpoints` on.
+    pub fn kept(&self, number: usize) -> Option<&Machine>
+        ensures { MatchOption result (kept_machine self.now number ≡ None) (λ m. kept_machine self.now number ≡ Some m.now) }
+    {
+        if number == 0 {
+            return Some(&self.start);
+        }
+        if number > self.later.len() {
+            return None;
+        }
+        Some(&self.later[number - 1])
+    }
+
+    /// What `state_at` gives of the recording, on 1 to 16 workers. It goes on from a copy of a machine that is kept. It may wait.
+    ///
+    /// # Errors
+    ///
+    /// `WorkersOutOfRange`; `OutOfMemory`.
+    pub fn state_at<R: Threads + Wait + Sync>(
+        &self,
+        rt: &R,
+        round: u32,
+        hart: u32,
+        count: u64,
+        workers: u32,
+    ) -> Result<Option<Hart>, RunError>
+        ensures hart { IfOk result (λ h. h ≡ hart_at self.now.rounds self.now.start round hart count) }
+        ensures workers { AreNoWorkers workers → result ≡ Err refusals.WorkersOutOfRange }
+        ensures errors { AreWorkers workers → IfErr result (λ e. e ≡ refusals.OutOfMemory) }
+    {
+        if workers < 1 || workers > 16 {
+            return Err(RunError::WorkersOutOfRange);
+        }
+        if round == 0 || round > self.rounds {
+            return Ok(None);
+        }
+        let (machine, left) = self.going_on_to(round - 1)?;
+        hart_in_round(rt, machine, left, hart, count, workers)
+    }
+
+    /// A copy of the last kept machine that did at most so many rounds, and how many of them are left to do.
+    fn going_on_to(&self, rounds: u32) -> Result<(Machine, u32), RunError>
+        requires { rounds < self.now.rounds }
+        ensures machine { IfOk result (λ x. after_rounds x.1 x.0 ≡ after_rounds rounds self.now.start) }
+        ensures rounds { IfOk result (λ x. x.0.state.rounds + x.1 ≡ rounds) }
+        ensures refused { IfErr result (λ e. e ≡ refusals.OutOfMemory) }
+    {
+        let (number, left) = last_multiple(self.every, rounds);
+        match self.kept(number as usize) {
+            Some(machine) => Ok((machine.copy()?, left)),
+            None => unreachable!(),
+        }
+    }
+}
+
+/// Which multiple of `every` is the last one that is at most so many rounds, and how many rounds come after it. Of 0 there is
+/// one alone.
+fn last_multiple(every: u32, rounds: u32) -> (u32, u32)
+    ensures sum { result.0 * every + result.1 ≡ rounds }
+    ensures there { (all : ℕ) → rounds ≤ all → result.0 < checkpoints_of every all }
+{
+    if every == 0 {
+        return (0, rounds);
+    }
+    (rounds / every, rounds % every)
+}
+
+/// Runs a machine that was just opened for the rounds of a recording, whatever it was opened from: the verdict, and copies of
+/// the machine after the rounds that are multiples of `every`. It may wait.
+fn run_keeping<R: Threads + Wait + Sync>(
+    rt: &R,
+    alloc: Global,
+    machine: &mut Machine,
+    recording: &Recording,
+    every: u32,
+    workers: u32,
+) -> Result<(Verdict, Vec<Machine>), RunError>
+    requires workers { (1 ≤ workers) × (workers ≤ 16) }
+    requires opened { machine.old.state.rounds ≡ 0 }
+    ensures verdict { IfOk result (λ x. IsVerdict recording.now machine.old x.0) }
+    ensures machines { IfOk result (λ x. AreCheckpoints every recording.now.rounds machine.old x.1.items) }
+    ensures refused { IfErr result (λ e. e ≡ refusals.OutOfMemory) }
+{
+    let kept = recording.kept();
+    // So many rounds are kept, as 32 bits hold.
+    let _rounds = recording.rounds();
+    let mut verdict = Verdict::Same;
+    let mut machines = Vec::new(alloc);
+    for place in 0..kept.len() {
+        machine.run(rt, 1, workers)?;
+        let round = place as u32 + 1;
+        let seen = seen_of(machine, round);
+        verdict = next_verdict(verdict, &kept[place], recording.every(), &seen);
+        keep_if_due(&mut machines, machine, every, round)?;
+    }
+    Ok((verdict, machines))
+}
+
+/// Adds a copy of a machine after a round that is a multiple of `every`.
+fn keep_if_due(
+    machines: &mut Vec<Machine>,
+    machine: &Machine,
+    every: u32,
+    round: u32,
+) -> Result<(), RunError>
+    ensures ok { OnOk result (machines.new.items ≡ machines.old.items ++ (if is_due every round then machine.now ∷ [] else [])) }
+    ensures refused { IfErr result (λ e. e ≡ refusals.OutOfMemory) }
+{
+    if every == 0 || round % every != 0 {
+        return Ok(());
+    }
+    match machines.push(machine.copy()?) {
+        Ok(()) => Ok(()),
+        Err(_) => Err(RunError::OutOfMemory),
+    }
+}
