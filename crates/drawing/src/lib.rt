@@ -5,3 +5,6 @@ mod drawing;
 
 pub use drawing::draw_run;
 pub use picture::View;
+
+#[cfg(test)]
+mod tests;
