@@ -32,7 +32,7 @@ pub use memory_order::Trace;
 pub use ordering::order_run;
 pub use outcome::Outcome;
 pub use parallel_phase::{Gate, Open};
-pub use preparing::prepare;
+pub use preparing::{load, prepare};
 pub use preparing_untraced::prepare_untraced;
 pub use running::RoundNote;
 pub use settings::{Format, Settings};

@@ -52,13 +52,12 @@ pub(crate) fn copied(alloc: Global, input: &[u8]) -> Result<Vec<u8>, RunError>
     }
 }
 
-/// The image of a file.
-pub(crate) fn load(
-    alloc: Global,
-    format: Format,
-    file: &[u8],
-    pages: u32,
-) -> Result<Image, RunError>
+/// The image of a file, for memory of so many pages.
+///
+/// # Errors
+///
+/// The least cause that speaks against the file, and `OutOfMemory`.
+pub fn load(alloc: Global, format: Format, file: &[u8], pages: u32) -> Result<Image, RunError>
     requires some_pages { 1 ≤ pages }
     requires few_pages { pages ≤ 16384 }
     ensures image { IfOk result (λ i. i ≡ image_of format file.now pages) }

@@ -1,0 +1,87 @@
+-- What a hunt is asked for, and what its runs end in.
+use Rattle.std.specs.Prelude.{◌≡◌, ◌⊎◌, ℕ, ◌+◌, ◌*◌, ◌-◌, ◌^◌, ◌<◌, ◌≤◌, ◌==◌, ◌&&◌, ◌||◌, length, nat_lt, if◌then◌else◌, Bool, false, List, [], ◌∷◌, ◌++◌, map, take, drop, Option, Some, None, Err}
+use Rattle.std.specs.List.{list_all, list_any}
+use Rattle.elf_loader.specs.Causes.{IsLeast as IsLeastOfImage}
+use Rattle.elf_loader.specs.declared.load_error.LoadError.{LoadError as ImageCause}
+use Rattle.hart_step.specs.declared.hart.Hart.{Hart}
+use Rattle.hart_step.specs.declared.hart.Stop.{Stop}
+use Rattle.host_io.specs.declared.error.RunError.TheVariants as refusals
+use Rattle.machine.specs.Machine.{Running, after_rounds, opening}
+use Rattle.machine.specs.Settings.{StandsIn, image_of}
+use Rattle.plan_family.specs.declared.family.Family.{Family}
+use Rattle.plan_family.specs.Families.{family_plan}
+use Rattle.plan_hunt.specs.Endings.{Ended, ended}
+use Rattle.plan_hunt.specs.Tables.{IsTable}
+use Rattle.plan_hunt.specs.declared.row.Row.{Row}
+use Rattle.hunt_table.specs.declared.header.SeenRange.{SeenRange}
+use Rattle.hunter.specs.declared.error.HuntError.{HuntError}
+use Rattle.hunter.specs.declared.error.HuntError.TheVariants.{Run, PlansOutOfRange, SeenOutside}
+use Rattle.hunter.specs.declared.settings.HuntSettings.{HuntSettings}
+
+-- ---- settings
+
+-- 1 to 64 harts, 1 to 16,384 pages, 1 to 16 workers, and 1 or more plans
+pub record IsHunt (s : HuntSettings) : Type 0 where
+  pub some_harts : 1 ≤ s.harts
+  pub few_harts : s.harts ≤ 64
+  pub some_pages : 1 ≤ s.pages
+  pub few_pages : s.pages ≤ 16384
+  pub some_workers : 1 ≤ s.workers
+  pub few_workers : s.workers ≤ 16
+  pub some_plans : 1 ≤ s.header.count
+  pub few_plans : s.header.first + s.header.count < 2 ^ 32
+
+-- a byte of the range lies outside memory of so many pages
+abbrev pub is_outside : ℕ → SeenRange → Bool
+is_outside pages r = nat_lt (4096 * pages) (r.address + r.length)
+
+-- the refusal of what is out of range; of several, the one of the least number
+abbrev pub hunt_fault : HuntSettings → Option HuntError
+hunt_fault s =
+    if nat_lt s.harts 1 || nat_lt 64 s.harts then Some (Run refusals.HartsOutOfRange)
+    else (if nat_lt s.pages 1 || nat_lt 16384 s.pages then Some (Run refusals.PagesOutOfRange)
+    else (if nat_lt s.workers 1 || nat_lt 16 s.workers then Some (Run refusals.WorkersOutOfRange)
+    else (if nat_lt s.header.count 1 || nat_lt (2 ^ 32 - 1 - s.header.first) s.header.count then Some PlansOutOfRange
+    else (if list_any (is_outside s.pages) s.header.ranges.items then Some SeenOutside
+    else None))))
+
+-- ---- endings
+
+-- the bytes of the ranges, one range after the other
+abbrev pub seen_of : List SeenRange → List ℕ → List ℕ
+seen_of [] bytes = []
+seen_of (r ∷ rs) bytes = take r.length (drop r.address bytes) ++ seen_of rs bytes
+
+-- the ending of a run
+unfoldable pub ended_of : List SeenRange → Running → Ended
+ended_of ranges m = ended (map (λ (h : Hart). h.stop) m.state.harts) m.state.console.output (seen_of ranges m.state.bytes)
+
+-- the family of the hunt's plans
+abbrev pub family_of : HuntSettings → Family
+family_of s = record { seed = s.header.seed; harts = s.harts }
+
+-- the ending of the run under plan n, from a file and an input
+unfoldable pub ends_after : HuntSettings → List ℕ → List ℕ → ℕ → Ended
+ends_after s file input n = ended_of s.header.ranges.items (after_rounds s.rounds (opening (image_of s.format file s.pages) input (family_plan (family_of s) n)))
+
+-- the rows are the table of the hunt
+abbrev pub IsHunted : HuntSettings → List ℕ → List ℕ → List Row → Type 0
+IsHunted s file input rows = IsTable (ends_after s file input) s.header.first s.header.count rows
+
+abbrev pub has_exited : Option Stop → Bool
+has_exited None = false
+has_exited (Some s) = s.code == 1
+
+-- there is one ending, in which all harts exited
+abbrev pub is_one_exit : List Row → Bool
+is_one_exit rows = (length rows == 1) && list_all (λ (r : Row). list_all has_exited r.ending.stops) rows
+
+-- ---- refusals
+
+-- the cause of the least number that speaks against the file
+abbrev pub IsImageCause : HuntSettings → List ℕ → ImageCause → Type 0
+IsImageCause s file cause = IsLeastOfImage (StandsIn s.format file s.pages) cause
+
+-- a reason that stands to refuse the hunt, or want of memory
+abbrev pub IsHuntReason : HuntSettings → List ℕ → HuntError → Type 0
+IsHuntReason s file e = (e ≡ Run refusals.OutOfMemory) ⊎ ((cause : ImageCause) × IsImageCause s file cause × (e ≡ Run (refusals.Image cause)))

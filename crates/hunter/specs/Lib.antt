@@ -1,0 +1,2 @@
+pub mod Hunts
+pub mod Refusals

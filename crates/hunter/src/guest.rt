@@ -1,0 +1,116 @@
+ghost use Rattle.std.specs.Prelude.{◌≡◌, ◌+◌, ◌≤◌, ◌<◌, ◌^◌, ◌++◌, IfOk, Ok, OnOk, drop, map, take};
+ghost use Rattle.machine.specs.Machine.{opening};
+ghost use Rattle.machine.specs.Settings.{image_of};
+ghost use Rattle.plan_family.specs.Families.{family_plan};
+ghost use Rattle.hunter.specs.Hunts.{IsHunt, ended_of, family_of, seen_of};
+
+use crate::settings::HuntSettings;
+use hart_step::{Hart, Stop};
+use host_io::RunError;
+use hunt_table::SeenRange;
+use machine::{Machine, load};
+use pages::OutOfMemory;
+use plan_family::Family;
+use plan_hunt::{Ending, Runs};
+use std::alloc::Global;
+use std::sync::Wait;
+use std::thread::Threads;
+
+/// A guest program that is run under the plans of a family.
+#[derive(Drop)]
+pub(crate) struct Guest<'a> {
+    pub alloc: Global,
+    pub settings: &'a HuntSettings,
+    pub file: &'a [u8],
+    pub input: &'a [u8],
+    ghost range: { IsHunt settings.now },
+}
+
+impl Runs for Guest<'_> {
+    ghost use Rattle.hunter.specs.Hunts.{ends_after};
+
+    ghost ends = { λ g. ends_after g.settings.now g.file.now g.input.now };
+
+    fn run<R: Threads + Wait + Sync>(&self, rt: &R, number: u32) -> Result<Ending, OutOfMemory> {
+        let mut machine = self.opening(number)?;
+        refused(machine.run(rt, self.settings.rounds, 1))?;
+        ending_of(self.alloc, &machine, &self.settings.header.ranges)
+    }
+}
+
+impl Guest<'_> {
+    /// The machine before the first round under a plan.
+    fn opening(&self, number: u32) -> Result<Machine, OutOfMemory>
+        ensures { IfOk result (λ m. m ≡ opening (image_of self.now.settings.now.format self.now.file.now self.now.settings.now.pages) self.now.input.now (family_plan (family_of self.now.settings.now) number)) }
+    {
+        let settings = self.settings;
+        let family = Family {
+            seed: settings.header.seed,
+            harts: settings.harts,
+        };
+        let plan = family.plan(self.alloc, number)?;
+        let image = refused(load(self.alloc, settings.format, self.file, settings.pages))?;
+        let Ok(input) = Vec::from_slice(self.alloc, self.input) else {
+            return Err(OutOfMemory);
+        };
+        refused(Machine::new(self.alloc, image, input, plan))
+    }
+}
+
+/// The result of what is refused for want of memory alone.
+fn refused<T>(answer: Result<T, RunError>) -> Result<T, OutOfMemory>
+    ensures { IfOk result (λ v. answer ≡ Ok v) }
+{
+    match answer {
+        Ok(value) => Ok(value),
+        Err(_) => Err(OutOfMemory),
+    }
+}
+
+fn stops_of(alloc: Global, harts: &[Hart]) -> Result<Vec<Option<Stop>>, OutOfMemory>
+    ensures { IfOk result (λ v. v.items ≡ map (λ h. h.stop) harts.now) }
+{
+    match harts.iter().map(|hart| hart.stop).collect(alloc) {
+        Ok(stops) => Ok(stops),
+        Err(_) => Err(OutOfMemory),
+    }
+}
+
+/// Adds the bytes of a range.
+#[tactic(auto, using(crate::proofs::Seen::next_byte, crate::proofs::Seen::no_more_bytes))]
+fn look(machine: &Machine, range: SeenRange, seen: &mut Vec<u8>) -> Result<(), OutOfMemory>
+    ensures { OnOk result (seen.new.items ≡ seen.old.items ++ take range.length (drop range.address machine.now.state.bytes)) }
+{
+    for offset in 0..range.length {
+        let Some(byte) = machine.byte(u64::from(range.address) + u64::from(offset)) else {
+            return Ok(());
+        };
+        if seen.push(byte).is_err() {
+            return Err(OutOfMemory);
+        }
+    }
+    Ok(())
+}
+
+fn seen_of(alloc: Global, machine: &Machine, ranges: &[SeenRange]) -> Result<Vec<u8>, OutOfMemory>
+    ensures { IfOk result (λ v. v.items ≡ seen_of ranges.now machine.now.state.bytes) }
+{
+    let mut seen = Vec::new(alloc);
+    for range in ranges {
+        look(machine, *range, &mut seen)?;
+    }
+    Ok(seen)
+}
+
+/// The ending of a run.
+#[tactic(auto, unfolding(crate::specs::Hunts::ended_of))]
+fn ending_of(alloc: Global, machine: &Machine, ranges: &[SeenRange]) -> Result<Ending, OutOfMemory>
+    ensures { IfOk result (λ e. e ≡ ended_of ranges.now machine.now) }
+{
+    let stops = stops_of(alloc, machine.harts())?;
+    let Ok(output) = Vec::from_slice(alloc, machine.output()) else {
+        return Err(OutOfMemory);
+    };
+    let seen = seen_of(alloc, machine, ranges)?;
+    Ok(Ending::new(stops, output, seen))
+}

@@ -1,0 +1,121 @@
+ghost use Rattle.std.specs.Prelude.{◌≡◌, ◌⊎◌, ◌<◌, ◌++◌, Err, IfErr, IfOk, None, OnErr, OnOk, Some, List};
+ghost use Rattle.std.specs.List.{list_all};
+ghost use Rattle.elf_loader.specs.declared.load_error.LoadError.{LoadError as ImageCause};
+ghost use Rattle.host_io.specs.Taken.{BeganText};
+ghost use Rattle.host_io.specs.declared.error.RunError.TheVariants as refusals;
+ghost use Rattle.hunt_table.specs.Text.{table_text};
+ghost use Rattle.plan_hunt.specs.declared.row.Row.{Row as TableRow};
+ghost use Rattle.hunter.specs.Hunts.{IsHuntReason, IsHunted, IsImageCause, hunt_fault, is_one_exit, has_exited};
+ghost use Rattle.hunter.specs.declared.error.HuntError.{HuntError as Refusal};
+ghost use Rattle.hunter.specs.declared.error.HuntError.TheVariants.{Run};
+
+use crate::error::HuntError;
+use crate::guest::Guest;
+use crate::settings::{HuntSettings, check_hunt};
+use hart_step::Stop;
+use host_io::Sink;
+use hunt_table::write_table;
+use machine::load;
+use plan_hunt::{Row, tabulate};
+use std::alloc::Global;
+use std::sync::Wait;
+use std::thread::Threads;
+
+/// The table of the endings that a guest's runs under the plans come to.
+///
+/// # Errors
+///
+/// The refusals of the settings, then of the image; `OutOfMemory`. No plan of a family is refused.
+pub fn tabulate_hunt<R: Threads + Wait + Sync>(
+    rt: &R,
+    alloc: Global,
+    image: &[u8],
+    input: &[u8],
+    settings: &HuntSettings,
+) -> Result<Vec<Row>, HuntError>
+    ensures table { IfOk result (λ rows. IsHunted settings.now image.now input.now rows.items) }
+    ensures settings { (e : Refusal) → hunt_fault settings.now ≡ Some e → result ≡ Err e }
+    ensures errors { hunt_fault settings.now ≡ None → IfErr result (λ e. IsHuntReason settings.now image.now e) }
+    ensures image { (cause : ImageCause) → hunt_fault settings.now ≡ None → IsImageCause settings.now image.now cause → (result ≡ Err (Run (refusals.Image cause))) ⊎ (result ≡ Err (Run refusals.OutOfMemory)) }
+{
+    check_hunt(settings)?;
+    // The cause for which an image is refused is told before any run.
+    load(alloc, settings.format, image, settings.pages)?;
+    let guest = Guest {
+        alloc,
+        settings,
+        file: image,
+        input,
+    };
+    Ok(tabulate(
+        rt,
+        alloc,
+        &guest,
+        settings.header.first,
+        settings.header.count,
+        settings.workers,
+    )?)
+}
+
+fn has_exited(stop: Option<Stop>) -> bool
+    ensures { result ≡ has_exited stop }
+{
+    match stop {
+        None => false,
+        Some(stop) => stop.code == 1,
+    }
+}
+
+fn have_exited(stops: &[Option<Stop>]) -> bool
+    ensures { result ≡ list_all has_exited stops.now }
+{
+    stops.iter().all(|stop| has_exited(*stop))
+}
+
+fn have_all_exited(rows: &[Row]) -> bool
+    ensures { result ≡ list_all (λ r. list_all has_exited r.ending.stops) rows.now }
+{
+    for row in rows {
+        if !have_exited(row.ending.stops()) {
+            return false;
+        }
+    }
+    true
+}
+
+fn is_one_exit(rows: &[Row]) -> bool
+    ensures { result ≡ is_one_exit rows.now }
+{
+    rows.len() == 1 && have_all_exited(rows)
+}
+
+/// Runs a guest under the plans of a hunt, and writes the table of the endings that they lead to. It answers whether there
+/// is one ending, in which all harts exited.
+///
+/// # Errors
+///
+/// The refusals of the settings, then of the image; `OutOfMemory`; `SinkFailed`. Nothing is written before all runs are done.
+pub fn hunt<S: Sink, R: Threads + Wait + Sync>(
+    rt: &R,
+    alloc: Global,
+    image: &[u8],
+    input: &[u8],
+    settings: &HuntSettings,
+    out: &mut S,
+) -> Result<bool, HuntError>
+    // The sink took the table of the runs that the definitions name, and the answer is that of the table.
+    ensures hunts { IfOk result (λ exits. (rows : List TableRow) × IsHunted settings.now image.now input.now rows × (S.took out.new ≡ S.took out.old ++ table_text settings.now.header rows) × (exits ≡ is_one_exit rows)) }
+    // Else it took nothing, or a beginning of that table.
+    ensures begun { OnErr result ((S.took out.new ≡ S.took out.old) ⊎ ((rows : List TableRow) × IsHunted settings.now image.now input.now rows × BeganText (S.took out.old) (S.took out.new) (table_text settings.now.header rows))) }
+    // Where anything else than the sink refuses, it took nothing.
+    ensures untouched { IfErr result (λ e. (e ≡ Run refusals.SinkFailed) ⊎ (S.took out.new ≡ S.took out.old)) }
+    // Settings out of range are refused first, and then an image.
+    ensures settings { (e : Refusal) → hunt_fault settings.now ≡ Some e → result ≡ Err e }
+    // What is refused then is for a reason that stands.
+    ensures errors { hunt_fault settings.now ≡ None → IfErr result (λ e. IsHuntReason settings.now image.now e ⊎ ((e ≡ Run refusals.SinkFailed) × (S.failures out.old < S.failures out.new))) }
+    ensures image { (cause : ImageCause) → hunt_fault settings.now ≡ None → IsImageCause settings.now image.now cause → (result ≡ Err (Run (refusals.Image cause))) ⊎ (result ≡ Err (Run refusals.OutOfMemory)) }
+{
+    let rows = tabulate_hunt(rt, alloc, image, input, settings)?;
+    write_table(alloc, &settings.header, &rows, out)?;
+    Ok(is_one_exit(&rows))
+}

@@ -1,0 +1,14 @@
+//! The hunter: a guest is run under the plans of a family, and the endings that they lead to are told as a table.
+#![tactic(auto)]
+
+mod error;
+mod guest;
+mod hunting;
+mod settings;
+
+pub use error::HuntError;
+pub use hunting::{hunt, tabulate_hunt};
+pub use settings::HuntSettings;
+
+#[cfg(test)]
+mod tests;
