@@ -6,3 +6,4 @@ pub mod Settings
 pub mod OrderedRun
 pub mod Asked
 pub mod Untraced
+pub mod Showing

@@ -1,0 +1,105 @@
+ghost use Rattle.std.specs.Prelude.{◌≡◌, ◌⊎◌, ◌<◌, ◌++◌, Some, None, Err, IfErr, IfOk, OnOk, OnErr};
+ghost use Rattle.elf_loader.specs.declared.load_error.LoadError.{LoadError as ImageCause};
+ghost use Rattle.round_planner.specs.Quotas.{Planned};
+ghost use Rattle.round_planner.specs.declared.plan_error.PlanError.{PlanError as PlanCause};
+ghost use Rattle.host_io.specs.Taken.{BeganText};
+ghost use Rattle.host_io.specs.declared.error.RunError.{RunError as Refusal};
+ghost use Rattle.host_io.specs.declared.error.RunError.TheVariants as refusals;
+ghost use Rattle.machine.specs.Machine.{Running};
+ghost use Rattle.machine.specs.Settings.{IsImage, IsImageCause, IsPlan, IsPlanCause, IsReason, RefusedAs, after_run, settings_fault};
+ghost use Rattle.machine.specs.Showing.{all_end_well, ends_well, shown_text};
+ghost use Rattle.machine.specs.Untraced.{IsUntraced};
+
+use crate::preparing_untraced::prepare_untraced;
+use crate::settings::Settings;
+use crate::untraced::UntracedMachine;
+use hart_step::{Hart, Stop};
+use host_io::{RunError, Sink, put_all};
+use report::{write_summary, write_untraced};
+use std::alloc::Global;
+use std::sync::Wait;
+use std::thread::Threads;
+
+/// What is shown of a run that keeps no trace.
+#[derive(Clone, Copy, Debug, PartialEq, Eq)]
+pub enum Shown {
+    /// The report without its events.
+    State,
+    /// The report's lines of the rounds and the harts, and how many bytes the guest put out.
+    Harts,
+    /// The bytes that the guest put out, as they are.
+    Output,
+}
+
+/// Runs a guest program for a number of rounds without a trace, and writes what is shown of the state after them. It answers
+/// whether each hart exited with 0.
+///
+/// # Errors
+///
+/// The refusals of the settings, then of the image, then of the plan; `OutOfMemory`; `SinkFailed`. Nothing is written
+/// before all rounds are done.
+pub fn show_run<S: Sink, R: Threads + Wait + Sync>(
+    rt: &R,
+    alloc: Global,
+    image: &[u8],
+    input: &[u8],
+    settings: &Settings<'_>,
+    shown: Shown,
+    out: &mut S,
+) -> Result<bool, RunError>
+    // The sink took what is shown of the run that the definitions name, and the answer is that of its harts.
+    ensures shows { IfOk result (λ well. (plan : Planned) × IsPlan settings.now plan × (S.took out.new ≡ S.took out.old ++ shown_text shown (after_run settings.now image.now input.now plan).state) × (well ≡ all_end_well (after_run settings.now image.now input.now plan).state.harts)) }
+    // Else it took nothing, or a beginning of that text.
+    ensures begun { OnErr result ((S.took out.new ≡ S.took out.old) ⊎ ((plan : Planned) × IsPlan settings.now plan × BeganText (S.took out.old) (S.took out.new) (shown_text shown (after_run settings.now image.now input.now plan).state))) }
+    // Where anything else than memory or the sink refuses, it took nothing.
+    ensures untouched { IfErr result (λ e. (e ≡ refusals.OutOfMemory) ⊎ (e ≡ refusals.SinkFailed) ⊎ (S.took out.new ≡ S.took out.old)) }
+    // Numbers out of range are refused first, and then an image.
+    ensures settings { (e : Refusal) → settings_fault settings.now ≡ Some e → result ≡ Err e }
+    // What is refused then is for a reason that stands.
+    ensures errors { settings_fault settings.now ≡ None → IfErr result (λ e. IsReason settings.now image.now e ⊎ ((e ≡ refusals.SinkFailed) × (S.failures out.old < S.failures out.new))) }
+    ensures image { (cause : ImageCause) → settings_fault settings.now ≡ None → IsImageCause settings.now image.now cause → RefusedAs (refusals.Image cause) result }
+    // A plan is refused where the image is good.
+    ensures plan { (cause : PlanCause) → settings_fault settings.now ≡ None → IsImage settings.now image.now → IsPlanCause settings.now cause → RefusedAs (refusals.Plan cause) result }
+{
+    let mut machine = prepare_untraced(alloc, image, input, settings)?;
+    machine.run(rt, settings.rounds, settings.workers)?;
+    write_shown(alloc, &machine, shown, out)?;
+    Ok(all_end_well(machine.harts()))
+}
+
+/// Writes what is shown of a machine.
+fn write_shown<S: Sink>(
+    alloc: Global,
+    machine: &UntracedMachine,
+    shown: Shown,
+    out: &mut S,
+) -> Result<(), RunError>
+    ensures ok { (m : Running) → IsUntraced m machine.now → OnOk result (S.took out.new ≡ S.took out.old ++ shown_text shown m.state) }
+    ensures begun { (m : Running) → IsUntraced m machine.now → OnErr result (BeganText (S.took out.old) (S.took out.new) (shown_text shown m.state)) }
+    ensures sink { result ≡ Err RunError.SinkFailed → S.failures out.old < S.failures out.new }
+    ensures errors { IfErr result (λ e. (e ≡ RunError.OutOfMemory) ⊎ (e ≡ RunError.SinkFailed)) }
+{
+    let (rounds, harts, output) = (machine.rounds(), machine.harts(), machine.output());
+    match shown {
+        Shown::State => write_untraced(alloc, rounds, harts, machine.pages(), output, out),
+        Shown::Harts => write_summary(alloc, rounds, harts, output, out),
+        Shown::Output => put_all(out, output),
+    }
+}
+
+/// Whether each of the harts exited with 0.
+fn all_end_well(harts: &[Hart]) -> bool
+    ensures { result ≡ all_end_well harts.now }
+{
+    harts.iter().all(|hart| ends_well(hart.stop))
+}
+
+/// Whether a hart with this stop exited with 0.
+fn ends_well(stop: Option<Stop>) -> bool
+    ensures { result ≡ ends_well stop }
+{
+    match stop {
+        Some(stop) => stop.code == 1 && stop.value == 0,
+        None => false,
+    }
+}
