@@ -37,6 +37,6 @@ pub use preparing::{load, prepare};
 pub use preparing_untraced::prepare_untraced;
 pub use running::RoundNote;
 pub use settings::{Format, Settings};
-pub use showing::{Shown, show_run};
+pub use showing::{Shown, report_run, show_run};
 pub use tracing::trace_run;
 pub use untraced::UntracedMachine;

@@ -6,10 +6,11 @@ ghost use Rattle.host_io.specs.Taken.{BeganText};
 ghost use Rattle.host_io.specs.declared.error.RunError.{RunError as Refusal};
 ghost use Rattle.host_io.specs.declared.error.RunError.TheVariants as refusals;
 ghost use Rattle.machine.specs.Machine.{Running};
-ghost use Rattle.machine.specs.Settings.{IsImage, IsImageCause, IsPlan, IsPlanCause, IsReason, RefusedAs, after_run, settings_fault};
+ghost use Rattle.machine.specs.Settings.{IsImage, IsImageCause, IsPlan, IsPlanCause, IsReason, RefusedAs, after_run, report_after, settings_fault};
 ghost use Rattle.machine.specs.Showing.{all_end_well, ends_well, shown_text};
 ghost use Rattle.machine.specs.Untraced.{IsUntraced};
 
+use crate::preparing::prepare;
 use crate::preparing_untraced::prepare_untraced;
 use crate::settings::Settings;
 use crate::untraced::UntracedMachine;
@@ -64,6 +65,40 @@ pub fn show_run<S: Sink, R: Threads + Wait + Sync>(
     let mut machine = prepare_untraced(alloc, image, input, settings)?;
     machine.run(rt, settings.rounds, settings.workers)?;
     write_shown(alloc, &machine, shown, out)?;
+    Ok(all_end_well(machine.harts()))
+}
+
+/// Runs a guest program for a number of rounds, and writes the report of the state after them. It answers whether each hart
+/// exited with 0.
+///
+/// # Errors
+///
+/// As `show_run`.
+pub fn report_run<S: Sink, R: Threads + Wait + Sync>(
+    rt: &R,
+    alloc: Global,
+    image: &[u8],
+    input: &[u8],
+    settings: &Settings<'_>,
+    out: &mut S,
+) -> Result<bool, RunError>
+    // The sink took the report of the run that the definitions name, and the answer is that of its harts.
+    ensures reports { IfOk result (λ well. (plan : Planned) × IsPlan settings.now plan × (S.took out.new ≡ S.took out.old ++ report_after settings.now image.now input.now plan) × (well ≡ all_end_well (after_run settings.now image.now input.now plan).state.harts)) }
+    // Else it took nothing, or a beginning of that report.
+    ensures begun { OnErr result ((S.took out.new ≡ S.took out.old) ⊎ ((plan : Planned) × IsPlan settings.now plan × BeganText (S.took out.old) (S.took out.new) (report_after settings.now image.now input.now plan))) }
+    // Where anything else than memory or the sink refuses, it took nothing.
+    ensures untouched { IfErr result (λ e. (e ≡ refusals.OutOfMemory) ⊎ (e ≡ refusals.SinkFailed) ⊎ (S.took out.new ≡ S.took out.old)) }
+    // Numbers out of range are refused first, and then an image.
+    ensures settings { (e : Refusal) → settings_fault settings.now ≡ Some e → result ≡ Err e }
+    // What is refused then is for a reason that stands.
+    ensures errors { settings_fault settings.now ≡ None → IfErr result (λ e. IsReason settings.now image.now e ⊎ ((e ≡ refusals.SinkFailed) × (S.failures out.old < S.failures out.new))) }
+    ensures image { (cause : ImageCause) → settings_fault settings.now ≡ None → IsImageCause settings.now image.now cause → RefusedAs (refusals.Image cause) result }
+    // A plan is refused where the image is good.
+    ensures plan { (cause : PlanCause) → settings_fault settings.now ≡ None → IsImage settings.now image.now → IsPlanCause settings.now cause → RefusedAs (refusals.Plan cause) result }
+{
+    let mut machine = prepare(alloc, image, input, settings)?;
+    machine.run(rt, settings.rounds, settings.workers)?;
+    machine.report(alloc, out)?;
     Ok(all_end_well(machine.harts()))
 }
 
