@@ -1,11 +1,20 @@
 -- The exit status.
 use Rattle.std.specs.Prelude.{ℕ}
 use Rattle.dethart.specs.declared.failure.Failure.{Failure}
-use Rattle.dethart.specs.declared.failure.Failure.TheVariants.{Line, NotText, Refused, Unread}
+use Rattle.dethart.specs.declared.failure.Failure.TheVariants.{Hunt, Line, NotText, Refused, Unread}
+use Rattle.dethart.specs.declared.printing.Answer.{Answer}
+use Rattle.dethart.specs.declared.printing.Answer.TheVariants.{Done, Differs, Doubtful}
 
 -- 1 for a refusal, and 2 for a bad command line
 abbrev pub status_of : Failure → ℕ
 status_of (Refused error) = 1
 status_of (Unread error) = 1
+status_of (Hunt error) = 1
 status_of (Line error) = 2
 status_of NotText = 2
+
+-- 3 where a run is another than the recorded one, and 4 where a hart did not end well, or a guest has several endings
+abbrev pub answer_status : Answer → ℕ
+answer_status Done = 0
+answer_status Differs = 3
+answer_status Doubtful = 4

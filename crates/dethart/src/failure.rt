@@ -4,6 +4,7 @@ ghost use Rattle.host_io.specs.declared.error.RunError.TheVariants as refusals;
 ghost use Rattle.dethart.specs.declared.failure.Failure.TheVariants as failures;
 
 use host_io::RunError;
+use hunter::HuntError;
 use replayer::ReadError;
 use std::alloc::AllocError;
 use std::io;
@@ -19,6 +20,8 @@ pub(crate) enum Failure {
     Refused(RunError),
     /// The file is no recording.
     Unread(ReadError),
+    /// The hunt was refused.
+    Hunt(HuntError),
 }
 
 impl From<RunError> for Failure {
@@ -37,6 +40,14 @@ impl From<ReadError> for Failure {
     }
 }
 
+impl From<HuntError> for Failure {
+    ghost from_gives = { λ error failure. failure ≡ failures.Hunt error };
+
+    fn from(error: HuntError) -> Failure {
+        Failure::Hunt(error)
+    }
+}
+
 impl From<AllocError> for Failure {
     ghost from_gives = { λ _ failure. failure ≡ failures.Refused refusals.OutOfMemory };
 
@@ -51,7 +62,7 @@ impl Failure {
         ensures { result ≡ status_of self.now }
     {
         match self {
-            Failure::Refused(_) | Failure::Unread(_) => 1,
+            Failure::Refused(_) | Failure::Unread(_) | Failure::Hunt(_) => 1,
             Failure::Line(_) | Failure::NotText => 2,
         }
     }
@@ -66,6 +77,10 @@ impl Failure {
                 eprintln!(rt; "error {number}")
             }
             Failure::Unread(error) => {
+                let number = error.number();
+                eprintln!(rt; "error {number}")
+            }
+            Failure::Hunt(error) => {
                 let number = error.number();
                 eprintln!(rt; "error {number}")
             }

@@ -27,15 +27,16 @@ pub(crate) fn texts_of<'a>(
     strings.iter().map(|string| string.as_str()).collect(alloc)
 }
 
-/// Answers a line that `clap` doesn't take: prints the help that was asked for, and else says what fails.
+/// Answers a line that `clap` doesn't take: prints the help or the version that was asked for, and else says what fails.
 pub(crate) fn answer_line(rt: &HostRuntime, error: clap::Error) -> Result<(), Failure>
     ensures memory { kind_of error ≡ ErrorKind.OutOfMemory → result ≡ Err (failures.Refused RunError.OutOfMemory) }
     ensures help { kind_of error ≡ ErrorKind.DisplayHelp → IfErr result (λ failure. failure ≡ failures.Refused RunError.SinkFailed) }
-    ensures bad { kind_of error ≢ ErrorKind.OutOfMemory → kind_of error ≢ ErrorKind.DisplayHelp → result ≡ Err (failures.Line error) }
+    ensures version { kind_of error ≡ ErrorKind.DisplayVersion → IfErr result (λ failure. failure ≡ failures.Refused RunError.SinkFailed) }
+    ensures bad { kind_of error ≢ ErrorKind.OutOfMemory → kind_of error ≢ ErrorKind.DisplayHelp → kind_of error ≢ ErrorKind.DisplayVersion → result ≡ Err (failures.Line error) }
 {
     match error.kind() {
         ErrorKind::OutOfMemory => Err(Failure::Refused(RunError::OutOfMemory)),
-        ErrorKind::DisplayHelp => match error.print(rt) {
+        ErrorKind::DisplayHelp | ErrorKind::DisplayVersion => match error.print(rt) {
             Ok(()) => Ok(()),
             Err(_) => Err(Failure::Refused(RunError::SinkFailed)),
         },

@@ -1,10 +1,14 @@
 //! Runs a guest program as the command line says, and prints the report or the order of its memory operations; records runs,
-//! replays recordings, and asks them about the past.
+//! replays recordings, and asks them about the past; hunts for a guest's endings, and draws runs.
 #![tactic(auto)]
 
+mod drawing;
 mod failure;
 mod files;
+mod hunting;
 mod line;
+mod plans;
+mod printing;
 mod recordings;
 mod run;
 mod saving;
@@ -14,18 +18,18 @@ mod tests;
 use command_line::{Command, parse_line};
 use failure::Failure;
 use line::{answer_line, arguments, texts_of};
-use recordings::{Replayed, make_recording, migrate_file, print_replay, print_watch};
-use run::{Asked, print_run};
+use printing::{
+    Answer, print_drawing, print_hunt, print_order, print_plan, print_replay, print_run,
+    print_watch,
+};
+use recordings::{make_recording, migrate_file};
 use std::process::ExitCode;
 use std::sync::Wait;
 use std::thread::Threads;
 
-/// The exit status where the run is another than the recorded one.
-const DIFFERS: u8 = 3;
-
 fn main(rt: HostRuntime) -> ExitCode {
     match start(&rt, &rt) {
-        Ok(code) => code,
+        Ok(answer) => ExitCode::from(answer.status()),
         Err(failure) => {
             // There is nobody left to tell where standard error takes nothing.
             let _unwritten = failure.print(&rt);
@@ -35,20 +39,39 @@ fn main(rt: HostRuntime) -> ExitCode {
 }
 
 /// Does what the command line says, on the threads that `threads` starts.
-fn start<R: Threads + Wait + Sync>(rt: &HostRuntime, threads: &R) -> Result<ExitCode, Failure> {
+fn start<R: Threads + Wait + Sync>(rt: &HostRuntime, threads: &R) -> Result<Answer, Failure> {
     let arguments = arguments(rt)?;
     let words = texts_of(rt.alloc(), arguments.as_slice())?;
     match parse_line(rt.alloc(), words.as_slice()) {
-        Ok(Command::Run(run)) => print_run(rt, threads, &run, Asked::Report)?,
-        Ok(Command::Order(run)) => print_run(rt, threads, &run, Asked::Order)?,
-        Ok(Command::Record(asked)) => make_recording(rt, threads, &asked)?,
-        Ok(Command::Replay(asked)) => match print_replay(rt, threads, &asked)? {
-            Replayed::Done => {}
-            Replayed::Differs => return Ok(ExitCode::from(DIFFERS)),
-        },
-        Ok(Command::Watch(asked)) => print_watch(rt, threads, &asked)?,
-        Ok(Command::Migrate(asked)) => migrate_file(rt, &asked)?,
-        Err(error) => answer_line(rt, error)?,
+        Ok(command) => obey(rt, threads, &command),
+        Err(error) => {
+            answer_line(rt, error)?;
+            Ok(Answer::Done)
+        }
     }
-    Ok(ExitCode::SUCCESS)
+}
+
+/// Does what a command says.
+fn obey<R: Threads + Wait + Sync>(
+    rt: &HostRuntime,
+    threads: &R,
+    command: &Command<'_>,
+) -> Result<Answer, Failure> {
+    match command {
+        Command::Run(asked) => print_run(rt, threads, asked),
+        Command::Order(run) => print_order(rt, threads, run),
+        Command::Record(asked) => {
+            make_recording(rt, threads, asked)?;
+            Ok(Answer::Done)
+        }
+        Command::Replay(asked) => print_replay(rt, threads, asked),
+        Command::Watch(asked) => print_watch(rt, threads, asked),
+        Command::Migrate(asked) => {
+            migrate_file(rt, asked)?;
+            Ok(Answer::Done)
+        }
+        Command::Hunt(asked) => print_hunt(rt, threads, asked),
+        Command::Plan(asked) => print_plan(rt, asked),
+        Command::Draw(asked) => print_drawing(rt, threads, asked),
+    }
 }

@@ -10,7 +10,7 @@ use pages::Range;
 use replayer::{Recording, Verdict, migrate, read_recording, record_with, replay, state_at, watch};
 use report::{write_event, write_hart};
 use std::alloc::Global;
-use std::io::{self, BufWriter, Write};
+use std::io::Write;
 use std::sync::Wait;
 use std::thread::Threads;
 
@@ -21,13 +21,12 @@ pub(crate) fn make_recording<R: Threads + Wait + Sync>(
     asked: &Record<'_>,
 ) -> Result<(), RunError> {
     let files = read_run(rt, &asked.run)?;
-    let settings = settings_of(&asked.run, files.plan.as_slice());
     let recording = record_with(
         threads,
         rt.alloc(),
-        &files.image,
-        &files.input,
-        &settings,
+        &files.program.image,
+        &files.program.input,
+        &settings_of(&asked.run.program, &files.plan),
         asked.every,
     )?;
     save(rt, &recording, asked.out)
@@ -43,33 +42,6 @@ pub(crate) fn migrate_file(rt: &HostRuntime, asked: &Migrate<'_>) -> Result<(), 
 fn recording_in(rt: &HostRuntime, path: &str) -> Result<Recording, Failure> {
     let text = read_file(rt, path)?;
     Ok(read_recording(rt.alloc(), &text)?)
-}
-
-/// Answers a replay on standard output.
-pub(crate) fn print_replay<R: Threads + Wait + Sync>(
-    rt: &HostRuntime,
-    threads: &R,
-    asked: &Replay<'_>,
-) -> Result<Replayed, Failure> {
-    let Ok(mut out) = BufWriter::new(rt.alloc(), io::writer(rt)) else {
-        return Err(Failure::Refused(RunError::OutOfMemory));
-    };
-    let replayed = write_replay(rt, threads, asked, &mut out)?;
-    flush(&mut out)?;
-    Ok(replayed)
-}
-
-/// Runs the recording of a file anew, and prints which accesses hit the range.
-pub(crate) fn print_watch<R: Threads + Wait + Sync>(
-    rt: &HostRuntime,
-    threads: &R,
-    asked: &Watch<'_>,
-) -> Result<(), Failure> {
-    let Ok(mut out) = BufWriter::new(rt.alloc(), io::writer(rt)) else {
-        return Err(Failure::Refused(RunError::OutOfMemory));
-    };
-    write_watch(rt, threads, asked, &mut out)?;
-    Ok(flush(&mut out)?)
 }
 
 /// What came of a replay.
@@ -170,12 +142,4 @@ pub(crate) fn write_watch<R: Threads + Wait + Sync, W: Write>(
         write_event(rt.alloc(), hit, &mut sink)?;
     }
     Ok(())
-}
-
-/// Hands all that was written on.
-fn flush<W: Write>(out: &mut W) -> Result<(), RunError> {
-    match out.flush() {
-        Ok(()) => Ok(()),
-        Err(_) => Err(RunError::SinkFailed),
-    }
 }

@@ -1,11 +1,13 @@
+mod hunts;
 mod programs;
 mod recorded;
 
 use crate::failure::Failure;
 use crate::files::read_file;
 use crate::line::answer_line;
-use crate::run::{row_of, settings_of};
-use command_line::{Run, parse_line};
+use crate::plans::{AskedPlan, row_of};
+use crate::run::settings_of;
+use command_line::{Program, parse_line};
 use host_io::RunError;
 use machine::Format;
 use std::test::Fail;
@@ -68,21 +70,22 @@ fn want_of_memory_is_no_bad_line(rt: HostRuntime) {
 }
 
 #[test]
-fn settings_are_those_of_the_line(rt: HostRuntime) {
+fn settings_are_those_of_the_line(rt: HostRuntime) -> Result<(), Fail> {
+    let plan = AskedPlan {
+        text: row_of(rt.alloc(), "5")?,
+        budget: 50,
+    };
     for (flat, format) in [(true, Format::Flat), (false, Format::Elf)] {
-        let run = Run {
+        let program = Program {
             image: "guest.bin",
             flat,
             harts: 3,
             pages: 7,
-            quota: "9 8 7",
-            plan: None,
             rounds: 0,
             workers: 2,
-            budget: 50,
             input: None,
         };
-        let settings = settings_of(&run, b"5\n");
+        let settings = settings_of(&program, &plan);
         assert_eq!(rt; settings.format, format);
         assert_eq!(rt; (settings.harts, settings.pages), (3, 7));
         assert_eq!(rt;
@@ -91,6 +94,7 @@ fn settings_are_those_of_the_line(rt: HostRuntime) {
         );
         assert_eq!(rt; settings.plan, b"5\n".as_slice());
     }
+    Ok(())
 }
 
 #[test]

@@ -1,6 +1,6 @@
 //! Guest programs from files, as the command line names them.
 
-use crate::run::{Asked, write_run};
+use crate::run::{write_order_of, write_run};
 use command_line::{Command, parse_line};
 use std::fs;
 use std::sync::Wait;
@@ -23,8 +23,11 @@ fn answer<R: Threads + Wait + Sync>(
 ) -> (u32, Vec<u8>) {
     let mut text = Vec::new(rt.alloc());
     let answer = match parse_line(rt.alloc(), words) {
-        Ok(Command::Run(run)) => write_run(rt, threads, &run, Asked::Report, &mut text),
-        Ok(Command::Order(run)) => write_run(rt, threads, &run, Asked::Order, &mut text),
+        Ok(Command::Run(asked)) => match write_run(rt, threads, &asked, &mut text) {
+            Ok(_) => Ok(()),
+            Err(error) => Err(error),
+        },
+        Ok(Command::Order(run)) => write_order_of(rt, threads, &run, &mut text),
         _ => return (2, text),
     };
     match answer {
@@ -101,4 +104,27 @@ fn refusals_of_lines(rt: HostRuntime) {
         let (refusal, text) = answer(&rt, &rt, &words);
         assert!(rt; refusal == number && text.is_empty());
     }
+}
+
+#[test]
+fn the_output_alone_is_shown(rt: HostRuntime) -> Result<(), Fail> {
+    fs::write(&rt, "shown.bin", ECHO)?;
+    fs::write(&rt, "shown.txt", b"A")?;
+    let words = [
+        "dethart",
+        "run",
+        "shown.bin",
+        "--flat",
+        "--harts=2",
+        "--pages=1",
+        "--rounds=2",
+        "--quota=4",
+        "--input=shown.txt",
+        "--show=output",
+    ];
+    let (number, text) = answer(&rt, &rt, &words);
+    assert!(rt; number == 0 && text.as_slice() == b"A\xff".as_slice());
+    fs::remove_file(&rt, "shown.bin")?;
+    fs::remove_file(&rt, "shown.txt")?;
+    Ok(())
 }

@@ -22,6 +22,7 @@ fn number_of(failure: &Failure) -> u32 {
     match failure {
         Failure::Refused(error) => error.number(),
         Failure::Unread(error) => error.number(),
+        Failure::Hunt(error) => error.number(),
         Failure::Line(_) | Failure::NotText => 2,
     }
 }

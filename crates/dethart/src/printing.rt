@@ -1,0 +1,148 @@
+//! What the commands print to standard output, and the exit status that goes with it.
+ghost use Rattle.std.specs.Prelude.{◌≡◌};
+ghost use Rattle.dethart.specs.Status.{answer_status};
+
+use crate::drawing::write_drawing;
+use crate::failure::Failure;
+use crate::hunting::write_hunt;
+use crate::plans::write_plan;
+use crate::recordings::{Replayed, write_replay, write_watch};
+use crate::run::{write_order_of, write_run};
+use command_line::{Draw, Hunt, Plan, Print, Replay, Run, Watch};
+use host_io::RunError;
+use std::io::{self, BufWriter, Printer, Write};
+use std::sync::Wait;
+use std::thread::Threads;
+
+/// What was found, beside what was printed.
+#[derive(Clone, Copy, Debug, PartialEq, Eq)]
+pub(crate) enum Answer {
+    /// What was asked for is done.
+    Done,
+    /// A replayed run is another than the recorded one.
+    Differs,
+    /// A hart did not end well, or a guest has several endings.
+    Doubtful,
+}
+
+impl Answer {
+    /// The exit status of the program.
+    pub(crate) fn status(self) -> u8
+        ensures { result ≡ answer_status self }
+    {
+        match self {
+            Answer::Done => 0,
+            Answer::Differs => 3,
+            Answer::Doubtful => 4,
+        }
+    }
+}
+
+/// Standard output, with a buffer.
+fn output(rt: &HostRuntime) -> Result<BufWriter<Printer<'_, HostRuntime>>, RunError> {
+    match BufWriter::new(rt.alloc(), io::writer(rt)) {
+        Ok(out) => Ok(out),
+        Err(_) => Err(RunError::OutOfMemory),
+    }
+}
+
+/// Hands all that was written on.
+fn flush<W: Write>(out: &mut W) -> Result<(), RunError> {
+    match out.flush() {
+        Ok(()) => Ok(()),
+        Err(_) => Err(RunError::SinkFailed),
+    }
+}
+
+/// Runs the guest program, and prints what is asked for of the run.
+pub(crate) fn print_run<R: Threads + Wait + Sync>(
+    rt: &HostRuntime,
+    threads: &R,
+    asked: &Print<'_>,
+) -> Result<Answer, Failure> {
+    let mut out = output(rt)?;
+    let ends_well = write_run(rt, threads, asked, &mut out)?;
+    flush(&mut out)?;
+    Ok(if asked.strict && !ends_well {
+        Answer::Doubtful
+    } else {
+        Answer::Done
+    })
+}
+
+/// Runs the guest program, and prints the order of its memory operations.
+pub(crate) fn print_order<R: Threads + Wait + Sync>(
+    rt: &HostRuntime,
+    threads: &R,
+    run: &Run<'_>,
+) -> Result<Answer, Failure> {
+    let mut out = output(rt)?;
+    write_order_of(rt, threads, run, &mut out)?;
+    flush(&mut out)?;
+    Ok(Answer::Done)
+}
+
+/// Replays the recording of a file, and prints what came of it, or the hart that is asked for.
+pub(crate) fn print_replay<R: Threads + Wait + Sync>(
+    rt: &HostRuntime,
+    threads: &R,
+    asked: &Replay<'_>,
+) -> Result<Answer, Failure> {
+    let mut out = output(rt)?;
+    let replayed = write_replay(rt, threads, asked, &mut out)?;
+    flush(&mut out)?;
+    Ok(match replayed {
+        Replayed::Done => Answer::Done,
+        Replayed::Differs => Answer::Differs,
+    })
+}
+
+/// Runs the recording of a file anew, and prints which accesses hit.
+pub(crate) fn print_watch<R: Threads + Wait + Sync>(
+    rt: &HostRuntime,
+    threads: &R,
+    asked: &Watch<'_>,
+) -> Result<Answer, Failure> {
+    let mut out = output(rt)?;
+    write_watch(rt, threads, asked, &mut out)?;
+    flush(&mut out)?;
+    Ok(Answer::Done)
+}
+
+/// Runs the guest program by many plans, and prints the table of its endings.
+pub(crate) fn print_hunt<R: Threads + Wait + Sync>(
+    rt: &HostRuntime,
+    threads: &R,
+    asked: &Hunt<'_>,
+) -> Result<Answer, Failure> {
+    let mut out = output(rt)?;
+    let is_one_exit = write_hunt(rt, threads, asked, &mut out)?;
+    flush(&mut out)?;
+    Ok(if is_one_exit {
+        Answer::Done
+    } else {
+        Answer::Doubtful
+    })
+}
+
+/// Prints a plan of the family, and on standard error its budget, which a plan's text has no place for.
+pub(crate) fn print_plan(rt: &HostRuntime, asked: &Plan) -> Result<Answer, Failure> {
+    let mut out = output(rt)?;
+    let budget = write_plan(rt.alloc(), asked, &mut out)?;
+    flush(&mut out)?;
+    // The plan is out, so it is no failure where standard error takes nothing.
+    let _unwritten = eprintln!(rt; "budget {budget}");
+    Ok(Answer::Done)
+}
+
+/// Runs the guest program, and prints a picture of the run.
+pub(crate) fn print_drawing<R: Threads + Wait + Sync>(
+    rt: &HostRuntime,
+    threads: &R,
+    asked: &Draw<'_>,
+) -> Result<Answer, Failure> {
+    let mut out = output(rt)?;
+    write_drawing(rt, threads, asked, &mut out)?;
+    flush(&mut out)?;
+    Ok(Answer::Done)
+}

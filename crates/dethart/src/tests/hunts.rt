@@ -1,0 +1,64 @@
+//! Hunts and pictures, as the command line asks for them.
+
+use crate::drawing::write_drawing;
+use crate::failure::Failure;
+use crate::hunting::write_hunt;
+use crate::plans::write_plan;
+use command_line::{Command, parse_line};
+use std::fs;
+use std::sync::Wait;
+use std::test::Fail;
+use std::thread::Threads;
+
+/// ADDI x17,x0,0; ECALL: each hart exits with its number.
+const EXITS: &[u8] = b"\x93\x08\0\0\x73\0\0\0";
+
+/// What a line prints, where it isn't refused.
+fn printed<R: Threads + Wait + Sync>(
+    rt: &HostRuntime,
+    threads: &R,
+    words: &[&str],
+) -> Option<Vec<u8>> {
+    let mut text = Vec::new(rt.alloc());
+    let answer: Result<(), Failure> = match parse_line(rt.alloc(), words) {
+        Ok(Command::Hunt(asked)) => match write_hunt(rt, threads, &asked, &mut text) {
+            Ok(_) => Ok(()),
+            Err(failure) => Err(failure),
+        },
+        Ok(Command::Draw(asked)) => write_drawing(rt, threads, &asked, &mut text),
+        Ok(Command::Plan(asked)) => match write_plan(rt.alloc(), &asked, &mut text) {
+            Ok(_) => Ok(()),
+            Err(error) => Err(Failure::Refused(error)),
+        },
+        _ => return None,
+    };
+    match answer {
+        Ok(()) => Some(text),
+        Err(_) => None,
+    }
+}
+
+#[test]
+fn a_hunt_of_two_exits(rt: HostRuntime) -> Result<(), Fail> {
+    fs::write(&rt, "exits.bin", EXITS)?;
+    let words = [
+        "dethart",
+        "hunt",
+        "exits.bin",
+        "--flat",
+        "--harts=2",
+        "--pages=1",
+        "--plans=3",
+    ];
+    let wanted = "plans 0 3 seed 1\n\
+                  endings 1\n\
+                  ending 1 plans 3 first 0\n\
+                  hart 0 exit 0000000000000000\n\
+                  hart 1 exit 0000000000000001\n\
+                  output 0 \"\"\n\
+                  end\n";
+    let text = printed(&rt, &rt, &words);
+    assert!(rt; text.is_some_and(|text| text.as_slice() == wanted.as_bytes()));
+    fs::remove_file(&rt, "exits.bin")?;
+    Ok(())
+}
