@@ -1,10 +1,11 @@
 -- The run of a guest under a plan ends as the definitions say.
-use Rattle.std.proofs.Common.{◌≡◌, ℕ, List, Result, Ok, Err, IfOk, OnOk, ◌∙◌, ap}
+use Rattle.std.proofs.Common.{◌≡◌, ℕ, List, Result, Ok, Err, IfOk, OnOk, subst}
 use Rattle.host_io.specs.declared.error.RunError.{RunError}
 use Rattle.pages.specs.declared.out_of_memory.OutOfMemory.{OutOfMemory}
 use Rattle.hunt_table.specs.declared.header.SeenRange.{SeenRange}
 use Rattle.machine.specs.Machine.{Running, after_rounds, opening}
 use Rattle.machine.specs.Settings.{image_of}
+use Rattle.machine.specs.Untraced.{IsAfter, IsUntraced, Untraced}
 use Rattle.plan_family.specs.Families.{family_plan}
 use Rattle.plan_hunt.specs.Endings.{Ended}
 use Rattle.hunter.specs.Hunts.{ended_of, ends_after, family_of}
@@ -15,11 +16,11 @@ on_ok (Ok x) v P e h = h
 on_ok (Err x) v P e h = cc
 
 -- the machine is run from its opening, and is looked at
-pub ends_so : (s : HuntSettings) (file input : List ℕ) (n : ℕ) (m after : Running) (ranges : List SeenRange) (ran : Result (Unit {0}) RunError) (v : Unit {0}) (r : Result Ended OutOfMemory) →
-    m ≡ opening (image_of s.format file s.pages) input (family_plan (family_of s) n) → OnOk ran (after ≡ after_rounds s.rounds m) → ran ≡ Ok v → ranges ≡ s.header.ranges.items →
-    IfOk r (λ e. e ≡ ended_of ranges after) → IfOk r (λ e. e ≡ ends_after s file input n)
+pub ends_so : (s : HuntSettings) (file input : List ℕ) (n : ℕ) (u v : Untraced) (ranges : List SeenRange) (ran : Result (Unit {0}) RunError) (w : Unit {0}) (r : Result Ended OutOfMemory) →
+    IsUntraced (opening (image_of s.format file s.pages) input (family_plan (family_of s) n)) u → OnOk ran (IsAfter s.rounds u v) → ran ≡ Ok w → ranges ≡ s.header.ranges.items →
+    ((m : Running) → IsUntraced m v → IfOk r (λ e. e ≡ ended_of ranges m)) → IfOk r (λ e. e ≡ ends_after s file input n)
 unfolding ends_after
-ends_so s file input n m after ranges ran v (Ok e) is runs was same h =
-    h ∙ ap (λ (x : List SeenRange). ended_of x after) same
-    ∙ ap (λ (x : Running). ended_of s.header.ranges.items x) (on_ok ran v (after ≡ after_rounds s.rounds m) was runs ∙ ap (λ (x : Running). after_rounds s.rounds x) is)
-ends_so s file input n m after ranges ran v (Err e) is runs was same h = tt
+ends_so s file input n u v ranges ran w r is runs was same h =
+    let first : Running = opening (image_of s.format file s.pages) input (family_plan (family_of s) n) in
+    let last : Running = after_rounds s.rounds first in
+    subst (λ (x : List SeenRange). IfOk r (λ e. e ≡ ended_of x last)) same (h last (on_ok ran w (IsAfter s.rounds u v) was runs first is))

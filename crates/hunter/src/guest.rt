@@ -1,6 +1,7 @@
 ghost use Rattle.std.specs.Prelude.{◌≡◌, ◌+◌, ◌≤◌, ◌<◌, ◌^◌, ◌++◌, IfOk, Ok, OnOk, drop, map, take};
-ghost use Rattle.machine.specs.Machine.{opening};
+ghost use Rattle.machine.specs.Machine.{Running, opening};
 ghost use Rattle.machine.specs.Settings.{image_of};
+ghost use Rattle.machine.specs.Untraced.{IsUntraced};
 ghost use Rattle.plan_family.specs.Families.{family_plan};
 ghost use Rattle.hunter.specs.Hunts.{IsHunt, ended_of, family_of, seen_of};
 
@@ -8,7 +9,7 @@ use crate::settings::HuntSettings;
 use hart_step::{Hart, Stop};
 use host_io::RunError;
 use hunt_table::SeenRange;
-use machine::{Machine, load};
+use machine::{UntracedMachine, load};
 use pages::OutOfMemory;
 use plan_family::Family;
 use plan_hunt::{Ending, Runs};
@@ -40,8 +41,8 @@ impl Runs for Guest<'_> {
 
 impl Guest<'_> {
     /// The machine before the first round under a plan.
-    fn opening(&self, number: u32) -> Result<Machine, OutOfMemory>
-        ensures { IfOk result (λ m. m ≡ opening (image_of self.now.settings.now.format self.now.file.now self.now.settings.now.pages) self.now.input.now (family_plan (family_of self.now.settings.now) number)) }
+    fn opening(&self, number: u32) -> Result<UntracedMachine, OutOfMemory>
+        ensures { IfOk result (λ u. IsUntraced (opening (image_of self.now.settings.now.format self.now.file.now self.now.settings.now.pages) self.now.input.now (family_plan (family_of self.now.settings.now) number)) u) }
     {
         let settings = self.settings;
         let family = Family {
@@ -53,7 +54,7 @@ impl Guest<'_> {
         let Ok(input) = Vec::from_slice(self.alloc, self.input) else {
             return Err(OutOfMemory);
         };
-        refused(Machine::new(self.alloc, image, input, plan))
+        refused(UntracedMachine::new(self.alloc, image, input, plan))
     }
 }
 
@@ -78,8 +79,8 @@ fn stops_of(alloc: Global, harts: &[Hart]) -> Result<Vec<Option<Stop>>, OutOfMem
 
 /// Adds the bytes of a range.
 #[tactic(auto, using(crate::proofs::Seen::next_byte, crate::proofs::Seen::no_more_bytes))]
-fn look(machine: &Machine, range: SeenRange, seen: &mut Vec<u8>) -> Result<(), OutOfMemory>
-    ensures { OnOk result (seen.new.items ≡ seen.old.items ++ take range.length (drop range.address machine.now.state.bytes)) }
+fn look(machine: &UntracedMachine, range: SeenRange, seen: &mut Vec<u8>) -> Result<(), OutOfMemory>
+    ensures { OnOk result (seen.new.items ≡ seen.old.items ++ take range.length (drop range.address machine.now.bytes)) }
 {
     for offset in 0..range.length {
         let Some(byte) = machine.byte(u64::from(range.address) + u64::from(offset)) else {
@@ -92,8 +93,12 @@ fn look(machine: &Machine, range: SeenRange, seen: &mut Vec<u8>) -> Result<(), O
     Ok(())
 }
 
-fn seen_of(alloc: Global, machine: &Machine, ranges: &[SeenRange]) -> Result<Vec<u8>, OutOfMemory>
-    ensures { IfOk result (λ v. v.items ≡ seen_of ranges.now machine.now.state.bytes) }
+fn seen_of(
+    alloc: Global,
+    machine: &UntracedMachine,
+    ranges: &[SeenRange],
+) -> Result<Vec<u8>, OutOfMemory>
+    ensures { IfOk result (λ v. v.items ≡ seen_of ranges.now machine.now.bytes) }
 {
     let mut seen = Vec::new(alloc);
     for range in ranges {
@@ -104,8 +109,12 @@ fn seen_of(alloc: Global, machine: &Machine, ranges: &[SeenRange]) -> Result<Vec
 
 /// The ending of a run.
 #[tactic(auto, unfolding(crate::specs::Hunts::ended_of))]
-fn ending_of(alloc: Global, machine: &Machine, ranges: &[SeenRange]) -> Result<Ending, OutOfMemory>
-    ensures { IfOk result (λ e. e ≡ ended_of ranges.now machine.now) }
+fn ending_of(
+    alloc: Global,
+    machine: &UntracedMachine,
+    ranges: &[SeenRange],
+) -> Result<Ending, OutOfMemory>
+    ensures { (m : Running) → IsUntraced m machine.now → IfOk result (λ e. e ≡ ended_of ranges.now m) }
 {
     let stops = stops_of(alloc, machine.harts())?;
     let Ok(output) = Vec::from_slice(alloc, machine.output()) else {
