@@ -2,11 +2,11 @@
 //! replays recordings, and asks them about the past; hunts for a guest's endings, and draws runs.
 #![tactic(auto)]
 
-mod drawing;
 mod failure;
 mod files;
 mod hunting;
 mod line;
+mod pictures;
 mod plans;
 mod printing;
 mod recordings;

@@ -2,9 +2,9 @@
 ghost use Rattle.std.specs.Prelude.{◌≡◌};
 ghost use Rattle.dethart.specs.Status.{answer_status};
 
-use crate::drawing::write_drawing;
 use crate::failure::Failure;
 use crate::hunting::write_hunt;
+use crate::pictures::write_drawing;
 use crate::plans::write_plan;
 use crate::recordings::{Replayed, write_replay, write_watch};
 use crate::run::{write_order_of, write_run};

@@ -1,8 +1,8 @@
 //! Hunts and pictures, as the command line asks for them.
 
-use crate::drawing::write_drawing;
 use crate::failure::Failure;
 use crate::hunting::write_hunt;
+use crate::pictures::write_drawing;
 use crate::plans::write_plan;
 use command_line::{Command, parse_line};
 use std::fs;
