@@ -19,6 +19,3 @@ mod view;
 pub use laws::{arrows_meet_axiom, sources_meet_axiom};
 pub use page::write_picture;
 pub use view::View;
-
-#[cfg(test)]
-mod tests;

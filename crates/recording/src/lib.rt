@@ -7,8 +7,6 @@ mod lists;
 mod migrating;
 mod reading;
 mod recording;
-#[cfg(test)]
-mod tests;
 mod writing;
 
 pub use cause::{Cause, ReadError};

@@ -15,6 +15,3 @@ pub use order::write_order;
 pub use shown::{write_summary, write_untraced};
 pub use state::write_state;
 pub use text::{write_event, write_hart};
-
-#[cfg(test)]
-mod tests;

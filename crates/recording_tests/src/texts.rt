@@ -1,5 +1,5 @@
-use crate::{Recording, migrate, read_recording, write_recording};
 use host_io::{RunError, WriteSink};
+use recording::{Recording, migrate, read_recording, write_recording};
 use std::alloc::Global;
 use std::test::Fail;
 

@@ -1,7 +1,7 @@
-use crate::{View, write_picture};
 use host_io::{RunError, WriteSink};
 use memory_order::Trace;
 use pages::{Range, Width};
+use picture::{View, write_picture};
 use round_schedule::{Access, Event, Phase};
 use rv64_decode::{FenceMode, FenceSet};
 use std::alloc::Global;

@@ -1,0 +1,5 @@
+//! Tests of the texts of a run, through the public calls of the crate `report`.
+#![tactic(auto)]
+
+#[cfg(test)]
+mod texts;
