@@ -23,6 +23,10 @@ number_positional_rule id = record (positional_rule id) { parser = Some narrow }
 abbrev pub wide_positional_rule : Text → Rule
 wide_positional_rule id = record (positional_rule id) { parser = Some wide }
 
+-- one argument or more of the name, of which one must be there
+abbrev pub several_rule : Text → Rule
+several_rule id = record (positional_rule id) { action = Some Append }
+
 -- an option --NAME without a value
 abbrev pub flag_rule : Text → Rule
 flag_rule name = record (new_rule name) { long = Some name; action = Some SetTrue }
@@ -31,9 +35,16 @@ flag_rule name = record (new_rule name) { long = Some name; action = Some SetTru
 abbrev pub text_rule : Text → Rule
 text_rule name = record (new_rule name) { long = Some name; value_names = 1 }
 
--- the same where the value is a number of 32 bits
+-- the same where the value is a number of 32 bits, or of 64
 abbrev pub number_given_rule : Text → Rule
 number_given_rule name = record (text_rule name) { parser = Some narrow }
+
+abbrev pub wide_number_given_rule : Text → Rule
+wide_number_given_rule name = record (text_rule name) { parser = Some wide }
+
+-- and one that must be there
+abbrev pub number_wanted_rule : Text → Rule
+number_wanted_rule name = record (number_given_rule name) { required = true }
 
 -- an option --NAME with a value and a default
 abbrev pub defaulted_rule : Text → Text → Rule
@@ -54,14 +65,23 @@ see_rule = record (new_rule (codes "see")) {
   action = Some Append;
 }
 
--- what a guest program is run with; without --rounds there are so many
-abbrev pub program_rules : Text → List Rule
-program_rules rounds =
+-- the option --see-object, which may be there several times
+abbrev pub object_rule : Rule
+object_rule = record (text_rule (codes "see-object")) { action = Some Append }
+
+-- a guest program, and the size of its machine
+abbrev pub guest_rules : List Rule
+guest_rules =
     positional_rule (codes "image")
     ∷ flag_rule (codes "flat")
     ∷ number_rule (codes "harts") (codes "1")
     ∷ number_rule (codes "pages") (codes "256")
-    ∷ number_rule (codes "rounds") rounds
+    ∷ []
+
+-- how long it runs, and what it reads; without --rounds there are so many rounds
+abbrev pub program_rules : Text → List Rule
+program_rules rounds =
+    number_rule (codes "rounds") rounds
     ∷ number_rule (codes "workers") (codes "4")
     ∷ text_rule (codes "input")
     ∷ []
@@ -91,16 +111,24 @@ record_rules = positional_rule (codes "out") ∷ number_rule (codes "every") (co
 -- what is drawn
 abbrev pub draw_rules : List Rule
 draw_rules =
-    see_rule ∷ number_given_rule (codes "from") ∷ number_given_rule (codes "to") ∷ []
+    see_rule ∷ object_rule ∷ number_given_rule (codes "from") ∷ number_given_rule (codes "to") ∷ []
 
 -- the family of plans that a program is run by, and what is seen of each run
 abbrev pub search_rules : List Rule
-search_rules = wide_number_rule (codes "seed") (codes "1") ∷ see_rule ∷ []
+search_rules = wide_number_rule (codes "seed") (codes "1") ∷ see_rule ∷ object_rule ∷ []
 
 -- which plans of the family these are
 abbrev pub hunt_rules : List Rule
 hunt_rules =
     number_rule (codes "plans") (codes "1000") ∷ number_rule (codes "first") (codes "0") ∷ []
+
+-- the plan of the family that is made smaller
+abbrev pub shrink_rules : List Rule
+shrink_rules = number_wanted_rule (codes "plan-number") ∷ []
+
+-- what `merge` takes
+abbrev pub merge_rules : List Rule
+merge_rules = several_rule (codes "table") ∷ []
 
 -- what `plan` takes
 abbrev pub family_rules : List Rule
@@ -110,23 +138,37 @@ family_rules =
     ∷ wide_number_rule (codes "seed") (codes "1")
     ∷ []
 
--- what `replay` takes
+-- a recording, and the threads that its run is done by
 abbrev pub replay_rules : List Rule
 replay_rules =
     positional_rule (codes "recording")
     ∷ number_rule (codes "workers") (codes "4")
-    ∷ number_given_rule (codes "round")
-    ∷ number_rule (codes "hart") (codes "0")
-    ∷ wide_number_rule (codes "count") (codes "0")
     ∷ number_rule (codes "every") (codes "64")
     ∷ []
 
--- what `watch` takes
+-- the hart that `replay` prints
+abbrev pub question_rules : List Rule
+question_rules =
+    number_given_rule (codes "round")
+    ∷ number_rule (codes "hart") (codes "0")
+    ∷ wide_number_given_rule (codes "count")
+    ∷ wide_number_given_rule (codes "place")
+    ∷ []
+
+-- a recording, and the bytes that `watch` looks at
 abbrev pub watch_rules : List Rule
 watch_rules =
     positional_rule (codes "recording")
     ∷ positional_rule (codes "address")
     ∷ wide_positional_rule (codes "length")
+    ∷ see_rule
+    ∷ []
+
+-- the rounds that it looks at
+abbrev pub watched_round_rules : List Rule
+watched_round_rules =
+    number_given_rule (codes "from")
+    ∷ number_given_rule (codes "to")
     ∷ number_rule (codes "workers") (codes "4")
     ∷ []
 
@@ -142,13 +184,17 @@ with_rules = fold with_rule
 abbrev pub taking : Text → List Rule → App
 taking name rules = with_rules (new_app name) rules
 
+-- a subcommand that runs a guest program
+abbrev pub guest_app : Text → Text → App
+guest_app name rounds = with_rules (taking name guest_rules) (program_rules rounds)
+
 -- a subcommand that runs a guest program by one plan
 abbrev pub running : Text → App
-running name = with_rules (taking name (program_rules (codes "1000"))) plan_rules
+running name = with_rules (guest_app name (codes "1000")) plan_rules
 
 -- a subcommand that runs a guest program by plans of the family
 abbrev pub searching : Text → App
-searching name = with_rules (taking name (program_rules (codes "10000"))) search_rules
+searching name = with_rules (guest_app name (codes "10000")) search_rules
 
 abbrev pub run_app : App
 run_app = with_rules (running (codes "run")) print_rules
@@ -160,16 +206,22 @@ abbrev pub record_app : App
 record_app = with_rules (running (codes "record")) record_rules
 
 abbrev pub replay_app : App
-replay_app = taking (codes "replay") replay_rules
+replay_app = with_rules (taking (codes "replay") replay_rules) question_rules
 
 abbrev pub watch_app : App
-watch_app = taking (codes "watch") watch_rules
+watch_app = with_rules (taking (codes "watch") watch_rules) watched_round_rules
 
 abbrev pub migrate_app : App
 migrate_app = taking (codes "migrate") migrate_rules
 
 abbrev pub hunt_app : App
 hunt_app = with_rules (searching (codes "hunt")) hunt_rules
+
+abbrev pub shrink_app : App
+shrink_app = with_rules (searching (codes "shrink")) shrink_rules
+
+abbrev pub merge_app : App
+merge_app = taking (codes "merge") merge_rules
 
 abbrev pub plan_app : App
 plan_app = taking (codes "plan") family_rules
@@ -188,19 +240,28 @@ bare_app = record {
   subs = [];
 }
 
--- the subcommands
-abbrev pub subcommands : List App
-subcommands =
-    run_app
-    ∷ order_app
-    ∷ record_app
-    ∷ replay_app
-    ∷ watch_app
-    ∷ migrate_app
-    ∷ hunt_app
-    ∷ plan_app
-    ∷ draw_app
-    ∷ []
+-- the subcommands that run a guest program by one plan and print or keep the run
+abbrev pub run_commands : List App
+run_commands = run_app ∷ order_app ∷ record_app ∷ []
+
+-- those that read a recording
+abbrev pub recording_commands : List App
+recording_commands = replay_app ∷ watch_app ∷ migrate_app ∷ []
+
+-- those that hunt
+abbrev pub hunting_commands : List App
+hunting_commands = hunt_app ∷ shrink_app ∷ merge_app ∷ []
+
+-- the others
+abbrev pub other_commands : List App
+other_commands = plan_app ∷ draw_app ∷ []
+
+-- the command with these subcommands too
+abbrev pub with_commands : App → List App → App
+with_commands = fold (λ app sub. with_subcommand app sub.top)
+
+abbrev pub with_recording_commands : App
+with_recording_commands = with_commands (with_commands bare_app run_commands) recording_commands
 
 abbrev pub dethart_app : App
-dethart_app = fold (λ app sub. with_subcommand app sub.top) bare_app subcommands
+dethart_app = with_commands (with_commands with_recording_commands hunting_commands) other_commands

@@ -15,6 +15,7 @@ use Rattle.command_line.specs.declared.settings.Command.TheVariants as command
 use Rattle.command_line.specs.declared.settings.Bytes.{Bytes}
 use Rattle.command_line.specs.declared.settings.Draw.{Draw}
 use Rattle.command_line.specs.declared.settings.Hunt.{Hunt}
+use Rattle.command_line.specs.declared.settings.Merge.{Merge}
 use Rattle.command_line.specs.declared.settings.Migrate.{Migrate}
 use Rattle.command_line.specs.declared.settings.Plan.{Plan}
 use Rattle.command_line.specs.declared.settings.PlanChoice.{PlanChoice}
@@ -24,6 +25,7 @@ use Rattle.command_line.specs.declared.settings.Record.{Record}
 use Rattle.command_line.specs.declared.settings.Replay.{Replay}
 use Rattle.command_line.specs.declared.settings.Run.{Run}
 use Rattle.command_line.specs.declared.settings.Search.{Search}
+use Rattle.command_line.specs.declared.settings.Shrink.{Shrink}
 use Rattle.command_line.specs.declared.settings.Shown.{Shown}
 use Rattle.command_line.specs.declared.settings.Watch.{Watch}
 use Rattle.command_line.specs.declared.settings.Shown.TheVariants as shown
@@ -62,6 +64,10 @@ wide_number_or default text = unwrap_or (number_given 64 text) default
 abbrev pub address_given : List Row → Option ℕ
 address_given rows = option_and_then address_in (first_of (codes "address") rows)
 
+-- all texts of the argument or option, in the order of the line
+abbrev pub texts_given : Text → List Row → List Text
+texts_given id rows = unwrap_or (all_of id rows) []
+
 -- the texts two by two
 abbrev pub pairs : List Text → List (Text × Text)
 pairs [] = []
@@ -70,7 +76,7 @@ pairs (first ∷ second ∷ rest) = (first, second) ∷ pairs rest
 
 -- what each --see is given as ADDRESS and LENGTH
 abbrev pub seen_given : List Row → List (Text × Text)
-seen_given rows = pairs (unwrap_or (all_of (codes "see") rows) [])
+seen_given rows = pairs (texts_given (codes "see") rows)
 
 -- the bytes that ADDRESS and LENGTH say
 abbrev pub bytes_of : Text × Text → Bytes
@@ -130,13 +136,17 @@ pub record HoldsReplay (rows : List Row) (replay : Replay) : Type 0 where
   pub workers : replay.workers ≡ number_or 4 (one_of (codes "workers") rows)
   pub round : replay.round ≡ number_given 32 (one_of (codes "round") rows)
   pub hart : replay.hart ≡ number_or 0 (one_of (codes "hart") rows)
-  pub count : replay.count ≡ wide_number_or 0 (one_of (codes "count") rows)
+  pub count : replay.count ≡ number_given 64 (one_of (codes "count") rows)
+  pub place : replay.place ≡ number_given 64 (one_of (codes "place") rows)
   pub every : replay.every ≡ number_or 64 (one_of (codes "every") rows)
 
 pub record HoldsWatch (rows : List Row) (watch : Watch) : Type 0 where
   pub recording : watch.recording.now ≡ unwrap_or (first_of (codes "recording") rows) []
   pub address : watch.address ≡ unwrap_or (address_given rows) 0
   pub length : watch.length ≡ wide_number_or 0 (one_of (codes "length") rows)
+  pub more : watch.more.items ≡ map bytes_of (seen_given rows)
+  pub from : watch.from ≡ number_given 32 (one_of (codes "from") rows)
+  pub to : watch.to ≡ number_given 32 (one_of (codes "to") rows)
   pub workers : watch.workers ≡ number_or 4 (one_of (codes "workers") rows)
 
 pub record HoldsMigrate (rows : List Row) (migrate : Migrate) : Type 0 where
@@ -147,11 +157,19 @@ pub record HoldsSearch (rows : List Row) (search : Search) : Type 0 where
   pub program : HoldsProgram 10000 rows search.program
   pub seed : search.seed ≡ wide_number_or 1 (one_of (codes "seed") rows)
   pub seen : search.seen.items ≡ map bytes_of (seen_given rows)
+  pub objects : map (λ s. s.now) search.objects.items ≡ texts_given (codes "see-object") rows
 
 pub record HoldsHunt (rows : List Row) (hunt : Hunt) : Type 0 where
   pub search : HoldsSearch rows hunt.search
   pub plans : hunt.plans ≡ number_or 1000 (one_of (codes "plans") rows)
   pub first : hunt.first ≡ number_or 0 (one_of (codes "first") rows)
+
+pub record HoldsShrink (rows : List Row) (shrink : Shrink) : Type 0 where
+  pub search : HoldsSearch rows shrink.search
+  pub plan_number : shrink.plan_number ≡ number_or 0 (one_of (codes "plan-number") rows)
+
+pub record HoldsMerge (rows : List Row) (merge : Merge) : Type 0 where
+  pub tables : map (λ s. s.now) merge.tables.items ≡ texts_given (codes "table") rows
 
 pub record HoldsPlan (rows : List Row) (plan : Plan) : Type 0 where
   pub number : plan.number ≡ number_or 0 (one_of (codes "number") rows)
@@ -161,6 +179,7 @@ pub record HoldsPlan (rows : List Row) (plan : Plan) : Type 0 where
 pub record HoldsDraw (rows : List Row) (draw : Draw) : Type 0 where
   pub run : HoldsRun rows draw.run
   pub seen : draw.seen.items ≡ map bytes_of (seen_given rows)
+  pub objects : map (λ s. s.now) draw.objects.items ≡ texts_given (codes "see-object") rows
   pub from : draw.from ≡ number_given 32 (one_of (codes "from") rows)
   pub to : draw.to ≡ number_given 32 (one_of (codes "to") rows)
 
@@ -173,6 +192,8 @@ HoldsNamed name rows (command.Replay replay) = (name ≡ codes "replay") × Hold
 HoldsNamed name rows (command.Watch watch) = (name ≡ codes "watch") × HoldsWatch rows watch
 HoldsNamed name rows (command.Migrate migrate) = (name ≡ codes "migrate") × HoldsMigrate rows migrate
 HoldsNamed name rows (command.Hunt hunt) = (name ≡ codes "hunt") × HoldsHunt rows hunt
+HoldsNamed name rows (command.Shrink shrink) = (name ≡ codes "shrink") × HoldsShrink rows shrink
+HoldsNamed name rows (command.Merge merge) = (name ≡ codes "merge") × HoldsMerge rows merge
 HoldsNamed name rows (command.Plan plan) = (name ≡ codes "plan") × HoldsPlan rows plan
 HoldsNamed name rows (command.Draw draw) = (name ≡ codes "draw") × HoldsDraw rows draw
 
@@ -185,7 +206,8 @@ HoldsLine (Some met) line = HoldsNamed met.0 met.1 line
 abbrev pub IsSubcommand : Text → Type 0
 IsSubcommand name = (name ≡ codes "run") ⊎ (name ≡ codes "order") ⊎ (name ≡ codes "record")
     ⊎ (name ≡ codes "replay") ⊎ (name ≡ codes "watch") ⊎ (name ≡ codes "migrate")
-    ⊎ (name ≡ codes "hunt") ⊎ (name ≡ codes "plan") ⊎ (name ≡ codes "draw")
+    ⊎ (name ≡ codes "hunt") ⊎ (name ≡ codes "shrink") ⊎ (name ≡ codes "merge")
+    ⊎ (name ≡ codes "plan") ⊎ (name ≡ codes "draw")
 
 -- ADDRESS of `watch` is none
 abbrev pub has_bad_address : Text → List Row → Bool

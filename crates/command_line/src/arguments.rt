@@ -1,7 +1,7 @@
 //! The arguments and options of the subcommands.
 ghost use Rattle.std.specs.Prelude.{◌≡◌, codes, false};
 ghost use Rattle.clap.specs.Words.{rule_of};
-ghost use Rattle.command_line.specs.Options.{defaulted_rule, flag_rule, number_given_rule, number_positional_rule, number_rule, positional_rule, see_rule, text_rule, wide_number_rule, wide_positional_rule};
+ghost use Rattle.command_line.specs.Options.{defaulted_rule, flag_rule, number_given_rule, number_positional_rule, number_rule, number_wanted_rule, object_rule, positional_rule, see_rule, several_rule, text_rule, wide_number_given_rule, wide_number_rule, wide_positional_rule};
 
 use clap::{Arg, ArgAction, value_parser};
 use std::alloc::Global;
@@ -61,6 +61,14 @@ pub(crate) fn recording<'a>(alloc: Global) -> Arg<'a>
     )
 }
 
+/// Arguments of one name, of which one must be there.
+pub(crate) fn several<'a>(alloc: Global, id: &'a str, value_name: &'a str, help: &'a str) -> Arg<'a>
+    ensures rule { rule_of result ≡ several_rule id.entry.now }
+    ensures local { result.global ≡ false }
+{
+    positional(alloc, id, value_name, help).action(ArgAction::Append)
+}
+
 /// The option `--NAME` without a value.
 pub(crate) fn flag<'a>(alloc: Global, name: &'a str, help: &'a str) -> Arg<'a>
     ensures rule { rule_of result ≡ flag_rule name.entry.now }
@@ -83,6 +91,18 @@ pub(crate) fn see<'a>(alloc: Global, help: &'a str) -> Arg<'a>
     Arg::new(alloc, "see")
         .long("see")
         .value_names(SEE_VALUES.as_slice())
+        .action(ArgAction::Append)
+        .help(help)
+}
+
+/// The option `--see-object NAME`, which may be there several times.
+pub(crate) fn see_object<'a>(alloc: Global, help: &'a str) -> Arg<'a>
+    ensures rule { rule_of result ≡ object_rule }
+    ensures local { result.global ≡ false }
+{
+    Arg::new(alloc, "see-object")
+        .long("see-object")
+        .value_name("NAME")
         .action(ArgAction::Append)
         .help(help)
 }
@@ -169,6 +189,14 @@ pub(crate) fn seed<'a>(alloc: Global) -> Arg<'a>
     wide_number(alloc, "seed", "1", "Which family: any number of 64 bits")
 }
 
+/// The option `--NAME N`, of a number of 32 bits, which must be there.
+pub(crate) fn number_wanted<'a>(alloc: Global, name: &'a str, help: &'a str) -> Arg<'a>
+    ensures rule { rule_of result ≡ number_wanted_rule name.entry.now }
+    ensures local { result.global ≡ false }
+{
+    number_given(alloc, name, help).required(true)
+}
+
 /// The option `--NAME N`, of a number of 32 bits, which has no default.
 pub(crate) fn number_given<'a>(alloc: Global, name: &'a str, help: &'a str) -> Arg<'a>
     ensures rule { rule_of result ≡ number_given_rule name.entry.now }
@@ -178,5 +206,17 @@ pub(crate) fn number_given<'a>(alloc: Global, name: &'a str, help: &'a str) -> A
         .long(name)
         .value_name("N")
         .value_parser(value_parser!(u32))
+        .help(help)
+}
+
+/// The same of 64 bits.
+pub(crate) fn wide_number_given<'a>(alloc: Global, name: &'a str, help: &'a str) -> Arg<'a>
+    ensures rule { rule_of result ≡ wide_number_given_rule name.entry.now }
+    ensures local { result.global ≡ false }
+{
+    Arg::new(alloc, name)
+        .long(name)
+        .value_name("N")
+        .value_parser(value_parser!(u64))
         .help(help)
 }

@@ -1,24 +1,26 @@
 //! What the matches of the subcommands that go over plans of a family say.
-ghost use Rattle.std.specs.Prelude.{◌≡◌, IfOk};
+ghost use Rattle.std.specs.Prelude.{IfOk};
 ghost use Rattle.clap.specs.Words.{found_of, rows_of};
-ghost use Rattle.command_line.specs.Reading.{HoldsHunt, HoldsPlan, HoldsSearch};
+ghost use Rattle.command_line.specs.Reading.{HoldsHunt, HoldsMerge, HoldsPlan, HoldsSearch, HoldsShrink};
 
 use crate::numbers::{number_of, wide_number_of};
 use crate::runs::program_of;
-use crate::seen::seen_of;
-use crate::settings::{Hunt, Plan, Search};
+use crate::seen::{seen_of, texts_of};
+use crate::settings::{Hunt, Merge, Plan, Search, Shrink};
 use clap::ArgMatches;
 use std::alloc::{AllocError, Global};
 
-/// What the matches of `hunt` say of the runs.
+/// What the matches of `hunt` and `shrink` say of the runs.
 fn search_of<'a>(alloc: Global, matches: &ArgMatches<'a>) -> Result<Search<'a>, AllocError>
     ensures { IfOk result (HoldsSearch (rows_of (found_of matches.now))) }
 {
     let seen = seen_of(alloc, matches)?;
+    let objects = texts_of(alloc, matches, "see-object")?;
     Ok(Search {
         program: program_of(matches, 10000),
         seed: wide_number_of(matches, "seed", 1),
         seen,
+        objects,
     })
 }
 
@@ -32,6 +34,28 @@ pub(crate) fn hunt_of<'a>(alloc: Global, matches: &ArgMatches<'a>) -> Result<Hun
         plans: number_of(matches, "plans", 1000),
         first: number_of(matches, "first", 0),
     })
+}
+
+/// What the matches of `shrink` say.
+pub(crate) fn shrink_of<'a>(
+    alloc: Global,
+    matches: &ArgMatches<'a>,
+) -> Result<Shrink<'a>, AllocError>
+    ensures { IfOk result (HoldsShrink (rows_of (found_of matches.now))) }
+{
+    let search = search_of(alloc, matches)?;
+    Ok(Shrink {
+        search,
+        plan_number: number_of(matches, "plan-number", 0),
+    })
+}
+
+/// What the matches of `merge` say.
+pub(crate) fn merge_of<'a>(alloc: Global, matches: &ArgMatches<'a>) -> Result<Merge<'a>, AllocError>
+    ensures { IfOk result (HoldsMerge (rows_of (found_of matches.now))) }
+{
+    let tables = texts_of(alloc, matches, "table")?;
+    Ok(Merge { tables })
 }
 
 /// What the matches of `plan` say.

@@ -13,7 +13,9 @@ The program is run by PLANS plans of the family that the seed stands for, from
 the number FIRST on. Two runs have the same ending where each hart ended in the
 same way, the same bytes were put out, and the LENGTH bytes from ADDRESS on of
 each --see are the same. ADDRESS is decimal, or hexadecimal after 0x, and LENGTH
-is decimal. What is printed is the table of the endings:
+is decimal. --see-object NAME stands for the address and size that the ELF
+file's symbol table gives an object of that name. What is printed is the table
+of the endings:
 
   plans FIRST COUNT seed S
   endings E
@@ -39,6 +41,43 @@ dethart run --help lists what each N means.
 Exit status: 0 there is one ending and all harts exited in it, 4 the table has
 another number of endings or one in which a hart didn't exit, 1 a refusal, 2 a
 bad command line.";
+
+pub(crate) const SHRINK_ABOUT: &str =
+    "Looks for a smaller plan by which the program in IMAGE ends the same.";
+
+pub(crate) const SHRINK_AFTER_HELP: &str = "\
+Example:
+  dethart shrink guest.elf --harts 2 --plan-number 35 > small.txt
+
+It begins with plan N of the family that the seed stands for, and makes it
+smaller, one step after another, as long as the program ends as by plan N: each
+hart in the same way, with the same output, and with the same bytes of each
+--see. The plan that is left is printed, and on standard error the line 'budget
+B'. No single step leads on from it to the same ending; docs/hunt.md lists the
+steps. This repeats the run:
+  dethart run IMAGE .. --rounds 10000 --plan small.txt --budget B
+
+A refusal is the line 'error N' on standard error, with the exit status 1;
+dethart run --help lists what each N means.
+
+Exit status: 0 the plan was printed, 1 a refusal, 2 a bad command line.";
+
+pub(crate) const MERGE_ABOUT: &str = "Makes one table of endings of those in the files.";
+
+pub(crate) const MERGE_AFTER_HELP: &str = "\
+Example:
+  dethart hunt guest.elf --harts 2 --first 0 --plans 500 > first.txt
+  dethart hunt guest.elf --harts 2 --first 500 --plans 500 > second.txt
+  dethart merge first.txt second.txt
+
+Each TABLE is what dethart hunt or dethart merge printed, of one program with
+the same options; the plans of each go on where those of the one before it end.
+What is printed is the table of one hunt over all these plans.
+
+A refusal is the line 'error N' on standard error, with the exit status 1;
+dethart run --help lists what each N means.
+
+Exit status: 0 the table was printed, 1 a refusal, 2 a bad command line.";
 
 pub(crate) const PLAN_ABOUT: &str = "Prints plan N of the family that the seed stands for.";
 

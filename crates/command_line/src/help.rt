@@ -12,6 +12,8 @@ Examples:
   dethart watch guest.rec 256 8
   dethart migrate guest.rec new.rec
   dethart hunt guest.elf --harts 4 > table.txt
+  dethart shrink guest.elf --harts 4 --plan-number 35
+  dethart merge table.txt next.txt
   dethart plan 35 --harts 4
   dethart draw guest.elf --harts 4 --to 8 > run.svg
 
@@ -88,8 +90,11 @@ A refusal is the line 'error N' on standard error, with the exit status 1:
   54  4294967295 rounds were done before
   55  the budget is out of range
   61  a file couldn't be opened or read
+  71  a text isn't a table of endings
+  72  the tables don't adjoin, or aren't of one hunt
   73  a hunt has no plan, or one with a number over 4294967294
   74  a byte that is to be seen isn't in guest memory
+  75  the image has no symbol of an object of that name
 
 Exit status: 0 what was asked for was printed, 1 a refusal, 2 a bad command
 line, and with --strict 4 where a hart runs on, was stopped by a fault or exited

@@ -11,6 +11,7 @@ mod options;
 mod parsing;
 mod program_options;
 mod recording_help;
+mod recording_options;
 mod run_options;
 mod runs;
 mod seen;
@@ -18,9 +19,6 @@ mod settings;
 
 pub use parsing::parse_line;
 pub use settings::{
-    Bytes, Command, Draw, Hunt, Migrate, Plan, PlanChoice, Print, Program, Record, Replay, Run,
-    Search, Shown, Watch,
+    Bytes, Command, Draw, Hunt, Merge, Migrate, Plan, PlanChoice, Print, Program, Record, Replay,
+    Run, Search, Shown, Shrink, Watch,
 };
-
-#[cfg(test)]
-mod tests;

@@ -2,17 +2,12 @@
 ghost use Rattle.std.specs.Prelude.{◌≡◌, IfOk, false};
 ghost use Rattle.clap.specs.Words.{app_of};
 ghost use Rattle.clap.specs.declared.builder.command.Command.TheViews.{out-Command};
-ghost use Rattle.command_line.specs.Options.{dethart_app, migrate_app, replay_app, watch_app};
+ghost use Rattle.command_line.specs.Options.{bare_app, dethart_app, hunting_commands, run_commands, with_commands, with_recording_commands};
 
-use crate::arguments::{
-    number, number_given, positional, recording, wide_number, wide_positional, workers,
-};
-use crate::family_options::{hunt_command, plan_command};
+use crate::family_options::{hunt_command, merge_command, plan_command, shrink_command};
 use crate::help::{ABOUT, AFTER_HELP};
-use crate::recording_help::{
-    MIGRATE_ABOUT, MIGRATE_AFTER_HELP, REPLAY_ABOUT, REPLAY_AFTER_HELP, WATCH_ABOUT,
-    WATCH_AFTER_HELP,
-};
+use crate::program_options::named_command;
+use crate::recording_options::{migrate_command, replay_command, watch_command};
 use crate::run_options::{draw_command, order_command, record_command, run_command};
 use clap::Command;
 use std::alloc::{AllocError, Global};
@@ -25,86 +20,51 @@ pub(crate) fn dethart_command<'a>(alloc: Global) -> Result<Command<'a>, AllocErr
     ensures app { IfOk result (λ command. app_of command ≡ dethart_app) }
     ensures local { IfOk result (λ command. (out-Command command).has_globals ≡ false) }
 {
-    Command::new(alloc, "dethart")
-        .about(ABOUT)
-        .after_help(AFTER_HELP)
-        .version(VERSION)
-        .subcommand_required(true)
-        .disable_help_subcommand(true)
-        .subcommand(run_command(alloc)?)?
-        .subcommand(order_command(alloc)?)?
-        .subcommand(record_command(alloc)?)?
-        .subcommand(replay_command(alloc)?)?
-        .subcommand(watch_command(alloc)?)?
-        .subcommand(migrate_command(alloc)?)?
-        .subcommand(hunt_command(alloc)?)?
+    with_hunting_commands(alloc)?
         .subcommand(plan_command(alloc)?)?
         .subcommand(draw_command(alloc)?)
 }
 
-/// The subcommand `replay`: a recording, the hart to print, and which machines are kept.
-fn replay_command<'a>(alloc: Global) -> Result<Command<'a>, AllocError>
-    ensures app { IfOk result (λ command. app_of command ≡ replay_app) }
+/// The command without those that are neither of runs nor of recordings nor of hunts.
+fn with_hunting_commands<'a>(alloc: Global) -> Result<Command<'a>, AllocError>
+    ensures app { IfOk result (λ command. app_of command ≡ with_commands with_recording_commands hunting_commands) }
     ensures local { IfOk result (λ command. (out-Command command).has_globals ≡ false) }
 {
-    Command::new(alloc, "replay")
-        .about(REPLAY_ABOUT)
-        .after_help(REPLAY_AFTER_HELP)
-        .arg(recording(alloc))?
-        .arg(workers(alloc))?
-        .arg(number_given(alloc, "round", "The round of the hart to print, from 1 on"))?
-        .arg(number(alloc, "hart", "0", "The hart to print, from 0 on"))?
-        .arg(wide_number(
-            alloc,
-            "count",
-            "0",
-            "Print it after this many of the instructions that it did in the round",
-        ))?
-        .arg(number(
-            alloc,
-            "every",
-            "64",
-            "Of no effect so far: one question goes on from the first round",
-        ))
+    with_recording_commands(alloc)?
+        .subcommand(hunt_command(alloc)?)?
+        .subcommand(shrink_command(alloc)?)?
+        .subcommand(merge_command(alloc)?)
 }
 
-/// The subcommand `watch`: a recording, and the bytes whose accesses are printed.
-fn watch_command<'a>(alloc: Global) -> Result<Command<'a>, AllocError>
-    ensures app { IfOk result (λ command. app_of command ≡ watch_app) }
+/// The command with the subcommands of runs and recordings.
+fn with_recording_commands<'a>(alloc: Global) -> Result<Command<'a>, AllocError>
+    ensures app { IfOk result (λ command. app_of command ≡ with_recording_commands) }
     ensures local { IfOk result (λ command. (out-Command command).has_globals ≡ false) }
 {
-    Command::new(alloc, "watch")
-        .about(WATCH_ABOUT)
-        .after_help(WATCH_AFTER_HELP)
-        .arg(recording(alloc))?
-        .arg(positional(
-            alloc,
-            "address",
-            "ADDRESS",
-            "The address of the first byte that is watched, in decimal, or in hexadecimal after 0x",
-        ))?
-        .arg(wide_positional(
-            alloc,
-            "length",
-            "LENGTH",
-            "How many bytes are watched, in decimal",
-        ))?
-        .arg(workers(alloc))
+    with_run_commands(alloc)?
+        .subcommand(replay_command(alloc)?)?
+        .subcommand(watch_command(alloc)?)?
+        .subcommand(migrate_command(alloc)?)
 }
 
-/// The subcommand `migrate`: a recording, and where the new one goes.
-fn migrate_command<'a>(alloc: Global) -> Result<Command<'a>, AllocError>
-    ensures app { IfOk result (λ command. app_of command ≡ migrate_app) }
+/// The command with the subcommands that run a program by one plan.
+fn with_run_commands<'a>(alloc: Global) -> Result<Command<'a>, AllocError>
+    ensures app { IfOk result (λ command. app_of command ≡ with_commands bare_app run_commands) }
     ensures local { IfOk result (λ command. (out-Command command).has_globals ≡ false) }
 {
-    Command::new(alloc, "migrate")
-        .about(MIGRATE_ABOUT)
-        .after_help(MIGRATE_AFTER_HELP)
-        .arg(recording(alloc))?
-        .arg(positional(
-            alloc,
-            "out",
-            "OUT",
-            "The file that the new recording is written to",
-        ))
+    bare_command(alloc)
+        .subcommand(run_command(alloc)?)?
+        .subcommand(order_command(alloc)?)?
+        .subcommand(record_command(alloc)?)
+}
+
+/// The command without its subcommands.
+fn bare_command<'a>(alloc: Global) -> Command<'a>
+    ensures app { app_of result ≡ bare_app }
+    ensures local { (out-Command result).has_globals ≡ false }
+{
+    named_command(alloc, "dethart", ABOUT, AFTER_HELP)
+        .version(VERSION)
+        .subcommand_required(true)
+        .disable_help_subcommand(true)
 }

@@ -4,11 +4,11 @@ ghost use Rattle.clap.specs.Words.{FailsBy, found_of, rows_of, subcommand_of};
 ghost use Rattle.command_line.specs.Options.{dethart_app};
 ghost use Rattle.command_line.specs.Reading.{HoldsLine, HoldsMigrate, HoldsNamed, HoldsReplay, HoldsWatch, IsSubcommand, address_given, has_bad_address, has_bad_word, line_fault};
 
-use crate::families::{hunt_of, plan_of};
-use crate::numbers::{address_in, number_given, number_of, wide_number_of};
+use crate::families::{hunt_of, merge_of, plan_of, shrink_of};
+use crate::numbers::{address_in, number_given, number_of, wide_given, wide_number_of};
 use crate::options::dethart_command;
 use crate::runs::{draw_of, has_bad_show, print_of, record_of, run_of};
-use crate::seen::has_bad_bytes;
+use crate::seen::{has_bad_bytes, seen_of};
 use crate::settings::{Command, Migrate, Replay, Watch};
 use clap::error::ErrorKind;
 use clap::{ArgMatches, Error};
@@ -58,9 +58,11 @@ fn command_of<'a>(
         "order" => Command::Order(run_of(matches)),
         "record" => Command::Record(record_of(matches)),
         "replay" => Command::Replay(replay_of(matches)),
-        "watch" => Command::Watch(watch_of(matches)),
+        "watch" => Command::Watch(watch_of(alloc, matches)?),
         "migrate" => Command::Migrate(migrate_of(matches)),
         "hunt" => Command::Hunt(hunt_of(alloc, matches)?),
+        "shrink" => Command::Shrink(shrink_of(alloc, matches)?),
+        "merge" => Command::Merge(merge_of(alloc, matches)?),
         "plan" => Command::Plan(plan_of(matches)),
         // There is no other than `draw`.
         _ => Command::Draw(draw_of(alloc, matches)?),
@@ -76,21 +78,26 @@ fn replay_of<'a>(matches: &ArgMatches<'a>) -> Replay<'a>
         workers: number_of(matches, "workers", 4),
         round: number_given(matches, "round"),
         hart: number_of(matches, "hart", 0),
-        count: wide_number_of(matches, "count", 0),
+        count: wide_given(matches, "count"),
+        place: wide_given(matches, "place"),
         every: number_of(matches, "every", 64),
     }
 }
 
 /// What the matches of `watch` say.
-fn watch_of<'a>(matches: &ArgMatches<'a>) -> Watch<'a>
-    ensures { HoldsWatch (rows_of (found_of matches.now)) result }
+fn watch_of<'a>(alloc: Global, matches: &ArgMatches<'a>) -> Result<Watch<'a>, AllocError>
+    ensures { IfOk result (HoldsWatch (rows_of (found_of matches.now))) }
 {
-    Watch {
+    let more = seen_of(alloc, matches)?;
+    Ok(Watch {
         recording: matches.get_str("recording").unwrap_or(""),
         address: address_given(matches).unwrap_or(0),
         length: wide_number_of(matches, "length", 0),
+        more,
+        from: number_given(matches, "from"),
+        to: number_given(matches, "to"),
         workers: number_of(matches, "workers", 4),
-    }
+    })
 }
 
 /// What is said of a word that `clap` takes and the subcommand doesn't, if there is one.

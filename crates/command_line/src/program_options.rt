@@ -1,27 +1,39 @@
 //! The options of each subcommand that runs a guest program, as `clap` is told them.
 ghost use Rattle.std.specs.Prelude.{◌≡◌, IfOk, false};
-ghost use Rattle.clap.specs.Words.{app_of};
+ghost use Rattle.clap.specs.Words.{app_of, new_app};
 ghost use Rattle.clap.specs.declared.builder.command.Command.TheViews.{out-Command};
-ghost use Rattle.command_line.specs.Options.{program_rules, taking};
+ghost use Rattle.command_line.specs.Options.{guest_app, guest_rules, taking};
 
 use crate::arguments::{file, flag, number, positional, workers};
 use clap::Command;
 use std::alloc::{AllocError, Global};
 
-/// A subcommand that runs a guest program: the image, and what it is run with.
-pub(crate) fn program_command<'a>(
+/// A subcommand without arguments so far.
+pub(crate) fn named_command<'a>(
     alloc: Global,
     name: &'a str,
     about: &'a str,
     after_help: &'a str,
-    rounds: &'a str,
-) -> Result<Command<'a>, AllocError>
-    ensures app { IfOk result (λ command. app_of command ≡ taking name.entry.now (program_rules rounds.entry.now)) }
-    ensures local { IfOk result (λ command. (out-Command command).has_globals ≡ false) }
+) -> Command<'a>
+    ensures app { app_of result ≡ new_app name.entry.now }
+    ensures local { (out-Command result).has_globals ≡ false }
 {
     Command::new(alloc, name)
         .about(about)
         .after_help(after_help)
+}
+
+/// A subcommand that runs a guest program: the image, and the size of its machine.
+fn guest_command<'a>(
+    alloc: Global,
+    name: &'a str,
+    about: &'a str,
+    after_help: &'a str,
+) -> Result<Command<'a>, AllocError>
+    ensures app { IfOk result (λ command. app_of command ≡ taking name.entry.now guest_rules) }
+    ensures local { IfOk result (λ command. (out-Command command).has_globals ≡ false) }
+{
+    named_command(alloc, name, about, after_help)
         .arg(positional(
             alloc,
             "image",
@@ -34,7 +46,21 @@ pub(crate) fn program_command<'a>(
             "IMAGE is flat: bytes from address 0 on, all code",
         ))?
         .arg(number(alloc, "harts", "1", "Harts: 1 to 64"))?
-        .arg(number(alloc, "pages", "256", "Pages of 4096 bytes: 1 to 16384"))?
+        .arg(number(alloc, "pages", "256", "Pages of 4096 bytes: 1 to 16384"))
+}
+
+/// A subcommand that runs a guest program: the image, and what it is run with.
+pub(crate) fn program_command<'a>(
+    alloc: Global,
+    name: &'a str,
+    about: &'a str,
+    after_help: &'a str,
+    rounds: &'a str,
+) -> Result<Command<'a>, AllocError>
+    ensures app { IfOk result (λ command. app_of command ≡ guest_app name.entry.now rounds.entry.now) }
+    ensures local { IfOk result (λ command. (out-Command command).has_globals ≡ false) }
+{
+    guest_command(alloc, name, about, after_help)?
         .arg(number(alloc, "rounds", rounds, "Rounds: 0 to 4294967295"))?
         .arg(workers(alloc))?
         .arg(file(alloc, "input", "What the guest reads [default: no input]"))

@@ -18,39 +18,48 @@ is the line 'error N' on standard error, with the exit status 1.
 Exit status: 0 the recording was written, 1 a refusal, 2 a bad command line.";
 
 pub(crate) const REPLAY_ABOUT: &str =
-    "Does the run in the file RECORDING again, and says whether it is the recorded one.";
+    "Does the run in RECORDING again, and says whether it is the same.";
 
 pub(crate) const REPLAY_AFTER_HELP: &str = "\
 Examples:
   dethart replay guest.rec
-  dethart replay guest.rec --workers 1 --round 12 --hart 3 --count 40
+  dethart replay guest.rec --round 12 --hart 3
+  dethart replay guest.rec --round 12 --hart 3 --count 40
+  dethart replay guest.rec --hart 3 --place 12040
 
-The line 'same' says that the run is the recorded one, and 'differs R' that it isn't, first in round
-R. With --round the hart is printed instead, as the report prints one, after the first COUNT
-instructions that it did in round ROUND, or 'none' where there is no such round or hart or where it
-did fewer.
+The line 'same' says that the run is the recorded one, and 'differs R' that it
+isn't, first in round R.
 
-A refusal is the line 'error N' on standard error, with the exit status 1; dethart run --help lists
-what each N means.
+With --round the line 'count N' says how many instructions the hart did in that
+round. With --count too the hart is printed, as the report prints one, after
+that many of them. With --place and no round it is printed before its
+instruction at that place of the whole run, as the trace counts places from 0
+on, after the line 'round R' of the round in which it does that instruction.
+The line is 'none' where there is no such round, hart, count or place.
 
-Exit status: 0 the same, or with --round the hart or 'none' was printed, 1 a refusal, 2 a bad
-command line, 3 another run than the recorded one (differs R: first in round R).";
+A refusal is the line 'error N' on standard error, with the exit status 1;
+dethart run --help lists what each N means.
+
+Exit status: 0 the same, or what was asked for was printed, 1 a refusal, 2 a bad
+command line, 3 another run than the recorded one.";
 
 pub(crate) const WATCH_ABOUT: &str =
-    "Does the run in the file RECORDING again, and prints the accesses to some bytes of memory.";
+    "Does the run in RECORDING again, and prints accesses to some bytes.";
 
 pub(crate) const WATCH_AFTER_HELP: &str = "\
 Examples:
   dethart watch guest.rec 256 8
-  dethart watch guest.rec 0x100 8
+  dethart watch guest.rec 0x100 8 --see 0x200 4 --from 10 --to 20
 
-The line 'hits N' comes first, N the number of accesses, and then each access, as its line in the
-report's trace and in the order of the trace. An access is one of them where one of its bytes is
-among the LENGTH bytes from ADDRESS on. ADDRESS and LENGTH are numbers of 64 bits: decimal, and for
-ADDRESS also hexadecimal after 0x.
+The line 'hits N' comes first, N the number of accesses, and then each access,
+as its line in the report's trace and in the order of the trace. An access is
+one of them where one of its bytes is among the LENGTH bytes from ADDRESS on, or
+among those of a --see; with --from and --to, where it is of such a round too.
+ADDRESS and LENGTH are numbers of 64 bits: decimal, and for ADDRESS also
+hexadecimal after 0x.
 
-A refusal is the line 'error N' on standard error, with the exit status 1; dethart run --help lists
-what each N means.
+A refusal is the line 'error N' on standard error, with the exit status 1;
+dethart run --help lists what each N means.
 
 Exit status: 0 the accesses were printed, 1 a refusal, 2 a bad command line.";
 

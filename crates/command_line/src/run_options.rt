@@ -4,7 +4,9 @@ ghost use Rattle.clap.specs.Words.{app_of};
 ghost use Rattle.clap.specs.declared.builder.command.Command.TheViews.{out-Command};
 ghost use Rattle.command_line.specs.Options.{draw_app, order_app, plan_rules, record_app, run_app, running, with_rules};
 
-use crate::arguments::{file, flag, number, number_given, positional, quota, see, seed, show};
+use crate::arguments::{
+    file, flag, number, number_given, positional, quota, see, see_object, seed, show,
+};
 use crate::family_help::{DRAW_ABOUT, DRAW_AFTER_HELP};
 use crate::help::{ORDER_ABOUT, ORDER_AFTER_HELP, RUN_ABOUT, RUN_AFTER_HELP};
 use crate::program_options::program_command;
@@ -62,6 +64,7 @@ pub(crate) fn draw_command<'a>(alloc: Global) -> Result<Command<'a>, AllocError>
 {
     running_command(alloc, "draw", DRAW_ABOUT, DRAW_AFTER_HELP)?
         .arg(see(alloc, "Bytes whose accesses are drawn; can be repeated"))?
+        .arg(see_object(alloc, "The same, a symbol's bytes; can be repeated"))?
         .arg(number_given(alloc, "from", "First round that is drawn"))?
         .arg(number_given(alloc, "to", "Last round that is drawn"))
 }

@@ -4,7 +4,7 @@ ghost use Rattle.clap.specs.Words.{found_of, rows_of};
 ghost use Rattle.command_line.specs.Reading.{HoldsDraw, HoldsPlanChoice, HoldsPrint, HoldsProgram, HoldsRecord, HoldsRun, has_bad_show, shown_given, shown_in};
 
 use crate::numbers::{number_given, number_of, wide_number_of};
-use crate::seen::seen_of;
+use crate::seen::{seen_of, texts_of};
 use crate::settings::{Draw, PlanChoice, Print, Program, Record, Run, Shown};
 use clap::ArgMatches;
 use std::alloc::{AllocError, Global};
@@ -110,9 +110,11 @@ pub(crate) fn draw_of<'a>(alloc: Global, matches: &ArgMatches<'a>) -> Result<Dra
     ensures { IfOk result (HoldsDraw (rows_of (found_of matches.now))) }
 {
     let seen = seen_of(alloc, matches)?;
+    let objects = texts_of(alloc, matches, "see-object")?;
     Ok(Draw {
         run: run_of(matches),
         seen,
+        objects,
         from: number_given(matches, "from"),
         to: number_given(matches, "to"),
     })

@@ -1,8 +1,8 @@
-//! The bytes of memory that a command line names by `--see`.
+//! The bytes of memory that a command line names, and other words that may be there several times.
 ghost use Rattle.std.specs.Prelude.{◌≡◌, IfOk, map};
 ghost use Rattle.std.specs.List.{list_any};
 ghost use Rattle.clap.specs.Words.{found_of, rows_of};
-ghost use Rattle.command_line.specs.Reading.{bytes_of, has_bad_bytes, is_bad_pair, pairs, seen_given};
+ghost use Rattle.command_line.specs.Reading.{bytes_of, has_bad_bytes, is_bad_pair, pairs, seen_given, texts_given};
 
 use crate::numbers::{address_in, number_in};
 use crate::settings::Bytes;
@@ -15,6 +15,20 @@ pub(crate) fn seen_of(alloc: Global, matches: &ArgMatches<'_>) -> Result<Vec<Byt
 {
     match matches.get_strs("see") {
         Some(texts) => bytes_in(alloc, texts),
+        None => Ok(Vec::new(alloc)),
+    }
+}
+
+/// All texts of the argument or option `id`, in the order of the line.
+pub(crate) fn texts_of<'a>(
+    alloc: Global,
+    matches: &ArgMatches<'a>,
+    id: &str,
+) -> Result<Vec<&'a str>, AllocError>
+    ensures { IfOk result (λ texts. map (λ s. s.now) texts.items ≡ texts_given id.now (rows_of (found_of matches.now))) }
+{
+    match matches.get_strs(id) {
+        Some(texts) => Vec::from_slice(alloc, texts),
         None => Ok(Vec::new(alloc)),
     }
 }

@@ -15,6 +15,10 @@ pub enum Command<'a> {
     Migrate(Migrate<'a>),
     /// `hunt IMAGE`: run a guest program by many plans, and print the table of its endings.
     Hunt(Hunt<'a>),
+    /// `shrink IMAGE --plan-number N`: make a plan smaller that leads to the same ending.
+    Shrink(Shrink<'a>),
+    /// `merge TABLE..`: make one table of those of hunts that adjoin.
+    Merge(Merge<'a>),
     /// `plan N`: print a plan of the family.
     Plan(Plan),
     /// `draw IMAGE`: run a guest program, and draw the run.
@@ -108,17 +112,20 @@ pub struct Replay<'a> {
     pub workers: u32,
     /// The round of the hart to print, where one is wanted.
     pub round: Option<u32>,
-    /// The number of the hart to print. Where there is no round, it isn't looked at.
+    /// The number of the hart to print. Where there is neither a round nor a place, it isn't looked at.
     pub hart: u32,
-    /// After how many of the instructions that the hart did in the round it is printed. Where there is no round, it
-    /// isn't looked at.
-    pub count: u64,
+    /// After how many of the instructions that the hart did in the round it is printed. Where there is a round and no
+    /// count, how many these were is printed.
+    pub count: Option<u64>,
+    /// The place of an instruction among all that the hart did, before which it is printed. Where it is given, round and
+    /// count aren't looked at.
+    pub place: Option<u64>,
     /// A machine to go on from is kept after each round whose number is a multiple of this; 0: only the first.
     pub every: u32,
 }
 
 /// The words after `watch`.
-#[derive(Clone, Copy, Debug, PartialEq, Eq, Drop)]
+#[derive(Debug, PartialEq, Eq, Drop)]
 pub struct Watch<'a> {
     /// The path of the recording.
     pub recording: &'a str,
@@ -126,6 +133,12 @@ pub struct Watch<'a> {
     pub address: u64,
     /// How many bytes are watched.
     pub length: u64,
+    /// More bytes that are watched.
+    pub more: Vec<Bytes>,
+    /// The first round that is watched, where the line says one.
+    pub from: Option<u32>,
+    /// The last round that is watched, where the line says one.
+    pub to: Option<u32>,
     /// The number of threads.
     pub workers: u32,
 }
@@ -148,7 +161,7 @@ pub struct Bytes {
     pub length: u64,
 }
 
-/// Runs of a program by plans of a family: a part of the words after `hunt`.
+/// Runs of a program by plans of a family: a part of the words after `hunt` and `shrink`.
 #[derive(Debug, PartialEq, Eq, Drop)]
 pub struct Search<'a> {
     /// The program that is run.
@@ -157,6 +170,8 @@ pub struct Search<'a> {
     pub seed: u64,
     /// The bytes by which two endings differ, beside stops and output.
     pub seen: Vec<Bytes>,
+    /// The names of the guest program's objects whose bytes are looked at too.
+    pub objects: Vec<&'a str>,
 }
 
 /// The words after `hunt`.
@@ -168,6 +183,22 @@ pub struct Hunt<'a> {
     pub plans: u32,
     /// The number of the first of these.
     pub first: u32,
+}
+
+/// The words after `shrink`.
+#[derive(Debug, PartialEq, Eq, Drop)]
+pub struct Shrink<'a> {
+    /// The runs.
+    pub search: Search<'a>,
+    /// The number of the plan to make smaller.
+    pub plan_number: u32,
+}
+
+/// The words after `merge`.
+#[derive(Debug, PartialEq, Eq, Drop)]
+pub struct Merge<'a> {
+    /// The paths of the tables, in the order of the line.
+    pub tables: Vec<&'a str>,
 }
 
 /// The words after `plan`.
@@ -186,8 +217,10 @@ pub struct Plan {
 pub struct Draw<'a> {
     /// The run to draw.
     pub run: Run<'a>,
-    /// The bytes to which accesses are drawn; where there are none, all are.
+    /// The bytes to which accesses are drawn; where there are none and no objects, all are.
     pub seen: Vec<Bytes>,
+    /// The names of the guest program's objects to which accesses are drawn too.
+    pub objects: Vec<&'a str>,
     /// The first round that is drawn, where the line says one.
     pub from: Option<u32>,
     /// The last round that is drawn, where the line says one.

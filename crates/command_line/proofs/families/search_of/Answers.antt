@@ -11,4 +11,5 @@ returns c =
       program = c.program_of.ensures;
       seed = c.wide_number_of.ensures ∙ ap (wide_number_or 1) (one_text-rows f (codes "seed"));
       seen = c.in_ok-seen.ensures;
+      objects = c.in_ok-objects.ensures;
     }

@@ -1,15 +1,14 @@
-use Rattle.std.proofs.Common.{◌∙◌, ap, codes}
-use Rattle.std.specs.Prelude.{IfOk}
-use Rattle.clap.specs.Simple.{app_of_fields}
+use Rattle.std.proofs.Common.{codes}
 use Rattle.clap.specs.Words.{new_app}
-use Rattle.command_line.proofs.Chains.{Stands, last_one, local_at, one_more, shape_at}
 use Rattle.command_line.specs.Options.{plan_app}
+use Rattle.std.specs.Prelude.{IfOk}
+use Rattle.command_line.proofs.Chains.{Stands, last_one, local_at, one_more, shape_at}
 use Rattle.command_line.proofs.family_options.plan_command.Goals as goal
 use Rattle.command_line.proofs.family_options.plan_command.Goals.{After-arg-3}
 
 stands : (c : After-arg-3) → IfOk c.arg-3.result (λ command. Stands command plan_app)
 stands c =
-    let s0 : Stands c.after_help.result (new_app (codes "plan")) = record { shape = ap app_of_fields c.after_help.ensures ∙ (ap app_of_fields c.about.ensures ∙ c.new.ensures.app); local = ap (λ x. x.has_globals) c.after_help.ensures ∙ (ap (λ x. x.has_globals) c.about.ensures ∙ c.new.ensures.local) } in
+    let s0 : Stands c.named_command.result (new_app (codes "plan")) = record { shape = c.named_command.ensures.app; local = c.named_command.ensures.local } in
     let s1 = one_more _ _ c.in_ok-arg.field-0 _ _ s0 c.number_positional.ensures.rule c.number_positional.ensures.local c.in_ok-arg.ensures in
     let s2 = one_more _ _ c.in_ok-arg-2.field-0 _ _ s1 c.number.ensures.rule c.number.ensures.local c.in_ok-arg-2.ensures in
     last_one _ _ c.arg-3.result _ _ s2 c.seed.ensures.rule c.seed.ensures.local c.arg-3.ensures

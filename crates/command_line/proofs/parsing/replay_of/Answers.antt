@@ -2,7 +2,7 @@ use Rattle.std.proofs.Common.{◌∙◌, ap, codes}
 use Rattle.clap.specs.Words.{found_of}
 use Rattle.clap.proofs.WalkLemmas.{first_value-rows, one_text-rows}
 use Rattle.command_line.proofs.Texts.{text_or}
-use Rattle.command_line.specs.Reading.{number_given, number_or, wide_number_or}
+use Rattle.command_line.specs.Reading.{number_given, number_or}
 use Rattle.command_line.proofs.parsing.replay_of.Goals as goal
 
 pub returns : goal.returns
@@ -13,6 +13,7 @@ returns c =
       workers = c.number_of.ensures ∙ ap (number_or 4) (one_text-rows f (codes "workers"));
       round = c.number_given.ensures ∙ ap (number_given 32) (one_text-rows f (codes "round"));
       hart = c.number_of-2.ensures ∙ ap (number_or 0) (one_text-rows f (codes "hart"));
-      count = c.wide_number_of.ensures ∙ ap (wide_number_or 0) (one_text-rows f (codes "count"));
+      count = c.wide_given.ensures ∙ ap (number_given 64) (one_text-rows f (codes "count"));
+      place = c.wide_given-2.ensures ∙ ap (number_given 64) (one_text-rows f (codes "place"));
       every = c.number_of-3.ensures ∙ ap (number_or 64) (one_text-rows f (codes "every"));
     }

@@ -2,7 +2,7 @@ use Rattle.std.proofs.Common.{◌∙◌, ap, codes, unwrap_or}
 use Rattle.clap.specs.Words.{found_of}
 use Rattle.clap.proofs.WalkLemmas.{first_value-rows, one_text-rows}
 use Rattle.command_line.proofs.Texts.{text_or}
-use Rattle.command_line.specs.Reading.{number_or, wide_number_or}
+use Rattle.command_line.specs.Reading.{number_given, number_or, wide_number_or}
 use Rattle.command_line.proofs.parsing.watch_of.Goals as goal
 
 pub returns : goal.returns
@@ -12,5 +12,8 @@ returns c =
       recording = text_or c.get_str.result _ _ _ c.unwrap_or.ensures (c.get_str.ensures ∙ first_value-rows f (codes "recording"));
       address = c.unwrap_or-2.ensures ∙ ap (λ o. unwrap_or o 0) c.address_given.ensures;
       length = c.wide_number_of.ensures ∙ ap (wide_number_or 0) (one_text-rows f (codes "length"));
+      more = c.in_ok-more.ensures;
+      from = c.number_given.ensures ∙ ap (number_given 32) (one_text-rows f (codes "from"));
+      to = c.number_given-2.ensures ∙ ap (number_given 32) (one_text-rows f (codes "to"));
       workers = c.number_of.ensures ∙ ap (number_or 4) (one_text-rows f (codes "workers"));
     }

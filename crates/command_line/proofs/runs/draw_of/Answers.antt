@@ -10,6 +10,7 @@ returns c =
     record {
       run = c.run_of.ensures;
       seen = c.in_ok-seen.ensures;
+      objects = c.in_ok-objects.ensures;
       from = c.number_given.ensures ∙ ap (number_given 32) (one_text-rows f (codes "from"));
       to = c.number_given-2.ensures ∙ ap (number_given 32) (one_text-rows f (codes "to"));
     }
