@@ -2,6 +2,7 @@
 #![tactic(auto)]
 
 mod adding;
+mod block;
 mod ending;
 mod joining;
 mod row;

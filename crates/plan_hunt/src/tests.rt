@@ -25,9 +25,14 @@ impl Runs for Remainders {
     }
 }
 
-/// Whether the rows are those of plans 5 to 11.
-fn are_rows(rows: &[Row]) -> bool {
-    let expected = [(2, 5, 3), (0, 6, 2), (1, 7, 2)];
+/// The rows of plans 5 to 11.
+const PLANS_5_TO_11: [(u8, u32, u32); 3] = [(2, 5, 3), (0, 6, 2), (1, 7, 2)];
+
+/// The rows of plans 0 to 4,099, which are more than a block has.
+const PLANS_0_TO_4099: [(u8, u32, u32); 3] = [(0, 0, 1367), (1, 1, 1367), (2, 2, 1366)];
+
+/// Whether the rows are these: the remainder, the first plan, and how many plans.
+fn are_rows(rows: &[Row], expected: [(u8, u32, u32); 3]) -> bool {
     rows.len() == expected.len()
         && rows.iter().zip(expected).all(|(row, (remainder, first, plans))| {
             row.ending.output() == [remainder].as_slice()
@@ -40,7 +45,15 @@ fn are_rows(rows: &[Row]) -> bool {
 fn each_ending_is_told_once(rt: HostRuntime) -> Result<(), Fail> {
     let guest = Remainders { alloc: rt.alloc() };
     let rows = tabulate(&rt, rt.alloc(), &guest, 5, 7, 3)?;
-    assert!(rt; are_rows(&rows));
+    assert!(rt; are_rows(&rows, PLANS_5_TO_11));
+    Ok(())
+}
+
+#[test]
+fn a_table_goes_on_from_block_to_block(rt: HostRuntime) -> Result<(), Fail> {
+    let guest = Remainders { alloc: rt.alloc() };
+    let rows = tabulate(&rt, rt.alloc(), &guest, 0, 4100, 2)?;
+    assert!(rt; are_rows(&rows, PLANS_0_TO_4099));
     Ok(())
 }
 
@@ -50,6 +63,6 @@ fn tables_that_adjoin_are_joined(rt: HostRuntime) -> Result<(), Fail> {
     let mut rows = tabulate(&rt, rt.alloc(), &guest, 5, 2, 1)?;
     let others = tabulate(&rt, rt.alloc(), &guest, 7, 5, 2)?;
     join(&mut rows, others)?;
-    assert!(rt; are_rows(&rows));
+    assert!(rt; are_rows(&rows, PLANS_5_TO_11));
     Ok(())
 }

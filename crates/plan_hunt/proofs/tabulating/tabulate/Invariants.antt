@@ -1,14 +1,13 @@
-use Rattle.std.proofs.Common.{◌≡◌, All, length, vec_len}
-use Rattle.plan_hunt.specs.Working.{AreSlots, IsFound}
+use Rattle.std.proofs.Common.{◌≤◌, ◌-◌}
+use Rattle.plan_hunt.specs.Tables.{IsTable}
 use Rattle.plan_hunt.proofs.tabulating.tabulate.Given as goal
 
--- what is in the slots so far, and in the seats that are left
-abbrev pub invariant-loop-found : goal.invariant-loop-found
-invariant-loop-found g l = record {
-  count : length l.slots.items ≡ l.count;
-  slots : AreSlots (g.Q.Runs.ends l.runs) l.first l.slots.items;
-  seats : All (λ s. All (IsFound (g.Q.Runs.ends l.runs) l.first) s.items) l.seats.items;
+-- the table of the plans that are done
+abbrev pub invariant-loop-done : goal.invariant-loop-done
+invariant-loop-done g l = record {
+  done : l.done ≤ l.count;
+  table : IsTable (g.Q.Runs.ends l.runs) l.first l.done l.rows.items;
 }
 
-abbrev pub decreases-loop-found : goal.decreases-loop-found
-decreases-loop-found g l = vec_len l.seats
+abbrev pub decreases-loop-done : goal.decreases-loop-done
+decreases-loop-done g l = l.count - l.done
