@@ -1,0 +1,108 @@
+-- The objects that an ELF64 file's symbol table names (System V gABI, chapters "ELF Header", "Sections", "String Table" and
+-- "Symbol Table"), in a file that is little-endian.
+use Rattle.std.specs.Prelude.{ℕ, zero, suc, ◌+◌, ◌*◌, ◌/◌, ◌==◌, ◌&&◌, Bool, not, nat_le, nat_lt, if◌then◌else◌, bit_and, List, length, take, drop, slice_index, Option, Some, None, option_and_then}
+use Rattle.std.specs.Str.{bytes_eq}
+use Rattle.elf_loader.specs.ElfCauses.{has_magic, is_little_64, passes}
+use Rattle.elf_loader.specs.Segments.{field}
+use Rattle.elf_symbols.specs.declared.object.Object.{Object}
+use Rattle.elf_symbols.specs.declared.section.Section.{Section}
+use Rattle.elf_symbols.specs.declared.symbol.Symbol.{Symbol}
+
+infixl 10 ◌>>=◌
+abbrev pub ◌>>=◌ : {A B : Type 0} → Option A → (A → Option B) → Option B
+o >>= f = option_and_then f o
+
+-- ---- sections
+
+-- of the file's header: where the section headers are, the size of one, and how many there are
+abbrev pub headers_of : List ℕ → ℕ
+headers_of file = field file 40 8
+
+abbrev pub header_size_of : List ℕ → ℕ
+header_size_of file = field file 58 2
+
+abbrev pub header_count_of : List ℕ → ℕ
+header_count_of file = field file 60 2
+
+-- an ELF64 file, with section headers of 64 bytes each, all in the file
+abbrev pub has_sections : List ℕ → Bool
+has_sections file =
+    nat_le 64 (length file) && has_magic file && is_little_64 file && (header_size_of file == 64)
+    && not (passes (length file) (headers_of file) (64 * header_count_of file))
+
+-- the section of the header at an offset: its type, where its bytes are in the file, and the section that it is linked to
+abbrev pub section_at : List ℕ → ℕ → Section
+section_at file at = record {
+  kind = field file (at + 4) 4;
+  offset = field file (at + 24) 8;
+  size = field file (at + 32) 8;
+  link = field file (at + 40) 4;
+}
+
+-- the first section of type SHT_SYMTAB, 2, among n headers from an offset on
+abbrev pub symbols_from : List ℕ → ℕ → ℕ → Option Section
+symbols_from file at zero = None
+symbols_from file at (suc n) = if (section_at file at).kind == 2 then Some (section_at file at) else symbols_from file (at + 64) n
+
+abbrev pub symbols_of : List ℕ → Option Section
+symbols_of file = symbols_from file (headers_of file) (header_count_of file)
+
+-- the section of this number, where it is of type SHT_STRTAB, 3
+abbrev pub strings_of : List ℕ → ℕ → Option Section
+strings_of file k =
+    if nat_lt k (header_count_of file) && ((section_at file (headers_of file + 64 * k)).kind == 3)
+    then Some (section_at file (headers_of file + 64 * k)) else None
+
+-- a section's bytes, where they are all in the file
+abbrev pub bytes_of : List ℕ → Section → Option (List ℕ)
+bytes_of file s = if passes (length file) s.offset s.size then None else Some (take s.size (drop s.offset file))
+
+-- ---- symbols
+
+-- the symbol of the entry at an offset: where its name is among the strings, its type and binding, its value, and its size
+abbrev pub symbol_at : List ℕ → ℕ → Symbol
+symbol_at entries at = record {
+  name = field entries at 4;
+  info = slice_index entries (at + 4);
+  value = field entries (at + 8) 8;
+  size = field entries (at + 16) 8;
+}
+
+-- a symbol of type STT_OBJECT, 1, which has some bytes
+abbrev pub is_object : Symbol → Bool
+is_object s = (bit_and s.info 15 == 1) && nat_lt 0 s.size
+
+-- the string at a place is this name: its bytes stand there, and then the byte 0 that ends it
+abbrev pub is_name : List ℕ → ℕ → List ℕ → Bool
+is_name strings at name =
+    nat_lt (at + length name) (length strings) && bytes_eq (take (length name) (drop at strings)) name
+    && (slice_index strings (at + length name) == 0)
+
+abbrev pub is_named_object : List ℕ → List ℕ → Symbol → Bool
+is_named_object strings name s = is_object s && is_name strings s.name name
+
+abbrev pub object_at : Symbol → Object
+object_at s = record { address = s.value; length = s.size }
+
+-- the first object of a name among n entries of 24 bytes from an offset on
+abbrev pub object_from : List ℕ → List ℕ → List ℕ → ℕ → ℕ → Option Object
+object_from entries strings name at zero = None
+object_from entries strings name at (suc n) =
+    if is_named_object strings name (symbol_at entries at) then Some (object_at (symbol_at entries at))
+    else object_from entries strings name (at + 24) n
+
+unfoldable pub object_among : List ℕ → List ℕ → List ℕ → Option Object
+object_among entries strings name = object_from entries strings name 0 (length entries / 24)
+
+-- the object of a name in the symbol table, whose section is linked to that of the names
+abbrev pub object_in : List ℕ → List ℕ → Option Object
+object_in file name = do
+  symbols ← symbols_of file
+  strings ← strings_of file symbols.link
+  entries ← bytes_of file symbols
+  names ← bytes_of file strings
+  object_among entries names name
+
+-- the object of a name: none in what is no such file, nor where a table that is read passes the file's end
+unfoldable pub object_of : List ℕ → List ℕ → Option Object
+object_of file name = if has_sections file then object_in file name else None

@@ -1,0 +1,24 @@
+ghost use Rattle.std.specs.Prelude.{◌≡◌};
+ghost use Rattle.elf_symbols.specs.Symbols.{object_of};
+
+use crate::object::Object;
+use crate::section::{bytes_of, has_sections, strings_of, symbols_of};
+use crate::symbol::object_among;
+
+/// The object of a name in the symbol table of an ELF64 file: of the symbols with this name, the first that is an object of
+/// one or more bytes. The name is given without the byte 0 that ends it in the file.
+///
+/// There is none where the file is no little-endian ELF64 file, or a table that is read passes its end.
+#[tactic(auto, unfolding(crate::specs::Symbols::object_of))]
+pub fn find_object(file: &[u8], name: &[u8]) -> Option<Object>
+    ensures { result ≡ object_of file.now name.now }
+{
+    if !has_sections(file) {
+        return None;
+    }
+    let symbols = symbols_of(file)?;
+    let strings = strings_of(file, symbols.link)?;
+    let entries = bytes_of(file, symbols)?;
+    let names = bytes_of(file, strings)?;
+    object_among(entries, names, name)
+}

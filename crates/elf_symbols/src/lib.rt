@@ -1,0 +1,14 @@
+//! The objects that an ELF file's symbol table names.
+#![tactic(auto)]
+
+mod field;
+mod finding;
+mod object;
+mod section;
+mod symbol;
+
+pub use finding::find_object;
+pub use object::Object;
+
+#[cfg(test)]
+mod tests;
