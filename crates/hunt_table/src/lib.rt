@@ -6,7 +6,7 @@ mod header;
 mod table;
 
 pub use header::{Header, SeenRange};
-pub use table::write_table;
+pub use table::{add_table, write_table};
 
 #[cfg(test)]
 mod tests;

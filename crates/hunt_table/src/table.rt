@@ -33,9 +33,13 @@ pub fn write_table<S: Sink>(
     put_all(out, line.as_bytes())
 }
 
-/// Adds the whole table.
+/// Adds the text of a table to a line.
+///
+/// # Errors
+///
+/// The line found no memory; what it holds then is of no use.
 #[tactic(auto, unfolding(crate::specs::Text::table_text))]
-fn add_table(line: &mut Line, header: &Header, rows: &[Row]) -> Result<(), OutOfMemory>
+pub fn add_table(line: &mut Line, header: &Header, rows: &[Row]) -> Result<(), OutOfMemory>
     ensures { OnOk result (line.new ≡ line.old ++ table_text header.now rows.now) }
 {
     add_header(line, header, rows.len() as u64)?;

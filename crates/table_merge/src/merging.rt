@@ -1,0 +1,60 @@
+ghost use Rattle.std.specs.Prelude.{◌≡◌, ◌⊎◌, ◌<◌, ◌++◌, ℕ, Any, Err, IfErr, IfOk, OnErr, OnOk};
+ghost use Rattle.std.specs.Global.{Vec as Bytes};
+ghost use Rattle.host_io.specs.Taken.{BeganText};
+ghost use Rattle.host_io.specs.declared.error.RunError.TheVariants as refusals;
+ghost use Rattle.hunt_table.specs.Text.{table_text};
+ghost use Rattle.table_reader.specs.declared.table.Table.{Table as TableOf};
+ghost use Rattle.table_merge.specs.Merging.{AreApart, AreMerged, IsNoTable};
+ghost use Rattle.table_merge.specs.declared.error.MergeError.TheVariants.{Apart, NotATable, Run};
+
+use crate::appending::{append, are_few, harts_of};
+use crate::error::MergeError;
+use host_io::Sink;
+use hunt_table::write_table;
+use std::alloc::Global;
+use table_reader::{Table, read_table};
+
+/// The table that the tables of slices of one hunt are merged to.
+fn merged(alloc: Global, texts: &[Vec<u8>]) -> Result<Table, MergeError>
+    ensures merged { IfOk result (λ w. AreMerged texts.now w) }
+    ensures not_a_table { result ≡ Err NotATable → Any (λ (x : Bytes ℕ). IsNoTable x.items) texts.now }
+    ensures apart { result ≡ Err Apart → AreApart texts.now }
+    ensures errors { IfErr result (λ e. (e ≡ NotATable) ⊎ (e ≡ Apart) ⊎ (e ≡ Run refusals.OutOfMemory)) }
+{
+    let [first, others @ ..] = texts else {
+        return Err(MergeError::Apart);
+    };
+    let mut whole = read_table(alloc, first)?;
+    if !are_few(whole.header.first, whole.header.count) {
+        return Err(MergeError::Apart);
+    }
+    let harts = harts_of(&whole.rows);
+    for text in others {
+        append(&mut whole, read_table(alloc, text)?, harts)?;
+    }
+    Ok(whole)
+}
+
+/// Merges the tables of slices of one hunt, given by their texts in the order of their plans, and writes the table of all
+/// the plans.
+///
+/// # Errors
+///
+/// Of the texts in their order, the first that is not a table, `NotATable`, or does not adjoin those before it, `Apart`;
+/// `OutOfMemory`; `SinkFailed`. Only where the sink failed is anything out: a beginning of the table.
+pub fn merge<S: Sink>(alloc: Global, texts: &[Vec<u8>], out: &mut S) -> Result<(), MergeError>
+    // The sink took the table that the tables are merged to.
+    ensures merged { OnOk result ((w : TableOf) × AreMerged texts.now w × (S.took out.new ≡ S.took out.old ++ table_text w.header w.rows.items)) }
+    // Else it took nothing, or a beginning of that table.
+    ensures begun { OnErr result ((S.took out.new ≡ S.took out.old) ⊎ ((w : TableOf) × AreMerged texts.now w × BeganText (S.took out.old) (S.took out.new) (table_text w.header w.rows.items))) }
+    // Where anything else than the sink refuses, it took nothing.
+    ensures untouched { IfErr result (λ e. (e ≡ Run refusals.SinkFailed) ⊎ (S.took out.new ≡ S.took out.old)) }
+    // A text is refused where it is no table's, and tables where they do not adjoin.
+    ensures not_a_table { result ≡ Err NotATable → Any (λ (x : Bytes ℕ). IsNoTable x.items) texts.now }
+    ensures apart { result ≡ Err Apart → AreApart texts.now }
+    ensures errors { IfErr result (λ e. (e ≡ NotATable) ⊎ (e ≡ Apart) ⊎ (e ≡ Run refusals.OutOfMemory) ⊎ ((e ≡ Run refusals.SinkFailed) × (S.failures out.old < S.failures out.new))) }
+{
+    let table = merged(alloc, texts)?;
+    write_table(alloc, &table.header, &table.rows, out)?;
+    Ok(())
+}
