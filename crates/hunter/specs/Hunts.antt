@@ -1,5 +1,5 @@
 -- What a hunt is asked for, and what its runs end in.
-use Rattle.std.specs.Prelude.{◌≡◌, ◌⊎◌, ℕ, ◌+◌, ◌*◌, ◌-◌, ◌^◌, ◌<◌, ◌≤◌, ◌==◌, ◌&&◌, ◌||◌, length, nat_lt, if◌then◌else◌, Bool, false, List, [], ◌∷◌, ◌++◌, map, take, drop, Option, Some, None, Err}
+use Rattle.std.specs.Prelude.{◌≡◌, ◌⊎◌, ℕ, ◌+◌, ◌*◌, ◌-◌, ◌^◌, ◌<◌, ◌≤◌, ◌==◌, ◌&&◌, ◌||◌, length, nat_lt, if◌then◌else◌, Bool, false, List, [], ◌∷◌, ◌++◌, map, take, drop, Option, Some, None}
 use Rattle.std.specs.List.{list_all, list_any}
 use Rattle.elf_loader.specs.Causes.{IsLeast as IsLeastOfImage}
 use Rattle.elf_loader.specs.declared.load_error.LoadError.{LoadError as ImageCause}
@@ -8,6 +8,7 @@ use Rattle.hart_step.specs.declared.hart.Stop.{Stop}
 use Rattle.host_io.specs.declared.error.RunError.TheVariants as refusals
 use Rattle.machine.specs.Machine.{Running, after_rounds, opening}
 use Rattle.machine.specs.Settings.{StandsIn, image_of}
+use Rattle.round_planner.specs.Quotas.{Planned}
 use Rattle.plan_family.specs.declared.family.Family.{Family}
 use Rattle.plan_family.specs.Families.{family_plan}
 use Rattle.plan_hunt.specs.Endings.{Ended, ended}
@@ -20,7 +21,16 @@ use Rattle.hunter.specs.declared.settings.HuntSettings.{HuntSettings}
 
 -- ---- settings
 
--- 1 to 64 harts, 1 to 16,384 pages, 1 to 16 workers, and 1 or more plans
+-- 1 to 64 harts, 1 to 16,384 pages, and 1 to 16 workers
+pub record IsGuest (s : HuntSettings) : Type 0 where
+  pub some_harts : 1 ≤ s.harts
+  pub few_harts : s.harts ≤ 64
+  pub some_pages : 1 ≤ s.pages
+  pub few_pages : s.pages ≤ 16384
+  pub some_workers : 1 ≤ s.workers
+  pub few_workers : s.workers ≤ 16
+
+-- the same, and 1 or more plans
 pub record IsHunt (s : HuntSettings) : Type 0 where
   pub some_harts : 1 ≤ s.harts
   pub few_harts : s.harts ≤ 64
@@ -45,6 +55,15 @@ hunt_fault s =
     else (if list_any (is_outside s.pages) s.header.ranges.items then Some SeenOutside
     else None))))
 
+-- the same where the plans are not looked at
+abbrev pub shrink_fault : HuntSettings → Option HuntError
+shrink_fault s =
+    if nat_lt s.harts 1 || nat_lt 64 s.harts then Some (Run refusals.HartsOutOfRange)
+    else (if nat_lt s.pages 1 || nat_lt 16384 s.pages then Some (Run refusals.PagesOutOfRange)
+    else (if nat_lt s.workers 1 || nat_lt 16 s.workers then Some (Run refusals.WorkersOutOfRange)
+    else (if list_any (is_outside s.pages) s.header.ranges.items then Some SeenOutside
+    else None)))
+
 -- ---- endings
 
 -- the bytes of the ranges, one range after the other
@@ -60,9 +79,13 @@ ended_of ranges m = ended (map (λ (h : Hart). h.stop) m.state.harts) m.state.co
 abbrev pub family_of : HuntSettings → Family
 family_of s = record { seed = s.header.seed; harts = s.harts }
 
--- the ending of the run under plan n, from a file and an input
+-- the ending of the run under a plan, from a file and an input
+unfoldable pub ends_under : HuntSettings → List ℕ → List ℕ → Planned → Ended
+ends_under s file input p = ended_of s.header.ranges.items (after_rounds s.rounds (opening (image_of s.format file s.pages) input p))
+
+-- the ending of the run under plan n of the family
 unfoldable pub ends_after : HuntSettings → List ℕ → List ℕ → ℕ → Ended
-ends_after s file input n = ended_of s.header.ranges.items (after_rounds s.rounds (opening (image_of s.format file s.pages) input (family_plan (family_of s) n)))
+ends_after s file input n = ends_under s file input (family_plan (family_of s) n)
 
 -- the rows are the table of the hunt
 abbrev pub IsHunted : HuntSettings → List ℕ → List ℕ → List Row → Type 0

@@ -2,8 +2,7 @@ ghost use Rattle.std.specs.Prelude.{◌≡◌, ◌+◌, ◌≤◌, ◌<◌, ◌^
 ghost use Rattle.machine.specs.Machine.{Running, opening};
 ghost use Rattle.machine.specs.Settings.{image_of};
 ghost use Rattle.machine.specs.Untraced.{IsUntraced};
-ghost use Rattle.plan_family.specs.Families.{family_plan};
-ghost use Rattle.hunter.specs.Hunts.{IsHunt, ended_of, family_of, seen_of};
+ghost use Rattle.hunter.specs.Hunts.{IsGuest, ended_of, family_of, seen_of};
 
 use crate::settings::HuntSettings;
 use hart_step::{Hart, Stop};
@@ -13,6 +12,8 @@ use machine::{UntracedMachine, load};
 use pages::OutOfMemory;
 use plan_family::Family;
 use plan_hunt::{Ending, Runs};
+use plan_shrink::PlanRuns;
+use round_planner::Plan;
 use std::alloc::Global;
 use std::sync::Wait;
 use std::thread::Threads;
@@ -24,7 +25,7 @@ pub(crate) struct Guest<'a> {
     pub settings: &'a HuntSettings,
     pub file: &'a [u8],
     pub input: &'a [u8],
-    ghost range: { IsHunt settings.now },
+    ghost range: { IsGuest settings.now },
 }
 
 impl Runs for Guest<'_> {
@@ -32,24 +33,44 @@ impl Runs for Guest<'_> {
 
     ghost ends = { λ g. ends_after g.settings.now g.file.now g.input.now };
 
+    #[tactic(auto, unfolding(crate::specs::Hunts::ends_after))]
     fn run<R: Threads + Wait + Sync>(&self, rt: &R, number: u32) -> Result<Ending, OutOfMemory> {
-        let mut machine = self.opening(number)?;
+        self.run_under(rt, self.family().plan(self.alloc, number)?)
+    }
+}
+
+impl PlanRuns for Guest<'_> {
+    ghost use Rattle.hunter.specs.Hunts.{ends_under};
+
+    ghost ends = { λ g. ends_under g.settings.now g.file.now g.input.now };
+
+    fn run_under<R: Threads + Wait + Sync>(
+        &self,
+        rt: &R,
+        plan: Plan,
+    ) -> Result<Ending, OutOfMemory> {
+        let mut machine = self.opening(plan)?;
         refused(machine.run(rt, self.settings.rounds, 1))?;
         ending_of(self.alloc, &machine, &self.settings.header.ranges)
     }
 }
 
 impl Guest<'_> {
+    /// The family of its plans.
+    pub(crate) fn family(&self) -> Family
+        ensures { result ≡ family_of self.now.settings.now }
+    {
+        Family {
+            seed: self.settings.header.seed,
+            harts: self.settings.harts,
+        }
+    }
+
     /// The machine before the first round under a plan.
-    fn opening(&self, number: u32) -> Result<UntracedMachine, OutOfMemory>
-        ensures { IfOk result (λ u. IsUntraced (opening (image_of self.now.settings.now.format self.now.file.now self.now.settings.now.pages) self.now.input.now (family_plan (family_of self.now.settings.now) number)) u) }
+    fn opening(&self, plan: Plan) -> Result<UntracedMachine, OutOfMemory>
+        ensures { IfOk result (λ u. IsUntraced (opening (image_of self.now.settings.now.format self.now.file.now self.now.settings.now.pages) self.now.input.now plan) u) }
     {
         let settings = self.settings;
-        let family = Family {
-            seed: settings.header.seed,
-            harts: settings.harts,
-        };
-        let plan = family.plan(self.alloc, number)?;
         let image = refused(load(self.alloc, settings.format, self.file, settings.pages))?;
         let Ok(input) = Vec::from_slice(self.alloc, self.input) else {
             return Err(OutOfMemory);

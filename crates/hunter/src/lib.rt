@@ -5,10 +5,12 @@ mod error;
 mod guest;
 mod hunting;
 mod settings;
+mod shrinking;
 
 pub use error::HuntError;
 pub use hunting::{hunt, tabulate_hunt};
 pub use settings::HuntSettings;
+pub use shrinking::shrink;
 
 #[cfg(test)]
 mod tests;

@@ -1,6 +1,6 @@
 ghost use Rattle.std.specs.Prelude.{◌≡◌, ◌+◌, ◌*◌, IfOk, IfErr, None, Some, nat_lt};
 ghost use Rattle.std.specs.List.{list_any};
-ghost use Rattle.hunter.specs.Hunts.{IsHunt, hunt_fault, is_outside};
+ghost use Rattle.hunter.specs.Hunts.{IsGuest, IsHunt, hunt_fault, is_outside, shrink_fault};
 
 use crate::error::HuntError;
 use host_io::RunError;
@@ -31,11 +31,10 @@ fn is_outside(ranges: &[SeenRange], pages: u32) -> bool
         > 4096 * u64::from(pages))
 }
 
-/// Refuses what is out of range; of several, the one of the least number.
-pub(crate) fn check_hunt(settings: &HuntSettings) -> Result<(), HuntError>
-    ensures ok { IfOk result (λ _. hunt_fault settings.now ≡ None) }
-    ensures range { IfOk result (λ _. IsHunt settings.now) }
-    ensures err { IfErr result (λ e. hunt_fault settings.now ≡ Some e) }
+/// Refuses harts, pages or workers that are out of range.
+fn check_guest(settings: &HuntSettings) -> Result<(), HuntError>
+    ensures ok { IfOk result (λ _. IsGuest settings.now) }
+    ensures err { IfErr result (λ e. (hunt_fault settings.now ≡ Some e) × (shrink_fault settings.now ≡ Some e)) }
 {
     if settings.harts < 1 || settings.harts > 64 {
         return Err(HuntError::Run(RunError::HartsOutOfRange));
@@ -46,11 +45,34 @@ pub(crate) fn check_hunt(settings: &HuntSettings) -> Result<(), HuntError>
     if settings.workers < 1 || settings.workers > 16 {
         return Err(HuntError::Run(RunError::WorkersOutOfRange));
     }
+    Ok(())
+}
+
+/// Refuses what is out of range; of several, the one of the least number.
+pub(crate) fn check_hunt(settings: &HuntSettings) -> Result<(), HuntError>
+    ensures ok { IfOk result (λ _. hunt_fault settings.now ≡ None) }
+    ensures range { IfOk result (λ _. IsHunt settings.now) }
+    ensures err { IfErr result (λ e. hunt_fault settings.now ≡ Some e) }
+{
+    check_guest(settings)?;
     let first = settings.header.first;
     let count = settings.header.count;
     if count < 1 || count > u32::MAX - first {
         return Err(HuntError::PlansOutOfRange);
     }
+    if is_outside(&settings.header.ranges, settings.pages) {
+        return Err(HuntError::SeenOutside);
+    }
+    Ok(())
+}
+
+/// The same where the plans are not looked at.
+pub(crate) fn check_shrink(settings: &HuntSettings) -> Result<(), HuntError>
+    ensures ok { IfOk result (λ _. shrink_fault settings.now ≡ None) }
+    ensures range { IfOk result (λ _. IsGuest settings.now) }
+    ensures err { IfErr result (λ e. shrink_fault settings.now ≡ Some e) }
+{
+    check_guest(settings)?;
     if is_outside(&settings.header.ranges, settings.pages) {
         return Err(HuntError::SeenOutside);
     }

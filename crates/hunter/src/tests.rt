@@ -86,6 +86,17 @@ fn a_late_load_has_two_endings(rt: HostRuntime) -> Result<(), Fail> {
     Ok(())
 }
 
+/// With a quota of 2, the store is in round 2 and the load in round 5; with 1, hart 1 still runs after round 10.
+#[test]
+fn a_late_load_needs_a_quota_of_2(rt: HostRuntime) -> Result<(), Fail> {
+    let image = image(rt.alloc())?;
+    let asked = settings(rt.alloc(), 0, 1)?;
+    let plan = shrink(&rt, rt.alloc(), &image, &[], &asked, 3)?;
+    assert_eq!(rt; plan.budget(), 1);
+    assert!(rt; plan.text(rt.alloc())?.as_slice() == b"2\n".as_slice());
+    Ok(())
+}
+
 #[test]
 fn no_plans_are_refused(rt: HostRuntime) -> Result<(), Fail> {
     let asked = settings(rt.alloc(), u32::MAX, 1)?;

@@ -1,12 +1,12 @@
 -- The rows of a family's plans: how many there are, how long they are, and that their quotas are in range.
-use Rattle.std.proofs.Common.{◌≡◌, ℕ, zero, suc, ◌+◌, ◌/◌, ◌%◌, ◌^◌, ◌<◌, ◌≤◌, ◌==◌, ◌&&◌, not, nat_lt, if◌then◌else◌, Bool, false, List, [], ◌∷◌, ◌++◌, length, Ok, Err, Result, refl, sym, ◌∙◌, ap, arith, add-one}
+use Rattle.std.proofs.Common.{◌≡◌, ℕ, zero, suc, ◌+◌, ◌/◌, ◌%◌, ◌^◌, ◌<◌, ◌≤◌, ◌==◌, ◌&&◌, not, nat_lt, if◌then◌else◌, Bool, false, List, [], ◌∷◌, ◌++◌, length, Ok, Err, Result, refl, ◌∙◌, ap, arith, add-one}
 use Rattle.std.proofs.Math.Nat.{one-le-pow, pow-le-pow_right}
 use Rattle.std.proofs.lemmas.Bool.Decides.{nat_tests}
 use Rattle.std.proofs.lemmas.List.{length-append}
 use Rattle.std.proofs.lemmas.List.Folds.{list_any-append}
 use Rattle.std.specs.List.{list_any}
 use Rattle.round_planner.specs.Causes.{checked}
-use Rattle.round_planner.specs.Quotas.{Planned, planned}
+use Rattle.round_planner.specs.Quotas.{planned}
 use Rattle.round_planner.specs.Rows.{has_odd_row, has_out_of_range, is_odd_row, is_out_of_range}
 use Rattle.round_planner.specs.declared.plan_error.PlanError.{PlanError}
 use Rattle.round_planner.specs.declared.plan_error.PlanError.TheVariants.{QuotaOutOfRange, RowLength, TooManyRows}
@@ -89,14 +89,6 @@ quotas_next f n row k = rw (add-one k) refl
 pub rows_next : (f : Family) (n k : ℕ) → plan_rows f n (k + 1) ≡ plan_rows f n k ++ quotas f n (k + 1) f.harts ∷ []
 rows_next f n k = rw (add-one k) refl
 
-pub not_refused : (f : Family) (n k : ℕ) (rows : List (List ℕ)) (e : PlanError) → k ≤ 64 → rows ≡ plan_rows f n k → checked f.harts rows ≡ Err e → ⊥
-not_refused f n k rows e h same refused = clash (sym (rows_pass f n k h) ∙ sym (ap (checked f.harts) same) ∙ refused)
-  where
-    clash : ◌≡◌ {A = Result (Unit {0}) PlanError} (Ok tt) (Err e) → ⊥
-    clash q = cc
-
-pub is_family_plan : (f : Family) (n count budget : ℕ) (rows : List (List ℕ)) (p : Planned) → p ≡ planned f.harts rows budget → rows ≡ plan_rows f n count →
-    count ≡ row_count n → budget ≡ serial_budget n → p ≡ family_plan f n
+pub rows_of_plan : (f : Family) (n count : ℕ) (rows : List (List ℕ)) → rows ≡ plan_rows f n count → count ≡ row_count n → planned f.harts rows (serial_budget n) ≡ family_plan f n
 unfolding family_plan
-is_family_plan f n count budget rows p is same rows_are budget_is =
-    is ∙ ap (λ (r : List (List ℕ)). planned f.harts r budget) (same ∙ ap (plan_rows f n) rows_are) ∙ ap (planned f.harts (plan_rows f n (row_count n))) budget_is
+rows_of_plan f n count rows same count_is = ap (λ (r : List (List ℕ)). planned f.harts r (serial_budget n)) (same ∙ ap (plan_rows f n) count_is)

@@ -1,4 +1,6 @@
-ghost use Rattle.std.specs.Prelude.{◌≡◌, ◌≤◌, ◌<◌, ◌+◌, ◌*◌, ◌^◌, IfOk, map};
+ghost use Rattle.std.specs.Prelude.{◌≡◌, ◌≤◌, ◌<◌, ◌+◌, ◌*◌, ◌^◌, IfOk, Ok, length, map};
+ghost use Rattle.round_planner.specs.Causes.{checked};
+ghost use Rattle.round_planner.specs.Quotas.{planned};
 ghost use Rattle.plan_family.specs.Families.{PlansAreAccepted, drawn, family_plan, pace, plan_rows, quota, quotas, row_count, serial_budget};
 
 use crate::draw::draw;
@@ -91,6 +93,22 @@ impl Family {
         Ok(rows)
     }
 
+    /// The rows of plan `number` of the family.
+    ///
+    /// # Errors
+    ///
+    /// `OutOfMemory` where the rows found no memory.
+    pub fn rows_of(&self, alloc: Global, number: u32) -> Result<Vec<Vec<u32>>, OutOfMemory>
+        requires some_harts { 1 ≤ self.now.harts }
+        requires few_harts { self.now.harts ≤ 64 }
+        // With the harts of the family and the budget of the number they are the plan.
+        ensures rows { IfOk result (λ v. planned self.now.harts (map (λ r. r.items) v.items) (serial_budget number) ≡ family_plan self.now number) }
+        ensures some { IfOk result (λ v. 1 ≤ length v.items) }
+        ensures accepted { IfOk result (λ v. checked self.now.harts (map (λ r. r.items) v.items) ≡ Ok tt) }
+    {
+        self.rows(alloc, number, row_count(number))
+    }
+
     /// Plan `number` of the family.
     ///
     /// # Errors
@@ -101,8 +119,8 @@ impl Family {
         requires few_harts { self.now.harts ≤ 64 }
         ensures { IfOk result (λ p. p ≡ family_plan self.now number) }
     {
-        let rows = self.rows(alloc, number, row_count(number))?;
-        match Plan::of_rows(rows, self.harts, budget(number)) {
+        let rows = self.rows_of(alloc, number)?;
+        match Plan::of_rows(rows, self.harts, serial_budget(number)) {
             Ok(plan) => Ok(plan),
             Err(_) => unreachable!(),
         }
@@ -117,7 +135,8 @@ fn row_count(number: u32) -> u32
     ROW_COUNTS[(number / 2 % 4) as usize]
 }
 
-fn budget(number: u32) -> u32
+/// How many instructions a hart may do in a serial turn of plan `number` of a family.
+pub fn serial_budget(number: u32) -> u32
     ensures budget { result ≡ serial_budget number }
     ensures some { 1 ≤ result }
     ensures few { result ≤ 64 }

@@ -4,7 +4,7 @@
 mod draw;
 mod family;
 
-pub use family::{Family, plans_are_accepted};
+pub use family::{Family, plans_are_accepted, serial_budget};
 
 #[cfg(test)]
 mod tests;

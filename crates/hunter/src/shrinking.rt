@@ -1,0 +1,74 @@
+ghost use Rattle.std.specs.Prelude.{◌≡◌, ◌⊎◌, Err, IfErr, IfOk, None, Some};
+ghost use Rattle.elf_loader.specs.declared.load_error.LoadError.{LoadError as ImageCause};
+ghost use Rattle.host_io.specs.declared.error.RunError.TheVariants as refusals;
+ghost use Rattle.plan_family.specs.Families.{family_plan};
+ghost use Rattle.plan_shrink.specs.Steps.{IsShrunk};
+ghost use Rattle.hunter.specs.Hunts.{IsHuntReason, IsImageCause, ends_under, family_of, shrink_fault};
+ghost use Rattle.hunter.specs.declared.error.HuntError.{HuntError as Refusal};
+ghost use Rattle.hunter.specs.declared.error.HuntError.TheVariants.{Run};
+
+use crate::error::HuntError;
+use crate::guest::Guest;
+use crate::settings::{HuntSettings, check_shrink};
+use machine::load;
+use pages::OutOfMemory;
+use plan_family::serial_budget;
+use round_planner::Plan;
+use std::alloc::Global;
+use std::sync::Wait;
+use std::thread::Threads;
+
+/// A plan that ends as plan `number` of the family does, and from which no single step to a smaller plan ends so.
+///
+/// Of the settings, the header's `first` and `count` are not looked at. The runs go one after another.
+///
+/// # Errors
+///
+/// The refusals of the settings, then of the image; `OutOfMemory`.
+pub fn shrink<R: Threads + Wait + Sync>(
+    rt: &R,
+    alloc: Global,
+    image: &[u8],
+    input: &[u8],
+    settings: &HuntSettings,
+    number: u32,
+) -> Result<Plan, HuntError>
+    // It has the harts and the budget of plan `number` and its ending, and no single step from it leads to that ending.
+    ensures shrunk { IfOk result (λ p. IsShrunk (ends_under settings.now image.now input.now) (family_plan (family_of settings.now) number) p) }
+    // Settings out of range are refused first, and then an image.
+    ensures settings { (e : Refusal) → shrink_fault settings.now ≡ Some e → result ≡ Err e }
+    // What is refused then is for a reason that stands.
+    ensures errors { shrink_fault settings.now ≡ None → IfErr result (λ e. IsHuntReason settings.now image.now e) }
+    ensures image { (cause : ImageCause) → shrink_fault settings.now ≡ None → IsImageCause settings.now image.now cause → (result ≡ Err (Run (refusals.Image cause))) ⊎ (result ≡ Err (Run refusals.OutOfMemory)) }
+{
+    check_shrink(settings)?;
+    // The cause for which an image is refused is told before any run.
+    load(alloc, settings.format, image, settings.pages)?;
+    let guest = Guest {
+        alloc,
+        settings,
+        file: image,
+        input,
+    };
+    Ok(shrunk(rt, &guest, number)?)
+}
+
+/// The same of a guest.
+fn shrunk<R: Threads + Wait + Sync>(
+    rt: &R,
+    guest: &Guest<'_>,
+    number: u32,
+) -> Result<Plan, OutOfMemory>
+    ensures { IfOk result (λ p. IsShrunk (ends_under guest.now.settings.now guest.now.file.now guest.now.input.now) (family_plan (family_of guest.now.settings.now) number) p) }
+{
+    let family = guest.family();
+    let rows = family.rows_of(guest.alloc, number)?;
+    plan_shrink::shrink(
+        rt,
+        guest.alloc,
+        guest,
+        rows,
+        family.harts,
+        serial_budget(number),
+    )
+}

@@ -1,0 +1,4 @@
+pub mod Accepted
+pub mod Numbered
+pub mod Sizes
+pub mod Passes

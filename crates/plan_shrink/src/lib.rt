@@ -1,0 +1,16 @@
+//! A smaller plan that leads to the same ending, found by single steps.
+#![tactic(auto)]
+
+mod changing;
+mod draft;
+mod runs;
+mod shrinking;
+mod size;
+mod step;
+
+pub use runs::PlanRuns;
+pub use shrinking::shrink;
+pub use step::{Change, Step, Way};
+
+#[cfg(test)]
+mod tests;
