@@ -1,6 +1,7 @@
 pub mod Faults
 pub mod First
 pub mod SeenOf
+pub mod Untraced
 pub mod Kept
 pub mod KeptRounds
 pub mod Ranges
@@ -9,3 +10,9 @@ pub mod Counted
 pub mod Grown
 pub mod KeptMachines
 pub mod Verdicts
+pub mod Quotas
+pub mod PastDone
+pub mod RoundCount
+pub mod Begun
+pub mod PlaceSought
+pub mod HitsAdded

@@ -1,5 +1,5 @@
 -- The events of a trace that have a byte in one of some ranges.
-use Rattle.std.specs.Prelude.{ℕ, ◌&&◌, Bool, nat_le, List, filter}
+use Rattle.std.specs.Prelude.{ℕ, ◌&&◌, Bool, nat_le, List, filter, Option, Some, None}
 use Rattle.std.specs.List.{list_any}
 use Rattle.pages.specs.declared.access.Range.{Range}
 use Rattle.pages.specs.Memory.{in_range}
@@ -26,3 +26,8 @@ is_within from to e = nat_le from e.round && nat_le e.round to
 -- the events of those rounds, in the order of the trace
 abbrev pub of_rounds : ℕ → ℕ → List Event → List Event
 of_rounds from to es = filter (is_within from to) es
+
+-- the hits, of some rounds alone where they are told
+abbrev pub sought : Option (ℕ × ℕ) → List Range → List Event → List Event
+sought None ranges t = hits ranges t
+sought (Some x) ranges t = of_rounds x.0 x.1 (hits ranges t)

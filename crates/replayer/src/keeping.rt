@@ -1,6 +1,8 @@
 ghost use Rattle.std.specs.Prelude.{◌≡◌, ◌≤◌, ◌<◌, ◌↔◌, ◌++◌, ◌∷◌, [], All, true, map, length, IsTrue, IfOk, IfErr, OnOk};
 ghost use Rattle.hart_step.specs.Stops.{has_stop};
 ghost use Rattle.host_io.specs.declared.error.RunError.TheVariants as refusals;
+ghost use Rattle.machine.specs.Machine.{Running};
+ghost use Rattle.machine.specs.Untraced.{IsUntraced};
 ghost use Rattle.std.specs.Int.{w64};
 ghost use Rattle.recording.specs.Fields.{HaveEach};
 ghost use Rattle.recording.specs.Grammar.{any, hart_summary, kept_after, registers, summary};
@@ -9,7 +11,7 @@ ghost use Rattle.replayer.specs.Summaries.{IsSeenOf, code_of, hart_summary_of, k
 
 use hart_step::{Hart, Stop};
 use host_io::RunError;
-use machine::Machine;
+use machine::{Machine, UntracedMachine};
 use recording::{HartSummary, Kept, Summary};
 use std::alloc::Global;
 
@@ -38,6 +40,22 @@ pub(crate) fn seen_of(machine: &Machine, round: u32) -> Seen<'_>
         harts: machine.harts(),
         output: machine.output().len() as u64,
         trace: machine.trace().len() as u64,
+        round,
+    }
+}
+
+/// The same of a machine that keeps no trace.
+pub(crate) fn seen_untraced(machine: &UntracedMachine, round: u32) -> Seen<'_>
+    requires { round ≡ machine.now.rounds }
+    ensures seen { (m : Running) → IsUntraced m machine.now → IsSeenOf result m.state }
+    ensures harts { length result.harts.now ≡ machine.now.plan.harts }
+    ensures round { result.round ≡ round }
+    ensures stops { (m : Running) → IsUntraced m machine.now → All (λ h. has_stop h.stop ≡ true) result.harts.now }
+{
+    Seen {
+        harts: machine.harts(),
+        output: machine.output().len() as u64,
+        trace: machine.events(),
         round,
     }
 }

@@ -2,22 +2,23 @@
 #![tactic(auto)]
 
 mod checkpoints;
+mod counting;
 mod keeping;
 mod opened;
 mod past;
+mod placing;
 mod recorder;
 mod replaying;
 mod verdict;
 mod watching;
 
 pub use checkpoints::Replay;
+pub use counting::count_at;
 pub use past::state_at;
+pub use placing::state_before;
 pub use recorder::{record, record_with};
 pub use recording::{Cause, ReadError, Recording, migrate, read_recording, write_recording};
 pub use replaying::replay;
 pub use round_schedule::Event as Hit;
 pub use verdict::Verdict;
 pub use watching::{watch, watch_rounds};
-
-#[cfg(test)]
-mod tests;

@@ -4,12 +4,13 @@ ghost use Rattle.round_planner.specs.Quotas.{Planned};
 ghost use Rattle.round_planner.specs.declared.plan_error.PlanError.{PlanError as PlanCause};
 ghost use Rattle.host_io.specs.declared.error.RunError.TheVariants as refusals;
 ghost use Rattle.machine.specs.Settings.{RefusedAs, settings_fault};
+ghost use Rattle.machine.specs.Untraced.{IsUntraced};
 ghost use Rattle.machine.specs.declared.settings.Settings.{Settings as Asked};
 ghost use Rattle.replayer.specs.Refusals.{AreNoWorkers, AreWorkers, HasImage, HasImageCause, HasPlanCause, HasReason};
 ghost use Rattle.replayer.specs.Replayed.{IsPlanFor, format_of, start_of};
 
 use host_io::RunError;
-use machine::{Format, Machine, Settings, prepare};
+use machine::{Format, Machine, Settings, UntracedMachine, prepare, prepare_untraced};
 use recording::Recording;
 use std::alloc::Global;
 
@@ -29,6 +30,24 @@ pub(crate) fn opened(
 {
     let settings = settings_of(recording, workers);
     prepare(alloc, recording.image(), recording.input(), &settings)
+}
+
+/// The same without a trace.
+#[tactic(auto, using(crate::proofs::Faults::no_workers, crate::proofs::Faults::no_fault))]
+pub(crate) fn opened_untraced(
+    alloc: Global,
+    recording: &Recording,
+    workers: u32,
+) -> Result<UntracedMachine, RunError>
+    ensures machine { IfOk result (λ u. (plan : Planned) × IsPlanFor recording.now plan × IsUntraced (start_of recording.now plan) u) }
+    ensures in_range { IfOk result (λ _. AreWorkers workers) }
+    ensures workers { AreNoWorkers workers → result ≡ Err refusals.WorkersOutOfRange }
+    ensures errors { AreWorkers workers → IfErr result (λ e. HasReason recording.now e) }
+    ensures image { (cause : ImageCause) → AreWorkers workers → HasImageCause recording.now cause → RefusedAs (refusals.Image cause) result }
+    ensures plan { (cause : PlanCause) → AreWorkers workers → HasImage recording.now → HasPlanCause recording.now cause → RefusedAs (refusals.Plan cause) result }
+{
+    let settings = settings_of(recording, workers);
+    prepare_untraced(alloc, recording.image(), recording.input(), &settings)
 }
 
 /// What a recording says of its run, with so many workers.

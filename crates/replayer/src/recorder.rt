@@ -4,16 +4,18 @@ ghost use Rattle.round_planner.specs.Quotas.{Planned};
 ghost use Rattle.round_planner.specs.declared.plan_error.PlanError.{PlanError as PlanCause};
 ghost use Rattle.host_io.specs.declared.error.RunError.{RunError as Refusal};
 ghost use Rattle.host_io.specs.declared.error.RunError.TheVariants as refusals;
+ghost use Rattle.machine.specs.Machine.{Running};
 ghost use Rattle.machine.specs.Settings.{IsImage, IsImageCause, IsInRange, IsPlan, IsPlanCause, IsReason, RefusedAs, settings_fault};
+ghost use Rattle.machine.specs.Untraced.{IsUntraced};
 ghost use Rattle.recording.specs.Fields.{HaveEach};
 ghost use Rattle.recording.specs.Grammar.{kept_after};
 ghost use Rattle.recording.specs.Views.{kept_view};
 ghost use Rattle.replayer.specs.Replayed.{number_of, recorded_of, recorded_with};
 ghost use Rattle.replayer.specs.Summaries.{kept_of_rounds};
 
-use crate::keeping::{keep, seen_of};
+use crate::keeping::{keep, seen_untraced};
 use host_io::RunError;
-use machine::{Format, Machine, Settings, prepare};
+use machine::{Format, Settings, UntracedMachine, prepare_untraced};
 use recording::{Kept, Parts, Recording};
 use std::alloc::Global;
 use std::sync::Wait;
@@ -62,7 +64,7 @@ pub fn record_with<R: Threads + Wait + Sync>(
     // A plan is refused where the image is good.
     ensures plan { (cause : PlanCause) → settings_fault settings.now ≡ None → IsImage settings.now image.now → IsPlanCause settings.now cause → RefusedAs (refusals.Plan cause) result }
 {
-    let mut machine = prepare(alloc, image, input, settings)?;
+    let mut machine = prepare_untraced(alloc, image, input, settings)?;
     let kept = keep_rounds(
         rt,
         alloc,
@@ -78,21 +80,23 @@ pub fn record_with<R: Threads + Wait + Sync>(
 fn keep_rounds<R: Threads + Wait + Sync>(
     rt: &R,
     alloc: Global,
-    machine: &mut Machine,
+    machine: &mut UntracedMachine,
     rounds: u32,
     every: u32,
     workers: u32,
 ) -> Result<Vec<Kept>, RunError>
     requires workers { (1 ≤ workers) × (workers ≤ 16) }
-    requires opened { machine.old.state.rounds ≡ 0 }
-    ensures kept { IfOk result (λ v. map kept_view v.items ≡ kept_of_rounds every rounds machine.old) }
+    requires opened { machine.old.rounds ≡ 0 }
+    // The harts of a run have good stops.
+    requires run { (m : Running) × IsUntraced m machine.old }
+    ensures kept { (m : Running) → IsUntraced m machine.old → IfOk result (λ v. map kept_view v.items ≡ kept_of_rounds every rounds m) }
     ensures ranges { IfOk result (λ v. HaveEach rounds 1 (kept_after machine.old.plan.harts every) (map kept_view v.items)) }
     ensures refused { IfErr result (λ e. e ≡ refusals.OutOfMemory) }
 {
     let mut kept = Vec::new(alloc);
     for done in 0..rounds {
         machine.run(rt, 1, workers)?;
-        let of_round = keep(alloc, &seen_of(machine, done + 1), every)?;
+        let of_round = keep(alloc, &seen_untraced(machine, done + 1), every)?;
         add(&mut kept, of_round)?;
     }
     Ok(kept)

@@ -3,17 +3,19 @@ ghost use Rattle.elf_loader.specs.declared.load_error.LoadError.{LoadError as Im
 ghost use Rattle.round_planner.specs.Quotas.{Planned};
 ghost use Rattle.round_planner.specs.declared.plan_error.PlanError.{PlanError as PlanCause};
 ghost use Rattle.host_io.specs.declared.error.RunError.TheVariants as refusals;
+ghost use Rattle.machine.specs.Machine.{Running};
 ghost use Rattle.machine.specs.Settings.{RefusedAs};
+ghost use Rattle.machine.specs.Untraced.{IsUntraced};
 ghost use Rattle.recording.specs.Views.{kept_view};
 ghost use Rattle.replayer.specs.Refusals.{AreNoWorkers, AreWorkers, HasImage, HasImageCause, HasPlanCause, HasReason};
 ghost use Rattle.replayer.specs.Replayed.{IsNextVerdict, IsPlanFor, IsVerdict, IsVerdictOn, start_of};
 ghost use Rattle.replayer.specs.Summaries.{kept_in};
 
-use crate::keeping::{Seen, agrees, seen_of};
-use crate::opened::opened;
+use crate::keeping::{Seen, agrees, seen_untraced};
+use crate::opened::opened_untraced;
 use crate::verdict::Verdict;
 use host_io::RunError;
-use machine::Machine;
+use machine::UntracedMachine;
 use recording::{Kept, Recording};
 use std::alloc::Global;
 use std::sync::Wait;
@@ -38,7 +40,7 @@ pub fn replay<R: Threads + Wait + Sync>(
     // A plan is refused where the image is good.
     ensures plan { (cause : PlanCause) → AreWorkers workers → HasImage recording.now → HasPlanCause recording.now cause → RefusedAs (refusals.Plan cause) result }
 {
-    let mut machine = opened(alloc, recording, workers)?;
+    let mut machine = opened_untraced(alloc, recording, workers)?;
     // So many rounds are kept, as 32 bits hold.
     let _rounds = recording.rounds();
     first_difference(
@@ -54,21 +56,21 @@ pub fn replay<R: Threads + Wait + Sync>(
 /// another than what was kept of it. It may wait.
 fn first_difference<R: Threads + Wait + Sync>(
     rt: &R,
-    machine: &mut Machine,
+    machine: &mut UntracedMachine,
     kept: &[Kept],
     every: u32,
     workers: u32,
 ) -> Result<Verdict, RunError>
     requires workers { (1 ≤ workers) × (workers ≤ 16) }
-    requires opened { machine.old.state.rounds ≡ 0 }
+    requires opened { machine.old.rounds ≡ 0 }
     requires rounds { length kept.now < 2 ^ 32 }
-    ensures verdict { IfOk result (λ v. IsVerdictOn (map kept_view kept.now) every machine.old v) }
+    ensures verdict { (m : Running) → IsUntraced m machine.old → IfOk result (λ v. IsVerdictOn (map kept_view kept.now) every m v) }
     ensures refused { IfErr result (λ e. e ≡ refusals.OutOfMemory) }
 {
     for place in 0..kept.len() {
         machine.run(rt, 1, workers)?;
         let round = place as u32 + 1;
-        if !agrees(&kept[place], every, &seen_of(machine, round)) {
+        if !agrees(&kept[place], every, &seen_untraced(machine, round)) {
             return Ok(Verdict::Differs(round));
         }
     }

@@ -3,16 +3,19 @@ ghost use Rattle.elf_loader.specs.declared.load_error.LoadError.{LoadError as Im
 ghost use Rattle.round_planner.specs.Quotas.{Planned};
 ghost use Rattle.round_planner.specs.declared.plan_error.PlanError.{PlanError as PlanCause};
 ghost use Rattle.host_io.specs.declared.error.RunError.TheVariants as refusals;
+ghost use Rattle.machine.specs.Machine.{Running, after_rounds};
 ghost use Rattle.machine.specs.Settings.{RefusedAs};
+ghost use Rattle.machine.specs.Untraced.{IsUntraced};
 ghost use Rattle.pages.specs.Memory.{width_bytes};
 ghost use Rattle.round_schedule.specs.Accesses.{address_of, bytes_of};
 ghost use Rattle.round_schedule.specs.Held.{any_byte};
-ghost use Rattle.replayer.specs.Hits.{hits, is_hit, is_watched, of_rounds};
+ghost use Rattle.replayer.specs.Hits.{hits, is_hit, is_watched, of_rounds, sought};
 ghost use Rattle.replayer.specs.Refusals.{AreNoWorkers, AreWorkers, HasImage, HasImageCause, HasPlanCause, HasReason};
 ghost use Rattle.replayer.specs.Replayed.{IsPlanFor, hits_of, start_of};
 
-use crate::opened::opened;
+use crate::opened::opened_untraced;
 use host_io::RunError;
+use machine::UntracedMachine;
 use memory_order::Trace;
 use pages::{OutOfMemory, Range, Width};
 use recording::Recording;
@@ -43,9 +46,16 @@ pub fn watch<R: Threads + Wait + Sync>(
     // A plan is refused where the image is good.
     ensures plan { (cause : PlanCause) → AreWorkers workers → HasImage recording.now → HasPlanCause recording.now cause → RefusedAs (refusals.Plan cause) result }
 {
-    let mut machine = opened(alloc, recording, workers)?;
-    machine.run(rt, recording.rounds(), workers)?;
-    Ok(hits_in(alloc, machine.trace(), ranges)?)
+    let mut machine = opened_untraced(alloc, recording, workers)?;
+    watch_run(
+        rt,
+        alloc,
+        &mut machine,
+        recording.rounds(),
+        ranges,
+        None,
+        workers,
+    )
 }
 
 /// What `watch` gives, of the rounds from `from` to `to` alone, both counted. It runs no further than round `to`. It may wait.
@@ -69,41 +79,103 @@ pub fn watch_rounds<R: Threads + Wait + Sync>(
     // A plan is refused where the image is good.
     ensures plan { (cause : PlanCause) → AreWorkers workers → HasImage recording.now → HasPlanCause recording.now cause → RefusedAs (refusals.Plan cause) result }
 {
-    let mut machine = opened(alloc, recording, workers)?;
-    machine.run(rt, recording.rounds().min(to), workers)?;
-    Ok(hits_within(alloc, machine.trace(), ranges, from, to)?)
+    let mut machine = opened_untraced(alloc, recording, workers)?;
+    let rounds = recording.rounds().min(to);
+    watch_run(
+        rt,
+        alloc,
+        &mut machine,
+        rounds,
+        ranges,
+        Some((from, to)),
+        workers,
+    )
 }
 
-/// The events of some rounds that hit one of the ranges, in the order of the trace.
-fn hits_within(
+/// Runs a machine that was just opened for so many rounds, and keeps the events that hit one of the ranges, of some rounds
+/// alone where they are told. The other events of a round are let go after it. It may wait.
+fn watch_run<R: Threads + Wait + Sync>(
+    rt: &R,
     alloc: Global,
+    machine: &mut UntracedMachine,
+    rounds: u32,
+    ranges: &[Range],
+    within: Option<(u32, u32)>,
+    workers: u32,
+) -> Result<Vec<Event>, RunError>
+    requires workers { (1 ≤ workers) × (workers ≤ 16) }
+    requires opened { machine.old.rounds ≡ 0 }
+    // The next events of a run may be noted.
+    requires run { (m : Running) × IsUntraced m machine.old }
+    ensures hits { (m : Running) → IsUntraced m machine.old → m.state.trace ≡ [] → IfOk result (λ v. v.items ≡ sought within ranges.now (after_rounds rounds m).state.trace) }
+    ensures refused { IfErr result (λ e. e ≡ refusals.OutOfMemory) }
+{
+    let mut found = Vec::new(alloc);
+    let mut done = 0;
+    while done < rounds {
+        let count = rounds_at_once(machine, rounds - done);
+        let mut trace = Trace::new(alloc, Vec::new(alloc));
+        machine.run_noting(rt, count, workers, &mut trace)?;
+        add_sought(&mut found, &trace, ranges, within)?;
+        done += count;
+    }
+    Ok(found)
+}
+
+/// How many of the rounds that are left are done at once: one, and all where no hart runs, since those leave no events.
+fn rounds_at_once(machine: &UntracedMachine, left: u32) -> u32
+    requires { 1 ≤ left }
+    ensures some { 1 ≤ result }
+    ensures few { result ≤ left }
+{
+    if machine.harts().iter().all(|hart| hart.stop.is_some()) {
+        left
+    } else {
+        1
+    }
+}
+
+/// Adds the events of a trace that hit one of the ranges, of some rounds alone where they are told, in the order of the trace.
+fn add_sought(
+    found: &mut Vec<Event>,
+    trace: &Trace,
+    ranges: &[Range],
+    within: Option<(u32, u32)>,
+) -> Result<(), OutOfMemory>
+    ensures { OnOk result (found.new.items ≡ found.old.items ++ sought within ranges.now trace.now.events) }
+{
+    match within {
+        None => add_hits(found, trace, ranges),
+        Some((from, to)) => add_hits_within(found, trace, ranges, from, to),
+    }
+}
+
+fn add_hits_within(
+    found: &mut Vec<Event>,
     trace: &Trace,
     ranges: &[Range],
     from: u32,
     to: u32,
-) -> Result<Vec<Event>, OutOfMemory>
-    ensures { IfOk result (λ v. v.items ≡ of_rounds from to (hits ranges.now trace.now.events)) }
+) -> Result<(), OutOfMemory>
+    ensures { OnOk result (found.new.items ≡ found.old.items ++ of_rounds from to (hits ranges.now trace.now.events)) }
 {
-    let mut found = Vec::new(alloc);
     for event in trace.events() {
         if is_hit(&event, ranges) && from <= event.round && event.round <= to {
-            add(&mut found, event)?;
+            add(found, event)?;
         }
     }
-    Ok(found)
+    Ok(())
 }
 
-/// The events that hit one of the ranges, in the order of the trace.
-fn hits_in(alloc: Global, trace: &Trace, ranges: &[Range]) -> Result<Vec<Event>, OutOfMemory>
-    ensures { IfOk result (λ v. v.items ≡ hits ranges.now trace.now.events) }
+fn add_hits(found: &mut Vec<Event>, trace: &Trace, ranges: &[Range]) -> Result<(), OutOfMemory>
+    ensures { OnOk result (found.new.items ≡ found.old.items ++ hits ranges.now trace.now.events) }
 {
-    let mut found = Vec::new(alloc);
     for event in trace.events() {
         if is_hit(&event, ranges) {
-            add(&mut found, event)?;
+            add(found, event)?;
         }
     }
-    Ok(found)
+    Ok(())
 }
 
 fn add(events: &mut Vec<Event>, event: Event) -> Result<(), OutOfMemory>

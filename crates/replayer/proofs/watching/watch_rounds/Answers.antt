@@ -1,20 +1,15 @@
-use Rattle.std.proofs.Common.{◌≡◌, ◌∙◌, ◌<◌, ◌≤◌, List, ap, arith, refl}
-use Rattle.round_schedule.specs.declared.event.Event.{Event}
-use Rattle.machine.specs.Machine.{Running, after_rounds}
-use Rattle.replayer.specs.Hits.{hits, is_hit, of_rounds}
+use Rattle.std.proofs.Common.{◌≡◌, ◌∙◌, ◌<◌, ◌≤◌, arith, refl}
+use Rattle.std.proofs.lemmas.Result.{IfOk-weaker}
+use Rattle.machine.specs.Machine.{Running}
+use Rattle.replayer.specs.Hits.{is_hit}
 use Rattle.replayer.specs.Replayed.{start_of}
 use Rattle.replayer.proofs.Grown.{within_rounds}
 use Rattle.replayer.proofs.watching.watch_rounds.Goals as goal
 
 pub returns-clause-hits : goal.returns-clause-hits
 returns-clause-hits g c =
-    let e = c.in_ok-machine.ensures.machine in
-    let start : Running = start_of c.args.recording.now e.0 in
-    let le : c.min.result ≤ c.args.recording.now.rounds = omega (arith, c.min.ensures, c.rounds.ensures) in
-    let ends : c.min.result < c.args.recording.now.rounds → c.min.result ≡ c.args.to = λ lt. omega (arith, c.min.ensures, c.rounds.ensures, lt) in (
-      e.0,
-      e.1,
-      c.in_ok-hits_within.ensures
-          ∙ ap (λ (t : List Event). of_rounds c.args.from c.args.to (hits c.args.ranges.now t)) (c.trace.ensures.events ∙ ap (λ (m : Running). m.state.trace) (c.in_ok-run.ensures.ok ∙ ap (after_rounds c.min.result) e.2))
-          ∙ within_rounds c.args.from c.args.to c.args.recording.now.rounds c.min.result (is_hit c.args.ranges.now) start refl le ends,
-    )
+    let made = c.in_ok-machine.ensures.machine in
+    let m : Running = start_of c.args.recording.now made.0 in
+    let le : c.min-rounds.result ≤ c.args.recording.now.rounds = omega (arith, c.min-rounds.ensures, c.rounds.ensures) in
+    let ends : c.min-rounds.result < c.args.recording.now.rounds → c.min-rounds.result ≡ c.args.to = λ lt. omega (arith, c.min-rounds.ensures, c.rounds.ensures, lt) in
+    IfOk-weaker c.watch_run.result _ _ (λ v is. (made.0, made.1, is ∙ within_rounds c.args.from c.args.to c.args.recording.now.rounds c.min-rounds.result (is_hit c.args.ranges.now) m refl le ends)) (c.watch_run.ensures.hits m made.2 refl)

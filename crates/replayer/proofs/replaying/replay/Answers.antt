@@ -1,0 +1,18 @@
+use Rattle.std.proofs.Common.{List, map, subst, ℕ}
+use Rattle.std.proofs.lemmas.Result.{IfOk-weaker}
+use Rattle.machine.specs.Machine.{Running}
+use Rattle.recording.specs.Recorded.{Kept}
+use Rattle.recording.specs.Views.{kept_view}
+use Rattle.replayer.specs.Replayed.{IsVerdictOn, start_of}
+use Rattle.replayer.proofs.replaying.replay.Goals as goal
+
+pub returns-clause-verdict : goal.returns-clause-verdict
+returns-clause-verdict g c =
+    let made = c.in_ok-machine.ensures.machine in
+    let m : Running = start_of c.args.recording.now made.0 in
+    IfOk-weaker c.first_difference.result _ _ (λ v is. (
+      made.0,
+      made.1,
+      subst (λ (ks : List Kept). IsVerdictOn ks c.args.recording.now.every m v) c.kept.ensures.value
+          (subst (λ (n : ℕ). IsVerdictOn (map kept_view c.kept.result.now) n m v) c.every.ensures is),
+    )) (c.first_difference.ensures.verdict m made.2)

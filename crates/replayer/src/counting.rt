@@ -1,0 +1,62 @@
+ghost use Rattle.std.specs.Prelude.{◌≡◌, slice_get, Some, Err, IfOk, IfErr};
+ghost use Rattle.elf_loader.specs.declared.load_error.LoadError.{LoadError as ImageCause};
+ghost use Rattle.round_planner.specs.Quotas.{Planned};
+ghost use Rattle.round_planner.specs.declared.plan_error.PlanError.{PlanError as PlanCause};
+ghost use Rattle.host_io.specs.declared.error.RunError.TheVariants as refusals;
+ghost use Rattle.hart_step.specs.declared.hart.Hart.{Hart};
+ghost use Rattle.machine.specs.Settings.{RefusedAs};
+ghost use Rattle.replayer.specs.Past.{IsCountAt};
+ghost use Rattle.replayer.specs.Refusals.{AreNoWorkers, AreWorkers, HasImage, HasImageCause, HasPlanCause, HasReason};
+ghost use Rattle.replayer.specs.Replayed.{IsPlanFor, start_of};
+
+use crate::opened::opened_untraced;
+use host_io::RunError;
+use machine::UntracedMachine;
+use recording::Recording;
+use std::alloc::Global;
+use std::sync::Wait;
+use std::thread::Threads;
+
+/// How many instructions a hart did in a round of the recording's run, serial ones counted: the greatest count for which
+/// `state_at` gives a hart. `None` where there is no such round or hart. The first round is round 1. The recording is run anew,
+/// on 1 to 16 workers. It may wait.
+///
+/// # Errors
+///
+/// As `state_at`.
+pub fn count_at<R: Threads + Wait + Sync>(
+    rt: &R,
+    alloc: Global,
+    recording: &Recording,
+    round: u32,
+    hart: u32,
+    workers: u32,
+) -> Result<Option<u64>, RunError>
+    ensures count { IfOk result (λ n. (plan : Planned) × IsPlanFor recording.now plan × IsCountAt recording.now.rounds (start_of recording.now plan) round hart n) }
+    ensures workers { AreNoWorkers workers → result ≡ Err refusals.WorkersOutOfRange }
+    ensures errors { AreWorkers workers → IfErr result (λ e. HasReason recording.now e) }
+    ensures image { (cause : ImageCause) → AreWorkers workers → HasImageCause recording.now cause → RefusedAs (refusals.Image cause) result }
+    // A plan is refused where the image is good.
+    ensures plan { (cause : PlanCause) → AreWorkers workers → HasImage recording.now → HasPlanCause recording.now cause → RefusedAs (refusals.Plan cause) result }
+{
+    let mut machine = opened_untraced(alloc, recording, workers)?;
+    // At most 1,000, so that no count of instructions wraps.
+    let _budget = recording.budget();
+    if round == 0 || round > recording.rounds() || hart >= recording.harts() {
+        return Ok(None);
+    }
+    machine.run(rt, round - 1, workers)?;
+    let before = done_by(&machine, hart);
+    machine.run(rt, 1, workers)?;
+    Ok(Some(done_by(&machine, hart) - before))
+}
+
+/// How many instructions a hart has done, and 0 where there is no such hart.
+pub(crate) fn done_by(machine: &UntracedMachine, hart: u32) -> u64
+    ensures { (h : Hart) → slice_get machine.now.harts hart ≡ Some h → result ≡ h.done }
+{
+    match machine.harts().get(hart as usize) {
+        Some(hart) => hart.done,
+        None => 0,
+    }
+}

@@ -1,0 +1,50 @@
+//! The guests of the tests, what they are run with, and texts of recordings.
+use machine::{Format, Settings};
+use std::alloc::Global;
+use std::test::Fail;
+
+/// ADDI x17,x0,0; ECALL: the exit call with the hart's number.
+pub(crate) static EXIT: [u8; 8] = [0x93, 8, 0, 0, 0x73, 0, 0, 0];
+
+/// ADDI x5,x0,256; BNE x10,x0,+16; LR.D x6,(x5); SC.D x7,x6,(x5); JAL x0,0; SD x5,0(x5); JAL x0,0: hart 0 goes to the
+/// LR and the SC, the others to the store.
+pub(crate) static RESERVED: [u8; 28] = [
+    0x93, 2, 0, 0x10, 0x63, 0x18, 5, 0, 0x2f, 0xb3, 2, 0x10, 0xaf, 0xb3, 0x62, 0x18, 0x6f, 0, 0, 0,
+    0x23, 0xb0, 0x52, 0, 0x6f, 0, 0, 0,
+];
+
+/// A flat image on one page for two harts, with one worker and a budget of 1.
+pub(crate) fn settings(rounds: u32, plan: &[u8]) -> Settings<'_> {
+    Settings {
+        format: Format::Flat,
+        harts: 2,
+        pages: 1,
+        rounds,
+        workers: 1,
+        budget: 1,
+        plan,
+    }
+}
+
+/// The exits recorded after one round of quota 4, in version 1.
+pub(crate) static VERSION_1: [u8; 125] = [
+    82, 86, 68, 69, 84, 82, 69, 67, 1, 0, 0, 0, 1, 2, 0, 0, 0, 1, 0, 0, 0, 1, 0, 0, 0, 8, 0, 0, 0,
+    0, 0, 0, 0, 147, 8, 0, 0, 115, 0, 0, 0, 0, 0, 0, 0, 0, 0, 0, 0, 2, 0, 0, 0, 0, 0, 0, 0, 52, 10,
+    0, 0, 0, 0, 0, 0, 0, 0, 0, 0, 0, 0, 0, 0, 0, 0, 4, 0, 0, 0, 0, 0, 0, 0, 1, 0, 0, 0, 0, 0, 0, 0,
+    1, 0, 0, 0, 0, 0, 0, 0, 0, 4, 0, 0, 0, 0, 0, 0, 0, 1, 0, 0, 0, 0, 0, 0, 0, 1, 1, 0, 0, 0, 0, 0,
+    0, 0,
+];
+
+/// A text with the byte at a place in place of its own.
+pub(crate) fn with_byte(
+    alloc: Global,
+    text: &[u8],
+    place: usize,
+    byte: u8,
+) -> Result<Vec<u8>, Fail> {
+    let mut changed = text.to_vec(alloc)?;
+    if let Some(at) = changed.get_mut(place) {
+        *at = byte;
+    }
+    Ok(changed)
+}
