@@ -6,8 +6,9 @@ ghost use Rattle.dethart.specs.declared.failure.Failure.TheVariants as failures;
 use host_io::RunError;
 use hunter::HuntError;
 use replayer::ReadError;
-use std::alloc::AllocError;
+use std::alloc::{AllocError, AllocFailed};
 use std::io;
+use table_merge::MergeError;
 
 /// Why the program ends without what it was asked for.
 #[derive(Debug, Drop)]
@@ -18,10 +19,18 @@ pub(crate) enum Failure {
     NotText,
     /// The run was refused.
     Refused(RunError),
+    /// The file of this path couldn't be opened or read.
+    NoFile(String),
     /// The file is no recording.
     Unread(ReadError),
     /// The hunt was refused.
     Hunt(HuntError),
+    /// The tables weren't merged.
+    Merge(MergeError),
+    /// The image has no symbol of an object of this name.
+    NoObject(String),
+    /// What reads standard output has gone, as `head` does.
+    ReaderGone,
 }
 
 impl From<RunError> for Failure {
@@ -48,6 +57,30 @@ impl From<HuntError> for Failure {
     }
 }
 
+impl From<MergeError> for Failure {
+    ghost from_gives = { λ error failure. failure ≡ failures.Merge error };
+
+    fn from(error: MergeError) -> Failure {
+        Failure::Merge(error)
+    }
+}
+
+impl From<pages::OutOfMemory> for Failure {
+    ghost from_gives = { λ _ failure. failure ≡ failures.Refused refusals.OutOfMemory };
+
+    fn from(_refused: pages::OutOfMemory) -> Failure {
+        Failure::Refused(RunError::OutOfMemory)
+    }
+}
+
+impl<T: Drop> From<AllocFailed<T>> for Failure {
+    ghost from_gives = { λ _ failure. failure ≡ failures.Refused refusals.OutOfMemory };
+
+    fn from(_refused: AllocFailed<T>) -> Failure {
+        Failure::Refused(RunError::OutOfMemory)
+    }
+}
+
 impl From<AllocError> for Failure {
     ghost from_gives = { λ _ failure. failure ≡ failures.Refused refusals.OutOfMemory };
 
@@ -62,28 +95,41 @@ impl Failure {
         ensures { result ≡ status_of self.now }
     {
         match self {
-            Failure::Refused(_) | Failure::Unread(_) | Failure::Hunt(_) => 1,
             Failure::Line(_) | Failure::NotText => 2,
+            _ => 1,
         }
     }
 
-    /// Prints on standard error the line `error N` of a refusal, and what is wrong with a bad line.
+    /// The number of a refusal; a bad command line has none, nor has a reader that has gone.
+    pub(crate) fn number(&self) -> Option<u32> {
+        match self {
+            Failure::Line(_) | Failure::NotText | Failure::ReaderGone => None,
+            Failure::Refused(error) => Some(error.number()),
+            Failure::NoFile(_) => Some(RunError::SourceFailed.number()),
+            Failure::Unread(error) => Some(error.number()),
+            Failure::Hunt(error) => Some(error.number()),
+            Failure::Merge(error) => Some(error.number()),
+            Failure::NoObject(_) => Some(75),
+        }
+    }
+
+    /// Prints on standard error the line `error N` of a refusal and then a line of words, and what is wrong with a bad line.
     pub(crate) fn print(&self, rt: &HostRuntime) -> io::Result<()> {
+        if let Some(number) = self.number() {
+            eprintln!(rt; "error {number}")?;
+        }
         match self {
             Failure::Line(error) => error.print(rt),
             Failure::NotText => eprintln!(rt; "error: an argument isn't UTF-8"),
-            Failure::Refused(error) => {
-                let number = error.number();
-                eprintln!(rt; "error {number}")
+            Failure::Refused(error) => eprintln!(rt; "{error}"),
+            Failure::NoFile(path) => eprintln!(rt; "the file {path} couldn't be opened or read"),
+            Failure::Unread(error) => eprintln!(rt; "{error}"),
+            Failure::Hunt(error) => eprintln!(rt; "{error}"),
+            Failure::Merge(error) => eprintln!(rt; "{error}"),
+            Failure::NoObject(name) => {
+                eprintln!(rt; "the image's symbol table has no object {name}")
             }
-            Failure::Unread(error) => {
-                let number = error.number();
-                eprintln!(rt; "error {number}")
-            }
-            Failure::Hunt(error) => {
-                let number = error.number();
-                eprintln!(rt; "error {number}")
-            }
+            Failure::ReaderGone => Ok(()),
         }
     }
 }

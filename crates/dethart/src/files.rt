@@ -1,5 +1,7 @@
-ghost use Rattle.std.specs.Prelude.{◌≡◌, ◌⊎◌, IfErr};
+ghost use Rattle.std.specs.Prelude.{IfErr};
+ghost use Rattle.dethart.specs.Status.{IsNoFile};
 
+use crate::failure::Failure;
 use command_line::Program;
 use host_io::{ReadSource, RunError, read_all};
 use std::{fs, io};
@@ -8,16 +10,21 @@ use std::{fs, io};
 ///
 /// # Errors
 ///
-/// `SourceFailed` where the file can't be opened or read, as a folder can't, and `OutOfMemory`.
-pub(crate) fn read_file(rt: &HostRuntime, path: &str) -> Result<Vec<u8>, RunError>
-    ensures { IfErr result (λ error. (error ≡ RunError.OutOfMemory) ⊎ (error ≡ RunError.SourceFailed)) }
+/// `NoFile` where the file can't be opened or read, as a folder can't, and `OutOfMemory`.
+pub(crate) fn read_file(rt: &HostRuntime, path: &str) -> Result<Vec<u8>, Failure>
+    ensures { IfErr result IsNoFile }
 {
-    match fs::open(rt, path) {
-        Ok(file) => read_all(rt.alloc(), &mut ReadSource::new(file)),
-        Err(error) => Err(match error.kind() {
-            io::ErrorKind::OutOfMemory => RunError::OutOfMemory,
-            _ => RunError::SourceFailed,
-        }),
+    let error = match fs::open(rt, path) {
+        Ok(file) => match read_all(rt.alloc(), &mut ReadSource::new(file)) {
+            Ok(bytes) => return Ok(bytes),
+            Err(error) => error,
+        },
+        Err(error) if error.kind() == io::ErrorKind::OutOfMemory => RunError::OutOfMemory,
+        Err(_) => RunError::SourceFailed,
+    };
+    match error {
+        RunError::OutOfMemory => Err(Failure::Refused(RunError::OutOfMemory)),
+        _ => Err(Failure::NoFile(String::from_str(rt.alloc(), path)?)),
     }
 }
 
@@ -34,12 +41,9 @@ pub(crate) struct ProgramFiles {
 ///
 /// # Errors
 ///
-/// `SourceFailed` where one of the files can't be opened or read, and `OutOfMemory`.
-pub(crate) fn read_program(
-    rt: &HostRuntime,
-    program: &Program<'_>,
-) -> Result<ProgramFiles, RunError>
-    ensures { IfErr result (λ error. (error ≡ RunError.OutOfMemory) ⊎ (error ≡ RunError.SourceFailed)) }
+/// `NoFile` where one of the files can't be opened or read, and `OutOfMemory`.
+pub(crate) fn read_program(rt: &HostRuntime, program: &Program<'_>) -> Result<ProgramFiles, Failure>
+    ensures { IfErr result IsNoFile }
 {
     let image = read_file(rt, program.image)?;
     let input = match program.input {

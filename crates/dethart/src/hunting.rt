@@ -1,16 +1,18 @@
 //! The commands that run a guest by many plans.
 
 use crate::failure::Failure;
-use crate::files::read_program;
+use crate::files::{ProgramFiles, read_file, read_program};
+use crate::ranges::{named_bytes, seen_ranges};
 use crate::run::format_of;
-use command_line::{Bytes, Hunt, Search};
-use host_io::{RunError, WriteSink};
-use hunt_table::{Header, SeenRange};
-use hunter::{HuntError, HuntSettings, hunt};
+use command_line::{Hunt, Merge, Search, Shrink};
+use host_io::{WriteSink, put_all};
+use hunt_table::Header;
+use hunter::{HuntSettings, hunt, shrink};
 use std::alloc::Global;
 use std::io::Write;
 use std::sync::Wait;
 use std::thread::Threads;
+use table_merge::merge;
 
 /// Hunts, and writes the table of endings. Answers whether there is one ending, in which all harts exited.
 pub(crate) fn write_hunt<R: Threads + Wait + Sync, W: Write>(
@@ -20,7 +22,7 @@ pub(crate) fn write_hunt<R: Threads + Wait + Sync, W: Write>(
     out: &mut W,
 ) -> Result<bool, Failure> {
     let files = read_program(rt, &asked.search.program)?;
-    let settings = settings_of(rt.alloc(), &asked.search, asked.first, asked.plans)?;
+    let settings = settings_of(rt.alloc(), &asked.search, &files, asked.first, asked.plans)?;
     Ok(hunt(
         threads,
         rt.alloc(),
@@ -31,14 +33,50 @@ pub(crate) fn write_hunt<R: Threads + Wait + Sync, W: Write>(
     )?)
 }
 
+/// Looks for a smaller plan that leads to the same ending, and writes it. Answers its budget, which is no part of the text.
+pub(crate) fn write_shrunk<R: Threads + Wait + Sync, W: Write>(
+    rt: &HostRuntime,
+    threads: &R,
+    asked: &Shrink<'_>,
+    out: &mut W,
+) -> Result<u32, Failure> {
+    let files = read_program(rt, &asked.search.program)?;
+    let settings = settings_of(rt.alloc(), &asked.search, &files, asked.plan_number, 1)?;
+    let plan = shrink(
+        threads,
+        rt.alloc(),
+        &files.image,
+        &files.input,
+        &settings,
+        asked.plan_number,
+    )?;
+    put_all(&mut WriteSink::new(out), plan.text(rt.alloc())?.as_slice())?;
+    Ok(plan.budget())
+}
+
+/// Joins the tables of the files, and writes the table of all their plans.
+pub(crate) fn write_merged<W: Write>(
+    rt: &HostRuntime,
+    asked: &Merge<'_>,
+    out: &mut W,
+) -> Result<(), Failure> {
+    let mut texts = Vec::new(rt.alloc());
+    for path in &asked.tables {
+        texts.push(read_file(rt, path)?)?;
+    }
+    Ok(merge(rt.alloc(), &texts, &mut WriteSink::new(out))?)
+}
+
 /// What the line says of a hunt by so many plans from a first one on.
 fn settings_of(
     alloc: Global,
     search: &Search<'_>,
+    files: &ProgramFiles,
     first: u32,
     count: u32,
 ) -> Result<HuntSettings, Failure> {
     let program = &search.program;
+    let named = named_bytes(alloc, &files.image, &search.seen, &search.objects)?;
     Ok(HuntSettings {
         format: format_of(program),
         harts: program.harts,
@@ -49,26 +87,7 @@ fn settings_of(
             seed: search.seed,
             first,
             count,
-            ranges: ranges_of(alloc, &search.seen)?,
+            ranges: seen_ranges(alloc, &named)?,
         },
     })
-}
-
-/// The ranges that are looked at.
-///
-/// # Errors
-///
-/// `SeenOutside` for a range that no guest memory has, and `OutOfMemory`.
-fn ranges_of(alloc: Global, seen: &[Bytes]) -> Result<Vec<SeenRange>, Failure> {
-    let mut ranges = Vec::new(alloc);
-    for bytes in seen {
-        let (Ok(address), Ok(length)) = (u32::try_from(bytes.address), u32::try_from(bytes.length))
-        else {
-            return Err(Failure::Hunt(HuntError::SeenOutside));
-        };
-        if ranges.push(SeenRange { address, length }).is_err() {
-            return Err(Failure::Refused(RunError::OutOfMemory));
-        }
-    }
-    Ok(ranges)
 }

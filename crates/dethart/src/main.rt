@@ -6,9 +6,11 @@ mod failure;
 mod files;
 mod hunting;
 mod line;
+mod output;
 mod pictures;
 mod plans;
 mod printing;
+mod ranges;
 mod recordings;
 mod run;
 mod saving;
@@ -19,8 +21,8 @@ use command_line::{Command, parse_line};
 use failure::Failure;
 use line::{answer_line, arguments, texts_of};
 use printing::{
-    Answer, print_drawing, print_hunt, print_order, print_plan, print_replay, print_run,
-    print_watch,
+    Answer, print_drawing, print_hunt, print_merged, print_order, print_plan, print_replay,
+    print_run, print_shrunk, print_watch,
 };
 use recordings::{make_recording, migrate_file};
 use std::process::ExitCode;
@@ -71,6 +73,8 @@ fn obey<R: Threads + Wait + Sync>(
             Ok(Answer::Done)
         }
         Command::Hunt(asked) => print_hunt(rt, threads, asked),
+        Command::Shrink(asked) => print_shrunk(rt, threads, asked),
+        Command::Merge(asked) => print_merged(rt, asked),
         Command::Plan(asked) => print_plan(rt, asked),
         Command::Draw(asked) => print_drawing(rt, threads, asked),
     }

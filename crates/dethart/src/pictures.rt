@@ -1,12 +1,11 @@
 //! The command that draws a run.
 
 use crate::failure::Failure;
+use crate::ranges::{access_ranges, named_bytes};
 use crate::run::{read_run, settings_of};
-use command_line::{Bytes, Draw};
+use command_line::Draw;
 use drawing::{View, draw_run};
-use host_io::{RunError, WriteSink};
-use pages::Range;
-use std::alloc::Global;
+use host_io::WriteSink;
 use std::io::Write;
 use std::sync::Wait;
 use std::thread::Threads;
@@ -19,7 +18,13 @@ pub(crate) fn write_drawing<R: Threads + Wait + Sync, W: Write>(
     out: &mut W,
 ) -> Result<(), Failure> {
     let files = read_run(rt, &asked.run)?;
-    let ranges = ranges_of(rt.alloc(), &asked.seen)?;
+    let named = named_bytes(
+        rt.alloc(),
+        &files.program.image,
+        &asked.seen,
+        &asked.objects,
+    )?;
+    let ranges = access_ranges(rt.alloc(), &named)?;
     let view = View {
         ranges: ranges.as_slice(),
         from: asked.from.unwrap_or(0),
@@ -34,19 +39,4 @@ pub(crate) fn write_drawing<R: Threads + Wait + Sync, W: Write>(
         &view,
         &mut WriteSink::new(out),
     )?)
-}
-
-/// The ranges whose accesses are drawn.
-fn ranges_of(alloc: Global, seen: &[Bytes]) -> Result<Vec<Range>, RunError> {
-    let mut ranges = Vec::new(alloc);
-    for bytes in seen {
-        let range = Range {
-            start: bytes.address,
-            len: bytes.length,
-        };
-        if ranges.push(range).is_err() {
-            return Err(RunError::OutOfMemory);
-        }
-    }
-    Ok(ranges)
 }

@@ -1,9 +1,11 @@
 //! The plan of a run, and the plans of a family.
-ghost use Rattle.std.specs.Prelude.{◌≡◌, ◌⊎◌, ◌≤◌, ◌++◌, ◌∷◌, [], ℕ, Some, IfOk, IfErr};
+ghost use Rattle.std.specs.Prelude.{◌≡◌, ◌≤◌, ◌++◌, ◌∷◌, [], ℕ, Some, IfOk, IfErr};
+ghost use Rattle.dethart.specs.Status.{IsNoFile};
 ghost use Rattle.plan_family.specs.Families.{family_plan};
 ghost use Rattle.plan_family.specs.declared.family.Family.{Family as PlanFamily};
 ghost use Rattle.round_planner.specs.PlanText.{ReadsAs};
 
+use crate::failure::Failure;
 use crate::files::read_file;
 use command_line::{Plan, PlanChoice};
 use host_io::{RunError, WriteSink, put_all};
@@ -25,13 +27,13 @@ pub(crate) struct AskedPlan {
 ///
 /// # Errors
 ///
-/// `SourceFailed` where the file can't be opened or read, and `OutOfMemory`.
+/// `NoFile` where the file can't be opened or read, and `OutOfMemory`.
 pub(crate) fn plan_of(
     rt: &HostRuntime,
     choice: &PlanChoice<'_>,
     harts: u32,
-) -> Result<AskedPlan, RunError>
-    ensures { IfErr result (λ error. (error ≡ RunError.OutOfMemory) ⊎ (error ≡ RunError.SourceFailed)) }
+) -> Result<AskedPlan, Failure>
+    ensures { IfErr result IsNoFile }
 {
     let text = match (choice.number, choice.file) {
         // Where there is no such number of harts, the run is refused for it, whatever its plan.
@@ -88,9 +90,9 @@ pub(crate) fn write_plan<W: Write>(
     alloc: Global,
     asked: &Plan,
     out: &mut W,
-) -> Result<u32, RunError> {
+) -> Result<u32, Failure> {
     if asked.harts < 1 || asked.harts > 64 {
-        return Err(RunError::HartsOutOfRange);
+        return Err(Failure::Refused(RunError::HartsOutOfRange));
     }
     let family = Family {
         seed: asked.seed,

@@ -3,14 +3,13 @@ ghost use Rattle.std.specs.Prelude.{◌≡◌};
 ghost use Rattle.dethart.specs.Status.{answer_status};
 
 use crate::failure::Failure;
-use crate::hunting::write_hunt;
+use crate::hunting::{write_hunt, write_merged, write_shrunk};
+use crate::output::{finish, standard_output};
 use crate::pictures::write_drawing;
 use crate::plans::write_plan;
 use crate::recordings::{Replayed, write_replay, write_watch};
 use crate::run::{write_order_of, write_run};
-use command_line::{Draw, Hunt, Plan, Print, Replay, Run, Watch};
-use host_io::RunError;
-use std::io::{self, BufWriter, Printer, Write};
+use command_line::{Draw, Hunt, Merge, Plan, Print, Replay, Run, Shrink, Watch};
 use std::sync::Wait;
 use std::thread::Threads;
 
@@ -38,31 +37,15 @@ impl Answer {
     }
 }
 
-/// Standard output, with a buffer.
-fn output(rt: &HostRuntime) -> Result<BufWriter<Printer<'_, HostRuntime>>, RunError> {
-    match BufWriter::new(rt.alloc(), io::writer(rt)) {
-        Ok(out) => Ok(out),
-        Err(_) => Err(RunError::OutOfMemory),
-    }
-}
-
-/// Hands all that was written on.
-fn flush<W: Write>(out: &mut W) -> Result<(), RunError> {
-    match out.flush() {
-        Ok(()) => Ok(()),
-        Err(_) => Err(RunError::SinkFailed),
-    }
-}
-
 /// Runs the guest program, and prints what is asked for of the run.
 pub(crate) fn print_run<R: Threads + Wait + Sync>(
     rt: &HostRuntime,
     threads: &R,
     asked: &Print<'_>,
 ) -> Result<Answer, Failure> {
-    let mut out = output(rt)?;
-    let ends_well = write_run(rt, threads, asked, &mut out)?;
-    flush(&mut out)?;
+    let mut out = standard_output(rt)?;
+    let written = write_run(rt, threads, asked, &mut out);
+    let ends_well = finish(out, written)?;
     Ok(if asked.strict && !ends_well {
         Answer::Doubtful
     } else {
@@ -76,9 +59,9 @@ pub(crate) fn print_order<R: Threads + Wait + Sync>(
     threads: &R,
     run: &Run<'_>,
 ) -> Result<Answer, Failure> {
-    let mut out = output(rt)?;
-    write_order_of(rt, threads, run, &mut out)?;
-    flush(&mut out)?;
+    let mut out = standard_output(rt)?;
+    let written = write_order_of(rt, threads, run, &mut out);
+    finish(out, written)?;
     Ok(Answer::Done)
 }
 
@@ -88,10 +71,9 @@ pub(crate) fn print_replay<R: Threads + Wait + Sync>(
     threads: &R,
     asked: &Replay<'_>,
 ) -> Result<Answer, Failure> {
-    let mut out = output(rt)?;
-    let replayed = write_replay(rt, threads, asked, &mut out)?;
-    flush(&mut out)?;
-    Ok(match replayed {
+    let mut out = standard_output(rt)?;
+    let written = write_replay(rt, threads, asked, &mut out);
+    Ok(match finish(out, written)? {
         Replayed::Done => Answer::Done,
         Replayed::Differs => Answer::Differs,
     })
@@ -103,9 +85,9 @@ pub(crate) fn print_watch<R: Threads + Wait + Sync>(
     threads: &R,
     asked: &Watch<'_>,
 ) -> Result<Answer, Failure> {
-    let mut out = output(rt)?;
-    write_watch(rt, threads, asked, &mut out)?;
-    flush(&mut out)?;
+    let mut out = standard_output(rt)?;
+    let written = write_watch(rt, threads, asked, &mut out);
+    finish(out, written)?;
     Ok(Answer::Done)
 }
 
@@ -115,9 +97,9 @@ pub(crate) fn print_hunt<R: Threads + Wait + Sync>(
     threads: &R,
     asked: &Hunt<'_>,
 ) -> Result<Answer, Failure> {
-    let mut out = output(rt)?;
-    let is_one_exit = write_hunt(rt, threads, asked, &mut out)?;
-    flush(&mut out)?;
+    let mut out = standard_output(rt)?;
+    let written = write_hunt(rt, threads, asked, &mut out);
+    let is_one_exit = finish(out, written)?;
     Ok(if is_one_exit {
         Answer::Done
     } else {
@@ -125,11 +107,32 @@ pub(crate) fn print_hunt<R: Threads + Wait + Sync>(
     })
 }
 
+/// Prints a smaller plan that leads to the same ending, and on standard error its budget.
+pub(crate) fn print_shrunk<R: Threads + Wait + Sync>(
+    rt: &HostRuntime,
+    threads: &R,
+    asked: &Shrink<'_>,
+) -> Result<Answer, Failure> {
+    let mut out = standard_output(rt)?;
+    let written = write_shrunk(rt, threads, asked, &mut out);
+    let budget = finish(out, written)?;
+    let _unwritten = eprintln!(rt; "budget {budget}");
+    Ok(Answer::Done)
+}
+
+/// Prints the table of all plans of the tables in some files.
+pub(crate) fn print_merged(rt: &HostRuntime, asked: &Merge<'_>) -> Result<Answer, Failure> {
+    let mut out = standard_output(rt)?;
+    let written = write_merged(rt, asked, &mut out);
+    finish(out, written)?;
+    Ok(Answer::Done)
+}
+
 /// Prints a plan of the family, and on standard error its budget, which a plan's text has no place for.
 pub(crate) fn print_plan(rt: &HostRuntime, asked: &Plan) -> Result<Answer, Failure> {
-    let mut out = output(rt)?;
-    let budget = write_plan(rt.alloc(), asked, &mut out)?;
-    flush(&mut out)?;
+    let mut out = standard_output(rt)?;
+    let written = write_plan(rt.alloc(), asked, &mut out);
+    let budget = finish(out, written)?;
     // The plan is out, so it is no failure where standard error takes nothing.
     let _unwritten = eprintln!(rt; "budget {budget}");
     Ok(Answer::Done)
@@ -141,8 +144,8 @@ pub(crate) fn print_drawing<R: Threads + Wait + Sync>(
     threads: &R,
     asked: &Draw<'_>,
 ) -> Result<Answer, Failure> {
-    let mut out = output(rt)?;
-    write_drawing(rt, threads, asked, &mut out)?;
-    flush(&mut out)?;
+    let mut out = standard_output(rt)?;
+    let written = write_drawing(rt, threads, asked, &mut out);
+    finish(out, written)?;
     Ok(Answer::Done)
 }

@@ -2,12 +2,17 @@
 
 use crate::failure::Failure;
 use crate::files::read_file;
+use crate::ranges::access_ranges;
 use crate::run::{read_run, settings_of};
 use crate::saving::save;
 use command_line::{Migrate, Record, Replay, Watch};
-use host_io::{RunError, WriteSink, put_all};
+use hart_step::Hart;
+use host_io::{RunError, Sink, WriteSink, put_all};
 use pages::Range;
-use replayer::{Recording, Verdict, migrate, read_recording, record_with, replay, state_at, watch};
+use replayer::{
+    Recording, Verdict, count_at, migrate, read_recording, record_with, replay, state_at,
+    state_before, watch_rounds,
+};
 use report::{write_event, write_hart};
 use std::alloc::Global;
 use std::io::Write;
@@ -19,7 +24,7 @@ pub(crate) fn make_recording<R: Threads + Wait + Sync>(
     rt: &HostRuntime,
     threads: &R,
     asked: &Record<'_>,
-) -> Result<(), RunError> {
+) -> Result<(), Failure> {
     let files = read_run(rt, &asked.run)?;
     let recording = record_with(
         threads,
@@ -29,7 +34,7 @@ pub(crate) fn make_recording<R: Threads + Wait + Sync>(
         &settings_of(&asked.run.program, &files.plan),
         asked.every,
     )?;
-    save(rt, &recording, asked.out)
+    Ok(save(rt, &recording, asked.out)?)
 }
 
 /// Writes the recording of a file to another file, in the newest version.
@@ -54,7 +59,7 @@ pub(crate) enum Replayed {
 }
 
 /// Replays the recording of a file, and writes a line: `same`, or `differs R` with the first round that differs. Where a round
-/// is asked for, it writes the hart within it in place of that.
+/// or a place is asked for, it writes the answer to that.
 pub(crate) fn write_replay<R: Threads + Wait + Sync, W: Write>(
     rt: &HostRuntime,
     threads: &R,
@@ -62,16 +67,12 @@ pub(crate) fn write_replay<R: Threads + Wait + Sync, W: Write>(
     out: &mut W,
 ) -> Result<Replayed, Failure> {
     let recording = recording_in(rt, asked.recording)?;
-    match asked.round {
-        Some(round) => {
-            write_hart_at(rt.alloc(), threads, &recording, asked, round, out)?;
-            Ok(Replayed::Done)
-        }
-        None => {
-            let verdict = replay(threads, rt.alloc(), &recording, asked.workers)?;
-            Ok(write_verdict(rt.alloc(), verdict, out)?)
-        }
+    if asked.place.is_none() && asked.round.is_none() {
+        let verdict = replay(threads, rt.alloc(), &recording, asked.workers)?;
+        return Ok(write_verdict(rt.alloc(), verdict, out)?);
     }
+    write_answer(rt.alloc(), threads, &recording, asked, out)?;
+    Ok(Replayed::Done)
 }
 
 /// Writes whether the run is the recorded one.
@@ -87,41 +88,85 @@ fn write_verdict<W: Write>(
             Ok(Replayed::Done)
         }
         Verdict::Differs(round) => {
-            let Ok(line) = format!(in alloc; "differs {round}\n") else {
-                return Err(RunError::OutOfMemory);
-            };
-            put_all(&mut sink, line.as_bytes())?;
+            put_number(alloc, "differs", u64::from(round), &mut sink)?;
             Ok(Replayed::Differs)
         }
     }
 }
 
-/// Writes the lines of the hart that is asked for within a round, or `none` where there is no such state.
-fn write_hart_at<R: Threads + Wait + Sync, W: Write>(
+/// What is told of a hart's past.
+#[derive(Drop)]
+enum Told {
+    /// How many instructions it did in the round.
+    Count(u64),
+    /// The hart itself, within the round that was asked for.
+    Hart(Hart),
+    /// The round in which it did an instruction, and the hart before it.
+    Before(u32, Hart),
+    /// There is no such round, hart, count or place.
+    None,
+}
+
+/// Writes what is asked for of a hart's past.
+fn write_answer<R: Threads + Wait + Sync, W: Write>(
     alloc: Global,
     threads: &R,
     recording: &Recording,
     asked: &Replay<'_>,
-    round: u32,
     out: &mut W,
 ) -> Result<(), RunError> {
-    let found = state_at(
-        threads,
-        alloc,
-        recording,
-        round,
-        asked.hart,
-        asked.count,
-        asked.workers,
-    )?;
+    let told = tell(alloc, threads, recording, asked)?;
     let mut sink = WriteSink::new(out);
-    match found {
-        Some(hart) => write_hart(alloc, asked.hart, &hart, &mut sink),
-        None => put_all(&mut sink, b"none\n"),
+    match told {
+        Told::Count(count) => put_number(alloc, "count", count, &mut sink),
+        Told::Hart(hart) => write_hart(alloc, asked.hart, &hart, &mut sink),
+        Told::Before(round, hart) => {
+            put_number(alloc, "round", u64::from(round), &mut sink)?;
+            write_hart(alloc, asked.hart, &hart, &mut sink)
+        }
+        Told::None => put_all(&mut sink, b"none\n"),
     }
 }
 
-/// Runs the recording of a file anew, and writes `hits N` and the event lines of those that hit the range.
+/// Runs the recording anew as far as a question needs it.
+fn tell<R: Threads + Wait + Sync>(
+    alloc: Global,
+    threads: &R,
+    recording: &Recording,
+    asked: &Replay<'_>,
+) -> Result<Told, RunError> {
+    let (hart, workers) = (asked.hart, asked.workers);
+    if let Some(place) = asked.place {
+        let before = state_before(threads, alloc, recording, hart, place, workers)?;
+        return Ok(before.map_or(Told::None, |(round, hart)| Told::Before(round, hart)));
+    }
+    let round = asked.round.unwrap_or(0);
+    Ok(match asked.count {
+        Some(count) => {
+            let state = state_at(threads, alloc, recording, round, hart, count, workers)?;
+            state.map_or(Told::None, Told::Hart)
+        }
+        None => {
+            let count = count_at(threads, alloc, recording, round, hart, workers)?;
+            count.map_or(Told::None, Told::Count)
+        }
+    })
+}
+
+/// Puts a line of a word and a number.
+fn put_number<S: Sink>(
+    alloc: Global,
+    word: &str,
+    number: u64,
+    sink: &mut S,
+) -> Result<(), RunError> {
+    let Ok(line) = format!(in alloc; "{word} {number}\n") else {
+        return Err(RunError::OutOfMemory);
+    };
+    put_all(sink, line.as_bytes())
+}
+
+/// Runs the recording of a file anew, and writes `hits N` and the event lines of those that hit one of the ranges.
 pub(crate) fn write_watch<R: Threads + Wait + Sync, W: Write>(
     rt: &HostRuntime,
     threads: &R,
@@ -129,15 +174,22 @@ pub(crate) fn write_watch<R: Threads + Wait + Sync, W: Write>(
     out: &mut W,
 ) -> Result<(), Failure> {
     let recording = recording_in(rt, asked.recording)?;
-    let range = Range {
+    let mut ranges = access_ranges(rt.alloc(), &asked.more)?;
+    ranges.push(Range {
         start: asked.address,
         len: asked.length,
-    };
-    let hits = watch(threads, rt.alloc(), &recording, &[range], asked.workers)?;
-    let count = hits.len();
-    let line = format!(in rt.alloc(); "hits {count}\n")?;
+    })?;
+    let hits = watch_rounds(
+        threads,
+        rt.alloc(),
+        &recording,
+        &ranges,
+        asked.from.unwrap_or(0),
+        asked.to.unwrap_or(u32::MAX),
+        asked.workers,
+    )?;
     let mut sink = WriteSink::new(out);
-    put_all(&mut sink, line.as_bytes())?;
+    put_number(rt.alloc(), "hits", hits.len() as u64, &mut sink)?;
     for hit in &hits {
         write_event(rt.alloc(), hit, &mut sink)?;
     }

@@ -1,9 +1,11 @@
-ghost use Rattle.std.specs.Prelude.{◌≡◌, ◌⊎◌, IfErr, if◌then◌else◌};
+ghost use Rattle.std.specs.Prelude.{◌≡◌, IfErr, if◌then◌else◌};
+ghost use Rattle.dethart.specs.Status.{IsNoFile};
 
+use crate::failure::Failure;
 use crate::files::{ProgramFiles, read_program};
 use crate::plans::{AskedPlan, plan_of};
 use command_line::{Print, Program, Run, Shown};
-use host_io::{RunError, WriteSink};
+use host_io::WriteSink;
 use machine::{Format, Settings, order_run, report_run, show_run};
 use std::io::Write;
 use std::sync::Wait;
@@ -15,12 +17,12 @@ pub(crate) fn write_run<R: Threads + Wait + Sync, W: Write>(
     threads: &R,
     asked: &Print<'_>,
     out: &mut W,
-) -> Result<bool, RunError> {
+) -> Result<bool, Failure> {
     let files = read_run(rt, &asked.run)?;
     let settings = settings_of(&asked.run.program, &files.plan);
     let (image, input) = (&files.program.image, &files.program.input);
     let mut sink = WriteSink::new(out);
-    match shown_of(asked) {
+    Ok(match shown_of(asked) {
         Some(shown) => show_run(
             threads,
             rt.alloc(),
@@ -29,9 +31,9 @@ pub(crate) fn write_run<R: Threads + Wait + Sync, W: Write>(
             &settings,
             shown,
             &mut sink,
-        ),
-        None => report_run(threads, rt.alloc(), image, input, &settings, &mut sink),
-    }
+        )?,
+        None => report_run(threads, rt.alloc(), image, input, &settings, &mut sink)?,
+    })
 }
 
 /// Reads the files of a run, runs the guest program, and writes the order of its memory operations.
@@ -40,16 +42,16 @@ pub(crate) fn write_order_of<R: Threads + Wait + Sync, W: Write>(
     threads: &R,
     run: &Run<'_>,
     out: &mut W,
-) -> Result<(), RunError> {
+) -> Result<(), Failure> {
     let files = read_run(rt, run)?;
-    order_run(
+    Ok(order_run(
         threads,
         rt.alloc(),
         &files.program.image,
         &files.program.input,
         &settings_of(&run.program, &files.plan),
         &mut WriteSink::new(out),
-    )
+    )?)
 }
 
 /// What of a run the line asks for, where it isn't the whole report.
@@ -75,9 +77,9 @@ pub(crate) struct RunFiles {
 ///
 /// # Errors
 ///
-/// `SourceFailed` where one of them can't be opened or read, and `OutOfMemory`.
-pub(crate) fn read_run(rt: &HostRuntime, run: &Run<'_>) -> Result<RunFiles, RunError>
-    ensures { IfErr result (λ error. (error ≡ RunError.OutOfMemory) ⊎ (error ≡ RunError.SourceFailed)) }
+/// `NoFile` where one of them can't be opened or read, and `OutOfMemory`.
+pub(crate) fn read_run(rt: &HostRuntime, run: &Run<'_>) -> Result<RunFiles, Failure>
+    ensures { IfErr result IsNoFile }
 {
     let program = read_program(rt, &run.program)?;
     let plan = plan_of(rt, &run.plan, run.program.harts)?;

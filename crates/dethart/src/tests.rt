@@ -111,6 +111,6 @@ fn a_quota_is_a_plan_of_one_row(rt: HostRuntime) -> Result<(), Fail> {
 fn a_missing_file_cannot_be_read(rt: HostRuntime) {
     for path in ["no/such/file", "."] {
         let answer = read_file(&rt, path);
-        assert_eq!(rt; answer.err().map(|error| error.number()), Some(61));
+        assert_eq!(rt; answer.err().and_then(|failure| failure.number()), Some(61));
     }
 }

@@ -1,7 +1,7 @@
 //! Hunts and pictures, as the command line asks for them.
 
 use crate::failure::Failure;
-use crate::hunting::write_hunt;
+use crate::hunting::{write_hunt, write_merged, write_shrunk};
 use crate::pictures::write_drawing;
 use crate::plans::write_plan;
 use command_line::{Command, parse_line};
@@ -25,10 +25,15 @@ fn printed<R: Threads + Wait + Sync>(
             Ok(_) => Ok(()),
             Err(failure) => Err(failure),
         },
+        Ok(Command::Shrink(asked)) => match write_shrunk(rt, threads, &asked, &mut text) {
+            Ok(_) => Ok(()),
+            Err(failure) => Err(failure),
+        },
+        Ok(Command::Merge(asked)) => write_merged(rt, &asked, &mut text),
         Ok(Command::Draw(asked)) => write_drawing(rt, threads, &asked, &mut text),
         Ok(Command::Plan(asked)) => match write_plan(rt.alloc(), &asked, &mut text) {
             Ok(_) => Ok(()),
-            Err(error) => Err(Failure::Refused(error)),
+            Err(failure) => Err(failure),
         },
         _ => return None,
     };
@@ -59,6 +64,48 @@ fn a_hunt_of_two_exits(rt: HostRuntime) -> Result<(), Fail> {
                   end\n";
     let text = printed(&rt, &rt, &words);
     assert!(rt; text.is_some_and(|text| text.as_slice() == wanted.as_bytes()));
+    // Any plan leads there, and no plan is smaller than one instruction a round for each hart.
+    let shrink = [
+        "dethart",
+        "shrink",
+        "exits.bin",
+        "--flat",
+        "--harts=2",
+        "--pages=1",
+        "--plan-number=6",
+    ];
+    let text = printed(&rt, &rt, &shrink);
+    assert!(rt; text.is_some_and(|text| text.as_slice() == b"1\n".as_slice()));
+    let of_a_symbol = [
+        "dethart",
+        "hunt",
+        "exits.bin",
+        "--flat",
+        "--see-object=counter",
+    ];
+    assert!(rt; printed(&rt, &rt, &of_a_symbol).is_none());
     fs::remove_file(&rt, "exits.bin")?;
+    Ok(())
+}
+
+/// The tables of a hunt that was cut in two, and that of the whole.
+const FIRST: &[u8] =
+    b"plans 0 1 seed 1\nendings 1\nending 1 plans 1 first 0\nhart 0 running\noutput 0 \"\"\nend\n";
+
+const SECOND: &[u8] =
+    b"plans 1 2 seed 1\nendings 1\nending 1 plans 2 first 1\nhart 0 running\noutput 0 \"\"\nend\n";
+
+const WHOLE: &[u8] =
+    b"plans 0 3 seed 1\nendings 1\nending 1 plans 3 first 0\nhart 0 running\noutput 0 \"\"\nend\n";
+
+#[test]
+fn tables_are_merged(rt: HostRuntime) -> Result<(), Fail> {
+    fs::write(&rt, "first.txt", FIRST)?;
+    fs::write(&rt, "second.txt", SECOND)?;
+    let text = printed(&rt, &rt, &["dethart", "merge", "first.txt", "second.txt"]);
+    assert!(rt; text.is_some_and(|text| text.as_slice() == WHOLE));
+    assert!(rt; printed(&rt, &rt, &["dethart", "merge", "second.txt", "first.txt"]).is_none());
+    fs::remove_file(&rt, "first.txt")?;
+    fs::remove_file(&rt, "second.txt")?;
     Ok(())
 }

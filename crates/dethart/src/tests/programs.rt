@@ -32,7 +32,7 @@ fn answer<R: Threads + Wait + Sync>(
     };
     match answer {
         Ok(()) => (0, text),
-        Err(error) => (error.number(), text),
+        Err(failure) => (failure.number().unwrap_or(2), text),
     }
 }
 

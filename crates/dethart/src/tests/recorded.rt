@@ -1,6 +1,5 @@
 //! Recordings in files, as the command line names them.
 
-use crate::failure::Failure;
 use crate::recordings::{Replayed, make_recording, migrate_file, write_replay, write_watch};
 use command_line::{Command, parse_line};
 use std::fs;
@@ -17,16 +16,6 @@ const RESERVED: &[u8] =
 const VERSION_1: &[u8] =
     b"RVDETREC\x01\0\0\0\x01\x02\0\0\0\x01\0\0\0\x01\0\0\0\x08\0\0\0\0\0\0\0\x93\x08\0\0\x73\0\0\0\0\0\0\0\0\0\0\0\x02\0\0\0\0\0\0\x004\n\0\0\0\0\0\0\0\0\0\0\0\0\0\0\0\0\x04\0\0\0\0\0\0\0\x01\0\0\0\0\0\0\0\x01\0\0\0\0\0\0\0\0\x04\0\0\0\0\0\0\0\x01\0\0\0\0\0\0\0\x01\x01\0\0\0\0\0\0\0";
 
-/// The number of a failure of a command, 2 for a bad line.
-fn number_of(failure: &Failure) -> u32 {
-    match failure {
-        Failure::Refused(error) => error.number(),
-        Failure::Unread(error) => error.number(),
-        Failure::Hunt(error) => error.number(),
-        Failure::Line(_) | Failure::NotText => 2,
-    }
-}
-
 /// The number of the failure of a line, 3 where the run is another than the recorded one, and else 0; and what it prints.
 fn answer<R: Threads + Wait + Sync>(
     rt: &HostRuntime,
@@ -37,7 +26,7 @@ fn answer<R: Threads + Wait + Sync>(
     let answer = match parse_line(rt.alloc(), words) {
         Ok(Command::Record(asked)) => match make_recording(rt, threads, &asked) {
             Ok(()) => Ok(0),
-            Err(error) => Err(Failure::Refused(error)),
+            Err(failure) => Err(failure),
         },
         Ok(Command::Replay(asked)) => match write_replay(rt, threads, &asked, &mut text) {
             Ok(Replayed::Done) => Ok(0),
@@ -56,7 +45,7 @@ fn answer<R: Threads + Wait + Sync>(
     };
     match answer {
         Ok(number) => (number, text),
-        Err(failure) => (number_of(&failure), text),
+        Err(failure) => (failure.number().unwrap_or(2), text),
     }
 }
 
@@ -129,6 +118,14 @@ fn a_run_is_recorded_replayed_and_watched(rt: HostRuntime) -> Result<(), Fail> {
         "2",
     ];
     assert!(rt; answers(&rt, &rt, &fewer, 0, "none\n"));
+    let counted = ["dethart", "replay", "reserved.rec", "--round=2"];
+    assert!(rt; answers(&rt, &rt, &counted, 0, "count 1\n"));
+    let before_the_sc = ["dethart", "replay", "reserved.rec", "--place=3"];
+    let hart = "round 2\n\
+                hart 0 pc 000000000000000c done 3 running\n\
+                x5 0000000000000100\n\
+                x11 0000000000000002\n";
+    assert!(rt; answers(&rt, &rt, &before_the_sc, 0, hart));
     // A NOP in place of the JAL after the store: the pc is another after round 2.
     let mut text = fs::read(&rt, "reserved.rec")?;
     if let Some(byte) = text.get_mut(65) {
