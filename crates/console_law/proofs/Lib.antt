@@ -1,0 +1,4 @@
+pub mod Closed
+pub mod Effects
+pub mod Runs
+pub mod TurnStates
