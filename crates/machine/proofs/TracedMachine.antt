@@ -1,5 +1,5 @@
 -- A machine with the trace of its run.
-use Rattle.std.proofs.Common.{◌≡◌, ℕ, zero, suc, List, [], length, refl, sym, ap, ◌∙◌, subst, arith}
+use Rattle.std.proofs.Common.{◌≡◌, ℕ, zero, suc, ◌+◌, List, [], length, refl, sym, ap, ◌∙◌, subst, arith}
 use Rattle.std.specs.Prelude.{Result, Ok, Err, OnErr}
 use Rattle.host_io.specs.declared.error.RunError.{RunError}
 use Rattle.round_schedule.specs.declared.event.Event.{Event}
@@ -7,8 +7,9 @@ use Rattle.round_schedule.specs.Schedule.{run_of}
 use Rattle.round_planner.specs.Quotas.{quotas_of}
 use Rattle.hart_step.specs.Words.{words_of}
 use Rattle.memory_order.specs.Traced.{Laid, Traced, opening_at, opening_bytes}
-use Rattle.machine.specs.Machine.{Running, after_round, after_rounds}
-use Rattle.machine.specs.Untraced.{AreLast, HasRun, HoldsTogether, IsUntraced, Untraced, traced}
+use Rattle.machine.specs.Machine.{Running, after_round, after_rounds, opening}
+use Rattle.machine.specs.Untraced.{AreLast, HasRun, HoldsTogether, IsOfRun, IsUntraced, Untraced, traced}
+use Rattle.machine.proofs.Repeated.{more_rounds}
 use Rattle.machine.proofs.SizeKept.{size_kept}
 use Rattle.machine.proofs.UntracedRounds.{is_running, with_events}
 
@@ -39,6 +40,17 @@ unfolding run_of
 sizes_kept zero m = refl
 sizes_kept (suc k) m = sizes_kept k (after_round m) ∙ size_kept (words_of m.code) m.plan.budget (quotas_of m.plan) m.state
 
+-- a machine of a run is one after more rounds
+of_run_after : (k : ℕ) (m n : Running) → n ≡ after_rounds k m → IsOfRun m → IsOfRun n
+of_run_after k m n e r = record {
+  image = r.image;
+  input = r.input;
+  plan = r.plan;
+  rounds = r.rounds + k;
+  bytes = r.bytes;
+  is = e ∙ (ap (after_rounds k) r.is ∙ more_rounds r.rounds k (opening r.image r.input r.plan));
+}
+
 -- its events are the last ones of its run
 pub all_last : (u : Untraced) (t : Traced) → HoldsTogether u t → AreLast u t.events
 all_last u t h = (traced u t, h.run, ([], refl))
@@ -58,16 +70,19 @@ traced_run k u v t s h x o =
     let size : length v.bytes ≡ length u.bytes = ap length i.bytes ∙ sizes_kept k m in
     let opened : opening_bytes s.opening (length v.bytes) ≡ opening_bytes t.opening (length u.bytes) = ap (λ (ps : List Laid). opening_bytes ps (length v.bytes)) o ∙ ap (opening_bytes t.opening) size in
     record {
-      holds = record { run = traced_untraced n v s i events; beyond = λ a l. ap (λ (ps : List Laid). opening_at ps a) o ∙ h.beyond a (omega (arith, l, size)) };
+      holds = record { run = traced_untraced n v s i events; of_run = of_run_after k m (traced v s) (traced_is n v s i events opened) h.of_run; beyond = λ a l. ap (λ (ps : List Laid). opening_at ps a) o ∙ h.beyond a (omega (arith, l, size)) };
       is = traced_is n v s i events opened;
     }
 
 -- a round that was refused
 pub not_run : (u v : Untraced) (t s : Traced) → HoldsTogether u t → v ≡ u → s.events ≡ t.events → s.opening ≡ t.opening → HoldsTogether v s × (traced v s ≡ traced u t)
 not_run u v t s h e more o = subst (λ (w : Untraced). HoldsTogether w s × (traced w s ≡ traced u t)) (sym e) (
-  record { run = traced_untraced (traced u t) u s h.run more; beyond = λ a l. ap (λ (ps : List Laid). opening_at ps a) o ∙ h.beyond a l },
-  traced_is (traced u t) u s h.run more (ap (λ (ps : List Laid). opening_bytes ps (length u.bytes)) o),
+  record { run = traced_untraced (traced u t) u s h.run more; of_run = subst IsOfRun (sym is) h.of_run; beyond = λ a l. ap (λ (ps : List Laid). opening_at ps a) o ∙ h.beyond a l },
+  is,
 )
+  where
+    is : traced u s ≡ traced u t
+    is = traced_is (traced u t) u s h.run more (ap (λ (ps : List Laid). opening_bytes ps (length u.bytes)) o)
 
 -- what holds holds after an error
 pub on_err : {X : Type 0} (r : Result X RunError) (P : Type 0) → P → OnErr r P

@@ -1,5 +1,5 @@
 -- The trace of a machine after its rounds is a round trace over the bytes of the image.
-use Rattle.std.proofs.Common.{◌≡◌, ℕ, List, slice_index, sym, ap, ◌∙◌, subst}
+use Rattle.std.proofs.Common.{◌≡◌, ℕ, List, slice_index, refl, sym, ap, ◌∙◌, subst}
 use Rattle.pages.specs.Memory.{IsBytes}
 use Rattle.round_schedule.specs.declared.event.Event.{Event}
 use Rattle.round_schedule.specs.RoundTrace.{IsRoundTrace}
@@ -12,6 +12,7 @@ use Rattle.hart_step.specs.Words.{words_of}
 use Rattle.hart_step.proofs.Soundness.{sound}
 use Rattle.memory_order.specs.Traced.{Traced, opening_at}
 use Rattle.machine.specs.Machine.{Running, after_rounds, opening}
+use Rattle.machine.specs.Untraced.{IsOfRun}
 
 pub traced_run : (image : Loaded) (input : List ℕ) (plan : Planned) (n : ℕ) (m q : Running) (t : Traced) → m ≡ opening image input plan → q ≡ after_rounds n m → IsBytes m.state.bytes →
     t.events ≡ q.state.trace → ((x : ℕ) → opening_at t.opening x ≡ slice_index q.opening x) → IsRoundTrace t.events (opening_at t.opening) plan.budget
@@ -32,3 +33,10 @@ traced_run image input plan n m q t began ran small events opened =
 
     same : opening_at t.opening ≡ (λ x. slice_index image.bytes x)
     same = λ i. λ x. at_byte x i
+
+-- a machine of a run has a round trace
+pub round_trace : (m : Running) (t : Traced) → IsOfRun m → t.events ≡ m.state.trace → ((x : ℕ) → opening_at t.opening x ≡ slice_index m.opening x) →
+    IsRoundTrace t.events (opening_at t.opening) m.plan.budget
+round_trace m t r events opened =
+    subst (λ (p : Planned). IsRoundTrace t.events (opening_at t.opening) p.budget) (sym (ap (λ (n : Running). n.plan) r.is))
+    (traced_run r.image r.input r.plan r.rounds (opening r.image r.input r.plan) m t refl r.is r.bytes events opened)

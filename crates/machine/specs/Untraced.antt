@@ -1,6 +1,8 @@
 -- A machine that keeps no trace, as callers see it, and what ties it to a run.
 use Rattle.std.specs.Prelude.{◌≡◌, ℕ, zero, suc, ◌+◌, ◌*◌, ◌≤◌, true, List, [], ◌++◌, length, All, Option}
+use Rattle.pages.specs.Memory.{IsBytes}
 use Rattle.pages.specs.declared.access.Range.{Range}
+use Rattle.elf_loader.specs.Image.{Loaded}
 use Rattle.round_schedule.specs.declared.event.Event.{Event}
 use Rattle.round_schedule.specs.declared.span.Span.{Span}
 use Rattle.round_schedule.specs.ByTable.{Tabled, tabled_round}
@@ -13,7 +15,7 @@ use Rattle.hart_step.specs.Stops.{has_stop}
 use Rattle.hart_step.specs.Words.{words_of}
 use Rattle.memory_order.specs.Traced.{IsTrace, Traced, opening_at, opening_bytes}
 use Rattle.machine.specs.Held.{most_of_round}
-use Rattle.machine.specs.Machine.{Running, after_rounds}
+use Rattle.machine.specs.Machine.{Running, after_rounds, opening}
 
 -- the harts, the bytes, the console, the harts' reservations, how many events the trace would have, how many rounds were
 -- done, the ranges of code, and the plan
@@ -99,7 +101,17 @@ traced u t = record {
   opening = opening_bytes t.opening (length u.bytes);
 }
 
+-- the machine after some rounds from the opening of an image, an input and a plan
+pub record IsOfRun (m : Running) : Type 0 where
+  pub image : Loaded
+  pub input : List ℕ
+  pub plan : Planned
+  pub rounds : ℕ
+  pub bytes : IsBytes image.bytes
+  pub is : m ≡ after_rounds rounds (opening image input plan)
+
 -- it is the machine of that run without the trace, and memory opened with no byte past its end
 pub record HoldsTogether (u : Untraced) (t : Traced) : Type 0 where
   pub run : IsUntraced (traced u t) u
+  pub of_run : IsOfRun (traced u t)
   pub beyond : (x : ℕ) → length u.bytes ≤ x → opening_at t.opening x ≡ 0

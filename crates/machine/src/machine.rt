@@ -3,6 +3,7 @@ ghost use Rattle.pages.specs.Memory.{IsBytes};
 ghost use Rattle.host_io.specs.declared.error.RunError.TheVariants as refusals;
 ghost use Rattle.memory_order.specs.Traced.{opening_at};
 ghost use Rattle.hart_step.specs.Stops.{has_stop};
+ghost use Rattle.round_schedule.specs.RoundTrace.{IsRoundTrace};
 ghost use Rattle.machine.specs.Machine.{opening};
 
 use crate::untraced::UntracedMachine;
@@ -45,6 +46,7 @@ impl Machine {
         // It tells how many bytes the pieces fill.
         let _pieces = image.pieces();
         let bare = UntracedMachine::open(alloc, &image, input, plan)?;
+        bare.bytes_fit();
         let trace = Trace::new(alloc, image.into_pieces());
         Ok(Machine { bare, trace })
     }
@@ -73,9 +75,11 @@ impl Machine {
         self.bare.output()
     }
 
-    /// The trace so far, over the bytes that memory opened with.
+    /// The trace so far, over the bytes that memory opened with: that of a run in rounds, so that its order by rounds meets
+    /// RVWMO.
     pub fn trace(&self) -> &Trace
         ensures events { result.now.events ≡ self.now.state.trace }
+        ensures rounds { IsRoundTrace result.now.events (opening_at result.now.opening) self.now.plan.budget }
         ensures opening { (x : ℕ) → opening_at result.now.opening x ≡ slice_index self.now.opening x }
     {
         &self.trace
@@ -84,6 +88,7 @@ impl Machine {
     /// The same trace, handed over.
     pub fn into_trace(self) -> Trace
         ensures events { result.events ≡ self.state.trace }
+        ensures rounds { IsRoundTrace result.events (opening_at result.opening) self.plan.budget }
         ensures opening { (x : ℕ) → opening_at result.opening x ≡ slice_index self.opening x }
     {
         let Machine { trace, .. } = self;

@@ -8,6 +8,7 @@ ghost use Rattle.host_io.specs.declared.error.RunError.TheVariants as refusals;
 ghost use Rattle.machine.specs.OrderedRun.{IsOrderOfRun, ordered_text};
 ghost use Rattle.machine.specs.Settings.{IsImage, IsImageCause, IsPlan, IsPlanCause, IsReason, RefusedAs, settings_fault};
 
+use crate::observing::Observer;
 use crate::settings::Settings;
 use crate::tracing::trace_run;
 use host_io::{RunError, Sink};
@@ -16,18 +17,20 @@ use std::alloc::Global;
 use std::sync::Wait;
 use std::thread::Threads;
 
-/// Runs a guest program for a number of rounds, and writes the order of its memory operations, with `checked yes`.
+/// Runs a guest program for a number of rounds, and writes the order of its memory operations, with `checked yes`. The observer
+/// looks at the machine after each round in which a hart runs.
 ///
 /// # Errors
 ///
 /// The refusals of the settings, then of the image, then of the plan; `OutOfMemory`; `SinkFailed`. Nothing is written
 /// before all rounds are done.
-pub fn order_run<S: Sink, R: Threads + Wait + Sync>(
+pub fn order_run<S: Sink, O: Observer, R: Threads + Wait + Sync>(
     rt: &R,
     alloc: Global,
     image: &[u8],
     input: &[u8],
     settings: &Settings<'_>,
+    observer: &mut O,
     out: &mut S,
 ) -> Result<(), RunError>
     // The sink took the text of an order of the run that the definitions name.
@@ -44,6 +47,6 @@ pub fn order_run<S: Sink, R: Threads + Wait + Sync>(
     // A plan is refused where the image is good.
     ensures plan { (cause : PlanCause) → settings_fault settings.now ≡ None → IsImage settings.now image.now → IsPlanCause settings.now cause → RefusedAs (refusals.Plan cause) result }
 {
-    let trace = trace_run(rt, alloc, image, input, settings)?;
+    let trace = trace_run(rt, alloc, image, input, settings, observer)?;
     write_order(alloc, &trace, out)
 }

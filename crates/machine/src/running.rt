@@ -7,6 +7,7 @@ ghost use Rattle.machine.specs.Machine.{after_round, after_rounds, count_stopped
 
 use crate::crew::Crew;
 use crate::machine::Machine;
+use crate::observing::{Observer, Unobserved};
 use hart_step::Hart;
 use host_io::RunError;
 use parallel_phase::Gate;
@@ -100,8 +101,33 @@ impl Machine {
         ensures errors { 1 ≤ workers → workers ≤ 16 → IfErr result (λ e. (e ≡ refusals.OutOfMemory) ⊎ (e ≡ refusals.RoundsExhausted)) }
         ensures refused { 1 ≤ workers → workers ≤ 16 → self.old.state.rounds + rounds < 2 ^ 32 → IfErr result (λ e. e ≡ refusals.OutOfMemory) }
     {
+        self.run_observed(rt, rounds, workers, &mut Unobserved)
+    }
+
+    /// The same with an observer, which looks at the machine after each round in which a hart runs.
+    ///
+    /// # Errors
+    ///
+    /// Those of `run`.
+    pub fn run_observed<O: Observer, R: Threads + Wait + Sync>(
+        &mut self,
+        rt: &R,
+        rounds: u32,
+        workers: u32,
+        observer: &mut O,
+    ) -> Result<(), RunError>
+        ensures ok { OnOk result (self.new ≡ after_rounds rounds self.old) }
+        ensures enough { OnOk result (self.old.state.rounds + rounds < 2 ^ 32) }
+        ensures counted { OnOk result (self.new.state.rounds ≡ self.old.state.rounds + rounds) }
+        ensures fewer { result ≡ Err refusals.OutOfMemory → (k : ℕ) × (k < rounds) × (self.new ≡ after_rounds k self.old) }
+        ensures exhausted { result ≡ Err refusals.RoundsExhausted → (2 ^ 32 ≤ self.old.state.rounds + rounds) × (self.new ≡ after_rounds (2 ^ 32 - 1 - self.old.state.rounds) self.old) }
+        ensures workers { (workers < 1) ⊎ (16 < workers) → (result ≡ Err refusals.WorkersOutOfRange) × (self.new ≡ self.old) }
+        ensures errors { 1 ≤ workers → workers ≤ 16 → IfErr result (λ e. (e ≡ refusals.OutOfMemory) ⊎ (e ≡ refusals.RoundsExhausted)) }
+        ensures refused { 1 ≤ workers → workers ≤ 16 → self.old.state.rounds + rounds < 2 ^ 32 → IfErr result (λ e. e ≡ refusals.OutOfMemory) }
+    {
         self.bare.check_to_go_on();
-        self.bare.run_keeping(rt, rounds, workers, &mut self.trace)
+        self.bare
+            .run_keeping(rt, rounds, workers, &mut self.trace, observer)
     }
 }
 

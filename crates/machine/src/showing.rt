@@ -10,6 +10,7 @@ ghost use Rattle.machine.specs.Settings.{IsImage, IsImageCause, IsPlan, IsPlanCa
 ghost use Rattle.machine.specs.Showing.{all_end_well, ends_well, shown_text};
 ghost use Rattle.machine.specs.Untraced.{IsUntraced};
 
+use crate::observing::Observer;
 use crate::preparing::prepare;
 use crate::preparing_untraced::prepare_untraced;
 use crate::settings::Settings;
@@ -33,19 +34,20 @@ pub enum Shown {
 }
 
 /// Runs a guest program for a number of rounds without a trace, and writes what is shown of the state after them. It answers
-/// whether each hart exited with 0.
+/// whether each hart exited with 0. The observer looks at the machine after each round in which a hart runs.
 ///
 /// # Errors
 ///
 /// The refusals of the settings, then of the image, then of the plan; `OutOfMemory`; `SinkFailed`. Nothing is written
 /// before all rounds are done.
-pub fn show_run<S: Sink, R: Threads + Wait + Sync>(
+pub fn show_run<S: Sink, O: Observer, R: Threads + Wait + Sync>(
     rt: &R,
     alloc: Global,
     image: &[u8],
     input: &[u8],
     settings: &Settings<'_>,
     shown: Shown,
+    observer: &mut O,
     out: &mut S,
 ) -> Result<bool, RunError>
     // The sink took what is shown of the run that the definitions name, and the answer is that of its harts.
@@ -63,23 +65,24 @@ pub fn show_run<S: Sink, R: Threads + Wait + Sync>(
     ensures plan { (cause : PlanCause) → settings_fault settings.now ≡ None → IsImage settings.now image.now → IsPlanCause settings.now cause → RefusedAs (refusals.Plan cause) result }
 {
     let mut machine = prepare_untraced(alloc, image, input, settings)?;
-    machine.run(rt, settings.rounds, settings.workers)?;
+    machine.run_observed(rt, settings.rounds, settings.workers, observer)?;
     write_shown(alloc, &machine, shown, out)?;
     Ok(all_end_well(machine.harts()))
 }
 
 /// Runs a guest program for a number of rounds, and writes the report of the state after them. It answers whether each hart
-/// exited with 0.
+/// exited with 0. The observer looks at the machine after each round in which a hart runs.
 ///
 /// # Errors
 ///
 /// As `show_run`.
-pub fn report_run<S: Sink, R: Threads + Wait + Sync>(
+pub fn report_run<S: Sink, O: Observer, R: Threads + Wait + Sync>(
     rt: &R,
     alloc: Global,
     image: &[u8],
     input: &[u8],
     settings: &Settings<'_>,
+    observer: &mut O,
     out: &mut S,
 ) -> Result<bool, RunError>
     // The sink took the report of the run that the definitions name, and the answer is that of its harts.
@@ -97,7 +100,7 @@ pub fn report_run<S: Sink, R: Threads + Wait + Sync>(
     ensures plan { (cause : PlanCause) → settings_fault settings.now ≡ None → IsImage settings.now image.now → IsPlanCause settings.now cause → RefusedAs (refusals.Plan cause) result }
 {
     let mut machine = prepare(alloc, image, input, settings)?;
-    machine.run(rt, settings.rounds, settings.workers)?;
+    machine.run_observed(rt, settings.rounds, settings.workers, observer)?;
     machine.report(alloc, out)?;
     Ok(all_end_well(machine.harts()))
 }

@@ -10,6 +10,7 @@ ghost use Rattle.memory_order.specs.Rvwmo.{MeetsRvwmo};
 ghost use Rattle.memory_order.specs.Traced.{opening_at};
 ghost use Rattle.machine.specs.Settings.{IsImage, IsImageCause, IsPlan, IsPlanCause, IsReason, RefusedAs, image_for, settings_fault, trace_after};
 
+use crate::observing::Observer;
 use crate::preparing::prepare;
 use crate::settings::Settings;
 use host_io::RunError;
@@ -20,17 +21,19 @@ use std::thread::Threads;
 
 /// Runs a guest program for a number of rounds, and hands its trace over.
 ///
-/// It is the trace of a run in rounds over the bytes of the image, so that its memory order meets RVWMO.
+/// It is the trace of a run in rounds over the bytes of the image, so that its memory order meets RVWMO. The observer looks at
+/// the machine after each round in which a hart runs.
 ///
 /// # Errors
 ///
 /// The refusals of the settings, then of the image, then of the plan; `OutOfMemory`.
-pub fn trace_run<R: Threads + Wait + Sync>(
+pub fn trace_run<O: Observer, R: Threads + Wait + Sync>(
     rt: &R,
     alloc: Global,
     image: &[u8],
     input: &[u8],
     settings: &Settings<'_>,
+    observer: &mut O,
 ) -> Result<Trace, RunError>
     // It has the events of the run that the definitions name.
     ensures events { IfOk result (λ t. (plan : Planned) × IsPlan settings.now plan × (t.events ≡ trace_after settings.now image.now input.now plan)) }
@@ -46,6 +49,6 @@ pub fn trace_run<R: Threads + Wait + Sync>(
 {
     let mut machine = prepare(alloc, image, input, settings)?;
     machine.bytes_fit();
-    machine.run(rt, settings.rounds, settings.workers)?;
+    machine.run_observed(rt, settings.rounds, settings.workers, observer)?;
     Ok(machine.into_trace())
 }

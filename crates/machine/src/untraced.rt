@@ -63,8 +63,12 @@ impl UntracedMachine {
         UntracedMachine::open(alloc, &image, input, plan)
     }
 
-    /// The same of an image that is lent.
-    pub(crate) fn open(
+    /// The same of an image that is lent, so that one image opens many machines.
+    ///
+    /// # Errors
+    ///
+    /// `OutOfMemory` alone.
+    pub fn open(
         alloc: Global,
         image: &Image,
         input: Vec<u8>,

@@ -10,6 +10,7 @@ ghost use Rattle.machine.specs.Untraced.{AreAdded, AreLast, HasRun, IsAfter, May
 
 use crate::crew::Crew;
 use crate::keeper::{EventKeeper, NoTrace};
+use crate::observing::{Observer, Unobserved};
 use crate::round::do_round;
 use crate::running::{MANY_LINES, MOST_WORKERS, RoundNote, stopped_count, workers_for};
 use crate::untraced::UntracedMachine;
@@ -45,10 +46,34 @@ impl UntracedMachine {
         ensures errors { 1 ≤ workers → workers ≤ 16 → IfErr result (λ e. (e ≡ refusals.OutOfMemory) ⊎ (e ≡ refusals.RoundsExhausted)) }
         ensures refused { 1 ≤ workers → workers ≤ 16 → self.old.rounds + rounds < 2 ^ 32 → IfErr result (λ e. e ≡ refusals.OutOfMemory) }
     {
-        self.run_keeping(rt, rounds, workers, &mut NoTrace)
+        self.run_observed(rt, rounds, workers, &mut Unobserved)
     }
 
-    /// The same, and adds the events of these rounds to a trace that holds the last events of the run. It may be empty.
+    /// The same with an observer, which looks at the machine after each round in which a hart runs.
+    ///
+    /// # Errors
+    ///
+    /// Those of `run`.
+    pub fn run_observed<O: Observer, R: Threads + Wait + Sync>(
+        &mut self,
+        rt: &R,
+        rounds: u32,
+        workers: u32,
+        observer: &mut O,
+    ) -> Result<(), RunError>
+        ensures ok { OnOk result (IsAfter rounds self.old self.new) }
+        ensures enough { OnOk result (self.old.rounds + rounds < 2 ^ 32) }
+        ensures counted { OnOk result (self.new.rounds ≡ self.old.rounds + rounds) }
+        ensures fewer { result ≡ Err refusals.OutOfMemory → (k : ℕ) × (k < rounds) × IsAfter k self.old self.new }
+        ensures exhausted { result ≡ Err refusals.RoundsExhausted → (2 ^ 32 ≤ self.old.rounds + rounds) × IsAfter (2 ^ 32 - 1 - self.old.rounds) self.old self.new }
+        ensures workers { (workers < 1) ⊎ (16 < workers) → (result ≡ Err refusals.WorkersOutOfRange) × (self.new ≡ self.old) }
+        ensures errors { 1 ≤ workers → workers ≤ 16 → IfErr result (λ e. (e ≡ refusals.OutOfMemory) ⊎ (e ≡ refusals.RoundsExhausted)) }
+        ensures refused { 1 ≤ workers → workers ≤ 16 → self.old.rounds + rounds < 2 ^ 32 → IfErr result (λ e. e ≡ refusals.OutOfMemory) }
+    {
+        self.run_keeping(rt, rounds, workers, &mut NoTrace, observer)
+    }
+
+    /// Does what `run` does, and adds the events of these rounds to a trace that holds the last events of the run. It may be empty.
     ///
     /// # Errors
     ///
@@ -74,16 +99,17 @@ impl UntracedMachine {
         ensures refused { 1 ≤ workers → workers ≤ 16 → self.old.rounds + rounds < 2 ^ 32 → IfErr result (λ e. e ≡ refusals.OutOfMemory) }
     {
         self.check_to_go_on();
-        self.run_keeping(rt, rounds, workers, trace)
+        self.run_keeping(rt, rounds, workers, trace, &mut Unobserved)
     }
 
     /// Does so many rounds, and has their events kept.
-    pub(crate) fn run_keeping<E: EventKeeper, R: Threads + Wait + Sync>(
+    pub(crate) fn run_keeping<E: EventKeeper, O: Observer, R: Threads + Wait + Sync>(
         &mut self,
         rt: &R,
         rounds: u32,
         workers: u32,
         keeper: &mut E,
+        observer: &mut O,
     ) -> Result<(), RunError>
         requires kept { (es : List Event) × E.keeps keeper.old es }
         requires sound { (n : ℕ) (es : List Event) → self.old.rounds + n < 2 ^ 32 → E.keeps keeper.old es → MayGoOn E.may_keep n es self.old }
@@ -102,10 +128,10 @@ impl UntracedMachine {
         }
         let left = u32::MAX - self.rounds;
         if rounds > left {
-            self.run_within(rt, left, workers, keeper)?;
+            self.run_within(rt, left, workers, keeper, observer)?;
             return Err(RunError::RoundsExhausted);
         }
-        self.run_within(rt, rounds, workers, keeper)?;
+        self.run_within(rt, rounds, workers, keeper, observer)?;
         Ok(())
     }
 
@@ -121,12 +147,13 @@ impl UntracedMachine {
     }
 
     /// Does so many rounds, where as many can be counted, and has their events kept.
-    fn run_within<E: EventKeeper, R: Threads + Wait + Sync>(
+    fn run_within<E: EventKeeper, O: Observer, R: Threads + Wait + Sync>(
         &mut self,
         rt: &R,
         rounds: u32,
         workers: u32,
         keeper: &mut E,
+        observer: &mut O,
     ) -> Result<(), OutOfMemory>
         requires workers { (1 ≤ workers) × (workers ≤ 16) }
         requires rounds { self.old.rounds + rounds < 2 ^ 32 }
@@ -141,6 +168,7 @@ impl UntracedMachine {
                 return Ok(());
             }
             self.round_of_run(rt, workers, keeper)?;
+            observer.after_round(self);
         }
         Ok(())
     }

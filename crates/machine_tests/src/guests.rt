@@ -3,10 +3,11 @@
 ghost use Rattle.std.specs.Prelude.{◌≤◌};
 
 use crate::example_files::{HELLO, LOST_UPDATE, SUM};
+use crate::harness::settings;
 use elf_loader::load_elf;
 use hart_step::Stop;
-use host_io::RunError;
-use machine::Machine;
+use host_io::{RunError, WriteSink};
+use machine::{Format, Machine, Settings, Shown, Unobserved, show_run};
 use round_planner::Plan;
 use std::alloc::Global;
 use std::sync::Wait;
@@ -81,5 +82,29 @@ fn a_guest_counts_its_lost_updates(rt: HostRuntime) -> Result<(), Fail> {
         assert_eq!(rt; machine.byte(0x20000), Some(plain));
         assert_eq!(rt; machine.byte(0x20008), Some(atomic));
     }
+    Ok(())
+}
+
+#[test]
+fn what_four_harts_say_is_shown(rt: HostRuntime) -> Result<(), Fail> {
+    let asked = Settings {
+        format: Format::Elf,
+        pages: 256,
+        ..settings(4, 1000, b"1000\n")
+    };
+    let mut text = Vec::new(rt.alloc());
+    let ends_well = show_run(
+        &rt,
+        rt.alloc(),
+        HELLO,
+        b"",
+        &asked,
+        Shown::Output,
+        &mut Unobserved,
+        &mut WriteSink::new(&mut text),
+    )?;
+    assert!(rt; ends_well);
+    let wanted = "hart 0 of 4\nhart 1 of 4\nhart 2 of 4\nhart 3 of 4\n";
+    assert!(rt; text.as_slice() == wanted.as_bytes());
     Ok(())
 }

@@ -1,5 +1,5 @@
 use host_io::WriteSink;
-use machine::{Format, Settings, order_run, trace_run};
+use machine::{Format, Settings, Unobserved, order_run, trace_run};
 use memory_order::{Order, memory_order};
 use std::alloc::Global;
 use std::sync::Wait;
@@ -48,7 +48,7 @@ fn is_ordered<R: Threads + Wait + Sync>(
         plan,
         budget,
     };
-    let Ok(trace) = trace_run(rt, alloc, image, &[], &settings) else {
+    let Ok(trace) = trace_run(rt, alloc, image, &[], &settings, &mut Unobserved) else {
         return false;
     };
     match memory_order(alloc, &trace) {
@@ -131,6 +131,7 @@ fn an_order_is_written_and_checked(rt: HostRuntime) -> Result<(), Fail> {
         &STORE_AND_LOAD,
         &[],
         &settings,
+        &mut Unobserved,
         &mut WriteSink::new(&mut text),
     )?;
     let order = "order 4\n\

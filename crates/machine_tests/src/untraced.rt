@@ -4,9 +4,9 @@ ghost use Rattle.std.specs.Prelude.{[], IfOk};
 ghost use Rattle.machine.specs.Untraced.{AreLast};
 
 use crate::harness::{flat, settings};
-use crate::images::RESERVED;
+use crate::images::{CROSSED_AND_FENCED, RESERVED};
 use host_io::RunError;
-use machine::{Trace, UntracedMachine, prepare_untraced};
+use machine::{Observer, Trace, UntracedMachine, prepare_untraced};
 use std::alloc::Global;
 use std::sync::Wait;
 use std::thread::Threads;
@@ -63,4 +63,34 @@ fn notes<R: Threads + Wait + Sync>(rt: &R, alloc: Global) -> Result<bool, RunErr
 fn events_are_noted_in_a_trace_that_is_lent(rt: HostRuntime) {
     let noted = notes(&rt, rt.alloc());
     assert!(rt; matches!(&noted, Ok(true)));
+}
+
+/// Who counts how often it looks on, and keeps the number of the last round.
+#[derive(Drop)]
+struct Counter {
+    looks: u32,
+    last: u32,
+}
+
+impl Observer for Counter {
+    fn after_round(&mut self, machine: &UntracedMachine) {
+        self.looks = self.looks.wrapping_add(1);
+        self.last = machine.rounds();
+    }
+}
+
+/// Both harts stop in the second round, after which no hart runs.
+fn is_observed<R: Threads + Wait + Sync>(rt: &R, alloc: Global) -> Result<bool, RunError> {
+    let settings = settings(2, 5, b"6\n");
+    let image = flat(alloc, &CROSSED_AND_FENCED)?;
+    let mut machine = prepare_untraced(alloc, &image, &[], &settings)?;
+    let mut counter = Counter { looks: 0, last: 0 };
+    machine.run_observed(rt, 5, 1, &mut counter)?;
+    Ok(counter.looks == 2 && counter.last == 2 && machine.rounds() == 5)
+}
+
+#[test]
+fn an_observer_looks_on_while_a_hart_runs(rt: HostRuntime) {
+    let observed = is_observed(&rt, rt.alloc());
+    assert!(rt; matches!(&observed, Ok(true)));
 }

@@ -13,13 +13,13 @@ on_err (Err e) A a = a
 pub returns-in_err-report-clause-begun : goal.returns-in_err-report-clause-begun
 returns-in_err-report-clause-begun g c =
     let made = c.in_ok-machine.ensures.machine in
-    let after = c.in_ok-run.ensures.ok ∙ ap (after_rounds c.args.settings.now.rounds) made.2 in
+    let after = c.in_ok-run_observed.ensures.ok ∙ ap (after_rounds c.args.settings.now.rounds) made.2 in
     on_err c.from_residual-in_err-report.result _ (inr (made.0, made.1, subst (λ (text : List ℕ). BeganText (g.S.Sink.took c.args.out.now) (g.S.Sink.took c.report.new.out) text) (ap (λ (m : Running). report_of m.state) after) c.in_err-report.ensures.begun))
 
 pub returns-clause-reports : goal.returns-clause-reports
 returns-clause-reports g c =
     let made = c.in_ok-machine.ensures.machine in
-    let after = c.in_ok-run.ensures.ok ∙ ap (after_rounds c.args.settings.now.rounds) made.2 in (
+    let after = c.in_ok-run_observed.ensures.ok ∙ ap (after_rounds c.args.settings.now.rounds) made.2 in (
       made.0,
       made.1,
       c.in_ok-report.ensures.ok ∙ ap (λ (m : Running). g.S.Sink.took c.args.out.now ++ report_of m.state) after,

@@ -10,11 +10,11 @@ on_err (Err e) A a = a
 pub returns-in_err-write_shown-clause-begun : goal.returns-in_err-write_shown-clause-begun
 returns-in_err-write_shown-clause-begun g c =
     let made = c.in_ok-machine.ensures.machine in
-    let ran = c.in_ok-run.ensures.ok _ made.2 in
+    let ran = c.in_ok-run_observed.ensures.ok _ made.2 in
     on_err c.from_residual-in_err-write_shown.result _ (inr (made.0, made.1, c.in_err-write_shown.ensures.begun _ ran))
 
 pub returns-clause-shows : goal.returns-clause-shows
 returns-clause-shows g c =
     let made = c.in_ok-machine.ensures.machine in
-    let ran = c.in_ok-run.ensures.ok _ made.2 in
+    let ran = c.in_ok-run_observed.ensures.ok _ made.2 in
     (made.0, made.1, c.in_ok-write_shown.ensures.ok _ ran, c.all_end_well.ensures ∙ ap all_end_well (c.harts.ensures.harts ∙ ran.harts))

@@ -5,7 +5,7 @@ use Rattle.memory_order.specs.Traced.{Traced}
 use Rattle.machine.specs.Machine.{Running, after_rounds}
 use Rattle.machine.specs.Untraced.{AreLast, Untraced, traced}
 use Rattle.machine.proofs.TracedMachine.{all_last, traced_run}
-use Rattle.machine.proofs.machine.Machine.run.Goals as goal
+use Rattle.machine.proofs.machine.Machine.run_observed.Goals as goal
 
 pub run_keeping-requires-clause-kept : goal.run_keeping-requires-clause-kept
 run_keeping-requires-clause-kept g c = λ lifetimes within. (c.self.inside.trace.events, refl)

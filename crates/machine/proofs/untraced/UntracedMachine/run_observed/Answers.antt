@@ -1,7 +1,7 @@
 use Rattle.std.proofs.lemmas.Result.{IfOk-weaker}
 use Rattle.std.proofs.Common.{[]}
 use Rattle.machine.proofs.UntracedRounds.{nothing_kept}
-use Rattle.machine.proofs.untraced.UntracedMachine.run.Goals as goal
+use Rattle.machine.proofs.untraced.UntracedMachine.run_observed.Goals as goal
 
 pub run_keeping-requires-clause-kept : goal.run_keeping-requires-clause-kept
 run_keeping-requires-clause-kept g c = λ lifetimes within. ([], tt)
