@@ -5,6 +5,7 @@ mod adding;
 mod block;
 mod ending;
 mod joining;
+mod observing;
 mod row;
 mod runs;
 mod tabulating;
@@ -12,6 +13,7 @@ mod working;
 
 pub use ending::Ending;
 pub use joining::join;
+pub use observing::{HuntObserver, UnobservedHunt};
 pub use row::Row;
 pub use runs::Runs;
 pub use tabulating::{tables_are_unique, tabulate};

@@ -2,6 +2,7 @@ ghost use Rattle.std.specs.Prelude.{◌+◌, ◌<◌, ◌≤◌, ◌^◌, IfOk};
 ghost use Rattle.plan_hunt.specs.Tables.{IsTable, TablesAreUnique};
 
 use crate::block::{Block, tabulate_block};
+use crate::observing::HuntObserver;
 use crate::row::Row;
 use crate::runs::Runs;
 use pages::OutOfMemory;
@@ -21,18 +22,19 @@ pub fn tables_are_unique()
 /// The table of the endings of `count` plans from `first` on, found by workers that run plans at the same time.
 ///
 /// Which worker runs which plan makes no difference. A worker that is refused memory ends, and the calling thread does what
-/// was left.
+/// was left. The observer looks on between two blocks of plans, in which the workers wait for each other.
 ///
 /// # Errors
 ///
 /// `OutOfMemory` where the calling thread was refused memory too.
-pub fn tabulate<Q: Runs + Sync, R: Threads + Wait + Sync>(
+pub fn tabulate<Q: Runs + Sync, O: HuntObserver, R: Threads + Wait + Sync>(
     rt: &R,
     alloc: Global,
     runs: &Q,
     first: u32,
     count: u32,
     workers: u32,
+    observer: &mut O,
 ) -> Result<Vec<Row>, OutOfMemory>
     requires few { first + count < 2 ^ 32 }
     requires workers { 1 ≤ workers }
@@ -44,10 +46,19 @@ pub fn tabulate<Q: Runs + Sync, R: Threads + Wait + Sync>(
         let block = Block {
             first,
             done,
-            count: MOST_OF_BLOCK.min(count - done),
+            count: block_size(observer.before_block(done), count - done),
         };
         tabulate_block(rt, alloc, runs, block, workers, &mut rows)?;
         done += block.count;
     }
     Ok(rows)
+}
+
+/// How many plans are in a block for which so many are asked, where so many are left.
+fn block_size(asked: u32, left: u32) -> u32
+    requires { 1 ≤ left }
+    ensures some { 1 ≤ result }
+    ensures few { result ≤ left }
+{
+    asked.max(1).min(MOST_OF_BLOCK).min(left)
 }

@@ -44,7 +44,7 @@ fn are_rows(rows: &[Row], expected: [(u8, u32, u32); 3]) -> bool {
 #[test]
 fn each_ending_is_told_once(rt: HostRuntime) -> Result<(), Fail> {
     let guest = Remainders { alloc: rt.alloc() };
-    let rows = tabulate(&rt, rt.alloc(), &guest, 5, 7, 3)?;
+    let rows = tabulate(&rt, rt.alloc(), &guest, 5, 7, 3, &mut UnobservedHunt)?;
     assert!(rt; are_rows(&rows, PLANS_5_TO_11));
     Ok(())
 }
@@ -52,7 +52,7 @@ fn each_ending_is_told_once(rt: HostRuntime) -> Result<(), Fail> {
 #[test]
 fn a_table_goes_on_from_block_to_block(rt: HostRuntime) -> Result<(), Fail> {
     let guest = Remainders { alloc: rt.alloc() };
-    let rows = tabulate(&rt, rt.alloc(), &guest, 0, 4100, 2)?;
+    let rows = tabulate(&rt, rt.alloc(), &guest, 0, 4100, 2, &mut UnobservedHunt)?;
     assert!(rt; are_rows(&rows, PLANS_0_TO_4099));
     Ok(())
 }
@@ -60,8 +60,8 @@ fn a_table_goes_on_from_block_to_block(rt: HostRuntime) -> Result<(), Fail> {
 #[test]
 fn tables_that_adjoin_are_joined(rt: HostRuntime) -> Result<(), Fail> {
     let guest = Remainders { alloc: rt.alloc() };
-    let mut rows = tabulate(&rt, rt.alloc(), &guest, 5, 2, 1)?;
-    let others = tabulate(&rt, rt.alloc(), &guest, 7, 5, 2)?;
+    let mut rows = tabulate(&rt, rt.alloc(), &guest, 5, 2, 1, &mut UnobservedHunt)?;
+    let others = tabulate(&rt, rt.alloc(), &guest, 7, 5, 2, &mut UnobservedHunt)?;
     join(&mut rows, others)?;
     assert!(rt; are_rows(&rows, PLANS_5_TO_11));
     Ok(())

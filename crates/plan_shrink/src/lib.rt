@@ -3,11 +3,13 @@
 
 mod changing;
 mod draft;
+mod observing;
 mod runs;
 mod shrinking;
 mod size;
 mod step;
 
+pub use observing::{ShrinkObserver, UnobservedShrink};
 pub use runs::PlanRuns;
 pub use shrinking::shrink;
 pub use step::{Change, Step, Way};

@@ -6,6 +6,7 @@ ghost use Rattle.plan_shrink.specs.Tried.{IsTried};
 ghost use denote.Param.Send.{IsSync};
 
 use crate::draft::Draft;
+use crate::observing::ShrinkObserver;
 use crate::runs::PlanRuns;
 use crate::step::Step;
 use pages::OutOfMemory;
@@ -17,18 +18,19 @@ use std::thread::Threads;
 
 /// A plan that ends as that of these rows does, and from which no single step to a smaller plan ends so.
 ///
-/// The runs go one after another.
+/// The runs go one after another, and the observer looks on after each of them.
 ///
 /// # Errors
 ///
 /// `OutOfMemory` alone.
-pub fn shrink<Q: PlanRuns, R: Threads + Wait + Sync>(
+pub fn shrink<Q: PlanRuns, O: ShrinkObserver, R: Threads + Wait + Sync>(
     rt: &R,
     alloc: Global,
     runs: &Q,
     rows: Vec<Vec<u32>>,
     harts: u32,
     budget: u32,
+    observer: &mut O,
 ) -> Result<Plan, OutOfMemory>
     requires some_harts { 1 ≤ harts }
     requires few_harts { harts ≤ 64 }
@@ -44,32 +46,34 @@ pub fn shrink<Q: PlanRuns, R: Threads + Wait + Sync>(
         budget,
     };
     let ending = runs.run_under(rt, draft.plan(alloc)?)?;
-    shrink_to(rt, alloc, runs, &ending, draft)
+    shrink_to(rt, alloc, runs, &ending, draft, observer)
 }
 
 /// Tries all steps, until none is taken.
-fn shrink_to<Q: PlanRuns, R: Threads + Wait + Sync>(
+fn shrink_to<Q: PlanRuns, O: ShrinkObserver, R: Threads + Wait + Sync>(
     rt: &R,
     alloc: Global,
     runs: &Q,
     ending: &Ending,
     mut draft: Draft,
+    observer: &mut O,
 ) -> Result<Plan, OutOfMemory>
     requires sync { IsSync R.row }
     requires ends { Q.ends runs.now draft ≡ ending.now }
     ensures { IfOk result (λ p. IsShrunk (Q.ends runs.now) draft p) }
 {
-    while try_all(rt, alloc, runs, ending, &mut draft)? {}
+    while try_all(rt, alloc, runs, ending, &mut draft, observer)? {}
     draft.plan(alloc)
 }
 
 /// Tries each step once. It answers whether the plan became smaller.
-fn try_all<Q: PlanRuns, R: Threads + Wait + Sync>(
+fn try_all<Q: PlanRuns, O: ShrinkObserver, R: Threads + Wait + Sync>(
     rt: &R,
     alloc: Global,
     runs: &Q,
     ending: &Ending,
     draft: &mut Draft,
+    observer: &mut O,
 ) -> Result<bool, OutOfMemory>
     requires sync { IsSync R.row }
     ensures { IfOk result (λ taken. IsTried (Q.ends runs.now) ending.now draft.old (NoStepLeads (Q.ends runs.now) ending.now draft.old) taken draft.new) }
@@ -77,7 +81,8 @@ fn try_all<Q: PlanRuns, R: Threads + Wait + Sync>(
     let rows = draft.row_count();
     let mut taken = false;
     for number in 0..draft.count_steps() {
-        if try_step(rt, alloc, runs, ending, Step::at(rows, number), draft)? {
+        let step = Step::at(rows, number);
+        if try_step(rt, alloc, runs, ending, step, draft, observer)? {
             taken = true;
         }
     }
@@ -85,13 +90,14 @@ fn try_all<Q: PlanRuns, R: Threads + Wait + Sync>(
 }
 
 /// Takes a step where the run after it comes to the ending. It answers whether it did.
-fn try_step<Q: PlanRuns, R: Threads + Wait + Sync>(
+fn try_step<Q: PlanRuns, O: ShrinkObserver, R: Threads + Wait + Sync>(
     rt: &R,
     alloc: Global,
     runs: &Q,
     ending: &Ending,
     step: Step,
     draft: &mut Draft,
+    observer: &mut O,
 ) -> Result<bool, OutOfMemory>
     requires sync { IsSync R.row }
     ensures { IfOk result (λ taken. IsTried (Q.ends runs.now) ending.now draft.old (LeadsTo (Q.ends runs.now) ending.now draft.old step → ⊥) taken draft.new) }
@@ -100,6 +106,7 @@ fn try_step<Q: PlanRuns, R: Threads + Wait + Sync>(
         return Ok(false);
     };
     let found = runs.run_under(rt, smaller.plan(alloc)?)?;
+    observer.after_run(draft.row_count());
     if !found.is_same(ending) {
         return Ok(false);
     }

@@ -40,7 +40,7 @@ fn a_plan_is_made_small(rt: HostRuntime) -> Result<(), Fail> {
     let mut rows = Vec::new(rt.alloc());
     rows.push(Vec::from_slice(rt.alloc(), &[8, 5])?)?;
     rows.push(Vec::from_slice(rt.alloc(), &[2, 2])?)?;
-    let plan = shrink(&rt, rt.alloc(), &guest, rows, 2, 7)?;
+    let plan = shrink(&rt, rt.alloc(), &guest, rows, 2, 7, &mut UnobservedShrink)?;
     assert_eq!(rt; plan.budget(), 7);
     assert!(rt; plan.text(rt.alloc())?.as_slice() == b"3\n".as_slice());
     Ok(())
