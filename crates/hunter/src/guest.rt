@@ -5,10 +5,11 @@ ghost use Rattle.machine.specs.Untraced.{IsUntraced};
 ghost use Rattle.hunter.specs.Hunts.{IsGuest, ended_of, family_of, seen_of};
 
 use crate::settings::HuntSettings;
+use elf_loader::Image;
 use hart_step::{Hart, Stop};
 use host_io::RunError;
 use hunt_table::SeenRange;
-use machine::{UntracedMachine, load};
+use machine::UntracedMachine;
 use pages::OutOfMemory;
 use plan_family::Family;
 use plan_hunt::{Ending, Runs};
@@ -25,7 +26,9 @@ pub(crate) struct Guest<'a> {
     pub settings: &'a HuntSettings,
     pub file: &'a [u8],
     pub input: &'a [u8],
+    pub image: &'a Image,
     ghost range: { IsGuest settings.now },
+    ghost loaded: { image.now ≡ image_of settings.now.format file.now settings.now.pages },
 }
 
 impl Runs for Guest<'_> {
@@ -70,12 +73,10 @@ impl Guest<'_> {
     fn opening(&self, plan: Plan) -> Result<UntracedMachine, OutOfMemory>
         ensures { IfOk result (λ u. IsUntraced (opening (image_of self.now.settings.now.format self.now.file.now self.now.settings.now.pages) self.now.input.now plan) u) }
     {
-        let settings = self.settings;
-        let image = refused(load(self.alloc, settings.format, self.file, settings.pages))?;
         let Ok(input) = Vec::from_slice(self.alloc, self.input) else {
             return Err(OutOfMemory);
         };
-        refused(UntracedMachine::new(self.alloc, image, input, plan))
+        refused(UntracedMachine::open(self.alloc, self.image, input, plan))
     }
 }
 

@@ -16,22 +16,24 @@ use hart_step::Stop;
 use host_io::Sink;
 use hunt_table::write_table;
 use machine::load;
-use plan_hunt::{Row, tabulate};
+use plan_hunt::{HuntObserver, Row, tabulate};
 use std::alloc::Global;
 use std::sync::Wait;
 use std::thread::Threads;
 
-/// The table of the endings that a guest's runs under the plans come to.
+/// The table of the endings that a guest's runs under the plans come to. The image is loaded once. The observer looks on
+/// between two blocks of plans.
 ///
 /// # Errors
 ///
 /// The refusals of the settings, then of the image; `OutOfMemory`. No plan of a family is refused.
-pub fn tabulate_hunt<R: Threads + Wait + Sync>(
+pub fn tabulate_hunt<O: HuntObserver, R: Threads + Wait + Sync>(
     rt: &R,
     alloc: Global,
     image: &[u8],
     input: &[u8],
     settings: &HuntSettings,
+    observer: &mut O,
 ) -> Result<Vec<Row>, HuntError>
     ensures table { IfOk result (λ rows. IsHunted settings.now image.now input.now rows.items) }
     ensures settings { (e : Refusal) → hunt_fault settings.now ≡ Some e → result ≡ Err e }
@@ -39,13 +41,13 @@ pub fn tabulate_hunt<R: Threads + Wait + Sync>(
     ensures image { (cause : ImageCause) → hunt_fault settings.now ≡ None → IsImageCause settings.now image.now cause → (result ≡ Err (Run (refusals.Image cause))) ⊎ (result ≡ Err (Run refusals.OutOfMemory)) }
 {
     check_hunt(settings)?;
-    // The cause for which an image is refused is told before any run.
-    load(alloc, settings.format, image, settings.pages)?;
+    let loaded = load(alloc, settings.format, image, settings.pages)?;
     let guest = Guest {
         alloc,
         settings,
         file: image,
         input,
+        image: &loaded,
     };
     Ok(tabulate(
         rt,
@@ -54,6 +56,7 @@ pub fn tabulate_hunt<R: Threads + Wait + Sync>(
         settings.header.first,
         settings.header.count,
         settings.workers,
+        observer,
     )?)
 }
 
@@ -90,17 +93,18 @@ fn is_one_exit(rows: &[Row]) -> bool
 }
 
 /// Runs a guest under the plans of a hunt, and writes the table of the endings that they lead to. It answers whether there
-/// is one ending, in which all harts exited.
+/// is one ending, in which all harts exited. The observer looks on between two blocks of plans.
 ///
 /// # Errors
 ///
 /// The refusals of the settings, then of the image; `OutOfMemory`; `SinkFailed`. Nothing is written before all runs are done.
-pub fn hunt<S: Sink, R: Threads + Wait + Sync>(
+pub fn hunt<S: Sink, O: HuntObserver, R: Threads + Wait + Sync>(
     rt: &R,
     alloc: Global,
     image: &[u8],
     input: &[u8],
     settings: &HuntSettings,
+    observer: &mut O,
     out: &mut S,
 ) -> Result<bool, HuntError>
     // The sink took the table of the runs that the definitions name, and the answer is that of the table.
@@ -115,7 +119,7 @@ pub fn hunt<S: Sink, R: Threads + Wait + Sync>(
     ensures errors { hunt_fault settings.now ≡ None → IfErr result (λ e. IsHuntReason settings.now image.now e ⊎ ((e ≡ Run refusals.SinkFailed) × (S.failures out.old < S.failures out.new))) }
     ensures image { (cause : ImageCause) → hunt_fault settings.now ≡ None → IsImageCause settings.now image.now cause → (result ≡ Err (Run (refusals.Image cause))) ⊎ (result ≡ Err (Run refusals.OutOfMemory)) }
 {
-    let rows = tabulate_hunt(rt, alloc, image, input, settings)?;
+    let rows = tabulate_hunt(rt, alloc, image, input, settings, observer)?;
     write_table(alloc, &settings.header, &rows, out)?;
     Ok(is_one_exit(&rows))
 }

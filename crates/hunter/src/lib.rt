@@ -9,6 +9,8 @@ mod shrinking;
 
 pub use error::HuntError;
 pub use hunting::{hunt, tabulate_hunt};
+pub use plan_hunt::{HuntObserver, UnobservedHunt};
+pub use plan_shrink::{ShrinkObserver, UnobservedShrink};
 pub use settings::HuntSettings;
 pub use shrinking::shrink;
 

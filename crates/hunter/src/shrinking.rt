@@ -13,6 +13,7 @@ use crate::settings::{HuntSettings, check_shrink};
 use machine::load;
 use pages::OutOfMemory;
 use plan_family::serial_budget;
+use plan_shrink::ShrinkObserver;
 use round_planner::Plan;
 use std::alloc::Global;
 use std::sync::Wait;
@@ -20,18 +21,20 @@ use std::thread::Threads;
 
 /// A plan that ends as plan `number` of the family does, and from which no single step to a smaller plan ends so.
 ///
-/// Of the settings, the header's `first` and `count` are not looked at. The runs go one after another.
+/// Of the settings, the header's `first` and `count` are not looked at. The runs go one after another, and the
+/// observer looks on after each of them.
 ///
 /// # Errors
 ///
 /// The refusals of the settings, then of the image; `OutOfMemory`.
-pub fn shrink<R: Threads + Wait + Sync>(
+pub fn shrink<O: ShrinkObserver, R: Threads + Wait + Sync>(
     rt: &R,
     alloc: Global,
     image: &[u8],
     input: &[u8],
     settings: &HuntSettings,
     number: u32,
+    observer: &mut O,
 ) -> Result<Plan, HuntError>
     // It has the harts and the budget of plan `number` and its ending, and no single step from it leads to that ending.
     ensures shrunk { IfOk result (λ p. IsShrunk (ends_under settings.now image.now input.now) (family_plan (family_of settings.now) number) p) }
@@ -42,22 +45,23 @@ pub fn shrink<R: Threads + Wait + Sync>(
     ensures image { (cause : ImageCause) → shrink_fault settings.now ≡ None → IsImageCause settings.now image.now cause → (result ≡ Err (Run (refusals.Image cause))) ⊎ (result ≡ Err (Run refusals.OutOfMemory)) }
 {
     check_shrink(settings)?;
-    // The cause for which an image is refused is told before any run.
-    load(alloc, settings.format, image, settings.pages)?;
+    let loaded = load(alloc, settings.format, image, settings.pages)?;
     let guest = Guest {
         alloc,
         settings,
         file: image,
         input,
+        image: &loaded,
     };
-    Ok(shrunk(rt, &guest, number)?)
+    Ok(shrunk(rt, &guest, number, observer)?)
 }
 
 /// The same of a guest.
-fn shrunk<R: Threads + Wait + Sync>(
+fn shrunk<O: ShrinkObserver, R: Threads + Wait + Sync>(
     rt: &R,
     guest: &Guest<'_>,
     number: u32,
+    observer: &mut O,
 ) -> Result<Plan, OutOfMemory>
     ensures { IfOk result (λ p. IsShrunk (ends_under guest.now.settings.now guest.now.file.now guest.now.input.now) (family_plan (family_of guest.now.settings.now) number) p) }
 {
@@ -70,5 +74,6 @@ fn shrunk<R: Threads + Wait + Sync>(
         rows,
         family.harts,
         serial_budget(number),
+        observer,
     )
 }

@@ -79,6 +79,7 @@ fn a_late_load_has_two_endings(rt: HostRuntime) -> Result<(), Fail> {
         &image,
         &[],
         &asked,
+        &mut UnobservedHunt,
         &mut WriteSink::new(&mut text),
     )?;
     assert!(rt; text.as_slice() == TABLE.as_bytes());
@@ -91,7 +92,15 @@ fn a_late_load_has_two_endings(rt: HostRuntime) -> Result<(), Fail> {
 fn a_late_load_needs_a_quota_of_2(rt: HostRuntime) -> Result<(), Fail> {
     let image = image(rt.alloc())?;
     let asked = settings(rt.alloc(), 0, 1)?;
-    let plan = shrink(&rt, rt.alloc(), &image, &[], &asked, 3)?;
+    let plan = shrink(
+        &rt,
+        rt.alloc(),
+        &image,
+        &[],
+        &asked,
+        3,
+        &mut UnobservedShrink,
+    )?;
     assert_eq!(rt; plan.budget(), 1);
     assert!(rt; plan.text(rt.alloc())?.as_slice() == b"2\n".as_slice());
     Ok(())
@@ -100,7 +109,7 @@ fn a_late_load_needs_a_quota_of_2(rt: HostRuntime) -> Result<(), Fail> {
 #[test]
 fn no_plans_are_refused(rt: HostRuntime) -> Result<(), Fail> {
     let asked = settings(rt.alloc(), u32::MAX, 1)?;
-    match tabulate_hunt(&rt, rt.alloc(), &[], &[], &asked) {
+    match tabulate_hunt(&rt, rt.alloc(), &[], &[], &asked, &mut UnobservedHunt) {
         Ok(_) => assert!(rt; false),
         Err(error) => assert_eq!(rt; error.number(), 73),
     }
