@@ -9,25 +9,27 @@ ghost use Rattle.machine.specs.Settings.{IsImage, IsImageCause, IsPlan, IsPlanCa
 ghost use Rattle.drawing.specs.Drawn.{picture_after};
 
 use host_io::{RunError, Sink};
-use machine::{Settings, prepare};
+use machine::{Observer, Settings, prepare};
 use picture::{View, write_picture};
 use std::alloc::Global;
 use std::sync::Wait;
 use std::thread::Threads;
 
-/// Runs a guest program for a number of rounds, and writes a picture of what the view shows of the run.
+/// Runs a guest program for a number of rounds, and writes a picture of what the view shows of the run. The observer looks at
+/// the machine after each round in which a hart runs.
 ///
 /// # Errors
 ///
 /// The refusals of the settings, then of the image, then of the plan; `OutOfMemory`; `SinkFailed`. Nothing is written
 /// before all rounds are done.
-pub fn draw_run<S: Sink, R: Threads + Wait + Sync>(
+pub fn draw_run<S: Sink, O: Observer, R: Threads + Wait + Sync>(
     rt: &R,
     alloc: Global,
     image: &[u8],
     input: &[u8],
     settings: &Settings<'_>,
     view: &View<'_>,
+    observer: &mut O,
     out: &mut S,
 ) -> Result<(), RunError>
     // The sink took the picture of the run that the definitions name.
@@ -45,6 +47,6 @@ pub fn draw_run<S: Sink, R: Threads + Wait + Sync>(
     ensures plan { (cause : PlanCause) → settings_fault settings.now ≡ None → IsImage settings.now image.now → IsPlanCause settings.now cause → RefusedAs (refusals.Plan cause) result }
 {
     let mut machine = prepare(alloc, image, input, settings)?;
-    machine.run(rt, settings.rounds, settings.workers)?;
+    machine.run_observed(rt, settings.rounds, settings.workers, observer)?;
     write_picture(alloc, machine.trace(), machine.harts(), view, out)
 }

@@ -1,6 +1,6 @@
 use crate::{View, draw_run};
 use host_io::WriteSink;
-use machine::{Format, Settings};
+use machine::{Format, Settings, Unobserved};
 use std::test::Fail;
 
 /// SLLI x5,x10,3; XORI x6,x5,8; ADDI x7,x0,1; SD x7,256(x5); FENCE RW,RW; LD x28,256(x6): each of two harts stores 1, and
@@ -45,7 +45,16 @@ fn crossed_stores_and_fences(rt: HostRuntime) -> Result<(), Fail> {
     };
     let mut text = Vec::new(rt.alloc());
     let mut sink = WriteSink::new(&mut text);
-    draw_run(&rt, rt.alloc(), &image, b"", &settings, &view, &mut sink)?;
+    draw_run(
+        &rt,
+        rt.alloc(),
+        &image,
+        b"",
+        &settings,
+        &view,
+        &mut Unobserved,
+        &mut sink,
+    )?;
     assert_eq!(rt; count(&text, b"<rect class='box'"), 6);
     assert_eq!(rt; count(&text, b"<rect class='lost'"), 1);
     assert_eq!(rt; count(&text, b"<path class='other'"), 2 + 1);

@@ -15,7 +15,7 @@ ghost use Rattle.replayer.specs.Summaries.{kept_of_rounds};
 
 use crate::keeping::{keep, seen_untraced};
 use host_io::RunError;
-use machine::{Format, Settings, UntracedMachine, prepare_untraced};
+use machine::{Format, Observer, Settings, Unobserved, UntracedMachine, prepare_untraced};
 use recording::{Kept, Parts, Recording};
 use std::alloc::Global;
 use std::sync::Wait;
@@ -64,6 +64,30 @@ pub fn record_with<R: Threads + Wait + Sync>(
     // A plan is refused where the image is good.
     ensures plan { (cause : PlanCause) → settings_fault settings.now ≡ None → IsImage settings.now image.now → IsPlanCause settings.now cause → RefusedAs (refusals.Plan cause) result }
 {
+    record_observed(rt, alloc, image, input, settings, every, &mut Unobserved)
+}
+
+/// The same with an observer, which looks at the machine after each round.
+///
+/// # Errors
+///
+/// As `record`.
+pub fn record_observed<O: Observer, R: Threads + Wait + Sync>(
+    rt: &R,
+    alloc: Global,
+    image: &[u8],
+    input: &[u8],
+    settings: &Settings<'_>,
+    every: u32,
+    observer: &mut O,
+) -> Result<Recording, RunError>
+    ensures recording { IfOk result (λ r. (plan : Planned) × IsPlan settings.now plan × (r ≡ recorded_of settings.now every image.now input.now plan)) }
+    ensures settings { (e : Refusal) → settings_fault settings.now ≡ Some e → result ≡ Err e }
+    ensures errors { settings_fault settings.now ≡ None → IfErr result (λ e. IsReason settings.now image.now e) }
+    ensures image { (cause : ImageCause) → settings_fault settings.now ≡ None → IsImageCause settings.now image.now cause → RefusedAs (refusals.Image cause) result }
+    // A plan is refused where the image is good.
+    ensures plan { (cause : PlanCause) → settings_fault settings.now ≡ None → IsImage settings.now image.now → IsPlanCause settings.now cause → RefusedAs (refusals.Plan cause) result }
+{
     let mut machine = prepare_untraced(alloc, image, input, settings)?;
     let kept = keep_rounds(
         rt,
@@ -72,18 +96,20 @@ pub fn record_with<R: Threads + Wait + Sync>(
         settings.rounds,
         every,
         settings.workers,
+        observer,
     )?;
     recording_of(alloc, image, input, settings, every, kept)
 }
 
 /// What is kept of the next rounds of a machine that was just opened, which does them. It may wait.
-fn keep_rounds<R: Threads + Wait + Sync>(
+fn keep_rounds<O: Observer, R: Threads + Wait + Sync>(
     rt: &R,
     alloc: Global,
     machine: &mut UntracedMachine,
     rounds: u32,
     every: u32,
     workers: u32,
+    observer: &mut O,
 ) -> Result<Vec<Kept>, RunError>
     requires workers { (1 ≤ workers) × (workers ≤ 16) }
     requires opened { machine.old.rounds ≡ 0 }
@@ -98,6 +124,7 @@ fn keep_rounds<R: Threads + Wait + Sync>(
         machine.run(rt, 1, workers)?;
         let of_round = keep(alloc, &seen_untraced(machine, done + 1), every)?;
         add(&mut kept, of_round)?;
+        observer.after_round(machine);
     }
     Ok(kept)
 }

@@ -15,7 +15,7 @@ use crate::keeping::{Seen, agrees, seen_untraced};
 use crate::opened::opened_untraced;
 use crate::verdict::Verdict;
 use host_io::RunError;
-use machine::UntracedMachine;
+use machine::{Observer, Unobserved, UntracedMachine};
 use recording::{Kept, Recording};
 use std::alloc::Global;
 use std::sync::Wait;
@@ -40,6 +40,28 @@ pub fn replay<R: Threads + Wait + Sync>(
     // A plan is refused where the image is good.
     ensures plan { (cause : PlanCause) → AreWorkers workers → HasImage recording.now → HasPlanCause recording.now cause → RefusedAs (refusals.Plan cause) result }
 {
+    replay_observed(rt, alloc, recording, workers, &mut Unobserved)
+}
+
+/// The same with an observer, which looks at the machine after each round.
+///
+/// # Errors
+///
+/// As `replay`.
+pub fn replay_observed<O: Observer, R: Threads + Wait + Sync>(
+    rt: &R,
+    alloc: Global,
+    recording: &Recording,
+    workers: u32,
+    observer: &mut O,
+) -> Result<Verdict, RunError>
+    ensures verdict { IfOk result (λ v. (plan : Planned) × IsPlanFor recording.now plan × IsVerdict recording.now (start_of recording.now plan) v) }
+    ensures workers { AreNoWorkers workers → result ≡ Err refusals.WorkersOutOfRange }
+    ensures errors { AreWorkers workers → IfErr result (λ e. HasReason recording.now e) }
+    ensures image { (cause : ImageCause) → AreWorkers workers → HasImageCause recording.now cause → RefusedAs (refusals.Image cause) result }
+    // A plan is refused where the image is good.
+    ensures plan { (cause : PlanCause) → AreWorkers workers → HasImage recording.now → HasPlanCause recording.now cause → RefusedAs (refusals.Plan cause) result }
+{
     let mut machine = opened_untraced(alloc, recording, workers)?;
     // So many rounds are kept, as 32 bits hold.
     let _rounds = recording.rounds();
@@ -49,17 +71,19 @@ pub fn replay<R: Threads + Wait + Sync>(
         recording.kept(),
         recording.every(),
         workers,
+        observer,
     )
 }
 
 /// Runs a machine that was just opened for as many rounds as were kept, and looks for the first after which its state is
 /// another than what was kept of it. It may wait.
-fn first_difference<R: Threads + Wait + Sync>(
+fn first_difference<O: Observer, R: Threads + Wait + Sync>(
     rt: &R,
     machine: &mut UntracedMachine,
     kept: &[Kept],
     every: u32,
     workers: u32,
+    observer: &mut O,
 ) -> Result<Verdict, RunError>
     requires workers { (1 ≤ workers) × (workers ≤ 16) }
     requires opened { machine.old.rounds ≡ 0 }
@@ -73,6 +97,7 @@ fn first_difference<R: Threads + Wait + Sync>(
         if !agrees(&kept[place], every, &seen_untraced(machine, round)) {
             return Ok(Verdict::Differs(round));
         }
+        observer.after_round(machine);
     }
     Ok(Verdict::Same)
 }

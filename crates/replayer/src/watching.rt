@@ -15,7 +15,7 @@ ghost use Rattle.replayer.specs.Replayed.{IsPlanFor, hits_of, start_of};
 
 use crate::opened::opened_untraced;
 use host_io::RunError;
-use machine::UntracedMachine;
+use machine::{Observer, Unobserved, UntracedMachine};
 use memory_order::Trace;
 use pages::{OutOfMemory, Range, Width};
 use recording::Recording;
@@ -55,15 +55,17 @@ pub fn watch<R: Threads + Wait + Sync>(
         ranges,
         None,
         workers,
+        &mut Unobserved,
     )
 }
 
-/// What `watch` gives, of the rounds from `from` to `to` alone, both counted. It runs no further than round `to`. It may wait.
+/// What `watch` gives, of the rounds from `from` to `to` alone, both counted. It runs no further than round `to`. The
+/// observer looks at the machine after each round in which a hart runs. It may wait.
 ///
 /// # Errors
 ///
 /// As `watch`.
-pub fn watch_rounds<R: Threads + Wait + Sync>(
+pub fn watch_rounds<O: Observer, R: Threads + Wait + Sync>(
     rt: &R,
     alloc: Global,
     recording: &Recording,
@@ -71,6 +73,7 @@ pub fn watch_rounds<R: Threads + Wait + Sync>(
     from: u32,
     to: u32,
     workers: u32,
+    observer: &mut O,
 ) -> Result<Vec<Event>, RunError>
     ensures hits { IfOk result (λ v. (plan : Planned) × IsPlanFor recording.now plan × (v.items ≡ of_rounds from to (hits_of recording.now (start_of recording.now plan) ranges.now))) }
     ensures workers { AreNoWorkers workers → result ≡ Err refusals.WorkersOutOfRange }
@@ -89,12 +92,13 @@ pub fn watch_rounds<R: Threads + Wait + Sync>(
         ranges,
         Some((from, to)),
         workers,
+        observer,
     )
 }
 
 /// Runs a machine that was just opened for so many rounds, and keeps the events that hit one of the ranges, of some rounds
 /// alone where they are told. The other events of a round are let go after it. It may wait.
-fn watch_run<R: Threads + Wait + Sync>(
+fn watch_run<O: Observer, R: Threads + Wait + Sync>(
     rt: &R,
     alloc: Global,
     machine: &mut UntracedMachine,
@@ -102,6 +106,7 @@ fn watch_run<R: Threads + Wait + Sync>(
     ranges: &[Range],
     within: Option<(u32, u32)>,
     workers: u32,
+    observer: &mut O,
 ) -> Result<Vec<Event>, RunError>
     requires workers { (1 ≤ workers) × (workers ≤ 16) }
     requires opened { machine.old.rounds ≡ 0 }
@@ -117,6 +122,7 @@ fn watch_run<R: Threads + Wait + Sync>(
         let mut trace = Trace::new(alloc, Vec::new(alloc));
         machine.run_noting(rt, count, workers, &mut trace)?;
         add_sought(&mut found, &trace, ranges, within)?;
+        observer.after_round(machine);
         done += count;
     }
     Ok(found)

@@ -2,7 +2,7 @@
 use crate::harness::{RESERVED, settings};
 use hart_step::Hart;
 use host_io::RunError;
-use machine::prepare_untraced;
+use machine::{Unobserved, prepare_untraced};
 use pages::Range;
 use replayer::{
     Recording, Replay, Verdict, count_at, record, state_at, state_before, watch_rounds,
@@ -102,7 +102,7 @@ fn hits_of<R: Threads + Wait + Sync>(
         start: 0x100,
         len: 8,
     };
-    Ok(watch_rounds(rt, alloc, recording, &[bytes], from, to, 1)?.len())
+    Ok(watch_rounds(rt, alloc, recording, &[bytes], from, to, 1, &mut Unobserved)?.len())
 }
 
 #[test]

@@ -39,7 +39,7 @@ same_picture t hs m n v e f h =
 pub write_picture-requires : goal.write_picture-requires
 write_picture-requires g c =
     let made = c.in_ok-machine.ensures.machine in
-    let after = c.in_ok-run.ensures.ok ∙ ap (after_rounds c.args.settings.now.rounds) made.2 in
+    let after = c.in_ok-run_observed.ensures.ok ∙ ap (after_rounds c.args.settings.now.rounds) made.2 in
     let e : length c.harts.result.now ≡ c.args.settings.now.harts = c.harts.ensures.count ∙ ap (λ (m : Running). m.plan.harts) after ∙ ap (λ (p : Planned). p.harts) made.1.is_plan in
     omega (arith, e, c.in_ok-machine.ensures.range.few_harts)
 
@@ -52,13 +52,13 @@ returns-clause-untouched g c = untouched c.write_picture.result _ c.write_pictur
 pub returns-clause-draws : goal.returns-clause-draws
 returns-clause-draws g c =
     let made = c.in_ok-machine.ensures.machine in
-    let after = c.in_ok-run.ensures.ok ∙ ap (after_rounds c.args.settings.now.rounds) made.2 in
+    let after = c.in_ok-run_observed.ensures.ok ∙ ap (after_rounds c.args.settings.now.rounds) made.2 in
     let same = same_picture _ _ _ _ c.args.view.now c.trace.ensures.events c.harts.ensures.harts after in
     where_done c.write_picture.result _ _ (λ h. (made.0, made.1, h ∙ ap (λ (text : List ℕ). g.S.Sink.took c.args.out.now ++ text) same)) c.write_picture.ensures.ok
 
 pub returns-clause-begun : goal.returns-clause-begun
 returns-clause-begun g c =
     let made = c.in_ok-machine.ensures.machine in
-    let after = c.in_ok-run.ensures.ok ∙ ap (after_rounds c.args.settings.now.rounds) made.2 in
+    let after = c.in_ok-run_observed.ensures.ok ∙ ap (after_rounds c.args.settings.now.rounds) made.2 in
     let same = same_picture _ _ _ _ c.args.view.now c.trace.ensures.events c.harts.ensures.harts after in
     where_refused c.write_picture.result _ _ (λ h. inr (made.0, made.1, subst (λ (text : List ℕ). BeganText (g.S.Sink.took c.args.out.now) (g.S.Sink.took c.write_picture.new.out) text) same h)) c.write_picture.ensures.begun

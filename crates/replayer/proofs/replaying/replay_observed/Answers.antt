@@ -4,7 +4,7 @@ use Rattle.machine.specs.Machine.{Running}
 use Rattle.recording.specs.Recorded.{Kept}
 use Rattle.recording.specs.Views.{kept_view}
 use Rattle.replayer.specs.Replayed.{IsVerdictOn, start_of}
-use Rattle.replayer.proofs.replaying.replay.Goals as goal
+use Rattle.replayer.proofs.replaying.replay_observed.Goals as goal
 
 pub returns-clause-verdict : goal.returns-clause-verdict
 returns-clause-verdict g c =
