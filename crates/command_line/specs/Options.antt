@@ -78,12 +78,13 @@ guest_rules =
     ∷ number_rule (codes "pages") (codes "256")
     ∷ []
 
--- how long it runs, and what it reads; without --rounds there are so many rounds
+-- how long it runs, what it reads, and whether it is told how far it is; without --rounds there are so many rounds
 abbrev pub program_rules : Text → List Rule
 program_rules rounds =
     number_rule (codes "rounds") rounds
     ∷ number_rule (codes "workers") (codes "4")
     ∷ text_rule (codes "input")
+    ∷ flag_rule (codes "progress")
     ∷ []
 
 -- which plan a run goes by: one that the line gives, or one of the family
@@ -143,6 +144,7 @@ abbrev pub replay_rules : List Rule
 replay_rules =
     positional_rule (codes "recording")
     ∷ number_rule (codes "workers") (codes "4")
+    ∷ flag_rule (codes "progress")
     ∷ number_rule (codes "every") (codes "64")
     ∷ []
 
@@ -170,6 +172,7 @@ watched_round_rules =
     number_given_rule (codes "from")
     ∷ number_given_rule (codes "to")
     ∷ number_rule (codes "workers") (codes "4")
+    ∷ flag_rule (codes "progress")
     ∷ []
 
 -- what `migrate` takes

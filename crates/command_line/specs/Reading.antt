@@ -109,6 +109,7 @@ pub record HoldsProgram (default_rounds : ℕ) (rows : List Row) (program : Prog
   pub rounds : program.rounds ≡ number_or default_rounds (one_of (codes "rounds") rows)
   pub workers : program.workers ≡ number_or 4 (one_of (codes "workers") rows)
   pub input : option_map (λ s. s.now) program.input ≡ first_of (codes "input") rows
+  pub progress : HoldsFlag (one_of (codes "progress") rows) program.progress
 
 pub record HoldsPlanChoice (rows : List Row) (plan : PlanChoice) : Type 0 where
   pub quota : plan.quota.now ≡ unwrap_or (first_of (codes "quota") rows) (codes "1000")
@@ -139,6 +140,7 @@ pub record HoldsReplay (rows : List Row) (replay : Replay) : Type 0 where
   pub count : replay.count ≡ number_given 64 (one_of (codes "count") rows)
   pub place : replay.place ≡ number_given 64 (one_of (codes "place") rows)
   pub every : replay.every ≡ number_or 64 (one_of (codes "every") rows)
+  pub progress : HoldsFlag (one_of (codes "progress") rows) replay.progress
 
 pub record HoldsWatch (rows : List Row) (watch : Watch) : Type 0 where
   pub recording : watch.recording.now ≡ unwrap_or (first_of (codes "recording") rows) []
@@ -148,6 +150,7 @@ pub record HoldsWatch (rows : List Row) (watch : Watch) : Type 0 where
   pub from : watch.from ≡ number_given 32 (one_of (codes "from") rows)
   pub to : watch.to ≡ number_given 32 (one_of (codes "to") rows)
   pub workers : watch.workers ≡ number_or 4 (one_of (codes "workers") rows)
+  pub progress : HoldsFlag (one_of (codes "progress") rows) watch.progress
 
 pub record HoldsMigrate (rows : List Row) (migrate : Migrate) : Type 0 where
   pub recording : migrate.recording.now ≡ unwrap_or (first_of (codes "recording") rows) []

@@ -181,6 +181,14 @@ pub(crate) fn workers<'a>(alloc: Global) -> Arg<'a>
     number(alloc, "workers", "4", "Threads: 1 to 16, same outcome")
 }
 
+/// The option `--progress`.
+pub(crate) fn progress<'a>(alloc: Global) -> Arg<'a>
+    ensures rule { rule_of result ≡ flag_rule (codes "progress") }
+    ensures local { result.global ≡ false }
+{
+    flag(alloc, "progress", "Say on standard error how far it is")
+}
+
 /// The option `--seed S`, by which the family of plans is one of many.
 pub(crate) fn seed<'a>(alloc: Global) -> Arg<'a>
     ensures rule { rule_of result ≡ wide_number_rule (codes "seed") (codes "1") }

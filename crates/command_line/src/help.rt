@@ -90,6 +90,7 @@ A refusal is the line 'error N' on standard error, with the exit status 1:
   54  4294967295 rounds were done before
   55  the budget is out of range
   61  a file couldn't be opened or read
+  62  a file has more than 1 GiB
   71  a text isn't a table of endings
   72  the tables don't adjoin, or aren't of one hunt
   73  a hunt has no plan, or one with a number over 4294967294

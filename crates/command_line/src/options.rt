@@ -12,8 +12,8 @@ use crate::run_options::{draw_command, order_command, record_command, run_comman
 use clap::Command;
 use std::alloc::{AllocError, Global};
 
-/// The version of `dethart`.
-const VERSION: &str = "1.0.0";
+/// The version of `dethart`, and of the toolchain that proved it.
+const VERSION: &str = "1.0.0 (rattle-kit-13f logic dac8208d650f15bf)";
 
 /// The command `dethart` with its subcommands.
 pub(crate) fn dethart_command<'a>(alloc: Global) -> Result<Command<'a>, AllocError>

@@ -81,6 +81,7 @@ fn replay_of<'a>(matches: &ArgMatches<'a>) -> Replay<'a>
         count: wide_given(matches, "count"),
         place: wide_given(matches, "place"),
         every: number_of(matches, "every", 64),
+        progress: matches.get_flag("progress"),
     }
 }
 
@@ -97,6 +98,7 @@ fn watch_of<'a>(alloc: Global, matches: &ArgMatches<'a>) -> Result<Watch<'a>, Al
         from: number_given(matches, "from"),
         to: number_given(matches, "to"),
         workers: number_of(matches, "workers", 4),
+        progress: matches.get_flag("progress"),
     })
 }
 

@@ -4,7 +4,7 @@ ghost use Rattle.clap.specs.Words.{app_of, new_app};
 ghost use Rattle.clap.specs.declared.builder.command.Command.TheViews.{out-Command};
 ghost use Rattle.command_line.specs.Options.{guest_app, guest_rules, taking};
 
-use crate::arguments::{file, flag, number, positional, workers};
+use crate::arguments::{file, flag, number, positional, progress, workers};
 use clap::Command;
 use std::alloc::{AllocError, Global};
 
@@ -63,5 +63,6 @@ pub(crate) fn program_command<'a>(
     guest_command(alloc, name, about, after_help)?
         .arg(number(alloc, "rounds", rounds, "Rounds: 0 to 4294967295"))?
         .arg(workers(alloc))?
-        .arg(file(alloc, "input", "What the guest reads [default: no input]"))
+        .arg(file(alloc, "input", "What the guest reads [default: no input]"))?
+        .arg(progress(alloc))
 }

@@ -5,7 +5,8 @@ ghost use Rattle.clap.specs.declared.builder.command.Command.TheViews.{out-Comma
 ghost use Rattle.command_line.specs.Options.{migrate_app, replay_app, replay_rules, taking, watch_app, watch_rules};
 
 use crate::arguments::{
-    number, number_given, positional, recording, see, wide_number_given, wide_positional, workers,
+    number, number_given, positional, progress, recording, see, wide_number_given, wide_positional,
+    workers,
 };
 use crate::program_options::named_command;
 use crate::recording_help::{
@@ -43,11 +44,12 @@ fn replaying_command<'a>(alloc: Global) -> Result<Command<'a>, AllocError>
     named_command(alloc, "replay", REPLAY_ABOUT, REPLAY_AFTER_HELP)
         .arg(recording(alloc))?
         .arg(workers(alloc))?
+        .arg(progress(alloc))?
         .arg(number(
             alloc,
             "every",
             "64",
-            "Without effect: one question needs no checkpoint",
+            "No effect: one question needs no checkpoint",
         ))
 }
 
@@ -59,7 +61,8 @@ pub(crate) fn watch_command<'a>(alloc: Global) -> Result<Command<'a>, AllocError
     watching_command(alloc)?
         .arg(number_given(alloc, "from", "First round that is watched"))?
         .arg(number_given(alloc, "to", "Last round that is watched"))?
-        .arg(workers(alloc))
+        .arg(workers(alloc))?
+        .arg(progress(alloc))
 }
 
 /// The subcommand `watch` without its rounds.

@@ -21,6 +21,7 @@ pub(crate) fn program_of<'a>(matches: &ArgMatches<'a>, default_rounds: u32) -> P
         rounds: number_of(matches, "rounds", default_rounds),
         workers: number_of(matches, "workers", 4),
         input: matches.get_str("input"),
+        progress: matches.get_flag("progress"),
     }
 }
 

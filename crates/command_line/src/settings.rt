@@ -42,6 +42,8 @@ pub struct Program<'a> {
     pub workers: u32,
     /// The path of the file that the guest reads; none is an empty input.
     pub input: Option<&'a str>,
+    /// It is told between rounds how far the run is.
+    pub progress: bool,
 }
 
 /// Which plan a run goes by.
@@ -122,6 +124,8 @@ pub struct Replay<'a> {
     pub place: Option<u64>,
     /// A machine to go on from is kept after each round whose number is a multiple of this; 0: only the first.
     pub every: u32,
+    /// It is told between rounds how far the run is.
+    pub progress: bool,
 }
 
 /// The words after `watch`.
@@ -141,6 +145,8 @@ pub struct Watch<'a> {
     pub to: Option<u32>,
     /// The number of threads.
     pub workers: u32,
+    /// It is told between rounds how far the run is.
+    pub progress: bool,
 }
 
 /// The words after `migrate`.

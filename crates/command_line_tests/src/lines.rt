@@ -4,7 +4,7 @@ use command_line::{
 };
 use std::test::Fail;
 
-static EVERY_OPTION: [&str; 26] = [
+static EVERY_OPTION: [&str; 27] = [
     "dethart",
     "run",
     "--flat",
@@ -31,6 +31,7 @@ static EVERY_OPTION: [&str; 26] = [
     "harts",
     "--no-trace",
     "--strict",
+    "--progress",
 ];
 
 /// What `EVERY_OPTION` says of the run.
@@ -43,6 +44,7 @@ static GIVEN: Run<'static> = Run {
         rounds: 0,
         workers: 2,
         input: Some("keys.txt"),
+        progress: true,
     },
     plan: PlanChoice {
         quota: "9 8 7",
@@ -63,6 +65,7 @@ static DEFAULTS: Run<'static> = Run {
         rounds: 1000,
         workers: 4,
         input: None,
+        progress: false,
     },
     plan: PlanChoice {
         quota: "1000",
@@ -109,7 +112,7 @@ fn reads_record(rt: HostRuntime) -> Result<(), Fail> {
     Ok(())
 }
 
-static REPLAY_WITH_EVERY_OPTION: [&str; 12] = [
+static REPLAY_WITH_EVERY_OPTION: [&str; 13] = [
     "dethart",
     "replay",
     "--workers",
@@ -122,6 +125,7 @@ static REPLAY_WITH_EVERY_OPTION: [&str; 12] = [
     "18446744073709551615",
     "--place=7",
     "--every=0",
+    "--progress",
 ];
 
 #[test]
@@ -134,6 +138,7 @@ fn reads_replay(rt: HostRuntime) -> Result<(), Fail> {
         count: Some(18446744073709551615),
         place: Some(7),
         every: 0,
+        progress: true,
     };
     assert!(rt;
         parse_line(rt.alloc(), REPLAY_WITH_EVERY_OPTION.as_slice())? == Command::Replay(given)
@@ -146,6 +151,7 @@ fn reads_replay(rt: HostRuntime) -> Result<(), Fail> {
         count: None,
         place: None,
         every: 64,
+        progress: false,
     };
     let words = ["dethart", "replay", "guest.rec"];
     assert!(rt; parse_line(rt.alloc(), words.as_slice())? == Command::Replay(defaults));
@@ -166,6 +172,7 @@ fn reads_watch(rt: HostRuntime) -> Result<(), Fail> {
         from: Some(3),
         to: Some(9),
         workers: 2,
+        progress: true,
     };
     let words = [
         "dethart",
@@ -179,6 +186,7 @@ fn reads_watch(rt: HostRuntime) -> Result<(), Fail> {
         "--from=3",
         "8",
         "--to=9",
+        "--progress",
     ];
     assert!(rt; parse_line(rt.alloc(), words.as_slice())? == Command::Watch(given));
     let defaults = Watch {
@@ -189,6 +197,7 @@ fn reads_watch(rt: HostRuntime) -> Result<(), Fail> {
         from: None,
         to: None,
         workers: 4,
+        progress: false,
     };
     let words = ["dethart", "watch", "guest.rec", "256", "0"];
     assert!(rt; parse_line(rt.alloc(), words.as_slice())? == Command::Watch(defaults));
@@ -211,6 +220,7 @@ fn reads_addresses(rt: HostRuntime) -> Result<(), Fail> {
             from: None,
             to: None,
             workers: 4,
+            progress: false,
         };
         let words = ["dethart", "watch", "guest.rec", text, "1"];
         assert!(rt; parse_line(rt.alloc(), words.as_slice())? == Command::Watch(watch));

@@ -2,14 +2,16 @@
 use Rattle.std.specs.Prelude.{◌≡◌, ℕ, ⊤}
 use Rattle.host_io.specs.declared.error.RunError.TheVariants as refusals
 use Rattle.dethart.specs.declared.failure.Failure.{Failure}
-use Rattle.dethart.specs.declared.failure.Failure.TheVariants.{Hunt, Line, Merge, NoFile, NoObject, NotText, ReaderGone, Refused, Unread}
+use Rattle.dethart.specs.declared.failure.Failure.TheVariants.{Hunt, Line, Merge, NoFile, NoObject, NotText, Plan, ReaderGone, Refused, TooLarge, Unread}
 use Rattle.dethart.specs.declared.printing.Answer.{Answer}
 use Rattle.dethart.specs.declared.printing.Answer.TheVariants.{Done, Differs, Doubtful}
 
 -- 1 for a refusal, and 2 for a bad command line
 abbrev pub status_of : Failure → ℕ
 status_of (Refused error) = 1
+status_of (Plan error line) = 1
 status_of (NoFile path) = 1
+status_of (TooLarge path) = 1
 status_of (Unread error) = 1
 status_of (Hunt error) = 1
 status_of (Merge error) = 1
@@ -18,9 +20,10 @@ status_of ReaderGone = 1
 status_of (Line error) = 2
 status_of NotText = 2
 
--- a file couldn't be read, or memory was refused
+-- a file couldn't be read or is too large, or memory was refused
 abbrev pub IsNoFile : Failure → Type 0
 IsNoFile (NoFile path) = ⊤
+IsNoFile (TooLarge path) = ⊤
 IsNoFile (Refused error) = error ≡ refusals.OutOfMemory
 IsNoFile failure = ⊥
 

@@ -3,6 +3,7 @@ ghost use Rattle.dethart.specs.Status.{status_of};
 ghost use Rattle.host_io.specs.declared.error.RunError.TheVariants as refusals;
 ghost use Rattle.dethart.specs.declared.failure.Failure.TheVariants as failures;
 
+use crate::plan_lines::BadLine;
 use host_io::RunError;
 use hunter::HuntError;
 use replayer::ReadError;
@@ -19,8 +20,12 @@ pub(crate) enum Failure {
     NotText,
     /// The run was refused.
     Refused(RunError),
+    /// The run was refused for its plan, of which this line is bad.
+    Plan(RunError, BadLine),
     /// The file of this path couldn't be opened or read.
     NoFile(String),
+    /// The file of this path has more bytes than are read of a file.
+    TooLarge(String),
     /// The file is no recording.
     Unread(ReadError),
     /// The hunt was refused.
@@ -104,8 +109,9 @@ impl Failure {
     pub(crate) fn number(&self) -> Option<u32> {
         match self {
             Failure::Line(_) | Failure::NotText | Failure::ReaderGone => None,
-            Failure::Refused(error) => Some(error.number()),
+            Failure::Refused(error) | Failure::Plan(error, _) => Some(error.number()),
             Failure::NoFile(_) => Some(RunError::SourceFailed.number()),
+            Failure::TooLarge(_) => Some(62),
             Failure::Unread(error) => Some(error.number()),
             Failure::Hunt(error) => Some(error.number()),
             Failure::Merge(error) => Some(error.number()),
@@ -122,7 +128,9 @@ impl Failure {
             Failure::Line(error) => error.print(rt),
             Failure::NotText => eprintln!(rt; "error: an argument isn't UTF-8"),
             Failure::Refused(error) => eprintln!(rt; "{error}"),
+            Failure::Plan(error, line) => eprintln!(rt; "{error}\n{line}"),
             Failure::NoFile(path) => eprintln!(rt; "the file {path} couldn't be opened or read"),
+            Failure::TooLarge(path) => eprintln!(rt; "the file {path} has more than 1 GiB"),
             Failure::Unread(error) => eprintln!(rt; "{error}"),
             Failure::Hunt(error) => eprintln!(rt; "{error}"),
             Failure::Merge(error) => eprintln!(rt; "{error}"),

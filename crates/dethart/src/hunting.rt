@@ -2,6 +2,7 @@
 
 use crate::failure::Failure;
 use crate::files::{ProgramFiles, read_file, read_program};
+use crate::progress::Progress;
 use crate::ranges::{named_bytes, seen_ranges};
 use crate::run::format_of;
 use command_line::{Hunt, Merge, Search, Shrink};
@@ -23,14 +24,18 @@ pub(crate) fn write_hunt<R: Threads + Wait + Sync, W: Write>(
 ) -> Result<bool, Failure> {
     let files = read_program(rt, &asked.search.program)?;
     let settings = settings_of(rt.alloc(), &asked.search, &files, asked.first, asked.plans)?;
-    Ok(hunt(
+    let mut progress = Progress::new(rt, asked.search.program.progress, asked.plans);
+    let answer = hunt(
         threads,
         rt.alloc(),
         &files.image,
         &files.input,
         &settings,
+        &mut progress,
         &mut WriteSink::new(out),
-    )?)
+    );
+    progress.end();
+    Ok(answer?)
 }
 
 /// Looks for a smaller plan that leads to the same ending, and writes it. Answers its budget, which is no part of the text.
@@ -42,14 +47,18 @@ pub(crate) fn write_shrunk<R: Threads + Wait + Sync, W: Write>(
 ) -> Result<u32, Failure> {
     let files = read_program(rt, &asked.search.program)?;
     let settings = settings_of(rt.alloc(), &asked.search, &files, asked.plan_number, 1)?;
-    let plan = shrink(
+    let mut progress = Progress::new(rt, asked.search.program.progress, 0);
+    let answer = shrink(
         threads,
         rt.alloc(),
         &files.image,
         &files.input,
         &settings,
         asked.plan_number,
-    )?;
+        &mut progress,
+    );
+    progress.end();
+    let plan = answer?;
     put_all(&mut WriteSink::new(out), plan.text(rt.alloc())?.as_slice())?;
     Ok(plan.budget())
 }

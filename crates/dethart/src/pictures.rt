@@ -2,7 +2,7 @@
 
 use crate::failure::Failure;
 use crate::ranges::{access_ranges, named_bytes};
-use crate::run::{read_run, settings_of};
+use crate::run::{progress_of, read_run, settings_of};
 use command_line::Draw;
 use drawing::{View, draw_run};
 use host_io::WriteSink;
@@ -30,13 +30,19 @@ pub(crate) fn write_drawing<R: Threads + Wait + Sync, W: Write>(
         from: asked.from.unwrap_or(0),
         to: asked.to.unwrap_or(u32::MAX),
     };
-    Ok(draw_run(
+    let mut progress = progress_of(rt, &asked.run.program);
+    let answer = draw_run(
         threads,
         rt.alloc(),
         &files.program.image,
         &files.program.input,
         &settings_of(&asked.run.program, &files.plan),
         &view,
+        &mut progress,
         &mut WriteSink::new(out),
-    )?)
+    );
+    progress.end();
+    files
+        .plan
+        .explain(rt.alloc(), asked.run.program.harts, answer)
 }

@@ -7,6 +7,7 @@ ghost use Rattle.round_planner.specs.PlanText.{ReadsAs};
 
 use crate::failure::Failure;
 use crate::files::read_file;
+use crate::plan_lines::bad_line;
 use command_line::{Plan, PlanChoice};
 use host_io::{RunError, WriteSink, put_all};
 use pages::OutOfMemory;
@@ -21,6 +22,8 @@ pub(crate) struct AskedPlan {
     pub(crate) text: Vec<u8>,
     /// The budget.
     pub(crate) budget: u32,
+    /// The text is a file's.
+    pub(crate) is_file: bool,
 }
 
 /// The plan that a run of so many harts goes by: one of the family, one from a file, or one row.
@@ -35,7 +38,7 @@ pub(crate) fn plan_of(
 ) -> Result<AskedPlan, Failure>
     ensures { IfErr result IsNoFile }
 {
-    let text = match (choice.number, choice.file) {
+    let (text, is_file) = match (choice.number, choice.file) {
         // Where there is no such number of harts, the run is refused for it, whatever its plan.
         (Some(number), _) if harts >= 1 && harts <= 64 => {
             let family = Family {
@@ -44,13 +47,35 @@ pub(crate) fn plan_of(
             };
             return Ok(family_plan(rt.alloc(), family, number)?);
         }
-        (None, Some(path)) => read_file(rt, path)?,
-        _ => row_of(rt.alloc(), choice.quota)?,
+        (None, Some(path)) => (read_file(rt, path)?, true),
+        _ => (row_of(rt.alloc(), choice.quota)?, false),
     };
     Ok(AskedPlan {
         text,
         budget: choice.budget,
+        is_file,
     })
+}
+
+impl AskedPlan {
+    /// What came of a run of so many harts by this plan. Where the plan of a file is refused, its first bad line is told too.
+    pub(crate) fn explain<T: Drop>(
+        &self,
+        alloc: Global,
+        harts: u32,
+        answer: Result<T, RunError>,
+    ) -> Result<T, Failure> {
+        let error = match answer {
+            Ok(value) => return Ok(value),
+            Err(error) => error,
+        };
+        if let (RunError::Plan(cause), true) = (error, self.is_file) {
+            if let Some(line) = bad_line(alloc, &self.text, harts, cause) {
+                return Err(Failure::Plan(error, line));
+            }
+        }
+        Err(Failure::Refused(error))
+    }
 }
 
 /// A plan of a family.
@@ -68,6 +93,7 @@ pub(crate) fn family_plan(
     Ok(AskedPlan {
         text: plan.text(alloc)?,
         budget: plan.budget(),
+        is_file: false,
     })
 }
 

@@ -1,16 +1,17 @@
 //! The commands that make recordings, and ask them.
 
 use crate::failure::Failure;
-use crate::files::read_file;
+use crate::files::read_recording_of;
+use crate::progress::Progress;
 use crate::ranges::access_ranges;
-use crate::run::{read_run, settings_of};
+use crate::run::{progress_of, read_run, settings_of};
 use crate::saving::save;
 use command_line::{Migrate, Record, Replay, Watch};
 use hart_step::Hart;
 use host_io::{RunError, Sink, WriteSink, put_all};
 use pages::Range;
 use replayer::{
-    Recording, Verdict, count_at, migrate, read_recording, record_with, replay, state_at,
+    Recording, Verdict, count_at, migrate, record_observed, replay_observed, state_at,
     state_before, watch_rounds,
 };
 use report::{write_event, write_hart};
@@ -26,27 +27,27 @@ pub(crate) fn make_recording<R: Threads + Wait + Sync>(
     asked: &Record<'_>,
 ) -> Result<(), Failure> {
     let files = read_run(rt, &asked.run)?;
-    let recording = record_with(
+    let mut progress = progress_of(rt, &asked.run.program);
+    let recorded = record_observed(
         threads,
         rt.alloc(),
         &files.program.image,
         &files.program.input,
         &settings_of(&asked.run.program, &files.plan),
         asked.every,
-    )?;
+        &mut progress,
+    );
+    progress.end();
+    let recording = files
+        .plan
+        .explain(rt.alloc(), asked.run.program.harts, recorded)?;
     Ok(save(rt, &recording, asked.out)?)
 }
 
 /// Writes the recording of a file to another file, in the newest version.
 pub(crate) fn migrate_file(rt: &HostRuntime, asked: &Migrate<'_>) -> Result<(), Failure> {
-    let recording = recording_in(rt, asked.recording)?;
+    let recording = read_recording_of(rt, asked.recording)?;
     Ok(save(rt, &migrate(recording), asked.out)?)
-}
-
-/// The recording that a file holds.
-fn recording_in(rt: &HostRuntime, path: &str) -> Result<Recording, Failure> {
-    let text = read_file(rt, path)?;
-    Ok(read_recording(rt.alloc(), &text)?)
 }
 
 /// What came of a replay.
@@ -66,10 +67,18 @@ pub(crate) fn write_replay<R: Threads + Wait + Sync, W: Write>(
     asked: &Replay<'_>,
     out: &mut W,
 ) -> Result<Replayed, Failure> {
-    let recording = recording_in(rt, asked.recording)?;
+    let recording = read_recording_of(rt, asked.recording)?;
     if asked.place.is_none() && asked.round.is_none() {
-        let verdict = replay(threads, rt.alloc(), &recording, asked.workers)?;
-        return Ok(write_verdict(rt.alloc(), verdict, out)?);
+        let mut progress = Progress::new(rt, asked.progress, recording.rounds());
+        let verdict = replay_observed(
+            threads,
+            rt.alloc(),
+            &recording,
+            asked.workers,
+            &mut progress,
+        );
+        progress.end();
+        return Ok(write_verdict(rt.alloc(), verdict?, out)?);
     }
     write_answer(rt.alloc(), threads, &recording, asked, out)?;
     Ok(Replayed::Done)
@@ -173,13 +182,14 @@ pub(crate) fn write_watch<R: Threads + Wait + Sync, W: Write>(
     asked: &Watch<'_>,
     out: &mut W,
 ) -> Result<(), Failure> {
-    let recording = recording_in(rt, asked.recording)?;
+    let recording = read_recording_of(rt, asked.recording)?;
     let mut ranges = access_ranges(rt.alloc(), &asked.more)?;
     ranges.push(Range {
         start: asked.address,
         len: asked.length,
     })?;
-    let hits = watch_rounds(
+    let mut progress = Progress::new(rt, asked.progress, recording.rounds());
+    let found = watch_rounds(
         threads,
         rt.alloc(),
         &recording,
@@ -187,7 +197,10 @@ pub(crate) fn write_watch<R: Threads + Wait + Sync, W: Write>(
         asked.from.unwrap_or(0),
         asked.to.unwrap_or(u32::MAX),
         asked.workers,
-    )?;
+        &mut progress,
+    );
+    progress.end();
+    let hits = found?;
     let mut sink = WriteSink::new(out);
     put_number(rt.alloc(), "hits", hits.len() as u64, &mut sink)?;
     for hit in &hits {

@@ -4,6 +4,7 @@ ghost use Rattle.dethart.specs.Status.{IsNoFile};
 use crate::failure::Failure;
 use crate::files::{ProgramFiles, read_program};
 use crate::plans::{AskedPlan, plan_of};
+use crate::progress::Progress;
 use command_line::{Print, Program, Run, Shown};
 use host_io::WriteSink;
 use machine::{Format, Settings, order_run, report_run, show_run};
@@ -22,7 +23,8 @@ pub(crate) fn write_run<R: Threads + Wait + Sync, W: Write>(
     let settings = settings_of(&asked.run.program, &files.plan);
     let (image, input) = (&files.program.image, &files.program.input);
     let mut sink = WriteSink::new(out);
-    Ok(match shown_of(asked) {
+    let mut progress = progress_of(rt, &asked.run.program);
+    let answer = match shown_of(asked) {
         Some(shown) => show_run(
             threads,
             rt.alloc(),
@@ -30,10 +32,26 @@ pub(crate) fn write_run<R: Threads + Wait + Sync, W: Write>(
             input,
             &settings,
             shown,
+            &mut progress,
             &mut sink,
-        )?,
-        None => report_run(threads, rt.alloc(), image, input, &settings, &mut sink)?,
-    })
+        ),
+        None => report_run(
+            threads,
+            rt.alloc(),
+            image,
+            input,
+            &settings,
+            &mut progress,
+            &mut sink,
+        ),
+    };
+    progress.end();
+    files.plan.explain(rt.alloc(), settings.harts, answer)
+}
+
+/// Tells how far a run is, where the line asks for that.
+pub(crate) fn progress_of<'a>(rt: &'a HostRuntime, program: &Program<'_>) -> Progress<'a> {
+    Progress::new(rt, program.progress, program.rounds)
 }
 
 /// Reads the files of a run, runs the guest program, and writes the order of its memory operations.
@@ -44,14 +62,18 @@ pub(crate) fn write_order_of<R: Threads + Wait + Sync, W: Write>(
     out: &mut W,
 ) -> Result<(), Failure> {
     let files = read_run(rt, run)?;
-    Ok(order_run(
+    let mut progress = progress_of(rt, &run.program);
+    let answer = order_run(
         threads,
         rt.alloc(),
         &files.program.image,
         &files.program.input,
         &settings_of(&run.program, &files.plan),
+        &mut progress,
         &mut WriteSink::new(out),
-    )?)
+    );
+    progress.end();
+    files.plan.explain(rt.alloc(), run.program.harts, answer)
 }
 
 /// What of a run the line asks for, where it isn't the whole report.

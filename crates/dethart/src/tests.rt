@@ -1,4 +1,5 @@
 mod hunts;
+mod plan_lines;
 mod programs;
 mod recorded;
 
@@ -74,6 +75,7 @@ fn settings_are_those_of_the_line(rt: HostRuntime) -> Result<(), Fail> {
     let plan = AskedPlan {
         text: row_of(rt.alloc(), "5")?,
         budget: 50,
+        is_file: false,
     };
     for (flat, format) in [(true, Format::Flat), (false, Format::Elf)] {
         let program = Program {
@@ -84,6 +86,7 @@ fn settings_are_those_of_the_line(rt: HostRuntime) -> Result<(), Fail> {
             rounds: 0,
             workers: 2,
             input: None,
+            progress: false,
         };
         let settings = settings_of(&program, &plan);
         assert_eq!(rt; settings.format, format);

@@ -54,6 +54,7 @@ fn a_hunt_of_two_exits(rt: HostRuntime) -> Result<(), Fail> {
         "--harts=2",
         "--pages=1",
         "--plans=3",
+        "--progress",
     ];
     let wanted = "plans 0 3 seed 1\n\
                   endings 1\n\
@@ -73,6 +74,7 @@ fn a_hunt_of_two_exits(rt: HostRuntime) -> Result<(), Fail> {
         "--harts=2",
         "--pages=1",
         "--plan-number=6",
+        "--progress",
     ];
     let text = printed(&rt, &rt, &shrink);
     assert!(rt; text.is_some_and(|text| text.as_slice() == b"1\n".as_slice()));

@@ -100,6 +100,7 @@ fn refusals_of_lines(rt: HostRuntime) {
     for (words, number) in [
         (["dethart", "run", "no_such.bin", "--harts=1"], 61),
         (["dethart", "order", "no_such.bin", "--harts=1"], 61),
+        (["dethart", "run", "/dev/zero", "--flat"], 8),
     ] {
         let (refusal, text) = answer(&rt, &rt, &words);
         assert!(rt; refusal == number && text.is_empty());

@@ -1,5 +1,6 @@
 //! Recordings in files, as the command line names them.
 
+use crate::failure::Failure;
 use crate::recordings::{Replayed, make_recording, migrate_file, write_replay, write_watch};
 use command_line::{Command, parse_line};
 use std::fs;
@@ -23,7 +24,7 @@ fn answer<R: Threads + Wait + Sync>(
     words: &[&str],
 ) -> (u32, Vec<u8>) {
     let mut text = Vec::new(rt.alloc());
-    let answer = match parse_line(rt.alloc(), words) {
+    let answer: Result<u32, Failure> = match parse_line(rt.alloc(), words) {
         Ok(Command::Record(asked)) => match make_recording(rt, threads, &asked) {
             Ok(()) => Ok(0),
             Err(failure) => Err(failure),
@@ -41,7 +42,7 @@ fn answer<R: Threads + Wait + Sync>(
             Ok(()) => Ok(0),
             Err(failure) => Err(failure),
         },
-        Ok(_) | Err(_) => Ok(2),
+        _ => return (2, text),
     };
     match answer {
         Ok(number) => (number, text),
@@ -84,7 +85,14 @@ fn a_run_is_recorded_replayed_and_watched(rt: HostRuntime) -> Result<(), Fail> {
     ];
     assert!(rt; answers(&rt, &rt, &record, 0, ""));
     assert!(rt; fs::metadata(&rt, "reserved.rec.part").is_err());
-    let replay = ["dethart", "replay", "reserved.rec", "--workers", "16"];
+    let replay = [
+        "dethart",
+        "replay",
+        "reserved.rec",
+        "--workers",
+        "16",
+        "--progress",
+    ];
     assert!(rt; answers(&rt, &rt, &replay, 0, "same\n"));
     let watch = ["dethart", "watch", "reserved.rec", "263", "1"];
     let hits = "hits 3\n\
@@ -183,6 +191,8 @@ fn refusals_of_recordings(rt: HostRuntime) -> Result<(), Fail> {
         (["dethart", "replay", "no_such.rec", "--workers=1"], 61),
         (["dethart", "replay", "kept.bin", "--workers=1"], 41),
         (["dethart", "replay", "cut.rec", "--workers=17"], 43),
+        // It never ends, and no more is read of it than that it is no recording.
+        (["dethart", "replay", "/dev/zero", "--workers=1"], 41),
         (["dethart", "migrate", "cut.rec", "no.rec"], 43),
     ] {
         assert!(rt; answers(&rt, &rt, &words, number, ""));

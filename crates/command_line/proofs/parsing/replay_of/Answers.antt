@@ -16,4 +16,5 @@ returns c =
       count = c.wide_given.ensures ∙ ap (number_given 64) (one_text-rows f (codes "count"));
       place = c.wide_given-2.ensures ∙ ap (number_given 64) (one_text-rows f (codes "place"));
       every = c.number_of-3.ensures ∙ ap (number_or 64) (one_text-rows f (codes "every"));
+      progress = (λ e. c.get_flag.ensures.value (one_text-rows f (codes "progress") ∙ e), λ e. c.get_flag.ensures.other (one_text-rows f (codes "progress") ∙ e), λ e. c.get_flag.ensures.none (one_text-rows f (codes "progress") ∙ e));
     }

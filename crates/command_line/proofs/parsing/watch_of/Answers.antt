@@ -16,4 +16,5 @@ returns c =
       from = c.number_given.ensures ∙ ap (number_given 32) (one_text-rows f (codes "from"));
       to = c.number_given-2.ensures ∙ ap (number_given 32) (one_text-rows f (codes "to"));
       workers = c.number_of.ensures ∙ ap (number_or 4) (one_text-rows f (codes "workers"));
+      progress = (λ e. c.get_flag.ensures.value (one_text-rows f (codes "progress") ∙ e), λ e. c.get_flag.ensures.other (one_text-rows f (codes "progress") ∙ e), λ e. c.get_flag.ensures.none (one_text-rows f (codes "progress") ∙ e));
     }

@@ -2,17 +2,18 @@ use Rattle.command_line.specs.Options.{guest_app, guest_rules, taking}
 use Rattle.std.specs.Prelude.{IfOk}
 use Rattle.command_line.proofs.Chains.{Stands, last_one, local_at, one_more, shape_at}
 use Rattle.command_line.proofs.program_options.program_command.Goals as goal
-use Rattle.command_line.proofs.program_options.program_command.Goals.{After-arg-3}
+use Rattle.command_line.proofs.program_options.program_command.Goals.{After-arg-4}
 
-stands : (c : After-arg-3) → IfOk c.arg-3.result (λ command. Stands command (guest_app c.args.name.now c.args.rounds.now))
+stands : (c : After-arg-4) → IfOk c.arg-4.result (λ command. Stands command (guest_app c.args.name.now c.args.rounds.now))
 stands c =
     let s0 : Stands c.in_ok-guest_command.field-0 (taking c.args.name.now guest_rules) = record { shape = c.in_ok-guest_command.ensures.app; local = c.in_ok-guest_command.ensures.local } in
     let s1 = one_more _ _ c.in_ok-arg.field-0 _ _ s0 c.number.ensures.rule c.number.ensures.local c.in_ok-arg.ensures in
     let s2 = one_more _ _ c.in_ok-arg-2.field-0 _ _ s1 c.workers.ensures.rule c.workers.ensures.local c.in_ok-arg-2.ensures in
-    last_one _ _ c.arg-3.result _ _ s2 c.file.ensures.rule c.file.ensures.local c.arg-3.ensures
+    let s3 = one_more _ _ c.in_ok-arg-3.field-0 _ _ s2 c.file.ensures.rule c.file.ensures.local c.in_ok-arg-3.ensures in
+    last_one _ _ c.arg-4.result _ _ s3 c.progress.ensures.rule c.progress.ensures.local c.arg-4.ensures
 
 pub returns-clause-app : goal.returns-clause-app
-returns-clause-app c = shape_at c.arg-3.result (guest_app c.args.name.now c.args.rounds.now) (stands (goal.at.returns-clause-app c).After-arg-3)
+returns-clause-app c = shape_at c.arg-4.result (guest_app c.args.name.now c.args.rounds.now) (stands (goal.at.returns-clause-app c).After-arg-4)
 
 pub returns-clause-local : goal.returns-clause-local
-returns-clause-local c = local_at c.arg-3.result (guest_app c.args.name.now c.args.rounds.now) (stands (goal.at.returns-clause-local c).After-arg-3)
+returns-clause-local c = local_at c.arg-4.result (guest_app c.args.name.now c.args.rounds.now) (stands (goal.at.returns-clause-local c).After-arg-4)

@@ -3,17 +3,18 @@ use Rattle.command_line.specs.Options.{taking, watch_app, watch_rules}
 use Rattle.std.specs.Prelude.{IfOk}
 use Rattle.command_line.proofs.Chains.{Stands, last_one, local_at, one_more, shape_at}
 use Rattle.command_line.proofs.recording_options.watch_command.Goals as goal
-use Rattle.command_line.proofs.recording_options.watch_command.Goals.{After-arg-3}
+use Rattle.command_line.proofs.recording_options.watch_command.Goals.{After-arg-4}
 
-stands : (c : After-arg-3) → IfOk c.arg-3.result (λ command. Stands command watch_app)
+stands : (c : After-arg-4) → IfOk c.arg-4.result (λ command. Stands command watch_app)
 stands c =
     let s0 : Stands c.in_ok-watching_command.field-0 (taking (codes "watch") watch_rules) = record { shape = c.in_ok-watching_command.ensures.app; local = c.in_ok-watching_command.ensures.local } in
     let s1 = one_more _ _ c.in_ok-arg.field-0 _ _ s0 c.number_given.ensures.rule c.number_given.ensures.local c.in_ok-arg.ensures in
     let s2 = one_more _ _ c.in_ok-arg-2.field-0 _ _ s1 c.number_given-2.ensures.rule c.number_given-2.ensures.local c.in_ok-arg-2.ensures in
-    last_one _ _ c.arg-3.result _ _ s2 c.workers.ensures.rule c.workers.ensures.local c.arg-3.ensures
+    let s3 = one_more _ _ c.in_ok-arg-3.field-0 _ _ s2 c.workers.ensures.rule c.workers.ensures.local c.in_ok-arg-3.ensures in
+    last_one _ _ c.arg-4.result _ _ s3 c.progress.ensures.rule c.progress.ensures.local c.arg-4.ensures
 
 pub returns-clause-app : goal.returns-clause-app
-returns-clause-app c = shape_at c.arg-3.result watch_app (stands (goal.at.returns-clause-app c).After-arg-3)
+returns-clause-app c = shape_at c.arg-4.result watch_app (stands (goal.at.returns-clause-app c).After-arg-4)
 
 pub returns-clause-local : goal.returns-clause-local
-returns-clause-local c = local_at c.arg-3.result watch_app (stands (goal.at.returns-clause-local c).After-arg-3)
+returns-clause-local c = local_at c.arg-4.result watch_app (stands (goal.at.returns-clause-local c).After-arg-4)

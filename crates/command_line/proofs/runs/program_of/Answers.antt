@@ -16,4 +16,5 @@ returns c =
       rounds = c.number_of-3.ensures ∙ ap (number_or c.args.default_rounds) (one_text-rows f (codes "rounds"));
       workers = c.number_of-4.ensures ∙ ap (number_or 4) (one_text-rows f (codes "workers"));
       input = c.get_str-2.ensures ∙ first_value-rows f (codes "input");
+      progress = (λ e. c.get_flag-2.ensures.value (one_text-rows f (codes "progress") ∙ e), λ e. c.get_flag-2.ensures.other (one_text-rows f (codes "progress") ∙ e), λ e. c.get_flag-2.ensures.none (one_text-rows f (codes "progress") ∙ e));
     }
