@@ -1,0 +1,103 @@
+//! What is shown of runs that keep no trace, into sinks that fail or take little at a time too.
+
+use crate::devices::{Stride, writes};
+use crate::harness::settings;
+use host_io::WriteSink;
+use machine::{Format, Settings, Shown, Unobserved, show_run};
+use std::alloc::Global;
+use std::sync::Wait;
+use std::thread::Threads;
+
+/// ADDI x17,x0,2; ECALL; ADDI x17,x0,1; ECALL: the next input byte is put out. Hart 1 finds no byte, and puts ff out.
+const ECHO: &[u8] = b"\x93\x08\x20\0\x73\0\0\0\x93\x08\x10\0\x73\0\0\0";
+
+/// Two harts and two rounds, in each of which a hart does one instruction before it waits, and one in its turn.
+fn echoes() -> Settings<'static> {
+    Settings {
+        rounds: 2,
+        ..settings(Format::Flat, 2, 1, b"4\n")
+    }
+}
+
+/// Whether what is shown of the run is this text, and all its ways into a sink that fails are told.
+fn shows<R: Threads + Wait + Sync>(rt: &R, alloc: Global, shown: Shown, text: &[u8]) -> bool {
+    let asked = echoes();
+    writes(
+        alloc,
+        text,
+        &[Stride::One, Stride::All],
+        &|tray| {
+            match show_run(rt, alloc, ECHO, b"A", &asked, shown, &mut Unobserved, tray) {
+                Ok(_) => Ok(()),
+                Err(error) => Err(error),
+            }
+        },
+    )
+}
+
+#[test]
+fn a_state_has_no_lines_of_a_trace(rt: HostRuntime) {
+    let text = b"rounds 2\n\
+        hart 0 pc 0000000000000010 done 4 running\n\
+        x11 0000000000000002\n\
+        x17 0000000000000001\n\
+        hart 1 pc 0000000000000010 done 4 running\n\
+        x11 0000000000000002\n\
+        x17 0000000000000001\n\
+        memory 1\n\
+        00000000 93082000730000009308100073000000\n\
+        output 2\n\
+        41ff\n\
+        end\n";
+    assert!(rt; shows(&rt, rt.alloc(), Shown::State, text));
+}
+
+#[test]
+fn harts_come_with_the_length_of_the_output(rt: HostRuntime) {
+    let text = b"rounds 2\n\
+        hart 0 pc 0000000000000010 done 4 running\n\
+        x11 0000000000000002\n\
+        x17 0000000000000001\n\
+        hart 1 pc 0000000000000010 done 4 running\n\
+        x11 0000000000000002\n\
+        x17 0000000000000001\n\
+        output 2\n";
+    assert!(rt; shows(&rt, rt.alloc(), Shown::Harts, text));
+}
+
+#[test]
+fn output_is_shown_as_it_is(rt: HostRuntime) {
+    assert!(rt; shows(&rt, rt.alloc(), Shown::Output, b"A\xff"));
+}
+
+/// ADDI x17,x0,0; ECALL: the exit call with the hart's number.
+const EXIT: &[u8] = b"\x93\x08\0\0\x73\0\0\0";
+
+#[test]
+fn harts_end_well_where_each_exits_with_0(rt: HostRuntime) {
+    let mut text = Vec::new(rt.alloc());
+    for (harts, well) in [(1, true), (2, false)] {
+        let asked = settings(Format::Flat, harts, 1, b"4\n");
+        text.clear();
+        let mut sink = WriteSink::new(&mut text);
+        let answer = show_run(
+            &rt,
+            rt.alloc(),
+            EXIT,
+            b"",
+            &asked,
+            Shown::Harts,
+            &mut Unobserved,
+            &mut sink,
+        );
+        assert_eq!(rt; answer, Ok(well));
+    }
+    let wanted = "rounds 1\n\
+        hart 0 pc 0000000000000004 done 1 exit 0000000000000000\n\
+        x11 0000000000000002\n\
+        hart 1 pc 0000000000000004 done 1 exit 0000000000000001\n\
+        x10 0000000000000001\n\
+        x11 0000000000000002\n\
+        output 0\n";
+    assert!(rt; text.as_slice() == wanted.as_bytes());
+}
