@@ -2,16 +2,16 @@
 use Rattle.std.proofs.Common.{◌≡◌, ℕ, zero, suc, ◌+◌, ◌*◌, ◌/◌, ◌%◌, ◌^◌, ◌<◌, ◌≤◌, List, [], ◌∷◌, ◌++◌, length, get_or, set, refl, sym, ap, ◌∙◌, arith}
 use Rattle.std.proofs.lemmas.List.{length-append, length-set, get_or_append_left, get_or-append-add, set-append_left, set-append_right}
 use Rattle.std.proofs.lemmas.List.Elements.{All-from_get_or, All-append, All-nil}
-use Rattle.pages.specs.Flat.{blank, full, flat}
+use Rattle.pages.specs.Flat.{Page, absent, blank, full, flat}
 use Rattle.pages.specs.Memory.{number_at, written, IsBytes}
 use Rattle.pages.proofs.Page.{length-full, get_or-full}
 
-pub length-flat : (ps : List (List ℕ)) → length (flat ps) ≡ 4096 * length ps
+pub length-flat : (ps : List Page) → length (flat ps) ≡ 4096 * length ps
 length-flat [] = refl
 length-flat (p ∷ ps) = omega (arith, length-append (full p) (flat ps), length-full p, length-flat ps)
 
 -- a byte of a page
-pub flat_at : (ps : List (List ℕ)) (i k : ℕ) → i < length ps → k < 4096 → get_or (flat ps) (4096 * i + k) 0 ≡ get_or (full (get_or ps i [])) k 0
+pub flat_at : (ps : List Page) (i k : ℕ) → i < length ps → k < 4096 → get_or (flat ps) (4096 * i + k) 0 ≡ get_or (full (get_or ps i absent)) k 0
 flat_at [] i k l h = absurd (omega arith)
 flat_at (p ∷ ps) zero k l h =
     let place : 4096 * 0 + k ≡ k = omega arith in
@@ -21,7 +21,7 @@ flat_at (p ∷ ps) (suc i) k l h =
     ap (λ n. get_or (full p ++ flat ps) n 0) place ∙ get_or-append-add (full p) (flat ps) (4096 * i + k) 0 ∙ flat_at ps i k (omega arith) h
 
 -- a number within one page
-number_in : (n : ℕ) (ps : List (List ℕ)) (i k : ℕ) → i < length ps → k + n ≤ 4096 → number_at (flat ps) (4096 * i + k) n ≡ number_at (full (get_or ps i [])) k n
+number_in : (n : ℕ) (ps : List Page) (i k : ℕ) → i < length ps → k + n ≤ 4096 → number_at (flat ps) (4096 * i + k) n ≡ number_at (full (get_or ps i absent)) k n
 number_in zero ps i k l h = refl
 number_in (suc n) ps i k l h =
     let byte = flat_at ps i k l (omega arith) in
@@ -29,7 +29,7 @@ number_in (suc n) ps i k l h =
     let rest = number_in n ps i (k + 1) l (omega arith) in
     rw (byte, next, rest) refl
 
-pub number_in_page : (n : ℕ) (ps : List (List ℕ)) (a : ℕ) → a / 4096 < length ps → a % 4096 + n ≤ 4096 → number_at (full (get_or ps (a / 4096) [])) (a % 4096) n ≡ number_at (flat ps) a n
+pub number_in_page : (n : ℕ) (ps : List Page) (a : ℕ) → a / 4096 < length ps → a % 4096 + n ≤ 4096 → number_at (full (get_or ps (a / 4096) absent)) (a % 4096) n ≡ number_at (flat ps) a n
 number_in_page n ps a l h =
     let split : a ≡ 4096 * (a / 4096) + a % 4096 = omega arith in
     sym (ap (λ x. number_at (flat ps) x n) split ∙ number_in n ps (a / 4096) (a % 4096) l h)
@@ -52,7 +52,7 @@ written-append_right (suc n) xs ys a v m e =
     ∙ written-append_right n xs (set ys a b) (a + 1) (v / 2 ^ 8) m e
 
 -- a write within one page
-pub flat-set : (ps : List (List ℕ)) (i k v n : ℕ) (q : List ℕ) → i < length ps → k + n ≤ 4096 → full q ≡ written (full (get_or ps i [])) k v n → flat (set ps i q) ≡ written (flat ps) (4096 * i + k) v n
+pub flat-set : (ps : List Page) (i k v n : ℕ) (q : Page) → i < length ps → k + n ≤ 4096 → full q ≡ written (full (get_or ps i absent)) k v n → flat (set ps i q) ≡ written (flat ps) (4096 * i + k) v n
 flat-set [] i k v n q l h e = absurd (omega arith)
 flat-set (p ∷ ps) zero k v n q l h e =
     let place : k ≡ 4096 * 0 + k = omega arith in
@@ -64,15 +64,15 @@ flat-set (p ∷ ps) (suc i) k v n q l h e =
     ∙ ap (λ x. written (full p ++ flat ps) x v n) place
 
 -- a page in the place of one with equal bytes
-pub flat-set_same : (ps : List (List ℕ)) (i : ℕ) (q : List ℕ) → i < length ps → full q ≡ full (get_or ps i []) → flat (set ps i q) ≡ flat ps
+pub flat-set_same : (ps : List Page) (i : ℕ) (q : Page) → i < length ps → full q ≡ full (get_or ps i absent) → flat (set ps i q) ≡ flat ps
 flat-set_same ps i q l e = flat-set ps i 0 0 0 q l (omega arith) e
 
 low_byte : (b : ℕ) → b % 2 ^ 8 < 2 ^ 8
 low_byte b = omega arith
 
-fits-full : (p : List ℕ) → IsBytes (full p)
-fits-full p = All-from_get_or (λ b. b < 2 ^ 8) (full p) 0 (λ i h. rw (get_or-full p i (omega (arith, length-full p))) (low_byte (get_or (p ++ blank) i 0)))
+fits-full : (p : Page) → IsBytes (full p)
+fits-full p = All-from_get_or (λ b. b < 2 ^ 8) (full p) 0 (λ i h. rw (get_or-full p i (omega (arith, length-full p))) (low_byte (get_or (p.bytes ++ blank) i 0)))
 
-pub fits-flat : (ps : List (List ℕ)) → IsBytes (flat ps)
+pub fits-flat : (ps : List Page) → IsBytes (flat ps)
 fits-flat [] = All-nil (λ b. b < 2 ^ 8)
 fits-flat (p ∷ ps) = All-append (λ b. b < 2 ^ 8) (full p) (flat ps) (fits-full p) (fits-flat ps)

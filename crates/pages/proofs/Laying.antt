@@ -5,10 +5,10 @@ use Rattle.std.proofs.lemmas.Bool.Decides.{nat_tests}
 use Rattle.std.proofs.lemmas.List.{append-nil, drop_more, ext_get_or, get_or-append_right, get_or-drop, get_or-take, get_or_append_left, length-drop, length-take, length-take-le, map-append, take_at}
 use Rattle.std.specs.List.{range_with_len}
 use Rattle.pages.specs.declared.access.Piece.{Piece}
-use Rattle.pages.specs.Flat.{full, flat, is_ready}
+use Rattle.pages.specs.Flat.{Page, full, flat, is_ready, page_of}
 use Rattle.pages.specs.Initial.{bytes_from, get_or-bytes_from, is_touched, length-bytes_from, piece_byte}
 use Rattle.pages.specs.Memory.{in_range}
-use Rattle.pages.proofs.Page.{full_ready, length-full}
+use Rattle.pages.proofs.Page.{full_ready, length-full, page_own}
 use Rattle.pages.proofs.Lent.{flat-append}
 use borrow.Rule.Slice.PartMut.{put_mid}
 
@@ -62,7 +62,7 @@ laid_piece bs p a from to k x ef et l h =
     (cases_lt (a + k) from)
 
 -- a page whose bytes are those of the pieces
-pub page_from : (q : List ℕ) (pieces : List Piece) (a : ℕ) → ((k : ℕ) → k < 4096 → get_or (full q) k 0 ≡ piece_byte pieces (a + k)) → full q ≡ bytes_from pieces a 4096
+pub page_from : (q : Page) (pieces : List Piece) (a : ℕ) → ((k : ℕ) → k < 4096 → get_or (full q) k 0 ≡ piece_byte pieces (a + k)) → full q ≡ bytes_from pieces a 4096
 page_from q pieces a h =
     ext_get_or 0 (full q) (bytes_from pieces a 4096) (length-full q ∙ sym (length-bytes_from pieces a 4096))
     (λ k l.
@@ -87,25 +87,34 @@ unfolding bytes_from
 bytes_from-none pieces = refl
 
 -- one page more
-pub pages_more : (pieces : List Piece) (ps : List (List ℕ)) (q : List ℕ) (i : ℕ) → flat ps ≡ bytes_from pieces 0 (4096 * i) → full q ≡ bytes_from pieces (4096 * i) 4096 → flat (ps ++ q ∷ []) ≡ bytes_from pieces 0 (4096 * (i + 1))
+pub pages_more : (pieces : List Piece) (ps : List Page) (q : Page) (i : ℕ) → flat ps ≡ bytes_from pieces 0 (4096 * i) → full q ≡ bytes_from pieces (4096 * i) 4096 → flat (ps ++ q ∷ []) ≡ bytes_from pieces 0 (4096 * (i + 1))
 pages_more pieces ps q i e f =
     let size : 4096 * i + 4096 ≡ 4096 * (i + 1) = omega arith in
     flat-append ps (q ∷ []) ∙ ap (λ r. flat ps ++ r) (append-nil (full q)) ∙ ap (λ r. r ++ full q) e ∙ ap (λ r. bytes_from pieces 0 (4096 * i) ++ r) f
     ∙ sym (bytes_from-append pieces (4096 * i) 4096) ∙ ap (bytes_from pieces 0) size
 
-pub touched_more : (pieces : List Piece) (ps : List (List ℕ)) (q : List ℕ) (i : ℕ) → map is_ready ps ≡ map (is_touched pieces) (range_with_len 0 i) → is_ready q ≡ is_touched pieces i → map is_ready (ps ++ q ∷ []) ≡ map (is_touched pieces) (range_with_len 0 (i + 1))
+pub touched_more : (pieces : List Piece) (ps : List Page) (q : Page) (i : ℕ) → map is_ready ps ≡ map (is_touched pieces) (range_with_len 0 i) → is_ready q ≡ is_touched pieces i → map is_ready (ps ++ q ∷ []) ≡ map (is_touched pieces) (range_with_len 0 (i + 1))
 touched_more pieces ps q i e f =
     let z : 0 + i ≡ i = omega arith in
     map-append is_ready ps (q ∷ []) ∙ ap (λ r. r ++ is_ready q ∷ []) e ∙ ap (λ b. map (is_touched pieces) (range_with_len 0 i) ++ b ∷ []) (f ∙ ap (is_touched pieces) (sym z))
     ∙ sym (map-append (is_touched pieces) (range_with_len 0 i) (range_with_len (0 + i) 1)) ∙ ap (map (is_touched pieces)) (sym (range-append i 1 0))
 
--- bytes laid into a page, whose own vector they come back to
-pub filled : (p base w bytes : List ℕ) (place n : ℕ) → length base ≡ 4096 → n ≡ 4096 → full base ≡ full p → length w ≡ length base → ((j : ℕ) → get_or base j 0 < 2 ^ 8) → ((j : ℕ) → get_or w j 0 < 2 ^ 8) → ((j : ℕ) → get_or w j 0 ≡ (if in_range place (length bytes) j then get_or bytes (j - place) 0 else get_or base j 0)) → (k : ℕ) → get_or (full (take n (w ++ drop (length w) base))) k 0 ≡ (if in_range place (length bytes) k then get_or bytes (k - place) 0 else get_or (full p) k 0)
-filled p base w bytes place n e m same size old new laid k =
-    let back : take n (w ++ drop (length w) base) ≡ w = take_at w (drop (length w) base) n (size ∙ e ∙ sym m) in
-    let before : get_or base k 0 ≡ get_or (full p) k 0 = ap (λ q. get_or q k 0) (sym (full_ready base e old) ∙ same) in
-    ap (λ q. get_or (full q) k 0) back ∙ ap (λ q. get_or q k 0) (full_ready w (size ∙ e) new) ∙ laid k
-    ∙ ap (λ x. if in_range place (length bytes) k then get_or bytes (k - place) 0 else x) before
+-- bytes laid over those of a page
+filled : (p q : Page) (bytes : List ℕ) (place : ℕ) → length p.bytes ≡ 4096 → length q.bytes ≡ 4096 → ((j : ℕ) → get_or p.bytes j 0 < 2 ^ 8) → ((j : ℕ) → get_or q.bytes j 0 < 2 ^ 8) →
+    ((j : ℕ) → get_or q.bytes j 0 ≡ (if in_range place (length bytes) j then get_or bytes (j - place) 0 else get_or p.bytes j 0)) → (k : ℕ) → get_or (full q) k 0 ≡ (if in_range place (length bytes) k then get_or bytes (k - place) 0 else get_or (full p) k 0)
+filled p q bytes place e f old new laid k =
+    ap (λ bs. get_or bs k 0) (full_ready q f new) ∙ laid k
+    ∙ ap (λ x. if in_range place (length bytes) k then get_or bytes (k - place) 0 else x) (ap (λ bs. get_or bs k 0) (sym (full_ready p e old)))
+
+-- the same, where they come back to their vector
+pub laid_back : (bs w shared bytes : List ℕ) (place n : ℕ) → length bs ≡ 4096 → n ≡ 4096 → length w ≡ length bs → ((j : ℕ) → get_or bs j 0 < 2 ^ 8) → ((j : ℕ) → get_or w j 0 < 2 ^ 8) →
+    ((j : ℕ) → get_or w j 0 ≡ (if in_range place (length bytes) j then get_or bytes (j - place) 0 else get_or bs j 0)) → (k : ℕ) → get_or (full (page_of (take n (w ++ drop (length w) bs)) shared)) k 0 ≡ (if in_range place (length bytes) k then get_or bytes (k - place) 0 else get_or (full (page_of bs shared)) k 0)
+laid_back bs w shared bytes place n e m same old new laid k =
+    let size : length w ≡ 4096 = same ∙ e in
+    let back : take n (w ++ drop (length w) bs) ≡ w = take_at w (drop (length w) bs) n (size ∙ sym m) in
+    ap (λ q. get_or (full q) k 0) (ap (λ zs. page_of zs shared) back ∙ page_own w shared (omega arith))
+    ∙ filled (record { own = true; bytes = bs }) (record { own = true; bytes = w }) bytes place e size old new laid k
+    ∙ ap (λ q. if in_range place (length bytes) k then get_or bytes (k - place) 0 else get_or (full q) k 0) (sym (page_own bs shared (omega arith)))
 
 -- the pages that a run of pieces leaves to the page at an address
 pub piece_more : (ps : List Piece) (i x y : ℕ) (z : Piece) → i < length ps → y ≡ piece_byte (drop (i + 1) ps) x → (if in_range (get_or ps i z).start (length (get_or ps i z).bytes.items) x then slice_index (get_or ps i z).bytes.items (x - (get_or ps i z).start) else y) ≡ piece_byte (drop i ps) x

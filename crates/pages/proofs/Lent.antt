@@ -2,12 +2,12 @@
 use Rattle.std.proofs.Common.{◌≡◌, ℕ, suc, zero, ◌+◌, ◌*◌, List, [], ◌∷◌, ◌++◌, length, map, take, drop, refl, sym, ap, ◌∙◌, arith}
 use Rattle.std.proofs.lemmas.List.{length-map, drop-map, take-map, map-append, append_assoc}
 use Rattle.pages.specs.declared.access.Range.{Range}
-use Rattle.pages.specs.Flat.{full, flat, is_ready, laid}
+use Rattle.pages.specs.Flat.{Page, full, flat, is_ready, laid}
 use Rattle.pages.specs.Paged.{Paged, with_pages}
 use Rattle.pages.proofs.Page.{length-full}
 use Rattle.pages.proofs.FlatPages.{length-flat}
 
-pub flat-append : (ps qs : List (List ℕ)) → flat (ps ++ qs) ≡ flat ps ++ flat qs
+pub flat-append : (ps qs : List Page) → flat (ps ++ qs) ≡ flat ps ++ flat qs
 flat-append [] qs = refl
 flat-append (p ∷ ps) qs = ap (λ r. full p ++ r) (flat-append ps qs) ∙ sym (append_assoc (full p) (flat ps) (flat qs))
 
@@ -25,7 +25,7 @@ drop_front n (suc m) (x ∷ xs) ys e =
     let next : suc m + n ≡ suc (m + n) = omega arith in
     ap (λ k. drop k (x ∷ (xs ++ ys))) next ∙ drop_front n m xs ys (omega (arith, e))
 
-flat-take : (n : ℕ) (ps : List (List ℕ)) → flat (take n ps) ≡ take (4096 * n) (flat ps)
+flat-take : (n : ℕ) (ps : List Page) → flat (take n ps) ≡ take (4096 * n) (flat ps)
 flat-take zero ps = let none : 0 ≡ 4096 * 0 = omega arith in ap (λ k. take k (flat ps)) none
 flat-take (suc n) [] = sym (ap (λ k. take k (flat [])) (next n))
   where
@@ -35,7 +35,7 @@ flat-take (suc n) (p ∷ ps) =
     let more : 4096 + 4096 * n ≡ 4096 * suc n = omega arith in
     ap (λ r. full p ++ r) (flat-take n ps) ∙ sym (take_front (4096 * n) 4096 (full p) (flat ps) (length-full p)) ∙ ap (λ k. take k (full p ++ flat ps)) more
 
-flat-drop : (n : ℕ) (ps : List (List ℕ)) → flat (drop n ps) ≡ drop (4096 * n) (flat ps)
+flat-drop : (n : ℕ) (ps : List Page) → flat (drop n ps) ≡ drop (4096 * n) (flat ps)
 flat-drop zero ps = let none : 0 ≡ 4096 * 0 = omega arith in ap (λ k. drop k (flat ps)) none
 flat-drop (suc n) [] = sym (ap (λ k. drop k (flat [])) (next n))
   where
@@ -45,7 +45,7 @@ flat-drop (suc n) (p ∷ ps) =
     let more : 4096 + 4096 * n ≡ 4096 * suc n = omega arith in
     flat-drop n ps ∙ sym (drop_front (4096 * n) 4096 (full p) (flat ps) (length-full p)) ∙ ap (λ k. drop k (full p ++ flat ps)) more
 
-flat-laid : (ps qs : List (List ℕ)) → flat (laid ps qs) ≡ laid (flat ps) (flat qs)
+flat-laid : (ps qs : List Page) → flat (laid ps qs) ≡ laid (flat ps) (flat qs)
 flat-laid ps qs =
     flat-take (length ps) (qs ++ drop (length qs) ps)
     ∙ ap (λ k. take k (flat (qs ++ drop (length qs) ps))) (sym (length-flat ps))
@@ -58,5 +58,5 @@ map-laid f ps qs =
     ∙ ap (take (length (map f ps))) (map-append f qs (drop (length qs) ps) ∙ ap (λ r. map f qs ++ r) (sym (drop-map f (length qs) ps) ∙ ap (λ k. drop k (map f ps)) (sym (length-map qs f))))
 
 -- pages that come back into their vector
-pub given_back : (ps qs : List (List ℕ)) (n s : ℕ) (code : List Range) → n ≡ length ps → let r : Paged = record { memory = record { bytes = flat (take n (qs ++ drop (length qs) ps)); code = code }; ready = map is_ready (take n (qs ++ drop (length qs) ps)); spare = s } in r ≡ with_pages (record { memory = record { bytes = flat ps; code = code }; ready = map is_ready ps; spare = s }) qs
+pub given_back : (ps qs : List Page) (n s : ℕ) (code : List Range) → n ≡ length ps → let r : Paged = record { memory = record { bytes = flat (take n (qs ++ drop (length qs) ps)); code = code }; ready = map is_ready (take n (qs ++ drop (length qs) ps)); spare = s } in r ≡ with_pages (record { memory = record { bytes = flat ps; code = code }; ready = map is_ready ps; spare = s }) qs
 given_back ps qs n s code e = rw (e, flat-laid ps qs, map-laid is_ready ps qs) refl

@@ -1,54 +1,62 @@
 -- The 4096 bytes of a page.
-use Rattle.std.proofs.Common.{◌≡◌, ℕ, zero, suc, ◌+◌, ◌/◌, ◌%◌, ◌^◌, ◌<◌, ◌≤◌, List, [], ◌∷◌, ◌++◌, length, get_or, set, take, drop, replicate, refl, sym, ap, ◌∙◌, arith, ⊎_elim, true, false, not, nat_eq}
+use Rattle.std.proofs.Common.{◌≡◌, ℕ, zero, suc, ◌+◌, ◌/◌, ◌%◌, ◌^◌, ◌<◌, ◌≤◌, List, [], ◌∷◌, ◌++◌, length, get_or, set, take, drop, replicate, refl, sym, ap, ◌∙◌, arith, ◌⊎◌, ⊎_elim, inl, inr, true, false, subst, map, Option, None, Some, IfSome}
 use Rattle.std.proofs.lemmas.List.{length-append, length-replicate, length-take-le, length-map, get_or-map, get_or-take, get_or_append_left, get_or-replicate, get_or_past, take_at, ext_get_or, length-set}
-use Rattle.std.proofs.lemmas.Bool.{cases_lt}
-use Rattle.std.proofs.lemmas.Bool.Decides.{nat_tests}
+use Rattle.std.proofs.lemmas.Bool.{cases_lt, false≢true}
 use Rattle.std.proofs.Math.Nat.{mod-eq_of_lt}
 use Rattle.pages.specs.declared.access.Width.{Width}
 use Rattle.pages.specs.declared.access.Width.TheVariants.{W1, W2, W4, W8}
 use Rattle.pages.specs.declared.access.Store.{Store}
-use Rattle.pages.specs.Flat.{blank, full, is_ready, in_page}
+use Rattle.pages.specs.Flat.{Page, blank, blank_page, bytes_in, full, in_page, page_of}
 use Rattle.pages.specs.Memory.{number_at, value_at, written, put, width_bytes}
 
 pub length-blank : length blank ≡ 4096
 unfolding blank
 length-blank = length-replicate {A = ℕ} 4096 0
 
-pub length-full : (p : List ℕ) → length (full p) ≡ 4096
+pub length-full : (p : Page) → length (full p) ≡ 4096
 unfolding full
 length-full p =
-    let long : 4096 ≤ length (p ++ blank) = omega (arith, length-append p blank, length-blank) in
-    length-map (take 4096 (p ++ blank)) (λ b. b % 2 ^ 8) ∙ length-take-le 4096 (p ++ blank) long
+    let long : 4096 ≤ length (p.bytes ++ blank) = omega (arith, length-append p.bytes blank, length-blank) in
+    length-map (take 4096 (p.bytes ++ blank)) (λ b. b % 2 ^ 8) ∙ length-take-le 4096 (p.bytes ++ blank) long
 
-pub get_or-full : (p : List ℕ) (k : ℕ) → k < 4096 → get_or (full p) k 0 ≡ get_or (p ++ blank) k 0 % 2 ^ 8
+pub get_or-full : (p : Page) (k : ℕ) → k < 4096 → get_or (full p) k 0 ≡ get_or (p.bytes ++ blank) k 0 % 2 ^ 8
 unfolding full
 get_or-full p k h =
-    let long : 4096 ≤ length (p ++ blank) = omega (arith, length-append p blank, length-blank) in
-    let inside : k < length (take 4096 (p ++ blank)) = omega (arith, length-take-le 4096 (p ++ blank) long) in
-    get_or-map (λ b. b % 2 ^ 8) (take 4096 (p ++ blank)) k 0 0 inside ∙ ap (λ b. b % 2 ^ 8) (get_or-take 4096 (p ++ blank) k 0 h)
+    let bs = p.bytes ++ blank in
+    let long : 4096 ≤ length bs = omega (arith, length-append p.bytes blank, length-blank) in
+    let inside : k < length (take 4096 bs) = omega (arith, length-take-le 4096 bs long) in
+    get_or-map (λ b. b % 2 ^ 8) (take 4096 bs) k 0 0 inside ∙ ap (λ b. b % 2 ^ 8) (get_or-take 4096 bs k 0 h)
 
--- a page with bytes of its own is those bytes
-pub full_ready : (p : List ℕ) → length p ≡ 4096 → ((k : ℕ) → get_or p k 0 < 2 ^ 8) → full p ≡ p
+-- pages with the same bytes read the same
+pub full_same : (p q : Page) → p.bytes ≡ q.bytes → full p ≡ full q
+unfolding full
+full_same p q e = ap (λ bs. map (λ b. b % 2 ^ 8) (take 4096 (bs ++ blank))) e
+
+-- a page that holds bytes is those bytes
+pub full_ready : (p : Page) → length p.bytes ≡ 4096 → ((k : ℕ) → get_or p.bytes k 0 < 2 ^ 8) → full p ≡ p.bytes
 full_ready p e small =
-    ext_get_or 0 (full p) p (length-full p ∙ sym e)
+    ext_get_or 0 (full p) p.bytes (length-full p ∙ sym e)
     (λ k h.
     let below : k < 4096 = omega (arith, length-full p) in
-    let inside : k < length p = omega arith in
-    get_or-full p k below ∙ ap (λ b. b % 2 ^ 8) (get_or_append_left p blank 0 k inside) ∙ mod-eq_of_lt (small k))
+    let inside : k < length p.bytes = omega arith in
+    get_or-full p k below ∙ ap (λ b. b % 2 ^ 8) (get_or_append_left p.bytes blank 0 k inside) ∙ mod-eq_of_lt (small k))
 
 -- a byte of a page that nothing was written to
 pub get_or-blank : (k : ℕ) → get_or blank k 0 ≡ 0
 unfolding blank
 get_or-blank k = ⊎_elim (λ h. get_or-replicate 4096 k 0 0 h) (λ h. get_or_past (replicate 4096 0) k 0 (omega (arith, length-replicate {A = ℕ} 4096 0))) (cases_lt k 4096)
 
--- a page without bytes of its own reads 0
-pub get_or-absent : (p : List ℕ) (k : ℕ) → length p ≡ 0 → get_or (full p) k 0 ≡ 0
-get_or-absent [] k e =
+no_bytes : (bs : List ℕ) → length bs ≡ 0 → bs ≡ []
+no_bytes [] e = refl
+no_bytes (b ∷ bs) e = cc
+
+-- a page that holds no bytes reads 0
+pub get_or-absent : (p : Page) (k : ℕ) → length p.bytes ≡ 0 → get_or (full p) k 0 ≡ 0
+get_or-absent p k e =
     ⊎_elim
-    (λ h. get_or-full [] k h ∙ ap (λ b. b % 2 ^ 8) (get_or-blank k))
-    (λ h. get_or_past (full []) k 0 (omega (arith, length-full [])))
+    (λ h. get_or-full p k h ∙ ap (λ bs. get_or (bs ++ blank) k 0 % 2 ^ 8) (no_bytes p.bytes e) ∙ ap (λ b. b % 2 ^ 8) (get_or-blank k))
+    (λ h. get_or_past (full p) k 0 (omega (arith, length-full p)))
     (cases_lt k 4096)
-get_or-absent (x ∷ xs) k e = cc
 
 -- a number of bytes that are 0
 pub number_at-zero : (bs : List ℕ) → ((k : ℕ) → get_or bs k 0 ≡ 0) → (n a : ℕ) → number_at bs a n ≡ 0
@@ -78,34 +86,89 @@ small-written zero bs a v small = small
 small-written (suc n) bs a v small = small-written n (set bs a (v % 2 ^ 8)) (a + 1) (v / 2 ^ 8) (small-set bs a (v % 2 ^ 8) small (omega arith))
 
 -- a store within a page that is ready
-pub put_page : (p : List ℕ) (s : Store) → length p ≡ 4096 → ((k : ℕ) → get_or p k 0 < 2 ^ 8) → full (written p (s.addr % 4096) s.value (width_bytes s.width)) ≡ put (full p) (in_page s)
+pub put_page : (p q : Page) (s : Store) → length p.bytes ≡ 4096 → ((k : ℕ) → get_or p.bytes k 0 < 2 ^ 8) → q.bytes ≡ written p.bytes (s.addr % 4096) s.value (width_bytes s.width) → full q ≡ put (full p) (in_page s)
 unfolding put
-put_page p s e small =
-    let w = written p (s.addr % 4096) s.value (width_bytes s.width) in
-    let after_it : full w ≡ w = full_ready w (length-written (width_bytes s.width) p (s.addr % 4096) s.value ∙ e) (small-written (width_bytes s.width) p (s.addr % 4096) s.value small) in
-    after_it ∙ ap (λ q. written q (s.addr % 4096) s.value (width_bytes s.width)) (sym (full_ready p e small))
+put_page p q s e small is =
+    let w = written p.bytes (s.addr % 4096) s.value (width_bytes s.width) in
+    let size : length q.bytes ≡ 4096 = ap length is ∙ length-written (width_bytes s.width) p.bytes (s.addr % 4096) s.value ∙ e in
+    let low : (k : ℕ) → get_or q.bytes k 0 < 2 ^ 8 = subst (λ (bs : List ℕ). (k : ℕ) → get_or bs k 0 < 2 ^ 8) (sym is) (small-written (width_bytes s.width) p.bytes (s.addr % 4096) s.value small) in
+    full_ready q size low ∙ is ∙ ap (λ bs. written bs (s.addr % 4096) s.value (width_bytes s.width)) (sym (full_ready p e small))
 
--- the same, where the bytes come back to their vector
-pub put_back : (p w : List ℕ) (s : Store) (n : ℕ) → length p ≡ 4096 → n ≡ 4096 → ((k : ℕ) → get_or p k 0 < 2 ^ 8) → w ≡ written p (s.addr % 4096) s.value (width_bytes s.width) → full (take n (w ++ drop (length w) p)) ≡ put (full p) (in_page s)
-put_back p w s n e m small is =
-    let size : length w ≡ n = ap length is ∙ length-written (width_bytes s.width) p (s.addr % 4096) s.value ∙ e ∙ sym m in
-    ap full (take_at w (drop (length w) p) n size ∙ is) ∙ put_page p s e small
+pub full_blank : full blank_page ≡ blank
+full_blank = full_ready blank_page length-blank (λ k. rw (get_or-blank k) (omega arith))
 
-pub full_blank : full blank ≡ blank
-full_blank = full_ready blank length-blank (λ k. rw (get_or-blank k) (omega arith))
-
--- a spare page reads as one that is not ready
-pub full_absent : (p : List ℕ) → length p ≡ 0 → full p ≡ full blank
+-- a spare page reads as one that holds nothing
+pub full_absent : (p : Page) → length p.bytes ≡ 0 → full p ≡ blank
 full_absent p e =
-    ext_get_or 0 (full p) (full blank) (length-full p ∙ sym (length-full blank))
-    (λ k h. get_or-absent p k e ∙ sym (get_or-blank k) ∙ ap (λ q. get_or q k 0) (sym full_blank))
+    ext_get_or 0 (full p) blank (length-full p ∙ sym length-blank)
+    (λ k h. get_or-absent p k e ∙ sym (get_or-blank k))
 
-pub ready_blank : is_ready blank ≡ true
-ready_blank = rw length-blank refl
+-- ---- the page of own bytes and of shared ones
 
-some_ready : (n : ℕ) → not (nat_eq (suc n) 0) ≡ false → ⊥
-some_ready n h = grind (arith, nat_tests)
+-- one with bytes of its own
+pub page_own : (bs shared : List ℕ) → 0 < length bs → page_of bs shared ≡ record { own = true; bytes = bs }
+page_own [] shared h = absurd (omega arith)
+page_own (b ∷ bs) shared h = refl
 
-pub not_ready : (p : List ℕ) → is_ready p ≡ false → length p ≡ 0
-not_ready [] h = refl
-not_ready (x ∷ xs) h = absurd (some_ready (length xs) h)
+-- one with none of its own
+pub page_apart : (bs shared : List ℕ) → length bs ≡ 0 → page_of bs shared ≡ record { own = false; bytes = shared }
+page_apart [] shared e = refl
+page_apart (b ∷ bs) shared e = cc
+
+pub own_bytes : (bs shared : List ℕ) → (page_of bs shared).own ≡ true → 0 < length bs
+own_bytes [] shared h = absurd (false≢true h)
+own_bytes (b ∷ bs) shared h = omega arith
+
+pub no_own_bytes : (bs shared : List ℕ) → (page_of bs shared).own ≡ false → length bs ≡ 0
+no_own_bytes [] shared h = refl
+no_own_bytes (b ∷ bs) shared h = absurd (false≢true (sym h))
+
+-- the own bytes of a spare page
+pub blank_bytes : (bs shared : List ℕ) → page_of bs shared ≡ blank_page → bs ≡ blank
+blank_bytes [] shared h = absurd (false≢true (ap (λ (p : Page). p.own) h))
+blank_bytes (b ∷ bs) shared h = ap (λ (p : Page). p.bytes) h
+
+-- what a page with no bytes of its own holds
+pub apart_bytes : (bs shared : List ℕ) → length bs ≡ 0 → (page_of bs shared).bytes ≡ shared
+apart_bytes bs shared e = ap (λ (p : Page). p.bytes) (page_apart bs shared e)
+
+-- a page that holds nothing has nothing of its own
+pub none_own : (bs shared : List ℕ) → length (page_of bs shared).bytes ≡ 0 → (page_of bs shared).own ≡ false
+none_own [] shared e = refl
+none_own (b ∷ bs) shared e = cc
+
+pub shared_size : {X : Type 0} (o : Option X) (f : X → List ℕ) → IfSome o (λ x. length (f x) ≡ 4096) → (length (bytes_in o f) ≡ 0) ⊎ (length (bytes_in o f) ≡ 4096)
+shared_size None f h = inl refl
+shared_size (Some x) f h = inr h
+
+-- a page holds 4096 bytes or none
+pub held_size : (bs shared : List ℕ) → (length bs ≡ 0) ⊎ (length bs ≡ 4096) → (length shared ≡ 0) ⊎ (length shared ≡ 4096) → (length (page_of bs shared).bytes ≡ 0) ⊎ (length (page_of bs shared).bytes ≡ 4096)
+held_size [] shared h k = k
+held_size (b ∷ bs) shared h k = h
+
+pub own_size : (bs shared : List ℕ) → (length bs ≡ 0) ⊎ (length bs ≡ 4096) → (page_of bs shared).own ≡ true → length bs ≡ 4096
+own_size bs shared h own = omega (arith, h, own_bytes bs shared own)
+
+-- a store to own bytes, which come back to their vector
+pub put_back : (bs w shared : List ℕ) (s : Store) (n : ℕ) → length bs ≡ 4096 → n ≡ 4096 → ((k : ℕ) → get_or bs k 0 < 2 ^ 8) → w ≡ written bs (s.addr % 4096) s.value (width_bytes s.width) →
+    full (page_of (take n (w ++ drop (length w) bs)) shared) ≡ put (full (page_of bs shared)) (in_page s)
+put_back bs w shared s n e m small is =
+    let size : length w ≡ 4096 = ap length is ∙ length-written (width_bytes s.width) bs (s.addr % 4096) s.value ∙ e in
+    let back : take n (w ++ drop (length w) bs) ≡ w = take_at w (drop (length w) bs) n (size ∙ sym m) in
+    ap (λ zs. full (page_of zs shared)) back
+    ∙ ap full (page_own w shared (omega arith))
+    ∙ put_page (record { own = true; bytes = bs }) (record { own = true; bytes = w }) s e small is
+    ∙ ap (λ q. put (full q) (in_page s)) (sym (page_own bs shared (omega arith)))
+
+-- the bytes of a spare page in the place of shared ones, which they were made equal to
+pub shared_taken : (own bs shared : List ℕ) → own ≡ shared → length shared ≡ 4096 → (page_of bs shared).own ≡ false → full (page_of own []) ≡ full (page_of bs shared)
+shared_taken own bs shared e size h =
+    let some : 0 < length own = omega (arith, ap length e) in
+    full_same (page_of own []) (page_of bs shared) (ap (λ (p : Page). p.bytes) (page_own own [] some) ∙ e ∙ sym (apart_bytes bs shared (no_own_bytes bs shared h)))
+
+-- the same in the place of none
+pub blank_taken : (own bs shared : List ℕ) → own ≡ blank → length shared ≡ 0 → (page_of bs shared).own ≡ false → full (page_of own []) ≡ full (page_of bs shared)
+blank_taken own bs shared e none h =
+    let some : 0 < length blank = omega (arith, length-blank) in
+    ap (λ bs. full (page_of bs [])) e ∙ ap full (page_own blank [] some) ∙ full_blank
+    ∙ sym (full_absent (page_of bs shared) (ap length (apart_bytes bs shared (no_own_bytes bs shared h)) ∙ none))

@@ -1,22 +1,21 @@
 -- A spare page in the place of one that is not ready.
-use Rattle.std.proofs.Common.{◌≡◌, ℕ, suc, zero, ◌+◌, ◌<◌, List, [], ◌∷◌, ◌++◌, length, map, take, get_or, set, refl, sym, ap, ◌∙◌, arith, Bool, true, false}
-use Rattle.std.proofs.lemmas.List.{map-set, get_or-map, set-get_or, get_or_at, length-append, take_more}
-use Rattle.std.proofs.lemmas.List.Elements.{All-get_or}
+use Rattle.std.proofs.Common.{◌≡◌, ℕ, suc, zero, ◌+◌, ◌<◌, List, [], ◌∷◌, ◌++◌, length, map, replicate, take, get_or, set, refl, sym, ap, ◌∙◌, arith, Bool, true, false, subst}
+use Rattle.std.proofs.lemmas.List.{map-set, get_or-map, set-get_or, get_or_at, length-append, replicate_more, take_more, take_more_set}
+use Rattle.std.proofs.lemmas.List.Elements.{All-cons, All-get_or, All-head, All-nil, All-tail}
 use Rattle.pages.specs.Kept.{AllBlank}
-use Rattle.pages.specs.Flat.{blank, full, flat, is_ready}
+use Rattle.pages.specs.Flat.{Page, absent, blank_page, full, flat, is_ready}
 use Rattle.pages.specs.Paged.{all_ready}
-use Rattle.pages.proofs.Page.{full_absent, not_ready, ready_blank}
 use Rattle.pages.proofs.FlatPages.{flat-set_same}
 
-pub flat-readied : (ps : List (List ℕ)) (i : ℕ) (s : List ℕ) → i < length ps → is_ready (get_or ps i []) ≡ false → s ≡ blank → flat (set ps i s) ≡ flat ps
-flat-readied ps i s l h e = flat-set_same ps i s l (ap full e ∙ sym (full_absent (get_or ps i []) (not_ready (get_or ps i []) h)))
+pub flat-readied : (ps : List Page) (i : ℕ) (p q : Page) → i < length ps → p ≡ get_or ps i absent → full q ≡ full p → flat (set ps i q) ≡ flat ps
+flat-readied ps i p q l is e = flat-set_same ps i q l (e ∙ ap full is)
 
-pub ready-readied : (ps : List (List ℕ)) (i : ℕ) (s : List ℕ) → s ≡ blank → map is_ready (set ps i s) ≡ set (map is_ready ps) i true
-ready-readied ps i s e = map-set is_ready ps i s ∙ ap (set (map is_ready ps) i) (ap is_ready e ∙ ready_blank)
+pub ready-readied : (ps : List Page) (i : ℕ) (q : Page) (b : Bool) → is_ready q ≡ b → map is_ready (set ps i q) ≡ set (map is_ready ps) i b
+ready-readied ps i q b e = map-set is_ready ps i q ∙ ap (set (map is_ready ps) i) e
 
 -- a page that is ready is made ready by doing nothing
-pub already_ready : (ps : List (List ℕ)) (i : ℕ) → i < length ps → is_ready (get_or ps i []) ≡ true → map is_ready ps ≡ set (map is_ready ps) i true
-already_ready ps i l h = sym (set-get_or (map is_ready ps) i false) ∙ ap (set (map is_ready ps) i) (get_or-map is_ready ps i [] false l ∙ h)
+pub already_ready : (ps : List Page) (i : ℕ) → i < length ps → is_ready (get_or ps i absent) ≡ true → map is_ready ps ≡ set (map is_ready ps) i true
+already_ready ps i l h = sym (set-get_or (map is_ready ps) i false) ∙ ap (set (map is_ready ps) i) (get_or-map is_ready ps i absent false l ∙ h)
 
 -- making a page ready takes no page's readiness away
 pub stays_ready : (rs : List Bool) (i p : ℕ) → get_or rs p false ≡ true → get_or (set rs i true) p false ≡ true
@@ -27,10 +26,20 @@ stays_ready (r ∷ rs) (suc i) zero h = h
 stays_ready (r ∷ rs) (suc i) (suc p) h = stays_ready rs i p h
 
 -- the last of the spare pages
-pub last_blank : (xs ys : List (List ℕ)) (s : List ℕ) → xs ≡ ys ++ s ∷ [] → AllBlank xs → s ≡ blank
+pub last_blank : (xs ys : List Page) (s : Page) → xs ≡ ys ++ s ∷ [] → AllBlank xs → s ≡ blank_page
 last_blank xs ys s e h =
     let k : length ys < length xs = omega (arith, ap length e, length-append ys (s ∷ [])) in
-    sym (ap (λ (zs : List (List ℕ)). get_or zs (length ys) []) e ∙ get_or_at ys s [] [] (length ys) refl) ∙ All-get_or (λ (q : List ℕ). q ≡ blank) xs (length ys) [] k h
+    sym (ap (λ (zs : List Page). get_or zs (length ys) absent) e ∙ get_or_at ys s [] absent (length ys) refl) ∙ All-get_or (λ (q : Page). q ≡ blank_page) xs (length ys) absent k h
+
+-- and the others
+front_blank : (ys zs : List Page) → AllBlank (ys ++ zs) → AllBlank ys
+front_blank [] zs h = All-nil (λ (q : Page). q ≡ blank_page)
+front_blank (y ∷ ys) zs h =
+    let P : Page → Type 0 = λ q. q ≡ blank_page in
+    All-cons P y ys (All-head P y (ys ++ zs) h) (front_blank ys zs (All-tail P y (ys ++ zs) h))
+
+pub rest_blank : (xs ys : List Page) (s : Page) → xs ≡ ys ++ s ∷ [] → AllBlank xs → AllBlank ys
+rest_blank xs ys s e h = front_blank ys (s ∷ []) (subst (λ (zs : List Page). AllBlank zs) e h)
 
 pub ready_more : (rs : List Bool) (ns : List ℕ) (n : ℕ) → all_ready rs (ns ++ n ∷ []) ≡ set (all_ready rs ns) n true
 ready_more rs [] n = refl
@@ -38,3 +47,7 @@ ready_more rs (m ∷ ns) n = ready_more (set rs m true) ns n
 
 pub ready_next : (rs : List Bool) (ns : List ℕ) (i : ℕ) → i < length ns → all_ready rs (take (i + 1) ns) ≡ set (all_ready rs (take i ns)) (get_or ns i 0) true
 ready_next rs ns i l = ap (all_ready rs) (take_more ns i 0 l) ∙ ready_more rs (take i ns) (get_or ns i 0)
+
+-- one more page that is not ready
+pub unready_more : (rs qs : List Bool) (i : ℕ) → i < length rs → take i rs ≡ replicate i false → qs ≡ set rs i false → take (i + 1) qs ≡ replicate (i + 1) false
+unready_more rs qs i l e is = ap (take (i + 1)) is ∙ take_more_set rs i false l ∙ ap (λ r. r ++ false ∷ []) e ∙ replicate_more i false

@@ -1,16 +1,39 @@
--- Pages of 4096 bytes, end to end. A page that is not ready has no bytes of its own, and reads 0.
-use Rattle.std.specs.Prelude.{ℕ, ◌*◌, ◌%◌, ◌^◌, List, [], ◌∷◌, ◌++◌, length, map, take, drop, replicate, Bool, nat_eq, not}
+-- Pages of 4096 bytes, end to end. A page that holds no bytes reads 0.
+use Rattle.std.specs.Prelude.{ℕ, ◌*◌, ◌%◌, ◌^◌, List, [], ◌∷◌, ◌++◌, length, map, take, drop, replicate, Bool, true, false, Option, None, Some}
 use Rattle.pages.specs.declared.access.Store.{Store}
+
+-- a page: its bytes, 4096 or none, and whether they are its own, so that a store can be done in place
+pub record Page : Type 0 where
+  pub own : Bool
+  pub bytes : List ℕ
 
 -- the bytes of a page that nothing was written to
 unfoldable pub blank : List ℕ
 blank = replicate 4096 0
 
--- the 4096 bytes of a page, of which one that is not ready holds none
-unfoldable pub full : List ℕ → List ℕ
-full p = map (λ b. b % 2 ^ 8) (take 4096 (p ++ blank))
+-- a page that holds nothing
+abbrev pub absent : Page
+absent = record { own = false; bytes = [] }
 
-abbrev pub flat : List (List ℕ) → List ℕ
+-- a page of its own that nothing was written to
+abbrev pub blank_page : Page
+blank_page = record { own = true; bytes = blank }
+
+-- the page of these bytes of its own, or, where it has none, of those that it shares
+abbrev pub page_of : List ℕ → List ℕ → Page
+page_of [] shared = record { own = false; bytes = shared }
+page_of (b ∷ bs) shared = record { own = true; bytes = b ∷ bs }
+
+-- the bytes that are shared, if there are some
+abbrev pub bytes_in : {X : Type 0} → Option X → (X → List ℕ) → List ℕ
+bytes_in None bytes = []
+bytes_in (Some x) bytes = bytes x
+
+-- what a page reads as: 4096 bytes
+unfoldable pub full : Page → List ℕ
+full p = map (λ b. b % 2 ^ 8) (take 4096 (p.bytes ++ blank))
+
+abbrev pub flat : List Page → List ℕ
 flat [] = []
 flat (p ∷ ps) = full p ++ flat ps
 
@@ -19,8 +42,8 @@ unfoldable pub page_bytes : List ℕ → ℕ → List ℕ
 page_bytes bs i = take 4096 (drop (4096 * i) bs)
 
 -- whether a page holds bytes of its own
-abbrev pub is_ready : List ℕ → Bool
-is_ready p = not (nat_eq (length p) 0)
+abbrev pub is_ready : Page → Bool
+is_ready p = p.own
 
 -- a store, its address counted from the start of its page
 abbrev pub in_page : Store → Store

@@ -2,7 +2,7 @@
 use Rattle.std.specs.Prelude.{ℕ, ◌-◌, ◌/◌, Bool, true, false, if◌then◌else◌, not, List, [], ◌∷◌, map, count_by, slice_index_or, slice_set}
 use Rattle.pages.specs.declared.access.Store.{Store}
 use Rattle.pages.specs.Memory.{Memory, put}
-use Rattle.pages.specs.Flat.{flat, is_ready, laid}
+use Rattle.pages.specs.Flat.{Page, flat, is_ready, laid}
 
 pub record Paged : Type 0 where
   pub memory : Memory
@@ -40,7 +40,7 @@ all_ready ready [] = ready
 all_ready ready (page ∷ pages) = all_ready (slice_set ready page true) pages
 
 -- with these pages in the place of its own, as many as it has
-abbrev pub with_pages : Paged → List (List ℕ) → Paged
+abbrev pub with_pages : Paged → List Page → Paged
 with_pages p ps = record p {
   memory = record p.memory { bytes = laid p.memory.bytes (flat ps) };
   ready = laid p.ready (map is_ready ps);

@@ -1,4 +1,4 @@
-ghost use Rattle.std.specs.Prelude.{◌≡◌, ◌+◌, ◌-◌, ◌*◌, ◌<◌, ◌≤◌, ◌^◌, ◌||◌, ℕ, length, slice_index, if◌then◌else◌, map, All, IfOk, OnOk};
+ghost use Rattle.std.specs.Prelude.{◌≡◌, ◌+◌, ◌-◌, ◌*◌, ◌<◌, ◌≤◌, ◌^◌, ◌||◌, ℕ, false, length, replicate, slice_index, if◌then◌else◌, map, All, IfOk, OnOk};
 ghost use Rattle.std.specs.List.{range_with_len};
 ghost use Rattle.pages.specs.declared.access.Piece.{Piece as PieceOf};
 ghost use Rattle.pages.specs.declared.access.Range.{Range as RangeOf};
@@ -38,6 +38,17 @@ pub(crate) fn copies_of(alloc: Global, parts: &[Part]) -> Result<Vec<Part>, OutO
         copies.push(part.copy(alloc)?)?;
     }
     Ok(copies)
+}
+
+/// Has copies share what each page holds.
+pub(crate) fn share_all(alloc: Global, parts: &mut [Part]) -> Result<(), OutOfMemory>
+    ensures bytes { flat parts.new ≡ flat parts.old }
+    ensures unready { OnOk result (map is_ready parts.new ≡ replicate (length parts.old) false) }
+{
+    for page in 0..parts.len() {
+        parts[page].share(alloc)?;
+    }
+    Ok(())
 }
 
 // The page of this number. The first piece wins, so it is laid last.

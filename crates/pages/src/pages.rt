@@ -1,4 +1,4 @@
-ghost use Rattle.std.specs.Prelude.{◌≡◌, ◌+◌, ◌-◌, ◌*◌, ◌/◌, ◌%◌, ◌^◌, ◌<◌, ◌≤◌, ◌⊎◌, ℕ, List, [], true, false, length, slice_index, slice_index_or, map, min, All, IfOk, OnOk, OnErr, MatchOption, MatchResult, Some, None};
+ghost use Rattle.std.specs.Prelude.{◌≡◌, ◌+◌, ◌-◌, ◌*◌, ◌/◌, ◌%◌, ◌^◌, ◌<◌, ◌≤◌, ◌⊎◌, ℕ, List, [], true, false, length, replicate, slice_index, slice_index_or, map, min, All, IfOk, OnOk, OnErr, IfNone, MatchOption, MatchResult, Some, None};
 ghost use Rattle.std.specs.Borrow.{sem};
 ghost use Rattle.pages.specs.declared.access.Piece.{Piece as PieceOf};
 ghost use Rattle.pages.specs.declared.access.Range.{Range as RangeOf};
@@ -10,13 +10,13 @@ ghost use Rattle.pages.specs.Memory.{IsBytes, fetched, loaded, store_fault, widt
 ghost use Rattle.pages.specs.Paged.{all_ready, applied, count_unready, is_page_ready};
 
 use crate::code::{all_code_at, has_word_at, touches_code};
-use crate::making::{bounds_of, copies_of, parts_of};
+use crate::making::{bounds_of, copies_of, parts_of, share_all};
 use crate::prepare::{add_spares, make_all_ready, put_into, ready_page};
 use crate::{Fault, OutOfMemory, Part, Piece, Range, Store, Width};
 use std::alloc::Global;
 use std::marker::Model;
 
-/// Guest memory from address 0 on, in pages of 4096 bytes. A page takes memory once it is ready.
+/// Guest memory from address 0 on, in pages of 4096 bytes. A page takes memory once it is ready, and copies may share it.
 #[derive(Drop)]
 pub struct Pages {
     parts: Vec<Part>,
@@ -80,6 +80,26 @@ impl Pages {
         })
     }
 
+    /// Equal guest memory with no spare page, which shares what the pages hold. From then on neither of the two has a page
+    /// that is ready: each gets one of its own once the page is prepared, or written to with a spare page. No page's bytes
+    /// are copied.
+    ///
+    /// # Errors
+    ///
+    /// `OutOfMemory`, and the bytes are what they were.
+    pub fn share(&mut self, alloc: Global) -> Result<Pages, OutOfMemory>
+        ensures memory { IfOk result (λ p. p.memory ≡ self.old.memory) }
+        ensures unready { IfOk result (λ p. p.ready ≡ replicate (length self.old.ready) false) }
+        ensures no_spare { IfOk result (λ p. p.spare ≡ 0) }
+        ensures left_unready { OnOk result (self.new.ready ≡ replicate (length self.old.ready) false) }
+        ensures stays { self.new.memory ≡ self.old.memory }
+        ensures spare { self.new.spare ≡ self.old.spare }
+        ensures count { length self.new.ready ≡ length self.old.ready }
+    {
+        share_all(alloc, self.parts.as_mut_slice())?;
+        self.copy(alloc)
+    }
+
     /// How many pages there are.
     #[inline]
     pub fn count(&self) -> u32
@@ -109,9 +129,9 @@ impl Pages {
         }
     }
 
-    /// The 4096 bytes of a page that is ready. One that is not ready reads 0.
+    /// The 4096 bytes of a page, if it holds some. One that holds none reads 0.
     pub fn page(&self, page: u32) -> Option<&[u8]>
-        ensures ready { MatchOption result (is_page_ready self.now page ≡ false) (λ bytes. is_page_ready self.now page ≡ true) }
+        ensures ready { IfNone result (is_page_ready self.now page ≡ false) }
         ensures bytes { MatchOption result (page < length self.now.ready → page_bytes self.now.memory.bytes page ≡ blank) (λ bytes. bytes.now ≡ page_bytes self.now.memory.bytes page) }
     {
         match self.parts.get(page as usize) {

@@ -1,5 +1,5 @@
-ghost use Rattle.std.specs.Prelude.{◌≡◌, ◌+◌, ◌/◌, ◌%◌, ◌<◌, ◌≤◌, ◌⊎◌, ℕ, List, [], true, false, length, slice_index_or, slice_set, map, min, All, OnOk, OnErr, vec_len};
-ghost use Rattle.pages.specs.Flat.{blank, flat, is_ready};
+ghost use Rattle.std.specs.Prelude.{◌≡◌, ◌+◌, ◌/◌, ◌%◌, ◌<◌, ◌≤◌, ◌⊎◌, ℕ, true, false, length, slice_index_or, slice_set, map, min, All, OnOk, OnErr, vec_len};
+ghost use Rattle.pages.specs.Flat.{absent, flat, is_ready};
 ghost use Rattle.pages.specs.Kept.{AllBlank};
 ghost use Rattle.pages.specs.Paged.{all_ready, count_unready, spare_after};
 ghost use Rattle.pages.specs.Memory.{put, width_bytes};
@@ -7,10 +7,10 @@ ghost use Rattle.pages.specs.Memory.{put, width_bytes};
 use crate::{OutOfMemory, Part, Store};
 use std::alloc::Global;
 
-/// Makes a page ready with a spare one.
+/// Makes a page ready with a spare one, which takes over what the page reads.
 pub(crate) fn use_spare(parts: &mut [Part], spares: &mut Vec<Part>, page: usize)
     requires page { page < length parts.old }
-    requires unready { is_ready (slice_index_or parts.old page []) ≡ false }
+    requires unready { is_ready (slice_index_or parts.old page absent) ≡ false }
     requires room { 0 < vec_len spares.old }
     requires blank { AllBlank spares.old.items }
     ensures bytes { flat parts.new ≡ flat parts.old }
@@ -19,7 +19,7 @@ pub(crate) fn use_spare(parts: &mut [Part], spares: &mut Vec<Part>, page: usize)
     ensures blank { AllBlank spares.new.items }
 {
     if let Some(spare) = spares.pop() {
-        parts[page] = spare;
+        parts[page].take_spare(spare);
     }
 }
 
@@ -27,11 +27,11 @@ pub(crate) fn use_spare(parts: &mut [Part], spares: &mut Vec<Part>, page: usize)
 #[inline(always)]
 pub(crate) fn ready_page(parts: &mut [Part], spares: &mut Vec<Part>, page: usize)
     requires page { page < length parts.old }
-    requires room { (is_ready (slice_index_or parts.old page []) ≡ true) ⊎ (0 < vec_len spares.old) }
+    requires room { (is_ready (slice_index_or parts.old page absent) ≡ true) ⊎ (0 < vec_len spares.old) }
     requires blank { AllBlank spares.old.items }
     ensures bytes { flat parts.new ≡ flat parts.old }
     ensures ready { map is_ready parts.new ≡ slice_set (map is_ready parts.old) page true }
-    ensures spares { vec_len spares.new ≡ spare_after (is_ready (slice_index_or parts.old page [])) (vec_len spares.old) }
+    ensures spares { vec_len spares.new ≡ spare_after (is_ready (slice_index_or parts.old page absent)) (vec_len spares.old) }
     ensures blank { AllBlank spares.new.items }
 {
     if parts[page].ready() {
@@ -44,7 +44,7 @@ pub(crate) fn ready_page(parts: &mut [Part], spares: &mut Vec<Part>, page: usize
 #[inline(always)]
 pub(crate) fn put_into(parts: &mut [Part], s: Store)
     requires page { s.addr / 4096 < length parts.old }
-    requires ready { is_ready (slice_index_or parts.old (s.addr / 4096) []) ≡ true }
+    requires ready { is_ready (slice_index_or parts.old (s.addr / 4096) absent) ≡ true }
     requires aligned { s.addr % width_bytes s.width ≡ 0 }
     ensures bytes { flat parts.new ≡ put (flat parts.old) s }
     ensures ready { map is_ready parts.new ≡ map is_ready parts.old }

@@ -95,6 +95,43 @@ fn faults(rt: HostRuntime) -> Result<(), Fail> {
     Ok(())
 }
 
+#[test]
+fn shared_pages(rt: HostRuntime) -> Result<(), Fail> {
+    let piece = Piece {
+        start: 0x1000,
+        bytes: [1, 2, 3, 4, 5, 6, 7, 8].to_vec(rt.alloc())?,
+    };
+    let mut p = Pages::new(rt.alloc(), 4, &[piece], &[])?;
+    let mut copy = p.share(rt.alloc())?;
+    assert!(rt; !p.ready(1) && !copy.ready(1) && copy.spare() == 0);
+    assert!(rt; p.read(0x1000, Width::W8) == Ok(0x0807_0605_0403_0201));
+    assert!(rt; copy.read(0x1000, Width::W8) == Ok(0x0807_0605_0403_0201));
+    assert!(rt;
+        copy.page(1)
+            .is_some_and(|bytes| bytes.len() == 4096 && bytes[7] == 8)
+    );
+    assert!(rt; copy.page(0).is_none());
+    // A store in one leaves the other as it was.
+    p.prepare(rt.alloc(), &[1], 0)?;
+    assert!(rt; p.ready(1) && !copy.ready(1));
+    let s = Store {
+        addr: 0x1002,
+        width: Width::W2,
+        value: 0xabcd,
+    };
+    p.apply(s);
+    assert!(rt; p.read(0x1000, Width::W8) == Ok(0x0807_0605_abcd_0201));
+    assert!(rt; copy.read(0x1000, Width::W8) == Ok(0x0807_0605_0403_0201));
+    // A copy of the copy shares the same bytes, and so does one that `copy` makes.
+    let third = copy.share(rt.alloc())?;
+    let fourth = copy.copy(rt.alloc())?;
+    assert!(rt; store(rt.alloc(), &mut copy, s)? && copy.ready(1));
+    assert!(rt; copy.read(0x1000, Width::W8) == Ok(0x0807_0605_abcd_0201));
+    assert!(rt; third.read(0x1000, Width::W8) == Ok(0x0807_0605_0403_0201) && !third.ready(1));
+    assert!(rt; fourth.read(0x1000, Width::W8) == Ok(0x0807_0605_0403_0201) && !fourth.ready(1));
+    Ok(())
+}
+
 fn next(seed: &mut u64) -> u64 {
     *seed = seed
         .wrapping_mul(6_364_136_223_846_793_005)

@@ -1,6 +1,6 @@
-use Rattle.std.proofs.Common.{◌<◌, ◌%◌, ◌/◌, ◌∙◌, ap, sym, subst, rules, length, get_or, []}
+use Rattle.std.proofs.Common.{◌<◌, ◌%◌, ◌/◌, ◌∙◌, ap, sym, subst, rules, length, get_or}
 use Rattle.std.proofs.lemmas.List.{get_or_read}
-use Rattle.pages.specs.Flat.{flat, full}
+use Rattle.pages.specs.Flat.{absent, flat, full}
 use Rattle.pages.specs.Memory.{number_at}
 use Rattle.pages.specs.Paged.{Paged}
 use Rattle.pages.proofs.Accesses.{byte_in_page, page_below}
@@ -17,7 +17,7 @@ returns c =
     let ps = c.self.inside.parts.items in
     let within : c.args.addr < length (flat ps) = subst (λ (h : Paged). c.args.addr < length h.memory.bytes) (sym c.self.view_is) c.requires in
     let below = page_below ps c.args.addr within in
-    let part = get_or_read ps (c.args.addr / 4096) c.index.result.now below c.index.ensures [] in
+    let part = get_or_read ps (c.args.addr / 4096) c.index.result.now below c.index.ensures absent in
     c.number.ensures.value ∙ ap (λ q. number_at (full q) (c.args.addr % 4096) 1) part
     ∙ byte_in_page ps c.args.addr below
     ∙ ap (λ (h : Paged). get_or h.memory.bytes c.args.addr 0) c.self.view_is

@@ -1,7 +1,7 @@
-use Rattle.std.proofs.Common.{◌≡◌, ◌<◌, ◌≤◌, ◌%◌, ◌/◌, ◌∙◌, Some, true, ap, rules, length, get_or, []}
+use Rattle.std.proofs.Common.{◌≡◌, ◌<◌, ◌≤◌, ◌%◌, ◌/◌, ◌∙◌, Some, true, ap, rules, length, get_or}
 use Rattle.std.specs.List.{list_any}
 use Rattle.pages.specs.Code.{has_word}
-use Rattle.pages.specs.Flat.{flat, full}
+use Rattle.pages.specs.Flat.{absent, flat, full}
 use Rattle.pages.specs.Memory.{fetched, number_at}
 use Rattle.pages.specs.Paged.{Paged}
 use Rattle.pages.proofs.Accesses.{fetch_inside, fetch_outside, outside_page}
@@ -17,7 +17,7 @@ returns-then-has_word_at c =
     elim c.match-get.branch [
       | in-Some w ↦
           (let inside : c.args.pc / 4096 < length ps = search rules in
-          let part : w.in-Some.part.now ≡ get_or ps (c.args.pc / 4096) [] = search rules in
+          let part : w.in-Some.part.now ≡ get_or ps (c.args.pc / 4096) absent = search rules in
           w.result-is
           ∙ ap (λ v. Some v) (w.number.ensures.value ∙ ap (λ q. number_at (full q) (c.args.pc % 4096) 4) part)
           ∙ fetch_inside ps code c.args.pc inside (search rules) (all_code_by_word code c.args.pc word)

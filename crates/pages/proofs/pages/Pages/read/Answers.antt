@@ -1,5 +1,5 @@
-use Rattle.std.proofs.Common.{◌≡◌, ◌<◌, ◌≤◌, ◌%◌, ◌/◌, ◌∙◌, Ok, ap, rules, length, get_or, []}
-use Rattle.pages.specs.Flat.{full}
+use Rattle.std.proofs.Common.{◌≡◌, ◌<◌, ◌≤◌, ◌%◌, ◌/◌, ◌∙◌, Ok, ap, rules, length, get_or}
+use Rattle.pages.specs.Flat.{absent, full}
 use Rattle.pages.specs.Memory.{loaded, value_at, width_bytes}
 use Rattle.pages.specs.Paged.{Paged}
 use Rattle.pages.proofs.Accesses.{load_inside, load_misaligned, load_outside}
@@ -13,7 +13,7 @@ returns-in-Some-clause-value c =
     let ps = c.self.inside.parts.items in
     let aligned : c.args.addr % width_bytes c.args.width ≡ 0 = search rules in
     let inside : c.args.addr / 4096 < length ps = search rules in
-    let part : c.in-Some.part.now ≡ get_or ps (c.args.addr / 4096) [] = search rules in
+    let part : c.in-Some.part.now ≡ get_or ps (c.args.addr / 4096) absent = search rules in
     ap (λ v. Ok v) (c.number.ensures.value ∙ ap (λ q. value_at (full q) (c.args.addr % 4096) c.args.width) part)
     ∙ load_inside ps c.self.inside.code.items c.args.addr c.args.width aligned inside
     ∙ ap (λ (h : Paged). loaded h.memory c.args.addr c.args.width) c.self.view_is

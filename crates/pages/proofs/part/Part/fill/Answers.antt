@@ -1,24 +1,20 @@
-use Rattle.std.proofs.Common.{◌≡◌, ◌∙◌, ℕ, List, ap, sym, rules, length, replicate}
-use Rattle.pages.specs.Flat.{blank, full}
-use Rattle.pages.proofs.Laying.{filled}
-use Rattle.pages.proofs.Page.{full_absent, length-blank}
+use Rattle.std.proofs.Common.{◌≡◌, ◌<◌, ◌∙◌, ◌-◌, ◌^◌, ℕ, ap, rules, length, get_or, slice_index, true, if◌then◌else◌}
+use Rattle.pages.specs.Flat.{Page, bytes_in, full, page_of}
+use Rattle.pages.specs.Memory.{in_range}
+use Rattle.pages.proofs.Laying.{laid_back}
+use Rattle.pages.proofs.Page.{own_size}
 use Rattle.pages.proofs.part.Part.fill.Goals as goal
-use Rattle.pages.proofs.part.Part.fill.Goals.{then-is_empty+in_ok-self-inside, else-is_empty}
-
-made_blank : (items : List ℕ) → items ≡ replicate 4096 0 → items ≡ blank
-unfolding blank
-made_blank items e = e
 
 pub returns-clause-bytes : goal.returns-clause-bytes
 returns-clause-bytes c =
-    let base = c.if-is_empty.self-inside.bytes.items in
-    let ready : (length base ≡ 4096) × (full base ≡ full c.args.self.now) = elim c.if-is_empty.branch [
-      | then-is_empty+in_ok-self-inside w ↦
-          (let is : base ≡ blank = ap (λ i. i.bytes.items) w.self-inside-is ∙ made_blank _ (w.in_ok-self-inside.ensures.items_if_clones_equal (λ y e. e)) in
-          let none : length c.args.self.now ≡ 0 = search rules in
-          (ap length is ∙ length-blank, ap full is ∙ sym (full_absent c.args.self.now none)))
-      | else-is_empty w ↦
-          (let is : base ≡ c.args.self.now = ap (λ i. i.bytes.items) w.self-inside-is ∙ c.self.view_is in
-          (search rules, ap full is))
-    ] in
-    λ k h. filled c.args.self.now base c.lay_over.new.bytes c.args.bytes.now c.args.place c.if-is_empty.self-inside.bytes.len ready.0 (search rules) ready.1 (search rules) (search (rules, c.lay_over.ensures.old_bytes)) (c.lay_over.ensures.new_bytes) (search (rules, c.lay_over.ensures.laid)) k
+    let bs = c.self.inside.own.items in
+    let w = c.lay_over.new.bytes in
+    let shared = bytes_in c.self.inside.shared (λ a. a.value.items) in
+    let ready : (page_of bs shared).own ≡ true = ap (λ (p : Page). p.own) c.self.view_is ∙ c.in_ok-make_own.ensures.ready in
+    let size : length bs ≡ 4096 = own_size bs shared c.self.invariant.0 ready in
+    let len : c.self.inside.own.len ≡ 4096 = search rules in
+    let same : length w ≡ length bs = search rules in
+    let small : (j : ℕ) → get_or bs j 0 < 2 ^ 8 = search (rules, c.lay_over.ensures.old_bytes) in
+    let laid : (j : ℕ) → get_or w j 0 ≡ (if in_range c.args.place (length c.args.bytes.now) j then get_or c.args.bytes.now (j - c.args.place) 0 else get_or bs j 0) = search (rules, c.lay_over.ensures.laid) in
+    λ k h. laid_back bs w shared c.args.bytes.now c.args.place c.self.inside.own.len size len same small c.lay_over.ensures.new_bytes laid k
+    ∙ ap (λ q. if in_range c.args.place (length c.args.bytes.now) k then slice_index c.args.bytes.now (k - c.args.place) else slice_index q k) (ap full c.self.view_is ∙ c.in_ok-make_own.ensures.bytes)
