@@ -6,7 +6,7 @@ use Rattle.std.proofs.lemmas.Nat.Bits.{shr_and_one}
 use Rattle.std.proofs.Math.Nat.{mod-eq_of_lt}
 use Rattle.pages.specs.declared.access.Width.{Width}
 use Rattle.pages.specs.declared.access.Width.TheVariants.{W1, W8}
-use Rattle.pages.specs.Flat.{full, in_page, is_ready}
+use Rattle.pages.specs.Flat.{Page, full, in_page, is_ready}
 use Rattle.pages.specs.Memory.{after, number_at, put, written}
 use Rattle.store_buffer.specs.declared.line.Line.{Line}
 use Rattle.store_buffer.specs.Covered.{one_byte, stores_of}
@@ -131,11 +131,11 @@ in_place : (a v : ℕ) (w : Width) → a < 4096 → in_page (record { addr = a; 
 in_place a v w h = ap (λ (x : ℕ). record { addr = x; width = w; value = v }) (mod-eq_of_lt h)
 
 -- one store of eight bytes
-pub word_ready : (p : List ℕ) (a : ℕ) (l : Line) (j : ℕ) → bit_and (l.mask / 2 ^ j) 255 ≡ 255 → Writable p (word_bytes a l j) → is_ready p ≡ true
+pub word_ready : (p : Page) (a : ℕ) (l : Line) (j : ℕ) → bit_and (l.mask / 2 ^ j) 255 ≡ 255 → Writable p (word_bytes a l j) → is_ready p ≡ true
 unfolding word_bytes
 word_ready p a l j e w = each_place (λ (x : ℕ). is_ready p ≡ true) 8 a l j (all_covered l j 8 e) w 0 (omega arith)
 
-pub word_written : (p q : List ℕ) (a : ℕ) (l : Line) (j v : ℕ) → bit_and (l.mask / 2 ^ j) 255 ≡ 255 → ((k : ℕ) → slice_index l.bytes k < 2 ^ 8) → v ≡ number_at l.bytes j 8 → a + j < 4096 → is_ready p ≡ true →
+pub word_written : (p q : Page) (a : ℕ) (l : Line) (j v : ℕ) → bit_and (l.mask / 2 ^ j) 255 ≡ 255 → ((k : ℕ) → slice_index l.bytes k < 2 ^ 8) → v ≡ number_at l.bytes j 8 → a + j < 4096 → is_ready p ≡ true →
     full q ≡ put (full p) (in_page (record { addr = a + j; width = W8; value = v })) → is_ready q ≡ true → Written (word_bytes a l j) p q
 unfolding word_bytes put
 word_written p q a l j v e small is inside before done behind = record {
@@ -144,12 +144,12 @@ word_written p q a l j v e small is inside before done behind = record {
 }
 
 -- one byte
-pub place_ready : (p : List ℕ) (a : ℕ) (l : Line) (j : ℕ) → bit_and (l.mask / 2 ^ j) 1 ≡ 1 → Writable p (place_bytes a l j) → is_ready p ≡ true
+pub place_ready : (p : Page) (a : ℕ) (l : Line) (j : ℕ) → bit_and (l.mask / 2 ^ j) 1 ≡ 1 → Writable p (place_bytes a l j) → is_ready p ≡ true
 place_ready p a l j e w =
     let one : ℕ × ℕ = (a + j, slice_index l.bytes j % 2 ^ 8) in
     All-head (λ (e : ℕ × ℕ). is_ready p ≡ true) one [] (subst (λ (es : List (ℕ × ℕ)). Writable p es) (place_covered a l j e) w)
 
-pub place_written : (p q : List ℕ) (a : ℕ) (l : Line) (j v : ℕ) → bit_and (l.mask / 2 ^ j) 1 ≡ 1 → v ≡ slice_index l.bytes j → v < 2 ^ 8 → a + j < 4096 → is_ready p ≡ true →
+pub place_written : (p q : Page) (a : ℕ) (l : Line) (j v : ℕ) → bit_and (l.mask / 2 ^ j) 1 ≡ 1 → v ≡ slice_index l.bytes j → v < 2 ^ 8 → a + j < 4096 → is_ready p ≡ true →
     full q ≡ put (full p) (in_page (record { addr = a + j; width = W1; value = v })) → is_ready q ≡ true → Written (place_bytes a l j) p q
 place_written p q a l j v e is small inside before done behind =
     let value : v ≡ slice_index l.bytes j % 2 ^ 8 = sym (mod-eq_of_lt small) ∙ ap (λ (x : ℕ). x % 2 ^ 8) is in
@@ -160,5 +160,5 @@ place_written p q a l j v e is small inside before done behind =
       ready = behind ∙ sym before;
     }
 
-pub nothing_written : (p : List ℕ) (es : List (ℕ × ℕ)) → es ≡ [] → Written es p p
+pub nothing_written : (p : Page) (es : List (ℕ × ℕ)) → es ≡ [] → Written es p p
 nothing_written p es e = record { bytes = ap (λ (fs : List (ℕ × ℕ)). after (full p) (stores_of fs)) (sym e); ready = refl }

@@ -7,7 +7,7 @@ use Rattle.std.proofs.lemmas.List.{append-nil, ext_get_or, map-append, length-se
 use Rattle.std.specs.Fork.{IsChunk}
 use Rattle.std.proofs.Math.Seq.{map-set_same}
 use Rattle.pages.specs.declared.access.Store.{Store}
-use Rattle.pages.specs.Flat.{flat, full, is_ready, laid}
+use Rattle.pages.specs.Flat.{Page, absent, flat, full, is_ready, laid}
 use Rattle.pages.specs.Memory.{after, byte_put, covered, covers, in_range, last_byte}
 use Rattle.pages.specs.Paged.{Paged, is_page_ready}
 use Rattle.pages.specs.StoreLaws.{byte_after, last_byte-append, last_byte-uncovered, length-after}
@@ -55,30 +55,30 @@ not_in_line (suc n) a l j x h =
     (not_in_line n a l (j + 1) x (⊎_elim (λ (lt : x < a + j). inl (omega arith)) (λ (ge : a + j + suc n ≤ x). inr (omega arith)) h))
 
 -- the rest of the stores will leave of each byte of the shard now what all of them leave of the old one
-pub record Sharding (n : ℕ) (ps qs : List (List ℕ)) (es rest : List (ℕ × ℕ)) : Type 0 where
+pub record Sharding (n : ℕ) (ps qs : List Page) (es rest : List (ℕ × ℕ)) : Type 0 where
   pub count : length qs ≡ length ps
   pub ready : map is_ready qs ≡ map is_ready ps
   pub bytes : (k i : ℕ) → k < length ps → i < 4096 → last_byte (slice_index (full (page_at qs k)) i) (stores_of rest) (4096 * (n + k) + i) ≡ last_byte (slice_index (full (page_at ps k)) i) (stores_of es) (4096 * (n + k) + i)
   pub may : IsShardReady n ps rest
 
-pub sharding_begun : (n : ℕ) (ps : List (List ℕ)) (es rest : List (ℕ × ℕ)) → es ≡ rest → IsShardReady n ps es → Sharding n ps ps es rest
+pub sharding_begun : (n : ℕ) (ps : List Page) (es rest : List (ℕ × ℕ)) → es ≡ rest → IsShardReady n ps es → Sharding n ps ps es rest
 sharding_begun n ps es rest e r = subst (λ (fs : List (ℕ × ℕ)). Sharding n ps ps es fs) e (record { count = refl; ready = refl; bytes = λ k i low less. refl; may = r })
 
-pub sharding_over : (n : ℕ) (ps qs : List (List ℕ)) (es rest : List (ℕ × ℕ)) → rest ≡ [] → Sharding n ps qs es rest → ShardWritten n (stores_of es) ps qs
+pub sharding_over : (n : ℕ) (ps qs : List Page) (es rest : List (ℕ × ℕ)) → rest ≡ [] → Sharding n ps qs es rest → ShardWritten n (stores_of es) ps qs
 sharding_over n ps qs es rest none k = record {
   count = k.count;
   ready = k.ready;
   bytes = λ j i low less. ap (λ (fs : List (ℕ × ℕ)). last_byte (slice_index (full (page_at qs j)) i) (stores_of fs) (4096 * (n + j) + i)) (sym none) ∙ k.bytes j i low less;
 }
 
-pub sharding_same : (n : ℕ) (ps qs : List (List ℕ)) (es rest fs : List (ℕ × ℕ)) → rest ≡ fs → Sharding n ps qs es rest → Sharding n ps qs es fs
+pub sharding_same : (n : ℕ) (ps qs : List Page) (es rest fs : List (ℕ × ℕ)) → rest ≡ fs → Sharding n ps qs es rest → Sharding n ps qs es fs
 sharding_same n ps qs es rest fs e k = subst (λ (gs : List (ℕ × ℕ)). Sharding n ps qs es gs) e k
 
 parts_of : (now more : List (ℕ × ℕ)) → stores_of (now ++ more) ≡ stores_of now ++ stores_of more
 parts_of now more = map-append one_byte now more
 
 -- a line of a page that is not in the shard
-pub sharding_skips : (n : ℕ) (ps qs : List (List ℕ)) (es more : List (ℕ × ℕ)) (start : ℕ) (l : Line) → start % 64 ≡ 0 → (start / 4096 < n) ⊎ (n + length ps ≤ start / 4096) →
+pub sharding_skips : (n : ℕ) (ps qs : List Page) (es more : List (ℕ × ℕ)) (start : ℕ) (l : Line) → start % 64 ≡ 0 → (start / 4096 < n) ⊎ (n + length ps ≤ start / 4096) →
     Sharding n ps qs es (whole_line start l ++ more) → Sharding n ps qs es more
 unfolding whole_line
 sharding_skips n ps qs es more start l aligned out k = record {
@@ -96,12 +96,12 @@ sharding_skips n ps qs es more start l aligned out k = record {
 }
 
 -- a line of page k of the shard, which starts in it at the place `at`
-pub sharding_takes : (n : ℕ) (ps qs : List (List ℕ)) (es more : List (ℕ × ℕ)) (start k at : ℕ) (l : Line) (part : List ℕ) → n + k ≡ start / 4096 → k < length ps → at ≡ start % 4096 → start % 64 ≡ 0 →
+pub sharding_takes : (n : ℕ) (ps qs : List Page) (es more : List (ℕ × ℕ)) (start k at : ℕ) (l : Line) (part : Page) → n + k ≡ start / 4096 → k < length ps → at ≡ start % 4096 → start % 64 ≡ 0 →
     Written (whole_line at l) (page_at qs k) part → Sharding n ps qs es (whole_line start l ++ more) → Sharding n ps (set qs k part) es more
 unfolding whole_line
 sharding_takes n ps qs es more start k at l part page inside place aligned w s = record {
   count = length-set qs k part ∙ s.count;
-  ready = map-set_same is_ready qs k part [] w.ready ∙ s.ready;
+  ready = map-set_same is_ready qs k part absent w.ready ∙ s.ready;
   bytes = λ j i low less.
       let x = 4096 * (n + j) + i in
       let b = slice_index (full (page_at qs j)) i in
@@ -122,7 +122,7 @@ sharding_takes n ps qs es more start k at l part page inside place aligned w s =
         let bound : k < length qs = omega (arith, s.count, inside) in
         let far : x + at ≡ i + start = omega arith in
         let short : i < length (full (page_at qs k)) = omega (arith, length-full (page_at qs k)) in
-        ap (λ (p : List ℕ). last_byte (slice_index (full p) i) (stores_of more) x) (ap (page_at (set qs k part)) e ∙ get_or-set_same qs k part [] bound)
+        ap (λ (p : Page). last_byte (slice_index (full p) i) (stores_of more) x) (ap (page_at (set qs k part)) e ∙ get_or-set_same qs k part absent bound)
         ∙ ap (λ (bs : List ℕ). last_byte (slice_index bs i) (stores_of more) x) w.bytes
         ∙ ap (λ (c : ℕ). last_byte c (stores_of more) x) (byte_after (full (page_at qs k)) i (stores_of (line_bytes at l 0 64)) short ∙ moved 64 at start l 0 b i x far)
         ∙ ap (λ (c : ℕ). last_byte (last_byte (slice_index (full (page_at qs c)) i) (stores_of (line_bytes start l 0 64)) x) (stores_of more) x) (sym e)
@@ -130,12 +130,12 @@ sharding_takes n ps qs es more start k at l part page inside place aligned w s =
         let x = 4096 * (n + j) + i in
         let apart : (x < start + 0) ⊎ (start + 0 + 64 ≤ x) = ⊎_elim (λ (e : j ≡ k). absurd (ne e)) (λ (o : (j < k) ⊎ (k < j)). ⊎_elim (λ (lt : j < k). inl (omega arith)) (λ (gt : k < j). inr (omega arith)) o) (cases_order j k) in
         let b = slice_index (full (page_at qs j)) i in
-        ap (λ (p : List ℕ). last_byte (slice_index (full p) i) (stores_of more) x) (get_or-set_other qs k j part [] ne)
+        ap (λ (p : Page). last_byte (slice_index (full p) i) (stores_of more) x) (get_or-set_other qs k j part absent ne)
         ∙ ap (λ (c : ℕ). last_byte c (stores_of more) x) (sym (last_byte-uncovered b (stores_of (line_bytes start l 0 64)) x (not_in_line 64 start l 0 x apart)))
 
-ready_at : (qs ps : List (List ℕ)) (k : ℕ) → map is_ready qs ≡ map is_ready ps → k < length ps → length qs ≡ length ps → is_ready (page_at qs k) ≡ is_ready (page_at ps k)
+ready_at : (qs ps : List Page) (k : ℕ) → map is_ready qs ≡ map is_ready ps → k < length ps → length qs ≡ length ps → is_ready (page_at qs k) ≡ is_ready (page_at ps k)
 ready_at qs ps k e low count =
-    sym (get_or-map is_ready qs k [] false (omega (arith, count))) ∙ ap (λ (bs : List Bool). get_or bs k false) e ∙ get_or-map is_ready ps k [] false low
+    sym (get_or-map is_ready qs k absent false (omega (arith, count))) ∙ ap (λ (bs : List Bool). get_or bs k false) e ∙ get_or-map is_ready ps k absent false low
 
 carried : (o : Option ℕ) (a c : ℕ) (es fs : List (ℕ × ℕ)) (P : ℕ → Type 0) (Q : Type 0) → (P a → Q) → All (λ (e : ℕ × ℕ). P e.0) (put_first a o es) → (All (λ (e : ℕ × ℕ). P e.0) es → All (λ (e : ℕ × ℕ). Q) fs) → All (λ (e : ℕ × ℕ). Q) (put_first c o fs)
 carried None a c es fs P Q h all rest = rest all
@@ -149,7 +149,7 @@ line_ready (suc n) a c l j P Q h all =
     (λ rest. line_ready n a c l (j + 1) P Q (λ x from to p. h x (omega arith) (omega arith) p) rest)
 
 -- the page of the next line is ready, if there is a byte to be written
-pub line_writable : (n : ℕ) (ps qs : List (List ℕ)) (es more : List (ℕ × ℕ)) (start k at : ℕ) (l : Line) → n + k ≡ start / 4096 → k < length ps → start % 64 ≡ 0 →
+pub line_writable : (n : ℕ) (ps qs : List Page) (es more : List (ℕ × ℕ)) (start k at : ℕ) (l : Line) → n + k ≡ start / 4096 → k < length ps → start % 64 ≡ 0 →
     Sharding n ps qs es (whole_line start l ++ more) → Writable (page_at qs k) (whole_line at l)
 unfolding whole_line
 line_writable n ps qs es more start k at l page inside aligned s =
@@ -161,15 +161,15 @@ line_writable n ps qs es more start k at l page inside aligned s =
     (All-before (λ (e : ℕ × ℕ). P e.0) (line_bytes start l 0 64) more s.may)
 
 -- the rest of the stores will leave of each byte of the shard now what all of them leave of the old one
-pub record Left (n : ℕ) (ps qs : List (List ℕ)) (ss rest : List Store) : Type 0 where
+pub record Left (n : ℕ) (ps qs : List Page) (ss rest : List Store) : Type 0 where
   pub count : length qs ≡ length ps
   pub ready : map is_ready qs ≡ map is_ready ps
   pub bytes : (k i : ℕ) → k < length ps → i < 4096 → last_byte (slice_index (full (page_at qs k)) i) rest (4096 * (n + k) + i) ≡ last_byte (slice_index (full (page_at ps k)) i) ss (4096 * (n + k) + i)
 
-pub left_begun : (n : ℕ) (ps : List (List ℕ)) (ss : List Store) → Left n ps ps ss ss
+pub left_begun : (n : ℕ) (ps : List Page) (ss : List Store) → Left n ps ps ss ss
 left_begun n ps ss = record { count = refl; ready = refl; bytes = λ k i low less. refl }
 
-pub left_past : (n : ℕ) (ps qs rs : List (List ℕ)) (ss now rest : List Store) → ShardWritten n now qs rs → Left n ps qs ss (now ++ rest) → Left n ps rs ss rest
+pub left_past : (n : ℕ) (ps qs rs : List Page) (ss now rest : List Store) → ShardWritten n now qs rs → Left n ps qs ss (now ++ rest) → Left n ps rs ss rest
 left_past n ps qs rs ss now rest w k = record {
   count = w.count ∙ k.count;
   ready = w.ready ∙ k.ready;
@@ -179,25 +179,25 @@ left_past n ps qs rs ss now rest w k = record {
       ∙ k.bytes j i low less;
 }
 
-pub left_over : (n : ℕ) (ps qs : List (List ℕ)) (ss rest : List Store) → rest ≡ [] → Left n ps qs ss rest → ShardWritten n ss ps qs
+pub left_over : (n : ℕ) (ps qs : List Page) (ss rest : List Store) → rest ≡ [] → Left n ps qs ss rest → ShardWritten n ss ps qs
 left_over n ps qs ss rest none k = record {
   count = k.count;
   ready = k.ready;
   bytes = λ j i low less. ap (λ (ts : List Store). last_byte (slice_index (full (page_at qs j)) i) ts (4096 * (n + j) + i)) (sym none) ∙ k.bytes j i low less;
 }
 
-pub left_same : (n : ℕ) (ps qs : List (List ℕ)) (ss rest ts : List Store) → rest ≡ ts → Left n ps qs ss rest → Left n ps qs ss ts
+pub left_same : (n : ℕ) (ps qs : List Page) (ss rest ts : List Store) → rest ≡ ts → Left n ps qs ss rest → Left n ps qs ss ts
 left_same n ps qs ss rest ts e k = subst (λ (us : List Store). Left n ps qs ss us) e k
 
 -- pages that are as ready as they were
-pub shard_still_ready : (n : ℕ) (ps qs : List (List ℕ)) (es : List (ℕ × ℕ)) → map is_ready qs ≡ map is_ready ps → length qs ≡ length ps → IsShardReady n ps es → IsShardReady n qs es
+pub shard_still_ready : (n : ℕ) (ps qs : List Page) (es : List (ℕ × ℕ)) → map is_ready qs ≡ map is_ready ps → length qs ≡ length ps → IsShardReady n ps es → IsShardReady n qs es
 shard_still_ready n ps qs es same count h = λ k d low from to.
     let i : ℕ = (get_or es k d).0 / 4096 - n in
     let inside : i < length ps = omega (arith, count) in
     ready_at qs ps i same inside count ∙ h k d low from (omega (arith, count))
 
 -- all of guest memory as one shard
-pub whole_memory : (ps qs : List (List ℕ)) (ss : List Store) → ShardWritten 0 ss ps qs → flat qs ≡ after (flat ps) ss
+pub whole_memory : (ps qs : List Page) (ss : List Store) → ShardWritten 0 ss ps qs → flat qs ≡ after (flat ps) ss
 whole_memory ps qs ss w =
     ext_get_or 0 (flat qs) (after (flat ps) ss) (length-flat qs ∙ ap (λ (n : ℕ). 4096 * n) w.count ∙ sym (length-flat ps) ∙ sym (length-after (flat ps) ss))
     (λ x h.
@@ -217,12 +217,12 @@ whole_memory ps qs ss w =
     ∙ sym (byte_after (flat ps) x ss inside))
 
 -- each byte is on a page that is ready
-pub shard_of_memory : (ps : List (List ℕ)) (p : Paged) (es : List (ℕ × ℕ)) → map is_ready ps ≡ p.ready → All (λ (e : ℕ × ℕ). is_page_ready p (e.0 / 4096) ≡ true) es → IsShardReady 0 ps es
+pub shard_of_memory : (ps : List Page) (p : Paged) (es : List (ℕ × ℕ)) → map is_ready ps ≡ p.ready → All (λ (e : ℕ × ℕ). is_page_ready p (e.0 / 4096) ≡ true) es → IsShardReady 0 ps es
 shard_of_memory ps p es e h = λ k d low from to.
     let x : ℕ = (get_or es k d).0 / 4096 in
     let low' : x < length ps = omega arith in
     let z : x - 0 ≡ x = omega arith in
-    ap (λ (i : ℕ). is_ready (page_at ps i)) z ∙ sym (get_or-map is_ready ps x [] false low') ∙ ap (λ (bs : List Bool). get_or bs x false) e ∙ h k d low
+    ap (λ (i : ℕ). is_ready (page_at ps i)) z ∙ sym (get_or-map is_ready ps x absent false low') ∙ ap (λ (bs : List Bool). get_or bs x false) e ∙ h k d low
 
 laid_all : {X : Type 0} (xs ys : List X) → length ys ≡ length xs → laid xs ys ≡ ys
 laid_all xs ys e =
@@ -237,50 +237,50 @@ laid_all xs ys e =
     drop_past (suc n) (x ∷ xs) h = drop_past n xs (omega arith)
 
 -- the pages that were lent come back
-pub memory_back : (p : Paged) (ps qs : List (List ℕ)) (ss : List Store) → flat ps ≡ p.memory.bytes → ShardWritten 0 ss ps qs → laid p.memory.bytes (flat qs) ≡ after p.memory.bytes ss
+pub memory_back : (p : Paged) (ps qs : List Page) (ss : List Store) → flat ps ≡ p.memory.bytes → ShardWritten 0 ss ps qs → laid p.memory.bytes (flat qs) ≡ after p.memory.bytes ss
 memory_back p ps qs ss e w =
     laid_all p.memory.bytes (flat qs) (length-flat qs ∙ ap (λ (n : ℕ). 4096 * n) w.count ∙ sym (length-flat ps) ∙ ap length e)
     ∙ whole_memory ps qs ss w ∙ ap (λ (bs : List ℕ). after bs ss) e
 
-pub ready_back : (p : Paged) (ps qs : List (List ℕ)) (ss : List Store) → map is_ready ps ≡ p.ready → ShardWritten 0 ss ps qs → laid p.ready (map is_ready qs) ≡ p.ready
+pub ready_back : (p : Paged) (ps qs : List Page) (ss : List Store) → map is_ready ps ≡ p.ready → ShardWritten 0 ss ps qs → laid p.ready (map is_ready qs) ≡ p.ready
 ready_back p ps qs ss e w =
     laid_all p.ready (map is_ready qs) (ap length (w.ready ∙ e)) ∙ w.ready ∙ e
 
 -- ---- shards as chunks of the pages
 
 -- the pages of a chunk are those of the whole
-pub chunk_ready : (ps qs : List (List ℕ)) (size start : ℕ) (es : List (ℕ × ℕ)) → IsChunk ps size start qs → IsShardReady 0 ps es → IsShardReady start qs es
+pub chunk_ready : (ps qs : List Page) (size start : ℕ) (es : List (ℕ × ℕ)) → IsChunk ps size start qs → IsShardReady 0 ps es → IsShardReady start qs es
 chunk_ready ps qs size start es c h = λ k d low from to.
     let x : ℕ = (get_or es k d).0 / 4096 in
     let inside : x - start < length qs = omega arith in
     let at : start + (x - start) ≡ x - 0 = omega arith in
-    ap is_ready (c.elements (x - start) [] inside) ∙ ap (λ (i : ℕ). is_ready (page_at ps i)) at ∙ h k d low (omega arith) (omega (arith, c.in_bounds))
+    ap is_ready (c.elements (x - start) absent inside) ∙ ap (λ (i : ℕ). is_ready (page_at ps i)) at ∙ h k d low (omega arith) (omega (arith, c.in_bounds))
 
 -- a page in a chunk, which was written as a shard
-pub record InShard (ps qs : List (List ℕ)) (ss : List Store) (k : ℕ) : Type 0 where
+pub record InShard (ps qs : List Page) (ss : List Store) (k : ℕ) : Type 0 where
   pub start : ℕ
   pub offset : ℕ
-  pub before : List (List ℕ)
-  pub behind : List (List ℕ)
+  pub before : List Page
+  pub behind : List Page
   pub at : start + offset ≡ k
   pub inside : offset < length before
-  pub old : get_or before offset [] ≡ get_or ps k []
-  pub new : get_or behind offset [] ≡ get_or qs k []
+  pub old : get_or before offset absent ≡ get_or ps k absent
+  pub new : get_or behind offset absent ≡ get_or qs k absent
   pub written : ShardWritten start ss before behind
 
-pub by_chunks : (ps qs : List (List ℕ)) (ss : List Store) → length qs ≡ length ps → ((k : ℕ) → k < length ps → InShard ps qs ss k) → ShardWritten 0 ss ps qs
+pub by_chunks : (ps qs : List Page) (ss : List Store) → length qs ≡ length ps → ((k : ℕ) → k < length ps → InShard ps qs ss k) → ShardWritten 0 ss ps qs
 by_chunks ps qs ss count each = record {
   count = count;
   ready = ext_get_or false (map is_ready qs) (map is_ready ps) (length-map qs is_ready ∙ count ∙ sym (length-map ps is_ready)) (λ k h.
       let low : k < length ps = omega (arith, length-map qs is_ready, count) in
       let low' : k < length qs = omega (arith, low, count) in
       let s = each k low in
-      get_or-map is_ready qs k [] false low' ∙ ap is_ready (sym s.new) ∙ ready_at s.behind s.before s.offset s.written.ready s.inside s.written.count ∙ ap is_ready s.old ∙ sym (get_or-map is_ready ps k [] false low));
+      get_or-map is_ready qs k absent false low' ∙ ap is_ready (sym s.new) ∙ ready_at s.behind s.before s.offset s.written.ready s.inside s.written.count ∙ ap is_ready s.old ∙ sym (get_or-map is_ready ps k absent false low));
   bytes = λ k i low less.
       let s = each k low in
       let place : 4096 * (s.start + s.offset) + i ≡ 4096 * (0 + k) + i = omega (arith, s.at) in
-      ap (λ (p : List ℕ). slice_index (full p) i) (sym s.new) ∙ s.written.bytes s.offset i s.inside less
-      ∙ ap (λ (p : List ℕ). last_byte (slice_index (full p) i) ss (4096 * (s.start + s.offset) + i)) s.old
+      ap (λ (p : Page). slice_index (full p) i) (sym s.new) ∙ s.written.bytes s.offset i s.inside less
+      ∙ ap (λ (p : Page). last_byte (slice_index (full p) i) ss (4096 * (s.start + s.offset) + i)) s.old
       ∙ ap (λ (x : ℕ). last_byte (slice_index (full (page_at ps k)) i) ss x) place;
 }
 

@@ -2,7 +2,7 @@
 use Rattle.std.proofs.Common.{◌≡◌, ℕ, true, List, [], ◌∷◌, ◌++◌, refl, sym, ap, ◌∙◌, All, subst}
 use Rattle.std.proofs.lemmas.List.{map-append}
 use Rattle.std.proofs.lemmas.List.Elements.{All-cons, All-head, All-nil, All-tail, All-weaker}
-use Rattle.pages.specs.Flat.{full, is_ready}
+use Rattle.pages.specs.Flat.{Page, full, is_ready}
 use Rattle.pages.specs.Memory.{after}
 use Rattle.pages.specs.StoreLaws.{after-append}
 use Rattle.store_buffer.specs.Covered.{one_byte, stores_of}
@@ -17,21 +17,21 @@ All-after P [] ts h = h
 All-after P (s ∷ ss) ts h = All-after P ss ts (All-tail P s (ss ++ ts) h)
 
 -- the rest of the bytes will leave of the page now what all of them leave of the old one, and may be written
-pub record Writing (p q : List ℕ) (es rest : List (ℕ × ℕ)) : Type 0 where
+pub record Writing (p q : Page) (es rest : List (ℕ × ℕ)) : Type 0 where
   pub bytes : after (full q) (stores_of rest) ≡ after (full p) (stores_of es)
   pub ready : is_ready q ≡ is_ready p
   pub may : Writable p rest
 
-pub writing_begun : (p : List ℕ) (es rest : List (ℕ × ℕ)) → es ≡ rest → Writable p es → Writing p p es rest
+pub writing_begun : (p : Page) (es rest : List (ℕ × ℕ)) → es ≡ rest → Writable p es → Writing p p es rest
 writing_begun p es rest e w = subst (λ (fs : List (ℕ × ℕ)). Writing p p es fs) e (record { bytes = refl; ready = refl; may = w })
 
 -- the next bytes may be written
-pub writable_next : (p q : List ℕ) (es now more : List (ℕ × ℕ)) → Writing p q es (now ++ more) → Writable q now
+pub writable_next : (p q : Page) (es now more : List (ℕ × ℕ)) → Writing p q es (now ++ more) → Writable q now
 writable_next p q es now more k =
     All-weaker (λ (e : ℕ × ℕ). is_ready p ≡ true) (λ (e : ℕ × ℕ). is_ready q ≡ true) (λ e f. k.ready ∙ f) now (All-before (λ (e : ℕ × ℕ). is_ready p ≡ true) now more k.may)
 
 -- they are written, and the others are left
-pub writing_past : (p q r : List ℕ) (es now more : List (ℕ × ℕ)) → Written now q r → Writing p q es (now ++ more) → Writing p r es more
+pub writing_past : (p q r : Page) (es now more : List (ℕ × ℕ)) → Written now q r → Writing p q es (now ++ more) → Writing p r es more
 writing_past p q r es now more w k =
     let parts : stores_of (now ++ more) ≡ stores_of now ++ stores_of more = map-append one_byte now more in
     record {
@@ -41,10 +41,10 @@ writing_past p q r es now more w k =
     }
 
 -- nothing is left
-pub writing_over : (p q : List ℕ) (es rest : List (ℕ × ℕ)) → rest ≡ [] → Writing p q es rest → Written es p q
+pub writing_over : (p q : Page) (es rest : List (ℕ × ℕ)) → rest ≡ [] → Writing p q es rest → Written es p q
 writing_over p q es rest none k =
     record { bytes = ap (λ (fs : List (ℕ × ℕ)). after (full q) (stores_of fs)) (sym none) ∙ k.bytes; ready = k.ready }
 
 -- the same rest in other words
-pub writing_same : (p q : List ℕ) (es rest fs : List (ℕ × ℕ)) → rest ≡ fs → Writing p q es rest → Writing p q es fs
+pub writing_same : (p q : Page) (es rest fs : List (ℕ × ℕ)) → rest ≡ fs → Writing p q es rest → Writing p q es fs
 writing_same p q es rest fs e k = subst (λ (gs : List (ℕ × ℕ)). Writing p q es gs) e k

@@ -112,6 +112,7 @@ fn shared_pages(rt: HostRuntime) -> Result<(), Fail> {
     );
     assert!(rt; copy.page(0).is_none());
     // A store in one leaves the other as it was.
+    assert_eq!(rt; p.count(), 4);
     p.prepare(rt.alloc(), &[1], 0)?;
     assert!(rt; p.ready(1) && !copy.ready(1));
     let s = Store {
@@ -119,7 +120,7 @@ fn shared_pages(rt: HostRuntime) -> Result<(), Fail> {
         width: Width::W2,
         value: 0xabcd,
     };
-    p.apply(s);
+    assert!(rt; store(rt.alloc(), &mut p, s)?);
     assert!(rt; p.read(0x1000, Width::W8) == Ok(0x0807_0605_abcd_0201));
     assert!(rt; copy.read(0x1000, Width::W8) == Ok(0x0807_0605_0403_0201));
     // A copy of the copy shares the same bytes, and so does one that `copy` makes.

@@ -1,5 +1,5 @@
-use Rattle.std.proofs.Common.{◌≡◌, [], ◌∷◌, ◌∙◌, ◌+◌, ◌-◌, ◌%◌, ◌/◌, ◌^◌, ◌<◌, ℕ, List, All, ap, sym, subst, refl, arith, inl, inr, length, true}
-use Rattle.pages.specs.Flat.{is_ready}
+use Rattle.std.proofs.Common.{◌≡◌, ◌∷◌, ◌∙◌, ◌+◌, ◌-◌, ◌%◌, ◌/◌, ◌^◌, ◌<◌, ℕ, List, All, ap, sym, subst, refl, arith, inl, inr, length, true}
+use Rattle.pages.specs.Flat.{Page, absent, is_ready}
 use Rattle.commit_phase.specs.Writing.{Written}
 use Rattle.std.proofs.lemmas.List.{get_or_default}
 use Rattle.std.proofs.lemmas.List.Elements.{All-head, All-tail}
@@ -52,7 +52,7 @@ write_line-requires-clause-ready c =
     let k : ℕ = c.in-Some.start / 4096 - c.args.first in
     let page : c.args.first + k ≡ c.in-Some.start / 4096 = omega (arith, c.if-page-first.false) in
     let low : k < length c.args.parts.now = omega (arith, c.if-page-first.false, c.if-page-end.false) in
-    subst (λ (p : List ℕ). All (λ (e : ℕ × ℕ). is_ready p ≡ true) (whole_line (c.in-Some.start % 4096) c.in-Some.line.now)) (get_or_default c.loop-start.parts k [] c.index-parts-page.result (omega (arith, low, c.loop-start.invariant.sharding.count)))
+    subst (λ (p : Page). All (λ (e : ℕ × ℕ). is_ready p ≡ true) (whole_line (c.in-Some.start % 4096) c.in-Some.line.now)) (get_or_default c.loop-start.parts k absent c.index-parts-page.result (omega (arith, low, c.loop-start.invariant.sharding.count)))
     (line_writable c.args.first c.args.parts.now c.loop-start.parts c.args.buffer.now (lent_bytes c.next.new.self) c.in-Some.start k (c.in-Some.start % 4096) c.in-Some.line.now page low
     (All-head IsLine (c.in-Some.start, c.in-Some.line.now) c.next.new.self all).0
     (sharding_same c.args.first c.args.parts.now c.loop-start.parts c.args.buffer.now _ _ next c.loop-start.invariant.sharding))
@@ -67,7 +67,7 @@ loop-start-preserved c =
     record {
       sharding = sharding_takes c.args.first c.args.parts.now c.loop-start.parts c.args.buffer.now (lent_bytes c.next.new.self) c.in-Some.start k (c.in-Some.start % 4096) c.in-Some.line.now c.write_line.new.part page low refl
           (All-head IsLine (c.in-Some.start, c.in-Some.line.now) c.next.new.self all).0
-          (subst (λ (p : List ℕ). Written (whole_line (c.in-Some.start % 4096) c.in-Some.line.now) p c.write_line.new.part) (sym (get_or_default c.loop-start.parts k [] c.index-parts-page.result (omega (arith, low, c.loop-start.invariant.sharding.count)))) c.write_line.ensures)
+          (subst (λ (p : Page). Written (whole_line (c.in-Some.start % 4096) c.in-Some.line.now) p c.write_line.new.part) (sym (get_or_default c.loop-start.parts k absent c.index-parts-page.result (omega (arith, low, c.loop-start.invariant.sharding.count)))) c.write_line.ensures)
           (sharding_same c.args.first c.args.parts.now c.loop-start.parts c.args.buffer.now _ _ next c.loop-start.invariant.sharding);
       aligned = All-tail IsLine (c.in-Some.start, c.in-Some.line.now) c.next.new.self all;
     }
