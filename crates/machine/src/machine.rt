@@ -1,5 +1,4 @@
 ghost use Rattle.std.specs.Prelude.{◌≡◌, ℕ, ◌<◌, ◌≤◌, All, length, slice_index, Some, None, true, IfOk, IfErr};
-ghost use Rattle.pages.specs.Memory.{IsBytes};
 ghost use Rattle.host_io.specs.declared.error.RunError.TheVariants as refusals;
 ghost use Rattle.memory_order.specs.Traced.{opening_at};
 ghost use Rattle.hart_step.specs.Stops.{has_stop};
@@ -93,12 +92,5 @@ impl Machine {
     {
         let Machine { trace, .. } = self;
         trace
-    }
-
-    /// Each byte of memory is a byte.
-    pub(crate) fn bytes_fit(&self)
-        ensures { IsBytes self.now.state.bytes }
-    {
-        self.bare.bytes_fit();
     }
 }

@@ -48,7 +48,6 @@ pub fn trace_run<O: Observer, R: Threads + Wait + Sync>(
     ensures plan { (cause : PlanCause) → settings_fault settings.now ≡ None → IsImage settings.now image.now → IsPlanCause settings.now cause → RefusedAs (refusals.Plan cause) result }
 {
     let mut machine = prepare(alloc, image, input, settings)?;
-    machine.bytes_fit();
     machine.run_observed(rt, settings.rounds, settings.workers, observer)?;
     Ok(machine.into_trace())
 }

@@ -1,4 +1,4 @@
-use Rattle.std.proofs.Common.{rules, inl, ◌≡◌, ◌∙◌, ◌++◌, Bool, Err, List, ℕ, Ok, OnErr, Result, ap, inr, subst}
+use Rattle.std.proofs.Common.{rules, ◌∙◌, ◌++◌, Bool, Err, List, ℕ, Ok, OnErr, Result, ap, inr, subst}
 use Rattle.host_io.specs.declared.error.RunError.{RunError}
 use Rattle.host_io.specs.Taken.{BeganText}
 use Rattle.report.specs.Report.{report_of}

@@ -1,4 +1,4 @@
-use Rattle.std.proofs.Common.{◌≡◌, ◌∙◌, Bool, Err, Ok, OnErr, Result, ap, inr}
+use Rattle.std.proofs.Common.{◌∙◌, Bool, Err, Ok, OnErr, Result, ap, inr}
 use Rattle.host_io.specs.declared.error.RunError.{RunError}
 use Rattle.machine.specs.Showing.{all_end_well}
 use Rattle.machine.proofs.showing.show_run.Goals as goal
