@@ -2,6 +2,7 @@
 use Rattle.std.specs.Prelude.{◌≡◌, ◌⊎◌, ℕ, ◌+◌, ◌*◌, ◌-◌, ◌^◌, ◌<◌, ◌≤◌, ◌==◌, ◌&&◌, ◌||◌, length, nat_lt, if◌then◌else◌, Bool, false, List, [], ◌∷◌, ◌++◌, map, take, drop, Option, Some, None}
 use Rattle.std.specs.List.{list_all, list_any}
 use Rattle.elf_loader.specs.Causes.{IsLeast as IsLeastOfImage}
+use Rattle.elf_loader.specs.Image.{Loaded}
 use Rattle.elf_loader.specs.declared.load_error.LoadError.{LoadError as ImageCause}
 use Rattle.hart_step.specs.declared.hart.Hart.{Hart}
 use Rattle.hart_step.specs.declared.hart.Stop.{Stop}
@@ -79,9 +80,13 @@ ended_of ranges m = ended (map (λ (h : Hart). h.stop) m.state.harts) m.state.co
 abbrev pub family_of : HuntSettings → Family
 family_of s = record { seed = s.header.seed; harts = s.harts }
 
--- the ending of the run under a plan, from a file and an input
+-- the ending of the run under a plan, from an image and an input
+unfoldable pub ends_from : HuntSettings → Loaded → List ℕ → Planned → Ended
+ends_from s image input p = ended_of s.header.ranges.items (after_rounds s.rounds (opening image input p))
+
+-- the same from a file
 unfoldable pub ends_under : HuntSettings → List ℕ → List ℕ → Planned → Ended
-ends_under s file input p = ended_of s.header.ranges.items (after_rounds s.rounds (opening (image_of s.format file s.pages) input p))
+ends_under s file input = ends_from s (image_of s.format file s.pages) input
 
 -- the ending of the run under plan n of the family
 unfoldable pub ends_after : HuntSettings → List ℕ → List ℕ → ℕ → Ended

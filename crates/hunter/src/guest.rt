@@ -1,15 +1,17 @@
-ghost use Rattle.std.specs.Prelude.{◌≡◌, ◌+◌, ◌≤◌, ◌<◌, ◌^◌, ◌++◌, IfOk, Ok, OnOk, drop, map, take};
+ghost use Rattle.std.specs.Prelude.{◌≡◌, ◌⊎◌, ◌+◌, ◌≤◌, ◌<◌, ◌^◌, ◌++◌, Err, IfErr, IfOk, Ok, OnOk, drop, map, take};
+ghost use Rattle.elf_loader.specs.declared.load_error.LoadError.{LoadError as ImageCause};
+ghost use Rattle.host_io.specs.declared.error.RunError.TheVariants as refusals;
 ghost use Rattle.machine.specs.Machine.{Running, opening};
 ghost use Rattle.machine.specs.Settings.{image_of};
 ghost use Rattle.machine.specs.Untraced.{IsUntraced};
-ghost use Rattle.hunter.specs.Hunts.{IsGuest, ended_of, family_of, seen_of};
+ghost use Rattle.hunter.specs.Hunts.{IsGuest, IsImageCause, ended_of, family_of, seen_of};
 
 use crate::settings::HuntSettings;
 use elf_loader::Image;
 use hart_step::{Hart, Stop};
 use host_io::RunError;
 use hunt_table::SeenRange;
-use machine::UntracedMachine;
+use machine::{UntracedMachine, load};
 use pages::OutOfMemory;
 use plan_family::Family;
 use plan_hunt::{Ending, Runs};
@@ -24,28 +26,26 @@ use std::thread::Threads;
 pub(crate) struct Guest<'a> {
     pub alloc: Global,
     pub settings: &'a HuntSettings,
-    pub file: &'a [u8],
     pub input: &'a [u8],
-    pub image: &'a Image,
+    pub image: Image,
     ghost range: { IsGuest settings.now },
-    ghost loaded: { image.now ≡ image_of settings.now.format file.now settings.now.pages },
 }
 
 impl Runs for Guest<'_> {
-    ghost use Rattle.hunter.specs.Hunts.{ends_after};
+    ghost use Rattle.plan_family.specs.Families.{family_plan};
+    ghost use Rattle.hunter.specs.Hunts.{ends_from, family_of};
 
-    ghost ends = { λ g. ends_after g.settings.now g.file.now g.input.now };
+    ghost ends = { λ g n. ends_from g.settings.now g.image g.input.now (family_plan (family_of g.settings.now) n) };
 
-    #[tactic(auto, unfolding(crate::specs::Hunts::ends_after))]
     fn run<R: Threads + Wait + Sync>(&self, rt: &R, number: u32) -> Result<Ending, OutOfMemory> {
         self.run_under(rt, self.family().plan(self.alloc, number)?)
     }
 }
 
 impl PlanRuns for Guest<'_> {
-    ghost use Rattle.hunter.specs.Hunts.{ends_under};
+    ghost use Rattle.hunter.specs.Hunts.{ends_from};
 
-    ghost ends = { λ g. ends_under g.settings.now g.file.now g.input.now };
+    ghost ends = { λ g. ends_from g.settings.now g.image g.input.now };
 
     fn run_under<R: Threads + Wait + Sync>(
         &self,
@@ -58,7 +58,34 @@ impl PlanRuns for Guest<'_> {
     }
 }
 
-impl Guest<'_> {
+impl<'a> Guest<'a> {
+    /// The guest of a file, which is loaded once.
+    ///
+    /// # Errors
+    ///
+    /// The refusals of the image; `OutOfMemory`.
+    pub(crate) fn load(
+        alloc: Global,
+        file: &[u8],
+        input: &'a [u8],
+        settings: &'a HuntSettings,
+    ) -> Result<Guest<'a>, RunError>
+        requires range { IsGuest settings.now }
+        ensures image { IfOk result (λ g. g.image ≡ image_of settings.now.format file.now settings.now.pages) }
+        ensures input { IfOk result (λ g. g.input.now ≡ input.now) }
+        ensures settings { IfOk result (λ g. g.settings.now ≡ settings.now) }
+        ensures errors { IfErr result (λ e. (e ≡ refusals.OutOfMemory) ⊎ ((cause : ImageCause) × IsImageCause settings.now file.now cause × (e ≡ refusals.Image cause))) }
+        ensures refused { (cause : ImageCause) → IsImageCause settings.now file.now cause → (result ≡ Err (refusals.Image cause)) ⊎ (result ≡ Err refusals.OutOfMemory) }
+    {
+        let image = load(alloc, settings.format, file, settings.pages)?;
+        Ok(Guest {
+            alloc,
+            settings,
+            input,
+            image,
+        })
+    }
+
     /// The family of its plans.
     pub(crate) fn family(&self) -> Family
         ensures { result ≡ family_of self.now.settings.now }
@@ -71,12 +98,12 @@ impl Guest<'_> {
 
     /// The machine before the first round under a plan.
     fn opening(&self, plan: Plan) -> Result<UntracedMachine, OutOfMemory>
-        ensures { IfOk result (λ u. IsUntraced (opening (image_of self.now.settings.now.format self.now.file.now self.now.settings.now.pages) self.now.input.now plan) u) }
+        ensures { IfOk result (λ u. IsUntraced (opening self.now.image self.now.input.now plan) u) }
     {
         let Ok(input) = Vec::from_slice(self.alloc, self.input) else {
             return Err(OutOfMemory);
         };
-        refused(UntracedMachine::open(self.alloc, self.image, input, plan))
+        refused(UntracedMachine::open(self.alloc, &self.image, input, plan))
     }
 }
 

@@ -15,7 +15,6 @@ use crate::settings::{HuntSettings, check_hunt};
 use hart_step::Stop;
 use host_io::Sink;
 use hunt_table::write_table;
-use machine::load;
 use plan_hunt::{HuntObserver, Row, tabulate};
 use std::alloc::Global;
 use std::sync::Wait;
@@ -41,14 +40,7 @@ pub fn tabulate_hunt<O: HuntObserver, R: Threads + Wait + Sync>(
     ensures image { (cause : ImageCause) → hunt_fault settings.now ≡ None → IsImageCause settings.now image.now cause → (result ≡ Err (Run (refusals.Image cause))) ⊎ (result ≡ Err (Run refusals.OutOfMemory)) }
 {
     check_hunt(settings)?;
-    let loaded = load(alloc, settings.format, image, settings.pages)?;
-    let guest = Guest {
-        alloc,
-        settings,
-        file: image,
-        input,
-        image: &loaded,
-    };
+    let guest = Guest::load(alloc, image, input, settings)?;
     Ok(tabulate(
         rt,
         alloc,

@@ -3,14 +3,13 @@ ghost use Rattle.elf_loader.specs.declared.load_error.LoadError.{LoadError as Im
 ghost use Rattle.host_io.specs.declared.error.RunError.TheVariants as refusals;
 ghost use Rattle.plan_family.specs.Families.{family_plan};
 ghost use Rattle.plan_shrink.specs.Steps.{IsShrunk};
-ghost use Rattle.hunter.specs.Hunts.{IsHuntReason, IsImageCause, ends_under, family_of, shrink_fault};
+ghost use Rattle.hunter.specs.Hunts.{IsHuntReason, IsImageCause, ends_from, ends_under, family_of, shrink_fault};
 ghost use Rattle.hunter.specs.declared.error.HuntError.{HuntError as Refusal};
 ghost use Rattle.hunter.specs.declared.error.HuntError.TheVariants.{Run};
 
 use crate::error::HuntError;
 use crate::guest::Guest;
 use crate::settings::{HuntSettings, check_shrink};
-use machine::load;
 use pages::OutOfMemory;
 use plan_family::serial_budget;
 use plan_shrink::ShrinkObserver;
@@ -45,14 +44,7 @@ pub fn shrink<O: ShrinkObserver, R: Threads + Wait + Sync>(
     ensures image { (cause : ImageCause) → shrink_fault settings.now ≡ None → IsImageCause settings.now image.now cause → (result ≡ Err (Run (refusals.Image cause))) ⊎ (result ≡ Err (Run refusals.OutOfMemory)) }
 {
     check_shrink(settings)?;
-    let loaded = load(alloc, settings.format, image, settings.pages)?;
-    let guest = Guest {
-        alloc,
-        settings,
-        file: image,
-        input,
-        image: &loaded,
-    };
+    let guest = Guest::load(alloc, image, input, settings)?;
     Ok(shrunk(rt, &guest, number, observer)?)
 }
 
@@ -63,7 +55,7 @@ fn shrunk<O: ShrinkObserver, R: Threads + Wait + Sync>(
     number: u32,
     observer: &mut O,
 ) -> Result<Plan, OutOfMemory>
-    ensures { IfOk result (λ p. IsShrunk (ends_under guest.now.settings.now guest.now.file.now guest.now.input.now) (family_plan (family_of guest.now.settings.now) number) p) }
+    ensures { IfOk result (λ p. IsShrunk (ends_from guest.now.settings.now guest.now.image guest.now.input.now) (family_plan (family_of guest.now.settings.now) number) p) }
 {
     let family = guest.family();
     let rows = family.rows_of(guest.alloc, number)?;
