@@ -41,13 +41,37 @@ impl Machine {
         ensures exhausted { 1 ≤ workers → workers ≤ 16 → self.state.rounds + 1 ≡ 2 ^ 32 → result ≡ Err refusals.RoundsExhausted }
         ensures refused { 1 ≤ workers → workers ≤ 16 → self.state.rounds + 1 < 2 ^ 32 → IfErr result (λ e. e ≡ refusals.OutOfMemory) }
     {
+        let Machine { bare, .. } = self;
+        bare.hart_after(rt, hart, count, workers)
+    }
+}
+
+impl UntracedMachine {
+    /// What `hart_after` of `Machine` gives of the run of which this is the machine without its trace. It may wait.
+    ///
+    /// # Errors
+    ///
+    /// `WorkersOutOfRange`, `RoundsExhausted` where 4,294,967,295 rounds were done before, and `OutOfMemory`.
+    pub fn hart_after<R: Threads + Wait + Sync>(
+        self,
+        rt: &R,
+        hart: u32,
+        count: u64,
+        workers: u32,
+    ) -> Result<Option<Hart>, RunError>
+        requires run { (m : Running) × IsUntraced m self }
+        ensures hart { (m : Running) → IsUntraced m self → IfOk result (λ h. h ≡ hart_after (words_of m.code) m.plan.budget (quotas_of m.plan) m.state hart count) }
+        ensures workers { (workers < 1) ⊎ (16 < workers) → result ≡ Err refusals.WorkersOutOfRange }
+        ensures exhausted { 1 ≤ workers → workers ≤ 16 → self.rounds + 1 ≡ 2 ^ 32 → result ≡ Err refusals.RoundsExhausted }
+        ensures refused { 1 ≤ workers → workers ≤ 16 → self.rounds + 1 < 2 ^ 32 → IfErr result (λ e. e ≡ refusals.OutOfMemory) }
+    {
         if workers < 1 || workers > MOST_WORKERS {
             return Err(RunError::WorkersOutOfRange);
         }
-        if self.bare.rounds() == u32::MAX {
+        if self.rounds() == u32::MAX {
             return Err(RunError::RoundsExhausted);
         }
-        if hart as usize >= self.bare.harts().len() {
+        if hart as usize >= self.harts().len() {
             return Ok(None);
         }
         let crew = Crew {
@@ -56,12 +80,9 @@ impl Machine {
             gate: &Open,
             least_lines: MANY_LINES,
         };
-        let Machine { bare, .. } = self;
-        Ok(bare.ask(&crew, hart, count)?)
+        Ok(self.ask(&crew, hart, count)?)
     }
-}
 
-impl UntracedMachine {
     /// The same of a hart that there is, where there is a next round.
     fn ask<R: Threads + Wait + Sync>(
         self,

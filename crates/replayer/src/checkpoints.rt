@@ -3,8 +3,9 @@ ghost use Rattle.elf_loader.specs.declared.load_error.LoadError.{LoadError as Im
 ghost use Rattle.round_planner.specs.Quotas.{Planned};
 ghost use Rattle.round_planner.specs.declared.plan_error.PlanError.{PlanError as PlanCause};
 ghost use Rattle.host_io.specs.declared.error.RunError.TheVariants as refusals;
-ghost use Rattle.machine.specs.Machine.{after_rounds};
+ghost use Rattle.machine.specs.Machine.{Running, after_rounds};
 ghost use Rattle.machine.specs.Settings.{RefusedAs};
+ghost use Rattle.machine.specs.Untraced.{IsUntraced};
 ghost use Rattle.recording.specs.Grammar.{is_due};
 ghost use Rattle.replayer.specs.Checkpoints.{AreCheckpoints, IsOpened, checkpoints_of, kept_machine};
 ghost use Rattle.replayer.specs.Past.{hart_at};
@@ -18,7 +19,7 @@ use crate::replaying::next_verdict;
 use crate::verdict::Verdict;
 use hart_step::Hart;
 use host_io::RunError;
-use machine::Machine;
+use machine::{Machine, UntracedMachine};
 use recording::Recording;
 use std::alloc::Global;
 use std::marker::Model;
@@ -53,7 +54,8 @@ impl Replay {
     /// the first round and the one after each round that is a multiple of `every`; with 0, the one before the first alone. It
     /// may wait.
     ///
-    /// Each kept machine takes the memory of the pages that are ready then and of the output; most of the trace is shared.
+    /// A kept machine takes the memory of the pages that were written to since the one before it, and of the output; it shares the
+    /// other pages, and most of the trace.
     ///
     /// # Errors
     ///
@@ -72,8 +74,8 @@ impl Replay {
         // A plan is refused where the image is good.
         ensures plan { (cause : PlanCause) → AreWorkers workers → HasImage recording.now → HasPlanCause recording.now cause → RefusedAs (refusals.Plan cause) result }
     {
-        let start = opened(alloc, recording, workers)?;
-        let mut machine = start.copy()?;
+        let mut start = opened(alloc, recording, workers)?;
+        let mut machine = start.share()?;
         let (verdict, later) = run_keeping(rt, alloc, &mut machine, recording, every, workers)?;
         Ok(Replay {
             rounds: recording.rounds(),
@@ -138,16 +140,16 @@ impl Replay {
         hart_in_round(rt, machine, left, hart, count, workers)
     }
 
-    /// A copy of the last kept machine that did at most so many rounds, and how many of them are left to do.
-    fn going_on_to(&self, rounds: u32) -> Result<(Machine, u32), RunError>
+    /// A copy of the last kept machine that did at most so many rounds, without its trace, and how many of them are left to do.
+    fn going_on_to(&self, rounds: u32) -> Result<(UntracedMachine, u32), RunError>
         requires { rounds < self.now.rounds }
-        ensures machine { IfOk result (λ x. after_rounds x.1 x.0 ≡ after_rounds rounds self.now.start) }
-        ensures rounds { IfOk result (λ x. x.0.state.rounds + x.1 ≡ rounds) }
+        ensures machine { IfOk result (λ x. (m : Running) × IsUntraced m x.0 × (after_rounds x.1 m ≡ after_rounds rounds self.now.start)) }
+        ensures rounds { IfOk result (λ x. x.0.rounds + x.1 ≡ rounds) }
         ensures refused { IfErr result (λ e. e ≡ refusals.OutOfMemory) }
     {
         let (number, left) = last_multiple(self.every, rounds);
         match self.kept(number as usize) {
-            Some(machine) => Ok((machine.copy()?, left)),
+            Some(machine) => Ok((machine.copy_untraced()?, left)),
             None => unreachable!(),
         }
     }
@@ -165,8 +167,8 @@ fn last_multiple(every: u32, rounds: u32) -> (u32, u32)
     (rounds / every, rounds % every)
 }
 
-/// Runs a machine that was just opened for the rounds of a recording, whatever it was opened from: the verdict, and copies of
-/// the machine after the rounds that are multiples of `every`. It may wait.
+/// Runs a machine that was just opened for the rounds of a recording, whatever it was opened from: the verdict, and the
+/// machine after each round that is a multiple of `every`. It may wait.
 fn run_keeping<R: Threads + Wait + Sync>(
     rt: &R,
     alloc: Global,
@@ -196,20 +198,21 @@ fn run_keeping<R: Threads + Wait + Sync>(
     Ok((verdict, machines))
 }
 
-/// Adds a copy of a machine after a round that is a multiple of `every`.
+/// Adds a machine that is equal to this one, and shares its pages, after a round that is a multiple of `every`.
 fn keep_if_due(
     machines: &mut Vec<Machine>,
-    machine: &Machine,
+    machine: &mut Machine,
     every: u32,
     round: u32,
 ) -> Result<(), RunError>
-    ensures ok { OnOk result (machines.new.items ≡ machines.old.items ++ (if is_due every round then machine.now ∷ [] else [])) }
+    ensures ok { OnOk result (machines.new.items ≡ machines.old.items ++ (if is_due every round then machine.old ∷ [] else [])) }
+    ensures stays { machine.new ≡ machine.old }
     ensures refused { IfErr result (λ e. e ≡ refusals.OutOfMemory) }
 {
     if every == 0 || round % every != 0 {
         return Ok(());
     }
-    match machines.push(machine.copy()?) {
+    match machines.push(machine.share()?) {
         Ok(()) => Ok(()),
         Err(_) => Err(RunError::OutOfMemory),
     }

@@ -5,16 +5,17 @@ ghost use Rattle.round_planner.specs.declared.plan_error.PlanError.{PlanError as
 ghost use Rattle.host_io.specs.declared.error.RunError.TheVariants as refusals;
 ghost use Rattle.round_schedule.specs.Past.{hart_after};
 ghost use Rattle.hart_step.specs.Words.{words_of};
-ghost use Rattle.machine.specs.Machine.{after_rounds};
+ghost use Rattle.machine.specs.Machine.{Running, after_rounds};
 ghost use Rattle.machine.specs.Settings.{RefusedAs};
+ghost use Rattle.machine.specs.Untraced.{IsUntraced};
 ghost use Rattle.replayer.specs.Past.{hart_at};
 ghost use Rattle.replayer.specs.Refusals.{AreNoWorkers, AreWorkers, HasImage, HasImageCause, HasPlanCause, HasReason};
 ghost use Rattle.replayer.specs.Replayed.{IsPlanFor, start_of};
 
-use crate::opened::opened;
+use crate::opened::opened_untraced;
 use hart_step::Hart;
 use host_io::RunError;
-use machine::Machine;
+use machine::UntracedMachine;
 use recording::Recording;
 use std::alloc::Global;
 use std::sync::Wait;
@@ -43,7 +44,7 @@ pub fn state_at<R: Threads + Wait + Sync>(
     // A plan is refused where the image is good.
     ensures plan { (cause : PlanCause) → AreWorkers workers → HasImage recording.now → HasPlanCause recording.now cause → RefusedAs (refusals.Plan cause) result }
 {
-    let machine = opened(alloc, recording, workers)?;
+    let machine = opened_untraced(alloc, recording, workers)?;
     if round == 0 {
         return Ok(None);
     }
@@ -53,18 +54,19 @@ pub fn state_at<R: Threads + Wait + Sync>(
     hart_in_round(rt, machine, round - 1, hart, count, workers)
 }
 
-/// The hart within the round that comes after so many more rounds.
+/// The hart within the round that comes after so many more rounds of a run, of which this is the machine without its trace.
 pub(crate) fn hart_in_round<R: Threads + Wait + Sync>(
     rt: &R,
-    mut machine: Machine,
+    mut machine: UntracedMachine,
     before: u32,
     hart: u32,
     count: u64,
     workers: u32,
 ) -> Result<Option<Hart>, RunError>
     requires workers { (1 ≤ workers) × (workers ≤ 16) }
-    requires rounds { machine.state.rounds + before + 1 < 2 ^ 32 }
-    ensures hart { IfOk result (λ h. h ≡ hart_after (words_of machine.code) machine.plan.budget (quotas_of machine.plan) (after_rounds before machine).state hart count) }
+    requires rounds { machine.rounds + before + 1 < 2 ^ 32 }
+    requires run { (m : Running) × IsUntraced m machine }
+    ensures hart { (m : Running) → IsUntraced m machine → IfOk result (λ h. h ≡ hart_after (words_of m.code) m.plan.budget (quotas_of m.plan) (after_rounds before m).state hart count) }
     ensures refused { IfErr result (λ e. e ≡ refusals.OutOfMemory) }
 {
     machine.run(rt, before, workers)?;

@@ -2,7 +2,7 @@
 use crate::harness::{RESERVED, settings};
 use hart_step::Hart;
 use host_io::RunError;
-use machine::{Unobserved, prepare_untraced};
+use machine::{Unobserved, prepare, prepare_untraced};
 use pages::Range;
 use replayer::{
     Recording, Replay, Verdict, count_at, record, state_at, state_before, watch_rounds,
@@ -169,5 +169,26 @@ fn a_copy_goes_on_by_itself(rt: HostRuntime) -> Result<(), Fail> {
     assert_eq!(rt; (machine.rounds(), copy.rounds()), (1, 2));
     // The store and the SC of round 2 are events of the copy alone.
     assert_eq!(rt; (machine.events(), copy.events()), (1, 3));
+    Ok(())
+}
+
+#[test]
+fn machines_that_share_their_pages_go_on_by_themselves(rt: HostRuntime) -> Result<(), Fail> {
+    let alloc = rt.alloc();
+    let mut machine = prepare(alloc, &RESERVED, &[], &settings(2, b"3 2\n3 3\n"))?;
+    machine.run(&rt, 1, 1)?;
+    let mut kept = machine.share()?;
+    // In round 2 hart 1 stores 0x100 at 0x100.
+    machine.run(&rt, 1, 1)?;
+    assert_eq!(rt; (machine.byte(0x101), kept.byte(0x101)), (Some(1), Some(0)));
+    assert_eq!(rt; (machine.trace().len(), kept.trace().len()), (3, 1));
+    let bare = kept.copy_untraced()?;
+    assert_eq!(rt;
+        (bare.rounds(), bare.events(), bare.byte(0x101)),
+        (1, 1, Some(0))
+    );
+    kept.run(&rt, 1, 1)?;
+    assert_eq!(rt; (kept.byte(0x101), bare.byte(0x101)), (Some(1), Some(0)));
+    assert_eq!(rt; kept.trace().len(), 3);
     Ok(())
 }

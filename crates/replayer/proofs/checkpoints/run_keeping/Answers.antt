@@ -1,5 +1,5 @@
 use Rattle.std.proofs.Common.{◌≡◌, ◌∙◌, ap, arith, length, slice_get, Some, subst, sym, ℕ, List}
-use Rattle.machine.specs.Machine.{after_rounds}
+use Rattle.machine.specs.Machine.{Running, after_rounds}
 use Rattle.machine.proofs.Repeated.{no_rounds, more_rounds}
 use Rattle.recording.specs.Recorded.{Kept}
 use Rattle.recording.specs.Views.{kept_view}
@@ -27,9 +27,10 @@ loop-place-preserved g c =
     let x : Kept = kept_view c.index-kept-place.result in
     let there = c.in_ok-run.ensures.ok ∙ ap (after_rounds 1) c.loop-place.invariant.0 ∙ more_rounds k 1 c.args.machine.now in
     let at : slice_get ks k ≡ Some x = subst (λ (xs : List Kept). slice_get xs k ≡ Some x) c.kept-kept.ensures.value (placed kept_view c.kept-kept.result.now k c.index-kept-place.result c.loop-place-test.true c.index-kept-place.is) in
+    let stays = c.keep_if_due.ensures.stays in
     let same = seen_is c.every.result c.seen_of-seen.result c.run.new.self.state c.seen_of-seen.ensures.seen ∙ ap (λ (n : ℕ). kept_of n c.run.new.self.state) c.every.ensures in (
-      there,
-      c.in_ok-run.ensures.counted ∙ omega (arith, c.loop-place.invariant.1),
+      stays ∙ there,
+      ap (λ (m : Running). m.state.rounds) stays ∙ c.in_ok-run.ensures.counted ∙ omega (arith, c.loop-place.invariant.1),
       up_to_next ks every c.args.machine.now k (x ≡ kept_in c.every.result c.seen_of-seen.result) c.loop-place.verdict c.next_verdict-verdict.result
           (λ p. one_more ks every c.args.machine.now c.loop-place.machine c.run.new.self k x c.loop-place.invariant.0 c.in_ok-run.ensures.ok at (p ∙ same))
           (λ q. none_more ks every c.args.machine.now c.loop-place.machine c.run.new.self k x c.loop-place.invariant.0 c.in_ok-run.ensures.ok at (λ e. q (e ∙ sym same)))

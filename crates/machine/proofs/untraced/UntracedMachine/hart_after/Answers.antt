@@ -1,0 +1,11 @@
+use Rattle.std.proofs.Common.{length, ap, sym, ◌∙◌, arith}
+use Rattle.round_schedule.specs.Past.{hart_after}
+use Rattle.round_planner.specs.Quotas.{quotas_of}
+use Rattle.hart_step.specs.Words.{words_of}
+use Rattle.machine.specs.Machine.{Running}
+use Rattle.machine.proofs.Asked.{no_hart}
+use Rattle.machine.proofs.untraced.UntracedMachine.hart_after.Goals as goal
+
+pub returns-then-hart-harts-clause-hart : goal.returns-then-hart-harts-clause-hart
+returns-then-hart-harts-clause-hart g c = λ m i.
+    sym (no_hart m.code m.plan.budget (quotas_of m.plan) m.state c.args.hart c.args.count (omega (arith, c.if-hart-harts.true, ap length c.harts.ensures.harts, ap length i.harts)))
