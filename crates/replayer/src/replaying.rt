@@ -43,7 +43,8 @@ pub fn replay<R: Threads + Wait + Sync>(
     replay_observed(rt, alloc, recording, workers, &mut Unobserved)
 }
 
-/// The same with an observer, which looks at the machine after each round.
+/// The same with an observer, which looks at the machine after each round whose state is as it was kept, and so not after the
+/// one at which it ends.
 ///
 /// # Errors
 ///

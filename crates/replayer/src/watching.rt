@@ -59,8 +59,10 @@ pub fn watch<R: Threads + Wait + Sync>(
     )
 }
 
-/// What `watch` gives, of the rounds from `from` to `to` alone, both counted. It runs no further than round `to`. The
-/// observer looks at the machine after each round in which a hart runs. It may wait.
+/// What `watch` gives, of the rounds from `from` to `to` alone, both counted. It runs no further than round `to`. It may wait.
+///
+/// The observer looks at the machine after each round in which a hart runs, and once more after the rounds in which none does,
+/// since those are done at once.
 ///
 /// # Errors
 ///
