@@ -1,0 +1,93 @@
+//! Copies of what lasts from round to round. What is copied stays as it is.
+
+use crate::calls::{Refusal, tried};
+use crate::ending::Ending;
+use crate::guest::{GUEST, ended, settings};
+use crate::loading::is_plan;
+use crate::memory::{has_bytes, pages};
+use crate::stage::Stage;
+use host_io::RunError;
+use machine::prepare_untraced;
+use round_planner::Plan;
+use serial_phase::Console;
+use std::alloc::Global;
+use std::sync::Wait;
+use std::thread::Threads;
+
+/// Copies a machine.
+pub(crate) fn copy_machine<R: Threads + Wait + Sync>(
+    rt: &R,
+    alloc: Global,
+) -> Result<Ending, RunError> {
+    let machine = ended(rt, alloc)?;
+    Ok(tried(
+        || machine.copy(),
+        |copy| Stage::Ended.is_of(&machine) && Stage::Ended.is_of(copy),
+    ))
+}
+
+/// Copies a machine that keeps no trace.
+pub(crate) fn copy_untraced<R: Threads + Wait + Sync>(
+    rt: &R,
+    alloc: Global,
+) -> Result<Ending, RunError> {
+    let mut machine = prepare_untraced(alloc, &GUEST, &[], &settings(1))?;
+    machine.run(rt, 2, 1)?;
+    Ok(tried(
+        || machine.copy(),
+        |copy| Stage::Ended.is_of_untraced(&machine) && Stage::Ended.is_of_untraced(copy),
+    ))
+}
+
+/// Copies a trace.
+pub(crate) fn copy_trace<R: Threads + Wait + Sync>(
+    rt: &R,
+    alloc: Global,
+) -> Result<Ending, RunError> {
+    let trace = ended(rt, alloc)?.into_trace();
+    Ok(tried(
+        || trace.copy(alloc),
+        |copy| Stage::Ended.has_events(&trace) && Stage::Ended.has_events(copy),
+    ))
+}
+
+/// Copies guest memory.
+pub(crate) fn copy_pages(alloc: Global) -> Result<Ending, RunError> {
+    let pages = pages(alloc)?;
+    Ok(tried(
+        || pages.copy(alloc),
+        |copy| has_bytes(&pages) && has_bytes(copy),
+    ))
+}
+
+/// Copies a plan.
+pub(crate) fn copy_plan(alloc: Global) -> Result<Ending, RunError> {
+    let plan = match Plan::parse(alloc, b"3 2\n3 3\n", 2) {
+        Ok(plan) => plan,
+        Err(error) if error.is_of_memory() => return Err(RunError::OutOfMemory),
+        Err(error) => return Err(RunError::Plan(error)),
+    };
+    Ok(tried(|| plan.copy(alloc), |copy| is_plan(&plan) && is_plan(copy)))
+}
+
+/// Copies a console with input, of which a byte was taken, and output.
+pub(crate) fn copy_console(alloc: Global) -> Result<Ending, RunError> {
+    let Ok(input) = Vec::from_slice(alloc, b"in") else {
+        return Err(RunError::OutOfMemory);
+    };
+    let mut console = Console::new(alloc, input);
+    console.reserve(1)?;
+    let _answer = console.put(0x41);
+    let _taken = console.get();
+    Ok(tried(
+        || console.copy(alloc),
+        |copy| is_console(&console) && is_console(copy),
+    ))
+}
+
+/// Whether a console has the input and the output of the trial.
+fn is_console(console: &Console) -> bool {
+    console.input.as_slice() == b"in".as_slice()
+        && console.place == 1
+        && console.output() == b"A".as_slice()
+}

@@ -1,0 +1,92 @@
+//! Makes each public call of the libraries once, and once more where it was refused memory: what has to stand then stands as
+//! it was, and the second call has the whole outcome. A word names the one trial that is made. The script checks/refusals
+//! runs it again and again, with another request refused each time.
+#![tactic(auto)]
+
+mod calls;
+mod copies;
+mod ending;
+mod guest;
+mod loading;
+mod loops;
+mod memory;
+mod orders;
+mod past;
+mod recordings;
+mod rounds;
+mod runs;
+mod stage;
+mod steps;
+mod texts;
+mod trial;
+
+use ending::Ending;
+use host_io::RunError;
+use std::process::ExitCode;
+use std::sync::Wait;
+use std::thread::Threads;
+use std::{env, io};
+use trial::Trial;
+
+fn main(rt: HostRuntime) -> ExitCode {
+    match start(&rt, &rt) {
+        Ok(true) => ExitCode::SUCCESS,
+        // There is nobody left to tell where standard output takes nothing.
+        Ok(false) | Err(_) => ExitCode::FAILURE,
+    }
+}
+
+/// Makes the trial that the first word names, or all where there is none, and answers whether each ended well.
+fn start<R: Threads + Wait + Sync>(rt: &HostRuntime, threads: &R) -> io::Result<bool> {
+    match asked_by(rt) {
+        Ok(Asked::All) => try_all(rt, threads),
+        Ok(Asked::One(trial)) => {
+            let ending = trial.ending(threads, rt.alloc());
+            println!(rt; "{ending}")?;
+            Ok(ending.is_well())
+        }
+        Ok(Asked::Unknown) => Ok(false),
+        Err(error) => {
+            let ending = Ending::before(error);
+            println!(rt; "{ending}")?;
+            Ok(ending.is_well())
+        }
+    }
+}
+
+/// What the program is asked to do.
+#[derive(Clone, Copy, Debug, PartialEq, Eq)]
+enum Asked {
+    /// Each trial in turn.
+    All,
+    /// This one.
+    One(Trial),
+    /// A trial that there isn't.
+    Unknown,
+}
+
+/// What the first word of the command line asks for.
+fn asked_by(rt: &HostRuntime) -> Result<Asked, RunError> {
+    let Ok(mut arguments) = env::args(rt) else {
+        return Err(RunError::OutOfMemory);
+    };
+    let _name = arguments.next();
+    match arguments.next() {
+        Some(word) => Ok(match Trial::named(word.as_str()) {
+            Some(trial) => Asked::One(trial),
+            None => Asked::Unknown,
+        }),
+        None => Ok(Asked::All),
+    }
+}
+
+/// Makes each trial, prints what it came to, and answers whether all ended well.
+fn try_all<R: Threads + Wait + Sync>(rt: &HostRuntime, threads: &R) -> io::Result<bool> {
+    let mut are_well = true;
+    for trial in Trial::ALL {
+        let (name, ending) = (trial.name(), trial.ending(threads, rt.alloc()));
+        println!(rt; "{name}: {ending}")?;
+        are_well = are_well && ending.is_well();
+    }
+    Ok(are_well)
+}

@@ -1,0 +1,170 @@
+//! Recordings, made, read and replayed.
+
+use crate::calls::tried;
+use crate::ending::Ending;
+use crate::guest::{GUEST, settings};
+use crate::stage::Stage;
+use hart_step::Hart;
+use host_io::RunError;
+use recording::{HartSummary, Kept, Recording, read_recording};
+use replayer::{Replay, Verdict, record, record_with, replay};
+use std::alloc::Global;
+use std::sync::Wait;
+use std::thread::Threads;
+
+/// Two harts that exit, recorded after one round of quota 4, in version 1.
+pub(crate) static EXITS: [u8; 125] = [
+    82, 86, 68, 69, 84, 82, 69, 67, 1, 0, 0, 0, 1, 2, 0, 0, 0, 1, 0, 0, 0, 1, 0, 0, 0, 8, 0, 0, 0,
+    0, 0, 0, 0, 147, 8, 0, 0, 115, 0, 0, 0, 0, 0, 0, 0, 0, 0, 0, 0, 2, 0, 0, 0, 0, 0, 0, 0, 52, 10,
+    0, 0, 0, 0, 0, 0, 0, 0, 0, 0, 0, 0, 0, 0, 0, 0, 4, 0, 0, 0, 0, 0, 0, 0, 1, 0, 0, 0, 0, 0, 0, 0,
+    1, 0, 0, 0, 0, 0, 0, 0, 0, 4, 0, 0, 0, 0, 0, 0, 0, 1, 0, 0, 0, 0, 0, 0, 0, 1, 1, 0, 0, 0, 0, 0,
+    0, 0,
+];
+
+/// The recording of the guest's run, with registers after each round.
+pub(crate) fn recorded<R: Threads + Wait + Sync>(
+    rt: &R,
+    alloc: Global,
+) -> Result<Recording, RunError> {
+    record_with(rt, alloc, &GUEST, &[], &settings(1), 1)
+}
+
+/// Records the guest's run, without registers and with them.
+pub(crate) fn try_record<R: Threads + Wait + Sync>(rt: &R, alloc: Global) -> Ending {
+    let without = tried(
+        || record(rt, alloc, &GUEST, &[], &settings(1)),
+        |recording| is_recorded(recording, 0),
+    );
+    let with = tried(
+        || recorded(rt, alloc),
+        |recording| is_recorded(recording, 1),
+    );
+    without.and(with)
+}
+
+/// Whether a recording is that of the guest's run, with registers after each round where `every` is 1.
+fn is_recorded(recording: &Recording, every: u32) -> bool {
+    let has_rounds = match recording.kept() {
+        [first, second] => {
+            is_kept(first, Stage::Fenced, every) && is_kept(second, Stage::Ended, every)
+        }
+        _ => false,
+    };
+    has_rounds
+        && (recording.version(), recording.is_flat()) == (2, true)
+        && (recording.harts(), recording.pages()) == (2, 1)
+        && (recording.rounds(), recording.budget()) == (2, 1)
+        && recording.every() == every
+        && recording.image() == GUEST.as_slice()
+        && recording.input().is_empty()
+        && recording.plan() == b"6\n".as_slice()
+}
+
+/// Whether this is kept of the guest at a stage.
+fn is_kept(kept: &Kept, stage: Stage, every: u32) -> bool {
+    let (first, second) = (stage.hart(0), stage.hart(1));
+    let has_registers = match &kept.registers {
+        None => every == 0,
+        Some(lists) => match lists.as_slice() {
+            [of_first, of_second] => {
+                every == 1 && are_registers(of_first, &first) && are_registers(of_second, &second)
+            }
+            _ => false,
+        },
+    };
+    let summary = &kept.summary;
+    has_registers
+        && (summary.output, summary.trace) == (0, stage.events() as u64)
+        && summary.harts.as_slice() == [summary_of(&first), summary_of(&second)].as_slice()
+}
+
+/// Whether these are registers x1 to x31 of a hart.
+fn are_registers(registers: &[u64], hart: &Hart) -> bool {
+    registers == &hart.x[1..]
+}
+
+/// What a recording keeps of a hart.
+fn summary_of(hart: &Hart) -> HartSummary {
+    let (code, value) = match hart.stop {
+        Some(stop) => (stop.code, stop.value),
+        None => (0, 0),
+    };
+    HartSummary {
+        pc: hart.pc,
+        done: hart.done,
+        code,
+        value,
+    }
+}
+
+/// Reads a recording.
+pub(crate) fn try_read(alloc: Global) -> Ending {
+    tried(|| read_recording(alloc, &EXITS), are_exits)
+}
+
+/// Whether a recording is that of the harts that exit.
+fn are_exits(recording: &Recording) -> bool {
+    let [first, second] = [0, 1].map(|value| HartSummary {
+        pc: 4,
+        done: 1,
+        code: 1,
+        value,
+    });
+    let is_round = match recording.kept() {
+        [kept] => {
+            kept.registers.is_none()
+                && (kept.summary.output, kept.summary.trace) == (0, 0)
+                && kept.summary.harts.as_slice() == [first, second].as_slice()
+        }
+        _ => false,
+    };
+    is_round
+        && (recording.version(), recording.is_flat()) == (1, true)
+        && (recording.harts(), recording.pages()) == (2, 1)
+        && (recording.rounds(), recording.budget()) == (1, 1)
+        && recording.every() == 0
+        && recording.image() == b"\x93\x08\0\0\x73\0\0\0".as_slice()
+        && recording.input().is_empty()
+        && recording.plan() == b"4\n".as_slice()
+}
+
+/// Runs a recording anew.
+pub(crate) fn try_replay<R: Threads + Wait + Sync>(
+    rt: &R,
+    alloc: Global,
+) -> Result<Ending, RunError> {
+    let recording = recorded(rt, alloc)?;
+    Ok(tried(
+        || replay(rt, alloc, &recording, 1),
+        |verdict| *verdict == Verdict::Same && is_recorded(&recording, 1),
+    ))
+}
+
+/// Opens a recording, which keeps the machine after each round.
+pub(crate) fn try_replay_open<R: Threads + Wait + Sync>(
+    rt: &R,
+    alloc: Global,
+) -> Result<Ending, RunError> {
+    let recording = recorded(rt, alloc)?;
+    Ok(tried(
+        || Replay::open(rt, alloc, &recording, 1, 1),
+        |replay| is_opened(replay) && is_recorded(&recording, 1),
+    ))
+}
+
+/// Whether a recording was opened with the machine of each round.
+fn is_opened(replay: &Replay) -> bool {
+    replay.verdict() == Verdict::Same
+        && replay.checkpoints() == 3
+        && keeps(replay, 0, Stage::Opening)
+        && keeps(replay, 1, Stage::Fenced)
+        && keeps(replay, 2, Stage::Ended)
+}
+
+/// Whether a machine is kept at this stage.
+fn keeps(replay: &Replay, number: usize, stage: Stage) -> bool {
+    match replay.kept(number) {
+        Some(machine) => stage.is_of(machine),
+        None => false,
+    }
+}

@@ -1,0 +1,67 @@
+//! What a run begins with, and its trace.
+
+use crate::calls::{Refusal, tried};
+use crate::ending::Ending;
+use crate::guest::{GUEST, settings};
+use crate::stage::Stage;
+use elf_loader::Image;
+use host_io::RunError;
+use machine::{Format, Machine, Unobserved, UntracedMachine, emulate, load, prepare, trace_run};
+use round_planner::Plan;
+use std::alloc::Global;
+use std::sync::Wait;
+use std::thread::Threads;
+
+/// The machine of the guest.
+pub(crate) fn try_prepare(alloc: Global) -> Ending {
+    tried(
+        || prepare(alloc, &GUEST, &[], &settings(1)),
+        |machine| Stage::Opening.is_of(machine),
+    )
+}
+
+/// The trace of the guest's run.
+pub(crate) fn try_trace<R: Threads + Wait + Sync>(rt: &R, alloc: Global) -> Ending {
+    tried(
+        || trace_run(rt, alloc, &GUEST, &[], &settings(1), &mut Unobserved),
+        |trace| Stage::Ended.has_events(trace),
+    )
+}
+
+/// The image and the plan of the guest.
+fn parts(alloc: Global) -> Result<(Image, Plan), RunError> {
+    let image = load(alloc, Format::Flat, &GUEST, 1)?;
+    match Plan::parse(alloc, b"6\n", 2) {
+        Ok(plan) => Ok((image, plan)),
+        Err(error) if error.is_of_memory() => Err(RunError::OutOfMemory),
+        Err(error) => Err(RunError::Plan(error)),
+    }
+}
+
+/// The machine of an image and a plan, which it takes: so there are two of each.
+pub(crate) fn try_open(alloc: Global) -> Result<Ending, RunError> {
+    let ((image, plan), (second_image, second_plan)) = (parts(alloc)?, parts(alloc)?);
+    Ok(match Machine::new(alloc, image, Vec::new(alloc), plan) {
+        Ok(machine) => Ending::first(Stage::Opening.is_of(&machine)),
+        Err(error) if !error.is_of_memory() => Ending::Other,
+        Err(_) => match Machine::new(alloc, second_image, Vec::new(alloc), second_plan) {
+            Ok(machine) => Ending::second(Stage::Opening.is_of(&machine)),
+            Err(_) => Ending::Wrong,
+        },
+    })
+}
+
+/// The machine without a trace of an image, which is lent, and a plan, which it takes.
+pub(crate) fn try_open_untraced(alloc: Global) -> Result<Ending, RunError> {
+    let ((image, plan), (_, second_plan)) = (parts(alloc)?, parts(alloc)?);
+    Ok(
+        match UntracedMachine::open(alloc, &image, Vec::new(alloc), plan) {
+            Ok(machine) => Ending::first(Stage::Opening.is_of_untraced(&machine)),
+            Err(error) if !error.is_of_memory() => Ending::Other,
+            Err(_) => match UntracedMachine::open(alloc, &image, Vec::new(alloc), second_plan) {
+                Ok(machine) => Ending::second(Stage::Opening.is_of_untraced(&machine)),
+                Err(_) => Ending::Wrong,
+            },
+        },
+    )
+}

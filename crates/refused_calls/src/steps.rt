@@ -1,0 +1,66 @@
+//! Single instructions.
+
+use crate::ending::Ending;
+use crate::guest::GUEST;
+use hart_step::{Buffered, Hart, Stepped, step};
+use host_io::RunError;
+use machine::{Format, load};
+use pages::{OutOfMemory, Pages, Store, Width};
+use round_schedule::Access;
+use std::alloc::Global;
+use store_buffer::StoreBuffer;
+
+/// The guest's store, into a buffer. A refused step leaves the hart as it was.
+pub(crate) fn try_step(alloc: Global) -> Result<Ending, RunError> {
+    let image = load(alloc, Format::Flat, &GUEST, 1)?;
+    let pages = Pages::new(alloc, image.pages(), image.pieces(), image.code())?;
+    let mut x = [0; 32];
+    x[7] = 1;
+    let before = Hart {
+        x,
+        pc: 0xc,
+        stop: None,
+        done: 3,
+    };
+    let (mut hart, mut bus) = (before, Buffered::new(alloc, &pages));
+    Ok(match step(&mut hart, &mut bus) {
+        Ok(answer) => Ending::first(has_stored(&before, &hart, answer, bus)),
+        Err(OutOfMemory) if hart != before => Ending::Changed,
+        Err(OutOfMemory) => match step(&mut hart, &mut bus) {
+            Ok(answer) => Ending::second(has_stored(&before, &hart, answer, bus)),
+            Err(OutOfMemory) => Ending::Wrong,
+        },
+    })
+}
+
+/// Whether a hart has done the store, and the buffer has its bytes and no other.
+fn has_stored(before: &Hart, hart: &Hart, answer: Stepped, bus: Buffered<'_>) -> bool {
+    let store = Access::Store {
+        width: Width::W8,
+        place: 3,
+        address: 0x100,
+        written: 1,
+    };
+    let after = Hart {
+        pc: 0x10,
+        done: 4,
+        ..*before
+    };
+    answer == Stepped::Done(Some(store)) && *hart == after && has_bytes(&bus.into_buffer())
+}
+
+/// Whether a buffer has the eight bytes of the number 1 at 0x100, and no other.
+fn has_bytes(buffer: &StoreBuffer) -> bool {
+    let mut stores = buffer.stores();
+    for addr in 0x100..0x108 {
+        let byte = Store {
+            addr,
+            width: Width::W1,
+            value: u64::from(addr == 0x100),
+        };
+        if stores.next() != Some(byte) {
+            return false;
+        }
+    }
+    stores.next().is_none()
+}

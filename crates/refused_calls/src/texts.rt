@@ -1,0 +1,128 @@
+//! Calls that write a text.
+
+use crate::calls::Refusal;
+use crate::ending::Ending;
+use crate::guest::{GUEST, REPORT, ended, settings};
+use crate::recordings::EXITS;
+use host_io::{RunError, WriteSink};
+use machine::{Unobserved, emulate, order_run};
+use recording::{read_recording, write_recording};
+use std::alloc::Global;
+use std::io::{self, Write};
+use std::sync::Wait;
+use std::thread::Threads;
+
+/// How many bytes a page has room for.
+const ROOM: usize = 1024;
+
+/// A page, on which a text is written without any memory.
+#[derive(Drop)]
+struct Page {
+    bytes: [u8; ROOM],
+    length: usize,
+}
+
+impl Page {
+    /// A page with nothing on it.
+    fn new() -> Page {
+        Page {
+            bytes: [0; ROOM],
+            length: 0,
+        }
+    }
+
+    /// What is on it.
+    fn text(&self) -> &[u8] {
+        &self.bytes[..self.length.min(ROOM)]
+    }
+}
+
+impl Write for Page {
+    fn write(&mut self, bytes: &[u8]) -> io::Result<usize> {
+        let start = self.length.min(ROOM);
+        let count = bytes.len().min(ROOM - start);
+        self.bytes[start..start + count].copy_from_slice(&bytes[..count]);
+        self.length = start + count;
+        Ok(count)
+    }
+
+    fn flush(&mut self) -> io::Result<()> {
+        Ok(())
+    }
+}
+
+/// Writes a text on a page, and once more on another where that was refused memory: the first has a beginning of it then.
+fn written<C: Fn(&mut Page) -> Result<(), RunError>>(call: &C, wanted: &[u8]) -> Ending
+    requires { C.IsAlwaysCallable call.now }
+{
+    let mut page = Page::new();
+    match call(&mut page) {
+        Ok(()) => Ending::first(page.text() == wanted),
+        Err(error) if !error.is_of_memory() => Ending::Other,
+        Err(_) if !wanted.starts_with(page.text()) => Ending::Changed,
+        Err(_) => {
+            let mut second = Page::new();
+            let answer = call(&mut second);
+            Ending::second(answer == Ok(()) && second.text() == wanted)
+        }
+    }
+}
+
+/// Runs the guest, and writes its report.
+pub(crate) fn try_emulate<R: Threads + Wait + Sync>(rt: &R, alloc: Global, workers: u32) -> Ending {
+    let settings = settings(workers);
+    written(
+        &|page| emulate(rt, alloc, &GUEST, &[], &settings, &mut WriteSink::new(page)),
+        REPORT.as_bytes(),
+    )
+}
+
+/// Writes the report of a machine.
+pub(crate) fn try_report<R: Threads + Wait + Sync>(
+    rt: &R,
+    alloc: Global,
+) -> Result<Ending, RunError> {
+    let machine = ended(rt, alloc)?;
+    Ok(written(
+        &|page| machine.report(alloc, &mut WriteSink::new(page)),
+        REPORT.as_bytes(),
+    ))
+}
+
+/// The order of the guest's memory operations.
+const ORDER: &str = "order 4\n\
+    1 0 3 p store - 00000100 8 - 0000000000000001\n\
+    1 1 3 p store - 00000108 8 - 0000000000000001\n\
+    2 0 5 p load - 00000108 8 0000000000000001 -\n\
+    2 1 5 p load - 00000100 8 0000000000000001 -\n\
+    checked yes\n";
+
+/// Runs the guest, and writes the order of its memory operations.
+pub(crate) fn try_order_run<R: Threads + Wait + Sync>(rt: &R, alloc: Global) -> Ending {
+    let settings = settings(1);
+    written(
+        &|page| {
+            order_run(
+                rt,
+                alloc,
+                &GUEST,
+                &[],
+                &settings,
+                &mut Unobserved,
+                &mut WriteSink::new(page),
+            )
+        },
+        ORDER.as_bytes(),
+    )
+}
+
+/// Writes a recording that was read.
+pub(crate) fn try_write(alloc: Global) -> Result<Ending, RunError> {
+    let Ok(recording) = read_recording(alloc, &EXITS) else {
+        return Err(RunError::OutOfMemory);
+    };
+    Ok(written(
+        &|page| write_recording(alloc, &recording, &mut WriteSink::new(page)),
+        &EXITS,
+    ))
+}

@@ -1,0 +1,202 @@
+//! The trials, and their names.
+
+use crate::copies::{copy_console, copy_machine, copy_pages, copy_plan, copy_trace, copy_untraced};
+use crate::ending::Ending;
+use crate::loading::{try_elf, try_flat, try_plan};
+use crate::loops::try_loops;
+use crate::memory::{self, try_put};
+use crate::orders::{try_check, try_order};
+use crate::past::{try_count_at, try_hart_after, try_state_at, try_state_before, try_watch};
+use crate::recordings::{try_read, try_record, try_replay, try_replay_open};
+use crate::rounds::{try_round, try_run};
+use crate::runs::{self, try_open, try_open_untraced, try_trace};
+use crate::steps::try_step;
+use crate::texts::{try_emulate, try_order_run, try_report, try_write};
+use host_io::RunError;
+use std::alloc::Global;
+use std::sync::Wait;
+use std::thread::Threads;
+
+/// A public call that is tried.
+#[derive(Clone, Copy, Debug, PartialEq, Eq)]
+pub(crate) enum Trial {
+    RoundOnOne,
+    RoundOnFour,
+    RunOnOne,
+    RunOnFour,
+    Loops,
+    EmulateOnOne,
+    EmulateOnFour,
+    Report,
+    OrderRun,
+    TraceRun,
+    PrepareMachine,
+    Open,
+    OpenUntraced,
+    HartAfter,
+    Step,
+    Put,
+    Prepare,
+    LoadElf,
+    LoadFlat,
+    Plan,
+    Order,
+    Check,
+    Record,
+    Read,
+    Write,
+    Replay,
+    ReplayOpen,
+    StateAt,
+    StateBefore,
+    CountAt,
+    Watch,
+    CopyMachine,
+    CopyUntraced,
+    CopyPages,
+    CopyTrace,
+    CopyPlan,
+    CopyConsole,
+}
+
+impl Trial {
+    /// Each trial.
+    pub(crate) const ALL: [Trial; 37] = [
+        Trial::RoundOnOne,
+        Trial::RoundOnFour,
+        Trial::RunOnOne,
+        Trial::RunOnFour,
+        Trial::Loops,
+        Trial::EmulateOnOne,
+        Trial::EmulateOnFour,
+        Trial::Report,
+        Trial::OrderRun,
+        Trial::TraceRun,
+        Trial::PrepareMachine,
+        Trial::Open,
+        Trial::OpenUntraced,
+        Trial::HartAfter,
+        Trial::Step,
+        Trial::Put,
+        Trial::Prepare,
+        Trial::LoadElf,
+        Trial::LoadFlat,
+        Trial::Plan,
+        Trial::Order,
+        Trial::Check,
+        Trial::Record,
+        Trial::Read,
+        Trial::Write,
+        Trial::Replay,
+        Trial::ReplayOpen,
+        Trial::StateAt,
+        Trial::StateBefore,
+        Trial::CountAt,
+        Trial::Watch,
+        Trial::CopyMachine,
+        Trial::CopyUntraced,
+        Trial::CopyPages,
+        Trial::CopyTrace,
+        Trial::CopyPlan,
+        Trial::CopyConsole,
+    ];
+
+    /// The word that names it.
+    pub(crate) fn name(self) -> &'static str {
+        match self {
+            Trial::RoundOnOne => "round-1",
+            Trial::RoundOnFour => "round-4",
+            Trial::RunOnOne => "run-1",
+            Trial::RunOnFour => "run-4",
+            Trial::Loops => "loops-4",
+            Trial::EmulateOnOne => "emulate-1",
+            Trial::EmulateOnFour => "emulate-4",
+            Trial::Report => "report",
+            Trial::OrderRun => "order-run",
+            Trial::TraceRun => "trace-run",
+            Trial::PrepareMachine => "prepare-machine",
+            Trial::Open => "open",
+            Trial::OpenUntraced => "open-untraced",
+            Trial::HartAfter => "hart-after",
+            Trial::Step => "step",
+            Trial::Put => "put",
+            Trial::Prepare => "prepare",
+            Trial::LoadElf => "load-elf",
+            Trial::LoadFlat => "load-flat",
+            Trial::Plan => "plan",
+            Trial::Order => "order",
+            Trial::Check => "check",
+            Trial::Record => "record",
+            Trial::Read => "read",
+            Trial::Write => "write",
+            Trial::Replay => "replay",
+            Trial::ReplayOpen => "replay-open",
+            Trial::StateAt => "state-at",
+            Trial::StateBefore => "state-before",
+            Trial::CountAt => "count-at",
+            Trial::Watch => "watch",
+            Trial::CopyMachine => "copy-machine",
+            Trial::CopyUntraced => "copy-untraced",
+            Trial::CopyPages => "copy-pages",
+            Trial::CopyTrace => "copy-trace",
+            Trial::CopyPlan => "copy-plan",
+            Trial::CopyConsole => "copy-console",
+        }
+    }
+
+    /// The trial that a word names.
+    pub(crate) fn named(word: &str) -> Option<Trial> {
+        Trial::ALL.into_iter().find(|trial| trial.name() == word)
+    }
+
+    /// Makes the trial.
+    pub(crate) fn ending<R: Threads + Wait + Sync>(self, rt: &R, alloc: Global) -> Ending {
+        match self.made(rt, alloc) {
+            Ok(ending) => ending,
+            Err(error) => Ending::before(error),
+        }
+    }
+
+    /// The same, or what was refused before the call.
+    fn made<R: Threads + Wait + Sync>(self, rt: &R, alloc: Global) -> Result<Ending, RunError> {
+        Ok(match self {
+            Trial::RoundOnOne => try_round(rt, alloc, 1)?,
+            Trial::RoundOnFour => try_round(rt, alloc, 4)?,
+            Trial::RunOnOne => try_run(rt, alloc, 1)?,
+            Trial::RunOnFour => try_run(rt, alloc, 4)?,
+            Trial::Loops => try_loops(rt, alloc)?,
+            Trial::EmulateOnOne => try_emulate(rt, alloc, 1),
+            Trial::EmulateOnFour => try_emulate(rt, alloc, 4),
+            Trial::Report => try_report(rt, alloc)?,
+            Trial::OrderRun => try_order_run(rt, alloc),
+            Trial::TraceRun => try_trace(rt, alloc),
+            Trial::PrepareMachine => runs::try_prepare(alloc),
+            Trial::Open => try_open(alloc)?,
+            Trial::OpenUntraced => try_open_untraced(alloc)?,
+            Trial::HartAfter => try_hart_after(rt, alloc)?,
+            Trial::Step => try_step(alloc)?,
+            Trial::Put => try_put(alloc),
+            Trial::Prepare => memory::try_prepare(alloc)?,
+            Trial::LoadElf => try_elf(alloc),
+            Trial::LoadFlat => try_flat(alloc),
+            Trial::Plan => try_plan(alloc),
+            Trial::Order => try_order(rt, alloc)?,
+            Trial::Check => try_check(rt, alloc)?,
+            Trial::Record => try_record(rt, alloc),
+            Trial::Read => try_read(alloc),
+            Trial::Write => try_write(alloc)?,
+            Trial::Replay => try_replay(rt, alloc)?,
+            Trial::ReplayOpen => try_replay_open(rt, alloc)?,
+            Trial::StateAt => try_state_at(rt, alloc)?,
+            Trial::StateBefore => try_state_before(rt, alloc)?,
+            Trial::CountAt => try_count_at(rt, alloc)?,
+            Trial::Watch => try_watch(rt, alloc)?,
+            Trial::CopyMachine => copy_machine(rt, alloc)?,
+            Trial::CopyUntraced => copy_untraced(rt, alloc)?,
+            Trial::CopyPages => copy_pages(alloc)?,
+            Trial::CopyTrace => copy_trace(rt, alloc)?,
+            Trial::CopyPlan => copy_plan(alloc)?,
+            Trial::CopyConsole => copy_console(alloc)?,
+        })
+    }
+}
