@@ -14,11 +14,49 @@ use std::alloc::Global;
 use std::sync::Wait;
 use std::thread::Threads;
 
+/// What is copied.
+#[derive(Clone, Copy, Debug, PartialEq, Eq)]
+pub(crate) enum Copied {
+    Machine,
+    Untraced,
+    Pages,
+    Trace,
+    Plan,
+    Console,
+}
+
+impl Copied {
+    /// The word that names it.
+    pub(crate) fn name(self) -> &'static str {
+        match self {
+            Copied::Machine => "copy-machine",
+            Copied::Untraced => "copy-untraced",
+            Copied::Pages => "copy-pages",
+            Copied::Trace => "copy-trace",
+            Copied::Plan => "copy-plan",
+            Copied::Console => "copy-console",
+        }
+    }
+
+    /// Makes the trial, or says what was refused before the call.
+    pub(crate) fn made<R: Threads + Wait + Sync>(
+        self,
+        rt: &R,
+        alloc: Global,
+    ) -> Result<Ending, RunError> {
+        Ok(match self {
+            Copied::Machine => copy_machine(rt, alloc)?,
+            Copied::Untraced => copy_untraced(rt, alloc)?,
+            Copied::Pages => copy_pages(alloc)?,
+            Copied::Trace => copy_trace(rt, alloc)?,
+            Copied::Plan => copy_plan(alloc)?,
+            Copied::Console => copy_console(alloc)?,
+        })
+    }
+}
+
 /// Copies a machine.
-pub(crate) fn copy_machine<R: Threads + Wait + Sync>(
-    rt: &R,
-    alloc: Global,
-) -> Result<Ending, RunError> {
+fn copy_machine<R: Threads + Wait + Sync>(rt: &R, alloc: Global) -> Result<Ending, RunError> {
     let machine = ended(rt, alloc)?;
     Ok(tried(
         || machine.copy(),
@@ -27,10 +65,7 @@ pub(crate) fn copy_machine<R: Threads + Wait + Sync>(
 }
 
 /// Copies a machine that keeps no trace.
-pub(crate) fn copy_untraced<R: Threads + Wait + Sync>(
-    rt: &R,
-    alloc: Global,
-) -> Result<Ending, RunError> {
+fn copy_untraced<R: Threads + Wait + Sync>(rt: &R, alloc: Global) -> Result<Ending, RunError> {
     let mut machine = prepare_untraced(alloc, &GUEST, &[], &settings(1))?;
     machine.run(rt, 2, 1)?;
     Ok(tried(
@@ -40,10 +75,7 @@ pub(crate) fn copy_untraced<R: Threads + Wait + Sync>(
 }
 
 /// Copies a trace.
-pub(crate) fn copy_trace<R: Threads + Wait + Sync>(
-    rt: &R,
-    alloc: Global,
-) -> Result<Ending, RunError> {
+fn copy_trace<R: Threads + Wait + Sync>(rt: &R, alloc: Global) -> Result<Ending, RunError> {
     let trace = ended(rt, alloc)?.into_trace();
     Ok(tried(
         || trace.copy(alloc),
@@ -52,7 +84,7 @@ pub(crate) fn copy_trace<R: Threads + Wait + Sync>(
 }
 
 /// Copies guest memory.
-pub(crate) fn copy_pages(alloc: Global) -> Result<Ending, RunError> {
+fn copy_pages(alloc: Global) -> Result<Ending, RunError> {
     let pages = pages(alloc)?;
     Ok(tried(
         || pages.copy(alloc),
@@ -61,7 +93,7 @@ pub(crate) fn copy_pages(alloc: Global) -> Result<Ending, RunError> {
 }
 
 /// Copies a plan.
-pub(crate) fn copy_plan(alloc: Global) -> Result<Ending, RunError> {
+fn copy_plan(alloc: Global) -> Result<Ending, RunError> {
     let plan = match Plan::parse(alloc, b"3 2\n3 3\n", 2) {
         Ok(plan) => plan,
         Err(error) if error.is_of_memory() => return Err(RunError::OutOfMemory),
@@ -71,7 +103,7 @@ pub(crate) fn copy_plan(alloc: Global) -> Result<Ending, RunError> {
 }
 
 /// Copies a console with input, of which a byte was taken, and output.
-pub(crate) fn copy_console(alloc: Global) -> Result<Ending, RunError> {
+fn copy_console(alloc: Global) -> Result<Ending, RunError> {
     let Ok(input) = Vec::from_slice(alloc, b"in") else {
         return Err(RunError::OutOfMemory);
     };

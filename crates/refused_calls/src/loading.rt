@@ -1,9 +1,10 @@
-//! Images and plans, read from their files.
+//! Images and plans, read from their files, and the files themselves.
 
 use crate::calls::tried;
 use crate::ending::Ending;
 use crate::guest::GUEST;
 use elf_loader::{Image, load_elf, load_flat};
+use host_io::{ReadSource, read_all};
 use pages::Range;
 use round_planner::Plan;
 use std::alloc::Global;
@@ -47,6 +48,14 @@ pub(crate) fn try_flat(alloc: Global) -> Ending {
     tried(
         || load_flat(alloc, &GUEST, 1),
         |image| is_image(image, 0, &GUEST, 1),
+    )
+}
+
+/// All that a source gives.
+pub(crate) fn try_read_all(alloc: Global) -> Ending {
+    tried(
+        || read_all(alloc, &mut ReadSource::new(GUEST.as_slice())),
+        |bytes| bytes.as_slice() == GUEST.as_slice(),
     )
 }
 

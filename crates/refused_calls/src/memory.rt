@@ -3,7 +3,6 @@
 ghost use Rattle.std.specs.Prelude.{◌≡◌, ◌%◌, ◌<◌};
 ghost use Rattle.pages.specs.Memory.{width_bytes};
 
-use crate::calls::Refusal;
 use crate::ending::Ending;
 use pages::{OutOfMemory, Pages, Piece, Range, Store, Width};
 use std::alloc::Global;

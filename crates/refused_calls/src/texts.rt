@@ -5,12 +5,56 @@ use crate::ending::Ending;
 use crate::guest::{GUEST, REPORT, ended, settings};
 use crate::recordings::EXITS;
 use host_io::{RunError, WriteSink};
-use machine::{Unobserved, emulate, order_run};
+use machine::{Shown, Unobserved, emulate, order_run, report_run, show_run};
 use recording::{read_recording, write_recording};
 use std::alloc::Global;
 use std::io::{self, Write};
 use std::sync::Wait;
 use std::thread::Threads;
+
+/// A call that writes a text.
+#[derive(Clone, Copy, Debug, PartialEq, Eq)]
+pub(crate) enum Writing {
+    EmulateOnOne,
+    EmulateOnFour,
+    ReportRun,
+    Report,
+    ShowRun,
+    OrderRun,
+    Write,
+}
+
+impl Writing {
+    /// The word that names it.
+    pub(crate) fn name(self) -> &'static str {
+        match self {
+            Writing::EmulateOnOne => "emulate-1",
+            Writing::EmulateOnFour => "emulate-4",
+            Writing::ReportRun => "report-run",
+            Writing::Report => "report",
+            Writing::ShowRun => "show-run",
+            Writing::OrderRun => "order-run",
+            Writing::Write => "write",
+        }
+    }
+
+    /// Makes the trial, or says what was refused before the call.
+    pub(crate) fn made<R: Threads + Wait + Sync>(
+        self,
+        rt: &R,
+        alloc: Global,
+    ) -> Result<Ending, RunError> {
+        Ok(match self {
+            Writing::EmulateOnOne => try_emulate(rt, alloc, 1),
+            Writing::EmulateOnFour => try_emulate(rt, alloc, 4),
+            Writing::ReportRun => try_report_run(rt, alloc),
+            Writing::Report => try_report(rt, alloc)?,
+            Writing::ShowRun => try_show_run(rt, alloc),
+            Writing::OrderRun => try_order_run(rt, alloc),
+            Writing::Write => try_write(alloc)?,
+        })
+    }
+}
 
 /// How many bytes a page has room for.
 const ROOM: usize = 1024;
@@ -69,7 +113,7 @@ fn written<C: Fn(&mut Page) -> Result<(), RunError>>(call: &C, wanted: &[u8]) ->
 }
 
 /// Runs the guest, and writes its report.
-pub(crate) fn try_emulate<R: Threads + Wait + Sync>(rt: &R, alloc: Global, workers: u32) -> Ending {
+fn try_emulate<R: Threads + Wait + Sync>(rt: &R, alloc: Global, workers: u32) -> Ending {
     let settings = settings(workers);
     written(
         &|page| emulate(rt, alloc, &GUEST, &[], &settings, &mut WriteSink::new(page)),
@@ -77,11 +121,64 @@ pub(crate) fn try_emulate<R: Threads + Wait + Sync>(rt: &R, alloc: Global, worke
     )
 }
 
+/// The same, and whether each hart exited with 0.
+fn try_report_run<R: Threads + Wait + Sync>(rt: &R, alloc: Global) -> Ending {
+    let settings = settings(1);
+    written(
+        &|page| {
+            report_run(
+                rt,
+                alloc,
+                &GUEST,
+                &[],
+                &settings,
+                &mut Unobserved,
+                &mut WriteSink::new(page),
+            )?;
+            Ok(())
+        },
+        REPORT.as_bytes(),
+    )
+}
+
+/// Runs the guest, and writes its harts alone.
+fn try_show_run<R: Threads + Wait + Sync>(rt: &R, alloc: Global) -> Ending {
+    let settings = settings(1);
+    written(
+        &|page| {
+            show_run(
+                rt,
+                alloc,
+                &GUEST,
+                &[],
+                &settings,
+                Shown::Harts,
+                &mut Unobserved,
+                &mut WriteSink::new(page),
+            )?;
+            Ok(())
+        },
+        HARTS.as_bytes(),
+    )
+}
+
+/// The harts of the guest, and how much was put out.
+const HARTS: &str = "rounds 2\n\
+    hart 0 pc 0000000000000018 done 6 stop 3\n\
+    x6 0000000000000008\n\
+    x7 0000000000000001\n\
+    x11 0000000000000002\n\
+    x28 0000000000000001\n\
+    hart 1 pc 0000000000000018 done 6 stop 3\n\
+    x5 0000000000000008\n\
+    x7 0000000000000001\n\
+    x10 0000000000000001\n\
+    x11 0000000000000002\n\
+    x28 0000000000000001\n\
+    output 0\n";
+
 /// Writes the report of a machine.
-pub(crate) fn try_report<R: Threads + Wait + Sync>(
-    rt: &R,
-    alloc: Global,
-) -> Result<Ending, RunError> {
+fn try_report<R: Threads + Wait + Sync>(rt: &R, alloc: Global) -> Result<Ending, RunError> {
     let machine = ended(rt, alloc)?;
     Ok(written(
         &|page| machine.report(alloc, &mut WriteSink::new(page)),
@@ -98,7 +195,7 @@ const ORDER: &str = "order 4\n\
     checked yes\n";
 
 /// Runs the guest, and writes the order of its memory operations.
-pub(crate) fn try_order_run<R: Threads + Wait + Sync>(rt: &R, alloc: Global) -> Ending {
+fn try_order_run<R: Threads + Wait + Sync>(rt: &R, alloc: Global) -> Ending {
     let settings = settings(1);
     written(
         &|page| {
@@ -117,7 +214,7 @@ pub(crate) fn try_order_run<R: Threads + Wait + Sync>(rt: &R, alloc: Global) -> 
 }
 
 /// Writes a recording that was read.
-pub(crate) fn try_write(alloc: Global) -> Result<Ending, RunError> {
+fn try_write(alloc: Global) -> Result<Ending, RunError> {
     let Ok(recording) = read_recording(alloc, &EXITS) else {
         return Err(RunError::OutOfMemory);
     };

@@ -1,8 +1,8 @@
 //! The trials, and their names.
 
-use crate::copies::{copy_console, copy_machine, copy_pages, copy_plan, copy_trace, copy_untraced};
+use crate::copies::Copied;
 use crate::ending::Ending;
-use crate::loading::{try_elf, try_flat, try_plan};
+use crate::loading::{try_elf, try_flat, try_plan, try_read_all};
 use crate::loops::try_loops;
 use crate::memory::{self, try_put};
 use crate::orders::{try_check, try_order};
@@ -11,7 +11,7 @@ use crate::recordings::{try_read, try_record, try_replay, try_replay_open};
 use crate::rounds::{try_round, try_run};
 use crate::runs::{self, try_open, try_open_untraced, try_trace};
 use crate::steps::try_step;
-use crate::texts::{try_emulate, try_order_run, try_report, try_write};
+use crate::texts::Writing;
 use host_io::RunError;
 use std::alloc::Global;
 use std::sync::Wait;
@@ -25,10 +25,6 @@ pub(crate) enum Trial {
     RunOnOne,
     RunOnFour,
     Loops,
-    EmulateOnOne,
-    EmulateOnFour,
-    Report,
-    OrderRun,
     TraceRun,
     PrepareMachine,
     Open,
@@ -37,6 +33,7 @@ pub(crate) enum Trial {
     Step,
     Put,
     Prepare,
+    ReadAll,
     LoadElf,
     LoadFlat,
     Plan,
@@ -44,33 +41,32 @@ pub(crate) enum Trial {
     Check,
     Record,
     Read,
-    Write,
     Replay,
     ReplayOpen,
     StateAt,
     StateBefore,
     CountAt,
     Watch,
-    CopyMachine,
-    CopyUntraced,
-    CopyPages,
-    CopyTrace,
-    CopyPlan,
-    CopyConsole,
+    /// One that writes a text.
+    Writing(Writing),
+    /// One that copies.
+    Copy(Copied),
 }
 
 impl Trial {
     /// Each trial.
-    pub(crate) const ALL: [Trial; 37] = [
+    pub(crate) const ALL: [Trial; 40] = [
         Trial::RoundOnOne,
         Trial::RoundOnFour,
         Trial::RunOnOne,
         Trial::RunOnFour,
         Trial::Loops,
-        Trial::EmulateOnOne,
-        Trial::EmulateOnFour,
-        Trial::Report,
-        Trial::OrderRun,
+        Trial::Writing(Writing::EmulateOnOne),
+        Trial::Writing(Writing::EmulateOnFour),
+        Trial::Writing(Writing::ReportRun),
+        Trial::Writing(Writing::Report),
+        Trial::Writing(Writing::ShowRun),
+        Trial::Writing(Writing::OrderRun),
         Trial::TraceRun,
         Trial::PrepareMachine,
         Trial::Open,
@@ -79,6 +75,7 @@ impl Trial {
         Trial::Step,
         Trial::Put,
         Trial::Prepare,
+        Trial::ReadAll,
         Trial::LoadElf,
         Trial::LoadFlat,
         Trial::Plan,
@@ -86,19 +83,19 @@ impl Trial {
         Trial::Check,
         Trial::Record,
         Trial::Read,
-        Trial::Write,
+        Trial::Writing(Writing::Write),
         Trial::Replay,
         Trial::ReplayOpen,
         Trial::StateAt,
         Trial::StateBefore,
         Trial::CountAt,
         Trial::Watch,
-        Trial::CopyMachine,
-        Trial::CopyUntraced,
-        Trial::CopyPages,
-        Trial::CopyTrace,
-        Trial::CopyPlan,
-        Trial::CopyConsole,
+        Trial::Copy(Copied::Machine),
+        Trial::Copy(Copied::Untraced),
+        Trial::Copy(Copied::Pages),
+        Trial::Copy(Copied::Trace),
+        Trial::Copy(Copied::Plan),
+        Trial::Copy(Copied::Console),
     ];
 
     /// The word that names it.
@@ -109,10 +106,6 @@ impl Trial {
             Trial::RunOnOne => "run-1",
             Trial::RunOnFour => "run-4",
             Trial::Loops => "loops-4",
-            Trial::EmulateOnOne => "emulate-1",
-            Trial::EmulateOnFour => "emulate-4",
-            Trial::Report => "report",
-            Trial::OrderRun => "order-run",
             Trial::TraceRun => "trace-run",
             Trial::PrepareMachine => "prepare-machine",
             Trial::Open => "open",
@@ -121,6 +114,7 @@ impl Trial {
             Trial::Step => "step",
             Trial::Put => "put",
             Trial::Prepare => "prepare",
+            Trial::ReadAll => "read-all",
             Trial::LoadElf => "load-elf",
             Trial::LoadFlat => "load-flat",
             Trial::Plan => "plan",
@@ -128,19 +122,14 @@ impl Trial {
             Trial::Check => "check",
             Trial::Record => "record",
             Trial::Read => "read",
-            Trial::Write => "write",
             Trial::Replay => "replay",
             Trial::ReplayOpen => "replay-open",
             Trial::StateAt => "state-at",
             Trial::StateBefore => "state-before",
             Trial::CountAt => "count-at",
             Trial::Watch => "watch",
-            Trial::CopyMachine => "copy-machine",
-            Trial::CopyUntraced => "copy-untraced",
-            Trial::CopyPages => "copy-pages",
-            Trial::CopyTrace => "copy-trace",
-            Trial::CopyPlan => "copy-plan",
-            Trial::CopyConsole => "copy-console",
+            Trial::Writing(writing) => writing.name(),
+            Trial::Copy(copied) => copied.name(),
         }
     }
 
@@ -165,10 +154,6 @@ impl Trial {
             Trial::RunOnOne => try_run(rt, alloc, 1)?,
             Trial::RunOnFour => try_run(rt, alloc, 4)?,
             Trial::Loops => try_loops(rt, alloc)?,
-            Trial::EmulateOnOne => try_emulate(rt, alloc, 1),
-            Trial::EmulateOnFour => try_emulate(rt, alloc, 4),
-            Trial::Report => try_report(rt, alloc)?,
-            Trial::OrderRun => try_order_run(rt, alloc),
             Trial::TraceRun => try_trace(rt, alloc),
             Trial::PrepareMachine => runs::try_prepare(alloc),
             Trial::Open => try_open(alloc)?,
@@ -177,6 +162,7 @@ impl Trial {
             Trial::Step => try_step(alloc)?,
             Trial::Put => try_put(alloc),
             Trial::Prepare => memory::try_prepare(alloc)?,
+            Trial::ReadAll => try_read_all(alloc),
             Trial::LoadElf => try_elf(alloc),
             Trial::LoadFlat => try_flat(alloc),
             Trial::Plan => try_plan(alloc),
@@ -184,19 +170,14 @@ impl Trial {
             Trial::Check => try_check(rt, alloc)?,
             Trial::Record => try_record(rt, alloc),
             Trial::Read => try_read(alloc),
-            Trial::Write => try_write(alloc)?,
             Trial::Replay => try_replay(rt, alloc)?,
             Trial::ReplayOpen => try_replay_open(rt, alloc)?,
             Trial::StateAt => try_state_at(rt, alloc)?,
             Trial::StateBefore => try_state_before(rt, alloc)?,
             Trial::CountAt => try_count_at(rt, alloc)?,
             Trial::Watch => try_watch(rt, alloc)?,
-            Trial::CopyMachine => copy_machine(rt, alloc)?,
-            Trial::CopyUntraced => copy_untraced(rt, alloc)?,
-            Trial::CopyPages => copy_pages(alloc)?,
-            Trial::CopyTrace => copy_trace(rt, alloc)?,
-            Trial::CopyPlan => copy_plan(alloc)?,
-            Trial::CopyConsole => copy_console(alloc)?,
+            Trial::Writing(writing) => writing.made(rt, alloc)?,
+            Trial::Copy(copied) => copied.made(rt, alloc)?,
         })
     }
 }
