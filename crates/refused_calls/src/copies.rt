@@ -4,10 +4,11 @@ use crate::calls::{Refusal, tried};
 use crate::ending::Ending;
 use crate::guest::{GUEST, ended, settings};
 use crate::loading::is_plan;
-use crate::memory::{has_bytes, pages};
+use crate::memory::{has_bytes, is_opened, pages};
 use crate::stage::Stage;
 use host_io::RunError;
-use machine::prepare_untraced;
+use machine::{Machine, prepare_untraced};
+use pages::{OutOfMemory, Pages};
 use round_planner::Plan;
 use serial_phase::Console;
 use std::alloc::Global;
@@ -23,6 +24,10 @@ pub(crate) enum Copied {
     Trace,
     Plan,
     Console,
+    /// A machine whose copy shares its pages.
+    SharedMachine,
+    /// Guest memory whose copy shares its pages.
+    SharedPages,
 }
 
 impl Copied {
@@ -35,6 +40,8 @@ impl Copied {
             Copied::Trace => "copy-trace",
             Copied::Plan => "copy-plan",
             Copied::Console => "copy-console",
+            Copied::SharedMachine => "share-machine",
+            Copied::SharedPages => "share-pages",
         }
     }
 
@@ -51,6 +58,8 @@ impl Copied {
             Copied::Trace => copy_trace(rt, alloc)?,
             Copied::Plan => copy_plan(alloc)?,
             Copied::Console => copy_console(alloc)?,
+            Copied::SharedMachine => share_machine(rt, alloc)?,
+            Copied::SharedPages => share_pages(alloc)?,
         })
     }
 }
@@ -74,6 +83,25 @@ fn copy_untraced<R: Threads + Wait + Sync>(rt: &R, alloc: Global) -> Result<Endi
     ))
 }
 
+/// Has a copy of a machine share its pages. Refused, the machine is as it was.
+fn share_machine<R: Threads + Wait + Sync>(rt: &R, alloc: Global) -> Result<Ending, RunError> {
+    let mut machine = ended(rt, alloc)?;
+    Ok(match machine.share() {
+        Ok(copy) => Ending::first(are_ended(&machine, &copy)),
+        Err(error) if !error.is_of_memory() => Ending::Other,
+        Err(_) if !Stage::Ended.is_of(&machine) => Ending::Changed,
+        Err(_) => match machine.share() {
+            Ok(copy) => Ending::second(are_ended(&machine, &copy)),
+            Err(_) => Ending::Wrong,
+        },
+    })
+}
+
+/// Whether two machines are at the end of the guest's run.
+fn are_ended(machine: &Machine, copy: &Machine) -> bool {
+    Stage::Ended.is_of(machine) && Stage::Ended.is_of(copy)
+}
+
 /// Copies a trace.
 fn copy_trace<R: Threads + Wait + Sync>(rt: &R, alloc: Global) -> Result<Ending, RunError> {
     let trace = ended(rt, alloc)?.into_trace();
@@ -88,8 +116,26 @@ fn copy_pages(alloc: Global) -> Result<Ending, RunError> {
     let pages = pages(alloc)?;
     Ok(tried(
         || pages.copy(alloc),
-        |copy| has_bytes(&pages) && has_bytes(copy),
+        |copy| is_opened(&pages) && is_opened(copy),
     ))
+}
+
+/// Has a copy of guest memory share its pages. Refused, the bytes are what they were.
+fn share_pages(alloc: Global) -> Result<Ending, RunError> {
+    let mut pages = pages(alloc)?;
+    Ok(match pages.share(alloc) {
+        Ok(copy) => Ending::first(are_shared(&pages, &copy)),
+        Err(OutOfMemory) if !has_bytes(&pages) => Ending::Changed,
+        Err(OutOfMemory) => match pages.share(alloc) {
+            Ok(copy) => Ending::second(are_shared(&pages, &copy)),
+            Err(OutOfMemory) => Ending::Wrong,
+        },
+    })
+}
+
+/// Whether both have the bytes of the trial, and neither the page in which one of them lies for its own.
+fn are_shared(pages: &Pages, copy: &Pages) -> bool {
+    has_bytes(pages) && has_bytes(copy) && !pages.ready(1) && !copy.ready(1)
 }
 
 /// Copies a plan.

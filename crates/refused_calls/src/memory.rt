@@ -73,9 +73,13 @@ pub(crate) fn pages(alloc: Global) -> Result<Pages, OutOfMemory> {
 }
 
 /// Whether pages have that byte and no other, and page 1 is ready.
+pub(crate) fn is_opened(pages: &Pages) -> bool {
+    pages.ready(1) && has_bytes(pages)
+}
+
+/// Whether pages have that byte and no other.
 pub(crate) fn has_bytes(pages: &Pages) -> bool {
     pages.count() == 4
-        && pages.ready(1)
         && (0..4).all(|page| match pages.page(page) {
             Some([first, rest @ ..]) => {
                 *first == if page == 1 { 7 } else { 0 } && rest.iter().all(|byte| *byte == 0)
@@ -88,12 +92,12 @@ pub(crate) fn has_bytes(pages: &Pages) -> bool {
 /// Makes one more page ready, and a spare. A refused call changes no byte, and the page that was ready stays ready.
 pub(crate) fn try_prepare(alloc: Global) -> Result<Ending, OutOfMemory> {
     let mut pages = pages(alloc)?;
-    if !has_bytes(&pages) || pages.count() != 4 {
+    if !is_opened(&pages) || pages.count() != 4 {
         return Ok(Ending::Wrong);
     }
     Ok(match pages.prepare(alloc, &[2], 1) {
         Ok(()) => Ending::first(is_prepared(&pages)),
-        Err(OutOfMemory) if !has_bytes(&pages) => Ending::Changed,
+        Err(OutOfMemory) if !is_opened(&pages) => Ending::Changed,
         Err(OutOfMemory) => {
             let answer = pages.prepare(alloc, &[2], 1);
             Ending::second(answer == Ok(()) && is_prepared(&pages))
@@ -103,5 +107,5 @@ pub(crate) fn try_prepare(alloc: Global) -> Result<Ending, OutOfMemory> {
 
 /// Whether one more page is ready, and there is a spare for the others.
 fn is_prepared(pages: &Pages) -> bool {
-    has_bytes(pages) && pages.ready(2) && pages.spare() >= 1
+    is_opened(pages) && pages.ready(2) && pages.spare() >= 1
 }

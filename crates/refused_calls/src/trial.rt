@@ -49,13 +49,13 @@ pub(crate) enum Trial {
     Watch,
     /// One that writes a text.
     Writing(Writing),
-    /// One that copies.
+    /// One that copies, or has a copy share.
     Copy(Copied),
 }
 
 impl Trial {
     /// Each trial.
-    pub(crate) const ALL: [Trial; 40] = [
+    pub(crate) const ALL: [Trial; 42] = [
         Trial::RoundOnOne,
         Trial::RoundOnFour,
         Trial::RunOnOne,
@@ -96,6 +96,8 @@ impl Trial {
         Trial::Copy(Copied::Trace),
         Trial::Copy(Copied::Plan),
         Trial::Copy(Copied::Console),
+        Trial::Copy(Copied::SharedMachine),
+        Trial::Copy(Copied::SharedPages),
     ];
 
     /// The word that names it.
