@@ -31,20 +31,23 @@ struct Clock {
     block_ended: u128,
 }
 
+impl Clock {
+    /// A clock of a command that begins now, where the time can be read.
+    fn started(rt: &HostRuntime) -> Option<Clock> {
+        Some(Clock {
+            start: Instant::now(rt).ok()?,
+            told: 0,
+            block_ended: 0,
+        })
+    }
+}
+
 impl<'a> Progress<'a> {
     /// Tells, where it is asked for, how far a command is that has so many rounds or plans to do.
     pub(crate) fn new(rt: &'a HostRuntime, asked: bool, all: u32) -> Progress<'a> {
-        let clock = match Instant::now(rt) {
-            Ok(start) if asked => Some(Clock {
-                start,
-                told: 0,
-                block_ended: 0,
-            }),
-            _ => None,
-        };
         Progress {
             rt,
-            clock,
+            clock: if asked { Clock::started(rt) } else { None },
             all,
             block: FIRST_BLOCK,
             runs: 0,
