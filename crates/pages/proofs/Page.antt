@@ -6,7 +6,7 @@ use Rattle.std.proofs.Math.Nat.{mod-eq_of_lt}
 use Rattle.pages.specs.declared.access.Width.{Width}
 use Rattle.pages.specs.declared.access.Width.TheVariants.{W1, W2, W4, W8}
 use Rattle.pages.specs.declared.access.Store.{Store}
-use Rattle.pages.specs.Flat.{Page, blank, blank_page, bytes_in, full, in_page, page_of}
+use Rattle.pages.specs.Flat.{Page, blank, bytes_in, full, in_page, page_of}
 use Rattle.pages.specs.Memory.{number_at, value_at, written, put, width_bytes}
 
 pub length-blank : length blank ≡ 4096
@@ -94,10 +94,11 @@ put_page p q s e small is =
     let low : (k : ℕ) → get_or q.bytes k 0 < 2 ^ 8 = subst (λ (bs : List ℕ). (k : ℕ) → get_or bs k 0 < 2 ^ 8) (sym is) (small-written (width_bytes s.width) p.bytes (s.addr % 4096) s.value small) in
     full_ready q size low ∙ is ∙ ap (λ bs. written bs (s.addr % 4096) s.value (width_bytes s.width)) (sym (full_ready p e small))
 
-pub full_blank : full blank_page ≡ blank
-full_blank = full_ready blank_page length-blank (λ k. rw (get_or-blank k) (omega arith))
+-- one of bytes of its own that nothing was written to
+pub full_blank : full (record { own = true; bytes = blank }) ≡ blank
+full_blank = full_ready (record { own = true; bytes = blank }) length-blank (λ k. rw (get_or-blank k) (omega arith))
 
--- a spare page reads as one that holds nothing
+-- one that holds nothing reads the same
 pub full_absent : (p : Page) → length p.bytes ≡ 0 → full p ≡ blank
 full_absent p e =
     ext_get_or 0 (full p) blank (length-full p ∙ sym length-blank)
@@ -122,11 +123,6 @@ own_bytes (b ∷ bs) shared h = omega arith
 pub no_own_bytes : (bs shared : List ℕ) → (page_of bs shared).own ≡ false → length bs ≡ 0
 no_own_bytes [] shared h = refl
 no_own_bytes (b ∷ bs) shared h = absurd (false≢true (sym h))
-
--- the own bytes of a spare page
-pub blank_bytes : (bs shared : List ℕ) → page_of bs shared ≡ blank_page → bs ≡ blank
-blank_bytes [] shared h = absurd (false≢true (ap (λ (p : Page). p.own) h))
-blank_bytes (b ∷ bs) shared h = ap (λ (p : Page). p.bytes) h
 
 -- what a page with no bytes of its own holds
 pub apart_bytes : (bs shared : List ℕ) → length bs ≡ 0 → (page_of bs shared).bytes ≡ shared
@@ -160,7 +156,7 @@ put_back bs w shared s n e m small is =
     ∙ put_page (record { own = true; bytes = bs }) (record { own = true; bytes = w }) s e small is
     ∙ ap (λ q. put (full q) (in_page s)) (sym (page_own bs shared (omega arith)))
 
--- the bytes of a spare page in the place of shared ones, which they were made equal to
+-- bytes of its own in the place of equal shared ones
 pub shared_taken : (own bs shared : List ℕ) → own ≡ shared → length shared ≡ 4096 → (page_of bs shared).own ≡ false → full (page_of own []) ≡ full (page_of bs shared)
 shared_taken own bs shared e size h =
     let some : 0 < length own = omega (arith, ap length e) in

@@ -1,9 +1,7 @@
 -- A spare page in the place of one that is not ready.
 use Rattle.std.proofs.Common.{◌≡◌, ℕ, suc, zero, ◌+◌, ◌<◌, List, [], ◌∷◌, ◌++◌, length, map, replicate, take, get_or, set, refl, sym, ap, ◌∙◌, arith, Bool, true, false, subst}
 use Rattle.std.proofs.lemmas.List.{map-set, get_or-map, set-get_or, get_or_at, length-append, replicate_more, take_more, take_more_set}
-use Rattle.std.proofs.lemmas.List.Elements.{All-cons, All-get_or, All-head, All-nil, All-tail}
-use Rattle.pages.specs.Kept.{AllBlank}
-use Rattle.pages.specs.Flat.{Page, absent, blank_page, full, flat, is_ready}
+use Rattle.pages.specs.Flat.{Page, absent, full, flat, is_ready}
 use Rattle.pages.specs.Paged.{all_ready}
 use Rattle.pages.proofs.FlatPages.{flat-set_same}
 
@@ -24,22 +22,6 @@ stays_ready (r ∷ rs) zero zero h = refl
 stays_ready (r ∷ rs) zero (suc p) h = h
 stays_ready (r ∷ rs) (suc i) zero h = h
 stays_ready (r ∷ rs) (suc i) (suc p) h = stays_ready rs i p h
-
--- the last of the spare pages
-pub last_blank : (xs ys : List Page) (s : Page) → xs ≡ ys ++ s ∷ [] → AllBlank xs → s ≡ blank_page
-last_blank xs ys s e h =
-    let k : length ys < length xs = omega (arith, ap length e, length-append ys (s ∷ [])) in
-    sym (ap (λ (zs : List Page). get_or zs (length ys) absent) e ∙ get_or_at ys s [] absent (length ys) refl) ∙ All-get_or (λ (q : Page). q ≡ blank_page) xs (length ys) absent k h
-
--- and the others
-front_blank : (ys zs : List Page) → AllBlank (ys ++ zs) → AllBlank ys
-front_blank [] zs h = All-nil (λ (q : Page). q ≡ blank_page)
-front_blank (y ∷ ys) zs h =
-    let P : Page → Type 0 = λ q. q ≡ blank_page in
-    All-cons P y ys (All-head P y (ys ++ zs) h) (front_blank ys zs (All-tail P y (ys ++ zs) h))
-
-pub rest_blank : (xs ys : List Page) (s : Page) → xs ≡ ys ++ s ∷ [] → AllBlank xs → AllBlank ys
-rest_blank xs ys s e h = front_blank ys (s ∷ []) (subst (λ (zs : List Page). AllBlank zs) e h)
 
 pub ready_more : (rs : List Bool) (ns : List ℕ) (n : ℕ) → all_ready rs (ns ++ n ∷ []) ≡ set (all_ready rs ns) n true
 ready_more rs [] n = refl

@@ -15,10 +15,6 @@ blank = replicate 4096 0
 abbrev pub absent : Page
 absent = record { own = false; bytes = [] }
 
--- a page of its own that nothing was written to
-abbrev pub blank_page : Page
-blank_page = record { own = true; bytes = blank }
-
 -- the page of these bytes of its own, or, where it has none, of those that it shares
 abbrev pub page_of : List ℕ → List ℕ → Page
 page_of [] shared = record { own = false; bytes = shared }

@@ -10,6 +10,7 @@ mod out_of_memory;
 mod pages;
 mod part;
 mod prepare;
+mod spare;
 
 pub use access::{Fault, Piece, Range, Store, Width};
 pub use laws::{code_stays, last_store_wins};

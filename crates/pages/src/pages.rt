@@ -12,6 +12,7 @@ ghost use Rattle.pages.specs.Paged.{all_ready, applied, count_unready, is_page_r
 use crate::code::{all_code_at, has_word_at, touches_code};
 use crate::making::{bounds_of, copies_of, parts_of, share_all};
 use crate::prepare::{add_spares, make_all_ready, put_into, ready_page};
+use crate::spare::Spare;
 use crate::{Fault, OutOfMemory, Part, Piece, Range, Store, Width};
 use std::alloc::Global;
 use std::marker::Model;
@@ -20,7 +21,7 @@ use std::marker::Model;
 #[derive(Drop)]
 pub struct Pages {
     parts: Vec<Part>,
-    spares: Vec<Part>,
+    spares: Vec<Spare>,
     code: Vec<Range>,
     code_start: u64,
     code_end: u64,
@@ -37,7 +38,7 @@ impl Model for Pages {
 
     ghost view = { λ p. record { memory = record { bytes = flat p.parts.items; code = p.code.items }; ready = map is_ready p.parts.items; spare = length p.spares.items } };
 
-    ghost invariant = { λ p. Kept p.parts.items p.spares.items p.code.items p.code_start p.code_end };
+    ghost invariant = { λ p. Kept p.parts.items (length p.spares.items) p.code.items p.code_start p.code_end };
 }
 
 impl Pages {

@@ -1,8 +1,9 @@
 ghost use Rattle.std.specs.Prelude.{◌≡◌, ◌-◌, ◌+◌, ◌*◌, ◌^◌, ◌%◌, ◌≤◌, ◌<◌, ◌⊎◌, ℕ, [], true, false, length, slice_index, if◌then◌else◌, IfOk, IfSome, MatchOption, OnOk};
-ghost use Rattle.pages.specs.Flat.{Page, absent, blank, blank_page, bytes_in, full, in_page, is_ready, page_of};
+ghost use Rattle.pages.specs.Flat.{Page, absent, blank, bytes_in, full, in_page, is_ready, page_of};
 ghost use Rattle.pages.specs.Memory.{in_range, put, value_at, width_bytes};
 
 use crate::number::{lay_over, number_in, write_number};
+use crate::spare::Spare;
 use crate::{OutOfMemory, Store, Width};
 use std::alloc::Global;
 use std::marker::Model;
@@ -50,16 +51,6 @@ impl Part {
         }
     }
 
-    /// A page that is ready and reads 0.
-    pub(crate) fn blank(alloc: Global) -> Result<Part, OutOfMemory>
-        ensures { IfOk result (λ p. p ≡ blank_page) }
-    {
-        Ok(Part {
-            own: vec![in alloc; 0; PAGE_BYTES]?,
-            shared: None,
-        })
-    }
-
     /// An equal page: its own bytes are copied, and those that it shares are shared.
     pub(crate) fn copy(&self, alloc: Global) -> Result<Part, OutOfMemory>
         ensures { IfOk result (λ p. p ≡ self.now) }
@@ -94,17 +85,16 @@ impl Part {
         }
     }
 
-    /// Takes the bytes of a spare page for its own, and what the page reads stays.
-    pub(crate) fn take_spare(&mut self, spare: Part)
+    /// Takes a spare page's room for bytes of its own, and what the page reads stays.
+    pub(crate) fn take_spare(&mut self, spare: Spare)
         requires unready { is_ready self.old ≡ false }
-        requires spare { spare ≡ blank_page }
         ensures bytes { full self.new ≡ full self.old }
         ensures ready { is_ready self.new ≡ true }
     {
-        let mut own = spare.own;
-        if let Some(bytes) = &self.shared {
-            own.copy_from_slice(bytes);
-        }
+        let own = match &self.shared {
+            Some(bytes) => spare.holding(bytes),
+            None => spare.zeroed(),
+        };
         self.own = own;
         self.shared = None;
     }
@@ -115,7 +105,7 @@ impl Part {
         ensures ready { OnOk result (is_ready self.new ≡ true) }
     {
         if self.own.is_empty() {
-            self.take_spare(Part::blank(alloc)?);
+            self.take_spare(Spare::new(alloc)?);
         }
         Ok(())
     }

@@ -1,22 +1,20 @@
 ghost use Rattle.std.specs.Prelude.{◌≡◌, ◌+◌, ◌/◌, ◌%◌, ◌<◌, ◌≤◌, ◌⊎◌, ℕ, true, false, length, slice_index_or, slice_set, map, min, All, OnOk, OnErr, vec_len};
 ghost use Rattle.pages.specs.Flat.{absent, flat, is_ready};
-ghost use Rattle.pages.specs.Kept.{AllBlank};
 ghost use Rattle.pages.specs.Paged.{all_ready, count_unready, spare_after};
 ghost use Rattle.pages.specs.Memory.{put, width_bytes};
 
+use crate::spare::Spare;
 use crate::{OutOfMemory, Part, Store};
 use std::alloc::Global;
 
 /// Makes a page ready with a spare one, which takes over what the page reads.
-pub(crate) fn use_spare(parts: &mut [Part], spares: &mut Vec<Part>, page: usize)
+pub(crate) fn use_spare(parts: &mut [Part], spares: &mut Vec<Spare>, page: usize)
     requires page { page < length parts.old }
     requires unready { is_ready (slice_index_or parts.old page absent) ≡ false }
     requires room { 0 < vec_len spares.old }
-    requires blank { AllBlank spares.old.items }
     ensures bytes { flat parts.new ≡ flat parts.old }
     ensures ready { map is_ready parts.new ≡ slice_set (map is_ready parts.old) page true }
     ensures spares { vec_len spares.new + 1 ≡ vec_len spares.old }
-    ensures blank { AllBlank spares.new.items }
 {
     if let Some(spare) = spares.pop() {
         parts[page].take_spare(spare);
@@ -25,14 +23,12 @@ pub(crate) fn use_spare(parts: &mut [Part], spares: &mut Vec<Part>, page: usize)
 
 /// Sees that a page is ready, with a spare one if it is not.
 #[inline(always)]
-pub(crate) fn ready_page(parts: &mut [Part], spares: &mut Vec<Part>, page: usize)
+pub(crate) fn ready_page(parts: &mut [Part], spares: &mut Vec<Spare>, page: usize)
     requires page { page < length parts.old }
     requires room { (is_ready (slice_index_or parts.old page absent) ≡ true) ⊎ (0 < vec_len spares.old) }
-    requires blank { AllBlank spares.old.items }
     ensures bytes { flat parts.new ≡ flat parts.old }
     ensures ready { map is_ready parts.new ≡ slice_set (map is_ready parts.old) page true }
     ensures spares { vec_len spares.new ≡ spare_after (is_ready (slice_index_or parts.old page absent)) (vec_len spares.old) }
-    ensures blank { AllBlank spares.new.items }
 {
     if parts[page].ready() {
         return;
@@ -56,22 +52,20 @@ pub(crate) fn put_into(parts: &mut [Part], s: Store)
 pub(crate) fn make_ready(
     alloc: Global,
     parts: &mut [Part],
-    spares: &mut Vec<Part>,
+    spares: &mut Vec<Spare>,
     page: usize,
 ) -> Result<(), OutOfMemory>
     requires page { page < length parts.old }
-    requires blank { AllBlank spares.old.items }
     ensures bytes { flat parts.new ≡ flat parts.old }
     ensures ready { OnOk result (map is_ready parts.new ≡ slice_set (map is_ready parts.old) page true) }
     ensures err { OnErr result (map is_ready parts.new ≡ map is_ready parts.old) }
     ensures spares { vec_len spares.new ≤ vec_len spares.old }
-    ensures blank { AllBlank spares.new.items }
 {
     if parts[page].ready() {
         return Ok(());
     }
     if spares.is_empty() {
-        spares.push(Part::blank(alloc)?)?;
+        spares.push(Spare::new(alloc)?)?;
     }
     use_spare(parts, spares, page);
     Ok(())
@@ -81,16 +75,14 @@ pub(crate) fn make_ready(
 pub(crate) fn make_all_ready(
     alloc: Global,
     parts: &mut [Part],
-    spares: &mut Vec<Part>,
+    spares: &mut Vec<Spare>,
     pages: &[u32],
 ) -> Result<(), OutOfMemory>
     requires pages { All (λ (p : ℕ). p < length parts.old) pages.now }
-    requires blank { AllBlank spares.old.items }
     ensures bytes { flat parts.new ≡ flat parts.old }
     ensures ready { OnOk result (map is_ready parts.new ≡ all_ready (map is_ready parts.old) pages.now) }
     ensures stays { (p : ℕ) → slice_index_or (map is_ready parts.old) p false ≡ true → slice_index_or (map is_ready parts.new) p false ≡ true }
     ensures spares { vec_len spares.new ≤ vec_len spares.old }
-    ensures blank { AllBlank spares.new.items }
 {
     for page in pages {
         make_ready(alloc, parts, spares, *page as usize)?;
@@ -102,21 +94,19 @@ pub(crate) fn make_all_ready(
 pub(crate) fn add_spares(
     alloc: Global,
     parts: &[Part],
-    spares: &mut Vec<Part>,
+    spares: &mut Vec<Spare>,
     count: usize,
 ) -> Result<(), OutOfMemory>
     requires few { vec_len spares.old ≤ length parts.now }
-    requires blank { AllBlank spares.old.items }
     ensures count { OnOk result (min count (count_unready (map is_ready parts.now)) ≤ vec_len spares.new) }
     ensures few { vec_len spares.new ≤ length parts.now }
-    ensures blank { AllBlank spares.new.items }
 {
     if spares.len() >= count {
         return Ok(());
     }
     let unready = parts.iter().filter(|part| !part.ready()).count();
     while spares.len() < unready.min(count) {
-        spares.push(Part::blank(alloc)?)?;
+        spares.push(Spare::new(alloc)?)?;
     }
     Ok(())
 }

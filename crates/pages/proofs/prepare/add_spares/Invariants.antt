@@ -1,11 +1,9 @@
 use Rattle.std.proofs.Common.{◌≤◌, ◌-◌, vec_len, length}
-use Rattle.pages.specs.Kept.{AllBlank}
 use Rattle.pages.proofs.prepare.add_spares.Given as goal
 
 abbrev pub invariant-loop-alloc : goal.invariant-loop-alloc
 invariant-loop-alloc l = record {
   few : vec_len l.spares ≤ length l.parts;
-  blank : AllBlank l.spares.items;
 }
 
 abbrev pub decreases-loop-alloc : goal.decreases-loop-alloc

@@ -1,7 +1,7 @@
 use Rattle.std.proofs.Common.{◌≡◌, rules, true, ◌∙◌}
 use Rattle.std.proofs.lemmas.List.{get_or_default}
 use Rattle.pages.specs.Flat.{absent}
-use Rattle.pages.proofs.Readied.{flat-readied, ready-readied, rest_blank}
+use Rattle.pages.proofs.Readied.{flat-readied, ready-readied}
 use Rattle.pages.proofs.prepare.use_spare.Goals as goal
 
 pub returns-in-Some-clause-bytes : goal.returns-in-Some-clause-bytes
@@ -11,6 +11,3 @@ returns-in-Some-clause-bytes c =
 
 pub returns-in-Some-clause-ready : goal.returns-in-Some-clause-ready
 returns-in-Some-clause-ready c = ready-readied c.args.parts.now c.args.page c.take_spare.new.self true c.take_spare.ensures.ready
-
-pub returns-in-Some-clause-blank : goal.returns-in-Some-clause-blank
-returns-in-Some-clause-blank c = rest_blank c.args.spares.now.items c.pop.new.self.items c.in-Some.spare c.in-Some.ensures.items c.requires.blank

@@ -12,7 +12,6 @@ invariant_of-result c =
     record {
       count = search rules;
       few = search rules;
-      blank_spares = search rules;
       code_within = search rules;
       code_below = search rules;
     }
