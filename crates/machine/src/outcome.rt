@@ -1,4 +1,4 @@
-ghost use Rattle.std.specs.Prelude.{◌≡◌, ◌<◌, ◌≤◌, ◌+◌, ◌-◌, IfOk, OnOk, length, ℕ, [], ◌∷◌, ◌++◌, slice_index};
+ghost use Rattle.std.specs.Prelude.{◌≡◌, ◌<◌, ◌≤◌, ◌+◌, ◌-◌, IfOk, length, ℕ, slice_index};
 ghost use Rattle.round_schedule.specs.Schedule.{hart_rounds};
 ghost use Rattle.round_planner.specs.Quotas.{quota_of, quotas_of};
 ghost use Rattle.hart_step.specs.CodeTables.{Shows};
@@ -89,14 +89,14 @@ fn outcomes_alone<G: Gate>(gate: &G, start: &RoundStart<'_>) -> Result<Vec<Outco
     let mut outcomes = Vec::with_capacity(start.pages().allocator(), start.harts().len())?;
     for number in 0..start.harts().len() {
         gate.pass(number as u32);
-        let (hart, buffer, accesses, waits) = round_from(number, start)?;
-        let outcome = Outcome {
+        let mut hart = start.harts()[number];
+        let (buffer, accesses, waits) = round_from(number, start, &mut hart)?;
+        outcomes.push_reserved(Outcome {
             hart,
             buffer,
             log: Log::of(accesses),
             waits,
-        };
-        add(&mut outcomes, outcome)?;
+        });
         gate.done(number as u32);
     }
     Ok(outcomes)
@@ -136,22 +136,12 @@ fn gather_outcomes<B: BookStart + Send + Sync, G: Gate + Sync, R: Threads + Wait
             unreachable!()
         };
         let (hart, buffer, accesses, waits) = round.into_parts();
-        let outcome = Outcome {
+        outcomes.push_reserved(Outcome {
             hart,
             buffer,
             log: Log::of(accesses),
             waits,
-        };
-        add(&mut outcomes, outcome)?;
+        });
     }
     Ok(outcomes)
-}
-
-fn add(outcomes: &mut Vec<Outcome>, outcome: Outcome) -> Result<(), OutOfMemory>
-    ensures { OnOk result (outcomes.new.items ≡ outcomes.old.items ++ outcome ∷ []) }
-{
-    match outcomes.push(outcome) {
-        Ok(()) => Ok(()),
-        Err(_) => Err(OutOfMemory),
-    }
 }

@@ -1,4 +1,4 @@
-ghost use Rattle.std.specs.Prelude.{◌≡◌, ◌≤◌, ◌<◌, ◌+◌, ◌^◌, ◌++◌, map, length, IfOk, OnOk, [], ◌∷◌};
+ghost use Rattle.std.specs.Prelude.{◌≡◌, ◌≤◌, ◌<◌, ◌^◌, length, IfOk};
 ghost use Rattle.machine.specs.Outcomes.{count_true, mask_of, waits_of, harts_of};
 
 use crate::outcome::Outcome;
@@ -36,16 +36,7 @@ pub fn harts_after(alloc: Global, outcomes: &[Outcome]) -> Result<Vec<Hart>, Out
 {
     let mut harts = Vec::with_capacity(alloc, outcomes.len())?;
     for outcome in outcomes {
-        add(&mut harts, outcome.hart)?;
+        harts.push_reserved(outcome.hart);
     }
     Ok(harts)
-}
-
-fn add(harts: &mut Vec<Hart>, hart: Hart) -> Result<(), OutOfMemory>
-    ensures { OnOk result (harts.new.items ≡ harts.old.items ++ hart ∷ []) }
-{
-    match harts.push(hart) {
-        Ok(()) => Ok(()),
-        Err(_) => Err(OutOfMemory),
-    }
 }

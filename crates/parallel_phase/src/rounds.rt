@@ -1,4 +1,4 @@
-ghost use Rattle.std.specs.Prelude.{◌≡◌, ◌<◌, length, IfOk, Some};
+ghost use Rattle.std.specs.Prelude.{◌≡◌, ◌<◌, length, slice_get, IfOk, Some};
 ghost use Rattle.round_lock.specs.Starts.{content_from, round_at};
 ghost use Rattle.round_lock.specs.Rounds.{ticket_of};
 
@@ -7,26 +7,28 @@ use pages::OutOfMemory;
 use round_lock::{BookStart, HartRound, RoundStart, Ticket};
 use store_buffer::StoreBuffer;
 
-/// Does the round of a hart on the memory of its start: the hart after it, its stores, its accesses, and whether it waits.
+/// Does the round of a hart in place, on the memory of its start. The hart is as it starts. Answers its stores, its accesses,
+/// and whether it waits.
 ///
 /// # Errors
 ///
-/// The start is only read.
+/// The start is only read. The hart is as some of its instructions left it.
 pub fn round_from(
     number: usize,
     start: &RoundStart<'_>,
-) -> Result<(Hart, StoreBuffer, Vec<Access>, bool), OutOfMemory>
-    requires { number < length start.now.harts }
-    ensures { IfOk result (λ r. round_at start.now number ≡ Some (content_from r.0 r.1 r.2.items r.3)) }
+    hart: &mut Hart,
+) -> Result<(StoreBuffer, Vec<Access>, bool), OutOfMemory>
+    requires number { number < length start.now.harts }
+    requires hart { slice_get start.now.harts number ≡ Some hart.old }
+    ensures { IfOk result (λ r. round_at start.now number ≡ Some (content_from hart.new r.0 r.1.items r.2)) }
 {
-    let mut hart = start.harts()[number];
     let quota = start.quotas()[number];
     let pages = start.pages();
     let alloc = pages.allocator();
     let mut view = Buffered::new(alloc, pages);
     let mut accesses = Vec::new(alloc);
-    let waits = hart_step::hart_round(&mut hart, &mut view, start.table(), quota, &mut accesses)?;
-    Ok((hart, view.into_buffer(), accesses, waits))
+    let waits = hart_step::hart_round(hart, &mut view, start.table(), quota, &mut accesses)?;
+    Ok((view.into_buffer(), accesses, waits))
 }
 
 /// Does the round of a ticket's hart, on the memory of the start that its book was opened with.
@@ -42,6 +44,8 @@ pub fn hart_round<B: BookStart>(
     requires hart { ticket.hart < length start.now.harts }
     ensures { IfOk result (λ r. ticket_of r ≡ ticket) }
 {
-    let (hart, buffer, accesses, waits) = round_from(ticket.hart() as usize, start)?;
+    let number = ticket.hart() as usize;
+    let mut hart = start.harts()[number];
+    let (buffer, accesses, waits) = round_from(number, start, &mut hart)?;
     Ok(HartRound::new(ticket, hart, buffer, accesses, waits))
 }

@@ -1,4 +1,4 @@
-use Rattle.std.proofs.Common.{◌≡◌, ◌<◌, List, length, [], None, Some, refl, sym, ap, ◌∙◌, subst, arith}
+use Rattle.std.proofs.Common.{◌≡◌, ◌<◌, List, length, [], None, Some, refl, sym, ap, ◌∙◌, subst, arith, rules}
 use Rattle.hart_step.specs.declared.hart.Hart.{Hart}
 use Rattle.round_lock.specs.Rounds.{content_in, hart_of}
 use Rattle.round_schedule.specs.declared.access.Access.{Access}
@@ -12,6 +12,8 @@ use Rattle.machine.proofs.outcome.gather_outcomes.Goals as goal
 pub loop-number-init : goal.loop-number-init
 loop-number-init g c = record {
   left = λ h least most. has_from_times _ h (c.in_ok-gathered.ensures.complete h most);
+  count = search rules;
+  room = search rules;
   rounds = subst (λ (os : List Outcome). AreOutcomes c.args.start.now.memory [] os) (sym c.in_ok-outcomes.ensures.items) tt;
 }
 
@@ -27,8 +29,10 @@ loop-number-preserved g c =
     let low : n < length s.harts = subst (λ (hs : List Hart). n < length hs) c.harts-number-end.ensures.harts c.loop-number-test.true in
     record {
       left = λ h least most. c.take.ensures.others h (λ same. omega (arith, same, least)) ∙ c.loop-number.invariant.left h (omega arith) most;
-      rounds = outcomes_more s.memory s.quotas s.harts n none _ c.loop-number.outcomes.items c.add.new.outcomes.items o
-          low refl c.in_ok-add.ensures c.loop-number.invariant.rounds
+      count = search rules;
+      room = search rules;
+      rounds = outcomes_more s.memory s.quotas s.harts n none _ c.loop-number.outcomes.items c.push_reserved.new.self.items o
+          low refl c.push_reserved.ensures.items c.loop-number.invariant.rounds
           (is_outcome s n none (content_in e) o low c.requires.sized at
           (c.into_parts-buffer.ensures ∙ ap (λ (as' : List Access). content_from parts.0 parts.1 as' parts.3) (sym c.of.ensures)));
     }

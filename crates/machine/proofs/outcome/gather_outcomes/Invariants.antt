@@ -1,4 +1,4 @@
-use Rattle.std.proofs.Common.{◌≡◌, ◌<◌, ◌≤◌, ℕ, length, take, true}
+use Rattle.std.proofs.Common.{◌≡◌, ◌<◌, ◌≤◌, ℕ, length, take, true, vec_capacity, vec_len}
 use Rattle.round_schedule.specs.Schedule.{hart_rounds}
 use Rattle.hart_step.specs.Words.{words_of}
 use Rattle.round_lock.specs.Histories.{harts_of}
@@ -10,5 +10,7 @@ use Rattle.machine.proofs.outcome.gather_outcomes.Given as goal
 abbrev pub invariant-loop-number : goal.invariant-loop-number
 invariant-loop-number g l = record {
   left : (h : ℕ) → l.number ≤ h → h < length l.start.harts → has (harts_of hart_of seat_of l.gathered.history) h ≡ true;
+  count : vec_len l.outcomes ≡ l.number;
+  room : length l.start.harts ≤ vec_capacity l.outcomes;
   rounds : AreOutcomes l.start.memory (hart_rounds (words_of l.start.memory.code) l.start.memory.bytes l.start.quotas (take l.number l.start.harts)) l.outcomes.items;
 }

@@ -20,14 +20,11 @@ pub returns : goal.returns
 returns c =
     let s : Start = c.args.start.now in
     let n = c.args.number in
-    let h : Hart = get_or c.harts.result.now n record { x = []; pc = 0; done = 0; stop = None } in
+    let h : Hart = c.args.hart.now in
     let q = get_or c.quotas.result.now n 0 in
-    let lt : n < length s.harts = c.requires in
-    let hart : slice_get s.harts n ≡ Some h = subst (λ (hs : List Hart). slice_get hs n ≡ Some h) c.harts.ensures.harts
-    (indexed c.harts.result.now n record { x = []; pc = 0; done = 0; stop = None } (let e = ap (λ (hs : List Hart). length hs) c.harts.ensures.harts in omega arith)) in
     let quota : slice_get s.quotas n ≡ Some q = subst (λ (qs : List ℕ). slice_get qs n ≡ Some q) c.quotas.ensures.quotas
-    (indexed c.quotas.result.now n 0 (let e = c.quotas.ensures.sized in omega arith)) in
+    (indexed c.quotas.result.now n 0 (let e = c.quotas.ensures.sized in let low = c.requires.number in omega arith)) in
     let content = content_is c.pages-pages.result.now.memory c.new-view.result c.hart_round.new.b q h c.hart_round.new.h c.new-accesses.result.items c.hart_round.new.log.items
     c.in_ok-waits.waits c.into_buffer.result c.new-view.ensures c.new-accesses.ensures.items c.in_ok-waits.ensures.round c.into_buffer.ensures in
-    round_at_is s n q h hart quota
+    round_at_is s n q h c.requires.hart quota
     ∙ (ap (λ (m : Memory). Some (content_of (hart_round_of (words_of m.code) m.bytes q h))) (sym c.pages-pages.ensures) ∙ ap Some content)
