@@ -11,6 +11,7 @@ mod Ranking
 mod Atomicity
 mod Bounding
 mod Composing
+mod Dropping
 mod Forms
 mod Pairing
 mod Parting

@@ -1,12 +1,13 @@
 -- Lists of events in parts.
-use Rattle.std.proofs.Common.{◌≡◌, ℕ, ◌+◌, ◌-◌, ◌<◌, ◌≤◌, List, [], ◌∷◌, ◌++◌, Bool, true, false, length, get_or, take, drop, sym, ap, ◌∙◌, arith, inl, inr, leb, length-append}
+use Rattle.std.proofs.Common.{◌≡◌, ℕ, ◌+◌, ◌-◌, ◌<◌, ◌≤◌, List, [], ◌∷◌, ◌++◌, Bool, true, false, length, get_or, take, drop, sym, ap, subst, ◌∙◌, arith, inl, inr, leb, length-append}
 use Rattle.std.specs.List.Sorted.{IsNonDecreasingBy, IsPartitionPoint, IsPartitionedBy}
 use Rattle.std.specs.Fn.{Called, ComputesKey}
 use denote.Param.Members.{Mut}
 use denote.Ref.{Bor}
 use Rattle.std.proofs.lemmas.List.Sorted.{IsPartitionPoint-from_clause, IsPartitionedBy-leb}
 use Rattle.std.proofs.lemmas.Bool.{cases_lt, leb-false, leb-true}
-use Rattle.std.proofs.lemmas.List.{append-nil, take-append-drop, take-take, take_all, take_more}
+use Rattle.std.proofs.lemmas.List.{append-nil, drop-append-le, drop_more, take-append-drop, take-take, take_all, take_more}
+use Rattle.std.proofs.Math.Seq.{drop-append-add}
 use Rattle.std.proofs.lemmas.List.Concat.{flat_map-append, get_or-flat_map}
 use Rattle.round_schedule.specs.declared.event.Event.{Event}
 use Rattle.round_schedule.specs.Positions.{event, no_event}
@@ -53,9 +54,10 @@ pub record IsWith (parts : List Part) (i n : ℕ) (p : Part) : Type 0 where
   pub start : p.start ≤ i
   pub within : i - p.start < length (events_in p)
   pub same : event (events_in p) (i - p.start) ≡ event (joined parts) i
+  pub rest : drop (i - p.start) (events_in p) ++ joined (drop n parts) ≡ drop i (joined parts)
 
 pub last_begun : (parts : List Part) (i n : ℕ) (e : Part) → AreParts parts → i < length (joined parts) → n ≤ length parts → AreBegun parts i n → IsWith parts i n (get_or parts (n - 1) e)
-last_begun parts i n e h l m b = record { start = start; within = within; same = same }
+last_begun parts i n e h l m b = record { start = start; within = within; same = same; rest = rest }
   where
     above : i < length (joined (take n parts))
     above = elim (cases_lt n (length parts)) [
@@ -86,3 +88,21 @@ last_begun parts i n e h l m b = record { start = start; within = within; same =
     same =
         let place : length (joined (take (n - 1) parts)) + (i - p.start) ≡ i = omega (arith, first, start) in
         sym (get_or-flat_map events_in parts (n - 1) (i - p.start) e no_event (omega (arith, some)) within) ∙ ap (event (joined parts)) place
+
+    rest : drop (i - p.start) (events_in p) ++ joined (drop n parts) ≡ drop i (joined parts)
+    rest =
+        let before = joined (take (n - 1) parts) in
+        let next : n - 1 + 1 ≡ n = omega (arith, some) in
+        let place : length before + (i - p.start) ≡ i = omega (arith, first, start) in
+        let cut : drop (n - 1) parts ≡ p ∷ drop n parts = drop_more parts (n - 1) e (omega (arith, some)) ∙ ap (λ (j : ℕ). p ∷ drop j parts) next in
+        let split : joined parts ≡ before ++ (events_in p ++ joined (drop n parts)) =
+        ap joined (sym (take-append-drop (n - 1) parts)) ∙ flat_map-append events_in (take (n - 1) parts) (drop (n - 1) parts) ∙ ap (λ (ps : List Part). before ++ joined ps) cut in
+        sym (ap (λ (j : ℕ). drop j (joined parts)) (sym place) ∙ ap (drop (length before + (i - p.start))) split
+        ∙ drop-append-add before (events_in p ++ joined (drop n parts)) (i - p.start)
+        ∙ drop-append-le (i - p.start) (events_in p) (joined (drop n parts)) (omega (arith, within)))
+
+-- the part before that point, which `partition_point` found
+pub found : {F : Type 0} {g : Mut F (Bor Part × Unit {0}) Bool} {f : F} (parts : List Part) (i n : ℕ) (p : Part) → AreParts parts → i < length (joined parts) → n ≤ length parts →
+    ((q : Part → Bool) → ComputesKey g q f → IsPartitionedBy q parts → IsPartitionPoint (λ y. q y ≡ true) (λ y. q y ≡ false) parts n) →
+    ((a : Bor Part × Unit {0}) (r : Bool) (f' : F) → Called g f a r f' → (r ≡ leb a.0.now.start i) × (f' ≡ f)) → p ≡ get_or parts (n - 1) p → IsWith parts i n p
+found parts i n p h l m clause calls is = subst (IsWith parts i n) (sym is) (last_begun parts i n p h l m (begun parts i n h clause calls))

@@ -1,6 +1,6 @@
 //! The accesses of a log, lent.
 
-ghost use Rattle.std.specs.Prelude.{◌≡◌, ◌<◌, ◌∷◌, ◌↔◌, [], length, slice_index_or, IfNone, IfSome, IsTrue};
+ghost use Rattle.std.specs.Prelude.{◌≡◌, ◌<◌, ◌≤◌, ◌∷◌, ◌↔◌, [], drop, length, slice_index_or, IfNone, IfSome, IsTrue};
 ghost use Rattle.memory_order.specs.LentLogs.{accesses_lent};
 
 use crate::remaining::Remaining;
@@ -24,6 +24,17 @@ impl<'a> Accesses<'a> {
         match self {
             Accesses::Whole(accesses) => access_at(accesses, place),
             Accesses::Brief(remaining) => remaining.get(place),
+        }
+    }
+
+    /// Those from a place on.
+    pub(crate) fn from(self, place: usize) -> Accesses<'a>
+        requires { place ≤ length (accesses_lent self) }
+        ensures { accesses_lent result ≡ drop place (accesses_lent self.entry) }
+    {
+        match self {
+            Accesses::Whole(accesses) => Accesses::Whole(&accesses[place..]),
+            Accesses::Brief(remaining) => Accesses::Brief(remaining.from(place)),
         }
     }
 

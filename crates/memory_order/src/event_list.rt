@@ -1,13 +1,13 @@
 //! A list of events in parts.
 
-ghost use Rattle.std.specs.Prelude.{◌≡◌, ◌+◌, ◌<◌, ◌≤◌, ◌^◌, ◌++◌, [], ◌∷◌, IfOk, OnErr, OnOk, length};
+ghost use Rattle.std.specs.Prelude.{◌≡◌, ◌+◌, ◌<◌, ◌≤◌, ◌^◌, ◌++◌, [], ◌∷◌, IfOk, OnErr, OnOk, drop, length};
 ghost use Rattle.round_schedule.specs.Events.{events_of};
 ghost use Rattle.round_schedule.specs.Positions.{event};
 ghost use Rattle.memory_order.specs.Parts.{AreCounted, AreParts, events_in, joined};
 
 use crate::events::Events;
 use crate::log::Log;
-use crate::part::{Batch, Part, part_with};
+use crate::part::{Batch, Part, parts_with};
 use pages::OutOfMemory;
 use round_schedule::{Event, Phase};
 use std::alloc::Global;
@@ -73,7 +73,7 @@ impl EventList {
         ensures { result ≡ event self.now.events place }
     {
         if place < self.finished {
-            let part = part_with(&self.parts, place);
+            let (part, _) = parts_with(&self.parts, place);
             part.run().get(place - part.start)
         } else {
             self.tail[place - self.finished]
@@ -85,6 +85,19 @@ impl EventList {
         ensures { result ≡ self.now.events }
     {
         Events::new(&self.parts, &self.tail)
+    }
+
+    /// The events from a place on, in order.
+    pub(crate) fn from(&self, place: usize) -> Events<'_>
+        ensures { result ≡ drop place self.now.events }
+    {
+        if place < self.finished {
+            let (part, others) = parts_with(&self.parts, place);
+            Events::beginning(part.run().from(place - part.start), others, &self.tail)
+        } else {
+            let passed = (place - self.finished).min(self.tail.len());
+            Events::new(&[], &self.tail[passed..])
+        }
     }
 
     /// The events as one vector.

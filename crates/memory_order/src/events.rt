@@ -1,8 +1,8 @@
 //! An iterator over a list of events in parts.
 
-ghost use Rattle.std.specs.Prelude.{◌≡◌, ◌++◌, All};
+ghost use Rattle.std.specs.Prelude.{◌≡◌, ◌<◌, ◌++◌, All, length};
 ghost use Rattle.std.specs.Iterator.{YieldsFirst, item_count};
-ghost use Rattle.memory_order.specs.Parts.{HasEvents, joined};
+ghost use Rattle.memory_order.specs.Parts.{HasEvents, joined, run_events};
 
 use crate::part::Part;
 use crate::run::Run;
@@ -43,11 +43,16 @@ impl<'a> Events<'a> {
                 tail: &[],
             };
         };
-        Events {
-            run: part.run(),
-            parts: others,
-            tail,
-        }
+        Events::beginning(part.run(), others, tail)
+    }
+
+    /// The events of a run, then those of these parts, and then those of the tail.
+    pub(crate) fn beginning(run: Run<'a>, parts: &'a [Part], tail: &'a [Event]) -> Events<'a>
+        requires some { 0 < length (run_events run) }
+        requires filled { All HasEvents parts.now }
+        ensures { result ≡ run_events run.entry ++ (joined parts.now ++ tail.now) }
+    {
+        Events { run, parts, tail }
     }
 }
 

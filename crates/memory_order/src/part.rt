@@ -1,8 +1,8 @@
 //! The finished parts of a list of events.
 
-ghost use Rattle.std.specs.Prelude.{◌≡◌, ◌-◌, ◌<◌, ◌≤◌, IfOk, length};
+ghost use Rattle.std.specs.Prelude.{◌≡◌, ◌-◌, ◌<◌, ◌≤◌, ◌++◌, All, IfOk, drop, length};
 ghost use Rattle.round_schedule.specs.Positions.{event};
-ghost use Rattle.memory_order.specs.Parts.{AreParts, events_in, joined, run_events};
+ghost use Rattle.memory_order.specs.Parts.{AreParts, HasEvents, events_in, joined, run_events};
 
 use crate::log::Log;
 use crate::run::{LogRun, Run};
@@ -79,14 +79,16 @@ impl Part {
     }
 }
 
-/// The part that has the event at a place of the list.
-pub(crate) fn part_with(parts: &[Part], place: usize) -> &Part
+/// The part that has the event at a place of the list, and those after it.
+pub(crate) fn parts_with(parts: &[Part], place: usize) -> (&Part, &[Part])
     requires parts { AreParts parts.now }
     requires within { place < length (joined parts.now) }
-    ensures start { result.now.start ≤ place }
-    ensures within { place - result.now.start < length (events_in result.now) }
-    ensures event { event (events_in result.now) (place - result.now.start) ≡ event (joined parts.now) place }
+    ensures start { result.0.now.start ≤ place }
+    ensures within { place - result.0.now.start < length (events_in result.0.now) }
+    ensures event { event (events_in result.0.now) (place - result.0.now.start) ≡ event (joined parts.now) place }
+    ensures rest { drop (place - result.0.now.start) (events_in result.0.now) ++ joined result.1.now ≡ drop place (joined parts.now) }
+    ensures filled { All HasEvents result.1.now }
 {
     let begun = parts.partition_point(|part| part.start <= place);
-    &parts[begun - 1]
+    (&parts[begun - 1], &parts[begun..])
 }

@@ -1,4 +1,4 @@
-ghost use Rattle.std.specs.Prelude.{◌≡◌, ◌<◌, ◌∷◌, ◌↔◌, [], length, slice_index_or, IfNone, IfSome, IsTrue};
+ghost use Rattle.std.specs.Prelude.{◌≡◌, ◌<◌, ◌∷◌, ◌↔◌, [], drop, length, slice_index_or, IfNone, IfSome, IsTrue};
 ghost use Rattle.memory_order.specs.Briefs.{in_turn};
 
 use crate::brief::Brief;
@@ -45,6 +45,21 @@ impl<'a> Remaining<'a> {
             self.briefs[place].access(self.base)
         } else {
             access_in(self.stretches, place - self.briefs.len())
+        }
+    }
+
+    /// Those from a place on.
+    pub(crate) fn from(self, place: usize) -> Remaining<'a>
+        ensures { result ≡ drop place self.entry }
+    {
+        if place < self.briefs.len() {
+            Remaining {
+                base: self.base,
+                briefs: &self.briefs[place..],
+                stretches: self.stretches,
+            }
+        } else {
+            rest_of(self.stretches, place - self.briefs.len())
         }
     }
 
@@ -123,5 +138,23 @@ fn access_in(stretches: &[Stretch], place: usize) -> Access
         stretch.briefs[place].access(stretch.base)
     } else {
         access_in(others, place - stretch.briefs.len())
+    }
+}
+
+/// The accesses of stretches from a place on.
+fn rest_of<'a>(stretches: &'a [Stretch], place: usize) -> Remaining<'a>
+    ensures { result ≡ drop place (in_turn stretches.now) }
+{
+    let Some((stretch, others)) = stretches.split_first() else {
+        return Remaining::new(stretches);
+    };
+    if place < stretch.briefs.len() {
+        Remaining {
+            base: stretch.base,
+            briefs: &stretch.briefs[place..],
+            stretches: others,
+        }
+    } else {
+        rest_of(others, place - stretch.briefs.len())
     }
 }

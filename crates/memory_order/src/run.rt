@@ -1,6 +1,6 @@
 //! Events that stand together in memory, lent.
 
-ghost use Rattle.std.specs.Prelude.{◌≡◌, ◌<◌, ◌∷◌, ◌↔◌, [], length, IfNone, IfSome, IsTrue};
+ghost use Rattle.std.specs.Prelude.{◌≡◌, ◌<◌, ◌≤◌, ◌∷◌, ◌↔◌, [], drop, length, IfNone, IfSome, IsTrue};
 ghost use Rattle.round_schedule.specs.Positions.{event};
 ghost use Rattle.round_schedule.specs.Events.{event_of};
 ghost use Rattle.memory_order.specs.Parts.{run_events};
@@ -35,6 +35,22 @@ impl<'a> Run<'a> {
         match self {
             Run::Events(events) => event_at(events, place),
             Run::Log(log) => log.event_of(log.accesses.get(place)),
+        }
+    }
+
+    /// The events from a place on.
+    pub(crate) fn from(self, place: usize) -> Run<'a>
+        requires { place ≤ length (run_events self) }
+        ensures { run_events result ≡ drop place (run_events self.entry) }
+    {
+        match self {
+            Run::Events(events) => Run::Events(&events[place..]),
+            Run::Log(log) => Run::Log(LogRun {
+                round: log.round,
+                hart: log.hart,
+                phase: log.phase,
+                accesses: log.accesses.from(place),
+            }),
         }
     }
 

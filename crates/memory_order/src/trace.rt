@@ -1,4 +1,4 @@
-ghost use Rattle.std.specs.Prelude.{◌≡◌, ℕ, ◌-◌, ◌+◌, ◌<◌, ◌≤◌, ◌^◌, ◌↔◌, [], ◌∷◌, ◌++◌, length, map, slice_index, true, false, MatchOption, IfOk, IfSome, IsSome, OnOk};
+ghost use Rattle.std.specs.Prelude.{◌≡◌, ℕ, ◌-◌, ◌+◌, ◌<◌, ◌≤◌, ◌^◌, ◌↔◌, [], ◌∷◌, ◌++◌, drop, length, map, slice_index, true, false, MatchOption, IfOk, IfSome, IsSome, OnOk};
 ghost use Rattle.pages.specs.Memory.{in_range};
 ghost use Rattle.round_schedule.specs.Events.{events_of};
 ghost use Rattle.round_schedule.specs.Positions.{event};
@@ -188,6 +188,13 @@ impl Trace {
         ensures { result ≡ self.now.events }
     {
         self.events.iter()
+    }
+
+    /// The events from a place on, in order.
+    pub fn events_from(&self, place: usize) -> Events<'_>
+        ensures { result ≡ drop place self.now.events }
+    {
+        self.events.from(place)
     }
 
     /// The events so far, as one vector.

@@ -253,6 +253,22 @@ fn has_expected(alloc: Global, trace: &Trace, end: usize) -> bool {
     events.next().is_none()
 }
 
+// Whether a trace of so many of those events gives those from each place on, also from places past its end.
+fn has_expected_from_each_place(trace: &Trace, end: usize) -> bool {
+    for start in 0..end.saturating_add(3) {
+        let mut events = trace.events_from(start);
+        for place in start..end {
+            if events.next() != Some(expected(place)) {
+                return false;
+            }
+        }
+        if events.next().is_some() {
+            return false;
+        }
+    }
+    true
+}
+
 #[test]
 fn adopted_logs_stand_among_pushed_events(rt: HostRuntime) {
     let alloc = rt.alloc();
@@ -266,11 +282,13 @@ fn adopted_logs_stand_among_pushed_events(rt: HostRuntime) {
     assert!(rt; push_load(alloc, &mut trace, 0, 305));
     assert!(rt; push_load(alloc, &mut trace, 2, 400));
     assert!(rt; has_expected(alloc, &trace, 707));
+    assert!(rt; has_expected_from_each_place(&trace, 707));
     let copy = trace.copy(alloc).expect(&rt, "memory");
     assert!(rt; has_expected(alloc, &copy, 707));
     trace.reserve_logs(1, 300).expect(&rt, "memory");
     assert!(rt; adopt_loads(alloc, &mut trace, 3, 1, 0, 300));
     assert!(rt; has_expected(alloc, &trace, 1_007));
+    assert!(rt; has_expected_from_each_place(&trace, 1_007));
     assert!(rt; has_expected(alloc, &copy, 707));
 }
 
