@@ -3,3 +3,4 @@ pub mod Digits
 pub mod Writing
 pub mod RowsMore
 pub mod Orders
+mod InBlocks

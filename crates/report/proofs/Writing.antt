@@ -132,3 +132,29 @@ sink_of text s n (Err x) l h e =
 pub errors_of : (text : List ℕ) (s n : Way) (r : Answer) → s.line ≡ [] → Wrote text s r n → IfErr r (λ e. (e ≡ OutOfMemory) ⊎ (e ≡ SinkFailed))
 errors_of text s n (Ok v) l h = tt
 errors_of text s n (Err x) l h = let p = all_put text s n (Err x) l h in ⊎_elim (λ m. inl m.0) (λ f. inr f.0) p.1
+
+sink_only : (e : RunError) → ◌≡◌ {A = Answer} (Err e) (Err SinkFailed) → e ≡ SinkFailed
+sink_only e q = cc
+
+-- a text that is put at once, where none stands before it
+pub put_by : (text bytes : List ℕ) (s : Way) (r : Answer) (n : Way) → bytes ≡ text → s.line ≡ [] → n.line ≡ [] → OnOk r (n.took ≡ s.took ++ bytes) → OnErr r (BeganText s.took n.took bytes) → OnErr r (s.failures < n.failures) → OnErr r (r ≡ Err SinkFailed) → OnOk r (n.failures ≡ s.failures) → Wrote text s r n
+unfolding Wrote
+put_by text bytes s (Ok v) n e l m ok begun failed only counts = (
+  counts,
+  record {
+    gone = text;
+    out = ok ∙ ap (λ (z : List ℕ). s.took ++ z) e;
+    text_is = ap (λ (z : List ℕ). z ++ text) l ∙ sym (append-nil text) ∙ ap (λ (z : List ℕ). text ++ z) (sym m);
+  },
+)
+put_by text bytes s (Err x) n e l m ok begun failed only counts = (
+  inr (sink_only x only, failed),
+  (
+    drop begun.count text,
+    record {
+      gone = take begun.count text;
+      out = begun.bytes ∙ ap (λ (z : List ℕ). s.took ++ take begun.count z) e;
+      text_is = ap (λ (z : List ℕ). z ++ text) l ∙ sym (take-append-drop begun.count text);
+    },
+  ),
+)

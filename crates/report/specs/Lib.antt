@@ -3,3 +3,4 @@ pub mod Pending
 pub mod Report
 pub mod Order
 pub mod Shown
+pub mod Blocks

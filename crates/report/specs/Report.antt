@@ -49,6 +49,14 @@ events_text (e ∷ es) = event_text e ++ events_text es
 unfoldable pub trace_text : List Event → List ℕ
 trace_text es = codes "trace " ++ decimal (length es) ++ codes "\n" ++ events_text es
 
+-- what stands before the events
+unfoldable pub head_text : ℕ → List Hart → List ℕ → List ℕ → List ℕ
+head_text rounds harts bytes output =
+    codes "rounds " ++ decimal rounds ++ codes "\n"
+    ++ harts_text 0 harts
+    ++ memory_text bytes
+    ++ output_text output
+
 -- the report of so many rounds, these harts, these bytes of memory, this output and these events
 unfoldable pub report_text : ℕ → List Hart → List ℕ → List ℕ → List Event → List ℕ
 report_text rounds harts bytes output events =

@@ -1,6 +1,7 @@
 //! The report of a run: the text of harts, memory, output and events, and that of the order of its memory operations.
 #![tactic(auto)]
 
+mod blocks;
 mod line;
 mod order;
 mod rows;
@@ -13,5 +14,5 @@ mod writer;
 pub use line::Line;
 pub use order::write_order;
 pub use shown::{write_summary, write_untraced};
-pub use state::write_state;
+pub use state::{write_state, write_state_on};
 pub use text::{write_event, write_hart};

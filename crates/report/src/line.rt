@@ -1,4 +1,4 @@
-ghost use Rattle.std.specs.Prelude.{◌≡◌, ℕ, ◌+◌, ◌≤◌, ◌<◌, List, [], ◌∷◌, ◌++◌, OnOk, length};
+ghost use Rattle.std.specs.Prelude.{◌≡◌, ℕ, ◌+◌, ◌≤◌, ◌<◌, List, [], ◌∷◌, ◌++◌, IfOk, OnOk, length};
 ghost use Rattle.std.specs.Fmt.{decimal};
 ghost use Rattle.report.specs.Text.{hex, hex_digit};
 
@@ -27,6 +27,15 @@ impl Line {
         Line {
             bytes: Vec::new(alloc),
         }
+    }
+
+    /// No text, with room for so many bytes.
+    pub fn with_capacity(alloc: Global, bytes: usize) -> Result<Self, OutOfMemory>
+        ensures { IfOk result (λ l. l ≡ []) }
+    {
+        Ok(Line {
+            bytes: Vec::with_capacity(alloc, bytes)?,
+        })
     }
 
     /// Drops the text, and keeps the memory.

@@ -4,7 +4,7 @@ ghost use Rattle.report.specs.Pending.{Wrote, way};
 ghost use Rattle.report.specs.Shown.{output_line, state_text, summary_text};
 
 use crate::line::Line;
-use crate::state::{put_count, put_end, put_harts, put_memory, put_output};
+use crate::state::{put_count, put_end, put_harts, put_head};
 use crate::writer::put_line;
 use hart_step::Hart;
 use host_io::{RunError, Sink};
@@ -45,10 +45,7 @@ fn put_untraced<S: Sink>(
     ensures wrote { Wrote (state_text rounds harts.now pages.now.memory.bytes output.now) (way (S.took out.old) (S.failures out.old) line.old) result (way (S.took out.new) (S.failures out.new) line.new) }
     ensures empty { OnOk result (line.new ≡ []) }
 {
-    put_count(out, line, "rounds ", rounds as u64)?;
-    put_harts(out, line, harts)?;
-    put_memory(out, line, pages)?;
-    put_output(out, line, output)?;
+    put_head(out, line, rounds, harts, pages, output)?;
     put_end(out, line)
 }
 

@@ -3,9 +3,10 @@ ghost use Rattle.std.specs.Fmt.{decimal};
 ghost use Rattle.host_io.specs.Taken.{BeganText};
 ghost use Rattle.pages.specs.Flat.{page_bytes};
 ghost use Rattle.report.specs.Pending.{Wrote, way};
-ghost use Rattle.report.specs.Report.{bytes_text, events_text, harts_text, memory_text, output_rows, output_text, report_text, trace_text, memory_rows};
+ghost use Rattle.report.specs.Report.{bytes_text, events_text, harts_text, head_text, memory_text, output_rows, output_text, report_text, trace_text, memory_rows};
 ghost use Rattle.report.specs.Text.{event_text, hart_text};
 
+use crate::blocks::put_trace_on;
 use crate::line::Line;
 use crate::rows::{count_line, output_row, page_rows};
 use crate::text::{event_line, hart_lines};
@@ -16,6 +17,7 @@ use memory_order::Trace;
 use pages::Pages;
 use round_schedule::Event;
 use std::alloc::Global;
+use std::thread::Threads;
 
 pub(crate) fn put_count<S: Sink>(
     out: &mut S,
@@ -56,7 +58,11 @@ fn put_events<S: Sink>(out: &mut S, line: &mut Line, trace: &Trace) -> Result<()
     Ok(())
 }
 
-fn put_trace<S: Sink>(out: &mut S, line: &mut Line, trace: &Trace) -> Result<(), RunError>
+pub(crate) fn put_trace<S: Sink>(
+    out: &mut S,
+    line: &mut Line,
+    trace: &Trace,
+) -> Result<(), RunError>
     ensures { Wrote (trace_text trace.now.events) (way (S.took out.old) (S.failures out.old) line.old) result (way (S.took out.new) (S.failures out.new) line.new) }
 {
     put_count(out, line, "trace ", trace.len() as u64)?;
@@ -99,11 +105,7 @@ fn put_pages<S: Sink>(out: &mut S, line: &mut Line, pages: &Pages) -> Result<(),
     Ok(())
 }
 
-pub(crate) fn put_memory<S: Sink>(
-    out: &mut S,
-    line: &mut Line,
-    pages: &Pages,
-) -> Result<(), RunError>
+fn put_memory<S: Sink>(out: &mut S, line: &mut Line, pages: &Pages) -> Result<(), RunError>
     ensures { Wrote (memory_text pages.now.memory.bytes) (way (S.took out.old) (S.failures out.old) line.old) result (way (S.took out.new) (S.failures out.new) line.new) }
 {
     put_count(out, line, "memory ", pages.count() as u64)?;
@@ -126,11 +128,7 @@ fn put_rows<S: Sink>(out: &mut S, line: &mut Line, output: &[u8]) -> Result<(), 
     Ok(())
 }
 
-pub(crate) fn put_output<S: Sink>(
-    out: &mut S,
-    line: &mut Line,
-    output: &[u8],
-) -> Result<(), RunError>
+fn put_output<S: Sink>(out: &mut S, line: &mut Line, output: &[u8]) -> Result<(), RunError>
     ensures { Wrote (output_text output.now) (way (S.took out.old) (S.failures out.old) line.old) result (way (S.took out.new) (S.failures out.new) line.new) }
 {
     put_count(out, line, "output ", output.len() as u64)?;
@@ -145,6 +143,23 @@ pub(crate) fn put_end<S: Sink>(out: &mut S, line: &mut Line) -> Result<(), RunEr
     put_line(out, line)
 }
 
+/// Puts all that stands before the events.
+pub(crate) fn put_head<S: Sink>(
+    out: &mut S,
+    line: &mut Line,
+    rounds: u32,
+    harts: &[Hart],
+    pages: &Pages,
+    output: &[u8],
+) -> Result<(), RunError>
+    ensures { Wrote (head_text rounds harts.now pages.now.memory.bytes output.now) (way (S.took out.old) (S.failures out.old) line.old) result (way (S.took out.new) (S.failures out.new) line.new) }
+{
+    put_count(out, line, "rounds ", rounds as u64)?;
+    put_harts(out, line, harts)?;
+    put_memory(out, line, pages)?;
+    put_output(out, line, output)
+}
+
 fn put_state<S: Sink>(
     out: &mut S,
     line: &mut Line,
@@ -157,10 +172,7 @@ fn put_state<S: Sink>(
     ensures wrote { Wrote (report_text rounds harts.now pages.now.memory.bytes output.now trace.now.events) (way (S.took out.old) (S.failures out.old) line.old) result (way (S.took out.new) (S.failures out.new) line.new) }
     ensures empty { OnOk result (line.new ≡ []) }
 {
-    put_count(out, line, "rounds ", rounds as u64)?;
-    put_harts(out, line, harts)?;
-    put_memory(out, line, pages)?;
-    put_output(out, line, output)?;
+    put_head(out, line, rounds, harts, pages, output)?;
     put_trace(out, line, trace)?;
     put_end(out, line)
 }
@@ -188,4 +200,39 @@ pub fn write_state<S: Sink>(
 {
     let mut line = Line::new(alloc);
     put_state(out, &mut line, rounds, harts, pages, output, trace)
+}
+
+/// The most workers that format a report.
+const MOST_WORKERS: u32 = 16;
+
+/// Writes what `write_state` writes, with the lines of the events formatted by so many workers, though by no more than 16.
+///
+/// Each worker formats a block of events at a time, and the blocks are put in order. The calling thread is a worker, and
+/// formats the blocks of which no thread could be started.
+///
+/// # Errors
+///
+/// `OutOfMemory` where a line or a block found no memory, and `SinkFailed` where the sink failed. A beginning of the
+/// report is out then.
+pub fn write_state_on<S: Sink, R: Threads + Sync>(
+    rt: &R,
+    workers: u32,
+    alloc: Global,
+    rounds: u32,
+    harts: &[Hart],
+    pages: &Pages,
+    output: &[u8],
+    trace: &Trace,
+    out: &mut S,
+) -> Result<(), RunError>
+    ensures ok { OnOk result (S.took out.new ≡ S.took out.old ++ report_text rounds harts.now pages.now.memory.bytes output.now trace.now.events) }
+    ensures begun { OnErr result (BeganText (S.took out.old) (S.took out.new) (report_text rounds harts.now pages.now.memory.bytes output.now trace.now.events)) }
+    ensures sink { result ≡ Err RunError.SinkFailed → S.failures out.old < S.failures out.new }
+    ensures errors { IfErr result (λ e. (e ≡ RunError.OutOfMemory) ⊎ (e ≡ RunError.SinkFailed)) }
+{
+    let mut line = Line::new(alloc);
+    let workers = workers.min(MOST_WORKERS) as usize;
+    put_head(out, &mut line, rounds, harts, pages, output)?;
+    put_trace_on(rt, workers, alloc, out, &mut line, trace)?;
+    put_end(out, &mut line)
 }

@@ -1,4 +1,4 @@
-use Rattle.std.proofs.Common.{◌≡◌, ◌++◌, List, ℕ, [], Err, rules, subst, append-nil}
+use Rattle.std.proofs.Common.{◌≡◌, List, ℕ, [], Err, rules, subst, append-nil}
 use Rattle.report.specs.Pending.{Wrote, way}
 use Rattle.report.specs.Shown.{output_line}
 use Rattle.report.proofs.Writing.{passed_on, wrote_then}

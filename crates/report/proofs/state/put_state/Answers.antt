@@ -1,39 +1,21 @@
 use Rattle.std.proofs.Common.{◌≡◌, Err, rules}
 use Rattle.report.specs.Pending.{way}
-use Rattle.report.specs.Report.{report_text}
+use Rattle.report.specs.Report.{head_text, report_text}
 use Rattle.report.proofs.Writing.{passed_on, wrote_part, wrote_then}
 use Rattle.report.proofs.state.put_state.Goals as goal
 
-pub returns-in_err-put_count-clause-wrote : goal.returns-in_err-put_count-clause-wrote
-unfolding report_text
-returns-in_err-put_count-clause-wrote g c =
-    let r : c.from_residual.result ≡ Err c.in_err-put_count.field-0.0 = search rules in
-    passed_on _ (way (g.S.Sink.took c.args.out.now) (g.S.Sink.failures c.args.out.now) c.args.line.now) _ _ _ r (wrote_part _ _ (way (g.S.Sink.took c.args.out.now) (g.S.Sink.failures c.args.out.now) c.args.line.now) _ _ (wrote_part _ _ (way (g.S.Sink.took c.args.out.now) (g.S.Sink.failures c.args.out.now) c.args.line.now) _ _ (wrote_part _ _ (way (g.S.Sink.took c.args.out.now) (g.S.Sink.failures c.args.out.now) c.args.line.now) _ _ (wrote_part _ _ (way (g.S.Sink.took c.args.out.now) (g.S.Sink.failures c.args.out.now) c.args.line.now) _ _ (wrote_part _ _ (way (g.S.Sink.took c.args.out.now) (g.S.Sink.failures c.args.out.now) c.args.line.now) _ _ c.in_err-put_count.ensures)))))
-
-pub returns-in_err-put_harts-clause-wrote : goal.returns-in_err-put_harts-clause-wrote
-unfolding report_text
-returns-in_err-put_harts-clause-wrote g c =
-    let r : c.from_residual-in_err-put_harts.result ≡ Err c.in_err-put_harts.field-0.0 = search rules in
-    passed_on _ (way (g.S.Sink.took c.args.out.now) (g.S.Sink.failures c.args.out.now) c.args.line.now) _ _ _ r (wrote_part _ _ (way (g.S.Sink.took c.args.out.now) (g.S.Sink.failures c.args.out.now) c.args.line.now) _ _ (wrote_part _ _ (way (g.S.Sink.took c.args.out.now) (g.S.Sink.failures c.args.out.now) c.args.line.now) _ _ (wrote_part _ _ (way (g.S.Sink.took c.args.out.now) (g.S.Sink.failures c.args.out.now) c.args.line.now) _ _ (wrote_part _ _ (way (g.S.Sink.took c.args.out.now) (g.S.Sink.failures c.args.out.now) c.args.line.now) _ _ (wrote_then _ _ (way (g.S.Sink.took c.args.out.now) (g.S.Sink.failures c.args.out.now) c.args.line.now) _ _ _ c.in_ok-put_count.ensures c.in_err-put_harts.ensures)))))
-
-pub returns-in_err-put_memory-clause-wrote : goal.returns-in_err-put_memory-clause-wrote
-unfolding report_text
-returns-in_err-put_memory-clause-wrote g c =
-    let r : c.from_residual-in_err-put_memory.result ≡ Err c.in_err-put_memory.field-0.0 = search rules in
-    passed_on _ (way (g.S.Sink.took c.args.out.now) (g.S.Sink.failures c.args.out.now) c.args.line.now) _ _ _ r (wrote_part _ _ (way (g.S.Sink.took c.args.out.now) (g.S.Sink.failures c.args.out.now) c.args.line.now) _ _ (wrote_part _ _ (way (g.S.Sink.took c.args.out.now) (g.S.Sink.failures c.args.out.now) c.args.line.now) _ _ (wrote_part _ _ (way (g.S.Sink.took c.args.out.now) (g.S.Sink.failures c.args.out.now) c.args.line.now) _ _ (wrote_then _ _ (way (g.S.Sink.took c.args.out.now) (g.S.Sink.failures c.args.out.now) c.args.line.now) _ _ _ (wrote_then _ _ (way (g.S.Sink.took c.args.out.now) (g.S.Sink.failures c.args.out.now) c.args.line.now) _ _ _ c.in_ok-put_count.ensures c.in_ok-put_harts.ensures) c.in_err-put_memory.ensures))))
-
-pub returns-in_err-put_output-clause-wrote : goal.returns-in_err-put_output-clause-wrote
-unfolding report_text
-returns-in_err-put_output-clause-wrote g c =
-    let r : c.from_residual-in_err-put_output.result ≡ Err c.in_err-put_output.field-0.0 = search rules in
-    passed_on _ (way (g.S.Sink.took c.args.out.now) (g.S.Sink.failures c.args.out.now) c.args.line.now) _ _ _ r (wrote_part _ _ (way (g.S.Sink.took c.args.out.now) (g.S.Sink.failures c.args.out.now) c.args.line.now) _ _ (wrote_part _ _ (way (g.S.Sink.took c.args.out.now) (g.S.Sink.failures c.args.out.now) c.args.line.now) _ _ (wrote_then _ _ (way (g.S.Sink.took c.args.out.now) (g.S.Sink.failures c.args.out.now) c.args.line.now) _ _ _ (wrote_then _ _ (way (g.S.Sink.took c.args.out.now) (g.S.Sink.failures c.args.out.now) c.args.line.now) _ _ _ (wrote_then _ _ (way (g.S.Sink.took c.args.out.now) (g.S.Sink.failures c.args.out.now) c.args.line.now) _ _ _ c.in_ok-put_count.ensures c.in_ok-put_harts.ensures) c.in_ok-put_memory.ensures) c.in_err-put_output.ensures)))
+pub returns-in_err-put_head-clause-wrote : goal.returns-in_err-put_head-clause-wrote
+unfolding head_text report_text
+returns-in_err-put_head-clause-wrote g c =
+    let r : c.from_residual.result ≡ Err c.in_err-put_head.field-0.0 = search rules in
+    passed_on _ (way (g.S.Sink.took c.args.out.now) (g.S.Sink.failures c.args.out.now) c.args.line.now) _ _ _ r (wrote_part _ _ (way (g.S.Sink.took c.args.out.now) (g.S.Sink.failures c.args.out.now) c.args.line.now) _ _ (wrote_part _ _ (way (g.S.Sink.took c.args.out.now) (g.S.Sink.failures c.args.out.now) c.args.line.now) _ _ c.in_err-put_head.ensures))
 
 pub returns-in_err-put_trace-clause-wrote : goal.returns-in_err-put_trace-clause-wrote
-unfolding report_text
+unfolding head_text report_text
 returns-in_err-put_trace-clause-wrote g c =
     let r : c.from_residual-in_err-put_trace.result ≡ Err c.in_err-put_trace.field-0.0 = search rules in
-    passed_on _ (way (g.S.Sink.took c.args.out.now) (g.S.Sink.failures c.args.out.now) c.args.line.now) _ _ _ r (wrote_part _ _ (way (g.S.Sink.took c.args.out.now) (g.S.Sink.failures c.args.out.now) c.args.line.now) _ _ (wrote_then _ _ (way (g.S.Sink.took c.args.out.now) (g.S.Sink.failures c.args.out.now) c.args.line.now) _ _ _ (wrote_then _ _ (way (g.S.Sink.took c.args.out.now) (g.S.Sink.failures c.args.out.now) c.args.line.now) _ _ _ (wrote_then _ _ (way (g.S.Sink.took c.args.out.now) (g.S.Sink.failures c.args.out.now) c.args.line.now) _ _ _ (wrote_then _ _ (way (g.S.Sink.took c.args.out.now) (g.S.Sink.failures c.args.out.now) c.args.line.now) _ _ _ c.in_ok-put_count.ensures c.in_ok-put_harts.ensures) c.in_ok-put_memory.ensures) c.in_ok-put_output.ensures) c.in_err-put_trace.ensures))
+    passed_on _ (way (g.S.Sink.took c.args.out.now) (g.S.Sink.failures c.args.out.now) c.args.line.now) _ _ _ r (wrote_part _ _ (way (g.S.Sink.took c.args.out.now) (g.S.Sink.failures c.args.out.now) c.args.line.now) _ _ (wrote_then _ _ (way (g.S.Sink.took c.args.out.now) (g.S.Sink.failures c.args.out.now) c.args.line.now) _ _ _ c.in_ok-put_head.ensures c.in_err-put_trace.ensures))
 
 pub returns-clause-wrote : goal.returns-clause-wrote
-unfolding report_text
-returns-clause-wrote g c = wrote_then _ _ (way (g.S.Sink.took c.args.out.now) (g.S.Sink.failures c.args.out.now) c.args.line.now) _ _ _ (wrote_then _ _ (way (g.S.Sink.took c.args.out.now) (g.S.Sink.failures c.args.out.now) c.args.line.now) _ _ _ (wrote_then _ _ (way (g.S.Sink.took c.args.out.now) (g.S.Sink.failures c.args.out.now) c.args.line.now) _ _ _ (wrote_then _ _ (way (g.S.Sink.took c.args.out.now) (g.S.Sink.failures c.args.out.now) c.args.line.now) _ _ _ (wrote_then _ _ (way (g.S.Sink.took c.args.out.now) (g.S.Sink.failures c.args.out.now) c.args.line.now) _ _ _ c.in_ok-put_count.ensures c.in_ok-put_harts.ensures) c.in_ok-put_memory.ensures) c.in_ok-put_output.ensures) c.in_ok-put_trace.ensures) c.put_end.ensures.wrote
+unfolding head_text report_text
+returns-clause-wrote g c = wrote_then _ _ (way (g.S.Sink.took c.args.out.now) (g.S.Sink.failures c.args.out.now) c.args.line.now) _ _ _ (wrote_then _ _ (way (g.S.Sink.took c.args.out.now) (g.S.Sink.failures c.args.out.now) c.args.line.now) _ _ _ c.in_ok-put_head.ensures c.in_ok-put_trace.ensures) c.put_end.ensures.wrote

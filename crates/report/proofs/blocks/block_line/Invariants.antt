@@ -1,0 +1,9 @@
+use Rattle.std.proofs.Common.{◌≡◌, ◌++◌, take, drop}
+use Rattle.report.specs.Report.{events_text}
+use Rattle.report.proofs.blocks.block_line.Given as goal
+
+abbrev pub invariant-loop-event : goal.invariant-loop-event
+invariant-loop-event l = record {
+  line : l.line ≡ events_text l.yielded;
+  left : l.yielded ++ take l.event-iterator.n l.event-iterator.iter ≡ take 16384 (drop l.start l.trace.events);
+}
