@@ -12,7 +12,7 @@ use crate::machine::Machine;
 use crate::preparing::prepare;
 use crate::settings::Settings;
 use host_io::{RunError, Sink};
-use report::write_state;
+use report::{write_state, write_state_on};
 use std::alloc::Global;
 use std::sync::Wait;
 use std::thread::Threads;
@@ -47,7 +47,7 @@ pub fn emulate<S: Sink, R: Threads + Wait + Sync>(
 {
     let mut machine = prepare(alloc, image, input, settings)?;
     machine.run(rt, settings.rounds, settings.workers)?;
-    machine.report(alloc, out)
+    machine.report_on(rt, settings.workers, alloc, out)
 }
 
 impl Machine {
@@ -68,6 +68,36 @@ impl Machine {
             self.bare.harts(),
             self.bare.pages(),
             self.bare.output(),
+            &self.trace,
+            out,
+        )
+    }
+    /// Writes the report of the state, with the lines of its events formatted by so many workers, though by no more than 16.
+    ///
+    /// # Errors
+    ///
+    /// `OutOfMemory` and `SinkFailed`; a beginning of the report is written then.
+    pub fn report_on<S: Sink, R: Threads + Sync>(
+        &self,
+        rt: &R,
+        workers: u32,
+        alloc: Global,
+        out: &mut S,
+    ) -> Result<(), RunError>
+        ensures ok { OnOk result (S.took out.new ≡ S.took out.old ++ report_of self.now.state) }
+        ensures begun { OnErr result (BeganText (S.took out.old) (S.took out.new) (report_of self.now.state)) }
+        ensures sink { result ≡ Err RunError.SinkFailed → S.failures out.old < S.failures out.new }
+        ensures errors { IfErr result (λ e. (e ≡ RunError.OutOfMemory) ⊎ (e ≡ RunError.SinkFailed)) }
+    {
+        let machine = &self.bare;
+        write_state_on(
+            rt,
+            workers,
+            alloc,
+            machine.rounds(),
+            machine.harts(),
+            machine.pages(),
+            machine.output(),
             &self.trace,
             out,
         )

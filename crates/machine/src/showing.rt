@@ -101,7 +101,7 @@ pub fn report_run<S: Sink, O: Observer, R: Threads + Wait + Sync>(
 {
     let mut machine = prepare(alloc, image, input, settings)?;
     machine.run_observed(rt, settings.rounds, settings.workers, observer)?;
-    machine.report(alloc, out)?;
+    machine.report_on(rt, settings.workers, alloc, out)?;
     Ok(all_end_well(machine.harts()))
 }
 

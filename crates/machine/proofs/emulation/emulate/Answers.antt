@@ -17,16 +17,16 @@ refused (Err e) Failed A failed h = elim h [
 ]
 
 pub returns-clause-errors : goal.returns-clause-errors
-returns-clause-errors g c = λ none. refused c.report.result _ _ c.report.ensures.sink c.report.ensures.errors
+returns-clause-errors g c = λ none. refused c.report_on.result _ _ c.report_on.ensures.sink c.report_on.ensures.errors
 
 pub returns-clause-reports : goal.returns-clause-reports
 returns-clause-reports g c =
     let made = c.in_ok-machine.ensures.machine in
     let after = c.in_ok-run.ensures.ok ∙ ap (after_rounds c.args.settings.now.rounds) made.2 in
-    where_done c.report.result _ _ (λ h. (made.0, made.1, h ∙ ap (λ (m : Running). g.S.Sink.took c.args.out.now ++ report_of m.state) after)) c.report.ensures.ok
+    where_done c.report_on.result _ _ (λ h. (made.0, made.1, h ∙ ap (λ (m : Running). g.S.Sink.took c.args.out.now ++ report_of m.state) after)) c.report_on.ensures.ok
 
 pub returns-clause-begun : goal.returns-clause-begun
 returns-clause-begun g c =
     let made = c.in_ok-machine.ensures.machine in
     let after = c.in_ok-run.ensures.ok ∙ ap (after_rounds c.args.settings.now.rounds) made.2 in
-    where_refused c.report.result _ _ (λ h. inr (made.0, made.1, subst (λ (text : List ℕ). BeganText (g.S.Sink.took c.args.out.now) (g.S.Sink.took c.report.new.out) text) (ap (λ (m : Running). report_of m.state) after) h)) c.report.ensures.begun
+    where_refused c.report_on.result _ _ (λ h. inr (made.0, made.1, subst (λ (text : List ℕ). BeganText (g.S.Sink.took c.args.out.now) (g.S.Sink.took c.report_on.new.out) text) (ap (λ (m : Running). report_of m.state) after) h)) c.report_on.ensures.begun
