@@ -72,6 +72,7 @@ impl Machine {
             out,
         )
     }
+
     /// Writes the report of the state, with the lines of its events formatted by so many workers, though by no more than 16.
     ///
     /// # Errors
