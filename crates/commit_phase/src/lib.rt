@@ -14,6 +14,3 @@ pub use buffered::Buffered;
 pub use gate::{OpenShards, ShardGate};
 pub use in_turn::commit;
 pub use sharing::commit_on;
-
-#[cfg(test)]
-mod tests;

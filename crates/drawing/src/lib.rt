@@ -5,6 +5,3 @@ mod drawing;
 
 pub use drawing::draw_run;
 pub use picture::View;
-
-#[cfg(test)]
-mod tests;

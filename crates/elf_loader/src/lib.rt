@@ -12,6 +12,3 @@ pub use elf::load_elf;
 pub use flat::load_flat;
 pub use image::Image;
 pub use load_error::LoadError;
-
-#[cfg(test)]
-mod tests;

@@ -9,6 +9,3 @@ mod symbol;
 
 pub use finding::find_object;
 pub use object::Object;
-
-#[cfg(test)]
-mod tests;

@@ -1,4 +1,5 @@
-//! Tests of single instructions and of a hart's rounds, through the public calls of the crate `hart_step`.
+//! Tests of words, of single instructions and of a hart's rounds, through the public calls of the crates `rv64_decode` and
+//! `hart_step`.
 #![tactic(auto)]
 
 #[cfg(test)]
@@ -9,3 +10,5 @@ mod harness;
 mod memory_and_stops;
 #[cfg(test)]
 mod rounds;
+#[cfg(test)]
+mod words;

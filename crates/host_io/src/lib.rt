@@ -12,6 +12,3 @@ pub use error::RunError;
 pub use history::History;
 pub use sink::{Sink, SinkFault, put_all};
 pub use source::{Source, SourceFault, read_all};
-
-#[cfg(test)]
-mod tests;

@@ -7,6 +7,3 @@ mod table;
 
 pub use header::{Header, SeenRange};
 pub use table::{add_table, write_table};
-
-#[cfg(test)]
-mod tests;

@@ -13,6 +13,3 @@ pub use plan_hunt::{HuntObserver, UnobservedHunt};
 pub use plan_shrink::{ShrinkObserver, UnobservedShrink};
 pub use settings::HuntSettings;
 pub use shrinking::shrink;
-
-#[cfg(test)]
-mod tests;

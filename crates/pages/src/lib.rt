@@ -18,6 +18,3 @@ pub use number::{number_in, write_number};
 pub use out_of_memory::OutOfMemory;
 pub use pages::Pages;
 pub use part::Part;
-
-#[cfg(test)]
-mod tests;

@@ -10,6 +10,3 @@ mod working;
 pub use gate::{Gate, Open};
 pub use gathering::gather;
 pub use rounds::{hart_round, round_from};
-
-#[cfg(test)]
-mod tests;

@@ -17,6 +17,3 @@ pub use observing::{HuntObserver, UnobservedHunt};
 pub use row::Row;
 pub use runs::Runs;
 pub use tabulating::{tables_are_unique, tabulate};
-
-#[cfg(test)]
-mod tests;

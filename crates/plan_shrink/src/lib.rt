@@ -13,6 +13,3 @@ pub use observing::{ShrinkObserver, UnobservedShrink};
 pub use runs::PlanRuns;
 pub use shrinking::shrink;
 pub use step::{Change, Step, Way};
-
-#[cfg(test)]
-mod tests;

@@ -21,6 +21,3 @@ pub use hart_round::HartRound;
 pub use seat::Seat;
 pub use start::{BookStart, RoundStart};
 pub use ticket::Ticket;
-
-#[cfg(test)]
-mod tests;

@@ -8,6 +8,3 @@ mod text;
 
 pub use plan::{Plan, reading_is_unique, text_is_the_plans};
 pub use plan_error::PlanError;
-
-#[cfg(test)]
-mod tests;

@@ -8,8 +8,6 @@ mod operands;
 mod ordering;
 mod register;
 mod serial;
-#[cfg(test)]
-mod tests;
 
 pub use decoding::decode;
 pub use disjoint::no_word_meets_two_rows;

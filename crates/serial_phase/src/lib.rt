@@ -12,6 +12,3 @@ mod word;
 pub use console::Console;
 pub use log::SerialLog;
 pub use phase::{serial, take_turn};
-
-#[cfg(test)]
-mod tests;

@@ -14,6 +14,3 @@ pub use line::{LINE_BYTES, Line};
 pub use lines::Lines;
 pub use store_buffer::StoreBuffer;
 pub use stores::Stores;
-
-#[cfg(test)]
-mod tests;

@@ -7,6 +7,3 @@ mod merging;
 
 pub use error::MergeError;
 pub use merging::merge;
-
-#[cfg(test)]
-mod tests;

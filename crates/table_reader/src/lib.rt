@@ -14,6 +14,3 @@ mod table;
 pub use error::ReadError;
 pub use reading::read_table;
 pub use table::Table;
-
-#[cfg(test)]
-mod tests;

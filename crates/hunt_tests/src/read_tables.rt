@@ -1,0 +1,82 @@
+//! Tables that are read, through the public call of the crate `table_reader`.
+
+use std::alloc::Global;
+use std::test::Fail;
+use table_reader::read_table;
+
+const TABLE: &str = "plans 2 4 seed 7\n\
+                     endings 2\n\
+                     ending 1 plans 3 first 2\n\
+                     hart 0 exit 00000000000000ff\n\
+                     hart 1 running\n\
+                     see 00000010 2 ab00\n\
+                     see 00000000 1 07\n\
+                     output 6 \"a\\\"\\\\\\n\\x01~\"\n\
+                     ending 2 plans 1 first 4\n\
+                     hart 0 stop 10\n\
+                     hart 1 running\n\
+                     see 00000010 2 0000\n\
+                     see 00000000 1 00\n\
+                     output 0 \"\"\n\
+                     end\n";
+
+#[test]
+fn a_table_is_read(rt: HostRuntime) -> Result<(), Fail> {
+    let table = read_table(rt.alloc(), TABLE.as_bytes())?;
+    assert_eq!(rt;
+        (table.header.seed, table.header.first, table.header.count),
+        (7, 2, 4)
+    );
+    assert_eq!(rt; table.header.ranges.len(), 2);
+    assert!(rt;
+        table
+            .header
+            .ranges
+            .iter()
+            .map(|range| range.address)
+            .eq([16, 0])
+    );
+    assert_eq!(rt; table.rows.len(), 2);
+    let row = &table.rows[0];
+    assert!(rt; row.first == 2 && row.plans == 3);
+    assert!(rt; row.ending.seen() == [0xab, 0, 7].as_slice());
+    assert!(rt; row.ending.output() == b"a\"\\\n\x01~".as_slice());
+    let stops = row.ending.stops();
+    assert!(rt; stops.len() == 2 && stops[1].is_none());
+    assert!(rt; stops[0].is_some_and(|stop| stop.code == 1 && stop.value == 255));
+    Ok(())
+}
+
+/// The number of the refusal of a text, and 0 where it is read.
+fn answer(alloc: Global, text: &[u8]) -> u32 {
+    match read_table(alloc, text) {
+        Ok(_) => 0,
+        Err(error) => error.number(),
+    }
+}
+
+#[test]
+fn other_texts_are_refused(rt: HostRuntime) -> Result<(), Fail> {
+    let alloc = rt.alloc();
+    assert_eq!(rt; answer(alloc, b"plans 0 1 seed 1\nendings 0\nend\n"), 0);
+    for text in [
+        b"".as_slice(),
+        b"plans 0 1 seed 01\nendings 0\nend\n",
+        b"plans 0 1 seed 1\nendings 1\nend\n",
+        b"plans 0 1 seed 1\nendings 0\nend",
+        b"plans 0 1 seed 1\nendings 0\nend\n\n",
+        b"plans 0 4294967296 seed 1\nendings 0\nend\n",
+    ] {
+        assert_eq!(rt; answer(alloc, text), 71);
+    }
+    // One character of the table changed: a range of the second ending, an ending's number, a digit in upper case.
+    for (old, new) in [
+        ("see 00000010 2 0000", "see 00000020 2 0000"),
+        ("ending 2", "ending 3"),
+        ("ab00", "AB00"),
+    ] {
+        let changed = TABLE.replace(alloc, old, new)?;
+        assert_eq!(rt; answer(alloc, changed.as_bytes()), 71);
+    }
+    Ok(())
+}

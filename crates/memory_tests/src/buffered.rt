@@ -1,0 +1,224 @@
+//! The stores of a hart in a round, through the public calls of the crate `store_buffer`.
+
+ghost use Rattle.std.specs.Prelude.{◌≡◌, ◌%◌, ◌<◌, ◌≤◌};
+ghost use Rattle.pages.specs.Memory.{width_bytes};
+
+use pages::{Fault, OutOfMemory, Pages, Piece, Store, Width};
+use std::alloc::Global;
+use std::test::Fail;
+use store_buffer::StoreBuffer;
+
+/// One page with the bytes 11 22 33 44 55 66 77 88 from 0x100 on.
+fn memory(alloc: Global) -> Result<Pages, OutOfMemory> {
+    let piece = Piece {
+        start: 0x100,
+        bytes: [0x11, 0x22, 0x33, 0x44, 0x55, 0x66, 0x77, 0x88].to_vec(alloc)?,
+    };
+    Pages::new(alloc, 1, &[piece], &[])
+}
+
+#[test]
+fn bytes_over_memory(rt: HostRuntime) -> Result<(), Fail> {
+    let p = memory(rt.alloc())?;
+    let mut buffer = StoreBuffer::new(rt.alloc());
+    assert!(rt; buffer.read_over(&p, 0x100, Width::W8) == Ok(0x8877_6655_4433_2211));
+    buffer.put(Store {
+        addr: 0x103,
+        width: Width::W1,
+        value: 0xaa,
+    })?;
+    assert!(rt; buffer.read_over(&p, 0x100, Width::W8) == Ok(0x8877_6655_aa33_2211));
+    assert!(rt; buffer.read_over(&p, 0x102, Width::W2) == Ok(0xaa33));
+    assert!(rt; buffer.read_over(&p, 0x104, Width::W4) == Ok(0x8877_6655));
+    assert!(rt; buffer.read_over(&p, 0x103, Width::W1) == Ok(0xaa));
+    assert!(rt; buffer.read_over(&p, 0x103, Width::W2) == Err(Fault::LoadMisaligned));
+    assert!(rt; buffer.read_over(&p, 0x1000, Width::W8) == Err(Fault::LoadOutside));
+    buffer.put(Store {
+        addr: 0x100,
+        width: Width::W8,
+        value: 0x1020_3040_5060_7080,
+    })?;
+    assert!(rt; buffer.read_over(&p, 0x100, Width::W8) == Ok(0x1020_3040_5060_7080));
+    assert!(rt; p.read(0x100, Width::W8) == Ok(0x8877_6655_4433_2211));
+    buffer.clear();
+    assert!(rt; buffer.is_empty() && buffer.read_over(&p, 0x102, Width::W2) == Ok(0x4433));
+    Ok(())
+}
+
+#[test]
+fn bytes_as_stores(rt: HostRuntime) -> Result<(), Fail> {
+    let mut buffer = StoreBuffer::new(rt.alloc());
+    assert!(rt; buffer.is_empty() && buffer.stores().next().is_none());
+    buffer.put(Store {
+        addr: 0x40,
+        width: Width::W8,
+        value: 0x1122_3344_5566_7788,
+    })?;
+    buffer.put(Store {
+        addr: 0x3f,
+        width: Width::W1,
+        value: 0xaa,
+    })?;
+    let mut given = buffer.stores();
+    let bytes = [0xaa, 0x88, 0x77, 0x66, 0x55, 0x44, 0x33, 0x22, 0x11];
+    for (k, byte) in bytes.iter().enumerate() {
+        let want = Store {
+            addr: 0x3f + k as u64,
+            width: Width::W1,
+            value: *byte,
+        };
+        assert!(rt; given.next() == Some(want));
+    }
+    assert!(rt; given.next().is_none() && !buffer.is_empty());
+    let mut lines = buffer.lines();
+    let (start, line) = lines.next().ok_or("no line")?;
+    assert!(rt; start == 0 && line.mask == 1 << 63 && line.bytes[63] == 0xaa);
+    let (start, line) = lines.next().ok_or("no second line")?;
+    assert!(rt; start == 0x40 && line.mask == 0xff && line.bytes[0] == 0x88);
+    assert!(rt; lines.next().is_none());
+    Ok(())
+}
+
+/// The byte that is put to a line in a turn.
+fn byte_of(line: u64, turn: u64) -> Store
+    requires line { line < 3 }
+    requires turn { turn < 3 }
+    ensures { result.addr % width_bytes result.width ≡ 0 }
+{
+    Store {
+        addr: 0x1000 * line + 0x40 + turn,
+        width: Width::W1,
+        value: 16 * line + turn,
+    }
+}
+
+#[test]
+fn lines_64_apart_are_told_apart(rt: HostRuntime) -> Result<(), Fail> {
+    let mut buffer = StoreBuffer::new(rt.alloc());
+    for turn in 0..3 {
+        for line in 0..3 {
+            buffer.put(byte_of(line, turn))?;
+        }
+    }
+    let mut given = buffer.stores();
+    for line in 0..3 {
+        for turn in 0..3 {
+            assert!(rt; given.next() == Some(byte_of(line, turn)));
+        }
+    }
+    assert!(rt; given.next().is_none());
+    Ok(())
+}
+
+/// The doubleword at the start of a line, with the line's number as its value.
+fn first_of(line: u64) -> Store
+    requires { line < 1_000_000 }
+    ensures { result.addr % width_bytes result.width ≡ 0 }
+{
+    Store {
+        addr: 64 * line,
+        width: Width::W8,
+        value: line,
+    }
+}
+
+/// 1,500 lines that stand so far apart, the last of them put first.
+fn lines_apart(alloc: Global, step: u64) -> Result<StoreBuffer, OutOfMemory>
+    requires { step ≤ 64 }
+{
+    let mut buffer = StoreBuffer::new(alloc);
+    for k in 0..1_500 {
+        buffer.put(first_of(step * (1_499 - k)))?;
+    }
+    Ok(buffer)
+}
+
+#[test]
+fn many_lines_are_found(rt: HostRuntime) -> Result<(), Fail> {
+    let p = Pages::new(rt.alloc(), 1_600, &[], &[])?;
+    for step in [1, 2, 63, 64] {
+        let buffer = lines_apart(rt.alloc(), step)?;
+        let mut lines = buffer.lines();
+        for k in 0..1_500 {
+            let addr = 64 * step * k;
+            assert!(rt; buffer.read_over(&p, addr, Width::W8) == Ok(step * k));
+            assert!(rt; step == 1 || buffer.read_over(&p, addr + 64, Width::W8) == Ok(0));
+            let (start, line) = lines.next().ok_or("no line")?;
+            assert!(rt; start == addr && line.mask == 0xff);
+        }
+        assert!(rt; lines.next().is_none());
+    }
+    Ok(())
+}
+
+fn next(seed: &mut u64) -> u64 {
+    *seed = seed
+        .wrapping_mul(6_364_136_223_846_793_005)
+        .wrapping_add(1_442_695_040_888_963_407);
+    *seed >> 33
+}
+
+/// A store at a multiple of its width, or a load of as many bytes.
+fn access(seed: &mut u64) -> Store
+    ensures { result.addr % width_bytes result.width ≡ 0 }
+{
+    let width = match next(seed) % 4 {
+        0 => Width::W1,
+        1 => Width::W2,
+        2 => Width::W4,
+        _ => Width::W8,
+    };
+    Store {
+        addr: next(seed) % (0x1000 / width.bytes()) * width.bytes(),
+        width,
+        value: next(seed).wrapping_mul(0x1_0000_0003),
+    }
+}
+
+/// The byte that the last covering store of a list puts at an address, else the other one.
+fn last_byte(stores: &[Store], addr: u64, other: u8) -> u8 {
+    for s in stores.iter().rev() {
+        if s.addr <= addr && addr - s.addr < s.width.bytes() {
+            return (s.value >> (8 * (addr - s.addr)) & 0xff) as u8;
+        }
+    }
+    other
+}
+
+/// The number that a load gives under a list of stores.
+fn number_under(p: &Pages, stores: &[Store], addr: u64, width: Width) -> u64 {
+    let mut number = 0u64;
+    for k in (0..width.bytes()).rev() {
+        let addr = addr.wrapping_add(k);
+        let byte = match p.read(addr, Width::W1) {
+            Ok(byte) => byte as u8,
+            Err(_) => 0,
+        };
+        number = number.wrapping_mul(256) | u64::from(last_byte(stores, addr, byte));
+    }
+    number
+}
+
+#[test]
+fn lines_are_stores(rt: HostRuntime) -> Result<(), Fail> {
+    let p = memory(rt.alloc())?;
+    let mut buffer = StoreBuffer::new(rt.alloc());
+    let mut stores = Vec::new(rt.alloc());
+    let mut seed = 1;
+    for _ in 0..10_000 {
+        let s = access(&mut seed);
+        buffer.put(s)?;
+        stores.push(s)?;
+        let load = access(&mut seed);
+        assert!(rt;
+            buffer.read_over(&p, load.addr, load.width)
+                == Ok(number_under(&p, &stores, load.addr, load.width))
+        );
+    }
+    let mut addr = 0;
+    for s in buffer.stores() {
+        assert!(rt; s.addr >= addr && s.value == u64::from(last_byte(&stores, s.addr, 0)));
+        addr = s.addr.wrapping_add(1);
+    }
+    Ok(())
+}

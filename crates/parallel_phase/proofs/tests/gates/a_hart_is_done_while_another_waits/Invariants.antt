@@ -1,4 +1,0 @@
-use Rattle.parallel_phase.proofs.tests.gates.a_hart_is_done_while_another_waits.Given as goal
-
-abbrev pub ghosts-gathers : goal.ghosts-gathers
-ghosts-gathers g a = record { start = a.start.now }

@@ -1,4 +1,0 @@
-use Rattle.parallel_phase.proofs.tests.gates.two_workers_meet.Given as goal
-
-abbrev pub ghosts-gathers : goal.ghosts-gathers
-ghosts-gathers g a = record { start = a.start.now }

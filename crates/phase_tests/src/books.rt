@@ -1,0 +1,255 @@
+//! Books, through the public calls of the crate `round_lock`: of harts that may do no instruction, so that each round leaves its hart as it was.
+
+ghost use Rattle.std.specs.Prelude.{◌≡◌, [], ◌∷◌, ◌++◌, IfSome, length};
+ghost use Rattle.round_lock.specs.Lists.{has};
+ghost use Rattle.round_lock.specs.Rounds.{harts_put, ticket_of};
+
+use hart_step::{CodeTable, Hart};
+use pages::Pages;
+use round_lock::{BookStart, Gathered, HartRound, RoundBook, RoundStart, Seat, Ticket};
+use std::alloc::Global;
+use std::marker::Brand;
+use std::process::Abort;
+use std::sync::Wait;
+use std::test::Fail;
+use std::thread::{Threads, join};
+use store_buffer::StoreBuffer;
+
+/// A hart whose registers all have one value.
+fn hart(value: u64) -> Hart {
+    Hart {
+        x: [value; 32],
+        pc: 0,
+        done: 0,
+        stop: None,
+    }
+}
+
+/// The round of a hart that may do no instruction.
+fn idle_round<B: BookStart>(
+    alloc: Global,
+    start: &RoundStart<'_>,
+    ticket: Ticket,
+) -> Option<HartRound<B>>
+    requires { start.now ≡ B.start }
+    ensures { IfSome result (λ r. ticket_of r ≡ ticket) }
+{
+    let number = ticket.hart() as usize;
+    let hart = *start.harts().get(number)?;
+    if *start.quotas().get(number)? != 0 {
+        return None;
+    }
+    Some(HartRound::new(
+        ticket,
+        hart,
+        StoreBuffer::new(alloc),
+        Vec::new(alloc),
+        false,
+    ))
+}
+
+/// Claims a hart and puts its round, if there is a hart left.
+fn put_one<B: BookStart, R: Wait>(
+    rt: &R,
+    alloc: Global,
+    start: &RoundStart<'_>,
+    book: &RoundBook<HartRound<B>>,
+    seat: &mut Seat<HartRound<B>>,
+) -> Option<()>
+    requires start { start.now ≡ B.start }
+    requires table { seat.old.table ≡ book.now.table }
+    requires own { harts_put seat.old ≡ seat.old.claims }
+    ensures table { seat.new.table ≡ seat.old.table }
+    ensures own { IfSome result (λ _. harts_put seat.new ≡ seat.new.claims) }
+{
+    let ticket = book.claim(seat)?;
+    let round = idle_round::<B>(alloc, start, ticket)?;
+    book.put(rt, seat, round);
+    Some(())
+}
+
+/// Claims and puts until every hart is claimed.
+fn take_part<B: BookStart, R: Wait>(
+    rt: &R,
+    alloc: Global,
+    start: &RoundStart<'_>,
+    book: &RoundBook<HartRound<B>>,
+    mut seat: Seat<HartRound<B>>,
+) -> Seat<HartRound<B>>
+    requires start { start.now ≡ B.start }
+    requires table { seat.table ≡ book.now.table }
+    requires own { harts_put seat ≡ seat.claims }
+    ensures table { result.table ≡ seat.table }
+{
+    for _ in 0..start.harts().len() {
+        if put_one(rt, alloc, start, book, &mut seat).is_none() {
+            break;
+        }
+    }
+    seat
+}
+
+/// Opens a book of two seats.
+fn open_two<B: BookStart, R: Abort>(
+    rt: &R,
+    alloc: Global,
+    start: &RoundStart<'_>,
+) -> (
+    RoundBook<HartRound<B>>,
+    Seat<HartRound<B>>,
+    Seat<HartRound<B>>,
+)
+    requires { start.now ≡ B.start }
+    ensures seats { result.0.seats ≡ 2 }
+    ensures first { (result.1.table ≡ result.0.table) × (harts_put result.1 ≡ []) × (result.1.claims ≡ []) }
+    ensures second { (result.2.table ≡ result.0.table) × (harts_put result.2 ≡ []) × (result.2.claims ≡ []) }
+{
+    let (book, mut seats) = RoundBook::<HartRound<B>>::open(start, 2).expect(rt, "memory");
+    let second = seats.pop().expect(rt, "two seats");
+    let first = seats.pop().expect(rt, "two seats");
+    (book, first, second)
+}
+
+/// Closes a book of two seats.
+fn close_two<B: BookStart, R: Abort>(
+    rt: &R,
+    alloc: Global,
+    book: RoundBook<HartRound<B>>,
+    first: Seat<HartRound<B>>,
+    second: Seat<HartRound<B>>,
+) -> Gathered<HartRound<B>>
+    requires seats { book.seats ≡ 2 }
+    requires tables { (first.table ≡ book.table) × (second.table ≡ book.table) }
+{
+    let mut seats = Vec::with_capacity(alloc, 2).expect(rt, "memory");
+    seats.push_reserved(first);
+    seats.push_reserved(second);
+    book.close(seats)
+}
+
+/// Two seats of one thread put a hart each, and meet.
+fn two_meet<B: BookStart, R: Abort + Wait>(rt: &R, alloc: Global, start: &RoundStart<'_>)
+    requires { start.now ≡ B.start }
+{
+    let (book, mut first, mut second) = open_two::<B, R>(rt, alloc, start);
+    assert!(rt; put_one(rt, alloc, start, &book, &mut first).is_some());
+    assert!(rt; put_one(rt, alloc, start, &book, &mut second).is_some());
+    assert!(rt; first.seen() == 1 && second.seen() == 2);
+    book.meet(&mut first, &mut second);
+    assert!(rt; first.seen() == 2 && second.seen() == 2);
+    assert!(rt; first.own() == 1 && second.own() == 1);
+    let mut gathered = close_two(rt, alloc, book, first, second);
+    assert!(rt; gathered.is_complete());
+    let last = gathered.get(1).expect(rt, "the hart was put");
+    assert!(rt; last.hart().x[5] == 7 && !last.waits());
+    assert!(rt; last.accesses().is_empty() && last.buffer().stores().next().is_none());
+    assert!(rt; gathered.get(2).is_none());
+    let taken = gathered.take(0).expect(rt, "the hart was put");
+    let (hart, buffer, accesses, waits) = taken.into_parts();
+    assert!(rt; hart.x[5] == 6 && !waits);
+    assert!(rt; accesses.is_empty() && buffer.stores().next().is_none());
+    assert!(rt; gathered.get(0).is_none() && gathered.get(1).is_some());
+    assert!(rt; gathered.take(0).is_none() && !gathered.is_complete());
+}
+
+/// Two threads put all harts between them.
+fn two_threads<B: BookStart + Send + Sync, R: Abort + Threads + Wait + Sync>(
+    rt: &R,
+    alloc: Global,
+    start: &RoundStart<'_>,
+)
+    requires { start.now ≡ B.start }
+{
+    let (book, first, second) = open_two::<B, R>(rt, alloc, start);
+    let (mut first, mut second) = join(
+        rt,
+        || -> Seat<HartRound<B>>
+            requires { (start.now ≡ B.start) × (first.table ≡ book.table) × (harts_put first ≡ first.claims) }
+            ensures { result.table ≡ first.table }
+        { take_part(rt, alloc, start, &book, first) },
+        || -> Seat<HartRound<B>>
+            requires { (start.now ≡ B.start) × (second.table ≡ book.table) × (harts_put second ≡ second.claims) }
+            ensures { result.table ≡ second.table }
+        { take_part(rt, alloc, start, &book, second) },
+    );
+    book.meet(&mut first, &mut second);
+    assert!(rt; first.seen() == start.harts().len() && second.seen() == start.harts().len());
+    let own = first.own().checked_add(second.own());
+    assert!(rt; own == Some(start.harts().len()));
+    let gathered = close_two(rt, alloc, book, first, second);
+    assert!(rt; gathered.is_complete());
+}
+
+/// A ticket that is dropped leaves its hart out.
+fn one_left_out<B: BookStart, R: Abort>(rt: &R, alloc: Global, start: &RoundStart<'_>)
+    requires { start.now ≡ B.start }
+{
+    let (book, mut first, second) = open_two::<B, R>(rt, alloc, start);
+    drop(book.claim(&mut first));
+    let mut second = second;
+    let ticket = book.claim(&mut second).expect(rt, "a hart is left");
+    let round = idle_round::<B>(alloc, start, ticket).expect(rt, "the hart may do nothing");
+    assert!(rt; book.try_put(&mut second, round).is_ok());
+    assert!(rt; second.seen() == 1 && second.own() == 1);
+    let gathered = close_two(rt, alloc, book, first, second);
+    assert!(rt; !gathered.is_complete());
+    assert!(rt; gathered.get(0).is_none() && gathered.get(1).is_some());
+}
+
+/// A seat that is alone with its book gets the lock at its first try.
+fn one_alone<B: BookStart, R: Abort>(rt: &R, alloc: Global, start: &RoundStart<'_>)
+    requires { start.now ≡ B.start }
+{
+    let (book, mut seats) = RoundBook::<HartRound<B>>::open(start, 1).expect(rt, "memory");
+    let mut seat = seats.pop().expect(rt, "one seat");
+    assert!(rt; seat.seen() == 0 && seat.own() == 0);
+    let ticket = book.claim(&mut seat).expect(rt, "a hart is left");
+    let round = idle_round::<B>(alloc, start, ticket).expect(rt, "the hart may do nothing");
+    assert!(rt; book.try_put(&mut seat, round).is_ok());
+    assert!(rt; seat.seen() == 1);
+    assert!(rt; seat.own() == 1);
+}
+
+#[test]
+fn two_seats_meet(rt: HostRuntime) -> Result<(), Fail> {
+    let alloc = rt.alloc();
+    let pages = Pages::new(alloc, 1, &[], &[])?;
+    let table = CodeTable::new(alloc, &pages, 0, 0)?;
+    let harts = [hart(6), hart(7)];
+    let start = RoundStart::new(&pages, &table, &harts, &[0; 2]);
+    two_meet::<Brand, _>(&rt, alloc, &start);
+    Ok(())
+}
+
+#[test]
+fn two_threads_put_all_harts(rt: HostRuntime) -> Result<(), Fail> {
+    let alloc = rt.alloc();
+    let pages = Pages::new(alloc, 1, &[], &[])?;
+    let table = CodeTable::new(alloc, &pages, 0, 0)?;
+    let harts = [hart(0); 64];
+    let start = RoundStart::new(&pages, &table, &harts, &[0; 64]);
+    two_threads::<Brand, _>(&rt, alloc, &start);
+    Ok(())
+}
+
+#[test]
+fn a_dropped_ticket_leaves_its_hart_out(rt: HostRuntime) -> Result<(), Fail> {
+    let alloc = rt.alloc();
+    let pages = Pages::new(alloc, 1, &[], &[])?;
+    let table = CodeTable::new(alloc, &pages, 0, 0)?;
+    let harts = [hart(0); 2];
+    let start = RoundStart::new(&pages, &table, &harts, &[0; 2]);
+    one_left_out::<Brand, _>(&rt, alloc, &start);
+    Ok(())
+}
+
+#[test]
+fn a_seat_alone_puts_at_its_first_try(rt: HostRuntime) -> Result<(), Fail> {
+    let alloc = rt.alloc();
+    let pages = Pages::new(alloc, 1, &[], &[])?;
+    let table = CodeTable::new(alloc, &pages, 0, 0)?;
+    let harts = [hart(0)];
+    let start = RoundStart::new(&pages, &table, &harts, &[0]);
+    one_alone::<Brand, _>(&rt, alloc, &start);
+    Ok(())
+}

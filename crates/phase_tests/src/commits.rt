@@ -1,0 +1,99 @@
+//! The commit of the harts' stores, through the public calls of the crate `commit_phase`.
+
+ghost use Rattle.std.specs.Prelude.{◌≡◌, ◌/◌, ◌<◌, ◌%◌, ℕ, true, All, None, IsTrue, length};
+ghost use Rattle.pages.specs.declared.access.Width.TheVariants.{W1};
+ghost use Rattle.pages.specs.Memory.{store_fault, width_bytes};
+ghost use Rattle.pages.specs.Paged.{is_page_ready};
+
+mod shards;
+
+use commit_phase::commit_buffer;
+use pages::{OutOfMemory, Pages, Piece, Store, Width};
+use reservations::Reservations;
+use std::alloc::Global;
+use std::test::Fail;
+use store_buffer::StoreBuffer;
+
+/// One page, of which the first bytes are 11 22 33.
+fn memory(alloc: Global) -> Result<Pages, OutOfMemory> {
+    let piece = Piece {
+        start: 0,
+        bytes: [0x11, 0x22, 0x33].to_vec(alloc)?,
+    };
+    Pages::new(alloc, 1, &[piece], &[])
+}
+
+/// A buffer of one store.
+fn buffer_of(alloc: Global, addr: u64, width: Width, value: u64) -> Result<StoreBuffer, OutOfMemory>
+    requires { addr % width_bytes width ≡ 0 }
+{
+    let mut buffer = StoreBuffer::new(alloc);
+    buffer.put(Store { addr, width, value })?;
+    Ok(buffer)
+}
+
+/// Whether a store has no fault, and its page is ready.
+fn is_writable(pages: &Pages, s: Store) -> bool
+    ensures fits { IsTrue result → store_fault pages.now.memory s.addr s.width ≡ None }
+    ensures ready { IsTrue result → is_page_ready pages.now (s.addr / 4096) ≡ true }
+{
+    let page = s.addr / 4096;
+    page < 16_384 && pages.ready(page as u32) && pages.check_store(s.addr, s.width).is_ok()
+}
+
+/// Whether the bytes of a buffer lie on pages that are ready, and are not code.
+fn fits(pages: &Pages, buffer: &StoreBuffer) -> bool
+    ensures fits { IsTrue result → All (λ (e : ℕ × ℕ). store_fault pages.now.memory e.0 W1 ≡ None) buffer.now }
+    ensures ready { IsTrue result → All (λ (e : ℕ × ℕ). is_page_ready pages.now (e.0 / 4096) ≡ true) buffer.now }
+{
+    for s in buffer.stores() {
+        if !is_writable(pages, s) {
+            return false;
+        }
+    }
+    true
+}
+
+/// Commits a buffer, if its bytes may be written.
+fn commit(pages: &mut Pages, table: &mut Reservations, hart: u32, buffer: &StoreBuffer) -> bool
+    ensures { length table.new ≡ length table.old }
+{
+    if !fits(pages, buffer) {
+        return false;
+    }
+    commit_buffer(pages, table, hart, buffer);
+    true
+}
+
+#[test]
+fn later_harts_win(rt: HostRuntime) -> Result<(), Fail> {
+    let mut pages = memory(rt.alloc())?;
+    let mut table = Reservations::new(2);
+    let first = buffer_of(rt.alloc(), 0, Width::W2, 0xbbaa)?;
+    let second = buffer_of(rt.alloc(), 1, Width::W1, 0xcc)?;
+    assert!(rt; commit(&mut pages, &mut table, 0, &first));
+    assert!(rt; commit(&mut pages, &mut table, 1, &second));
+    assert!(rt; pages.read(0, Width::W4) == Ok(0x0033_ccaa));
+    let none = StoreBuffer::new(rt.alloc());
+    assert!(rt; commit(&mut pages, &mut table, 1, &none));
+    assert!(rt; pages.read(0, Width::W4) == Ok(0x0033_ccaa));
+    Ok(())
+}
+
+#[test]
+fn bytes_of_others_break(rt: HostRuntime) -> Result<(), Fail> {
+    let mut pages = memory(rt.alloc())?;
+    let mut table = Reservations::new(2);
+    let last = buffer_of(rt.alloc(), 0x107, Width::W1, 0xcc)?;
+    let beside = buffer_of(rt.alloc(), 0x108, Width::W8, 0xcc)?;
+    let none = StoreBuffer::new(rt.alloc());
+    table.set(0, 0x100, Width::W8);
+    assert!(rt; commit(&mut pages, &mut table, 0, &last));
+    assert!(rt; commit(&mut pages, &mut table, 1, &beside));
+    assert!(rt; commit(&mut pages, &mut table, 1, &none));
+    let mut kept = table.copy();
+    assert!(rt; kept.take(0, 0x100, Width::W8));
+    assert!(rt; commit(&mut pages, &mut table, 1, &last));
+    assert!(rt; !table.take(0, 0x100, Width::W8));
+    Ok(())
+}

@@ -1,0 +1,12 @@
+//! Tests of the three phases of a round and of the book that its workers share, through the public calls of the crates `round_lock`,
+//! `parallel_phase`, `commit_phase` and `serial_phase`.
+#![tactic(auto)]
+
+#[cfg(test)]
+mod books;
+#[cfg(test)]
+mod commits;
+#[cfg(test)]
+mod gathering;
+#[cfg(test)]
+mod turns;
