@@ -1,38 +1,54 @@
-ghost use Rattle.std.specs.Prelude.{◌≡◌, IsTrue};
-ghost use Rattle.hart_step.specs.Amo.{is_amo, amo_value_of, amo_min, amo_max};
+ghost use Rattle.std.specs.Prelude.{◌≡◌};
+ghost use Rattle.rv64_decode.specs.declared.atomic.AtomicWidth.TheVariants.{Word, Doubleword};
+ghost use Rattle.hart_step.specs.Amo.{amo_value_of, amo_min, amo_max};
 
 use crate::numbers::{extend_word, is_below_signed, low_word};
-use rv64_decode::Instr;
+use rv64_decode::{AtomicOperation, AtomicWidth};
 
 /// The number that an AMO puts in place of `old`, both cut to its width (manual, section 8.4).
 #[inline]
-pub fn amo_value(i: &Instr, old: u64, operand: u64) -> u64
-    requires { IsTrue (is_amo i.now) }
-    ensures { result ≡ amo_value_of i.now old operand }
+pub fn amo_value(operation: AtomicOperation, width: AtomicWidth, old: u64, operand: u64) -> u64
+    ensures { result ≡ amo_value_of operation width old operand }
+{
+    match width {
+        AtomicWidth::Word => word_value(operation, old, operand),
+        AtomicWidth::Doubleword => doubleword_value(operation, old, operand),
+    }
+}
+
+/// The same for words.
+fn word_value(operation: AtomicOperation, old: u64, operand: u64) -> u64
+    ensures { result ≡ amo_value_of operation Word old operand }
 {
     let old_word = low_word(old);
     let word = low_word(operand);
-    match i {
-        Instr::AmoswapW { .. } => word,
-        Instr::AmoaddW { .. } => low_word(old_word + word),
-        Instr::AmoxorW { .. } => old_word ^ word,
-        Instr::AmoandW { .. } => old_word & word,
-        Instr::AmoorW { .. } => old_word | word,
-        Instr::AmominW { .. } => min_word(old, operand),
-        Instr::AmomaxW { .. } => max_word(old, operand),
-        Instr::AmominuW { .. } => old_word.min(word),
-        Instr::AmomaxuW { .. } => old_word.max(word),
-        Instr::AmoswapD { .. } => operand,
-        Instr::AmoaddD { .. } => old.wrapping_add(operand),
-        Instr::AmoxorD { .. } => old ^ operand,
-        Instr::AmoandD { .. } => old & operand,
-        Instr::AmoorD { .. } => old | operand,
-        Instr::AmominD { .. } => min_doubleword(old, operand),
-        Instr::AmomaxD { .. } => max_doubleword(old, operand),
-        Instr::AmominuD { .. } => old.min(operand),
-        Instr::AmomaxuD { .. } => old.max(operand),
-        // No other instruction is asked for.
-        _ => 0,
+    match operation {
+        AtomicOperation::Swap => word,
+        AtomicOperation::Add => low_word(old_word + word),
+        AtomicOperation::Xor => old_word ^ word,
+        AtomicOperation::And => old_word & word,
+        AtomicOperation::Or => old_word | word,
+        AtomicOperation::Min => min_word(old, operand),
+        AtomicOperation::Max => max_word(old, operand),
+        AtomicOperation::Minu => old_word.min(word),
+        AtomicOperation::Maxu => old_word.max(word),
+    }
+}
+
+/// The same for doublewords.
+fn doubleword_value(operation: AtomicOperation, old: u64, operand: u64) -> u64
+    ensures { result ≡ amo_value_of operation Doubleword old operand }
+{
+    match operation {
+        AtomicOperation::Swap => operand,
+        AtomicOperation::Add => old.wrapping_add(operand),
+        AtomicOperation::Xor => old ^ operand,
+        AtomicOperation::And => old & operand,
+        AtomicOperation::Or => old | operand,
+        AtomicOperation::Min => min_doubleword(old, operand),
+        AtomicOperation::Max => max_doubleword(old, operand),
+        AtomicOperation::Minu => old.min(operand),
+        AtomicOperation::Maxu => old.max(operand),
     }
 }
 

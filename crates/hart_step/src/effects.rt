@@ -4,24 +4,16 @@ ghost use Rattle.pages.specs.Memory.{loaded, stored, store_fault};
 ghost use Rattle.hart_step.specs.declared.answer.Answer.TheVariants.{Halted};
 ghost use Rattle.hart_step.specs.Answers.{with_access};
 ghost use Rattle.hart_step.specs.Buses.{AllHaveRoom};
-ghost use Rattle.hart_step.specs.Step.{cut, extended_to, fault_code, went_on, next_pc, stopped_with, put_to, jumped, branched, read_by, written_by, ordered};
+ghost use Rattle.hart_step.specs.Numbers.{sx};
+ghost use Rattle.hart_step.specs.Step.{cut, extended_to, width_bits, fault_code, went_on, next_pc, stopped_with, put_to, jumped, branched, read_by, written_by, ordered};
 
 use crate::answer::Answer;
 use crate::bus::Bus;
-use crate::hart::{Hart, Stop};
+use crate::hart::Hart;
 use crate::numbers::{extend_byte, extend_halfword, extend_word, low_word};
 use pages::{Fault, OutOfMemory, Store, Width};
 use round_schedule::Access;
 use rv64_decode::{FenceMode, FenceSet, Reg};
-
-/// Counts the instruction as done, and goes on at an address.
-#[inline(always)]
-fn go_to(h: &mut Hart, pc: u64)
-    ensures { h.new ≡ went_on h.old 0 0 pc }
-{
-    h.pc = pc;
-    h.done = h.done.wrapping_add(1);
-}
 
 /// Gives rd a value, and goes on at an address.
 #[inline(always)]
@@ -29,7 +21,7 @@ fn put_and_go(h: &mut Hart, rd: Reg, value: u64, pc: u64)
     ensures { h.new ≡ went_on h.old rd value pc }
 {
     h.set_reg(rd, value);
-    go_to(h, pc);
+    h.go_to(pc);
 }
 
 /// Stops the hart, and changes nothing else.
@@ -38,16 +30,16 @@ pub fn halt(h: &mut Hart, code: u8) -> Answer
     ensures answer { result ≡ Halted code }
     ensures hart { h.new ≡ stopped_with h.old code 0 }
 {
-    h.stop = Some(Stop { code, value: 0 });
+    h.halt(code, 0);
     Answer::Halted(code)
 }
 
 /// The stop code of a fault, 5 to 9.
 #[inline]
-pub fn fault_number(f: Fault) -> u8
-    ensures { result ≡ fault_code f }
+pub fn stop_code(fault: Fault) -> u8
+    ensures { result ≡ fault_code fault }
 {
-    match f {
+    match fault {
         Fault::LoadMisaligned => 5,
         Fault::LoadOutside => 6,
         Fault::StoreMisaligned => 7,
@@ -62,8 +54,7 @@ pub fn put(h: &mut Hart, rd: Reg, value: u64) -> Answer
     ensures answer { with_access None result ≡ (put_to h.old rd value (next_pc h.old)).answer }
     ensures hart { h.new ≡ (put_to h.old rd value (next_pc h.old)).hart }
 {
-    let next = h.pc.wrapping_add(4);
-    put_and_go(h, rd, value, next);
+    h.go_on(rd, value);
     Answer::Went
 }
 
@@ -93,7 +84,7 @@ pub fn branch(h: &mut Hart, taken: bool, target: u64) -> Answer
         return jump(h, Reg::new(0), target);
     }
     let next = h.pc.wrapping_add(4);
-    go_to(h, next);
+    h.go_to(next);
     Answer::Went
 }
 
@@ -102,9 +93,18 @@ pub fn branch(h: &mut Hart, taken: bool, target: u64) -> Answer
 fn extend(signed: bool, width: Width, value: u64) -> u64
     ensures { result ≡ extended_to signed width value }
 {
-    if !signed {
-        return value;
+    if signed {
+        sign_extended(width, value)
+    } else {
+        value
     }
+}
+
+/// The low bytes of a number as a register, sign-extended.
+#[inline(always)]
+pub fn sign_extended(width: Width, value: u64) -> u64
+    ensures { result ≡ sx (width_bits width) value }
+{
     match width {
         Width::W1 => extend_byte(value),
         Width::W2 => extend_halfword(value),
@@ -113,9 +113,9 @@ fn extend(signed: bool, width: Width, value: u64) -> u64
     }
 }
 
-/// The number in memory that a store of a register leaves.
+/// The low bytes of a register: the number that a store of it leaves in memory.
 #[inline(always)]
-fn cut_to(width: Width, value: u64) -> u64
+pub fn cut_to(width: Width, value: u64) -> u64
     ensures { result ≡ cut width value }
 {
     match width {
@@ -143,7 +143,7 @@ pub fn load<B: Bus>(
     ensures stores { (read_by h.old rd address width signed (loaded (B.memory b.now) address width)).stores ≡ [] }
 {
     match b.load(address, width) {
-        Err(f) => halt(h, fault_number(f)),
+        Err(f) => halt(h, stop_code(f)),
         Ok(read) => {
             *seen = Some(Access::Load {
                 width,
@@ -181,7 +181,7 @@ pub fn store<B: Bus>(
         value,
     };
     match b.store(s)? {
-        Err(f) => Ok(halt(h, fault_number(f))),
+        Err(f) => Ok(halt(h, stop_code(f))),
         Ok(()) => {
             *seen = Some(Access::Store {
                 width,
@@ -190,7 +190,7 @@ pub fn store<B: Bus>(
                 written: cut_to(width, value),
             });
             let next = h.pc.wrapping_add(4);
-            go_to(h, next);
+            h.go_to(next);
             Ok(Answer::Went)
         }
     }
@@ -213,14 +213,7 @@ pub fn order(
     match mode {
         FenceMode::Normal if before.writes && after.reads => Answer::Waited,
         _ => {
-            *seen = Some(Access::Fence {
-                before,
-                after,
-                mode,
-                place: h.done,
-            });
-            let next = h.pc.wrapping_add(4);
-            go_to(h, next);
+            *seen = Some(h.pass_fence(before, after, mode));
             Answer::Went
         }
     }

@@ -1,7 +1,10 @@
-ghost use Rattle.std.specs.Prelude.{◌≡◌, true};
+ghost use Rattle.std.specs.Prelude.{◌≡◌, true, Some};
+ghost use Rattle.round_schedule.specs.declared.access.Stepped.TheVariants.{Done};
 ghost use Rattle.hart_step.specs.Registers.{HoldsZero, reg, set_reg};
+ghost use Rattle.hart_step.specs.Step.{fenced, next_pc, stopped_with, went_on};
 
-use rv64_decode::Reg;
+use round_schedule::Access;
+use rv64_decode::{FenceMode, FenceSet, Reg};
 
 /// Why a hart has stopped, for good.
 #[derive(Clone, Copy, Debug, PartialEq, Eq)]
@@ -56,5 +59,49 @@ impl Hart {
         if r.index() != 0 {
             self.x[r.index()] = value;
         }
+    }
+
+    /// Counts the instruction as done, and goes on at an address.
+    #[inline(always)]
+    pub(crate) fn go_to(&mut self, pc: u64)
+        ensures { self.new ≡ went_on self.old 0 0 pc }
+    {
+        self.pc = pc;
+        self.done = self.done.wrapping_add(1);
+    }
+
+    /// Counts the instruction as done, gives rd a value, and goes on behind the instruction.
+    #[inline(always)]
+    pub fn go_on(&mut self, rd: Reg, value: u64)
+        ensures { self.new ≡ went_on self.old rd value (next_pc self.old) }
+    {
+        let next = self.pc.wrapping_add(4);
+        self.set_reg(rd, value);
+        self.go_to(next);
+    }
+
+    /// Counts a fence as done, and goes on behind it. Gives the access that it is (manual, section 2.7).
+    #[inline(always)]
+    pub fn pass_fence(&mut self, before: FenceSet, after: FenceSet, mode: FenceMode) -> Access
+        ensures access { Done (Some result) ≡ (fenced self.old before after mode).answer }
+        ensures hart { self.new ≡ (fenced self.old before after mode).hart }
+    {
+        let place = self.done;
+        let next = self.pc.wrapping_add(4);
+        self.go_to(next);
+        Access::Fence {
+            before,
+            after,
+            mode,
+            place,
+        }
+    }
+
+    /// Stops the hart for good with a code and a value, and changes nothing else.
+    #[inline(always)]
+    pub fn halt(&mut self, code: u8, value: u64)
+        ensures { self.new ≡ stopped_with self.old code value }
+    {
+        self.stop = Some(Stop { code, value });
     }
 }

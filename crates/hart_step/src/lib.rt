@@ -20,6 +20,7 @@ pub use buffered::Buffered;
 pub use bus::Bus;
 pub use code_table::CodeTable;
 pub use direct::Direct;
+pub use effects::{cut_to, sign_extended, stop_code};
 pub use hart::{Hart, Stop};
 pub use laws::{
     accesses_have_their_forms, done_counts_instructions, instructions_are_sound,

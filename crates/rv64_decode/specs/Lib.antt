@@ -1,3 +1,4 @@
+pub mod Atomics
 pub mod Operands
 pub mod Serial
 pub mod Table
