@@ -1,7 +1,5 @@
 -- The numbers of refusals, as the program prints them.
 use Rattle.std.specs.Prelude.{ℕ}
-use Rattle.elf_loader.specs.declared.load_error.LoadError.{LoadError}
-use Rattle.round_planner.specs.declared.plan_error.PlanError.{PlanError}
 use Rattle.elf_loader.specs.Causes.{error_number as image_number}
 use Rattle.round_planner.specs.Causes.{error_number as plan_number}
 use Rattle.host_io.specs.declared.error.RunError.{RunError}

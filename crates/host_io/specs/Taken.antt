@@ -1,5 +1,5 @@
 -- What a sink took of a text, and when it failed.
-use Rattle.std.specs.Prelude.{◌≡◌, ℕ, ◌+◌, ◌≤◌, ◌&&◌, ◌==◌, Bool, if◌then◌else◌, nat_lt, List, ◌++◌, length, take, Result, Ok, Err}
+use Rattle.std.specs.Prelude.{◌≡◌, ℕ, ◌+◌, ◌≤◌, ◌&&◌, ◌==◌, if◌then◌else◌, nat_lt, List, ◌++◌, length, take, Result, Ok, Err}
 use Rattle.host_io.specs.declared.sink.SinkFault.{SinkFault}
 
 -- a beginning of the text came after what was there

@@ -1,6 +1,6 @@
 -- A spare page in the place of one that is not ready.
-use Rattle.std.proofs.Common.{◌≡◌, ℕ, suc, zero, ◌+◌, ◌<◌, List, [], ◌∷◌, ◌++◌, length, map, replicate, take, get_or, set, refl, sym, ap, ◌∙◌, arith, Bool, true, false, subst}
-use Rattle.std.proofs.lemmas.List.{map-set, get_or-map, set-get_or, get_or_at, length-append, replicate_more, take_more, take_more_set}
+use Rattle.std.proofs.Common.{◌≡◌, ℕ, suc, zero, ◌+◌, ◌<◌, List, [], ◌∷◌, ◌++◌, length, map, replicate, take, get_or, set, refl, sym, ap, ◌∙◌, Bool, true, false}
+use Rattle.std.proofs.lemmas.List.{map-set, get_or-map, set-get_or, replicate_more, take_more, take_more_set}
 use Rattle.pages.specs.Flat.{Page, absent, full, flat, is_ready}
 use Rattle.pages.specs.Paged.{all_ready}
 use Rattle.pages.proofs.FlatPages.{flat-set_same}

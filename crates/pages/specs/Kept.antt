@@ -1,5 +1,5 @@
 -- What guest memory keeps true of its own parts.
-use Rattle.std.specs.Prelude.{◌≡◌, ◌≤◌, ◌+◌, ◌^◌, ℕ, List, length, All}
+use Rattle.std.specs.Prelude.{◌≤◌, ◌+◌, ◌^◌, ℕ, List, length, All}
 use Rattle.pages.specs.declared.access.Range.{Range}
 use Rattle.pages.specs.Flat.{Page}
 

@@ -46,10 +46,12 @@ module _ {b : _} {g : Ghosts b} where
       (subst (Each (IsReady t harts)) (sym is) (each_map (IsFresh t harts) (IsReady t harts) (fresh_seats t harts n) (ready t harts) (all_fresh (HartRound b g) t harts n))) lt
 
   -- a complete history has the round of each hart
-  pub table_of : (s : Start) (c : Collected (HartRound b g)) → s ≡ g.start → c.harts ≡ length s.harts → Complete hart_of seat_of c.harts c.history → IsTable s c
-  table_of s c same harts complete = record {
+  pub table_of : (s : Start) (c : Collected (HartRound b g)) → s ≡ g.start → c.harts ≡ length s.harts → Complete hart_of seat_of c.harts c.history
+      → Each (λ e. hart_of e < c.harts) c.history → IsTable s c
+  table_of s c same harts complete only = record {
     harts = harts;
     complete = subst (λ n. Complete hart_of seat_of n c.history) harts complete;
+    only = subst (λ n. Each (λ e. hart_of e < n) c.history) harts only;
     rounds = λ h lt.
         let e = found hart_of seat_of c.history h (has_from_times (harts_of hart_of seat_of c.history) h (complete h (omega arith))) in
         (e.0, e.1, ap (λ t. round_at t h) same ∙ (ap (round_at g.start) (sym e.2) ∙ e.0.content));

@@ -2,6 +2,7 @@
 use Rattle.std.specs.Prelude.{◌≡◌, ℕ, ◌<◌, List, length, map, Some}
 use Rattle.round_lock.specs.declared.hart_round.HartRound.{HartRound}
 use Rattle.round_lock.specs.Histories.{Complete, entry_of}
+use Rattle.round_lock.specs.Lists.{Each}
 use Rattle.round_lock.specs.Starts.{Content, Start, content_from, round_at}
 use Rattle.round_lock.specs.Known.{Collected, Known, Named}
 
@@ -23,8 +24,9 @@ hart_of r = (ticket_of r).hart
 abbrev pub seat_of : {b : _} {g : _} → HartRound b g → ℕ
 seat_of r = (ticket_of r).seat
 
--- each hart of the start stands in the history once, with its round
+-- each hart of the start stands in the history once, with its round, and nothing else does
 pub record IsTable {b : _} {g : _} (s : Start) (c : Collected (HartRound b g)) : Type 0 where
   pub harts : c.harts ≡ length s.harts
   pub complete : Complete hart_of seat_of (length s.harts) c.history
+  pub only : Each (λ e. hart_of e < length s.harts) c.history
   pub rounds : (h : ℕ) → h < length s.harts → (e : HartRound b g) × (entry_of hart_of seat_of h c.history ≡ Some e) × (round_at s h ≡ Some (content_in e))

@@ -1,13 +1,13 @@
 -- The text of a plan is one in the plan's grammar, whose numbers are the plan's.
-use Rattle.std.proofs.Common.{◌≡◌, ◌≢◌, ℕ, zero, suc, get_or, ◌+◌, ◌*◌, ◌-◌, ◌^◌, ◌<◌, ◌≤◌, ◌||◌, ◌⊎◌, Bool, true, false, List, [], ◌∷◌, ◌++◌, length, map, refl, sym, ◌∙◌, ap, subst, arith, rules, take, drop}
+use Rattle.std.proofs.Common.{◌≡◌, ℕ, zero, suc, get_or, ◌-◌, ◌^◌, ◌<◌, ◌≤◌, ◌||◌, Bool, true, false, List, [], ◌∷◌, ◌++◌, length, map, refl, sym, ◌∙◌, ap, subst, arith, rules, take, drop}
 use Rattle.std.proofs.lemmas.Grind.{common_steps}
 use Rattle.std.proofs.lemmas.Bool.Decides.{nat_tests}
-use Rattle.std.proofs.lemmas.Fmt.{decimal_digit, decimal_nonempty, digits_decimal, digits_value-decimal, first_decimal}
+use Rattle.std.proofs.lemmas.Fmt.{decimal_digit, digits_decimal, digits_value-decimal, first_decimal}
 use Rattle.std.proofs.lemmas.List.{length-map}
 use Rattle.std.proofs.lemmas.Str.Parse.{IsNumeralModel, numerals_by_fold}
 use Rattle.std.specs.Fmt.{decimal}
-use Rattle.std.specs.List.{AllByRecursion, flat_map, list_any}
-use Rattle.round_planner.specs.Grammar.{IsDigit, IsNumeral, IsPlanText, IsRow, numbers_of, row_text, value_from, value_of}
+use Rattle.std.specs.List.{AllByRecursion, list_any}
+use Rattle.round_planner.specs.Grammar.{IsDigit, IsNumeral, IsRow, numbers_of, row_text, value_from, value_of}
 use Rattle.round_planner.specs.PlanText.{ReadsAs, TextIsThePlans, numerals_of, plan_text, rest_text}
 use Rattle.round_planner.specs.Quotas.{IsPlan, Planned}
 use Rattle.round_planner.specs.Rows.{has_odd_row, has_out_of_range, is_odd_row, is_out_of_range}

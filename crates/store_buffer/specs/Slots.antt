@@ -1,6 +1,6 @@
 -- How a line is found by its number: a slot has the place of the line that came last in it, and each line that of the
 -- one before it in its slot.
-use Rattle.std.specs.Prelude.{◌≡◌, ℕ, ◌+◌, ◌-◌, ◌*◌, ◌/◌, ◌%◌, ◌^◌, ◌<◌, ◌≤◌, List, [], length, Option, Some, None, bit_and, get_or}
+use Rattle.std.specs.Prelude.{◌≡◌, ℕ, ◌+◌, ◌-◌, ◌*◌, ◌%◌, ◌^◌, ◌<◌, ◌≤◌, List, [], length, Option, Some, None, bit_and, get_or}
 use Rattle.std.specs.Int.{rotate_left, w64}
 use Rattle.store_buffer.specs.declared.slots.Numbered.{Numbered}
 use Rattle.store_buffer.specs.declared.line.Line.{Line}

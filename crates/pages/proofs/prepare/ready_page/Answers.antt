@@ -1,4 +1,4 @@
-use Rattle.std.proofs.Common.{◌≡◌, true, [], get_or, rules}
+use Rattle.std.proofs.Common.{◌≡◌, true, get_or, rules}
 use Rattle.std.proofs.lemmas.List.{get_or_read}
 use Rattle.pages.specs.Flat.{absent, is_ready}
 use Rattle.pages.proofs.Readied.{already_ready}

@@ -1,4 +1,4 @@
-use Rattle.std.proofs.Common.{◌≡◌, rules, true, ◌∙◌}
+use Rattle.std.proofs.Common.{rules, true, ◌∙◌}
 use Rattle.std.proofs.lemmas.List.{get_or_default}
 use Rattle.pages.specs.Flat.{absent}
 use Rattle.pages.proofs.Readied.{flat-readied, ready-readied}

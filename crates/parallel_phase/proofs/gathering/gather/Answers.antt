@@ -1,6 +1,9 @@
-use Rattle.std.proofs.Common.{◌≡◌, List, length, sym, refl, ap, ◌∙◌}
+use Rattle.std.proofs.Common.{◌≡◌, ◌<◌, List, length, sym, refl, ap, ◌∙◌, subst}
 use Rattle.round_lock.specs.declared.hart_round.HartRound.{HartRound}
 use Rattle.round_lock.specs.Known.{Known}
+use Rattle.round_lock.specs.Lists.{Each}
+use Rattle.round_lock.specs.Rounds.{hart_of}
+use Rattle.round_lock.proofs.Moves.{only_harts}
 use Rattle.round_lock.proofs.Using.{as_many}
 use Rattle.parallel_phase.proofs.Gatherings.{all_ready, each_over, table_of, written_over}
 use Rattle.parallel_phase.proofs.gathering.gather.Goals as goal
@@ -27,3 +30,4 @@ close-gathered-requires-clause-table g c =
 pub returns-then-is_complete : goal.returns-then-is_complete
 returns-then-is_complete g c =
     table_of c.args.start.now c.close-gathered.result c.requires.start (c.close-gathered.ensures.harts ∙ c.in_ok-book.ensures.book.0) (c.if-is_complete.ensures.complete.0 refl)
+    (subst (λ n. Each (λ e. hart_of e < n) c.close-gathered.result.history) (sym c.close-gathered.ensures.harts) (only_harts _ _ _ _ _ _ c.close-gathered.ensures.made.made))

@@ -1,10 +1,10 @@
-use Rattle.std.proofs.Common.{◌≡◌, ◌<◌, ℕ, List, length, get_or, slice_get, Some, None, [], subst, sym, ap, ◌∙◌, arith}
+use Rattle.std.proofs.Common.{◌≡◌, ℕ, List, get_or, slice_get, Some, subst, sym, ap, ◌∙◌, arith}
 use Rattle.hart_step.specs.CodeTables.{Shows}
 use Rattle.hart_step.specs.Words.{words_of}
 use Rattle.hart_step.specs.declared.hart.Hart.{Hart}
 use Rattle.pages.specs.Memory.{Memory}
 use Rattle.round_schedule.specs.Schedule.{hart_round_of}
-use Rattle.round_lock.specs.Starts.{Start, content_of, round_at}
+use Rattle.round_lock.specs.Starts.{Start, content_of}
 use Rattle.round_lock.proofs.Contents.{round_at_is}
 use Rattle.parallel_phase.proofs.HartRounds.{content_is, indexed, shows_through}
 use Rattle.parallel_phase.proofs.rounds.round_from.Goals as goal

@@ -1,4 +1,4 @@
-use Rattle.std.proofs.Common.{◌≡◌, ◌<◌, ◌∙◌, ◌/◌, ap, sym, subst, arith, length, vec_len, get_or, map, true, [], List, ℕ}
+use Rattle.std.proofs.Common.{◌≡◌, ◌<◌, ◌∙◌, ◌/◌, ap, sym, subst, arith, length, vec_len, get_or, map, true, List}
 use Rattle.std.specs.List.{slice_set}
 use Rattle.pages.specs.Flat.{absent, Page, flat, is_ready}
 use Rattle.pages.specs.Memory.{store_fault, put}

@@ -1,4 +1,4 @@
-use Rattle.std.proofs.Common.{◌≡◌, ◌-◌, ◌∙◌, ap, arith, length, refl, vec_len}
+use Rattle.std.proofs.Common.{◌≡◌, ◌∙◌, ap, arith, length, refl, vec_len}
 use Rattle.pages.specs.Flat.{blank}
 use Rattle.pages.proofs.Page.{length-blank}
 use Rattle.pages.proofs.spare.Spare.zeroed.Goals as goal

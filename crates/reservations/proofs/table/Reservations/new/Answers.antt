@@ -1,4 +1,4 @@
-use Rattle.std.proofs.Common.{None, ◌<◌, ◌≤◌, arith}
+use Rattle.std.proofs.Common.{None, arith}
 use Rattle.std.proofs.lemmas.List.{take-replicate, get_or-replicate}
 use Rattle.reservations.proofs.table.Reservations.new.Goals as goal
 
