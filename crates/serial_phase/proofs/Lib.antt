@@ -2,7 +2,7 @@ pub mod TurnLists
 pub mod TableUpdates
 pub mod ServedWords
 pub mod PlainSteps
-pub mod WordEffects
+pub mod Effects
 pub mod Served
 pub mod Settled
 pub mod TurnUnderWay

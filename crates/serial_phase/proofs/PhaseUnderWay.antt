@@ -1,19 +1,18 @@
 -- The serial phase under way.
-use Rattle.std.proofs.Common.{◌≡◌, ℕ, zero, suc, ◌+◌, ◌-◌, ◌<◌, ◌≤◌, ◌⊎◌, inl, inr, List, [], ◌∷◌, ◌++◌, length, take, drop, set, get_or, min, Bool, true, false, cond, Option, Some, None, refl, sym, ap, ◌∙◌, subst, arith, add-one, drop-cons, length-append, length-drop}
+use Rattle.std.proofs.Common.{◌≡◌, ℕ, zero, suc, ◌+◌, ◌-◌, ◌<◌, ◌≤◌, inl, inr, List, [], ◌∷◌, ◌++◌, length, take, drop, set, get_or, true, Option, refl, sym, ap, ◌∙◌, subst, arith, add-one, drop-cons, length-append}
 use Rattle.std.proofs.Math.Seq.{take-suc-set}
 use Rattle.std.proofs.lemmas.List.{drop_all, take_all}
 use Rattle.pages.specs.declared.access.Range.{Range}
-use Rattle.pages.specs.Memory.{Memory}
 use Rattle.pages.specs.Paged.{Paged, is_page_ready}
 use Rattle.round_schedule.specs.declared.access.Access.{Access}
 use Rattle.round_schedule.specs.declared.span.Span.{Span}
-use Rattle.round_schedule.specs.Desk.{Desk, Counter, counter_from, counter_joined, desk_of, desk_from}
+use Rattle.round_schedule.specs.Desk.{Counter, counter_from, counter_joined, desk_of, desk_from}
 use Rattle.round_schedule.specs.Schedule.{HartRound}
 use Rattle.hart_step.specs.declared.hart.Hart.{Hart}
 use Rattle.hart_step.specs.Console.{ConsoleState}
 use Rattle.hart_step.specs.Room.{HasSpares}
 use Rattle.hart_step.specs.Words.{words_of}
-use Rattle.serial_phase.specs.Phase.{HasBytes, TakesTurn, TakesTurns, turn_done, serial_done, waiting_rounds, is_waiting, budget_of, budget_from}
+use Rattle.serial_phase.specs.Phase.{TakesTurn, TakesTurns, turn_done, serial_done, waiting_rounds, is_waiting, budget_of, budget_from}
 use Rattle.serial_phase.specs.Roomed.{Roomed, HasRoom}
 use Rattle.serial_phase.specs.Turns.{Turns}
 

@@ -1,5 +1,5 @@
 -- An instruction of a turn makes one store at most, and one that is not done leaves memory and the console.
-use Rattle.std.proofs.Common.{◌≡◌, ℕ, ◌+◌, ◌≤◌, ◌==◌, ◌%◌, List, [], ◌∷◌, length, Bool, true, false, cond, Option, Some, None, Result, Ok, Err, refl, sym, ap, ◌∙◌, subst, arith}
+use Rattle.std.proofs.Common.{◌≡◌, ℕ, ◌≤◌, ◌==◌, ◌%◌, List, [], length, Bool, true, false, cond, Option, Some, None, Result, Ok, Err, refl, ap, arith}
 use Rattle.pages.specs.declared.access.Fault.{Fault}
 use Rattle.pages.specs.declared.access.Store.{Store}
 use Rattle.pages.specs.declared.access.Width.{Width}
@@ -15,8 +15,8 @@ use Rattle.hart_step.specs.declared.hart.Hart.{Hart}
 use Rattle.hart_step.specs.Console.{ConsoleState}
 use Rattle.hart_step.specs.Effect.{Action, Put, Jump, Branch, Read, Write, Order, Halt, Reserve, Conditional, Exchange, Call, action}
 use Rattle.hart_step.specs.Registers.{reg}
-use Rattle.hart_step.specs.SerialStep.{serial_stepped, served, with_console, called, reserved_by, conditional_by, exchanged_by, is_reserved}
-use Rattle.hart_step.specs.Step.{performed, by_word, by_instr, stopped_by, read_by, written_by, jumped}
+use Rattle.hart_step.specs.SerialStep.{serial_stepped, served, with_console, reserved_by, conditional_by, exchanged_by, is_reserved}
+use Rattle.hart_step.specs.Step.{by_word, by_instr, stopped_by, read_by, written_by, jumped}
 
 -- nothing was stored, and the console is as it was, unless the instruction is done
 abbrev pub Idle : Stepped → List Store → ConsoleState → ConsoleState → Type 0

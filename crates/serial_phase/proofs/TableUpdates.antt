@@ -1,11 +1,11 @@
 -- The table of reservations after the calls that each access makes.
-use Rattle.std.proofs.Common.{◌≡◌, ℕ, zero, suc, ◌+◌, ◌<◌, ◌==◌, ◌&&◌, ◌||◌, Bool, true, false, cond, List, [], ◌∷◌, length, get_or, Option, Some, None, refl, sym, ap, ◌∙◌, arith}
+use Rattle.std.proofs.Common.{◌≡◌, ℕ, zero, suc, ◌+◌, ◌<◌, ◌==◌, ◌||◌, Bool, true, false, cond, List, [], ◌∷◌, length, Option, Some, None, refl, sym, ap, ◌∙◌, arith}
 use Rattle.std.proofs.lemmas.List.{ext_get_or}
 use Rattle.pages.specs.declared.access.Width.{Width}
 use Rattle.pages.specs.Memory.{width_bytes, in_range}
 use Rattle.rv64_decode.specs.declared.ordering.AcquireRelease.{AcquireRelease}
 use Rattle.round_schedule.specs.declared.access.Access.{Access}
-use Rattle.round_schedule.specs.declared.access.Access.TheVariants.{Load, Store, LoadReserved, StoreConditional, Atomic, Fence}
+use Rattle.round_schedule.specs.declared.access.Access.TheVariants.{Store, LoadReserved, StoreConditional, Atomic}
 use Rattle.round_schedule.specs.declared.span.Span.{Span}
 use Rattle.round_schedule.specs.Accesses.{writes}
 use Rattle.round_schedule.specs.Desk.{updated}

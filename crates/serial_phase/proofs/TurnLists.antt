@@ -1,7 +1,7 @@
 -- The turns of a log while it grows, and where each one lies.
-use Rattle.std.proofs.Common.{◌≡◌, ℕ, zero, suc, ◌+◌, ◌-◌, ◌≤◌, ◌<◌, ◌==◌, List, [], ◌∷◌, ◌++◌, length, take, drop, set, get_or, cond, refl, sym, ap, ◌∙◌, arith, length-append, length-drop, add-one}
-use Rattle.std.proofs.Math.Seq.{take-length, drop-length, take-suc-set}
-use Rattle.std.proofs.lemmas.List.{take_rest, take-append-le, drop-append-le, take-set, get_or-take}
+use Rattle.std.proofs.Common.{◌≡◌, ℕ, zero, suc, ◌+◌, ◌-◌, ◌≤◌, ◌<◌, List, [], ◌∷◌, ◌++◌, length, take, drop, set, get_or, refl, ap, ◌∙◌, arith, length-drop, add-one}
+use Rattle.std.proofs.Math.Seq.{drop-length, take-suc-set}
+use Rattle.std.proofs.lemmas.List.{take_rest, take-append-le, drop-append-le, get_or-take}
 use Rattle.round_schedule.specs.declared.access.Access.{Access}
 use Rattle.serial_phase.specs.Turns.{turns_at, open_turn, AreEnds, start_of}
 

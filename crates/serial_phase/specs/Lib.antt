@@ -1,5 +1,6 @@
 pub mod Roomed
 pub mod Turns
+pub mod Atomics
 pub mod Words
 pub mod Plain
 pub mod Phase

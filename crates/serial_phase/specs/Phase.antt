@@ -1,7 +1,5 @@
 -- The serial phase as the code leaves it.
-use Rattle.std.specs.Prelude.{◌≡◌, ℕ, zero, suc, ◌+◌, ◌/◌, ◌%◌, ◌^◌, ◌≤◌, ◌==◌, Bool, true, if◌then◌else◌, List, [], ◌∷◌, ◌++◌, length, Option}
-use Rattle.pages.specs.declared.access.Range.{Range}
-use Rattle.pages.specs.Memory.{Memory}
+use Rattle.std.specs.Prelude.{◌≡◌, ℕ, zero, suc, ◌+◌, ◌/◌, ◌%◌, ◌^◌, ◌==◌, Bool, true, if◌then◌else◌, List, [], ◌∷◌, length, Option}
 use Rattle.pages.specs.Paged.{Paged, is_page_ready}
 use Rattle.round_schedule.specs.declared.span.Span.{Span}
 use Rattle.round_schedule.specs.Desk.{Desk, desk_from, Counter, counter_from}

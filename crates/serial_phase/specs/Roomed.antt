@@ -1,5 +1,5 @@
 -- The console of a run with the room that is reserved for its output.
-use Rattle.std.specs.Prelude.{ℕ, ◌+◌, ◌≤◌, ◌⊎◌, length}
+use Rattle.std.specs.Prelude.{ℕ, ◌≤◌, ◌⊎◌, length}
 use Rattle.hart_step.specs.Console.{ConsoleState, output_room}
 
 pub record Roomed : Type 0 where

@@ -1,5 +1,5 @@
 -- The accesses of serial turns, one after another in a list, with the place where each turn ends.
-use Rattle.std.specs.Prelude.{◌≡◌, ℕ, zero, suc, ◌-◌, ◌≤◌, List, [], ◌∷◌, drop, take, slice_index}
+use Rattle.std.specs.Prelude.{ℕ, zero, suc, ◌-◌, ◌≤◌, List, [], ◌∷◌, drop, take, slice_index}
 use Rattle.round_schedule.specs.declared.access.Access.{Access}
 
 -- the turns that have ended, the one that is under way, and the room for further accesses

@@ -6,8 +6,8 @@ mod log;
 mod phase;
 mod plain;
 mod serving;
+mod target;
 mod turn;
-mod word;
 
 pub use console::Console;
 pub use log::SerialLog;

@@ -1,4 +1,4 @@
-use Rattle.std.proofs.Common.{◌≡◌, ◌≤◌, ℕ, arith, rules, sym, subst}
+use Rattle.std.proofs.Common.{◌≤◌, ℕ, arith, sym, subst}
 use Rattle.std.proofs.lemmas.List.{get_or_default}
 use Rattle.hart_step.specs.Room.{HasSpares}
 use Rattle.serial_phase.specs.Roomed.{HasRoom}

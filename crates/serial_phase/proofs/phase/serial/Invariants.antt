@@ -1,4 +1,3 @@
-use Rattle.std.proofs.Common.{◌≡◌, length}
 use Rattle.hart_step.specs.CodeTables.{Shows}
 use Rattle.serial_phase.specs.Phase.{serial_done}
 use Rattle.serial_phase.proofs.PhaseUnderWay.{Serving}

@@ -1,8 +1,5 @@
-use Rattle.std.proofs.Common.{◌≡◌, ◌<◌, ◌-◌, arith, refl, sym, ap, ◌∙◌, Some, None, append-nil}
-use Rattle.round_schedule.specs.declared.access.Stepped.{Stepped}
-use Rattle.round_schedule.specs.declared.access.Stepped.TheVariants.{Done}
-use Rattle.serial_phase.specs.Turns.{Turns}
-use Rattle.serial_phase.proofs.TurnUnderWay.{under_first, output_left, ends_over, ends_off, ends_stopped, ends_waiting, under_more}
+use Rattle.std.proofs.Common.{arith, sym}
+use Rattle.serial_phase.proofs.TurnUnderWay.{output_left, ends_over, ends_off, ends_stopped, ends_waiting, under_more}
 use Rattle.serial_phase.proofs.phase.take_turn.Goals as goal
 
 pub returns-then-is_some : goal.returns-then-is_some

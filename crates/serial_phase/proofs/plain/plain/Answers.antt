@@ -1,7 +1,5 @@
-use Rattle.std.proofs.Common.{◌≡◌, refl, sym, ap, subst, ◌∙◌}
-use Rattle.pages.specs.Paged.{Paged}
+use Rattle.std.proofs.Common.{◌≡◌, sym, ap, subst, ◌∙◌}
 use Rattle.round_schedule.specs.declared.access.Stepped.{Stepped}
-use Rattle.hart_step.specs.Room.{TakesDirectly}
 use Rattle.hart_step.specs.Step.{stepped}
 use Rattle.serial_phase.specs.Plain.{IsPlainAnswer}
 use Rattle.serial_phase.specs.Words.{answered_table}

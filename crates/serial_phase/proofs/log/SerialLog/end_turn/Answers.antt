@@ -1,4 +1,4 @@
-use Rattle.std.proofs.Common.{◌≡◌, ℕ, ◌+◌, ◌≤◌, ◌<◌, List, [], ◌∷◌, ◌++◌, length, take, set, min, sym, ap, ◌∙◌, arith, subst, length-set}
+use Rattle.std.proofs.Common.{◌≡◌, ℕ, ◌+◌, ◌≤◌, ◌<◌, List, [], ◌∷◌, ◌++◌, length, take, set, sym, ap, ◌∙◌, arith, subst, length-set}
 use Rattle.std.proofs.lemmas.List.{length-take-le}
 use Rattle.round_schedule.specs.declared.access.Access.{Access}
 use Rattle.serial_phase.specs.Turns.{Turns, turns_at, open_turn, AreEnds}

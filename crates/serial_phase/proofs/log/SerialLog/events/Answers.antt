@@ -1,4 +1,4 @@
-use Rattle.std.proofs.Common.{◌≡◌, ℕ, ◌-◌, List, [], length, take, drop, get_or, sym, ap, ◌∙◌, arith}
+use Rattle.std.proofs.Common.{ℕ, ◌-◌, List, [], length, take, drop, get_or, sym, ap, ◌∙◌, arith}
 use Rattle.round_schedule.specs.declared.access.Access.{Access}
 use Rattle.serial_phase.specs.Turns.{Turns, start_of}
 use Rattle.serial_phase.proofs.TurnLists.{lies, past_turns}

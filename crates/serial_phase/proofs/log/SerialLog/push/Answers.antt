@@ -1,6 +1,6 @@
-use Rattle.std.proofs.Common.{◌≡◌, ℕ, ◌+◌, ◌≤◌, List, [], ◌∷◌, ◌++◌, length, take, cond, Result, Ok, is_ok, sym, ap, ◌∙◌, arith, length-append}
+use Rattle.std.proofs.Common.{◌≡◌, List, [], ◌∷◌, ◌++◌, length, take, cond, Result, Ok, is_ok, ap, ◌∙◌, arith, length-append}
 use Rattle.round_schedule.specs.declared.access.Access.{Access}
-use Rattle.serial_phase.specs.Turns.{Turns, turns_at, open_turn, AreEnds}
+use Rattle.serial_phase.specs.Turns.{Turns, turns_at, open_turn}
 use Rattle.serial_phase.proofs.TurnLists.{ends_more, turns_push, open_push}
 use Rattle.serial_phase.proofs.log.SerialLog.push.Goals as goal
 
