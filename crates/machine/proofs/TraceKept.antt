@@ -12,7 +12,7 @@ use Rattle.round_schedule.specs.Places.{Placed}
 use Rattle.round_schedule.proofs.Phases.{All-weaker}
 use Rattle.round_planner.specs.Quotas.{IsQuota, Planned, quotas_of}
 use Rattle.hart_step.specs.declared.hart.Hart.{Hart}
-use Rattle.memory_order.specs.Traced.{IsTrace, Traced}
+use Rattle.trace.specs.Traced.{IsTrace, Traced}
 use Rattle.machine.specs.Machine.{opening_hart, opening_harts}
 use Rattle.machine.specs.declared.outcome.Outcome.{Outcome}
 use Rattle.machine.specs.Outcomes.{HasPlaces, outcome_events}

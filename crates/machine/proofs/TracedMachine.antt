@@ -6,7 +6,7 @@ use Rattle.round_schedule.specs.declared.event.Event.{Event}
 use Rattle.round_schedule.specs.Schedule.{run_of}
 use Rattle.round_planner.specs.Quotas.{quotas_of}
 use Rattle.hart_step.specs.Words.{words_of}
-use Rattle.memory_order.specs.Traced.{Laid, Traced, opening_at, opening_bytes}
+use Rattle.trace.specs.Traced.{Laid, Traced, opening_at, opening_bytes}
 use Rattle.machine.specs.Machine.{Running, after_round, after_rounds, opening}
 use Rattle.machine.specs.Untraced.{AreLast, HasRun, HoldsTogether, IsOfRun, IsUntraced, Untraced, traced}
 use Rattle.machine.proofs.Repeated.{more_rounds}

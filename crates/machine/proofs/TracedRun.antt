@@ -8,7 +8,7 @@ use Rattle.hart_step.specs.declared.hart.Hart.{Hart}
 use Rattle.hart_step.specs.Console.{ConsoleState}
 use Rattle.hart_step.specs.Words.{words_of}
 use Rattle.hart_step.proofs.Soundness.{sound}
-use Rattle.memory_order.specs.Traced.{Traced, opening_at}
+use Rattle.trace.specs.Traced.{Traced, opening_at}
 use Rattle.machine.specs.Machine.{Running, after_rounds, opening}
 use Rattle.machine.specs.Untraced.{IsOfRun}
 

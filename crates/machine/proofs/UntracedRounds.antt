@@ -22,8 +22,8 @@ use Rattle.hart_step.proofs.Formation.{has_forms}
 use Rattle.hart_step.specs.Stops.{has_stop}
 use Rattle.hart_step.proofs.Stopping.{stops_fit}
 use Rattle.hart_step.proofs.Soundness.{counts_done, sound}
-use Rattle.memory_order.specs.Traced.{HasForm, IsTrace}
-use Rattle.memory_order.proofs.RunForms.{round_leaves_trace}
+use Rattle.trace.specs.Traced.{HasForm, IsTrace}
+use Rattle.trace.proofs.RunForms.{round_leaves_trace}
 use Rattle.machine.specs.Held.{most_of_round}
 use Rattle.machine.specs.Machine.{Running, after_round, after_rounds, count_stopped}
 use Rattle.machine.specs.Untraced.{HasRun, IsUntraced, MayGoOn, Untraced, next_events, next_of, tabled_of, untraced_round}

@@ -11,7 +11,7 @@ use Rattle.round_schedule.specs.Desk.{log_events}
 use Rattle.round_schedule.specs.Events.{events_of}
 use Rattle.round_schedule.specs.Schedule.{HartRound}
 use Rattle.hart_step.specs.declared.hart.Hart.{Hart}
-use Rattle.memory_order.specs.Traced.{Traced}
+use Rattle.trace.specs.Traced.{Traced}
 use Rattle.machine.specs.declared.outcome.Outcome.{Outcome}
 
 -- each byte of a buffer is a byte of memory that is not code

@@ -13,7 +13,7 @@ use Rattle.hart_step.specs.declared.hart.Hart.{Hart}
 use Rattle.hart_step.specs.Console.{ConsoleState}
 use Rattle.hart_step.specs.Stops.{has_stop}
 use Rattle.hart_step.specs.Words.{words_of}
-use Rattle.memory_order.specs.Traced.{IsTrace, Traced, opening_at, opening_bytes}
+use Rattle.trace.specs.Traced.{IsTrace, Traced, opening_at, opening_bytes}
 use Rattle.machine.specs.Held.{most_of_round}
 use Rattle.machine.specs.Machine.{Running, after_rounds, opening}
 

@@ -2,13 +2,13 @@ ghost use Rattle.std.specs.Prelude.{◌≡◌, ◌+◌, ◌*◌, ◌^◌, ◌<�
 ghost use Rattle.round_schedule.specs.declared.event.Phase.TheVariants.{Parallel};
 ghost use Rattle.round_schedule.specs.Desk.{log_events};
 ghost use Rattle.round_schedule.specs.Events.{events_of};
-ghost use Rattle.memory_order.specs.Traced.{IsTrace};
+ghost use Rattle.trace.specs.Traced.{IsTrace};
 ghost use Rattle.machine.specs.Outcomes.{HasPlaces, count_accesses, count_copied, count_log, outcome_events, turns_of, waits_of};
 
 use crate::outcome::Outcome;
-use memory_order::{Log, Trace};
 use round_schedule::Phase;
 use serial_phase::SerialLog;
+use trace::{Log, Trace};
 
 /// How many accesses on average make a round's logs long.
 const LONG: usize = 64;

@@ -1,15 +1,15 @@
 ghost use Rattle.std.specs.Prelude.{◌≡◌, ℕ, ◌+◌, ◌≤◌, ◌++◌, Bool, List, [], length, IfOk};
 ghost use Rattle.round_schedule.specs.declared.event.Event.{Event as Happened};
-ghost use Rattle.memory_order.specs.Traced.{IsTrace, Laid};
+ghost use Rattle.trace.specs.Traced.{IsTrace, Laid};
 ghost use Rattle.machine.specs.declared.outcome.Outcome.{Outcome as Left};
 ghost use Rattle.machine.specs.Outcomes.{HasPlaces, count_copied, count_log, round_events};
 
 use crate::events::{add_parallel, add_serial, are_long};
 use crate::outcome::Outcome;
 use crate::room::make_places;
-use memory_order::Trace;
 use pages::OutOfMemory;
 use serial_phase::SerialLog;
+use trace::Trace;
 
 /// What becomes of the events of rounds: a trace keeps them, and `NoTrace` lets them go.
 pub trait EventKeeper {

@@ -30,7 +30,6 @@ mod waiting;
 
 pub use emulation::emulate;
 pub use machine::Machine;
-pub use memory_order::Trace;
 pub use observing::{Observer, Unobserved};
 pub use ordering::order_run;
 pub use outcome::Outcome;
@@ -40,5 +39,6 @@ pub use preparing_untraced::prepare_untraced;
 pub use running::RoundNote;
 pub use settings::{Format, Settings};
 pub use showing::{Shown, report_run, show_run};
+pub use trace::Trace;
 pub use tracing::trace_run;
 pub use untraced::UntracedMachine;

@@ -1,6 +1,6 @@
 ghost use Rattle.std.specs.Prelude.{◌≡◌, ℕ, ◌<◌, ◌≤◌, All, length, slice_index, Some, None, true, IfOk, IfErr};
 ghost use Rattle.host_io.specs.declared.error.RunError.TheVariants as refusals;
-ghost use Rattle.memory_order.specs.Traced.{opening_at};
+ghost use Rattle.trace.specs.Traced.{opening_at};
 ghost use Rattle.hart_step.specs.Stops.{has_stop};
 ghost use Rattle.round_schedule.specs.RoundTrace.{IsRoundTrace};
 ghost use Rattle.machine.specs.Machine.{opening};
@@ -9,10 +9,10 @@ use crate::untraced::UntracedMachine;
 use elf_loader::Image;
 use hart_step::Hart;
 use host_io::RunError;
-use memory_order::Trace;
 use round_planner::Plan;
 use std::alloc::Global;
 use std::marker::Model;
+use trace::Trace;
 
 /// A guest program between two rounds, and the trace of its run.
 #[derive(Drop)]

@@ -9,7 +9,6 @@ ghost use Rattle.machine.specs.Outcomes.{AreOutcomes};
 use crate::crew::Crew;
 use commit_phase::Buffered;
 use hart_step::{CodeTable, Hart};
-use memory_order::Log;
 use pages::{OutOfMemory, Pages};
 use parallel_phase::{Gate, gather, round_from};
 use round_lock::{BookStart, RoundStart};
@@ -19,6 +18,7 @@ use std::marker::Brand;
 use std::sync::Wait;
 use std::thread::Threads;
 use store_buffer::StoreBuffer;
+use trace::Log;
 
 /// What the round of one hart left: the hart, its stores, its accesses in program order, and whether it waits
 /// for the serial phase.

@@ -6,9 +6,9 @@ ghost use Rattle.machine.specs.Outcomes.{AreFit, AreReady, HasPlaces, KeepsPages
 use crate::events::total_accesses;
 use crate::outcome::Outcome;
 use crate::ready::make_ready;
-use memory_order::Trace;
 use pages::{OutOfMemory, Pages};
 use serial_phase::{Console, SerialLog};
+use trace::Trace;
 
 /// Asks for all that the commit and the serial turns of a round may need, so that nothing is refused after
 /// them: the pages, the spare pages, and room in the output and the log.

@@ -7,17 +7,17 @@ ghost use Rattle.host_io.specs.declared.error.RunError.TheVariants as refusals;
 ghost use Rattle.round_schedule.specs.RoundTrace.{IsRoundTrace};
 ghost use Rattle.memory_order.specs.RoundOrder.{IsRoundOrder};
 ghost use Rattle.memory_order.specs.Rvwmo.{MeetsRvwmo};
-ghost use Rattle.memory_order.specs.Traced.{opening_at};
+ghost use Rattle.trace.specs.Traced.{opening_at};
 ghost use Rattle.machine.specs.Settings.{IsImage, IsImageCause, IsPlan, IsPlanCause, IsReason, RefusedAs, image_for, settings_fault, trace_after};
 
 use crate::observing::Observer;
 use crate::preparing::prepare;
 use crate::settings::Settings;
 use host_io::RunError;
-use memory_order::Trace;
 use std::alloc::Global;
 use std::sync::Wait;
 use std::thread::Threads;
+use trace::Trace;
 
 /// Runs a guest program for a number of rounds, and hands its trace over.
 ///

@@ -4,7 +4,7 @@ ghost use Rattle.round_schedule.specs.declared.event.Event.{Event};
 ghost use Rattle.round_schedule.specs.Schedule.{hart_rounds};
 ghost use Rattle.round_planner.specs.Quotas.{quotas_of};
 ghost use Rattle.hart_step.specs.Words.{words_of};
-ghost use Rattle.memory_order.specs.Traced.{IsTrace};
+ghost use Rattle.trace.specs.Traced.{IsTrace};
 ghost use Rattle.machine.specs.Machine.{count_stopped, count_waiting};
 ghost use Rattle.machine.specs.Untraced.{AreAdded, AreLast, HasRun, IsAfter, MayGoOn, next_events, untraced_round};
 
@@ -15,11 +15,11 @@ use crate::round::do_round;
 use crate::running::{MANY_LINES, MOST_WORKERS, RoundNote, stopped_count, workers_for};
 use crate::untraced::UntracedMachine;
 use host_io::RunError;
-use memory_order::Trace;
 use pages::OutOfMemory;
 use parallel_phase::{Gate, Open};
 use std::sync::Wait;
 use std::thread::Threads;
+use trace::Trace;
 
 impl UntracedMachine {
     /// Does so many rounds, on 1 to 16 workers. It may wait.

@@ -5,12 +5,12 @@ ghost use Rattle.std.specs.Prelude.{◌<◌};
 use crate::harness::machine_of;
 use host_io::RunError;
 use machine::{Machine, Open};
-use memory_order::Trace;
 use pages::Width;
 use round_schedule::{Access, Event, Phase};
 use std::alloc::Global;
 use std::sync::Wait;
 use std::thread::Threads;
+use trace::Trace;
 
 /// In one turn after another, a hart loads the doubleword at 0x400 and then stores there its number plus 2, 4, 6 and so on,
 /// so that no two harts store the same number:

@@ -1,16 +1,6 @@
-pub mod Briefs
-pub mod Checking
-pub mod CheckingAtomic
-pub mod CheckingProgram
-pub mod LastPlaces
-pub mod LentLogs
-pub mod Logs
 pub mod Operations
 pub mod Orders
-pub mod Parts
-pub mod Pieces
 pub mod ProgramOrder
 pub mod RoundOrder
 pub mod Runs
 pub mod Rvwmo
-pub mod Traced

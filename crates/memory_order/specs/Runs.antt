@@ -1,12 +1,10 @@
--- The traces of runs, and their memory orders.
-use Rattle.std.specs.Prelude.{◌≡◌, ℕ, ◌+◌, ◌*◌, ◌^◌, ◌<◌, ◌≤◌, List, length, slice_index, All}
+-- The memory orders of runs.
+use Rattle.std.specs.Prelude.{ℕ, List, slice_index}
 use Rattle.pages.specs.Memory.{IsBytes}
 use Rattle.round_schedule.specs.Schedule.{Words, opening_state, run_of}
-use Rattle.round_schedule.specs.Sound.{Counts, Sound}
-use Rattle.hart_step.specs.Forms.{Forms}
+use Rattle.round_schedule.specs.Sound.{Sound}
 use Rattle.memory_order.specs.RoundOrder.{IsRoundOrder}
 use Rattle.memory_order.specs.Rvwmo.{MeetsRvwmo}
-use Rattle.memory_order.specs.Traced.{IsTrace}
 
 -- the order by rounds of the trace of a run over sound instructions meets RVWMO, over the bytes of the run's start
 abbrev pub OrdersOfRunsMeetRvwmo : (H C : Type 0) → Type 0
@@ -14,11 +12,3 @@ OrdersOfRunsMeetRvwmo H C =
     (w : Words H C) → Sound w → (budget : ℕ) (quotas : ℕ → List ℕ) (n : ℕ) (hs : List H) (bs : List ℕ) (c : C) → IsBytes bs →
     (g : List ℕ) → IsRoundOrder (run_of w budget quotas n (opening_state hs bs c)).trace g →
     MeetsRvwmo (run_of w budget quotas n (opening_state hs bs c)).trace (λ x. slice_index bs x) g
-
--- in a run that is too short for the counts of instructions to wrap, over instructions whose accesses have their forms,
--- each event has the form of its kind and a hart's places rise
-abbrev pub RunsLeaveTraces : (H C : Type 0) → Type 0
-RunsLeaveTraces H C =
-    (w : Words H C) (done : H → ℕ) → Forms w → Counts w done → (budget most : ℕ) (quotas : ℕ → List ℕ) → ((m : ℕ) → All (λ q. q ≤ most) (quotas m)) →
-    (n : ℕ) (hs : List H) (bs : List ℕ) (c : C) → IsBytes bs → length bs ≤ 2 ^ 32 → All (λ h. done h ≡ 0) hs → n * (most + budget) < 2 ^ 64 →
-    IsTrace (run_of w budget quotas n (opening_state hs bs c)).trace

@@ -1,6 +1,6 @@
 //! Laws of the definitions, each the contract of a function that does nothing.
 
-ghost use Rattle.memory_order.specs.Runs.{OrdersOfRunsMeetRvwmo, RunsLeaveTraces};
+ghost use Rattle.memory_order.specs.Runs.{OrdersOfRunsMeetRvwmo};
 
 /// Every run in rounds over sound instructions meets RVWMO: the order by rounds of its trace meets the axioms, over the
 /// bytes of the run's start.
@@ -8,10 +8,4 @@ ghost use Rattle.memory_order.specs.Runs.{OrdersOfRunsMeetRvwmo, RunsLeaveTraces
 /// `memory_order` gives this order.
 pub fn orders_of_runs_meet_rvwmo<H, C>()
     ensures { OrdersOfRunsMeetRvwmo H C }
-{}
-
-/// `Trace::of` takes the trace of every run over instructions that count themselves and whose accesses have their forms, where
-/// the run is too short for the counts to wrap and memory has at most 2^32 bytes.
-pub fn runs_leave_traces<H, C>()
-    ensures { RunsLeaveTraces H C }
 {}

@@ -20,7 +20,7 @@ pub fn is_operation(event: &Event) -> bool
 }
 
 /// Whether there is a memory operation at a place of a trace.
-pub(crate) fn is_operation_at(events: &[Event], place: usize) -> bool
+pub fn is_operation_at(events: &[Event], place: usize) -> bool
     ensures { result ≡ is_operation (event events.now place) }
 {
     match events.get(place) {

@@ -9,10 +9,10 @@ ghost use Rattle.memory_order.specs.RoundOrder.{IsRoundOrder};
 ghost use Rattle.memory_order.specs.Rvwmo.{MeetsRvwmo};
 
 use crate::operation::{is_operation_at, rank_at};
-use crate::trace::Trace;
 use pages::OutOfMemory;
 use round_schedule::Event;
 use std::alloc::Global;
+use trace::Trace;
 
 /// Places in a trace, in an order of its memory operations.
 #[derive(Debug, PartialEq, Eq, Drop)]
@@ -37,7 +37,7 @@ pub fn memory_order(alloc: Global, trace: &Trace) -> Result<Order, OutOfMemory>
 }
 
 /// The order by rounds of the memory operations of a list of events.
-pub(crate) fn by_rounds(alloc: Global, events: &[Event]) -> Result<Vec<usize>, OutOfMemory>
+fn by_rounds(alloc: Global, events: &[Event]) -> Result<Vec<usize>, OutOfMemory>
     ensures { IfOk result (λ v. IsRoundOrder events.now v.items) }
 {
     let mut order = operations(alloc, events)?;

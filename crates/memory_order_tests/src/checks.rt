@@ -1,11 +1,13 @@
 //! What the checker says of orders of hand-made traces.
 
 use crate::traces::{BOTH, PLAIN, event, full_fence, load, store};
-use memory_order::{Access, Event, Order, Phase, Trace, check_order, memory_order};
+use memory_order::{Order, memory_order};
+use order_checker::check_order;
 use pages::Piece;
 use pages::Width::{W1, W2, W8};
 use rv64_decode::{AcquireRelease, FenceMode, FenceSet};
 use std::alloc::Global;
+use trace::{Access, Event, Phase, Trace};
 
 const RELEASE: AcquireRelease = AcquireRelease {
     acquire: false,

@@ -2,12 +2,12 @@
 
 ghost use Rattle.std.specs.Prelude.{◌≡◌, ◌+◌, ◌^◌, ◌<◌, ◌≤◌, ◌++◌, IfSome, length, true};
 ghost use Rattle.round_schedule.specs.Events.{events_of};
-ghost use Rattle.memory_order.specs.Traced.{IsTrace};
+ghost use Rattle.trace.specs.Traced.{IsTrace};
 
 use crate::traces::{PLAIN, add_loads, full_fence, load, store};
-use memory_order::{Access, Event, Log, Phase, Trace};
 use pages::Width;
 use std::alloc::Global;
+use trace::{Access, Event, Log, Phase, Trace};
 
 fn load_of(place: u64) -> Access {
     load(place, 0x100, 0)

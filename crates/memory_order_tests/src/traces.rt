@@ -2,13 +2,14 @@
 
 ghost use Rattle.std.specs.Prelude.{◌≡◌, ◌<◌, ◌≤◌, All};
 ghost use Rattle.round_schedule.specs.Accesses.{place_of};
-ghost use Rattle.memory_order.specs.Traced.{HasForm};
+ghost use Rattle.trace.specs.Traced.{HasForm};
 
-use memory_order::{Access, Event, Order, Phase, Trace, is_operation, memory_order};
+use memory_order::{Order, is_operation, memory_order};
 use pages::Piece;
 use pages::Width::W8;
 use rv64_decode::{AcquireRelease, FenceMode, FenceSet};
 use std::alloc::Global;
+use trace::{Access, Event, Phase, Trace};
 
 pub(crate) const PLAIN: AcquireRelease = AcquireRelease {
     acquire: false,

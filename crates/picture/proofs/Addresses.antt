@@ -7,7 +7,7 @@ use Rattle.round_schedule.specs.declared.event.Event.{Event}
 use Rattle.round_schedule.specs.Accesses.{address_of}
 use Rattle.round_schedule.specs.Positions.{event, no_event}
 use Rattle.hart_step.specs.Forms.{Formed}
-use Rattle.memory_order.specs.Traced.{HasForm, IsTrace}
+use Rattle.trace.specs.Traced.{HasForm, IsTrace}
 
 formed_low : (a : Access) → Formed (2 ^ 32) a → address_of a < 2 ^ 32
 formed_low (Load w p a r) h = h.0.1

@@ -16,7 +16,7 @@ use Rattle.memory_order.specs.Rvwmo.{IsSource}
 use Rattle.memory_order.proofs.Facts.{and_left, and_right, or_cases, or_left, or_right, store_is_operation, within}
 use Rattle.memory_order.proofs.Placing.{goes_by_rank}
 use Rattle.memory_order.proofs.RoundOrders.{parallel_source, serial_source}
-use Rattle.memory_order.proofs.Valuing.{one_source}
+use Rattle.memory_order.proofs.Sources.{one_source}
 use Rattle.picture.specs.Laws.{ArrowsMeetAxiom, ReadsFrom, SourcesMeetAxiom}
 use Rattle.picture.specs.Sources.{bytes, gives, is_opening, is_place, last_below, sees, source, sources}
 

@@ -3,10 +3,10 @@ ghost use Rattle.round_schedule.specs.Accesses.{address_of, bytes_of, loads, rea
 ghost use Rattle.round_schedule.specs.Positions.{event, no_event};
 ghost use Rattle.pages.specs.Memory.{in_range, width_bytes};
 
-use memory_order::Trace;
 use pages::Width;
 use round_schedule::{Access, Event, Phase};
 use rv64_decode::{FenceMode, FenceSet};
+use trace::Trace;
 
 /// The address of an access's first byte; 0 for a fence.
 pub(crate) fn address(access: &Access) -> u64

@@ -5,10 +5,10 @@ use crate::elements::{Curve, Point, add_curve, line_down};
 use crate::event_box::EventBox;
 use crate::layout::left_of;
 use crate::source::{has_opening, has_place, sources};
-use memory_order::Trace;
 use pages::OutOfMemory;
 use report::Line;
 use std::alloc::Global;
+use trace::Trace;
 
 fn right_of(hart: u64) -> u64
     requires { hart ≤ 255 }

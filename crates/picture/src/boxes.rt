@@ -7,9 +7,9 @@ use crate::event_box::EventBox;
 use crate::labels::{access, value_read, written};
 use crate::layout::{is_serial, left_of, opens_turn};
 use crate::lost::is_lost;
-use memory_order::Trace;
 use pages::OutOfMemory;
 use report::Line;
+use trace::Trace;
 
 fn box_class(lost: bool) -> &'static str
     ensures { result.now ≡ box_class lost }

@@ -5,10 +5,10 @@ ghost use Rattle.picture.specs.Layout.{are_beside, boxes_of, last_top, last_top_
 
 use crate::access::event_at;
 use crate::event_box::EventBox;
-use memory_order::Trace;
 use pages::OutOfMemory;
 use round_schedule::{Event, Phase};
 use std::alloc::Global;
+use trace::Trace;
 
 /// The most events that a picture shows.
 pub(crate) const MOST: usize = 400;

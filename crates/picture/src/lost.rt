@@ -6,8 +6,8 @@ ghost use Rattle.picture.specs.Marks.{is_by_other, is_lost, is_lost_byte, is_rea
 
 use crate::access::{address, byte_count, event_at, reads, stores, writes};
 use crate::source::source;
-use memory_order::Trace;
 use round_schedule::Access;
+use trace::Trace;
 
 /// The first store to a byte after a place.
 fn overwriter(trace: &Trace, place: usize, byte: u64) -> Option<usize>

@@ -16,10 +16,10 @@ use crate::style::{legend, root, start_of_view_box, style};
 use crate::view::{View, places_seen};
 use hart_step::Hart;
 use host_io::{RunError, Sink, put_all};
-use memory_order::Trace;
 use pages::OutOfMemory;
 use report::Line;
 use std::alloc::Global;
+use trace::Trace;
 
 #[tactic(auto, unfolding(crate::specs::Picture::view_box_text))]
 fn view_box(line: &mut Line, width: u64, height: u64) -> Result<(), OutOfMemory>

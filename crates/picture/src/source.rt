@@ -4,10 +4,10 @@ ghost use Rattle.picture.specs.Sources.{bytes, gives, is_opening, is_place, sees
 ghost use Rattle.std.specs.List.{list_any};
 
 use crate::access::{address, byte_count, event_at, loads, writes};
-use memory_order::Trace;
 use pages::OutOfMemory;
 use round_schedule::{Access, Event, Phase};
 use std::alloc::Global;
+use trace::Trace;
 
 /// Whether an event may see what an earlier one wrote.
 fn sees(reader: &Event, writer: &Event) -> bool

@@ -4,10 +4,10 @@ ghost use Rattle.round_schedule.specs.Positions.{event};
 ghost use Rattle.picture.specs.Views.{is_seen, is_shown, places_seen, touches};
 
 use crate::access::{address, byte_count, event_at, is_in_range};
-use memory_order::Trace;
 use pages::{OutOfMemory, Range};
 use round_schedule::{Access, Event};
 use std::alloc::Global;
+use trace::Trace;
 
 /// What a picture shows of a run.
 #[derive(Clone, Copy, Debug)]

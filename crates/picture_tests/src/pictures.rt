@@ -1,11 +1,11 @@
 use host_io::{RunError, WriteSink};
-use memory_order::Trace;
 use pages::{Range, Width};
 use picture::{View, write_picture};
 use round_schedule::{Access, Event, Phase};
 use rv64_decode::{FenceMode, FenceSet};
 use std::alloc::Global;
 use std::test::Fail;
+use trace::Trace;
 
 const BOTH: FenceSet = FenceSet {
     reads: true,

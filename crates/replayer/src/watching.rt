@@ -16,13 +16,13 @@ ghost use Rattle.replayer.specs.Replayed.{IsPlanFor, hits_of, start_of};
 use crate::opened::opened_untraced;
 use host_io::RunError;
 use machine::{Observer, Unobserved, UntracedMachine};
-use memory_order::Trace;
 use pages::{OutOfMemory, Range, Width};
 use recording::Recording;
 use round_schedule::{Access, Event};
 use std::alloc::Global;
 use std::sync::Wait;
 use std::thread::Threads;
+use trace::Trace;
 
 /// Runs a recording anew, on 1 to 16 workers, and gives the events of its trace that aren't fences and have a byte in one of
 /// the ranges, in the order of the trace; store-conditionals that failed are among them. It may wait.

@@ -5,7 +5,7 @@ use Rattle.round_schedule.specs.declared.event.Event.{Event}
 use Rattle.round_schedule.specs.Positions.{event}
 use Rattle.memory_order.specs.RoundOrder.{IsRoundOrder}
 use Rattle.memory_order.specs.Rvwmo.{MeetsRvwmo}
-use Rattle.memory_order.specs.Traced.{Traced, opening_at}
+use Rattle.trace.specs.Traced.{Traced, opening_at}
 use Rattle.report.specs.Report.{events_text}
 
 -- the lines of the events at these places of a trace, in the order of the places

@@ -10,10 +10,10 @@ use crate::state::{put_count, put_trace};
 use crate::text::event_line;
 use crate::writer::put_line;
 use host_io::{RunError, Sink, put_all};
-use memory_order::Trace;
 use pages::OutOfMemory;
 use std::alloc::Global;
 use std::thread::{Threads, map_indices};
+use trace::Trace;
 
 /// How many events a block has.
 const BLOCK: usize = 16_384;

@@ -2,7 +2,7 @@ ghost use Rattle.std.specs.Prelude.{◌≡◌, ℕ, ◌⊎◌, ◌<◌, ◌++◌
 ghost use Rattle.host_io.specs.Taken.{BeganText};
 ghost use Rattle.round_schedule.specs.RoundTrace.{IsRoundTrace};
 ghost use Rattle.memory_order.specs.Rvwmo.{MeetsRvwmo};
-ghost use Rattle.memory_order.specs.Traced.{opening_at};
+ghost use Rattle.trace.specs.Traced.{opening_at};
 ghost use Rattle.report.specs.Order.{IsCheckedOrder, checked_text, order_text, places_text};
 ghost use Rattle.report.specs.Pending.{Wrote, way};
 
@@ -10,8 +10,10 @@ use crate::line::Line;
 use crate::state::{put_count, put_event};
 use crate::writer::put_line;
 use host_io::{RunError, Sink};
-use memory_order::{Trace, check_order, memory_order};
+use memory_order::memory_order;
+use order_checker::check_order;
 use std::alloc::Global;
+use trace::Trace;
 
 fn put_places<S: Sink>(
     out: &mut S,

@@ -13,11 +13,11 @@ use crate::text::{event_line, hart_lines};
 use crate::writer::{put_line, put_long};
 use hart_step::Hart;
 use host_io::{RunError, Sink};
-use memory_order::Trace;
 use pages::Pages;
 use round_schedule::Event;
 use std::alloc::Global;
 use std::thread::Threads;
+use trace::Trace;
 
 pub(crate) fn put_count<S: Sink>(
     out: &mut S,

@@ -2,13 +2,13 @@
 
 use hart_step::Hart;
 use host_io::{RunError, WriteSink};
-use memory_order::Trace;
 use pages::{Pages, Width};
 use report::{write_event, write_state, write_state_on};
 use round_schedule::{Access, Event, Phase};
 use std::alloc::Global;
 use std::test::Fail;
 use std::thread::Threads;
+use trace::Trace;
 
 /// How many events of a trace one worker formats at a time.
 const BLOCK: u64 = 16_384;

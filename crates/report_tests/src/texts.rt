@@ -1,12 +1,12 @@
 use hart_step::{Hart, Stop};
 use host_io::{History, RunError, Sink, SinkFault, WriteSink};
-use memory_order::Trace;
 use pages::{Pages, Piece, Width};
 use report::{write_event, write_hart, write_order, write_state};
 use round_schedule::{Access, Event, Phase};
 use rv64_decode::{AcquireRelease, FenceMode, FenceSet};
 use std::alloc::Global;
 use std::test::Fail;
+use trace::Trace;
 
 /// A sink that takes one byte a call.
 #[derive(Drop)]

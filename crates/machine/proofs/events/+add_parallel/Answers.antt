@@ -1,8 +1,8 @@
 use Rattle.std.proofs.Common.{◌+◌, ◌-◌, ◌++◌, List, arith, drop, length, refl, subst, sym, take}
 use Rattle.std.proofs.lemmas.Grind.{common_steps}
 use Rattle.round_schedule.specs.declared.event.Event.{Event}
-use Rattle.memory_order.specs.Traced.{IsTrace}
-use Rattle.memory_order.proofs.Growing.{beginning}
+use Rattle.trace.specs.Traced.{IsTrace}
+use Rattle.trace.proofs.Growing.{beginning}
 use Rattle.machine.specs.Outcomes.{outcome_events}
 use Rattle.machine.proofs.TraceKept.{outcome_first, places_next}
 use Rattle.machine.proofs.events.+add_parallel.Goals as goal

@@ -2,8 +2,8 @@ use Rattle.std.proofs.Common.{◌+◌, ◌++◌, List, arith, drop, drop-cons, s
 use Rattle.std.proofs.lemmas.Grind.{common_steps}
 use Rattle.round_schedule.specs.declared.event.Event.{Event}
 use Rattle.round_schedule.specs.Desk.{log_events}
-use Rattle.memory_order.specs.Traced.{IsTrace}
-use Rattle.memory_order.proofs.Growing.{beginning}
+use Rattle.trace.specs.Traced.{IsTrace}
+use Rattle.trace.proofs.Growing.{beginning}
 use Rattle.machine.proofs.TraceKept.{turn_first}
 use Rattle.machine.proofs.events.+add_serial.Goals as goal
 

@@ -2,7 +2,7 @@ use Rattle.std.proofs.Common.{◌∙◌, ⊎_elim, inl, inr, ℕ, ◌++◌, Bool
 use Rattle.round_schedule.specs.declared.event.Event.{Event}
 use Rattle.host_io.specs.Taken.{BeganText}
 use Rattle.memory_order.proofs.Meeting.{meets_rvwmo}
-use Rattle.memory_order.specs.Traced.{opening_at}
+use Rattle.trace.specs.Traced.{opening_at}
 use Rattle.report.specs.Order.{order_text}
 use Rattle.machine.specs.Settings.{image_for}
 use Rattle.machine.proofs.Ordered.{order_of, same_opening, where_done, where_refused}

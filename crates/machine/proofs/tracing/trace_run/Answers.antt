@@ -1,7 +1,7 @@
 use Rattle.std.proofs.Common.{ap, ◌∙◌, subst}
 use Rattle.round_planner.specs.Quotas.{Planned}
 use Rattle.round_schedule.specs.RoundTrace.{IsRoundTrace}
-use Rattle.memory_order.specs.Traced.{opening_at}
+use Rattle.trace.specs.Traced.{opening_at}
 use Rattle.memory_order.proofs.Meeting.{meets_rvwmo}
 use Rattle.machine.specs.Machine.{Running}
 use Rattle.machine.proofs.tracing.trace_run.Goals as goal

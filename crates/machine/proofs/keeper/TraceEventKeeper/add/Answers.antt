@@ -1,8 +1,8 @@
 use Rattle.std.proofs.Common.{◌++◌, List, sym, ap, ◌∙◌, subst, append_assoc, arith}
 use Rattle.round_schedule.specs.declared.event.Event.{Event}
 use Rattle.round_schedule.specs.Desk.{log_events}
-use Rattle.memory_order.specs.Traced.{IsTrace}
-use Rattle.memory_order.proofs.Growing.{beginning}
+use Rattle.trace.specs.Traced.{IsTrace}
+use Rattle.trace.proofs.Growing.{beginning}
 use Rattle.machine.specs.Outcomes.{outcome_events}
 use Rattle.machine.proofs.keeper.TraceEventKeeper.add.Goals as goal
 

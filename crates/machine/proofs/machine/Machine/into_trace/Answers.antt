@@ -1,10 +1,10 @@
 use Rattle.std.proofs.Common.{ap, length, refl, slice_index, subst, ◌∙◌}
-use Rattle.memory_order.proofs.Openings.{opening_is}
+use Rattle.trace.proofs.Openings.{opening_is}
 use Rattle.machine.specs.Machine.{Running}
 use Rattle.machine.specs.Untraced.{traced}
 use Rattle.machine.proofs.TracedRun.{round_trace}
 use Rattle.round_schedule.specs.RoundTrace.{IsRoundTrace}
-use Rattle.memory_order.specs.Traced.{opening_at}
+use Rattle.trace.specs.Traced.{opening_at}
 use Rattle.machine.proofs.machine.Machine.into_trace.Goals as goal
 
 pub returns-clause-opening : goal.returns-clause-opening

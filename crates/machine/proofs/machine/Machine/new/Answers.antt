@@ -1,7 +1,7 @@
 use Rattle.std.proofs.Common.{◌≡◌, ◌*◌, List, length, map, ap, subst, ◌∙◌, arith}
 use Rattle.pages.specs.Memory.{IsBytes}
-use Rattle.memory_order.specs.Traced.{Laid, laid, opening_at, opening_bytes}
-use Rattle.memory_order.proofs.Openings.{bytes_of_pieces, none_beyond}
+use Rattle.trace.specs.Traced.{Laid, laid, opening_at, opening_bytes}
+use Rattle.trace.proofs.Openings.{bytes_of_pieces, none_beyond}
 use Rattle.machine.specs.Machine.{opening}
 use Rattle.machine.proofs.Repeated.{no_rounds}
 use Rattle.machine.proofs.TracedMachine.{traced_is, traced_untraced}

@@ -1,7 +1,7 @@
 use Rattle.std.proofs.lemmas.Result.{IfOk-weaker}
 use Rattle.std.proofs.Common.{◌≡◌, ◌+◌, ◌-◌, ◌^◌, ◌≤◌, List, refl, ap, ◌∙◌, subst, arith}
 use Rattle.round_schedule.specs.declared.event.Event.{Event}
-use Rattle.memory_order.specs.Traced.{Traced}
+use Rattle.trace.specs.Traced.{Traced}
 use Rattle.machine.specs.Machine.{Running, after_rounds}
 use Rattle.machine.specs.Untraced.{AreLast, Untraced, traced}
 use Rattle.machine.proofs.TracedMachine.{all_last, traced_run}

@@ -1,7 +1,7 @@
 use Rattle.std.proofs.lemmas.Result.{IfOk-weaker}
 use Rattle.std.proofs.Common.{List, ◌++◌, refl, sym, ap, ◌∙◌, append_assoc, subst}
 use Rattle.round_schedule.specs.declared.event.Event.{Event}
-use Rattle.memory_order.specs.Traced.{Traced}
+use Rattle.trace.specs.Traced.{Traced}
 use Rattle.machine.specs.Machine.{after_rounds}
 use Rattle.machine.specs.Untraced.{AreLast}
 use Rattle.machine.proofs.untraced.UntracedMachine.run_noting.Goals as goal

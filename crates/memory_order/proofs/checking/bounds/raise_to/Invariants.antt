@@ -1,5 +1,0 @@
-use Rattle.memory_order.specs.Checking.{RaisesBytes, bound}
-use Rattle.memory_order.proofs.checking.bounds.raise_to.Given as goal
-
-abbrev pub invariant-loop-k : goal.invariant-loop-k
-invariant-loop-k l = RaisesBytes l.initial.bounds l.bounds l.to l.address l.k (λ x. bound l.from l.owner x)

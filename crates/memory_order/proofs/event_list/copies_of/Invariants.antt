@@ -1,9 +1,0 @@
-use Rattle.std.proofs.Common.{◌≡◌, take}
-use Rattle.memory_order.specs.Parts.{AreParts, joined}
-use Rattle.memory_order.proofs.event_list.copies_of.Given as goal
-
-abbrev pub invariant-loop-part : goal.invariant-loop-part
-invariant-loop-part l = record {
-  stand : AreParts l.copies.items;
-  same : joined l.copies.items ≡ joined (take l.part-index l.parts);
-}

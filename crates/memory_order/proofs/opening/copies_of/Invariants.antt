@@ -1,6 +1,0 @@
-use Rattle.std.proofs.Common.{◌≡◌, map, take}
-use Rattle.memory_order.specs.Traced.{laid}
-use Rattle.memory_order.proofs.opening.copies_of.Given as goal
-
-abbrev pub invariant-loop-piece : goal.invariant-loop-piece
-invariant-loop-piece l = map laid l.copies.items ≡ map laid (take l.piece-index l.pieces)

@@ -1,9 +1,0 @@
--- The accesses of a log, as they are lent.
-use Rattle.std.specs.Prelude.{List}
-use Rattle.round_schedule.specs.declared.access.Access.{Access}
-use Rattle.memory_order.specs.declared.accesses.Accesses.{Accesses}
-use Rattle.memory_order.specs.declared.accesses.Accesses.TheVariants.{Whole, Brief}
-
-abbrev pub accesses_lent : Accesses → List Access
-accesses_lent (Whole as') = as'.now
-accesses_lent (Brief r) = r

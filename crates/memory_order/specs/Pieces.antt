@@ -1,9 +1,0 @@
--- The pieces of memory that a trace opened with, whether it shares them or not.
-use Rattle.std.specs.Prelude.{List}
-use Rattle.pages.specs.declared.access.Piece.{Piece}
-use Rattle.memory_order.specs.declared.opening.Opening.{Opening}
-use Rattle.memory_order.specs.declared.opening.Opening.TheVariants.{Own, Shared}
-
-abbrev pub pieces_in : Opening → List Piece
-pieces_in (Own pieces) = pieces.items
-pieces_in (Shared pieces) = pieces.value.items

@@ -1,0 +1,10 @@
+mod Ranking
+mod Atomicity
+mod Bounding
+mod Composing
+mod Forms
+mod Pairing
+mod Preserving
+mod ProgramBounds
+mod Sourcing
+mod Valuing

@@ -1,0 +1,144 @@
+-- The bounds of the stores that a byte of a load may be from.
+use Rattle.std.proofs.Common.{◌≡◌, ◌≢◌, ℕ, ◌+◌, ◌<◌, ◌≤◌, ◌==◌, ◌&&◌, max, true, if◌then◌else◌, List, sym, ap, ◌∙◌, subst, inl, inr, arith}
+use Rattle.std.proofs.lemmas.Bool.{and_from, and_left, and_parts, cases_lt, cond-false, cond-true, eq-eqb, ne_eqb}
+use Rattle.std.proofs.lemmas.Bool.Decides.{nat_tests}
+use Rattle.round_schedule.specs.declared.event.Event.{Event}
+use Rattle.round_schedule.specs.Accesses.{reads, stores, writes}
+use Rattle.round_schedule.specs.Positions.{ProgramBefore, event, reads_at, writes_at}
+use Rattle.memory_order.specs.Operations.{is_operation}
+use Rattle.memory_order.specs.Orders.{ListsOperations, place}
+use Rattle.memory_order.specs.Rvwmo.{MaySee}
+use Rattle.memory_order.proofs.Sources.{load_at, one_place, store_at}
+use Rattle.order_checker.specs.Checking.{Below, Earlier, IsMax, OwnWrite}
+use Rattle.order_checker.specs.CheckingProgram.{KeptOverlap}
+use Rattle.order_checker.proofs.Bounding.{below_max, below_none, below_step, earlier_none, earlier_step, max_below, max_join}
+
+pub same_number : (a b : ℕ) → (a == b) ≡ true → a ≡ b
+same_number a b h = grind (arith, nat_tests)
+
+-- ---- along the program: the stores of each hart to each byte
+
+abbrev pub OwnStores : List Event → (ℕ → ℕ) → ℕ → (ℕ → ℕ → ℕ) → Type 0
+OwnStores t pos i own = (h x : ℕ) → IsMax pos (Earlier (λ f. writes f.access x) t h i) (own h x)
+
+pub own_none : (t : List Event) (pos : ℕ → ℕ) (own : ℕ → ℕ → ℕ) → ((h x : ℕ) → own h x ≡ 0) → OwnStores t pos 0 own
+own_none t pos own z h x = subst (IsMax pos (Earlier (λ f. writes f.access x) t h 0)) (sym (z h x)) (earlier_none (λ f. writes f.access x) t pos h)
+
+pub own_step : (t : List Event) (pos : ℕ → ℕ) (i next : ℕ) (e : Event) (old new : ℕ → ℕ → ℕ) → e ≡ event t i → next ≡ pos i + 1 →
+    ((h x : ℕ) → new h x ≡ (if h == e.hart && writes e.access x then max (old h x) next else old h x)) → OwnStores t pos i old → OwnStores t pos (i + 1) new
+own_step t pos i next e old new is at set own h x =
+    subst (IsMax pos (Earlier (λ f. writes f.access x) t h (i + 1))) (sym (set h x))
+    (earlier_step (λ f. writes f.access x) t pos h i (old h x) next (h == e.hart && writes e.access x) to from (λ _. at) (own h x))
+  where
+    to : (h == e.hart && writes e.access x) ≡ true → ((event t i).hart ≡ h) × (writes (event t i).access x ≡ true)
+    to r =
+        let p = and_parts (h == e.hart) (writes e.access x) r in
+        (ap (λ (f : Event). f.hart) (sym is) ∙ sym (same_number h e.hart p.0), ap (λ (f : Event). writes f.access x) (sym is) ∙ p.1)
+
+    from : (event t i).hart ≡ h → writes (event t i).access x ≡ true → (h == e.hart && writes e.access x) ≡ true
+    from s w = and_from (h == e.hart) (writes e.access x) (eq-eqb h e.hart (sym s ∙ ap (λ (f : Event). f.hart) (sym is))) (ap (λ (f : Event). writes f.access x) is ∙ w)
+
+-- the loads before place i have their bounds, and the others none
+pub record Noted (t : List Event) (pos : ℕ → ℕ) (i : ℕ) (sources : ℕ → ℕ → ℕ) : Type 0 where
+  pub noted : (r x : ℕ) → reads_at t r x ≡ true → r < i → IsMax pos (OwnWrite t r x) (sources r x)
+  pub rest : (r x : ℕ) → i ≤ r → sources r x ≡ 0
+
+pub noted_none : (t : List Event) (pos : ℕ → ℕ) (sources : ℕ → ℕ → ℕ) → ((r x : ℕ) → sources r x ≡ 0) → Noted t pos 0 sources
+noted_none t pos sources z = record { noted = λ r x h l. absurd (omega (arith, l)); rest = λ r x l. z r x }
+
+pub noted_step : (t : List Event) (pos : ℕ → ℕ) (i : ℕ) (e : Event) (own old new : ℕ → ℕ → ℕ) → e ≡ event t i →
+    ((r x : ℕ) → new r x ≡ (if r == i && reads e.access x then max (old r x) (own e.hart x) else old r x)) →
+    OwnStores t pos i own → Noted t pos i old → Noted t pos (i + 1) new
+noted_step t pos i e own old new is set stores was = record { noted = noted; rest = rest }
+  where
+    kept : (r x : ℕ) → r ≢ i → new r x ≡ old r x
+    kept r x n = set r x ∙ cond-false (r == i && reads e.access x) (max (old r x) (own e.hart x)) (old r x) (and_left (r == i) (reads e.access x) (ne_eqb r i n))
+
+    here : (r x : ℕ) → reads_at t r x ≡ true → r ≡ i → IsMax pos (OwnWrite t r x) (new r x)
+    here r x h s =
+        let f : e ≡ event t r = is ∙ ap (event t) (sym s) in
+        let test = and_from (r == i) (reads e.access x) (eq-eqb r i s) (ap (λ (d : Event). reads d.access x) f ∙ h) in
+        let z = was.rest r x (omega (arith, s)) in
+        let m : new r x ≡ max (old r x) (own e.hart x) = set r x ∙ cond-true (r == i && reads e.access x) (max (old r x) (own e.hart x)) (old r x) test in
+        let n : new r x ≡ own (event t r).hart x = (let k : max (old r x) (own e.hart x) ≡ own e.hart x = omega (arith, z) in m ∙ k ∙ ap (λ (d : Event). own d.hart x) f) in
+        subst (IsMax pos (OwnWrite t r x)) (sym n) (subst (λ k. IsMax pos (Earlier (λ d. writes d.access x) t (event t r).hart k) (own (event t r).hart x)) (sym s) (stores (event t r).hart x))
+
+    noted : (r x : ℕ) → reads_at t r x ≡ true → r < i + 1 → IsMax pos (OwnWrite t r x) (new r x)
+    noted r x h l = elim (cases_lt r i) [
+      | inl b ↦ subst (IsMax pos (OwnWrite t r x)) (sym (kept r x (λ s. omega (arith, s, b)))) (was.noted r x h b)
+      | inr b ↦ here r x h (omega (arith, l, b))
+    ]
+
+    rest : (r x : ℕ) → i + 1 ≤ r → new r x ≡ 0
+    rest r x l = kept r x (λ s. omega (arith, s, l)) ∙ was.rest r x (omega (arith, l))
+
+-- what the test of a store's bytes says
+pub kept_here : (t : List Event) (pos : ℕ → ℕ) (i p : ℕ) (e : Event) (own : ℕ → ℕ → ℕ) → e ≡ event t i → p ≡ pos i → OwnStores t pos i own →
+    ((x : ℕ) → writes e.access x ≡ true → own e.hart x ≤ p) → (a x : ℕ) → ProgramBefore t a i → writes_at t a x ≡ true → writes_at t i x ≡ true → pos a < pos i
+kept_here t pos i p e own is at stores test a x before wa wi =
+    let l = test x (ap (λ (d : Event). writes d.access x) is ∙ wi) in
+    let u = below_max pos (Earlier (λ d. writes d.access x) t e.hart i) (own e.hart x) p (stores e.hart x) l a (before.earlier, before.same_hart ∙ ap (λ (d : Event). d.hart) (sym is), wa) in
+    omega (arith, u, at)
+
+pub test_from_kept : (t : List Event) (pos : ℕ → ℕ) (i p : ℕ) (e : Event) (own : ℕ → ℕ → ℕ) → e ≡ event t i → p ≡ pos i → OwnStores t pos i own →
+    KeptOverlap t pos → (x : ℕ) → writes e.access x ≡ true → own e.hart x ≤ p
+test_from_kept t pos i p e own is at stores kept x w =
+    max_below pos (Earlier (λ d. writes d.access x) t e.hart i) (own e.hart x) p (stores e.hart x)
+    (λ a q. let k = kept a i x (record { earlier = q.0; same_hart = q.1 ∙ ap (λ (d : Event). d.hart) is }) q.2 (sym (ap (λ (d : Event). writes d.access x) is) ∙ w) in omega (arith, k, at))
+
+-- ---- along the order: all stores to each byte
+
+abbrev pub SeenStores : List Event → (ℕ → ℕ) → ℕ → (ℕ → ℕ) → Type 0
+SeenStores t pos p seen = (x : ℕ) → IsMax pos (Below (λ f. writes f.access x) t pos p) (seen x)
+
+pub seen_none : (t : List Event) (pos : ℕ → ℕ) (seen : ℕ → ℕ) → ((x : ℕ) → seen x ≡ 0) → SeenStores t pos 0 seen
+seen_none t pos seen z x = subst (IsMax pos (Below (λ f. writes f.access x) t pos 0)) (sym (z x)) (below_none (λ f. writes f.access x) t pos)
+
+pub seen_step : (t : List Event) (g : List ℕ) (i p next : ℕ) (e : Event) (old new : ℕ → ℕ) → ListsOperations t g → e ≡ event t i → is_operation (event t i) ≡ true → place g i ≡ p → next ≡ p + 1 →
+    ((x : ℕ) → new x ≡ (if writes e.access x then max (old x) next else old x)) → SeenStores t (place g) p old → SeenStores t (place g) (p + 1) new
+seen_step t g i p next e old new lists is op at n set seen x =
+    subst (IsMax (place g) (Below (λ f. writes f.access x) t (place g) (p + 1))) (sym (set x))
+    (below_step (λ f. writes f.access x) t (place g) i p (old x) next (writes e.access x) (ap (λ (f : Event). writes f.access x) (sym is)) at n
+    (λ a w s. one_place t g a i lists (store_at t a x w) op (s ∙ sym at)) (seen x))
+
+-- the loads below position p have all their bounds, and the others those of their own hart
+pub record Sourced (t : List Event) (g : List ℕ) (p : ℕ) (sources : ℕ → ℕ → ℕ) : Type 0 where
+  pub noted : (r x : ℕ) → reads_at t r x ≡ true → place g r < p → IsMax (place g) (MaySee t (place g) r x) (sources r x)
+  pub rest : (r x : ℕ) → reads_at t r x ≡ true → p ≤ place g r → IsMax (place g) (OwnWrite t r x) (sources r x)
+
+pub sourced_none : (t : List Event) (g : List ℕ) (sources : ℕ → ℕ → ℕ) → ((r x : ℕ) → reads_at t r x ≡ true → IsMax (place g) (OwnWrite t r x) (sources r x)) → Sourced t g 0 sources
+sourced_none t g sources own = record { noted = λ r x h l. absurd (omega (arith, l)); rest = λ r x h l. own r x h }
+
+may_join : (t : List Event) (pos : ℕ → ℕ) (r x u v : ℕ) → IsMax pos (OwnWrite t r x) u → IsMax pos (Below (λ f. writes f.access x) t pos (pos r)) v → IsMax pos (MaySee t pos r x) (max u v)
+may_join t pos r x u v own seen =
+    max_join pos (OwnWrite t r x) (Below (λ f. writes f.access x) t pos (pos r)) (MaySee t pos r x) u v
+    (λ a o. (o.2, inr (record { earlier = o.0; same_hart = o.1 })))
+    (λ a b. (b.0, inl b.1))
+    (λ a m. elim m.1 [ inl l ↦ inr (m.0, l) | inr q ↦ inl (q.earlier, q.same_hart, m.0) ])
+    own seen
+
+pub sourced_step : (t : List Event) (g : List ℕ) (i p : ℕ) (e : Event) (seen : ℕ → ℕ) (old new : ℕ → ℕ → ℕ) → ListsOperations t g → e ≡ event t i → is_operation (event t i) ≡ true → place g i ≡ p →
+    ((r x : ℕ) → new r x ≡ (if r == i && reads e.access x then max (old r x) (seen x) else old r x)) →
+    SeenStores t (place g) p seen → Sourced t g p old → Sourced t g (p + 1) new
+sourced_step t g i p e seen old new lists is op at set stores was = record { noted = noted; rest = rest }
+  where
+    kept : (r x : ℕ) → r ≢ i → new r x ≡ old r x
+    kept r x n = set r x ∙ cond-false (r == i && reads e.access x) (max (old r x) (seen x)) (old r x) (and_left (r == i) (reads e.access x) (ne_eqb r i n))
+
+    apart : (r : ℕ) → place g r ≢ p → r ≢ i
+    apart r n s = n (ap (place g) s ∙ at)
+
+    noted : (r x : ℕ) → reads_at t r x ≡ true → place g r < p + 1 → IsMax (place g) (MaySee t (place g) r x) (new r x)
+    noted r x h l = elim (cases_lt (place g r) p) [
+      | inl b ↦ subst (IsMax (place g) (MaySee t (place g) r x)) (sym (kept r x (apart r (λ s. omega (arith, s, b))))) (was.noted r x h b)
+      | inr b ↦
+          let q : place g r ≡ p = omega (arith, l, b) in
+          let s : r ≡ i = one_place t g r i lists (load_at t r x h) op (q ∙ sym at) in
+          let test = and_from (r == i) (reads e.access x) (eq-eqb r i s) (ap (λ (d : Event). reads d.access x) (is ∙ ap (event t) (sym s)) ∙ h) in
+          let m : new r x ≡ max (old r x) (seen x) = set r x ∙ cond-true (r == i && reads e.access x) (max (old r x) (seen x)) (old r x) test in
+          subst (IsMax (place g) (MaySee t (place g) r x)) (sym m)
+          (may_join t (place g) r x (old r x) (seen x) (was.rest r x h b) (subst (λ k. IsMax (place g) (Below (λ f. writes f.access x) t (place g) k) (seen x)) (sym q) (stores x)))
+    ]
+
+    rest : (r x : ℕ) → reads_at t r x ≡ true → p + 1 ≤ place g r → IsMax (place g) (OwnWrite t r x) (new r x)
+    rest r x h l = subst (IsMax (place g) (OwnWrite t r x)) (sym (kept r x (apart r (λ s. omega (arith, s, l))))) (was.rest r x h (omega (arith, l)))

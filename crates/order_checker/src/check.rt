@@ -1,0 +1,72 @@
+ghost use Rattle.std.specs.Prelude.{◌↔◌, All, IfOk, IsTrue};
+ghost use Rattle.trace.specs.Traced.{HasForm, opening_at};
+ghost use Rattle.memory_order.specs.Orders.{ListsOperations, place};
+ghost use Rattle.memory_order.specs.Rvwmo.{AtomicityAxiom, LoadValueAxiom, MeetsRvwmo, PreservedOrder};
+ghost use Rattle.order_checker.specs.Checking.{IsRanking};
+
+use crate::checking::{
+    all_sources, keeps_but_overlap, loads_are_right, own_stores, pairs_are_atomic, positions,
+};
+use memory_order::Order;
+use pages::OutOfMemory;
+use round_schedule::Event;
+use std::alloc::Global;
+use trace::Trace;
+
+/// Whether an order of a trace's memory operations meets RVWMO over the bytes that memory opened with.
+///
+/// The order may have any places at all: it meets the memory model only if it has that of each memory operation once,
+/// and no other. The steps are as many as the bytes of the trace's accesses, each with a look into a map.
+///
+/// # Errors
+///
+/// `OutOfMemory` alone.
+pub fn check_order(alloc: Global, trace: &Trace, order: &Order) -> Result<bool, OutOfMemory>
+    ensures { IfOk result (λ yes. IsTrue yes ↔ MeetsRvwmo trace.now.events (opening_at trace.now.opening) order.now.0.items) }
+{
+    let events = trace.to_vec(alloc)?;
+    meets_rvwmo(alloc, trace, &events, &order.0)
+}
+
+/// Whether an order of memory operations meets RVWMO over the bytes that a trace's memory opened with.
+fn meets_rvwmo(
+    alloc: Global,
+    trace: &Trace,
+    events: &[Event],
+    order: &[usize],
+) -> Result<bool, OutOfMemory>
+    requires { All HasForm events.now }
+    ensures { IfOk result (λ yes. IsTrue yes ↔ MeetsRvwmo events.now (opening_at trace.now.opening) order.now) }
+{
+    match positions(alloc, events, order)? {
+        Some(ranks) => Ok(meets_axioms(alloc, trace, events, order, &ranks)?),
+        None => Ok(false),
+    }
+}
+
+/// Whether the axioms hold of an order that lists each memory operation once, each at its rank.
+fn meets_axioms(
+    alloc: Global,
+    trace: &Trace,
+    events: &[Event],
+    order: &[usize],
+    ranks: &[usize],
+) -> Result<bool, OutOfMemory>
+    requires formed { All HasForm events.now }
+    requires lists { ListsOperations events.now order.now }
+    requires ranked { IsRanking events.now order.now ranks.now }
+    ensures { IfOk result (λ yes. IsTrue yes ↔ (PreservedOrder events.now (place order.now) × LoadValueAxiom events.now (opening_at trace.now.opening) (place order.now) × AtomicityAxiom events.now (place order.now))) }
+{
+    if !keeps_but_overlap(alloc, events, order, ranks)? {
+        return Ok(false);
+    }
+    let own = match own_stores(alloc, events, order, ranks)? {
+        Some(own) => own,
+        None => return Ok(false),
+    };
+    let sources = all_sources(alloc, events, order, own)?;
+    if !loads_are_right(trace, events, order, &sources) {
+        return Ok(false);
+    }
+    Ok(pairs_are_atomic(alloc, events, order, &sources)?)
+}

@@ -1,0 +1,95 @@
+ghost use Rattle.std.specs.Prelude.{◌≡◌, ◌+◌, ◌≤◌, ◌<◌, ◌^◌, ◌↔◌, ℕ, All, IfOk, IsTrue, length, slice_index, true};
+ghost use Rattle.pages.specs.Memory.{in_range};
+ghost use Rattle.round_schedule.specs.Accesses.{address_of, bytes_of};
+ghost use Rattle.round_schedule.specs.Positions.{reads_at};
+ghost use Rattle.trace.specs.Traced.{HasForm};
+ghost use Rattle.memory_order.specs.Orders.{ListsOperations, place};
+ghost use Rattle.memory_order.specs.Rvwmo.{AtomicityAxiom, MaySee};
+ghost use Rattle.order_checker.specs.Checking.{AreReserved, IsMax, bound};
+ghost use Rattle.order_checker.specs.CheckingAtomic.{AtomicAt, IsLatestStore, latest_of, others_of};
+
+use crate::checking::bounds::{Bounds, bound};
+use crate::checking::kinds::{address, event_at, listed, width};
+use crate::checking::latest::{Latest, latest_of, note_latest, others_of};
+use crate::checking::pairs::{last_reserved, paired};
+use pages::OutOfMemory;
+use round_schedule::{Access, Event};
+use std::alloc::Global;
+use std::collections::BTreeMap;
+
+/// Whether the atomicity axiom holds of an order; `sources` has the bounds of the sources of loads.
+pub(crate) fn pairs_are_atomic(
+    alloc: Global,
+    events: &[Event],
+    order: &[usize],
+    sources: &Bounds,
+) -> Result<bool, OutOfMemory>
+    requires formed { All HasForm events.now }
+    requires lists { ListsOperations events.now order.now }
+    requires sourced { (r x : ℕ) → reads_at events.now r x ≡ true → IsMax (place order.now) (MaySee events.now (place order.now) r x) (bound sources.now r x) }
+    ensures { IfOk result (λ yes. IsTrue yes ↔ AtomicityAxiom events.now (place order.now)) }
+{
+    let reserved = last_reserved(alloc, events)?;
+    let mut latest = BTreeMap::new(alloc);
+    for p in 0..order.len() {
+        let place = listed(events, order, p);
+        let event = event_at(events, place);
+        let hart = u64::from(event.hart);
+        if !is_atomic(events, order, sources, &reserved, &latest, p) {
+            return Ok(false);
+        }
+        note_latest(&mut latest, hart, &event.access, p + 1)?;
+    }
+    Ok(true)
+}
+
+/// Whether the atomicity axiom holds of the event at a position of the order, if it is an SC.
+fn is_atomic(
+    events: &[Event],
+    order: &[usize],
+    sources: &Bounds,
+    reserved: &[usize],
+    latest: &BTreeMap<u64, Latest>,
+    p: usize,
+) -> bool
+    requires within { p < length order.now }
+    requires formed { All HasForm events.now }
+    requires lists { ListsOperations events.now order.now }
+    requires sourced { (r x : ℕ) → reads_at events.now r x ≡ true → IsMax (place order.now) (MaySee events.now (place order.now) r x) (bound sources.now r x) }
+    requires reserved { AreReserved events.now (length events.now) reserved.now }
+    requires latest { (x : ℕ) → IsLatestStore events.now (place order.now) p x (latest_of latest.now x) }
+    ensures { IsTrue result ↔ AtomicAt events.now (place order.now) (slice_index order.now p) }
+{
+    let place = listed(events, order, p);
+    let hart = u64::from(event_at(events, place).hart);
+    match paired(events, reserved, place) {
+        None => true,
+        Some(first) => {
+            let reserve = event_at(events, first);
+            keeps_bytes(sources, first as u64, &reserve.access, latest, hart, p)
+        }
+    }
+}
+
+/// Whether from the source of each byte of a load up to a position no other hart than this stores to it.
+fn keeps_bytes(
+    sources: &Bounds,
+    reader: u64,
+    access: &Access,
+    latest: &BTreeMap<u64, Latest>,
+    hart: u64,
+    p: usize,
+) -> bool
+    requires { address_of access.now + bytes_of access.now < 2 ^ 64 }
+    ensures { IsTrue result ↔ ((x : ℕ) → in_range (address_of access.now) (bytes_of access.now) x ≡ true → (others_of (latest_of latest.now x) hart ≤ bound sources.now reader x) × (bound sources.now reader x ≤ p)) }
+{
+    let start = address(access);
+    for k in 0..width(access) {
+        let source = bound(sources, reader, start + k);
+        let found = latest_of(latest, start + k);
+        if others_of(&found, hart) > source || source > p {
+            return false;
+        }
+    }
+    true
+}

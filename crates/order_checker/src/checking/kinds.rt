@@ -1,0 +1,162 @@
+//! What the checker asks of one event.
+
+ghost use Rattle.std.specs.Prelude.{◌≡◌, ◌+◌, ◌^◌, ◌<◌, All, length, slice_index, true};
+ghost use Rattle.round_schedule.specs.Accesses.{address_of, bytes_of, is_sc, loads, stores};
+ghost use Rattle.round_schedule.specs.Positions.{event};
+ghost use Rattle.trace.specs.Traced.{HasForm};
+ghost use Rattle.memory_order.specs.Operations.{is_lr_or_sc, is_normal, is_operation, is_plain_store, is_release};
+ghost use Rattle.memory_order.specs.Orders.{ListsOperations, place};
+ghost use Rattle.order_checker.specs.Checking.{IsRanking};
+ghost use Rattle.order_checker.specs.CheckingProgram.{orders_loads, orders_stores};
+
+use round_schedule::{Access, Event};
+use rv64_decode::FenceMode;
+
+/// The event at a place of the trace.
+pub(crate) fn event_at(events: &[Event], place: usize) -> Event
+    requires within { place < length events.now }
+    requires formed { All HasForm events.now }
+    ensures at { result ≡ event events.now place }
+    ensures fits { address_of result.access + bytes_of result.access < 2 ^ 64 }
+{
+    events[place]
+}
+
+/// Where the event at a place of the trace stands in the order.
+pub(crate) fn position_of(events: &[Event], order: &[usize], ranks: &[usize], i: usize) -> usize
+    requires within { i < length events.now }
+    requires ranked { IsRanking events.now order.now ranks.now }
+    ensures at { result ≡ place order.now i }
+    ensures fits { result + 1 < 2 ^ 64 }
+{
+    let _events = events;
+    ranks[i].min(order.len())
+}
+
+/// The place of the trace that stands at a position of the order.
+pub(crate) fn listed(events: &[Event], order: &[usize], p: usize) -> usize
+    requires within { p < length order.now }
+    requires lists { ListsOperations events.now order.now }
+    ensures at { result ≡ slice_index order.now p }
+    ensures within { result < length events.now }
+    ensures operation { is_operation (event events.now result) ≡ true }
+    ensures position { place order.now result ≡ p }
+{
+    let _events = events;
+    order[p]
+}
+
+/// The first byte's address; 0 for a fence.
+pub(crate) fn address(access: &Access) -> u64
+    ensures { result ≡ address_of access.now }
+{
+    match *access {
+        Access::Load { address, .. }
+        | Access::Store { address, .. }
+        | Access::LoadReserved { address, .. }
+        | Access::StoreConditional { address, .. }
+        | Access::Atomic { address, .. } => address,
+        Access::Fence { .. } => 0,
+    }
+}
+
+/// How many bytes there are; none for a fence.
+pub(crate) fn width(access: &Access) -> u64
+    ensures { result ≡ bytes_of access.now }
+{
+    match *access {
+        Access::Load { width, .. }
+        | Access::Store { width, .. }
+        | Access::LoadReserved { width, .. }
+        | Access::StoreConditional { width, .. }
+        | Access::Atomic { width, .. } => width.bytes(),
+        Access::Fence { .. } => 0,
+    }
+}
+
+pub(crate) fn loads(access: &Access) -> bool
+    ensures { result ≡ loads access.now }
+{
+    matches!(
+        access,
+        Access::Load { .. } | Access::LoadReserved { .. } | Access::Atomic { .. }
+    )
+}
+
+pub(crate) fn stores(access: &Access) -> bool
+    ensures { result ≡ stores access.now }
+{
+    match *access {
+        Access::Store { .. } | Access::Atomic { .. } => true,
+        Access::StoreConditional { written, .. } => written.is_some(),
+        _ => false,
+    }
+}
+
+/// Whether it is a store that is neither an SC nor an AMO.
+pub(crate) fn is_plain_store(access: &Access) -> bool
+    ensures { result ≡ is_plain_store access.now }
+{
+    matches!(access, Access::Store { .. })
+}
+
+pub(crate) fn is_release(access: &Access) -> bool
+    ensures { result ≡ is_release access.now }
+{
+    match *access {
+        Access::LoadReserved { ordering, .. } => ordering.acquire && ordering.release,
+        Access::StoreConditional { ordering, .. } | Access::Atomic { ordering, .. } => {
+            ordering.release
+        }
+        _ => false,
+    }
+}
+
+pub(crate) fn is_sc(access: &Access) -> bool
+    ensures { result ≡ is_sc access.now }
+{
+    matches!(access, Access::StoreConditional { .. })
+}
+
+pub(crate) fn is_lr_or_sc(access: &Access) -> bool
+    ensures { result ≡ is_lr_or_sc access.now }
+{
+    matches!(
+        access,
+        Access::LoadReserved { .. } | Access::StoreConditional { .. }
+    )
+}
+
+/// Whether it is a fence that orders stores before loads.
+pub(crate) fn orders_loads(access: &Access) -> bool
+    ensures { result ≡ orders_loads access.now }
+{
+    match *access {
+        Access::Fence {
+            before,
+            after,
+            mode,
+            ..
+        } => before.writes && after.reads && is_normal(mode),
+        _ => false,
+    }
+}
+
+/// Whether it is a fence that orders stores before stores.
+pub(crate) fn orders_stores(access: &Access) -> bool
+    ensures { result ≡ orders_stores access.now }
+{
+    match *access {
+        Access::Fence { before, after, .. } => before.writes && after.writes,
+        _ => false,
+    }
+}
+
+fn is_normal(mode: FenceMode) -> bool
+    ensures { result ≡ is_normal mode }
+{
+    match mode {
+        FenceMode::Normal => true,
+        FenceMode::Tso => false,
+    }
+}

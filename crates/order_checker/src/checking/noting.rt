@@ -1,0 +1,51 @@
+//! Bounds of the bytes of one access.
+
+ghost use Rattle.std.specs.Prelude.{◌≡◌, ◌+◌, ◌==◌, ◌&&◌, ◌≤◌, ◌<◌, ◌^◌, ◌↔◌, ℕ, true, max, if◌then◌else◌, IsTrue, OnOk};
+ghost use Rattle.round_schedule.specs.Accesses.{address_of, bytes_of, reads, writes};
+ghost use Rattle.order_checker.specs.Checking.{bound};
+
+use crate::checking::bounds::{Bounds, are_at_most, raise_bytes, raise_to};
+use crate::checking::kinds::{address, loads, stores, width};
+use pages::OutOfMemory;
+use round_schedule::Access;
+
+/// Raises the bound of each byte that a load at `reader` reads to what `from` has at `owner`.
+pub(crate) fn note_load(
+    sources: &mut Bounds,
+    reader: u64,
+    access: &Access,
+    from: &Bounds,
+    owner: u64,
+) -> Result<(), OutOfMemory>
+    requires { address_of access.now + bytes_of access.now < 2 ^ 64 }
+    ensures { OnOk result ((r x : ℕ) → bound sources.new r x ≡ (if r == reader && reads access.now x then max (bound sources.old r x) (bound from.now owner x) else bound sources.old r x)) }
+{
+    if !loads(access) {
+        return Ok(());
+    }
+    raise_to(sources, reader, address(access), width(access), from, owner)
+}
+
+/// Raises the owner's bound of each byte that a store writes to `next`.
+pub(crate) fn note_store(
+    bounds: &mut Bounds,
+    owner: u64,
+    access: &Access,
+    next: usize,
+) -> Result<(), OutOfMemory>
+    requires { address_of access.now + bytes_of access.now < 2 ^ 64 }
+    ensures { OnOk result ((h x : ℕ) → bound bounds.new h x ≡ (if h == owner && writes access.now x then max (bound bounds.old h x) next else bound bounds.old h x)) }
+{
+    if !stores(access) {
+        return Ok(());
+    }
+    raise_bytes(bounds, owner, address(access), width(access), next)
+}
+
+/// Whether the owner's bounds of the bytes that a store writes are at most `position`.
+pub(crate) fn may_store(bounds: &Bounds, owner: u64, access: &Access, position: usize) -> bool
+    requires { address_of access.now + bytes_of access.now < 2 ^ 64 }
+    ensures { IsTrue result ↔ ((x : ℕ) → writes access.now x ≡ true → bound bounds.now owner x ≤ position) }
+{
+    !stores(access) || are_at_most(bounds, owner, address(access), width(access), position)
+}

@@ -1,0 +1,42 @@
+ghost use Rattle.std.specs.Prelude.{◌≡◌, ℕ, All, IfOk, MatchOption, true};
+ghost use Rattle.round_schedule.specs.Positions.{reads_at};
+ghost use Rattle.trace.specs.Traced.{HasForm};
+ghost use Rattle.memory_order.specs.Orders.{place};
+ghost use Rattle.order_checker.specs.Checking.{IsMax, IsRanking, OwnWrite, bound};
+ghost use Rattle.order_checker.specs.CheckingProgram.{KeptOverlap};
+
+use crate::checking::bounds::Bounds;
+use crate::checking::kinds::{event_at, position_of};
+use crate::checking::noting::{may_store, note_load, note_store};
+use pages::OutOfMemory;
+use round_schedule::Event;
+use std::alloc::Global;
+use std::collections::BTreeMap;
+
+/// For each load and each of its bytes, the bound of the hart's stores to the byte before the load in the program.
+///
+/// `None` where two stores of a hart to one byte do not stand in the order as in the program.
+pub(crate) fn own_stores(
+    alloc: Global,
+    events: &[Event],
+    order: &[usize],
+    ranks: &[usize],
+) -> Result<Option<Bounds>, OutOfMemory>
+    requires formed { All HasForm events.now }
+    requires ranked { IsRanking events.now order.now ranks.now }
+    ensures { IfOk result (λ o. MatchOption o (KeptOverlap events.now (place order.now) → ⊥) (λ m. KeptOverlap events.now (place order.now) × ((r x : ℕ) → reads_at events.now r x ≡ true → IsMax (place order.now) (OwnWrite events.now r x) (bound m r x)))) }
+{
+    let mut own = BTreeMap::new(alloc);
+    let mut sources = BTreeMap::new(alloc);
+    for i in 0..events.len() {
+        let event = event_at(events, i);
+        let hart = u64::from(event.hart);
+        let position = position_of(events, order, ranks, i);
+        if !may_store(&own, hart, &event.access, position) {
+            return Ok(None);
+        }
+        note_load(&mut sources, i as u64, &event.access, &own, hart)?;
+        note_store(&mut own, hart, &event.access, position + 1)?;
+    }
+    Ok(Some(sources))
+}

@@ -1,0 +1,110 @@
+ghost use Rattle.std.specs.Prelude.{◌≡◌, ◌==◌, ◌↔◌, ℕ, All, max, if◌then◌else◌, IsTrue, IfOk, OnOk};
+ghost use Rattle.trace.specs.Traced.{HasForm};
+ghost use Rattle.memory_order.specs.Orders.{place};
+ghost use Rattle.order_checker.specs.Checking.{IsRanking};
+ghost use Rattle.order_checker.specs.CheckingProgram.{Allowed, KeptButOverlap, bounds_after, bounds_of};
+
+use crate::checking::kinds::{
+    event_at, is_plain_store, is_release, loads, orders_loads, orders_stores, position_of, stores,
+};
+use memory_order::is_operation;
+use pages::OutOfMemory;
+use round_schedule::{Access, Event};
+use std::alloc::Global;
+use std::collections::BTreeMap;
+
+/// The least positions in the order that a hart's operations so far leave to its later ones.
+#[derive(Clone, Copy)]
+pub(crate) struct HartBounds {
+    /// To any operation: past all operations but the plain stores.
+    pub(crate) others: usize,
+    /// To a release: past the plain stores.
+    pub(crate) stores: usize,
+    /// To a load: past the plain stores before a fence that orders stores before loads.
+    pub(crate) before_loads: usize,
+    /// To a store: past the plain stores before a fence that orders stores before stores.
+    pub(crate) before_stores: usize,
+}
+
+/// Whether an order keeps preserved program order, but for the rule on overlapping stores.
+pub(crate) fn keeps_but_overlap(
+    alloc: Global,
+    events: &[Event],
+    order: &[usize],
+    ranks: &[usize],
+) -> Result<bool, OutOfMemory>
+    requires formed { All HasForm events.now }
+    requires ranked { IsRanking events.now order.now ranks.now }
+    ensures { IfOk result (λ yes. IsTrue yes ↔ KeptButOverlap events.now (place order.now)) }
+{
+    let mut harts = BTreeMap::new(alloc);
+    for i in 0..events.len() {
+        let event = event_at(events, i);
+        let position = position_of(events, order, ranks, i);
+        let bounds = bounds_of(&harts, event.hart);
+        if is_operation(&event) && !allows(&bounds, &event.access, position) {
+            return Ok(false);
+        }
+        set_bounds(
+            &mut harts,
+            event.hart,
+            bounds_after(&bounds, &event, position + 1),
+        )?;
+    }
+    Ok(true)
+}
+
+fn bounds_of(harts: &BTreeMap<u8, HartBounds>, hart: u8) -> HartBounds
+    ensures { result ≡ bounds_of harts.now hart }
+{
+    match harts.get(&hart) {
+        Some(bounds) => *bounds,
+        None => HartBounds {
+            others: 0,
+            stores: 0,
+            before_loads: 0,
+            before_stores: 0,
+        },
+    }
+}
+
+fn set_bounds(
+    harts: &mut BTreeMap<u8, HartBounds>,
+    hart: u8,
+    bounds: HartBounds,
+) -> Result<(), OutOfMemory>
+    ensures { OnOk result ((h : ℕ) → bounds_of harts.new h ≡ (if h == hart then bounds else bounds_of harts.old h)) }
+{
+    harts.insert(hart, bounds)?;
+    Ok(())
+}
+
+/// Whether the bounds let an operation stand at a position.
+fn allows(bounds: &HartBounds, access: &Access, position: usize) -> bool
+    ensures { IsTrue result ↔ Allowed bounds.now access.now position }
+{
+    bounds.others <= position
+        && (!loads(access) || bounds.before_loads <= position)
+        && (!stores(access) || bounds.before_stores <= position)
+        && (!is_release(access) || bounds.stores <= position)
+}
+
+/// The bounds after one more event of the hart, where the position after its own is `next`.
+fn bounds_after(bounds: &HartBounds, event: &Event, next: usize) -> HartBounds
+    ensures { result ≡ bounds_after bounds.now event.now next }
+{
+    let access = &event.access;
+    let is_other = is_operation(event) && !is_plain_store(access);
+    HartBounds {
+        others: raised(bounds.others, is_other, next),
+        stores: raised(bounds.stores, is_plain_store(access), next),
+        before_loads: raised(bounds.before_loads, orders_loads(access), bounds.stores),
+        before_stores: raised(bounds.before_stores, orders_stores(access), bounds.stores),
+    }
+}
+
+fn raised(bound: usize, is_raised: bool, value: usize) -> usize
+    ensures { result ≡ (if is_raised then max bound value else bound) }
+{
+    if is_raised { bound.max(value) } else { bound }
+}

@@ -1,0 +1,115 @@
+ghost use Rattle.std.specs.Prelude.{◌≡◌, ◌≤◌, ◌<◌, ◌↔◌, ℕ, All, IsTrue, length, true};
+ghost use Rattle.pages.specs.Memory.{byte_of};
+ghost use Rattle.round_schedule.specs.Accesses.{byte_written, number_or_zero, read_of, written_of};
+ghost use Rattle.round_schedule.specs.Positions.{reads_at};
+ghost use Rattle.trace.specs.Traced.{HasForm, opening_at};
+ghost use Rattle.memory_order.specs.Orders.{ListsOperations};
+ghost use Rattle.order_checker.specs.Checking.{IsLeft, bound, left_by};
+
+use crate::checking::bounds::{Bounds, bound};
+use crate::checking::kinds::{address, event_at, listed, loads, width};
+use round_schedule::{Access, Event};
+use trace::Trace;
+
+/// Whether each byte of each load is the one that its source left; `sources` has the bounds of the sources.
+pub(crate) fn loads_are_right(
+    trace: &Trace,
+    events: &[Event],
+    order: &[usize],
+    sources: &Bounds,
+) -> bool
+    requires formed { All HasForm events.now }
+    requires lists { ListsOperations events.now order.now }
+    requires listed { (r x : ℕ) → reads_at events.now r x ≡ true → bound sources.now r x ≤ length order.now }
+    ensures { IsTrue result ↔ ((r x : ℕ) → reads_at events.now r x ≡ true → IsLeft events.now (opening_at trace.now.opening) order.now r x (bound sources.now r x)) }
+{
+    for i in 0..events.len() {
+        if !load_is_right(trace, events, order, sources, i) {
+            return false;
+        }
+    }
+    true
+}
+
+fn load_is_right(
+    trace: &Trace,
+    events: &[Event],
+    order: &[usize],
+    sources: &Bounds,
+    reader: usize,
+) -> bool
+    requires within { reader < length events.now }
+    requires formed { All HasForm events.now }
+    requires lists { ListsOperations events.now order.now }
+    requires listed { (x : ℕ) → reads_at events.now reader x ≡ true → bound sources.now reader x ≤ length order.now }
+    ensures { IsTrue result ↔ ((x : ℕ) → reads_at events.now reader x ≡ true → IsLeft events.now (opening_at trace.now.opening) order.now reader x (bound sources.now reader x)) }
+{
+    let event = event_at(events, reader);
+    if !loads(&event.access) {
+        return true;
+    }
+    let number = number_read(&event.access);
+    let start = address(&event.access);
+    for k in 0..width(&event.access) {
+        let source = bound(sources, reader as u64, start + k);
+        if byte_of(number, k) != byte_left(trace, events, order, source, start + k) {
+            return false;
+        }
+    }
+    true
+}
+
+/// The byte at an address that the store before a position of the order left, or the opening byte for position 0.
+fn byte_left(trace: &Trace, events: &[Event], order: &[usize], source: usize, x: u64) -> u8
+    requires formed { All HasForm events.now }
+    requires lists { ListsOperations events.now order.now }
+    requires listed { source ≤ length order.now }
+    ensures { result ≡ left_by events.now (opening_at trace.now.opening) order.now x source }
+{
+    if source == 0 {
+        return trace.opening_byte(x);
+    }
+    let writer = listed(events, order, source - 1);
+    let event = event_at(events, writer);
+    byte_written(&event.access, x)
+}
+
+fn byte_written(access: &Access, x: u64) -> u8
+    ensures { result ≡ byte_written access.now x }
+{
+    byte_of(number_written(access), x.saturating_sub(address(access)))
+}
+
+/// The number that was read; 0 where none was.
+fn number_read(access: &Access) -> u64
+    ensures { result ≡ number_or_zero (read_of access.now) }
+{
+    match *access {
+        Access::Load { read, .. }
+        | Access::LoadReserved { read, .. }
+        | Access::Atomic { read, .. } => read,
+        _ => 0,
+    }
+}
+
+/// The number that was written; 0 where none was.
+fn number_written(access: &Access) -> u64
+    ensures { result ≡ number_or_zero (written_of access.now) }
+{
+    match *access {
+        Access::Store { written, .. } | Access::Atomic { written, .. } => written,
+        Access::StoreConditional { written, .. } => written.unwrap_or(0),
+        _ => 0,
+    }
+}
+
+/// Byte `k` of a number, the least significant first.
+fn byte_of(number: u64, k: u64) -> u8
+    ensures { result ≡ byte_of number k }
+{
+    if k < 8 {
+        ((number >> (8 * k)) % 256) as u8
+    } else {
+        0
+    }
+}

@@ -1,0 +1,8 @@
+pub mod Briefs
+pub mod LastPlaces
+pub mod LentLogs
+pub mod Logs
+pub mod Parts
+pub mod Pieces
+pub mod Runs
+pub mod Traced

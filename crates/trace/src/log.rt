@@ -1,0 +1,130 @@
+//! The accesses of a hart, as a trace takes them over.
+
+ghost use Rattle.std.specs.Prelude.{◌≡◌, ◌<◌, [], length, slice_index_or, IfOk};
+ghost use Rattle.trace.specs.LentLogs.{accesses_lent};
+
+use crate::accesses::Accesses;
+use crate::stretches::Stretches;
+use pages::OutOfMemory;
+use round_schedule::Access;
+use std::marker::Model;
+use std::mem;
+use std::sync::Arc;
+
+/// The accesses of one hart in one phase of a round, in program order.
+#[derive(Drop)]
+pub struct Log {
+    kept: Kept,
+}
+
+/// How a log keeps its accesses.
+#[derive(Drop)]
+pub(crate) enum Kept {
+    Nothing,
+    /// As the hart left them.
+    Own(Vec<Access>),
+    /// In brief. Copies share them.
+    Brief(Arc<Stretches>),
+}
+
+impl Model for Log {
+    ghost use Rattle.std.specs.Prelude.{List};
+    ghost use Rattle.round_schedule.specs.declared.access.Access.{Access as AccessOf};
+    ghost use Rattle.trace.specs.Logs.{accesses_in};
+
+    ghost Value = { List AccessOf };
+
+    ghost view = { λ l. accesses_in l.kept };
+}
+
+impl Log {
+    /// The log of these accesses. This takes no memory.
+    pub fn of(accesses: Vec<Access>) -> Log
+        ensures { result ≡ accesses.items }
+    {
+        Log {
+            kept: Kept::Own(accesses),
+        }
+    }
+
+    /// Puts plain loads and stores and fences into a form that takes less memory, and that the copies of a trace share. A log
+    /// with another access, or with an address from 2^32 on, stays as it is; so may one whose places do not rise.
+    ///
+    /// # Errors
+    ///
+    /// `OutOfMemory`, and the log stays as it is.
+    pub fn share(&mut self) -> Result<(), OutOfMemory>
+        ensures { self.new ≡ self.old }
+    {
+        let Kept::Own(accesses) = &self.kept else {
+            return Ok(());
+        };
+        if accesses.is_empty() {
+            return Ok(());
+        }
+        let alloc = *accesses.allocator();
+        let Some(stretches) = Stretches::of(alloc, accesses)? else {
+            return Ok(());
+        };
+        let stretches = Arc::new(alloc, stretches).map_err(|_| OutOfMemory)?;
+        self.kept = Kept::Brief(stretches);
+        Ok(())
+    }
+
+    /// How many accesses there are.
+    pub fn len(&self) -> usize
+        ensures { result ≡ length self.now }
+    {
+        match &self.kept {
+            Kept::Nothing => 0,
+            Kept::Own(accesses) => accesses.len(),
+            Kept::Brief(stretches) => stretches.len(),
+        }
+    }
+
+    /// The access at a place, counted from 0.
+    pub fn get(&self, place: usize) -> Access
+        requires { place < length self.now }
+        ensures { result ≡ slice_index_or self.now place result }
+    {
+        self.accesses().get(place)
+    }
+
+    /// The accesses.
+    pub(crate) fn accesses(&self) -> Accesses<'_>
+        ensures { accesses_lent result ≡ self.now }
+    {
+        match &self.kept {
+            Kept::Nothing => Accesses::Whole(&[]),
+            Kept::Own(accesses) => Accesses::Whole(accesses.as_slice()),
+            Kept::Brief(stretches) => Accesses::Brief(stretches.lent()),
+        }
+    }
+
+    /// Hands the accesses over, and leaves none. This takes no memory.
+    pub fn take(&mut self) -> Log
+        ensures taken { result ≡ self.old }
+        ensures emptied { self.new ≡ [] }
+    {
+        mem::replace(
+            self,
+            Log {
+                kept: Kept::Nothing,
+            },
+        )
+    }
+
+    /// An equal log.
+    pub(crate) fn copy(&self) -> Result<Log, OutOfMemory>
+        ensures { IfOk result (λ l. l ≡ self.now) }
+    {
+        let kept = match &self.kept {
+            Kept::Nothing => Kept::Nothing,
+            Kept::Own(accesses) => {
+                Kept::Own(Vec::from_slice(*accesses.allocator(), accesses.as_slice())?)
+            }
+            Kept::Brief(stretches) => Kept::Brief(stretches.clone()?),
+        };
+        Ok(Log { kept })
+    }
+}

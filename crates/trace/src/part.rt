@@ -1,0 +1,94 @@
+//! The finished parts of a list of events.
+
+ghost use Rattle.std.specs.Prelude.{◌≡◌, ◌-◌, ◌<◌, ◌≤◌, ◌++◌, All, IfOk, drop, length};
+ghost use Rattle.round_schedule.specs.Positions.{event};
+ghost use Rattle.trace.specs.Parts.{AreParts, HasEvents, events_in, joined, run_events};
+
+use crate::log::Log;
+use crate::run::{LogRun, Run};
+use pages::OutOfMemory;
+use round_schedule::{Event, Phase};
+use std::sync::Arc;
+
+/// Events of a list that no longer change, so that its copies share them.
+#[derive(Drop)]
+pub(crate) struct Part {
+    /// How many events of the list stand before them.
+    pub(crate) start: usize,
+    pub(crate) batch: Batch,
+}
+
+/// The events of a part.
+#[derive(Drop)]
+pub(crate) enum Batch {
+    /// Events one by one.
+    Events(Arc<Vec<Event>>),
+    /// The accesses of a hart in one phase of a round.
+    Log {
+        round: u32,
+        hart: u8,
+        phase: Phase,
+        log: Log,
+    },
+}
+
+impl Part {
+    /// The events.
+    pub(crate) fn run(&self) -> Run<'_>
+        ensures { run_events result ≡ events_in self.now }
+    {
+        match &self.batch {
+            Batch::Events(events) => Run::Events(events.as_slice()),
+            Batch::Log {
+                round,
+                hart,
+                phase,
+                log,
+            } => Run::Log(LogRun {
+                round: *round,
+                hart: *hart,
+                phase: *phase,
+                accesses: log.accesses(),
+            }),
+        }
+    }
+
+    /// Another owner of the events.
+    pub(crate) fn copy(&self) -> Result<Part, OutOfMemory>
+        ensures start { IfOk result (λ p. p.start ≡ self.now.start) }
+        ensures events { IfOk result (λ p. events_in p ≡ events_in self.now) }
+    {
+        let batch = match &self.batch {
+            Batch::Events(events) => Batch::Events(events.clone()?),
+            Batch::Log {
+                round,
+                hart,
+                phase,
+                log,
+            } => Batch::Log {
+                round: *round,
+                hart: *hart,
+                phase: *phase,
+                log: log.copy()?,
+            },
+        };
+        Ok(Part {
+            start: self.start,
+            batch,
+        })
+    }
+}
+
+/// The part that has the event at a place of the list, and those after it.
+pub(crate) fn parts_with(parts: &[Part], place: usize) -> (&Part, &[Part])
+    requires parts { AreParts parts.now }
+    requires within { place < length (joined parts.now) }
+    ensures start { result.0.now.start ≤ place }
+    ensures within { place - result.0.now.start < length (events_in result.0.now) }
+    ensures event { event (events_in result.0.now) (place - result.0.now.start) ≡ event (joined parts.now) place }
+    ensures rest { drop (place - result.0.now.start) (events_in result.0.now) ++ joined result.1.now ≡ drop place (joined parts.now) }
+    ensures filled { All HasEvents result.1.now }
+{
+    let begun = parts.partition_point(|part| part.start <= place);
+    (&parts[begun - 1], &parts[begun..])
+}
