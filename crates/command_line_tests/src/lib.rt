@@ -2,6 +2,12 @@
 #![tactic(auto)]
 
 #[cfg(test)]
-mod lines;
+mod families;
+#[cfg(test)]
+mod harness;
+#[cfg(test)]
+mod recordings;
 #[cfg(test)]
 mod refusals;
+#[cfg(test)]
+mod runs;

@@ -1,0 +1,91 @@
+//! Lines that go over plans of a family.
+
+use crate::harness::{DEFAULTS, is_read};
+use command_line::{Bytes, Command, Hunt, Merge, Plan, Program, Search, Shrink};
+use std::alloc::{AllocError, Global};
+use std::test::Fail;
+
+/// The runs of `guest.elf` by the family of this seed, with these bytes and objects looked at.
+fn search<'a>(
+    alloc: Global,
+    seed: u64,
+    seen: &[Bytes],
+    objects: &[&'a str],
+) -> Result<Search<'a>, AllocError> {
+    let program = Program {
+        rounds: 10000,
+        ..DEFAULTS.program
+    };
+    let seen = Vec::from_slice(alloc, seen)?;
+    let objects = Vec::from_slice(alloc, objects)?;
+    Ok(Search {
+        program,
+        seed,
+        seen,
+        objects,
+    })
+}
+
+/// The bytes that `HUNT_WITH_EVERY_OPTION` looks at.
+static SEEN: [Bytes; 2] = [
+    Bytes {
+        address: 131072,
+        length: 8,
+    },
+    Bytes {
+        address: 24,
+        length: 1,
+    },
+];
+
+const HUNT_WITH_EVERY_OPTION: &str =
+    "dethart hunt --see 0x20000 8 guest.elf --plans=200 --first 7 --seed=9 --see-object=counter --see 24 1";
+
+#[test]
+fn reads_hunt(rt: HostRuntime) -> Result<(), Fail> {
+    let given = Hunt {
+        search: search(rt.alloc(), 9, SEEN.as_slice(), &["counter"])?,
+        plans: 200,
+        first: 7,
+    };
+    assert!(rt; is_read(&rt, HUNT_WITH_EVERY_OPTION, &Command::Hunt(given)));
+    let defaults = Hunt {
+        search: search(rt.alloc(), 1, &[], &[])?,
+        plans: 1000,
+        first: 0,
+    };
+    assert!(rt; is_read(&rt, "dethart hunt guest.elf", &Command::Hunt(defaults)));
+    Ok(())
+}
+
+#[test]
+fn reads_shrink(rt: HostRuntime) -> Result<(), Fail> {
+    let given = Shrink {
+        search: search(rt.alloc(), 1, &[], &[])?,
+        plan_number: 35,
+    };
+    let line = "dethart shrink guest.elf --plan-number=35";
+    assert!(rt; is_read(&rt, line, &Command::Shrink(given)));
+    Ok(())
+}
+
+#[test]
+fn reads_merge_and_plan(rt: HostRuntime) -> Result<(), Fail> {
+    let merge = Merge {
+        tables: Vec::from_slice(rt.alloc(), &["a.txt", "b.txt", "c.txt"])?,
+    };
+    assert!(rt;
+        is_read(
+            &rt,
+            "dethart merge a.txt b.txt c.txt",
+            &Command::Merge(merge)
+        )
+    );
+    let plan = Plan {
+        number: 35,
+        harts: 2,
+        seed: 1,
+    };
+    assert!(rt; is_read(&rt, "dethart plan 35 --harts 2", &Command::Plan(plan)));
+    Ok(())
+}
