@@ -5,6 +5,8 @@
 #[cfg(test)]
 mod arithmetic;
 #[cfg(test)]
+mod atomics;
+#[cfg(test)]
 mod harness;
 #[cfg(test)]
 mod memory_and_stops;

@@ -2,55 +2,65 @@ use crate::harness::{after, hart, memory};
 use hart_step::{Access, Stepped, Stop, step};
 use pages::Width;
 use rv64_decode::{FenceMode, FenceSet};
-use std::alloc::Global;
 use std::test::Fail;
 
-/// The stop code that one word leaves, or 0.
-fn code_of(alloc: Global, word: u32, a: u64, b: u64) -> Result<u8, Fail> {
-    match after(alloc, word, a, b)?.1.stop {
-        Some(stop) => Ok(stop.code),
-        None => Ok(0),
-    }
-}
+/// Words that jump, the numbers in x1 and x2, and then the address, x1, the number of instructions done and the stop.
+static JUMPS: [(u32, u64, u64, (u64, u64, u64, Option<Stop>)); 5] = [
+    // JALR x1,0(x1)
+    (0x0000_80e7, 9, 0, (8, 4, 1, None)),
+    (0x0000_80e7, 10, 0, (0, 10, 0, MISALIGNED)),
+    // JAL x1,2
+    (0x0020_00ef, 5, 0, (0, 5, 0, MISALIGNED)),
+    // BLT x1,x2,+8 and BEQ x1,x2,+2, which is not taken
+    (
+        0x0020_c463,
+        0xffff_ffff_ffff_ffff,
+        0,
+        (8, 0xffff_ffff_ffff_ffff, 1, None),
+    ),
+    (0x0020_8163, 1, 2, (4, 1, 1, None)),
+];
+
+/// The stop at a jump to an address that no instruction can have.
+const MISALIGNED: Option<Stop> = Some(Stop { code: 4, value: 0 });
 
 #[test]
 fn jumps(rt: HostRuntime) -> Result<(), Fail> {
-    let alloc = rt.alloc();
-    // JALR x1,0(x1)
-    let h = after(alloc, 0x0000_80e7, 9, 0)?.1;
-    assert_eq!(rt; (h.pc, h.x[1], h.done), (8, 4, 1));
-    let h = after(alloc, 0x0000_80e7, 10, 0)?.1;
-    assert_eq!(rt; (h.pc, h.x[1], h.done), (0, 10, 0));
-    assert_eq!(rt; h.stop, Some(Stop { code: 4, value: 0 }));
-    // JAL x1,2
-    let h = after(alloc, 0x0020_00ef, 5, 0)?.1;
-    assert_eq!(rt; (h.pc, h.x[1]), (0, 5));
-    assert_eq!(rt; h.stop, Some(Stop { code: 4, value: 0 }));
-    // BLT x1,x2,+8 and BEQ x1,x2,+2, which is not taken
-    assert_eq!(rt;
-        after(alloc, 0x0020_c463, 0xffff_ffff_ffff_ffff, 0)?.1.pc,
-        8
-    );
-    assert_eq!(rt; after(alloc, 0x0020_8163, 1, 2)?.1.pc, 4);
+    for (word, a, b, expected) in &JUMPS {
+        let h = after(rt.alloc(), *word, *a, *b)?.1;
+        assert_eq!(rt; (h.pc, h.x[1], h.done, h.stop), *expected);
+    }
+    Ok(())
+}
+
+/// Words, the number in x1, and the code of the stop that each leaves.
+static STOPS: [(u32, u64, u8); 8] = [
+    // no instruction, EBREAK
+    (0, 0, 2),
+    (0x0010_0073, 0, 10),
+    // LD x3,0(x1): misaligned, also past the end, and outside
+    (0x0000_b183, 257, 5),
+    (0x0000_b183, 4100, 5),
+    (0x0000_b183, 4096, 6),
+    // SD x2,0(x1): misaligned, outside, to code
+    (0x0020_b023, 4100, 7),
+    (0x0020_b023, 4096, 8),
+    (0x0020_b023, 8, 9),
+];
+
+#[test]
+fn stops(rt: HostRuntime) -> Result<(), Fail> {
+    for (word, a, code) in &STOPS {
+        let stop = after(rt.alloc(), *word, *a, 0)?.1.stop;
+        assert_eq!(rt; stop.map(|stop| stop.code), Some(*code));
+    }
     Ok(())
 }
 
 #[test]
-fn stops(rt: HostRuntime) -> Result<(), Fail> {
-    let alloc = rt.alloc();
-    // no instruction, EBREAK
-    assert_eq!(rt; code_of(alloc, 0, 0, 0)?, 2);
-    assert_eq!(rt; code_of(alloc, 0x0010_0073, 0, 0)?, 10);
-    // LD x3,0(x1): misaligned, also past the end, and outside
-    assert_eq!(rt; code_of(alloc, 0x0000_b183, 257, 0)?, 5);
-    assert_eq!(rt; code_of(alloc, 0x0000_b183, 4100, 0)?, 5);
-    assert_eq!(rt; code_of(alloc, 0x0000_b183, 4096, 0)?, 6);
-    // SD x2,0(x1): misaligned, outside, to code
-    assert_eq!(rt; code_of(alloc, 0x0020_b023, 4100, 0)?, 7);
-    assert_eq!(rt; code_of(alloc, 0x0020_b023, 4096, 0)?, 8);
-    assert_eq!(rt; code_of(alloc, 0x0020_b023, 8, 0)?, 9);
-    // ADDI x0,x1,0 keeps x0
-    assert_eq!(rt; after(alloc, 0x0000_8013, 7, 0)?.1.x[0], 0);
+fn x0_is_kept(rt: HostRuntime) -> Result<(), Fail> {
+    // ADDI x0,x1,0
+    assert_eq!(rt; after(rt.alloc(), 0x0000_8013, 7, 0)?.1.x[0], 0);
     Ok(())
 }
 
