@@ -4,3 +4,4 @@ pub mod Report
 pub mod Order
 pub mod Shown
 pub mod Blocks
+pub mod RunStates

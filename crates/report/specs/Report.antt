@@ -59,13 +59,7 @@ head_text rounds harts bytes output =
 
 -- the report of so many rounds, these harts, these bytes of memory, this output and these events
 unfoldable pub report_text : ℕ → List Hart → List ℕ → List ℕ → List Event → List ℕ
-report_text rounds harts bytes output events =
-    codes "rounds " ++ decimal rounds ++ codes "\n"
-    ++ harts_text 0 harts
-    ++ memory_text bytes
-    ++ output_text output
-    ++ trace_text events
-    ++ codes "end\n"
+report_text rounds harts bytes output events = head_text rounds harts bytes output ++ trace_text events ++ codes "end\n"
 
 -- the report of a state of a run
 abbrev pub report_of : State Hart ConsoleState → List ℕ

@@ -5,6 +5,7 @@ mod blocks;
 mod line;
 mod order;
 mod rows;
+mod run_state;
 mod shown;
 mod state;
 mod tail;
@@ -13,6 +14,7 @@ mod writer;
 
 pub use line::Line;
 pub use order::write_order;
+pub use run_state::RunState;
 pub use shown::{write_summary, write_untraced};
 pub use state::{write_state, write_state_on};
 pub use text::{write_event, write_hart};

@@ -1,14 +1,14 @@
 ghost use Rattle.std.specs.Prelude.{◌≡◌, ◌⊎◌, ◌<◌, ◌++◌, [], OnOk, OnErr, IfErr, Err};
 ghost use Rattle.host_io.specs.Taken.{BeganText};
 ghost use Rattle.report.specs.Pending.{Wrote, way};
-ghost use Rattle.report.specs.Shown.{output_line, state_text, summary_text};
+ghost use Rattle.report.specs.RunStates.{state_of, summary_of};
+ghost use Rattle.report.specs.Shown.{output_line};
 
 use crate::line::Line;
+use crate::run_state::RunState;
 use crate::state::{put_count, put_end, put_harts, put_head};
 use crate::writer::put_line;
-use hart_step::Hart;
 use host_io::{RunError, Sink};
-use pages::Pages;
 use std::alloc::Global;
 
 /// Writes the report of a state without its events: the harts, memory and the console's output.
@@ -19,33 +19,23 @@ use std::alloc::Global;
 /// text is out then.
 pub fn write_untraced<S: Sink>(
     alloc: Global,
-    rounds: u32,
-    harts: &[Hart],
-    pages: &Pages,
-    output: &[u8],
+    state: &RunState<'_>,
     out: &mut S,
 ) -> Result<(), RunError>
-    ensures ok { OnOk result (S.took out.new ≡ S.took out.old ++ state_text rounds harts.now pages.now.memory.bytes output.now) }
-    ensures begun { OnErr result (BeganText (S.took out.old) (S.took out.new) (state_text rounds harts.now pages.now.memory.bytes output.now)) }
+    ensures ok { OnOk result (S.took out.new ≡ S.took out.old ++ state_of state.now) }
+    ensures begun { OnErr result (BeganText (S.took out.old) (S.took out.new) (state_of state.now)) }
     ensures sink { result ≡ Err RunError.SinkFailed → S.failures out.old < S.failures out.new }
     ensures errors { IfErr result (λ e. (e ≡ RunError.OutOfMemory) ⊎ (e ≡ RunError.SinkFailed)) }
 {
     let mut line = Line::new(alloc);
-    put_untraced(out, &mut line, rounds, harts, pages, output)
+    put_untraced(out, &mut line, state)
 }
 
-fn put_untraced<S: Sink>(
-    out: &mut S,
-    line: &mut Line,
-    rounds: u32,
-    harts: &[Hart],
-    pages: &Pages,
-    output: &[u8],
-) -> Result<(), RunError>
-    ensures wrote { Wrote (state_text rounds harts.now pages.now.memory.bytes output.now) (way (S.took out.old) (S.failures out.old) line.old) result (way (S.took out.new) (S.failures out.new) line.new) }
+fn put_untraced<S: Sink>(out: &mut S, line: &mut Line, state: &RunState<'_>) -> Result<(), RunError>
+    ensures wrote { Wrote (state_of state.now) (way (S.took out.old) (S.failures out.old) line.old) result (way (S.took out.new) (S.failures out.new) line.new) }
     ensures empty { OnOk result (line.new ≡ []) }
 {
-    put_head(out, line, rounds, harts, pages, output)?;
+    put_head(out, line, state)?;
     put_end(out, line)
 }
 
@@ -56,33 +46,25 @@ fn put_untraced<S: Sink>(
 /// Those of `write_untraced`.
 pub fn write_summary<S: Sink>(
     alloc: Global,
-    rounds: u32,
-    harts: &[Hart],
-    output: &[u8],
+    state: &RunState<'_>,
     out: &mut S,
 ) -> Result<(), RunError>
-    ensures ok { OnOk result (S.took out.new ≡ S.took out.old ++ summary_text rounds harts.now output.now) }
-    ensures begun { OnErr result (BeganText (S.took out.old) (S.took out.new) (summary_text rounds harts.now output.now)) }
+    ensures ok { OnOk result (S.took out.new ≡ S.took out.old ++ summary_of state.now) }
+    ensures begun { OnErr result (BeganText (S.took out.old) (S.took out.new) (summary_of state.now)) }
     ensures sink { result ≡ Err RunError.SinkFailed → S.failures out.old < S.failures out.new }
     ensures errors { IfErr result (λ e. (e ≡ RunError.OutOfMemory) ⊎ (e ≡ RunError.SinkFailed)) }
 {
     let mut line = Line::new(alloc);
-    put_summary(out, &mut line, rounds, harts, output)
+    put_summary(out, &mut line, state)
 }
 
-fn put_summary<S: Sink>(
-    out: &mut S,
-    line: &mut Line,
-    rounds: u32,
-    harts: &[Hart],
-    output: &[u8],
-) -> Result<(), RunError>
-    ensures wrote { Wrote (summary_text rounds harts.now output.now) (way (S.took out.old) (S.failures out.old) line.old) result (way (S.took out.new) (S.failures out.new) line.new) }
+fn put_summary<S: Sink>(out: &mut S, line: &mut Line, state: &RunState<'_>) -> Result<(), RunError>
+    ensures wrote { Wrote (summary_of state.now) (way (S.took out.old) (S.failures out.old) line.old) result (way (S.took out.new) (S.failures out.new) line.new) }
     ensures empty { OnOk result (line.new ≡ []) }
 {
-    put_count(out, line, "rounds ", rounds as u64)?;
-    put_harts(out, line, harts)?;
-    put_output_line(out, line, output)
+    put_count(out, line, "rounds ", state.rounds as u64)?;
+    put_harts(out, line, state.harts)?;
+    put_output_line(out, line, state.output)
 }
 
 /// Puts the line of how many bytes of output there are, and all that was to be put before it.

@@ -3,12 +3,14 @@ ghost use Rattle.std.specs.Fmt.{decimal};
 ghost use Rattle.host_io.specs.Taken.{BeganText};
 ghost use Rattle.pages.specs.Flat.{page_bytes};
 ghost use Rattle.report.specs.Pending.{Wrote, way};
-ghost use Rattle.report.specs.Report.{bytes_text, events_text, harts_text, head_text, memory_text, output_rows, output_text, report_text, trace_text, memory_rows};
+ghost use Rattle.report.specs.Report.{bytes_text, events_text, harts_text, memory_text, output_rows, output_text, trace_text, memory_rows};
+ghost use Rattle.report.specs.RunStates.{head_of, report_with};
 ghost use Rattle.report.specs.Text.{event_text, hart_text};
 
 use crate::blocks::put_trace_on;
 use crate::line::Line;
 use crate::rows::{count_line, output_row, page_rows};
+use crate::run_state::RunState;
 use crate::text::{event_line, hart_lines};
 use crate::writer::{put_line, put_long};
 use hart_step::Hart;
@@ -147,32 +149,26 @@ pub(crate) fn put_end<S: Sink>(out: &mut S, line: &mut Line) -> Result<(), RunEr
 pub(crate) fn put_head<S: Sink>(
     out: &mut S,
     line: &mut Line,
-    rounds: u32,
-    harts: &[Hart],
-    pages: &Pages,
-    output: &[u8],
+    state: &RunState<'_>,
 ) -> Result<(), RunError>
-    ensures { Wrote (head_text rounds harts.now pages.now.memory.bytes output.now) (way (S.took out.old) (S.failures out.old) line.old) result (way (S.took out.new) (S.failures out.new) line.new) }
+    ensures { Wrote (head_of state.now) (way (S.took out.old) (S.failures out.old) line.old) result (way (S.took out.new) (S.failures out.new) line.new) }
 {
-    put_count(out, line, "rounds ", rounds as u64)?;
-    put_harts(out, line, harts)?;
-    put_memory(out, line, pages)?;
-    put_output(out, line, output)
+    put_count(out, line, "rounds ", state.rounds as u64)?;
+    put_harts(out, line, state.harts)?;
+    put_memory(out, line, state.pages)?;
+    put_output(out, line, state.output)
 }
 
 fn put_state<S: Sink>(
     out: &mut S,
     line: &mut Line,
-    rounds: u32,
-    harts: &[Hart],
-    pages: &Pages,
-    output: &[u8],
+    state: &RunState<'_>,
     trace: &Trace,
 ) -> Result<(), RunError>
-    ensures wrote { Wrote (report_text rounds harts.now pages.now.memory.bytes output.now trace.now.events) (way (S.took out.old) (S.failures out.old) line.old) result (way (S.took out.new) (S.failures out.new) line.new) }
+    ensures wrote { Wrote (report_with state.now trace.now.events) (way (S.took out.old) (S.failures out.old) line.old) result (way (S.took out.new) (S.failures out.new) line.new) }
     ensures empty { OnOk result (line.new ≡ []) }
 {
-    put_head(out, line, rounds, harts, pages, output)?;
+    put_head(out, line, state)?;
     put_trace(out, line, trace)?;
     put_end(out, line)
 }
@@ -186,20 +182,17 @@ fn put_state<S: Sink>(
 /// report is out then.
 pub fn write_state<S: Sink>(
     alloc: Global,
-    rounds: u32,
-    harts: &[Hart],
-    pages: &Pages,
-    output: &[u8],
+    state: &RunState<'_>,
     trace: &Trace,
     out: &mut S,
 ) -> Result<(), RunError>
-    ensures ok { OnOk result (S.took out.new ≡ S.took out.old ++ report_text rounds harts.now pages.now.memory.bytes output.now trace.now.events) }
-    ensures begun { OnErr result (BeganText (S.took out.old) (S.took out.new) (report_text rounds harts.now pages.now.memory.bytes output.now trace.now.events)) }
+    ensures ok { OnOk result (S.took out.new ≡ S.took out.old ++ report_with state.now trace.now.events) }
+    ensures begun { OnErr result (BeganText (S.took out.old) (S.took out.new) (report_with state.now trace.now.events)) }
     ensures sink { result ≡ Err RunError.SinkFailed → S.failures out.old < S.failures out.new }
     ensures errors { IfErr result (λ e. (e ≡ RunError.OutOfMemory) ⊎ (e ≡ RunError.SinkFailed)) }
 {
     let mut line = Line::new(alloc);
-    put_state(out, &mut line, rounds, harts, pages, output, trace)
+    put_state(out, &mut line, state, trace)
 }
 
 /// The most workers that format a report.
@@ -218,21 +211,18 @@ pub fn write_state_on<S: Sink, R: Threads + Sync>(
     rt: &R,
     workers: u32,
     alloc: Global,
-    rounds: u32,
-    harts: &[Hart],
-    pages: &Pages,
-    output: &[u8],
+    state: &RunState<'_>,
     trace: &Trace,
     out: &mut S,
 ) -> Result<(), RunError>
-    ensures ok { OnOk result (S.took out.new ≡ S.took out.old ++ report_text rounds harts.now pages.now.memory.bytes output.now trace.now.events) }
-    ensures begun { OnErr result (BeganText (S.took out.old) (S.took out.new) (report_text rounds harts.now pages.now.memory.bytes output.now trace.now.events)) }
+    ensures ok { OnOk result (S.took out.new ≡ S.took out.old ++ report_with state.now trace.now.events) }
+    ensures begun { OnErr result (BeganText (S.took out.old) (S.took out.new) (report_with state.now trace.now.events)) }
     ensures sink { result ≡ Err RunError.SinkFailed → S.failures out.old < S.failures out.new }
     ensures errors { IfErr result (λ e. (e ≡ RunError.OutOfMemory) ⊎ (e ≡ RunError.SinkFailed)) }
 {
     let mut line = Line::new(alloc);
     let workers = workers.min(MOST_WORKERS) as usize;
-    put_head(out, &mut line, rounds, harts, pages, output)?;
+    put_head(out, &mut line, state)?;
     put_trace_on(rt, workers, alloc, out, &mut line, trace)?;
     put_end(out, &mut line)
 }

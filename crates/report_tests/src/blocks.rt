@@ -1,9 +1,8 @@
 //! Reports of traces so long that several workers format their events.
 
-use hart_step::Hart;
 use host_io::{RunError, WriteSink};
 use pages::{Pages, Width};
-use report::{write_event, write_state, write_state_on};
+use report::{RunState, write_event, write_state, write_state_on};
 use round_schedule::{Access, Event, Phase};
 use std::alloc::Global;
 use std::test::Fail;
@@ -53,14 +52,23 @@ fn expected(alloc: Global, end: u64) -> Result<Vec<u8>, Fail> {
     Ok(text)
 }
 
+/// A state without harts.
+fn state_of(pages: &Pages) -> RunState<'_> {
+    RunState {
+        rounds: 7,
+        harts: &[],
+        pages,
+        output: b"AB",
+    }
+}
+
 /// The report of that trace by one thread.
 fn by_one_thread(alloc: Global, end: u64) -> Result<Vec<u8>, Fail> {
-    let harts: [Hart; 0] = [];
     let pages = Pages::new(alloc, 1, &[], &[])?;
     let trace = trace_of(alloc, end)?;
     let mut text = Vec::new(alloc);
     let mut sink = WriteSink::new(&mut text);
-    write_state(alloc, 7, &harts, &pages, b"AB", &trace, &mut sink)?;
+    write_state(alloc, &state_of(&pages), &trace, &mut sink)?;
     Ok(text)
 }
 
@@ -71,14 +79,11 @@ fn by_workers<R: Threads + Sync>(
     alloc: Global,
     end: u64,
 ) -> Result<Vec<u8>, Fail> {
-    let harts: [Hart; 0] = [];
     let pages = Pages::new(alloc, 1, &[], &[])?;
     let trace = trace_of(alloc, end)?;
     let mut text = Vec::new(alloc);
     let mut sink = WriteSink::new(&mut text);
-    write_state_on(
-        rt, workers, alloc, 7, &harts, &pages, b"AB", &trace, &mut sink,
-    )?;
+    write_state_on(rt, workers, alloc, &state_of(&pages), &trace, &mut sink)?;
     Ok(text)
 }
 
@@ -107,13 +112,12 @@ fn blocks_may_be_full_or_have_one_event(rt: HostRuntime) -> Result<(), Fail> {
 fn a_sink_that_is_full_amid_the_blocks_keeps_a_beginning(rt: HostRuntime) -> Result<(), Fail> {
     let alloc = rt.alloc();
     let end = 2 * BLOCK + 5;
-    let harts: [Hart; 0] = [];
     let pages = Pages::new(alloc, 1, &[], &[])?;
     let trace = trace_of(alloc, end)?;
     let report = expected(alloc, end)?;
     let mut room = vec![in alloc; 0u8; 1_000_000]?;
     let mut sink = WriteSink::new(room.as_mut_slice());
-    let answer = write_state_on(&rt, 4, alloc, 7, &harts, &pages, b"AB", &trace, &mut sink);
+    let answer = write_state_on(&rt, 4, alloc, &state_of(&pages), &trace, &mut sink);
     assert!(rt; answer == Err(RunError::SinkFailed));
     assert!(rt; report.starts_with(&room));
     Ok(())

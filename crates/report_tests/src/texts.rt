@@ -1,7 +1,7 @@
 use hart_step::{Hart, Stop};
 use host_io::{History, RunError, Sink, SinkFault, WriteSink};
 use pages::{Pages, Piece, Width};
-use report::{write_event, write_hart, write_order, write_state};
+use report::{RunState, write_event, write_hart, write_order, write_state};
 use round_schedule::{Access, Event, Phase};
 use rv64_decode::{AcquireRelease, FenceMode, FenceSet};
 use std::alloc::Global;
@@ -154,15 +154,14 @@ fn reports(rt: HostRuntime) -> Result<(), Fail> {
         failed: History::new(),
     };
     let trace = trace_of(rt.alloc(), &events()[..1])?;
-    write_state(
-        rt.alloc(),
-        1,
-        &[hart()],
-        &pages,
-        &[0x41; 33],
-        &trace,
-        &mut narrow,
-    )?;
+    let harts = [hart()];
+    let state = RunState {
+        rounds: 1,
+        harts: &harts,
+        pages: &pages,
+        output: &[0x41; 33],
+    };
+    write_state(rt.alloc(), &state, &trace, &mut narrow)?;
     let report = "rounds 1\n\
                   hart 0 pc 0000000000000004 done 1 exit 0000000000000000\n\
                   x11 0000000000000002\n\
@@ -179,10 +178,10 @@ fn reports(rt: HostRuntime) -> Result<(), Fail> {
     let mut room = [0u8; 10];
     let answer = write_state(
         rt.alloc(),
-        1,
-        &[hart()],
-        &pages,
-        &[],
+        &RunState {
+            output: &[],
+            ..state
+        },
         &trace_of(rt.alloc(), &[])?,
         &mut WriteSink::new(room.as_mut_slice()),
     );
