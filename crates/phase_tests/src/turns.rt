@@ -1,6 +1,7 @@
 //! Serial turns, through the public calls of the crate `serial_phase`.
 
-ghost use Rattle.std.specs.Prelude.{◌≡◌, ◌*◌, ◌+◌, ◌≤◌, ◌<◌, IfOk, length, None};
+ghost use Rattle.std.specs.Prelude.{◌≡◌, ◌*◌, ◌+◌, ◌≤◌, ◌<◌, IfOk, length};
+ghost use Rattle.hart_step.specs.CodeTables.{Shows};
 ghost use Rattle.serial_phase.specs.Phase.{budget_from, budget_of};
 
 mod calls;
@@ -9,22 +10,19 @@ mod lr_and_sc;
 use hart_step::{CodeTable, Hart};
 use pages::{OutOfMemory, Pages, Piece, Range};
 use reservations::Reservations;
-use serial_phase::{Console, SerialLog, serial};
+use serial_phase::{Console, SerialLog, SerialRound, SharedState, serial};
 use std::alloc::Global;
 
-/// What the harts of a serial phase share, with the log of their turns.
-#[derive(Drop)]
-struct Shared {
-    pages: Pages,
-    table: Reservations,
-    console: Console,
-    log: SerialLog,
-}
-
 /// One page with these words as its code from address 0 on, no reservation of so many harts, and this input.
-fn begin(alloc: Global, words: [u32; 4], harts: u32, input: &[u8]) -> Result<Shared, OutOfMemory>
+fn begin(
+    alloc: Global,
+    words: [u32; 4],
+    harts: u32,
+    input: &[u8],
+) -> Result<SharedState, OutOfMemory>
     requires { harts ≤ 64 }
-    ensures { IfOk result (λ s. length s.table ≡ harts) }
+    ensures size { IfOk result (λ s. length s.reservations ≡ harts) }
+    ensures shows { IfOk result (λ s. Shows s.pages.memory s.code.first s.code.instructions) }
 {
     let mut code = [0u8; 16];
     for (i, word) in words.iter().enumerate() {
@@ -35,9 +33,12 @@ fn begin(alloc: Global, words: [u32; 4], harts: u32, input: &[u8]) -> Result<Sha
         bytes: code.to_vec(alloc)?,
     };
     let range = Range { start: 0, len: 16 };
-    Ok(Shared {
-        pages: Pages::new(alloc, 1, &[piece], &[range])?,
-        table: Reservations::new(harts),
+    let pages = Pages::new(alloc, 1, &[piece], &[range])?;
+    let code = CodeTable::new(alloc, &pages, 0, 4)?;
+    Ok(SharedState {
+        pages,
+        code,
+        reservations: Reservations::new(harts),
         console: Console::new(alloc, input.to_vec(alloc)?),
         log: SerialLog::new(alloc),
     })
@@ -85,32 +86,28 @@ fn own_room(waiting: u64, budget: u32, hart: u32) -> u32
 /// Makes room for the turns of the waiting harts in round 7, and does them.
 fn turns(
     alloc: Global,
-    shared: &mut Shared,
+    shared: &mut SharedState,
     harts: &mut [Hart],
     waiting: u64,
     budget: u32,
 ) -> Result<(), OutOfMemory>
-    requires harts { length harts.old ≡ length shared.old.table }
+    requires shows { Shows shared.old.pages.memory shared.old.code.first shared.old.code.instructions }
+    requires harts { length harts.old ≡ length shared.old.reservations }
     requires few { length harts.old ≤ 64 }
     requires budget { budget ≤ 1000 }
-    ensures { length shared.new.table ≡ length shared.old.table }
+    ensures shows { Shows shared.new.pages.memory shared.new.code.first shared.new.code.instructions }
+    ensures size { length shared.new.reservations ≡ length shared.old.reservations }
 {
     let room = room_from(waiting, budget, 0, harts.len() as u32);
     shared.log.clear();
     shared.log.reserve(room as usize)?;
     shared.console.reserve(room as usize)?;
     shared.pages.prepare(alloc, &[], room)?;
-    let code = CodeTable::new(alloc, &shared.pages, 0, 4)?;
-    serial(
-        &mut shared.pages,
-        &mut shared.table,
-        &mut shared.console,
-        &code,
-        harts,
+    let phase = SerialRound {
+        round: 7,
         waiting,
-        7,
         budget,
-        &mut shared.log,
-    );
+    };
+    serial(shared, harts, phase);
     Ok(())
 }

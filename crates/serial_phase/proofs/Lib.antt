@@ -2,6 +2,7 @@ pub mod TurnLists
 pub mod TableUpdates
 pub mod ServedWords
 pub mod PlainSteps
+pub mod Came
 pub mod Effects
 pub mod Served
 pub mod Settled

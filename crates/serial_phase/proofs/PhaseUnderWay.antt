@@ -1,66 +1,97 @@
 -- The serial phase under way.
-use Rattle.std.proofs.Common.{◌≡◌, ℕ, zero, suc, ◌+◌, ◌-◌, ◌<◌, ◌≤◌, inl, inr, List, [], ◌∷◌, ◌++◌, length, take, drop, set, get_or, true, Option, refl, sym, ap, ◌∙◌, subst, arith, add-one, drop-cons, length-append}
+use Rattle.std.proofs.Common.{◌≡◌, ℕ, zero, suc, ◌+◌, ◌-◌, ◌<◌, ◌≤◌, inl, inr, List, [], ◌∷◌, ◌++◌, length, take, drop, set, get_or, true, refl, sym, ap, ◌∙◌, subst, arith, add-one, drop-cons, length-append}
 use Rattle.std.proofs.Math.Seq.{take-suc-set}
 use Rattle.std.proofs.lemmas.List.{drop_all, take_all}
 use Rattle.pages.specs.declared.access.Range.{Range}
 use Rattle.pages.specs.Paged.{Paged, is_page_ready}
 use Rattle.round_schedule.specs.declared.access.Access.{Access}
-use Rattle.round_schedule.specs.declared.span.Span.{Span}
 use Rattle.round_schedule.specs.Desk.{Counter, counter_from, counter_joined, desk_of, desk_from}
 use Rattle.round_schedule.specs.Schedule.{HartRound}
 use Rattle.hart_step.specs.declared.hart.Hart.{Hart}
 use Rattle.hart_step.specs.Console.{ConsoleState}
 use Rattle.hart_step.specs.Room.{HasSpares}
 use Rattle.hart_step.specs.Words.{words_of}
-use Rattle.serial_phase.specs.Phase.{TakesTurn, TakesTurns, turn_done, serial_done, waiting_rounds, is_waiting, budget_of, budget_from}
+use Rattle.serial_phase.specs.declared.shared.SerialRound.{SerialRound}
+use Rattle.serial_phase.specs.declared.shared.SharedState.{SharedState}
+use Rattle.serial_phase.specs.declared.shared.Turn.{Turn}
+use Rattle.serial_phase.specs.Phase.{TakesTurns, turn_done, serial_done, waiting_rounds, is_waiting, budget_of, budget_from, budget_of_all}
 use Rattle.serial_phase.specs.Roomed.{Roomed, HasRoom}
 use Rattle.serial_phase.specs.Turns.{Turns}
+use Rattle.serial_phase.proofs.CodeKept.{ShowsCode}
+use Rattle.serial_phase.proofs.TurnUnderWay.{At, Ends}
 
-abbrev pub counter_at : ℕ → List Hart → Paged → List (Option Span) → Roomed → Turns → Counter Hart ConsoleState
-counter_at i hs p table c k = record { harts = take i hs; bytes = p.memory.bytes; console = c.console; table = table; log = k.closed }
+-- all harts with what they share
+pub record Group : Type 0 where
+  pub harts : List Hart
+  pub state : SharedState
 
--- harts 0 to i - 1 had their turns
-pub record Serving (n budget waiting i : ℕ) (d : Counter Hart ConsoleState) (hs gs : List Hart) (p q : Paged) (t table : List (Option Span)) (c e : Roomed) (l k : Turns) : Type 0 where
-  pub going : counter_from (words_of p.memory.code) budget n i (waiting_rounds waiting i (drop i hs)) (counter_at i gs q table e k) ≡ d
-  pub rest : drop i gs ≡ drop i hs
-  pub code : q.memory.code ≡ p.memory.code
-  pub count : length q.ready ≡ length p.ready
-  pub stays : (page : ℕ) → is_page_ready p page ≡ true → is_page_ready q page ≡ true
-  pub spares : HasSpares (budget_from waiting budget i (length hs - i)) q
-  pub room : HasRoom (budget_from waiting budget i (length hs - i)) e
-  pub log : budget_from waiting budget i (length hs - i) ≤ k.room
-  pub turns : length k.closed ≡ i
-  pub current : k.current ≡ []
-  pub size : length table ≡ length t
+abbrev counter_at : ℕ → Group → Counter Hart ConsoleState
+counter_at i y = record {
+  harts = take i y.harts;
+  bytes = y.state.pages.memory.bytes;
+  console = y.state.console.console;
+  table = y.state.reservations;
+  log = y.state.log.closed;
+}
 
-pub serving_first : (n budget waiting : ℕ) (hs : List Hart) (p : Paged) (t : List (Option Span)) (c : Roomed) (l : Turns) → HasSpares (budget_from waiting budget 0 (length hs)) p → HasRoom (budget_from waiting budget 0 (length hs)) c → budget_from waiting budget 0 (length hs) ≤ l.room → l.closed ≡ [] → l.current ≡ [] →
-    Serving n budget waiting 0 (serial_done budget n waiting hs p t c) hs hs p p t t c c l l
-serving_first n budget waiting hs p t c l spares room log closed current =
-    let whole : length hs ≡ length hs - 0 = omega arith in
+-- what the turns of harts i, i + 1, .. of so many may do
+abbrev to_come : SerialRound → ℕ → ℕ → ℕ
+to_come phase i count = budget_from phase.waiting phase.budget i (count - i)
+
+-- harts 0 to i - 1 had their turns, in a phase that began at x and is at y
+pub record Serving (phase : SerialRound) (i : ℕ) (x y : Group) : Type 0 where
+  pub going : counter_from (words_of x.state.pages.memory.code) phase.budget phase.round i (waiting_rounds phase.waiting i (drop i x.harts)) (counter_at i y) ≡ serial_done phase x.harts x.state
+  pub rest : drop i y.harts ≡ drop i x.harts
+  pub code : y.state.pages.memory.code ≡ x.state.pages.memory.code
+  pub count : length y.state.pages.ready ≡ length x.state.pages.ready
+  pub stays : (page : ℕ) → is_page_ready x.state.pages page ≡ true → is_page_ready y.state.pages page ≡ true
+  pub spares : HasSpares (to_come phase i (length x.harts)) y.state.pages
+  pub room : HasRoom (to_come phase i (length x.harts)) y.state.console
+  pub log : to_come phase i (length x.harts) ≤ y.state.log.room
+  pub turns : length y.state.log.closed ≡ i
+  pub current : y.state.log.current ≡ []
+  pub size : length y.state.reservations ≡ length x.state.reservations
+  pub decoded : y.state.code ≡ x.state.code
+  pub shows : ShowsCode y.state
+
+-- what the phase needs when it begins
+pub record Begins (phase : SerialRound) (x : Group) : Type 0 where
+  pub pages : HasSpares (budget_of_all phase x.harts) x.state.pages
+  pub console : HasRoom (budget_of_all phase x.harts) x.state.console
+  pub log : budget_of_all phase x.harts ≤ x.state.log.room
+  pub closed : x.state.log.closed ≡ []
+  pub current : x.state.log.current ≡ []
+  pub shows : ShowsCode x.state
+
+pub serving_first : (phase : SerialRound) (x : Group) → Begins phase x → Serving phase 0 x x
+serving_first phase x b =
+    let whole : length x.harts ≡ length x.harts - 0 = omega arith in
+    let w = words_of x.state.pages.memory.code in
     record {
-      going = ap (λ (x : List (List Access)). counter_from (words_of p.memory.code) budget n 0 (waiting_rounds waiting 0 hs) (record { harts = []; bytes = p.memory.bytes; console = c.console; table = t; log = x })) closed;
+      going = ap (λ (l : List (List Access)). counter_from w phase.budget phase.round 0 (waiting_rounds phase.waiting 0 x.harts) (record (counter_at 0 x) { log = l })) b.closed;
       rest = refl;
       code = refl;
       count = refl;
-      stays = λ page x. x;
-      spares = subst (λ (m : ℕ). HasSpares (budget_from waiting budget 0 m) p) whole spares;
-      room = subst (λ (m : ℕ). HasRoom (budget_from waiting budget 0 m) c) whole room;
-      log = subst (λ (m : ℕ). budget_from waiting budget 0 m ≤ l.room) whole log;
-      turns = ap length closed;
-      current = current;
+      stays = λ page p. p;
+      spares = subst (λ (m : ℕ). HasSpares (budget_from phase.waiting phase.budget 0 m) x.state.pages) whole b.pages;
+      room = subst (λ (m : ℕ). HasRoom (budget_from phase.waiting phase.budget 0 m) x.state.console) whole b.console;
+      log = subst (λ (m : ℕ). budget_from phase.waiting phase.budget 0 m ≤ x.state.log.room) whole b.log;
+      turns = ap length b.closed;
+      current = b.current;
       size = refl;
+      decoded = refl;
+      shows = b.shows;
     }
 
-need_split : (waiting budget i total : ℕ) → i < total → budget_from waiting budget i (total - i) ≡ budget_of waiting i budget + budget_from waiting budget (i + 1) (total - (i + 1))
-need_split waiting budget i total low =
-    let less : total - i ≡ suc (total - (i + 1)) = omega arith in
-    ap (budget_from waiting budget i) less ∙ ap (λ (j : ℕ). budget_of waiting i budget + budget_from waiting budget j (total - (i + 1))) (sym (add-one i))
+-- the turn of hart i
+abbrev pub turn_of : SerialRound → ℕ → Turn
+turn_of phase i = record { hart = i; round = phase.round; budget = budget_of phase.waiting i phase.budget }
 
--- what the turn of hart i needs
-pub record Needs (n budget waiting i : ℕ) (q : Paged) (e : Roomed) (k : Turns) : Type 0 where
-  pub pages : HasSpares (budget_of waiting i budget) q
-  pub console : HasRoom (budget_of waiting i budget) e
-  pub log : budget_of waiting i budget ≤ k.room
+need_split : (phase : SerialRound) (i count : ℕ) → i < count → to_come phase i count ≡ budget_of phase.waiting i phase.budget + to_come phase (i + 1) count
+need_split phase i count low =
+    let less : count - i ≡ suc (count - (i + 1)) = omega arith in
+    ap (budget_from phase.waiting phase.budget i) less
+    ∙ ap (λ (j : ℕ). budget_of phase.waiting i phase.budget + budget_from phase.waiting phase.budget j (count - (i + 1))) (sym (add-one i))
 
 fewer : (m k : ℕ) (p : Paged) → k ≤ m → HasSpares m p → HasSpares k p
 fewer m k p less h = omega arith
@@ -69,12 +100,19 @@ fewer_room : (m k : ℕ) (c : Roomed) → k ≤ m → HasRoom m c → HasRoom k 
 fewer_room m k c less (inl h) = inl (omega arith)
 fewer_room m k c less (inr h) = inr h
 
-pub needs : (n budget waiting i : ℕ) (d : Counter Hart ConsoleState) (hs gs : List Hart) (p q : Paged) (t table : List (Option Span)) (c e : Roomed) (l k : Turns) → i < length hs → Serving n budget waiting i d hs gs p q t table c e l k → Needs n budget waiting i q e k
-needs n budget waiting i d hs gs p q t table c e l k low s =
-    let need = need_split waiting budget i (length hs) low in
+-- what the turn of hart i needs
+pub record Needs (budget : ℕ) (s : SharedState) : Type 0 where
+  pub pages : HasSpares budget s.pages
+  pub console : HasRoom budget s.console
+  pub log : budget ≤ s.log.room
+
+pub needs : (phase : SerialRound) (i budget : ℕ) (x y : Group) → budget ≡ budget_of phase.waiting i phase.budget → i < length x.harts → Serving phase i x y → Needs budget y.state
+needs phase i budget x y is low s =
+    let need = need_split phase i (length x.harts) low in
+    let all = to_come phase i (length x.harts) in
     record {
-      pages = fewer (budget_from waiting budget i (length hs - i)) (budget_of waiting i budget) q (omega (arith, need)) s.spares;
-      console = fewer_room (budget_from waiting budget i (length hs - i)) (budget_of waiting i budget) e (omega (arith, need)) s.room;
+      pages = fewer all budget y.state.pages (omega (arith, need)) s.spares;
+      console = fewer_room all budget y.state.console (omega (arith, need)) s.room;
       log = omega (arith, need, s.log);
     }
 
@@ -89,75 +127,75 @@ drop_set (h ∷ hs) (suc i) g = drop_set hs i g
 tail_of : (h g : Hart) (xs ys : List Hart) → h ∷ xs ≡ g ∷ ys → (h ≡ g) × (xs ≡ ys)
 tail_of h g xs ys e = (cc, cc)
 
-pub serving_more : (n budget waiting i : ℕ) (d : Counter Hart ConsoleState) (hs gs : List Hart) (p q r : Paged) (t table new : List (Option Span)) (c e f : Roomed) (l k j z : Turns) (h g : Hart) →
-    i < length hs → length gs ≡ length hs → h ≡ get_or gs i h →
-    TakesTurn (turn_done n i (budget_of waiting i budget) h q table e) g q r new f k j →
-    ((m : ℕ) → HasSpares (m + budget_of waiting i budget) q → HasSpares m r) →
-    ((m : ℕ) → HasRoom (m + budget_of waiting i budget) e → HasRoom m f) →
-    k.room ≤ j.room + budget_of waiting i budget → length new ≡ length table →
-    z.closed ≡ j.closed ++ j.current ∷ [] → z.current ≡ [] → z.room ≡ j.room →
-    Serving n budget waiting i d hs gs p q t table c e l k → Serving n budget waiting (i + 1) d hs (set gs i g) p r t new c f l z
-serving_more n budget waiting i d hs gs p q r t table new c e f l k j z h g low same_length here turn pages console log size closed current room s =
-    let need = need_split waiting budget i (length hs) low in
-    let whole : get_or gs i h ∷ drop (i + 1) gs ≡ get_or hs i h ∷ drop (i + 1) hs = sym (drop_next gs i h (omega arith)) ∙ s.rest ∙ drop_next hs i h low in
+-- the turn that was closed in the log
+pub record Closes (l k : Turns) : Type 0 where
+  pub closed : k.closed ≡ l.closed ++ l.current ∷ []
+  pub current : k.current ≡ []
+  pub room : k.room ≡ l.room
+
+-- the harts after hart i had its turn as z, with this log
+abbrev pub turned : ℕ → Group → At → Turns → Group
+turned i y z l = record { harts = set y.harts i z.hart; state = record z.state { log = l } }
+
+pub serving_more : (phase : SerialRound) (i : ℕ) (x y : Group) (h : Hart) (z : At) (l : Turns) → i < length x.harts → length y.harts ≡ length x.harts → h ≡ get_or y.harts i h →
+    Ends (turn_of phase i) (record { hart = h; state = y.state }) z → Closes z.state.log l → Serving phase i x y → Serving phase (i + 1) x (turned i y z l)
+serving_more phase i x y h z l low same_length here e closes s =
+    let total = length x.harts in
+    let need = need_split phase i total low in
+    let b = budget_of phase.waiting i phase.budget in
+    let whole : get_or y.harts i h ∷ drop (i + 1) y.harts ≡ get_or x.harts i h ∷ drop (i + 1) x.harts = sym (drop_next y.harts i h (omega arith)) ∙ s.rest ∙ drop_next x.harts i h low in
     let parts = tail_of _ _ _ _ whole in
-    let same : get_or hs i h ≡ h = sym parts.0 ∙ sym here in
-    let w = words_of p.memory.code in
-    let desk : desk_from (words_of q.memory.code) n i (budget_of waiting i budget) (record { hart = h; bytes = q.memory.bytes; console = e.console; table = table; log = [] }) ≡ desk_of w budget n (counter_at i gs q table e k) i h (is_waiting waiting i) =
-    ap (λ (code : List Range). desk_from (words_of code) n i (budget_of waiting i budget) (record { hart = h; bytes = q.memory.bytes; console = e.console; table = table; log = [] })) s.code in
-    let front : take (i + 1) (set gs i g) ≡ take i gs ++ g ∷ [] = ap (λ (m : ℕ). take m (set gs i g)) (add-one i) ∙ take-suc-set gs i g (omega arith) in
-    let D = turn_done n i (budget_of waiting i budget) h q table e in
-    let joined : counter_at (i + 1) (set gs i g) r new f z ≡ counter_joined (counter_at i gs q table e k) (desk_of w budget n (counter_at i gs q table e k) i h (is_waiting waiting i)) =
-    ap (λ (x : List Hart). record { harts = x; bytes = r.memory.bytes; console = f.console; table = new; log = z.closed }) (front ∙ ap (λ (x : Hart). take i gs ++ x ∷ []) turn.hart)
-    ∙ ap (λ (x : List ℕ). record { harts = take i gs ++ D.hart ∷ []; bytes = x; console = f.console; table = new; log = z.closed }) turn.pages.bytes
-    ∙ ap (λ (x : ConsoleState). record { harts = take i gs ++ D.hart ∷ []; bytes = D.bytes; console = x; table = new; log = z.closed }) turn.console
-    ∙ ap (λ (x : List (Option Span)). record { harts = take i gs ++ D.hart ∷ []; bytes = D.bytes; console = D.console; table = x; log = z.closed }) turn.table
-    ∙ ap (λ (x : List (List Access)). record { harts = take i gs ++ D.hart ∷ []; bytes = D.bytes; console = D.console; table = D.table; log = x }) (closed ∙ ap (λ (x : List (List Access)). x ++ j.current ∷ []) turn.closed ∙ ap (λ (x : List Access). k.closed ++ x ∷ []) turn.log)
-    ∙ ap (counter_joined (counter_at i gs q table e k)) desk in
-    let rounds : waiting_rounds waiting i (drop i hs) ≡ waiting_rounds waiting i (h ∷ drop (i + 1) hs) = ap (waiting_rounds waiting i) (drop_next hs i h low ∙ ap (λ (x : Hart). x ∷ drop (i + 1) hs) same) in
+    let same : get_or x.harts i h ≡ h = sym parts.0 ∙ sym here in
+    let w = words_of x.state.pages.memory.code in
+    let desk : turn_done (turn_of phase i) h y.state ≡ desk_of w phase.budget phase.round (counter_at i y) i h (is_waiting phase.waiting i) =
+    ap (λ (code : List Range). desk_from (words_of code) phase.round i b (record { hart = h; bytes = y.state.pages.memory.bytes; console = y.state.console.console; table = y.state.reservations; log = [] })) s.code in
+    let front : take (i + 1) (set y.harts i z.hart) ≡ take i y.harts ++ z.hart ∷ [] = ap (λ (m : ℕ). take m (set y.harts i z.hart)) (add-one i) ∙ take-suc-set y.harts i z.hart (omega arith) in
+    let d = turn_done (turn_of phase i) h y.state in
+    let harts : take (i + 1) (set y.harts i z.hart) ≡ take i y.harts ++ d.hart ∷ [] = front ∙ ap (λ (g : Hart). take i y.harts ++ g ∷ []) e.taken.hart in
+    let log : l.closed ≡ y.state.log.closed ++ d.log ∷ [] = closes.closed ∙ ap (λ (ls : List (List Access)). ls ++ z.state.log.current ∷ []) e.taken.closed ∙ ap (λ (xs : List Access). y.state.log.closed ++ xs ∷ []) e.taken.log in
+    let parted : counter_at (i + 1) (turned i y z l) ≡ counter_joined (counter_at i y) d = cc (harts, e.taken.pages.bytes, e.taken.console, e.taken.table, log) in
+    let joined : counter_at (i + 1) (turned i y z l) ≡ counter_joined (counter_at i y) (desk_of w phase.budget phase.round (counter_at i y) i h (is_waiting phase.waiting i)) =
+    parted ∙ ap (counter_joined (counter_at i y)) desk in
+    let rounds : waiting_rounds phase.waiting i (drop i x.harts) ≡ waiting_rounds phase.waiting i (h ∷ drop (i + 1) x.harts) =
+    ap (waiting_rounds phase.waiting i) (drop_next x.harts i h low ∙ ap (λ (g : Hart). g ∷ drop (i + 1) x.harts) same) in
     record {
       going =
-          ap (λ (m : ℕ). counter_from w budget n m (waiting_rounds waiting m (drop (i + 1) hs)) (counter_at (i + 1) (set gs i g) r new f z)) (add-one i)
-          ∙ ap (counter_from w budget n (suc i) (waiting_rounds waiting (suc i) (drop (i + 1) hs))) joined
-          ∙ ap (λ (rs : List (HartRound Hart)). counter_from w budget n i rs (counter_at i gs q table e k)) (sym rounds)
+          ap (λ (m : ℕ). counter_from w phase.budget phase.round m (waiting_rounds phase.waiting m (drop (i + 1) x.harts)) (counter_at (i + 1) (turned i y z l))) (add-one i)
+          ∙ ap (counter_from w phase.budget phase.round (suc i) (waiting_rounds phase.waiting (suc i) (drop (i + 1) x.harts))) joined
+          ∙ ap (λ (rs : List (HartRound Hart)). counter_from w phase.budget phase.round i rs (counter_at i y)) (sym rounds)
           ∙ s.going;
-      rest = ap (λ (m : ℕ). drop m (set gs i g)) (add-one i) ∙ drop_set gs i g ∙ ap (λ (m : ℕ). drop m gs) (sym (add-one i)) ∙ parts.1;
-      code = turn.pages.code ∙ s.code;
-      count = turn.pages.count ∙ s.count;
-      stays = λ page x. turn.pages.stays page (s.stays page x);
-      spares = pages (budget_from waiting budget (i + 1) (length hs - (i + 1))) (fewer (budget_from waiting budget i (length hs - i)) (budget_from waiting budget (i + 1) (length hs - (i + 1)) + budget_of waiting i budget) q (omega (arith, need)) s.spares);
-      room = console (budget_from waiting budget (i + 1) (length hs - (i + 1))) (fewer_room (budget_from waiting budget i (length hs - i)) (budget_from waiting budget (i + 1) (length hs - (i + 1)) + budget_of waiting i budget) e (omega (arith, need)) s.room);
-      log = omega (arith, need, s.log);
-      turns = ap length closed ∙ length-append j.closed (j.current ∷ []) ∙ ap (λ (m : ℕ). m + 1) (ap length turn.closed ∙ s.turns);
-      current = current;
-      size = size ∙ s.size;
+      rest = ap (λ (m : ℕ). drop m (set y.harts i z.hart)) (add-one i) ∙ drop_set y.harts i z.hart ∙ ap (λ (m : ℕ). drop m y.harts) (sym (add-one i)) ∙ parts.1;
+      code = e.taken.pages.code ∙ s.code;
+      count = e.taken.pages.count ∙ s.count;
+      stays = λ page p. e.taken.pages.stays page (s.stays page p);
+      spares = e.pages (to_come phase (i + 1) total) (fewer (to_come phase i total) (to_come phase (i + 1) total + b) y.state.pages (omega (arith, need)) s.spares);
+      room = e.console (to_come phase (i + 1) total) (fewer_room (to_come phase i total) (to_come phase (i + 1) total + b) y.state.console (omega (arith, need)) s.room);
+      log = omega (arith, need, s.log, e.log, closes.room);
+      turns = ap length closes.closed ∙ length-append z.state.log.closed (z.state.log.current ∷ []) ∙ ap (λ (m : ℕ). m + 1) (ap length e.taken.closed ∙ s.turns);
+      current = closes.current;
+      size = e.table ∙ s.size;
+      decoded = e.code ∙ s.decoded;
+      shows = e.shows;
     }
 
-pub serving_over : (n budget waiting i : ℕ) (d : Counter Hart ConsoleState) (hs gs : List Hart) (p q : Paged) (t table : List (Option Span)) (c e : Roomed) (l k : Turns) → length gs ≡ length hs → length hs ≤ i → Serving n budget waiting i d hs gs p q t table c e l k → TakesTurns d gs p q table e k
-serving_over n budget waiting i d hs gs p q t table c e l k same_length over s =
-    let none : drop i hs ≡ [] = drop_all i hs over in
-    let all : take i gs ≡ gs = take_all i gs (omega arith) in
-    let same : counter_at i gs q table e k ≡ d = ap (λ (x : List Hart). counter_from (words_of p.memory.code) budget n i (waiting_rounds waiting i x) (counter_at i gs q table e k)) (sym none) ∙ s.going in
+-- the same, where the turn has its budget from the code
+pub serving_next : (phase : SerialRound) (i budget : ℕ) (x y : Group) (h : Hart) (z : At) (l : Turns) → budget ≡ budget_of phase.waiting i phase.budget →
+    i < length x.harts → length y.harts ≡ length x.harts → h ≡ get_or y.harts i h →
+    Ends (record { hart = i; round = phase.round; budget = budget }) (record { hart = h; state = y.state }) z → Closes z.state.log l → Serving phase i x y → Serving phase (i + 1) x (turned i y z l)
+serving_next phase i budget x y h z l is low same here e closes s =
+    serving_more phase i x y h z l low same here (subst (λ (b : ℕ). Ends (record { hart = i; round = phase.round; budget = b }) (record { hart = h; state = y.state }) z) is e) closes s
+
+pub serving_over : (phase : SerialRound) (i : ℕ) (x y : Group) → length y.harts ≡ length x.harts → length x.harts ≤ i → Serving phase i x y → TakesTurns (serial_done phase x.harts x.state) y.harts x.state y.state
+serving_over phase i x y same_length over s =
+    let none : drop i x.harts ≡ [] = drop_all i x.harts over in
+    let all : take i y.harts ≡ y.harts = take_all i y.harts (omega arith) in
+    let w = words_of x.state.pages.memory.code in
+    let same : counter_at i y ≡ serial_done phase x.harts x.state =
+    ap (λ (hs : List Hart). counter_from w phase.budget phase.round i (waiting_rounds phase.waiting i hs) (counter_at i y)) (sym none) ∙ s.going in
     record {
-      harts = sym all ∙ ap (λ (x : Counter Hart ConsoleState). x.harts) same;
-      pages = record { bytes = ap (λ (x : Counter Hart ConsoleState). x.bytes) same; code = s.code; count = s.count; stays = s.stays };
-      table = ap (λ (x : Counter Hart ConsoleState). x.table) same;
-      console = ap (λ (x : Counter Hart ConsoleState). x.console) same;
-      log = ap (λ (x : Counter Hart ConsoleState). x.log) same;
+      harts = sym all ∙ ap (λ (c : Counter Hart ConsoleState). c.harts) same;
+      pages = record { bytes = ap (λ (c : Counter Hart ConsoleState). c.bytes) same; code = s.code; count = s.count; stays = s.stays };
+      table = ap (λ (c : Counter Hart ConsoleState). c.table) same;
+      console = ap (λ (c : Counter Hart ConsoleState). c.console) same;
+      log = ap (λ (c : Counter Hart ConsoleState). c.log) same;
     }
-
--- what the turn of hart i left, with a budget of b
-pub record Left (n i b : ℕ) (h g : Hart) (q r : Paged) (table new : List (Option Span)) (e f : Roomed) (k j : Turns) : Type 0 where
-  pub turn : TakesTurn (turn_done n i b h q table e) g q r new f k j
-  pub pages : (m : ℕ) → HasSpares (m + b) q → HasSpares m r
-  pub console : (m : ℕ) → HasRoom (m + b) e → HasRoom m f
-  pub log : k.room ≤ j.room + b
-  pub size : length new ≡ length table
-
-pub serving_next : (n budget waiting i b : ℕ) (d : Counter Hart ConsoleState) (hs gs : List Hart) (p q r : Paged) (t table new : List (Option Span)) (c e f : Roomed) (l k j z : Turns) (h g : Hart) →
-    b ≡ budget_of waiting i budget → i < length hs → length gs ≡ length hs → h ≡ get_or gs i h → Left n i b h g q r table new e f k j →
-    z.closed ≡ j.closed ++ j.current ∷ [] → z.current ≡ [] → z.room ≡ j.room →
-    Serving n budget waiting i d hs gs p q t table c e l k → Serving n budget waiting (i + 1) d hs (set gs i g) p r t new c f l z
-serving_next n budget waiting i b d hs gs p q r t table new c e f l k j z h g is low same here was closed current room s =
-    let x : Left n i (budget_of waiting i budget) h g q r table new e f k j = subst (λ (m : ℕ). Left n i m h g q r table new e f k j) is was in
-    serving_more n budget waiting i d hs gs p q r t table new c e f l k j z h g low same here x.turn x.pages x.console x.log x.size closed current room s

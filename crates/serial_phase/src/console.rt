@@ -26,7 +26,10 @@ impl Model for Console {
 
     ghost Value = { Roomed };
 
-    ghost view = { λ c. record { console = record { input = c.input.items; place = c.place; output = c.output.items }; room = vec_capacity c.output - vec_len c.output } };
+    ghost view = { λ c. record {
+      console = record { input = c.input.items; place = c.place; output = c.output.items };
+      room = vec_capacity c.output - vec_len c.output;
+    } };
 
     ghost invariant = { λ c. vec_len c.output ≤ 1048576 };
 }
@@ -56,10 +59,12 @@ impl Console {
         }
     }
 
-    /// Adds the low byte of a value to the output and answers 0, or all ones where the output is full.
+    /// Adds the low byte of a value to the output and answers 0, or all ones where the output is
+    /// full.
     pub fn put(&mut self, value: u64) -> u64
         requires { HasRoom 1 self.old }
-        ensures answer { record { value = result; console = self.new.console } ≡ put_call value self.old.console }
+        ensures answer { record { value = result; console = self.new.console } ≡
+            put_call value self.old.console }
         ensures room { self.old.room ≤ self.new.room + 1 }
     {
         if self.output.len() >= OUTPUT_ROOM {
@@ -71,7 +76,8 @@ impl Console {
 
     /// Takes the next input byte, or answers all ones where all were taken.
     pub fn get(&mut self) -> u64
-        ensures answer { record { value = result; console = self.new.console } ≡ get_call self.old.console }
+        ensures answer { record { value = result; console = self.new.console } ≡
+            get_call self.old.console }
         ensures room { self.new.room ≡ self.old.room }
     {
         if self.place >= self.input.len() {

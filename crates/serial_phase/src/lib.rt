@@ -2,13 +2,15 @@
 #![tactic(auto)]
 
 mod console;
+mod instruction;
 mod log;
 mod phase;
 mod plain;
 mod serving;
+mod shared;
 mod target;
-mod turn;
 
 pub use console::Console;
 pub use log::SerialLog;
 pub use phase::{serial, take_turn};
+pub use shared::{SerialRound, SharedState, Turn};

@@ -23,9 +23,15 @@ impl Model for SerialLog {
 
     ghost Value = { Turns };
 
-    ghost view = { λ l. record { closed = turns_at l.accesses.items 0 (take l.turns l.ends); current = open_turn l.accesses.items 0 (take l.turns l.ends); room = vec_capacity l.accesses - vec_len l.accesses } };
+    ghost view = { λ l. record {
+      closed = turns_at l.accesses.items 0 (take l.turns l.ends);
+      current = open_turn l.accesses.items 0 (take l.turns l.ends);
+      room = vec_capacity l.accesses - vec_len l.accesses;
+    } };
 
-    ghost invariant = { λ l. (l.turns ≤ 64) × AreEnds 0 (take l.turns l.ends) (length l.accesses.items) × (length (take l.turns l.ends) ≡ l.turns) };
+    ghost invariant = { λ l. (l.turns ≤ 64) ×
+        AreEnds 0 (take l.turns l.ends) (length l.accesses.items) ×
+        (length (take l.turns l.ends) ≡ l.turns) };
 }
 
 impl SerialLog {

@@ -1,62 +1,46 @@
-ghost use Rattle.std.specs.Prelude.{◌≡◌, ℕ, ◌<◌, ◌≤◌, ◌+◌, ◌*◌, ◌/◌, ◌^◌, [], ◌++◌, option_to_list, length, None, true};
+ghost use Rattle.std.specs.Prelude.{◌≡◌, ℕ, ◌<◌, ◌≤◌, ◌+◌, [], ◌++◌, option_to_list, length};
 ghost use Rattle.hart_step.specs.CodeTables.{Shows};
 ghost use Rattle.hart_step.specs.Room.{HasSpares};
-ghost use Rattle.serial_phase.specs.Phase.{TakesTurn, TakesTurns, turn_done, serial_done, budget_of, budget_from};
+ghost use Rattle.serial_phase.specs.Phase.{TakesTurn, TakesTurns, turn_done, serial_done, budget_of, budget_of_all};
 ghost use Rattle.serial_phase.specs.Roomed.{HasRoom};
 
-use crate::console::Console;
+use crate::instruction::serve;
 use crate::log::SerialLog;
-use crate::turn::serve;
-use hart_step::{CodeTable, Hart};
-use pages::Pages;
-use reservations::Reservations;
+use crate::shared::{SerialRound, SharedState, Turn};
+use hart_step::Hart;
 use round_schedule::{Access, Stepped};
 
-/// Does the serial phase of a round: the turns of the waiting harts, in hart order, each of up to `budget`
-/// instructions, 1 to 1,000. Bit h of `waiting` says that hart h waits.
+/// Does the serial phase of a round: the turns of the waiting harts, in hart order, each of up to
+/// `budget` instructions, 1 to 1,000.
 ///
-/// Each turn goes on from what the one before left of memory, reservations and the console. The log has the
-/// accesses of each turn. What the turns may need is there before: spare pages, or as many as there are pages
-/// that are not ready, room for output and room in the log, each for as many instructions as the turns may do.
-/// So no memory is taken.
-pub fn serial(
-    pages: &mut Pages,
-    table: &mut Reservations,
-    console: &mut Console,
-    code: &CodeTable,
-    harts: &mut [Hart],
-    waiting: u64,
-    round: u32,
-    budget: u32,
-    log: &mut SerialLog,
-)
-    requires shows { Shows pages.old.memory code.now.first code.now.instructions }
-    requires harts { length harts.old ≡ length table.old }
+/// Each turn goes on from what the one before left of memory, reservations and the console. The log
+/// has the accesses of each turn. What the turns may need is there before: spare pages, or as many
+/// as there are pages that are not ready, room for output and room in the log, each for as many
+/// instructions as the turns may do. So no memory is taken.
+pub fn serial(state: &mut SharedState, harts: &mut [Hart], phase: SerialRound)
+    requires shows { Shows state.old.pages.memory state.old.code.first state.old.code.instructions }
+    requires harts { length harts.old ≡ length state.old.reservations }
     requires few { length harts.old ≤ 64 }
-    requires pages { HasSpares (budget_from waiting budget 0 (length harts.old)) pages.old }
-    requires console { HasRoom (budget_from waiting budget 0 (length harts.old)) console.old }
-    requires log { budget_from waiting budget 0 (length harts.old) ≤ log.old.room }
-    requires closed { log.old.closed ≡ [] }
-    requires current { log.old.current ≡ [] }
-    ensures turns { TakesTurns (serial_done budget round waiting harts.old pages.old table.old console.old) harts.new pages.old pages.new table.new console.new log.new }
-    ensures table { length table.new ≡ length table.old }
-    ensures shows { Shows pages.new.memory code.now.first code.now.instructions }
-    ensures current { log.new.current ≡ [] }
+    requires pages { HasSpares (budget_of_all phase harts.old) state.old.pages }
+    requires console { HasRoom (budget_of_all phase harts.old) state.old.console }
+    requires log { budget_of_all phase harts.old ≤ state.old.log.room }
+    requires closed { state.old.log.closed ≡ [] }
+    requires current { state.old.log.current ≡ [] }
+    ensures turns { TakesTurns (serial_done phase harts.old state.old)
+        harts.new state.old state.new }
+    ensures table { length state.new.reservations ≡ length state.old.reservations }
+    ensures shows { Shows state.new.pages.memory state.new.code.first state.new.code.instructions }
+    ensures current { state.new.log.current ≡ [] }
+    ensures code { state.new.code ≡ state.old.code }
 {
     for i in 0..harts.len() {
-        let turn_budget = turn_budget(waiting, i, budget);
-        take_turn(
-            &mut harts[i],
-            pages,
-            table,
-            console,
-            log,
-            code,
-            i as u32,
-            round,
-            turn_budget,
-        );
-        log.end_turn();
+        let turn = Turn {
+            hart: i as u32,
+            round: phase.round,
+            budget: turn_budget(phase.waiting, i, phase.budget),
+        };
+        take_turn(&mut harts[i], state, turn);
+        state.log.end_turn();
     }
 }
 
@@ -68,41 +52,35 @@ fn turn_budget(waiting: u64, i: usize, budget: u32) -> u32
     if (waiting >> i) % 2 == 1 { budget } else { 0 }
 }
 
-/// Does the serial turn of one hart, whose number is `hart`: up to `budget` instructions, or to a stop.
+/// Does the serial turn of one hart: up to `budget` instructions, or to a stop.
 ///
-/// It goes on from what is there of memory, reservations and the console, and its accesses become the turn that is under way
-/// in the log. What the turn may need is there before, and what is left of it is there after. So no memory is taken.
-pub fn take_turn(
-    h: &mut Hart,
-    pages: &mut Pages,
-    table: &mut Reservations,
-    console: &mut Console,
-    log: &mut SerialLog,
-    code: &CodeTable,
-    hart: u32,
-    round: u32,
-    budget: u32,
-)
-    requires shows { Shows pages.old.memory code.now.first code.now.instructions }
-    requires hart { hart < length table.old }
-    requires pages { HasSpares budget pages.old }
-    requires console { HasRoom budget console.old }
-    requires log { budget ≤ log.old.room }
-    requires began { log.old.current ≡ [] }
-    ensures turn { TakesTurn (turn_done round hart budget h.old pages.old table.old console.old) h.new pages.old pages.new table.new console.new log.old log.new }
-    ensures pages { (n : ℕ) → HasSpares (n + budget) pages.old → HasSpares n pages.new }
-    ensures console { (n : ℕ) → HasRoom (n + budget) console.old → HasRoom n console.new }
-    ensures log { log.old.room ≤ log.new.room + budget }
-    ensures table { length table.new ≡ length table.old }
-    ensures shows { Shows pages.new.memory code.now.first code.now.instructions }
+/// It goes on from what is there of memory, reservations and the console, and its accesses become
+/// the turn that is under way in the log. What the turn may need is there before, and what is left
+/// of it is there after. So no memory is taken.
+pub fn take_turn(h: &mut Hart, state: &mut SharedState, turn: Turn)
+    requires shows { Shows state.old.pages.memory state.old.code.first state.old.code.instructions }
+    requires hart { turn.hart < length state.old.reservations }
+    requires pages { HasSpares turn.budget state.old.pages }
+    requires console { HasRoom turn.budget state.old.console }
+    requires log { turn.budget ≤ state.old.log.room }
+    requires began { state.old.log.current ≡ [] }
+    ensures turn { TakesTurn (turn_done turn h.old state.old) h.new state.old state.new }
+    ensures pages { (n : ℕ) →
+        HasSpares (n + turn.budget) state.old.pages → HasSpares n state.new.pages }
+    ensures console { (n : ℕ) →
+        HasRoom (n + turn.budget) state.old.console → HasRoom n state.new.console }
+    ensures log { state.old.log.room ≤ state.new.log.room + turn.budget }
+    ensures table { length state.new.reservations ≡ length state.old.reservations }
+    ensures shows { Shows state.new.pages.memory state.new.code.first state.new.code.instructions }
+    ensures code { state.new.code ≡ state.old.code }
 {
-    let mut left = budget;
+    let mut left = turn.budget;
     while left > 0 {
         if h.stop.is_some() {
             return;
         }
-        match serve(h, pages, table, console, code, hart, round) {
-            Stepped::Done(access) => keep(log, access),
+        match serve(h, state, turn.hart, turn.round) {
+            Stepped::Done(access) => keep(&mut state.log, access),
             Stepped::Waits => return,
             Stepped::Stopped(_) => return,
         }

@@ -1,34 +1,29 @@
-ghost use Rattle.std.specs.Prelude.{◌≡◌, ◌<◌, length, Some};
+ghost use Rattle.std.specs.Prelude.{◌≡◌, Some};
+ghost use Rattle.hart_step.specs.CodeTables.{decoded};
 ghost use Rattle.hart_step.specs.Room.{HasSpares};
 ghost use Rattle.hart_step.specs.Step.{stepped};
 ghost use Rattle.round_schedule.specs.Desk.{updated};
-ghost use Rattle.hart_step.specs.CodeTables.{decoded};
 ghost use Rattle.serial_phase.specs.Plain.{IsPlain, IsPlainAnswer};
 ghost use Rattle.serial_phase.specs.Words.{Leaves, answered_table};
 
+use crate::shared::SharedState;
 use hart_step::{Hart, step_decoded};
-use pages::Pages;
 use reservations::Reservations;
 use round_schedule::{Access, Stepped};
 use rv64_decode::Instr;
 
-/// Does an instruction that has no effect of its own in the serial phase, on memory itself. Its store breaks
-/// the reservations of other harts at once.
-pub fn plain(
-    h: &mut Hart,
-    pages: &mut Pages,
-    table: &mut Reservations,
-    hart: u32,
-    i: Instr,
-) -> Stepped
-    requires known { decoded pages.old.memory h.old.pc ≡ Some i }
-    requires room { HasSpares 1 pages.old }
-    ensures { Leaves hart (stepped h.old pages.old.memory) result h.new pages.old pages.new table.old table.new }
+/// Does an instruction that has no effect of its own in the serial phase, on memory itself. Its
+/// store breaks the reservations of other harts at once.
+pub fn plain(h: &mut Hart, state: &mut SharedState, hart: u32, i: Instr) -> Stepped
+    requires known { decoded state.old.pages.memory h.old.pc ≡ Some i }
+    requires room { HasSpares 1 state.old.pages }
+    ensures answer { result ≡ (stepped h.old state.old.pages.memory).answer }
+    ensures leaves { Leaves hart (stepped h.old state.old.pages.memory) h.new state.old state.new }
 {
     // A store that has no fault lies in one of these pages.
-    let _pages = pages.count();
-    let answer = step_decoded(h, pages, i).unwrap();
-    note_answer(answer, table, hart);
+    let _pages = state.pages.count();
+    let answer = step_decoded(h, &mut state.pages, i).unwrap();
+    note_answer(answer, &mut state.reservations, hart);
     answer
 }
 
@@ -45,6 +40,7 @@ fn note_answer(answer: Stepped, table: &mut Reservations, hart: u32)
     }
 }
 
+/// Breaks the reservations of other harts that an access of a plain instruction breaks.
 fn note(access: Access, table: &mut Reservations, hart: u32)
     requires { IsPlain access }
     ensures { table.new ≡ updated hart 0 access table.old }

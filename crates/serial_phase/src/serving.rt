@@ -1,23 +1,21 @@
-//! The instructions that have an effect of their own in the serial phase, one function for each kind.
-ghost use Rattle.std.specs.Prelude.{◌≡◌, ℕ, ◌<◌, ◌≤◌, ◌+◌, [], ◌∷◌, List, length, Option, Some, None};
+//! The instructions that have an effect of their own in the serial phase, a function for each kind.
+ghost use Rattle.std.specs.Prelude.{◌≡◌, ◌<◌, ◌≤◌, ◌+◌, length, None};
 ghost use Rattle.pages.specs.Memory.{store_fault};
 ghost use Rattle.round_schedule.specs.declared.access.Stepped.TheVariants.{Stopped};
-ghost use Rattle.round_schedule.specs.Tables.{entry};
-ghost use Rattle.round_schedule.specs.declared.span.Span.{Span as SpanOf};
-ghost use Rattle.hart_step.specs.Room.{HasSpares, TakesDirectly};
-ghost use Rattle.hart_step.specs.SerialStep.{called};
-ghost use Rattle.hart_step.specs.Step.{fenced, stopped_with};
+ghost use Rattle.hart_step.specs.Room.{HasSpares};
+ghost use Rattle.hart_step.specs.SerialStep.{called, succeeded};
+ghost use Rattle.hart_step.specs.Step.{stopped_with};
 ghost use Rattle.serial_phase.specs.Atomics.{atomic_step, conditional_at, exchanged_at, reserved_at};
 ghost use Rattle.serial_phase.specs.Roomed.{HasRoom};
-ghost use Rattle.serial_phase.specs.Words.{Leaves, Succeeds, answered_table};
+ghost use Rattle.serial_phase.specs.Words.{Leaves, Stores};
 
 use crate::console::Console;
-use crate::target::{Target, width_of};
+use crate::shared::SharedState;
+use crate::target::{Target, target_of, width_of};
 use hart_step::{Hart, amo_value, cut_to, sign_extended, stop_code};
-use pages::{Pages, Store};
-use reservations::Reservations;
+use pages::Store;
 use round_schedule::{Access, Stepped};
-use rv64_decode::{AcquireRelease, Atomic, AtomicOperation, FenceMode, FenceSet, Reg};
+use rv64_decode::{AcquireRelease, Atomic, AtomicOperation, Reg};
 
 /// Stops the hart for good, and changes nothing else.
 pub fn stop(h: &mut Hart, code: u8, value: u64) -> Stepped
@@ -29,16 +27,11 @@ pub fn stop(h: &mut Hart, code: u8, value: u64) -> Stepped
 }
 
 /// An instruction of the A extension, by its kind.
-pub fn atomic(
-    h: &mut Hart,
-    pages: &mut Pages,
-    table: &mut Reservations,
-    hart: u32,
-    word: Atomic,
-) -> Stepped
-    requires hart { hart < length table.old }
-    requires room { HasSpares 1 pages.old }
-    ensures { Leaves hart (atomic_step word h.old pages.old.memory (entry table.old hart)) result h.new pages.old pages.new table.old table.new }
+pub fn atomic(h: &mut Hart, state: &mut SharedState, hart: u32, word: Atomic) -> Stepped
+    requires hart { hart < length state.old.reservations }
+    requires room { HasSpares 1 state.old.pages }
+    ensures answer { result ≡ (atomic_step word hart h.old state.old).answer }
+    ensures leaves { Leaves hart (atomic_step word hart h.old state.old) h.new state.old state.new }
 {
     match word {
         Atomic::LoadReserved {
@@ -47,13 +40,8 @@ pub fn atomic(
             width,
             ordering,
         } => {
-            let target = Target {
-                rd,
-                address: h.reg(rs1),
-                width,
-                ordering,
-            };
-            reserve(h, pages, table, hart, target)
+            let target = target_of(h, rd, rs1, width, ordering);
+            reserve(h, state, hart, target)
         }
         Atomic::StoreConditional {
             rd,
@@ -62,14 +50,9 @@ pub fn atomic(
             width,
             ordering,
         } => {
-            let target = Target {
-                rd,
-                address: h.reg(rs1),
-                width,
-                ordering,
-            };
+            let target = target_of(h, rd, rs1, width, ordering);
             let value = h.reg(rs2);
-            conditional(h, pages, table, hart, target, value)
+            conditional(h, state, hart, target, value)
         }
         Atomic::Operation {
             operation,
@@ -79,35 +62,25 @@ pub fn atomic(
             width,
             ordering,
         } => {
-            let target = Target {
-                rd,
-                address: h.reg(rs1),
-                width,
-                ordering,
-            };
+            let target = target_of(h, rd, rs1, width, ordering);
             let operand = h.reg(rs2);
-            exchange(h, pages, table, hart, target, operation, operand)
+            exchange(h, state, hart, target, operation, operand)
         }
     }
 }
 
 /// An LR (manual, section 8.2).
-fn reserve(
-    h: &mut Hart,
-    pages: &Pages,
-    table: &mut Reservations,
-    hart: u32,
-    target: Target,
-) -> Stepped
-    requires { hart < length table.old }
-    ensures { Leaves hart (reserved_at target h.old pages.now.memory) result h.new pages.now pages.now table.old table.new }
+fn reserve(h: &mut Hart, state: &mut SharedState, hart: u32, target: Target) -> Stepped
+    requires { hart < length state.old.reservations }
+    ensures answer { result ≡ (reserved_at target h.old state.old).answer }
+    ensures leaves { Leaves hart (reserved_at target h.old state.old) h.new state.old state.new }
 {
     let width = width_of(target.width);
-    let read = match pages.read(target.address, width) {
+    let read = match state.pages.read(target.address, width) {
         Ok(read) => read,
         Err(fault) => return stop(h, stop_code(fault), 0),
     };
-    table.set(hart, target.address, width);
+    state.reservations.set(hart, target.address, width);
     let place = h.done;
     h.go_on(target.rd, sign_extended(width, read));
     Stepped::Done(Some(Access::LoadReserved {
@@ -122,26 +95,27 @@ fn reserve(
 /// An SC (manual, section 8.2): its fault comes before its reservation is looked at.
 fn conditional(
     h: &mut Hart,
-    pages: &mut Pages,
-    table: &mut Reservations,
+    state: &mut SharedState,
     hart: u32,
     target: Target,
     value: u64,
 ) -> Stepped
-    requires hart { hart < length table.old }
-    requires room { HasSpares 1 pages.old }
-    ensures { Leaves hart (conditional_at target value h.old pages.old.memory (entry table.old hart)) result h.new pages.old pages.new table.old table.new }
+    requires hart { hart < length state.old.reservations }
+    requires room { HasSpares 1 state.old.pages }
+    ensures answer { result ≡ (conditional_at target value hart h.old state.old).answer }
+    ensures leaves { Leaves hart (conditional_at target value hart h.old state.old)
+        h.new state.old state.new }
 {
     let store = Store {
         addr: target.address,
         width: width_of(target.width),
         value,
     };
-    if let Err(fault) = pages.check_store(store.addr, store.width) {
+    if let Err(fault) = state.pages.check_store(store.addr, store.width) {
         return stop(h, stop_code(fault), 0);
     }
-    if table.take(hart, store.addr, store.width) {
-        return succeed(h, pages, table, hart, target.rd, store, target.ordering);
+    if state.reservations.take(hart, store.addr, store.width) {
+        return succeed(h, state, hart, target.rd, store, target.ordering);
     }
     let place = h.done;
     h.go_on(target.rd, 1);
@@ -154,22 +128,23 @@ fn conditional(
     }))
 }
 
-/// An SC that finds its reservation (manual, section 8.2).
+/// An SC that found its reservation, which it has dropped (manual, section 8.2).
 fn succeed(
     h: &mut Hart,
-    pages: &mut Pages,
-    table: &mut Reservations,
+    state: &mut SharedState,
     hart: u32,
     rd: Reg,
     store: Store,
     ordering: AcquireRelease,
 ) -> Stepped
-    requires fault { store_fault pages.old.memory store.addr store.width ≡ None }
-    requires room { HasSpares 1 pages.old }
-    ensures { Succeeds hart rd store ordering result h.old h.new pages.old pages.new table.old table.new }
+    requires fault { store_fault state.old.pages.memory store.addr store.width ≡ None }
+    requires room { HasSpares 1 state.old.pages }
+    ensures answer { result ≡
+        (succeeded h.old rd store.addr store.width store.value ordering).answer }
+    ensures hart { h.new ≡ (succeeded h.old rd store.addr store.width store.value ordering).hart }
+    ensures stores { Stores hart store state.old state.new }
 {
-    apply(pages, store);
-    table.break_by(hart, store.addr, store.width);
+    put(state, hart, store);
     let place = h.done;
     h.go_on(rd, 0);
     Stepped::Done(Some(Access::StoreConditional {
@@ -184,31 +159,29 @@ fn succeed(
 /// An AMO (manual, section 8.4), tested as a store.
 fn exchange(
     h: &mut Hart,
-    pages: &mut Pages,
-    table: &mut Reservations,
+    state: &mut SharedState,
     hart: u32,
     target: Target,
     operation: AtomicOperation,
     operand: u64,
 ) -> Stepped
-    requires room { HasSpares 1 pages.old }
-    ensures { Leaves hart (exchanged_at target operation operand h.old pages.old.memory) result h.new pages.old pages.new table.old table.new }
+    requires { HasSpares 1 state.old.pages }
+    ensures answer { result ≡ (exchanged_at target operation operand h.old state.old).answer }
+    ensures leaves { Leaves hart (exchanged_at target operation operand h.old state.old)
+        h.new state.old state.new }
 {
     let width = width_of(target.width);
-    if let Err(fault) = pages.check_store(target.address, width) {
+    if let Err(fault) = state.pages.check_store(target.address, width) {
         return stop(h, stop_code(fault), 0);
     }
-    let old = pages.read(target.address, width).unwrap();
+    let old = state.pages.read(target.address, width).unwrap();
     let written = amo_value(operation, target.width, old, operand);
-    apply(
-        pages,
-        Store {
-            addr: target.address,
-            width,
-            value: written,
-        },
-    );
-    table.break_by(hart, target.address, width);
+    let store = Store {
+        addr: target.address,
+        width,
+        value: written,
+    };
+    put(state, hart, store);
     let place = h.done;
     h.go_on(target.rd, sign_extended(width, old));
     Stepped::Done(Some(Access::Atomic {
@@ -221,23 +194,17 @@ fn exchange(
     }))
 }
 
-/// A store that has no fault, where room is left.
-fn apply(pages: &mut Pages, store: Store)
-    requires fault { store_fault pages.old.memory store.addr store.width ≡ None }
-    requires room { HasSpares 1 pages.old }
-    ensures { TakesDirectly pages.old (store ∷ []) pages.new }
+/// Does a store of a hart, which has no fault, where room is left. It breaks the reservations of
+/// other harts (manual, section 8.2).
+fn put(state: &mut SharedState, hart: u32, store: Store)
+    requires fault { store_fault state.old.pages.memory store.addr store.width ≡ None }
+    requires room { HasSpares 1 state.old.pages }
+    ensures { Stores hart store state.old state.new }
 {
     // A store that has no fault lies in one of these pages.
-    let _pages = pages.count();
-    pages.apply(store);
-}
-
-/// A fence (manual, section 2.7), of which the phase itself keeps the order.
-pub fn fence(h: &mut Hart, before: FenceSet, after: FenceSet, mode: FenceMode) -> Stepped
-    ensures answer { result ≡ (fenced h.old before after mode).answer }
-    ensures hart { h.new ≡ (fenced h.old before after mode).hart }
-{
-    Stepped::Done(Some(h.pass_fence(before, after, mode)))
+    let _pages = state.pages.count();
+    state.pages.apply(store);
+    state.reservations.break_by(hart, store.addr, store.width);
 }
 
 /// A call of the environment: x17 is its number, x10 its argument and its answer.
@@ -245,8 +212,6 @@ pub fn call(h: &mut Hart, console: &mut Console, round: u32) -> Stepped
     requires { HasRoom 1 console.old }
     ensures answer { result ≡ (called round h.old console.old.console).answer }
     ensures hart { h.new ≡ (called round h.old console.old.console).hart }
-    ensures stores { (called round h.old console.old.console).stores ≡ [] }
-    ensures table { (i : ℕ) (table : List (Option SpanOf)) → answered_table i (called round h.old console.old.console).answer table ≡ table }
     ensures console { console.new.console ≡ (called round h.old console.old.console).console }
     ensures room { console.old.room ≤ console.new.room + 1 }
     ensures output { length console.old.console.output ≤ length console.new.console.output }

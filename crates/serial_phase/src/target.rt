@@ -1,10 +1,12 @@
 ghost use Rattle.std.specs.Prelude.{◌≡◌};
-ghost use Rattle.serial_phase.specs.Atomics.{width_of};
+ghost use Rattle.serial_phase.specs.Atomics.{target_of, width_of};
 
+use hart_step::Hart;
 use pages::Width;
 use rv64_decode::{AcquireRelease, AtomicWidth, Reg};
 
-/// The number in memory that an instruction of the A extension is about, and the register that gets its answer.
+/// The number in memory that an instruction of the A extension is about, and the register that gets
+/// its answer.
 #[derive(Clone, Copy)]
 pub struct Target {
     /// The register that gets the answer.
@@ -15,6 +17,24 @@ pub struct Target {
     pub width: AtomicWidth,
     /// What the access is ordered with (manual, section 8.1).
     pub ordering: AcquireRelease,
+}
+
+/// The number at the address in rs1.
+pub fn target_of(
+    h: &Hart,
+    rd: Reg,
+    rs1: Reg,
+    width: AtomicWidth,
+    ordering: AcquireRelease,
+) -> Target
+    ensures { result ≡ target_of h.now rd rs1 width ordering }
+{
+    Target {
+        rd,
+        address: h.reg(rs1),
+        width,
+        ordering,
+    }
 }
 
 /// The width of the access to a word, 4 bytes, or to a doubleword, 8 bytes.

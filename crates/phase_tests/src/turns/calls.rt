@@ -1,9 +1,10 @@
 ghost use Rattle.std.specs.Prelude.{◌≡◌, length};
+ghost use Rattle.hart_step.specs.CodeTables.{Shows};
 
-use super::{Shared, begin, hart, turns};
+use super::{begin, hart, turns};
 use hart_step::{Hart, Stop};
 use pages::OutOfMemory;
-use serial_phase::Console;
+use serial_phase::{Console, SharedState};
 use std::alloc::Global;
 use std::test::Fail;
 
@@ -58,9 +59,11 @@ fn the_exit_call(rt: HostRuntime) -> Result<(), Fail> {
 }
 
 /// The answers of three harts, of which the first and the last take a byte, and the second puts a Z.
-fn answers(alloc: Global, shared: &mut Shared) -> Result<[u64; 3], OutOfMemory>
-    requires { length shared.old.table ≡ 3 }
-    ensures { length shared.new.table ≡ 3 }
+fn answers(alloc: Global, shared: &mut SharedState) -> Result<[u64; 3], OutOfMemory>
+    requires shows { Shows shared.old.pages.memory shared.old.code.first shared.old.code.instructions }
+    requires size { length shared.old.reservations ≡ 3 }
+    ensures shows { Shows shared.new.pages.memory shared.new.code.first shared.new.code.instructions }
+    ensures size { length shared.new.reservations ≡ 3 }
 {
     let mut harts = [caller(2, 0), caller(1, 0x5a), caller(2, 0)];
     turns(alloc, shared, &mut harts, 0b111, 1)?;

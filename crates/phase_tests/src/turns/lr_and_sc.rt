@@ -62,7 +62,7 @@ fn a_store_of_a_turn_breaks_reservations(rt: HostRuntime) -> Result<(), Fail> {
         (2, false, [fence, store].as_slice()),
     ] {
         let mut shared = begin(rt.alloc(), [FENCE, STORE, 0, 0], 2, &[])?;
-        shared.table.set(0, 0x100, Width::W8);
+        shared.reservations.set(0, 0x100, Width::W8);
         let mut harts = [hart(0, 0, 0), hart(0, 0x100, 5)];
         turns(rt.alloc(), &mut shared, &mut harts, 0b10, budget)?;
         assert_eq!(rt; shared.log.events(1), events);
@@ -71,7 +71,7 @@ fn a_store_of_a_turn_breaks_reservations(rt: HostRuntime) -> Result<(), Fail> {
             shared.pages.read(0x100, Width::W8),
             Ok(if kept { 0 } else { 5 })
         );
-        assert_eq!(rt; shared.table.take(0, 0x100, Width::W8), kept);
+        assert_eq!(rt; shared.reservations.take(0, 0x100, Width::W8), kept);
     }
     Ok(())
 }
@@ -105,7 +105,7 @@ fn a_pair_succeeds_once(rt: HostRuntime) -> Result<(), Fail> {
     assert_eq!(rt; shared.log.events(0), [conditional(2, None)].as_slice());
     assert_eq!(rt; shared.pages.read(0x100, Width::W8), Ok(0x1234));
     assert_eq!(rt; (harts[0].pc, harts[0].x[7], harts[0].done), (12, 1, 3));
-    assert!(rt; !shared.table.take(0, 0x100, Width::W8));
+    assert!(rt; !shared.reservations.take(0, 0x100, Width::W8));
     Ok(())
 }
 
@@ -116,7 +116,7 @@ fn sc_after_a_committed_store_of_another_hart(rt: HostRuntime) -> Result<(), Fai
         let mut shared = begin(rt.alloc(), [RESERVE, CONDITIONAL, 0, 0], 2, &[])?;
         let mut harts = [hart(0, 0x100, 9), hart(0, 0, 0)];
         turns(rt.alloc(), &mut shared, &mut harts, 1, 1)?;
-        shared.table.break_by(writer, address, Width::W1);
+        shared.reservations.break_by(writer, address, Width::W1);
         harts[0].x[6] = 9;
         turns(rt.alloc(), &mut shared, &mut harts, 1, 1)?;
         assert_eq!(rt; harts[0].x[7], code);
@@ -138,13 +138,13 @@ fn sc_drops_the_reservation_unless_it_stops(rt: HostRuntime) -> Result<(), Fail>
         (0x104, CONDITIONAL, Some(Stop { code: 7, value: 0 }), true),
     ] {
         let mut shared = begin(rt.alloc(), [word, 0, 0, 0], 1, &[])?;
-        shared.table.set(0, 0x100, Width::W8);
+        shared.reservations.set(0, 0x100, Width::W8);
         let mut harts = [hart(0, address, 9)];
         turns(rt.alloc(), &mut shared, &mut harts, 1, 1)?;
         assert_eq!(rt; harts[0].stop, stop);
         assert_eq!(rt; harts[0].x[7], if kept { 0 } else { 1 });
         assert_eq!(rt; shared.pages.read(0x100, Width::W8), Ok(0));
-        assert_eq!(rt; shared.table.take(0, 0x100, Width::W8), kept);
+        assert_eq!(rt; shared.reservations.take(0, 0x100, Width::W8), kept);
     }
     Ok(())
 }
@@ -155,8 +155,8 @@ fn three_harts_add(rt: HostRuntime) -> Result<(), Fail> {
     let mut shared = begin(rt.alloc(), [STORE, ADD_WORD, 0, 0], 3, &[])?;
     let mut first = [hart(0, 0x100, 0x7fff_ffff), hart(4, 0, 0), hart(4, 0, 0)];
     turns(rt.alloc(), &mut shared, &mut first, 0b001, 1)?;
-    shared.table.set(0, 0x100, Width::W4);
-    shared.table.set(1, 0x104, Width::W4);
+    shared.reservations.set(0, 0x100, Width::W4);
+    shared.reservations.set(1, 0x104, Width::W4);
     let mut harts = [hart(4, 0x100, 1), hart(4, 0x100, 1), hart(4, 0x100, 1)];
     turns(rt.alloc(), &mut shared, &mut harts, 0b111, 1)?;
     for (hart, before) in harts.iter().zip([
@@ -177,7 +177,7 @@ fn three_harts_add(rt: HostRuntime) -> Result<(), Fail> {
     assert_eq!(rt; shared.log.events(1), [added(0x8000_0000)].as_slice());
     assert_eq!(rt; shared.pages.read(0x100, Width::W8), Ok(0x8000_0002));
     // an AMO of another hart breaks, one beside does not
-    assert!(rt; !shared.table.take(0, 0x100, Width::W4));
-    assert!(rt; shared.table.take(1, 0x104, Width::W4));
+    assert!(rt; !shared.reservations.take(0, 0x100, Width::W4));
+    assert!(rt; shared.reservations.take(1, 0x104, Width::W4));
     Ok(())
 }

@@ -6,10 +6,12 @@ same_ok : {T E : Type 0} (r : Result T E) (a b : T) → r ≡ Ok a → r ≡ Ok 
 same_ok r a b e f = cc
 
 pub unwrap-old-requires : goal.unwrap-old-requires
-unwrap-old-requires c = ap is_ok (c.read.ensures.value ∙ loaded_too c.args.pages.now.memory c.args.target.address c.width_of-width.result c.in_default.ensures)
+unwrap-old-requires c = ap is_ok (c.read.ensures.value ∙ loaded_too c.args.state.now.pages.memory c.args.target.address c.width_of-width.result c.in_default.ensures)
 
 pub returns : goal.returns
-returns c = left_exchanged c.args.hart c.args.target c.args.operation c.args.operand c.width_of-width.result c.args.h.now c.go_on.new.self c.args.pages.now c.apply.new.pages _ _ c.unwrap-old.result c.amo_value-written.result c.sign_extended.result
-    c.width_of-width.ensures c.in_default.ensures
-    (same_ok _ _ _ c.unwrap-old.ensures (c.read.ensures.value ∙ loaded_too c.args.pages.now.memory c.args.target.address c.width_of-width.result c.in_default.ensures))
-    c.amo_value-written.ensures c.sign_extended.ensures c.go_on.ensures c.apply.ensures c.break_by.ensures
+returns c =
+    let l = left_exchanged c.args.hart c.args.target c.args.operation c.args.operand c.width_of-width.result c.args.h.now c.go_on.new.self c.args.state.now c.put.new.state
+    c.unwrap-old.result c.amo_value-written.result c.sign_extended.result c.width_of-width.ensures c.in_default.ensures
+    (same_ok _ _ _ c.unwrap-old.ensures (c.read.ensures.value ∙ loaded_too c.args.state.now.pages.memory c.args.target.address c.width_of-width.result c.in_default.ensures))
+    c.amo_value-written.ensures c.sign_extended.ensures c.go_on.ensures c.put.ensures in
+    record { answer = l.0; leaves = l.1 }

@@ -3,5 +3,7 @@ use Rattle.serial_phase.proofs.ServedWords.{left_reserved}
 use Rattle.serial_phase.proofs.serving.reserve.Goals as goal
 
 pub returns : goal.returns
-returns c = left_reserved c.args.hart c.args.target c.width_of-width.result c.args.h.now c.go_on.new.self c.args.pages.now _ _ c.in-Ok.read c.sign_extended.result
-    c.width_of-width.ensures (sym c.read.ensures.value ∙ c.in-Ok.is) c.sign_extended.ensures c.go_on.ensures c.set.ensures
+returns c =
+    let l = left_reserved c.args.hart c.args.target c.width_of-width.result c.args.h.now c.go_on.new.self c.args.state.now c.set.new.self c.in-Ok.read c.sign_extended.result
+    c.width_of-width.ensures (sym c.read.ensures.value ∙ c.in-Ok.is) c.sign_extended.ensures c.go_on.ensures c.set.ensures in
+    record { answer = l.0; leaves = l.1 }

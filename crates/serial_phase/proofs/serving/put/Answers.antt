@@ -1,0 +1,15 @@
+use Rattle.std.proofs.Common.{refl}
+use Rattle.serial_phase.proofs.ServedWords.{room_for, taken}
+use Rattle.serial_phase.proofs.serving.put.Goals as goal
+
+pub apply-requires-clause-room : goal.apply-requires-clause-room
+apply-requires-clause-room c = room_for c.args.state.now.pages c.args.store _ c.requires.fault c.count-pages.ensures.pages c.count-pages.ensures.bytes c.requires.room
+
+pub returns : goal.returns
+returns c = record {
+  pages = taken c.args.state.now.pages c.apply.new.self c.args.store _ c.requires.fault c.count-pages.ensures.pages c.count-pages.ensures.bytes c.apply.ensures;
+  table = c.break_by.ensures;
+  console = refl;
+  code = refl;
+  log = refl;
+}
