@@ -1,6 +1,6 @@
 //! The command line as `clap` is told it.
-ghost use Rattle.std.specs.Prelude.{◌≡◌, IfOk, false};
-ghost use Rattle.clap.specs.Words.{app_of};
+ghost use Rattle.std.specs.Prelude.{◌≡◌, IfOk, IsOkAnd, false};
+ghost use Rattle.clap.specs.Words.{AddsSubcommand, app_of};
 ghost use Rattle.clap.specs.declared.builder.command.Command.TheViews.{out-Command};
 ghost use Rattle.command_line.specs.Options.{bare_app, dethart_app, hunting_commands, run_commands, with_commands, with_recording_commands};
 
@@ -20,9 +20,9 @@ pub(crate) fn dethart_command<'a>(alloc: Global) -> Result<Command<'a>, AllocErr
     ensures app { IfOk result (λ command. app_of command ≡ dethart_app) }
     ensures local { IfOk result (λ command. (out-Command command).has_globals ≡ false) }
 {
-    with_hunting_commands(alloc)?
-        .subcommand(plan_command(alloc)?)?
-        .subcommand(draw_command(alloc)?)
+    let hunting = with_hunting_commands(alloc);
+    let planning = with_subcommand(hunting, plan_command(alloc));
+    with_subcommand(planning, draw_command(alloc))
 }
 
 /// The command without those that are neither of runs nor of recordings nor of hunts.
@@ -30,10 +30,10 @@ fn with_hunting_commands<'a>(alloc: Global) -> Result<Command<'a>, AllocError>
     ensures app { IfOk result (λ command. app_of command ≡ with_commands with_recording_commands hunting_commands) }
     ensures local { IfOk result (λ command. (out-Command command).has_globals ≡ false) }
 {
-    with_recording_commands(alloc)?
-        .subcommand(hunt_command(alloc)?)?
-        .subcommand(shrink_command(alloc)?)?
-        .subcommand(merge_command(alloc)?)
+    let recording = with_recording_commands(alloc);
+    let hunting = with_subcommand(recording, hunt_command(alloc));
+    let shrinking = with_subcommand(hunting, shrink_command(alloc));
+    with_subcommand(shrinking, merge_command(alloc))
 }
 
 /// The command with the subcommands of runs and recordings.
@@ -41,10 +41,10 @@ fn with_recording_commands<'a>(alloc: Global) -> Result<Command<'a>, AllocError>
     ensures app { IfOk result (λ command. app_of command ≡ with_recording_commands) }
     ensures local { IfOk result (λ command. (out-Command command).has_globals ≡ false) }
 {
-    with_run_commands(alloc)?
-        .subcommand(replay_command(alloc)?)?
-        .subcommand(watch_command(alloc)?)?
-        .subcommand(migrate_command(alloc)?)
+    let running = with_run_commands(alloc);
+    let replaying = with_subcommand(running, replay_command(alloc));
+    let watching = with_subcommand(replaying, watch_command(alloc));
+    with_subcommand(watching, migrate_command(alloc))
 }
 
 /// The command with the subcommands that run a program by one plan.
@@ -52,10 +52,19 @@ fn with_run_commands<'a>(alloc: Global) -> Result<Command<'a>, AllocError>
     ensures app { IfOk result (λ command. app_of command ≡ with_commands bare_app run_commands) }
     ensures local { IfOk result (λ command. (out-Command command).has_globals ≡ false) }
 {
-    bare_command(alloc)
-        .subcommand(run_command(alloc)?)?
-        .subcommand(order_command(alloc)?)?
-        .subcommand(record_command(alloc)?)
+    let running = with_subcommand(Ok(bare_command(alloc)), run_command(alloc));
+    let ordering = with_subcommand(running, order_command(alloc));
+    with_subcommand(ordering, record_command(alloc))
+}
+
+/// The command with one more subcommand, if there was memory for both.
+fn with_subcommand<'a>(
+    command: Result<Command<'a>, AllocError>,
+    subcommand: Result<Command<'a>, AllocError>,
+) -> Result<Command<'a>, AllocError>
+    ensures { IfOk result (λ new. IsOkAnd command.entry (λ old. IsOkAnd subcommand.entry (λ sub. AddsSubcommand old sub new))) }
+{
+    command?.subcommand(subcommand?)
 }
 
 /// The command without its subcommands.

@@ -1,18 +1,19 @@
+use Rattle.std.proofs.Common.{[], ◌∷◌}
 use Rattle.std.specs.Prelude.{IfOk}
-use Rattle.command_line.specs.Options.{bare_app, run_commands, with_commands, with_recording_commands}
-use Rattle.command_line.proofs.Chains.{Stands, last_command, local_at, one_command, shape_at}
+use Rattle.command_line.specs.Options.{bare_app, migrate_app, replay_app, run_commands, watch_app, with_commands, with_recording_commands}
+use Rattle.command_line.proofs.Chains.{Stands, local_at, shape_at, stands_at, with_one}
 use Rattle.command_line.proofs.options.with_recording_commands.Goals as goal
-use Rattle.command_line.proofs.options.with_recording_commands.Goals.{After-subcommand-3}
+use Rattle.command_line.proofs.options.with_recording_commands.Goals.{After-with_subcommand}
 
-stands : (c : After-subcommand-3) → IfOk c.subcommand-3.result (λ command. Stands command with_recording_commands)
+stands : (c : After-with_subcommand) → IfOk c.with_subcommand.result (λ command. Stands command with_recording_commands)
 stands c =
-    let s0 : Stands c.in_ok-with_run_commands.field-0 (with_commands bare_app run_commands) = record { shape = c.in_ok-with_run_commands.ensures.app; local = c.in_ok-with_run_commands.ensures.local } in
-    let s1 = one_command _ _ c.in_ok-subcommand.field-0 _ _ s0 c.in_ok-replay_command.ensures.app c.in_ok-replay_command.ensures.local c.in_ok-subcommand.ensures in
-    let s2 = one_command _ _ c.in_ok-subcommand-2.field-0 _ _ s1 c.in_ok-watch_command.ensures.app c.in_ok-watch_command.ensures.local c.in_ok-subcommand-2.ensures in
-    last_command _ _ c.subcommand-3.result _ _ s2 c.in_ok-migrate_command.ensures.app c.in_ok-migrate_command.ensures.local c.subcommand-3.ensures
+    let s0 = stands_at c.with_run_commands-running.result (with_commands bare_app run_commands) c.with_run_commands-running.ensures.app c.with_run_commands-running.ensures.local in
+    let s1 = with_one c.with_run_commands-running.result c.replay_command.result c.with_subcommand-replaying.result (with_commands bare_app run_commands) replay_app s0 (stands_at c.replay_command.result replay_app c.replay_command.ensures.app c.replay_command.ensures.local) c.with_subcommand-replaying.ensures in
+    let s2 = with_one c.with_subcommand-replaying.result c.watch_command.result c.with_subcommand-watching.result (with_commands (with_commands bare_app run_commands) (replay_app ∷ [])) watch_app s1 (stands_at c.watch_command.result watch_app c.watch_command.ensures.app c.watch_command.ensures.local) c.with_subcommand-watching.ensures in
+    with_one c.with_subcommand-watching.result c.migrate_command.result c.with_subcommand.result (with_commands (with_commands bare_app run_commands) (replay_app ∷ watch_app ∷ [])) migrate_app s2 (stands_at c.migrate_command.result migrate_app c.migrate_command.ensures.app c.migrate_command.ensures.local) c.with_subcommand.ensures
 
 pub returns-clause-app : goal.returns-clause-app
-returns-clause-app c = shape_at c.subcommand-3.result with_recording_commands (stands (goal.at.returns-clause-app c).After-subcommand-3)
+returns-clause-app c = shape_at c.with_subcommand.result with_recording_commands (stands (goal.at.returns-clause-app c).After-with_subcommand)
 
 pub returns-clause-local : goal.returns-clause-local
-returns-clause-local c = local_at c.subcommand-3.result with_recording_commands (stands (goal.at.returns-clause-local c).After-subcommand-3)
+returns-clause-local c = local_at c.with_subcommand.result with_recording_commands (stands (goal.at.returns-clause-local c).After-with_subcommand)
