@@ -3,6 +3,8 @@
 ghost use Rattle.std.specs.Prelude.{◌≡◌, ◌%◌, ◌<◌, ◌≤◌};
 ghost use Rattle.pages.specs.Memory.{width_bytes};
 
+use crate::loads::{are_read, are_read_over};
+use pages::Width::{W1, W2, W4, W8};
 use pages::{Fault, OutOfMemory, Pages, Piece, Store, Width};
 use std::alloc::Global;
 use std::test::Fail;
@@ -17,64 +19,91 @@ fn memory(alloc: Global) -> Result<Pages, OutOfMemory> {
     Pages::new(alloc, 1, &[piece], &[])
 }
 
+/// What loads give with nothing stored.
+static STORED_NOTHING: [(u64, Width, Result<u64, Fault>); 2] = [
+    (0x100, W8, Ok(0x8877_6655_4433_2211)),
+    (0x102, W2, Ok(0x4433)),
+];
+
+/// The same after a byte aa at 0x103.
+static STORED_A_BYTE: [(u64, Width, Result<u64, Fault>); 6] = [
+    (0x100, W8, Ok(0x8877_6655_aa33_2211)),
+    (0x102, W2, Ok(0xaa33)),
+    (0x104, W4, Ok(0x8877_6655)),
+    (0x103, W1, Ok(0xaa)),
+    (0x103, W2, Err(Fault::LoadMisaligned)),
+    (0x1000, W8, Err(Fault::LoadOutside)),
+];
+
 #[test]
 fn bytes_over_memory(rt: HostRuntime) -> Result<(), Fail> {
     let p = memory(rt.alloc())?;
     let mut buffer = StoreBuffer::new(rt.alloc());
-    assert!(rt; buffer.read_over(&p, 0x100, Width::W8) == Ok(0x8877_6655_4433_2211));
+    assert!(rt; are_read_over(&buffer, &p, STORED_NOTHING.as_slice()));
     buffer.put(Store {
         addr: 0x103,
-        width: Width::W1,
+        width: W1,
         value: 0xaa,
     })?;
-    assert!(rt; buffer.read_over(&p, 0x100, Width::W8) == Ok(0x8877_6655_aa33_2211));
-    assert!(rt; buffer.read_over(&p, 0x102, Width::W2) == Ok(0xaa33));
-    assert!(rt; buffer.read_over(&p, 0x104, Width::W4) == Ok(0x8877_6655));
-    assert!(rt; buffer.read_over(&p, 0x103, Width::W1) == Ok(0xaa));
-    assert!(rt; buffer.read_over(&p, 0x103, Width::W2) == Err(Fault::LoadMisaligned));
-    assert!(rt; buffer.read_over(&p, 0x1000, Width::W8) == Err(Fault::LoadOutside));
+    assert!(rt; are_read_over(&buffer, &p, STORED_A_BYTE.as_slice()));
     buffer.put(Store {
         addr: 0x100,
-        width: Width::W8,
+        width: W8,
         value: 0x1020_3040_5060_7080,
     })?;
-    assert!(rt; buffer.read_over(&p, 0x100, Width::W8) == Ok(0x1020_3040_5060_7080));
-    assert!(rt; p.read(0x100, Width::W8) == Ok(0x8877_6655_4433_2211));
+    assert!(rt; are_read_over(&buffer, &p, &[(0x100, W8, Ok(0x1020_3040_5060_7080))]));
+    assert!(rt; are_read(&p, STORED_NOTHING.as_slice()));
     buffer.clear();
-    assert!(rt; buffer.is_empty() && buffer.read_over(&p, 0x102, Width::W2) == Ok(0x4433));
+    assert!(rt; buffer.is_empty() && are_read_over(&buffer, &p, STORED_NOTHING.as_slice()));
     Ok(())
 }
 
-#[test]
-fn bytes_as_stores(rt: HostRuntime) -> Result<(), Fail> {
-    let mut buffer = StoreBuffer::new(rt.alloc());
-    assert!(rt; buffer.is_empty() && buffer.stores().next().is_none());
+/// The buffer of a doubleword at 0x40, and a byte before it.
+fn two_stores(alloc: Global) -> Result<StoreBuffer, OutOfMemory> {
+    let mut buffer = StoreBuffer::new(alloc);
     buffer.put(Store {
         addr: 0x40,
-        width: Width::W8,
+        width: W8,
         value: 0x1122_3344_5566_7788,
     })?;
     buffer.put(Store {
         addr: 0x3f,
-        width: Width::W1,
+        width: W1,
         value: 0xaa,
     })?;
+    Ok(buffer)
+}
+
+/// The bytes from 0x3f on.
+static BYTES: [u64; 9] = [0xaa, 0x88, 0x77, 0x66, 0x55, 0x44, 0x33, 0x22, 0x11];
+
+#[test]
+fn bytes_as_stores(rt: HostRuntime) -> Result<(), Fail> {
+    let none = StoreBuffer::new(rt.alloc());
+    assert!(rt; none.is_empty() && none.stores().next().is_none());
+    let buffer = two_stores(rt.alloc())?;
     let mut given = buffer.stores();
-    let bytes = [0xaa, 0x88, 0x77, 0x66, 0x55, 0x44, 0x33, 0x22, 0x11];
-    for (k, byte) in bytes.iter().enumerate() {
+    for (k, byte) in BYTES.iter().enumerate() {
         let want = Store {
             addr: 0x3f + k as u64,
-            width: Width::W1,
+            width: W1,
             value: *byte,
         };
         assert!(rt; given.next() == Some(want));
     }
     assert!(rt; given.next().is_none() && !buffer.is_empty());
+    Ok(())
+}
+
+#[test]
+fn bytes_as_lines(rt: HostRuntime) -> Result<(), Fail> {
+    let buffer = two_stores(rt.alloc())?;
     let mut lines = buffer.lines();
-    let (start, line) = lines.next().ok_or("no line")?;
-    assert!(rt; start == 0 && line.mask == 1 << 63 && line.bytes[63] == 0xaa);
-    let (start, line) = lines.next().ok_or("no second line")?;
-    assert!(rt; start == 0x40 && line.mask == 0xff && line.bytes[0] == 0x88);
+    for (wanted, mask, place, byte) in [(0, 1 << 63, 63, 0xaa), (0x40, 0xff, 0, 0x88)] {
+        let (start, line) = lines.next().ok_or("no line")?;
+        assert!(rt; start == wanted && line.mask == mask);
+        assert!(rt; line.bytes.get(place).copied() == Some(byte));
+    }
     assert!(rt; lines.next().is_none());
     Ok(())
 }

@@ -7,4 +7,8 @@ mod buffered;
 #[cfg(test)]
 mod guest_memory;
 #[cfg(test)]
+mod loads;
+#[cfg(test)]
 mod reserved;
+#[cfg(test)]
+mod sparse;
