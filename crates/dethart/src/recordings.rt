@@ -11,7 +11,7 @@ use hart_step::Hart;
 use host_io::{RunError, Sink, WriteSink, put_all};
 use pages::Range;
 use replayer::{
-    Recording, Verdict, count_at, migrate, record_observed, replay_observed, state_at,
+    Recording, Rounds, Verdict, count_at, migrate, record_observed, replay_observed, state_at,
     state_before, watch_rounds,
 };
 use report::{write_event, write_hart};
@@ -194,8 +194,10 @@ pub(crate) fn write_watch<R: Threads + Wait + Sync, W: Write>(
         rt.alloc(),
         &recording,
         &ranges,
-        asked.from.unwrap_or(0),
-        asked.to.unwrap_or(u32::MAX),
+        Rounds {
+            first: asked.from.unwrap_or(0),
+            last: asked.to.unwrap_or(u32::MAX),
+        },
         asked.workers,
         &mut progress,
     );

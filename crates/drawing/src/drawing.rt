@@ -1,11 +1,8 @@
-ghost use Rattle.std.specs.Prelude.{◌≡◌, ◌⊎◌, ◌<◌, ◌++◌, Some, None, Err, IfErr, OnOk, OnErr};
-ghost use Rattle.elf_loader.specs.declared.load_error.LoadError.{LoadError as ImageCause};
+ghost use Rattle.std.specs.Prelude.{◌≡◌, ◌⊎◌, ◌<◌, ◌++◌, None, IfErr, OnOk, OnErr};
 ghost use Rattle.round_planner.specs.Quotas.{Planned};
-ghost use Rattle.round_planner.specs.declared.plan_error.PlanError.{PlanError as PlanCause};
 ghost use Rattle.host_io.specs.Taken.{BeganText};
-ghost use Rattle.host_io.specs.declared.error.RunError.{RunError as Refusal};
 ghost use Rattle.host_io.specs.declared.error.RunError.TheVariants as refusals;
-ghost use Rattle.machine.specs.Settings.{IsImage, IsImageCause, IsPlan, IsPlanCause, IsReason, RefusedAs, settings_fault};
+ghost use Rattle.machine.specs.Settings.{IsPlan, IsReason, RefusedInOrder, settings_fault};
 ghost use Rattle.drawing.specs.Drawn.{picture_after};
 
 use host_io::{RunError, Sink};
@@ -38,13 +35,10 @@ pub fn draw_run<S: Sink, O: Observer, R: Threads + Wait + Sync>(
     ensures begun { OnErr result ((S.took out.new ≡ S.took out.old) ⊎ ((plan : Planned) × IsPlan settings.now plan × BeganText (S.took out.old) (S.took out.new) (picture_after settings.now image.now input.now plan view.now))) }
     // Where anything else than the sink refuses, it took nothing.
     ensures untouched { IfErr result (λ e. (e ≡ refusals.SinkFailed) ⊎ (S.took out.new ≡ S.took out.old)) }
-    // Numbers out of range are refused first.
-    ensures settings { (e : Refusal) → settings_fault settings.now ≡ Some e → result ≡ Err e }
+    // Numbers out of range are refused first, then an image, and then a plan.
+    ensures in_order { RefusedInOrder settings.now image.now result }
     // What is refused then is for a reason that stands.
     ensures errors { settings_fault settings.now ≡ None → IfErr result (λ e. IsReason settings.now image.now e ⊎ ((e ≡ refusals.SinkFailed) × (S.failures out.old < S.failures out.new))) }
-    ensures image { (cause : ImageCause) → settings_fault settings.now ≡ None → IsImageCause settings.now image.now cause → RefusedAs (refusals.Image cause) result }
-    // A plan is refused where the image is good.
-    ensures plan { (cause : PlanCause) → settings_fault settings.now ≡ None → IsImage settings.now image.now → IsPlanCause settings.now cause → RefusedAs (refusals.Plan cause) result }
 {
     let mut machine = prepare(alloc, image, input, settings)?;
     machine.run_observed(rt, settings.rounds, settings.workers, observer)?;

@@ -29,7 +29,9 @@ use Rattle.hart_step.specs.Words.{words_of}
 use Rattle.parallel_phase.proofs.HartRounds.{indexed}
 use Rattle.hart_step.proofs.Soundness.{counts_done, sound}
 use Rattle.machine.specs.declared.outcome.Outcome.{Outcome}
+use Rattle.machine.specs.declared.asked_turn.TurnPlace.{TurnPlace}
 use Rattle.machine.specs.Asked.{found_by, found_in}
+use Rattle.machine.specs.Guests.{Shared}
 use Rattle.machine.specs.Outcomes.{AreOutcomes, IsOutcome}
 use Rattle.machine.proofs.Listed.{same_length}
 use Rattle.machine.proofs.RoundDone.{length-rounds}
@@ -96,6 +98,13 @@ found_is budget count h xs d e t few = by_tests budget count (minus d.hart.done 
 wrapped : (a b : ℕ) → a < 2 ^ 64 → b < 2 ^ 64 → b ≡ (a + minus b a) % 2 ^ 64
 wrapped a b x y = omega arith
 
+-- what the harts share in a state, and a place in a turn of its next round
+abbrev pub shared_by : List Range → State Hart ConsoleState → List (Option Span) → Shared
+shared_by code s table = record { memory = record { bytes = s.bytes; code = code }; table = table; console = s.console }
+
+abbrev pub place_by : ℕ → State Hart ConsoleState → ℕ → ℕ → TurnPlace
+place_by budget s i count = record { hart = i; round = s.rounds + 1; budget = budget; count = count }
+
 -- what is found of a hart that begins the round as h: its part of the parallel phase ended as g, after so many instructions
 pub record AskedAt (code : List Range) (budget : ℕ) (quotas : ℕ → List ℕ) (s : State Hart ConsoleState) (table : List (Option Span)) (i count done : ℕ) (h g : Hart) (waits : Bool) : Type 0 where
   pub few : done ≤ 1000000
@@ -104,7 +113,7 @@ pub record AskedAt (code : List Range) (budget : ℕ) (quotas : ℕ → List ℕ
   pub beyond : waits ≡ false → done < count → hart_after (words_of code) budget quotas s i count ≡ None
   pub over : done + budget < count → hart_after (words_of code) budget quotas s i count ≡ None
   pub in_turn : waits ≡ true → done ≤ count → count - done ≤ budget →
-      hart_after (words_of code) budget quotas s i count ≡ found_in (record { bytes = s.bytes; code = code }) budget (s.rounds + 1) i (count - done) g (hart_rounds (words_of code) s.bytes (quotas s.rounds) s.harts) table s.console
+      hart_after (words_of code) budget quotas s i count ≡ found_in (shared_by code s table) (place_by budget s i (count - done)) g (hart_rounds (words_of code) s.bytes (quotas s.rounds) s.harts)
 
 module _ (code : List Range) (budget : ℕ) (quotas : ℕ → List ℕ) (s : State Hart ConsoleState) (table : List (Option Span)) (i count : ℕ) (h : Hart)
     (tied : Tied table s.trace) (size : length table ≡ length s.harts) (bytes : IsBytes s.bytes) (there : slice_get s.harts i ≡ Some h) (low_i : i < length s.harts)
@@ -137,7 +146,7 @@ module _ (code : List Range) (budget : ℕ) (quotas : ℕ → List ℕ) (s : Sta
   by_round = hart_asked W (λ (g : Hart). g.done) (counts_done code) budget quotas s i count k h there (omega (arith, quota_low)) low k_low (wrapped h.done part.last.hart.done low part_low)
 
   by_turn : part.waits ≡ true → k ≤ count → count - k ≤ budget →
-      hart_after W budget quotas s i count ≡ found_in (record { bytes = s.bytes; code = code }) budget (s.rounds + 1) i (count - k) part.last.hart (hart_rounds W s.bytes (quotas s.rounds) s.harts) table s.console
+      hart_after W budget quotas s i count ≡ found_in (shared_by code s table) (place_by budget s i (count - k)) part.last.hart (hart_rounds W s.bytes (quotas s.rounds) s.harts)
   by_turn w le few =
       let rs = hart_rounds W s.bytes (quotas s.rounds) s.harts in
       let d : Desk Hart ConsoleState = desk_there W budget s rs table i part.last.hart (count - k) in

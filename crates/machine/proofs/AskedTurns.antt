@@ -16,7 +16,11 @@ use Rattle.hart_step.specs.Words.{words_of}
 use Rattle.serial_phase.specs.Phase.{HasBytes, TakesTurn, turn_done}
 use Rattle.serial_phase.specs.Roomed.{HasRoom, Roomed}
 use Rattle.serial_phase.specs.Turns.{Turns}
+use Rattle.serial_phase.specs.declared.shared.SharedState.{SharedState}
+use Rattle.serial_phase.specs.declared.shared.Turn.{Turn}
+use Rattle.machine.specs.declared.asked_turn.TurnPlace.{TurnPlace}
 use Rattle.machine.specs.declared.outcome.Outcome.{Outcome}
+use Rattle.machine.specs.Guests.{Shared}
 use Rattle.machine.specs.Asked.{HadTurns, LeftBy, desk_begun, found, found_at, found_in, one_further, ready_for_turns}
 use Rattle.machine.specs.Outcomes.{AreOutcomes, turns_of, waits_of}
 
@@ -37,27 +41,39 @@ same_room n m c e h = subst (λ (k : ℕ). HasRoom k c) (sym e) h
 same_bytes : (p q r : Paged) (bs cs : List ℕ) → HasBytes p bs q → HasBytes q cs r → HasBytes p cs r
 same_bytes p q r bs cs a b = record { bytes = b.bytes; code = b.code ∙ a.code; count = b.count ∙ a.count; stays = λ page h. b.stays page (a.stays page h) }
 
-no_turns : (budget n first : ℕ) (p : Paged) (t : List (Option Span)) (c : Roomed) → HadTurns budget n first [] p p t t c c
-no_turns budget n first p t c m [] s a eb ec et = record { pages = record { bytes = sym eb; code = refl; count = refl; stays = λ page h. h }; table = sym et; console = sym ec }
-no_turns budget n first p t c m (r ∷ rs) s a eb ec et = absurd a
+no_turns : (turn : Turn) (s : SharedState) → HadTurns turn [] s s
+no_turns turn s m [] c a eb ec et = record { pages = record { bytes = sym eb; code = refl; count = refl; stays = λ page h. h }; table = sym et; console = sym ec }
+no_turns turn s m (r ∷ rs) c a eb ec et = absurd a
 
-turns_more : (budget n first : ℕ) (o : Outcome) (os : List Outcome) (p p' q : Paged) (t t' u : List (Option Span)) (c c' d : Roomed) (h : Hart) (l k : Turns) →
-    TakesTurn (turn_done n first (cond o.waits budget 0) o.hart p t c) h p p' t' c' l k → HadTurns budget n (suc first) os p' q t' u c' d → HadTurns budget n first (o ∷ os) p q t u c d
-turns_more budget n first o os p p' q t t' u c c' d h l k x y m [] s a eb ec et = absurd a
-turns_more budget n first o os p p' q t t' u c c' d h l k x y m (r ∷ rs) s a eb ec et =
-    let W = words_of p.memory.code in
+-- the turn of a hart with this outcome, and the one of the next hart
+abbrev pub turn_for : Turn → Outcome → Turn
+turn_for turn o = record turn { budget = cond o.waits turn.budget 0 }
+
+abbrev pub next_turn : Turn → Turn
+next_turn turn = record turn { hart = turn.hart + 1 }
+
+turns_more : (turn : Turn) (o : Outcome) (os : List Outcome) (s s' u : SharedState) (k : Turns) (h : Hart) →
+    TakesTurn (turn_done (turn_for turn o) o.hart s) h s s' → HadTurns (next_turn turn) os (record s' { log = k }) u → HadTurns turn (o ∷ os) s u
+turns_more turn o os s s' u k h x y m [] c a eb ec et = absurd a
+turns_more turn o os s s' u k h x y m (r ∷ rs) c a eb ec et =
+    let n = turn.round in
+    let first = turn.hart in
+    let budget = turn.budget in
+    let W = words_of s.pages.memory.code in
     let desk : Bool → Hart → List ℕ → ConsoleState → List (Option Span) → Desk Hart ConsoleState = λ b g bs e table. desk_from W n first (cond b budget 0) (desk_begun g bs e table) in
-    let D : Desk Hart ConsoleState = desk_of W budget n s first r.last.hart r.waits in
-    let same : turn_done n first (cond o.waits budget 0) o.hart p t c ≡ D =
-    ap (λ (b : Bool). desk b o.hart p.memory.bytes c.console t) a.0.waits
-    ∙ ap (λ (g : Hart). desk r.waits g p.memory.bytes c.console t) a.0.hart
-    ∙ ap (λ (bs : List ℕ). desk r.waits r.last.hart bs c.console t) (sym eb)
-    ∙ ap (λ (e : ConsoleState). desk r.waits r.last.hart s.bytes e t) (sym ec)
-    ∙ ap (λ (table : List (Option Span)). desk r.waits r.last.hart s.bytes s.console table) (sym et) in
-    let x' = subst (λ (z : Desk Hart ConsoleState). TakesTurn z h p p' t' c' l k) same x in
-    let z = y m rs (counter_joined s D) a.1 (sym x'.pages.bytes) (sym x'.console) (sym x'.table) in
-    let w = subst (λ (code : List Range). LeftBy (counter_from (words_of code) budget n (suc first) rs (counter_joined s D)) p' q u d) x'.pages.code z in
-    record { pages = same_bytes p p' q _ _ x'.pages w.pages; table = w.table; console = w.console }
+    let D : Desk Hart ConsoleState = desk_of W budget n c first r.last.hart r.waits in
+    let same : turn_done (turn_for turn o) o.hart s ≡ D =
+    ap (λ (b : Bool). desk b o.hart s.pages.memory.bytes s.console.console s.reservations) a.0.waits
+    ∙ ap (λ (g : Hart). desk r.waits g s.pages.memory.bytes s.console.console s.reservations) a.0.hart
+    ∙ ap (λ (bs : List ℕ). desk r.waits r.last.hart bs s.console.console s.reservations) (sym eb)
+    ∙ ap (λ (e : ConsoleState). desk r.waits r.last.hart c.bytes e s.reservations) (sym ec)
+    ∙ ap (λ (table : List (Option Span)). desk r.waits r.last.hart c.bytes c.console table) (sym et) in
+    let x' = subst (λ (z : Desk Hart ConsoleState). TakesTurn z h s s') same x in
+    let z = y m rs (counter_joined c D) a.1 (sym x'.pages.bytes) (sym x'.console) (sym x'.table) in
+    let next : first + 1 ≡ suc first = omega arith in
+    let w = subst (λ (j : ℕ). LeftBy (counter_from W budget n j rs (counter_joined c D)) (record s' { log = k }) u) next
+    (subst (λ (code : List Range). LeftBy (counter_from (words_of code) budget n (first + 1) rs (counter_joined c D)) (record s' { log = k }) u) x'.pages.code z) in
+    record { pages = same_bytes s.pages s'.pages u.pages _ _ x'.pages w.pages; table = w.table; console = w.console }
 
 -- by the first of a list
 
@@ -71,18 +87,17 @@ all_taken (o ∷ os) = ap (λ (x : List Outcome). o ∷ x) (all_taken os)
 rest_is : (o : Outcome) (os : List Outcome) → rest (o ∷ os) ≡ os
 rest_is o os = let e : length (o ∷ os) - 1 ≡ length os = omega arith in ap (λ (n : ℕ). take n os) e ∙ all_taken os
 
-pub none_there : (budget n first : ℕ) (os : List Outcome) (p : Paged) (t : List (Option Span)) (c : Roomed) → length os < 1 → HadTurns budget n first os p p t t c c
-none_there budget n first [] p t c lt = no_turns budget n first p t c
-none_there budget n first (o ∷ os) p t c lt = absurd (omega (arith, lt))
+pub none_there : (turn : Turn) (os : List Outcome) (s : SharedState) → length os < 1 → HadTurns turn os s s
+none_there turn [] s lt = no_turns turn s
+none_there turn (o ∷ os) s lt = absurd (omega (arith, lt))
 
-pub turns_up : (budget n first k : ℕ) (o : Outcome) (os : List Outcome) (p p' q : Paged) (t t' u : List (Option Span)) (c c' d : Roomed) (h : Hart) (l m : Turns) → 1 ≤ length os → o ≡ get_or os 0 o → k ≡ cond o.waits budget 0 →
-    TakesTurn (turn_done n first k o.hart p t c) h p p' t' c' l m → HadTurns budget n (first + 1) (rest os) p' q t' u c' d → HadTurns budget n first os p q t u c d
-turns_up budget n first k o [] p p' q t t' u c c' d h l m some is e x y = absurd (omega (arith, some))
-turns_up budget n first k o (v ∷ os) p p' q t t' u c c' d h l m some is e x y =
-    let x1 = subst (λ (b : ℕ). TakesTurn (turn_done n first b o.hart p t c) h p p' t' c' l m) e x in
-    let x2 : TakesTurn (turn_done n first (cond v.waits budget 0) v.hart p t c) h p p' t' c' l m = subst (λ (z : Outcome). TakesTurn (turn_done n first (cond z.waits budget 0) z.hart p t c) h p p' t' c' l m) is x1 in
-    let next : first + 1 ≡ suc first = omega arith in
-    turns_more budget n first v os p p' q t t' u c c' d h l m x2 (subst (λ (j : ℕ). HadTurns budget n j os p' q t' u c' d) next (subst (λ (r : List Outcome). HadTurns budget n (first + 1) r p' q t' u c' d) (rest_is v os) y))
+pub turns_up : (turn of_first : Turn) (o : Outcome) (os : List Outcome) (s s' u : SharedState) (k : Turns) (h : Hart) → 1 ≤ length os → o ≡ get_or os 0 o → of_first ≡ turn_for turn o →
+    TakesTurn (turn_done of_first o.hart s) h s s' → HadTurns (next_turn turn) (rest os) (record s' { log = k }) u → HadTurns turn os s u
+turns_up turn of_first o [] s s' u k h some is e x y = absurd (omega (arith, some))
+turns_up turn of_first o (v ∷ os) s s' u k h some is e x y =
+    let x1 = subst (λ (t : Turn). TakesTurn (turn_done t o.hart s) h s s') e x in
+    let x2 : TakesTurn (turn_done (turn_for turn v) v.hart s) h s s' = subst (λ (z : Outcome). TakesTurn (turn_done (turn_for turn z) z.hart s) h s s') is x1 in
+    turns_more turn v os s s' u k h x2 (subst (λ (r : List Outcome). HadTurns (next_turn turn) r (record s' { log = k }) u) (rest_is v os) y)
 
 -- what the turns may need together
 pub sums : (budget n k : ℕ) (o : Outcome) (os : List Outcome) → 1 ≤ length os → o ≡ get_or os 0 o → k ≡ cond o.waits budget 0 → n + turns_of budget (waits_of os) ≡ (n + turns_of budget (waits_of (rest os))) + k
@@ -106,14 +121,16 @@ first_outcomes m (suc i) (r ∷ rs) (o ∷ os) a = (a.0, first_outcomes m i rs o
 -- ---- a hart in its own turn
 
 -- one more instruction, from where a turn left everything
-pub further_is : (n i : ℕ) (h : Hart) (d : Desk Hart ConsoleState) (p q : Paged) (t : List (Option Span)) (c : Roomed) (l k : Turns) → TakesTurn d h p q t c l k →
-    turn_done n i 1 h q t c ≡ one_further p.memory.code n i d
-further_is n i h d p q t c l k x =
-    let W = words_of p.memory.code in
-    ap (λ (code : List Range). desk_from (words_of code) n i 1 (desk_begun h q.memory.bytes c.console t)) x.pages.code
-    ∙ ap (λ (g : Hart). desk_from W n i 1 (desk_begun g q.memory.bytes c.console t)) x.hart
-    ∙ ap (λ (bs : List ℕ). desk_from W n i 1 (desk_begun d.hart bs c.console t)) x.pages.bytes
-    ∙ ap (λ (e : ConsoleState). desk_from W n i 1 (desk_begun d.hart d.bytes e t)) x.console
+pub further_is : (turn : Turn) (h : Hart) (d : Desk Hart ConsoleState) (old new : SharedState) → TakesTurn d h old new →
+    turn_done (record turn { budget = 1 }) h new ≡ one_further old.pages.memory.code turn.round turn.hart d
+further_is turn h d old new x =
+    let n = turn.round in
+    let i = turn.hart in
+    let W = words_of old.pages.memory.code in
+    ap (λ (code : List Range). desk_from (words_of code) n i 1 (desk_begun h new.pages.memory.bytes new.console.console new.reservations)) x.pages.code
+    ∙ ap (λ (g : Hart). desk_from W n i 1 (desk_begun g new.pages.memory.bytes new.console.console new.reservations)) x.hart
+    ∙ ap (λ (bs : List ℕ). desk_from W n i 1 (desk_begun d.hart bs new.console.console new.reservations)) x.pages.bytes
+    ∙ ap (λ (e : ConsoleState). desk_from W n i 1 (desk_begun d.hart d.bytes e new.reservations)) x.console
     ∙ ap (λ (table : List (Option Span)). desk_from W n i 1 (desk_begun d.hart d.bytes d.console table)) x.table
 
 pub found_none : (budget count : ℕ) (h d e : Hart) → minus d.done h.done < count → found budget count h d e ≡ None
@@ -141,17 +158,21 @@ found_further budget count h d e le less differ =
 
 -- ---- after a commit and the turns before it
 
-pub begun_there : (m : Memory) (budget n i count : ℕ) (h : Hart) (rs : List (HartRound Hart)) (os : List Outcome) (p q r : Paged) (t u v : List (Option Span)) (c d : Roomed) (e : ConsoleState) →
-    AreOutcomes m rs os → p.memory ≡ m → Committed rs p q t u → c.console ≡ e → HadTurns budget n 0 (take i os) q r u v c d →
-    found_at r.memory.code budget n i count (desk_begun h r.memory.bytes d.console v) ≡ found_in m budget n i count h rs t e
-begun_there m budget n i count h rs os p q r t u v c d e a same committed console had =
-    let memory : q.memory ≡ stored m (all_stores rs) = committed.memory ∙ ap (λ (x : Memory). stored x (all_stores rs)) same in
-    let start : Counter Hart ConsoleState = ready_for_turns m rs t e in
-    let left = had m (take i rs) start (first_outcomes m i rs os a) (sym (ap (λ (x : Memory). x.bytes) memory)) (sym console) (sym committed.table) in
-    let code : q.memory.code ≡ m.code = ap (λ (x : Memory). x.code) memory in
-    let there = subst (λ (z : List Range). LeftBy (counter_from (words_of z) budget n 0 (take i rs) start) q r v d) code left in
-    let s : Counter Hart ConsoleState = counter_from (words_of m.code) budget n 0 (take i rs) start in
-    ap (λ (z : List Range). found_at z budget n i count (desk_begun h r.memory.bytes d.console v)) (there.pages.code ∙ code)
-    ∙ ap (λ (bs : List ℕ). found_at m.code budget n i count (desk_begun h bs d.console v)) there.pages.bytes
-    ∙ ap (λ (z : ConsoleState). found_at m.code budget n i count (desk_begun h s.bytes z v)) there.console
-    ∙ ap (λ (z : List (Option Span)). found_at m.code budget n i count (desk_begun h s.bytes s.console z)) there.table
+pub begun_there : (turn : Turn) (place : TurnPlace) (h : Hart) (old : Shared) (rs : List (HartRound Hart)) (os : List Outcome) (ready : Paged) (start end : SharedState) →
+    turn ≡ record { hart = 0; round = place.round; budget = place.budget } → AreOutcomes old.memory rs os → ready.memory ≡ old.memory → Committed rs ready start.pages old.table start.reservations →
+    start.console.console ≡ old.console → HadTurns turn (take place.hart os) start end →
+    found_at end.pages.memory.code place (desk_begun h end.pages.memory.bytes end.console.console end.reservations) ≡ found_in old place h rs
+begun_there turn place h old rs os ready start end first a same committed console had =
+    let m = old.memory in
+    let i = place.hart in
+    let memory : start.pages.memory ≡ stored m (all_stores rs) = committed.memory ∙ ap (λ (x : Memory). stored x (all_stores rs)) same in
+    let c : Counter Hart ConsoleState = ready_for_turns old rs in
+    let had' = subst (λ (t : Turn). HadTurns t (take i os) start end) first had in
+    let left = had' m (take i rs) c (first_outcomes m i rs os a) (sym (ap (λ (x : Memory). x.bytes) memory)) (sym console) (sym committed.table) in
+    let code : start.pages.memory.code ≡ m.code = ap (λ (x : Memory). x.code) memory in
+    let there = subst (λ (z : List Range). LeftBy (counter_from (words_of z) place.budget place.round 0 (take i rs) c) start end) code left in
+    let s : Counter Hart ConsoleState = counter_from (words_of m.code) place.budget place.round 0 (take i rs) c in
+    ap (λ (z : List Range). found_at z place (desk_begun h end.pages.memory.bytes end.console.console end.reservations)) (there.pages.code ∙ code)
+    ∙ ap (λ (bs : List ℕ). found_at m.code place (desk_begun h bs end.console.console end.reservations)) there.pages.bytes
+    ∙ ap (λ (z : ConsoleState). found_at m.code place (desk_begun h s.bytes z end.reservations)) there.console
+    ∙ ap (λ (z : List (Option Span)). found_at m.code place (desk_begun h s.bytes s.console z)) there.table

@@ -1,5 +1,5 @@
--- The parts of a machine before the first round.
-use Rattle.std.proofs.Common.{◌≡◌, ℕ, zero, suc, ◌*◌, true, List, [], length, All, arith, get_or, replicate, Option, None, refl, ap, ◌∙◌}
+-- A machine before the first round.
+use Rattle.std.proofs.Common.{◌≡◌, ℕ, zero, suc, ◌*◌, true, List, [], length, All, arith, get_or, replicate, Option, None, refl, sym, ap, subst, ◌∙◌}
 use Rattle.pages.specs.declared.access.Piece.{Piece}
 use Rattle.pages.specs.declared.access.Range.{Range}
 use Rattle.pages.specs.Initial.{initial, bytes_from}
@@ -10,7 +10,13 @@ use Rattle.round_schedule.specs.Tables.{Tied, entry}
 use Rattle.std.proofs.lemmas.List.Elements.{All-cons}
 use Rattle.hart_step.specs.declared.hart.Hart.{Hart}
 use Rattle.hart_step.specs.Stops.{has_stop}
-use Rattle.machine.specs.Machine.{opening_hart, opening_harts}
+use Rattle.round_planner.specs.Quotas.{Planned}
+use Rattle.elf_loader.specs.Image.{Loaded}
+use Rattle.machine.specs.Guests.{Guest, opening_guest}
+use Rattle.machine.specs.Machine.{opening, opening_hart, opening_harts}
+use Rattle.machine.specs.Untraced.{IsUntraced, untraced_of}
+use Rattle.machine.proofs.TraceKept.{placed_first}
+use Rattle.machine.proofs.UntracedRounds.{no_trace}
 
 pub length-opening : (e n i k : ℕ) → length (opening_harts e n i k) ≡ k
 length-opening e n i zero = refl
@@ -39,3 +45,19 @@ initial_code count pieces code p e = ap (λ (q : Paged). q.memory.code) e
 pub none_stopped : (e n i k : ℕ) → All (λ (h : Hart). has_stop h.stop ≡ true) (opening_harts e n i k)
 none_stopped e n i zero = λ j d l. absurd (omega (arith, l))
 none_stopped e n i (suc k) = All-cons (λ (h : Hart). has_stop h.stop ≡ true) (opening_hart e n i) (opening_harts e n (suc i) k) refl (none_stopped e n (suc i) k)
+
+-- it is the machine of a run that has not begun, without its trace
+pub opened : (image : Loaded) (input : List ℕ) (plan : Planned) (n : ℕ) (g : Guest) → n ≡ plan.harts → g ≡ opening_guest image input n → IsUntraced (opening image input plan) (untraced_of g plan 0 0)
+opened image input plan n g same e = subst (λ (x : Guest). IsUntraced (opening image input plan) (untraced_of x plan 0 0)) (sym e) (record {
+  harts = ap (λ (k : ℕ). opening_harts image.entry k 0 k) same;
+  bytes = refl;
+  console = refl;
+  rounds = refl;
+  code = refl;
+  plan = refl;
+  events = refl;
+  table = tied_first n (replicate n None) refl;
+  sound = no_trace;
+  placed = placed_first image.entry plan.harts 0 plan.harts;
+  stops = none_stopped image.entry plan.harts 0 plan.harts;
+})

@@ -2,6 +2,7 @@
 use Rattle.std.proofs.Common.{◌≡◌, ℕ, zero, suc, ◌+◌, ◌*◌, ◌/◌, ◌%◌, ◌^◌, ◌<◌, ◌≤◌, ◌==◌, List, [], ◌∷◌, ◌++◌, length, get_or, min, Bool, true, false, cond, Option, Some, None, refl, sym, ap, ◌∙◌, subst, arith, append_assoc, length-append}
 use Rattle.std.specs.Prelude.{option_to_list}
 use Rattle.std.proofs.Math.Nat.{div-div-eq-div-mul, div-one, zero-div, pow-succ'}
+use Rattle.pages.specs.declared.access.Range.{Range}
 use Rattle.pages.specs.Memory.{Memory, after, stored}
 use Rattle.pages.specs.Paged.{Paged, count_unready}
 use Rattle.round_schedule.specs.declared.access.Access.{Access}
@@ -21,12 +22,14 @@ use Rattle.hart_step.specs.Console.{ConsoleState}
 use Rattle.hart_step.specs.Room.{HasSpares}
 use Rattle.hart_step.specs.Words.{words_of}
 use Rattle.serial_phase.specs.Phase.{TakesTurns, serial_done, waiting_rounds, is_waiting, budget_of, budget_from}
-use Rattle.serial_phase.specs.Roomed.{Roomed}
+use Rattle.serial_phase.specs.declared.shared.SerialRound.{SerialRound}
+use Rattle.serial_phase.specs.declared.shared.SharedState.{SharedState}
 use Rattle.serial_phase.specs.Turns.{Turns}
 use Rattle.machine.specs.declared.outcome.Outcome.{Outcome}
 use Rattle.machine.specs.Outcomes.{AreOutcomes, mask_of, waits_of, harts_of, outcome_events, round_events, turns_of, count_log, count_true}
 use Rattle.machine.specs.Machine.{count_waiting}
-use Rattle.machine.specs.Rounds.{next_parts, IsFinished, IsRoundDone}
+use Rattle.machine.specs.Guests.{Guest, Shared, guest_after, guest_of, guest_round, shared_of}
+use Rattle.machine.specs.Rounds.{IsFinished}
 
 -- ---- which harts wait
 
@@ -83,10 +86,12 @@ counter_same W budget n i w m (r ∷ rs) (o ∷ os) s a f =
     ∙ ap (λ (h : Hart). counter_from W budget n (suc i) rs (counter_joined s (desk_of W budget n s i h (is_waiting w i)))) a.0.hart
     ∙ ap (λ (b : Bool). counter_from W budget n (suc i) rs (counter_joined s (desk_of W budget n s i r.last.hart b))) waits
 
-pub serial_is : (budget n : ℕ) (m : Memory) (rs : List (HartRound Hart)) (os : List Outcome) (p : Paged) (t : List (Option Span)) (c : Roomed) → AreOutcomes m rs os →
-    serial_done budget n (mask_of (waits_of os)) (harts_of os) p t c ≡ counter_from (words_of p.memory.code) budget n 0 rs (record { harts = []; bytes = p.memory.bytes; console = c.console; table = t; log = [] })
-serial_is budget n m rs os p t c a =
-    counter_same (words_of p.memory.code) budget n 0 (mask_of (waits_of os)) m rs os _ a (λ k low. ap (is_waiting (mask_of (waits_of os))) (omega arith) ∙ waiting_bit (waits_of os) k)
+pub serial_is : (phase : SerialRound) (m : Memory) (rs : List (HartRound Hart)) (os : List Outcome) (start : SharedState) → AreOutcomes m rs os → phase.waiting ≡ mask_of (waits_of os) →
+    serial_done phase (harts_of os) start
+    ≡ counter_from (words_of start.pages.memory.code) phase.budget phase.round 0 rs (record { harts = []; bytes = start.pages.memory.bytes; console = start.console.console; table = start.reservations; log = [] })
+serial_is phase m rs os start a w =
+    counter_same (words_of start.pages.memory.code) phase.budget phase.round 0 phase.waiting m rs os _ a
+    (λ k low. ap (λ (x : ℕ). is_waiting x (0 + k)) w ∙ ap (is_waiting (mask_of (waits_of os))) (omega arith) ∙ waiting_bit (waits_of os) k)
 
 pub events_are : (m : Memory) (n i : ℕ) (rs : List (HartRound Hart)) (os : List Outcome) → AreOutcomes m rs os → outcome_events n i os ≡ events_from n i rs
 events_are m n i [] [] a = refl
@@ -145,71 +150,83 @@ same_spares n p q e f h = subst (λ (s : ℕ). min n (count_unready q.ready) ≤
 pub spares_left : (n m : ℕ) (p q : Paged) → m ≡ n → q.ready ≡ p.ready → q.spare ≡ p.spare → HasSpares n p → HasSpares m q
 spares_left n m p q s e f h = subst (λ (k : ℕ). HasSpares k q) (sym s) (same_spares n p q e f h)
 
--- the parts of a round: the outcomes, the commit, the serial phase, and the events
-pub record RoundParts (plan : Planned) (n : ℕ) (hs gs : List Hart) (p q r s : Paged) (t u v : List (Option Span)) (c d : Roomed) (more : List Event) (os : List Outcome) (k : Turns) : Type 0 where
-  pub outcomes : AreOutcomes p.memory (hart_rounds (words_of p.memory.code) p.memory.bytes (quotas_of plan n) hs) os
-  pub kept : q.memory ≡ p.memory
-  pub committed : Committed (hart_rounds (words_of p.memory.code) p.memory.bytes (quotas_of plan n) hs) q r t u
-  pub served : TakesTurns (serial_done plan.budget (n + 1) (mask_of (waits_of os)) (harts_of os) r u c) gs r s v d k
-  pub events : more ≡ round_events (n + 1) os k.closed
-
 -- a round that is done, and its events
-pub record DoneWith (r : Tabled Hart ConsoleState) (gs : List Hart) (p s : Paged) (v : List (Option Span)) (d : ConsoleState) (more : List Event) : Type 0 where
-  pub done : IsRoundDone r gs p s v d
+pub record DoneWith (r : Tabled Hart ConsoleState) (old new : Guest) (more : List Event) : Type 0 where
+  pub done : new ≡ guest_after r old
   pub events : more ≡ r.state.trace
 
-pub round_done : (plan : Planned) (n : ℕ) (hs gs : List Hart) (p q r s : Paged) (t u v : List (Option Span)) (c d : Roomed) (more : List Event) (os : List Outcome) (k : Turns) →
-    RoundParts plan n hs gs p q r s t u v c d more os k → DoneWith (next_parts plan n hs p t c.console) gs p s v d.console more
-unfolding tabled_round
-round_done plan n hs gs p q r s t u v c d more os k x =
-    let W = words_of p.memory.code in
-    let rs = hart_rounds W p.memory.bytes (quotas_of plan n) hs in
-    let memory : r.memory ≡ stored p.memory (all_stores rs) = x.committed.memory ∙ ap (λ (m : Memory). stored m (all_stores rs)) x.kept in
-    let start : Counter Hart ConsoleState = record { harts = []; bytes = after p.memory.bytes (all_stores rs); console = c.console; table = committed_table 0 rs t; log = [] } in
-    let done : serial_done plan.budget (n + 1) (mask_of (waits_of os)) (harts_of os) r u c ≡ counter_from W plan.budget (n + 1) 0 rs start =
-    serial_is plan.budget (n + 1) p.memory rs os r u c x.outcomes
-    ∙ ap (λ (m : Memory). counter_from (words_of m.code) plan.budget (n + 1) 0 rs (record { harts = []; bytes = m.bytes; console = c.console; table = u; log = [] })) memory
-    ∙ ap (λ (y : List (Option Span)). counter_from W plan.budget (n + 1) 0 rs (record { harts = []; bytes = after p.memory.bytes (all_stores rs); console = c.console; table = y; log = [] })) x.committed.table in
-    record {
-      done = record {
-        harts = x.served.harts ∙ ap (λ (y : Counter Hart ConsoleState). y.harts) done;
-        bytes = x.served.pages.bytes ∙ ap (λ (y : Counter Hart ConsoleState). y.bytes) done;
-        code = x.served.pages.code ∙ ap (λ (m : Memory). m.code) memory;
-        console = x.served.console ∙ ap (λ (y : Counter Hart ConsoleState). y.console) done;
-        table = x.served.table ∙ ap (λ (y : Counter Hart ConsoleState). y.table) done;
-      };
-      events = x.events
-          ∙ ap (λ (y : List Event). y ++ log_events (n + 1) 0 k.closed) (events_are p.memory (n + 1) 0 rs os x.outcomes)
-          ∙ ap (λ (y : List (List Access)). events_from (n + 1) 0 rs ++ log_events (n + 1) 0 y) (x.served.log ∙ ap (λ (y : Counter Hart ConsoleState). y.log) done);
-    }
+abbrev pub guest_by : List Hart → List ℕ → List Range → List (Option Span) → ConsoleState → Guest
+guest_by hs bs code t c = record { harts = hs; shared = record { memory = record { bytes = bs; code = code }; table = t; console = c } }
+
+pub same_guest : (hs gs : List Hart) (bs cs : List ℕ) (code ranges : List Range) (t u : List (Option Span)) (c d : ConsoleState) → hs ≡ gs → bs ≡ cs → code ≡ ranges → t ≡ u → c ≡ d →
+    guest_by hs bs code t c ≡ guest_by gs cs ranges u d
+same_guest hs gs bs cs code ranges t u c d e1 e2 e3 e4 e5 =
+    ap (λ (x : List Hart). guest_by x bs code t c) e1
+    ∙ ap (λ (x : List ℕ). guest_by gs x code t c) e2
+    ∙ ap (λ (x : List Range). guest_by gs cs x t c) e3
+    ∙ ap (λ (x : List (Option Span)). guest_by gs cs ranges x c) e4
+    ∙ ap (λ (x : ConsoleState). guest_by gs cs ranges u x) e5
+
+-- nothing that a run shows of the guest has changed
+pub kept_guest : (hs : List Hart) (old new : SharedState) → new.pages.memory ≡ old.pages.memory → new.reservations ≡ old.reservations → new.console.console ≡ old.console.console →
+    guest_of hs new ≡ guest_of hs old
+kept_guest hs old new e1 e2 e3 =
+    same_guest hs hs new.pages.memory.bytes old.pages.memory.bytes new.pages.memory.code old.pages.memory.code new.reservations old.reservations new.console.console old.console.console
+    refl (ap (λ (m : Memory). m.bytes) e1) (ap (λ (m : Memory). m.code) e1) e2 e3
 
 -- the log of the serial phase
 pub record LogFits (turns harts : ℕ) (k : Turns) : Type 0 where
   pub fits : count_log k.closed ≤ turns
   pub length : length k.closed ≡ harts
 
-pub log_of : (budget n : ℕ) (bs : List Bool) (hs gs : List Hart) (p q : Paged) (t u : List (Option Span)) (c d : Roomed) (k : Turns) → length bs ≡ length hs →
-    TakesTurns (serial_done budget n (mask_of bs) hs p t c) gs p q u d k → LogFits (turns_of budget bs) (length hs) k
-log_of budget n bs hs gs p q t u c d k same x =
-    let s : Counter Hart ConsoleState = record { harts = []; bytes = p.memory.bytes; console = c.console; table = t; log = [] } in
+pub log_of : (phase : SerialRound) (bs : List Bool) (hs gs : List Hart) (start end : SharedState) → length bs ≡ length hs → phase.waiting ≡ mask_of bs →
+    TakesTurns (serial_done phase hs start) gs start end → LogFits (turns_of phase.budget bs) (length hs) end.log
+log_of phase bs hs gs start end same w x =
+    let W = words_of start.pages.memory.code in
+    let s : Counter Hart ConsoleState = record { harts = []; bytes = start.pages.memory.bytes; console = start.console.console; table = start.reservations; log = [] } in
     record {
-      fits = omega (arith, ap count_log x.log, log_fits (words_of p.memory.code) budget n (mask_of bs) 0 hs s, ap (budget_from (mask_of bs) budget 0) same, needed_is budget bs);
-      length = ap length x.log ∙ log_length (words_of p.memory.code) budget n (mask_of bs) 0 hs s ∙ omega arith;
+      fits = omega (arith, ap count_log x.log, log_fits W phase.budget phase.round phase.waiting 0 hs s, ap (λ (y : ℕ). budget_from y phase.budget 0 (length hs)) w, ap (budget_from (mask_of bs) phase.budget 0) same, needed_is phase.budget bs);
+      length = ap length x.log ∙ log_length W phase.budget phase.round phase.waiting 0 hs s ∙ omega arith;
     }
 
 pub length-rounds : (W : Words Hart ConsoleState) (bs qs : List ℕ) (hs : List Hart) → length (hart_rounds W bs qs hs) ≡ length hs
 length-rounds W bs qs [] = refl
 length-rounds W bs qs (h ∷ hs) = ap suc (length-rounds W bs (rest_of qs) hs)
 
-pub finished_done : (plan : Planned) (n : ℕ) (hs gs : List Hart) (p s : Paged) (t v : List (Option Span)) (c d : ConsoleState) (more : List Event) (os : List Outcome) →
-    AreOutcomes p.memory (hart_rounds (words_of p.memory.code) p.memory.bytes (quotas_of plan n) hs) os → IsFinished plan.budget (n + 1) os gs p s t v c d more →
-    DoneWith (next_parts plan n hs p t c) gs p s v d more
-finished_done plan n hs gs p s t v c d more os a x =
-    let rs = hart_rounds (words_of p.memory.code) p.memory.bytes (quotas_of plan n) hs in
-    let done = round_done plan n hs gs p x.ready x.after s t x.table v x.before x.behind more os x.log
-    (record { outcomes = a; kept = x.kept; committed = x.committed rs a; served = x.served; events = x.events }) in
-    subst (λ (y : ConsoleState). DoneWith (next_parts plan n hs p t c) gs p s v y more) x.shown
-    (subst (λ (y : ConsoleState). DoneWith (next_parts plan n hs p t y) gs p s v x.behind.console more) x.console done)
+pub finished_done : (plan : Planned) (phase : SerialRound) (n : ℕ) (old new : Guest) (more : List Event) (os : List Outcome) →
+    AreOutcomes old.shared.memory (hart_rounds (words_of old.shared.memory.code) old.shared.memory.bytes (quotas_of plan n) old.harts) os →
+    phase.budget ≡ plan.budget → phase.round ≡ n + 1 → phase.waiting ≡ mask_of (waits_of os) → IsFinished phase os old.shared new more →
+    DoneWith (guest_round plan n old) old new more
+unfolding tabled_round
+finished_done plan phase n old new more os a budget round waiting x =
+    let m = old.shared.memory in
+    let W = words_of m.code in
+    let rs = hart_rounds W m.bytes (quotas_of plan n) old.harts in
+    let committed = x.committed rs a in
+    let memory : x.start.pages.memory ≡ stored m (all_stores rs) = committed.memory ∙ ap (λ (y : Memory). stored y (all_stores rs)) x.kept in
+    let from : ℕ → ℕ → List Range → List ℕ → ConsoleState → List (Option Span) → Counter Hart ConsoleState =
+    λ b k code bs c t. counter_from (words_of code) b k 0 rs (record { harts = []; bytes = bs; console = c; table = t; log = [] }) in
+    let done : serial_done phase (harts_of os) x.start ≡ from plan.budget (n + 1) m.code (after m.bytes (all_stores rs)) old.shared.console (committed_table 0 rs old.shared.table) =
+    serial_is phase m rs os x.start a waiting
+    ∙ ap (λ (b : ℕ). from b phase.round x.start.pages.memory.code x.start.pages.memory.bytes x.start.console.console x.start.reservations) budget
+    ∙ ap (λ (k : ℕ). from plan.budget k x.start.pages.memory.code x.start.pages.memory.bytes x.start.console.console x.start.reservations) round
+    ∙ ap (λ (y : Memory). from plan.budget (n + 1) y.code y.bytes x.start.console.console x.start.reservations) memory
+    ∙ ap (λ (c : ConsoleState). from plan.budget (n + 1) m.code (after m.bytes (all_stores rs)) c x.start.reservations) x.console
+    ∙ ap (λ (t : List (Option Span)). from plan.budget (n + 1) m.code (after m.bytes (all_stores rs)) old.shared.console t) committed.table in
+    let left = x.left in
+    let served = x.served in
+    record {
+      done = same_guest new.harts _ new.shared.memory.bytes _ new.shared.memory.code m.code new.shared.table _ new.shared.console _
+          (served.harts ∙ ap (λ (y : Counter Hart ConsoleState). y.harts) done)
+          (ap (λ (y : Shared). y.memory.bytes) left ∙ served.pages.bytes ∙ ap (λ (y : Counter Hart ConsoleState). y.bytes) done)
+          (ap (λ (y : Shared). y.memory.code) left ∙ served.pages.code ∙ ap (λ (y : Memory). y.code) memory)
+          (ap (λ (y : Shared). y.table) left ∙ served.table ∙ ap (λ (y : Counter Hart ConsoleState). y.table) done)
+          (ap (λ (y : Shared). y.console) left ∙ served.console ∙ ap (λ (y : Counter Hart ConsoleState). y.console) done);
+      events = x.events
+          ∙ ap (λ (k : ℕ). round_events k os x.end.log.closed) round
+          ∙ ap (λ (y : List Event). y ++ log_events (n + 1) 0 x.end.log.closed) (events_are m (n + 1) 0 rs os a)
+          ∙ ap (λ (y : List (List Access)). events_from (n + 1) 0 rs ++ log_events (n + 1) 0 y) (served.log ∙ ap (λ (y : Counter Hart ConsoleState). y.log) done);
+    }
 
 pub waited_is : (m : Memory) (rs : List (HartRound Hart)) (os : List Outcome) → AreOutcomes m rs os → count_true (waits_of os) ≡ count_waiting rs
 waited_is m [] [] a = refl
@@ -241,21 +258,18 @@ unfolding tabled_round
 rounds_next W budget quotas m = refl
 
 -- a round that goes on so is finished
-pub finished_from : (budget n : ℕ) (os : List Outcome) (gs : List Hart) (p ready after' s : Paged) (t u v : List (Option Span)) (c : ConsoleState) (before behind : Roomed) (log : Turns) →
-    ready.memory ≡ p.memory → ((rs : List (HartRound Hart)) → AreOutcomes p.memory rs os → Committed rs ready after' t u) → before.console ≡ c →
-    TakesTurns (serial_done budget n (mask_of (waits_of os)) (harts_of os) after' u before) gs after' s v behind log →
-    IsFinished budget n os gs p s t v c behind.console (round_events n os log.closed)
-finished_from budget n os gs p ready after' s t u v c before behind log kept committed console served = record {
-  ready = ready;
-  after = after';
-  table = u;
-  before = before;
-  behind = behind;
-  log = log;
+pub finished_from : (phase : SerialRound) (os : List Outcome) (gs : List Hart) (old ready start end : SharedState) → ready.pages.memory ≡ old.pages.memory →
+    ((rs : List (HartRound Hart)) → AreOutcomes old.pages.memory rs os → Committed rs ready.pages start.pages old.reservations start.reservations) →
+    start.console.console ≡ old.console.console → TakesTurns (serial_done phase (harts_of os) start) gs start end →
+    IsFinished phase os (shared_of old) (guest_of gs end) (round_events phase.round os end.log.closed)
+finished_from phase os gs old ready start end kept committed console served = record {
+  ready = ready.pages;
+  start = start;
+  end = end;
   kept = kept;
   committed = committed;
   console = console;
   served = served;
-  shown = refl;
+  left = refl;
   events = refl;
 }

@@ -24,9 +24,10 @@ use Rattle.hart_step.proofs.Stopping.{stops_fit}
 use Rattle.hart_step.proofs.Soundness.{counts_done, sound}
 use Rattle.trace.specs.Traced.{HasForm, IsTrace}
 use Rattle.trace.proofs.RunForms.{round_leaves_trace}
+use Rattle.machine.specs.Guests.{Guest, guest_events, next_guest}
 use Rattle.machine.specs.Held.{most_of_round}
 use Rattle.machine.specs.Machine.{Running, after_round, after_rounds, count_stopped}
-use Rattle.machine.specs.Untraced.{HasRun, IsUntraced, MayGoOn, Untraced, next_events, next_of, tabled_of, untraced_round}
+use Rattle.machine.specs.Untraced.{HasRun, IsUntraced, MayGoOn, Untraced, next_events, next_of, tabled_of, untraced_of, untraced_round}
 use Rattle.machine.proofs.Repeated.{more_rounds, next_round, no_rounds, passed}
 use Rattle.machine.proofs.RoundDone.{only_added, rounds_next, traced_parts, whole}
 use Rattle.machine.proofs.SizeKept.{size_kept}
@@ -48,21 +49,12 @@ is_running m u i =
     ∙ ap (λ (x : List Range). running m.state.harts m.state.bytes m.state.console m.state.trace m.state.rounds x u.plan m.opening) i.code
     ∙ ap (λ (x : Planned). running m.state.harts m.state.bytes m.state.console m.state.trace m.state.rounds m.code x m.opening) i.plan
 
-abbrev pub untraced : List Hart → List ℕ → ConsoleState → List (Option Span) → ℕ → ℕ → List Range → Planned → Untraced
-untraced hs bs c t k n rs plan = record { harts = hs; bytes = bs; console = c; table = t; events = k; rounds = n; code = rs; plan = plan }
-
--- the parts of the machine after a round
-pub same_untraced : (hs : List Hart) (bs : List ℕ) (c : ConsoleState) (t : List (Option Span)) (k : ℕ) (rs : List Range) (u : Untraced) →
-    hs ≡ (next_of u).state.harts → bs ≡ (next_of u).state.bytes → c ≡ (next_of u).state.console → t ≡ (next_of u).table → k ≡ u.events + length (next_events u) → rs ≡ u.code →
-    untraced hs bs c t k (u.rounds + 1) rs u.plan ≡ untraced_round u
-same_untraced hs bs c t k rs u e1 e2 e3 e4 e5 e6 =
-    let r = next_of u in
-    ap (λ (x : List Hart). untraced x bs c t k (u.rounds + 1) rs u.plan) e1
-    ∙ ap (λ (x : List ℕ). untraced r.state.harts x c t k (u.rounds + 1) rs u.plan) e2
-    ∙ ap (λ (x : ConsoleState). untraced r.state.harts r.state.bytes x t k (u.rounds + 1) rs u.plan) e3
-    ∙ ap (λ (x : List (Option Span)). untraced r.state.harts r.state.bytes r.state.console x k (u.rounds + 1) rs u.plan) e4
-    ∙ ap (λ (x : ℕ). untraced r.state.harts r.state.bytes r.state.console r.table x (u.rounds + 1) rs u.plan) e5
-    ∙ ap (λ (x : List Range). untraced r.state.harts r.state.bytes r.state.console r.table (u.events + length r.state.trace) (u.rounds + 1) x u.plan) e6
+-- the machine whose guest has done a round
+pub same_untraced : (g new : Guest) (plan : Planned) (events more rounds : ℕ) → new ≡ next_guest plan rounds g → more ≡ length (guest_events plan rounds g) →
+    untraced_of new plan (events + more) (rounds + 1) ≡ untraced_round (untraced_of g plan events rounds)
+same_untraced g new plan events more rounds e f =
+    ap (λ (x : Guest). untraced_of x plan (events + more) (rounds + 1)) e
+    ∙ ap (λ (k : ℕ). untraced_of (next_guest plan rounds g) plan (events + k) (rounds + 1)) f
 
 -- what a machine keeps, so that a round may follow
 pub record CanGoOn (u : Untraced) : Type 0 where

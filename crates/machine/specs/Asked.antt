@@ -2,7 +2,6 @@
 use Rattle.std.specs.Prelude.{◌≡◌, ℕ, ◌==◌, nat_lt, if◌then◌else◌, List, [], take, Option, Some, None}
 use Rattle.pages.specs.declared.access.Range.{Range}
 use Rattle.pages.specs.Memory.{Memory, after}
-use Rattle.pages.specs.Paged.{Paged}
 use Rattle.round_schedule.specs.declared.span.Span.{Span}
 use Rattle.round_schedule.specs.ByTable.{committed_table}
 use Rattle.round_schedule.specs.Desk.{Counter, Desk, counter_from, desk_from}
@@ -12,8 +11,11 @@ use Rattle.hart_step.specs.Console.{ConsoleState}
 use Rattle.hart_step.specs.Numbers.{minus}
 use Rattle.hart_step.specs.Words.{words_of}
 use Rattle.serial_phase.specs.Phase.{HasBytes}
-use Rattle.serial_phase.specs.Roomed.{Roomed}
+use Rattle.serial_phase.specs.declared.shared.SharedState.{SharedState}
+use Rattle.serial_phase.specs.declared.shared.Turn.{Turn}
+use Rattle.machine.specs.declared.asked_turn.TurnPlace.{TurnPlace}
 use Rattle.machine.specs.declared.outcome.Outcome.{Outcome}
+use Rattle.machine.specs.Guests.{Shared}
 use Rattle.machine.specs.Outcomes.{AreOutcomes}
 
 -- a hart that began a turn of at most `budget` instructions as h, after `count` of them: a turn of as many ends as d, and one more
@@ -33,34 +35,44 @@ abbrev pub one_further : List Range → ℕ → ℕ → Desk Hart ConsoleState �
 one_further code n i d = desk_from (words_of code) n i 1 (record d { log = [] })
 
 -- the same from the desk at which the turn begins
-abbrev pub found_at : List Range → ℕ → ℕ → ℕ → ℕ → Desk Hart ConsoleState → Option Hart
-found_at code budget n i count d = found_by budget count d.hart (desk_from (words_of code) n i count d) (one_further code n i (desk_from (words_of code) n i count d))
+abbrev pub found_at : List Range → TurnPlace → Desk Hart ConsoleState → Option Hart
+found_at code place d =
+    let e = desk_from (words_of code) place.round place.hart place.count d in
+    found_by place.budget place.count d.hart e (one_further code place.round place.hart e)
 
 -- the desk at which a hart's turn begins
 abbrev pub desk_begun : Hart → List ℕ → ConsoleState → List (Option Span) → Desk Hart ConsoleState
 desk_begun h bs c table = record { hart = h; bytes = bs; console = c; table = table; log = [] }
 
--- what is shared in round n once the stores of all harts are committed, and once the harts before hart i had their turns
-abbrev pub ready_for_turns : Memory → List (HartRound Hart) → List (Option Span) → ConsoleState → Counter Hart ConsoleState
-ready_for_turns m rs table c = record { harts = []; bytes = after m.bytes (all_stores rs); console = c; table = committed_table 0 rs table; log = [] }
+-- what is shared once the stores of all harts are committed, where these are their rounds, and once the harts before that place had
+-- their turns
+abbrev pub ready_for_turns : Shared → List (HartRound Hart) → Counter Hart ConsoleState
+ready_for_turns s rs = record {
+  harts = [];
+  bytes = after s.memory.bytes (all_stores rs);
+  console = s.console;
+  table = committed_table 0 rs s.table;
+  log = [];
+}
 
-abbrev pub ready_for : Memory → ℕ → ℕ → ℕ → List (HartRound Hart) → List (Option Span) → ConsoleState → Counter Hart ConsoleState
-ready_for m budget n i rs table c = counter_from (words_of m.code) budget n 0 (take i rs) (ready_for_turns m rs table c)
+abbrev pub ready_for : Shared → TurnPlace → List (HartRound Hart) → Counter Hart ConsoleState
+ready_for s place rs = counter_from (words_of s.memory.code) place.budget place.round 0 (take place.hart rs) (ready_for_turns s rs)
 
--- hart i after `count` instructions of its turn in round n, where it begins that turn as h and these are the rounds of all harts
-abbrev pub found_in : Memory → ℕ → ℕ → ℕ → ℕ → Hart → List (HartRound Hart) → List (Option Span) → ConsoleState → Option Hart
-found_in m budget n i count h rs table c =
-    let s = ready_for m budget n i rs table c in
-    found_at m.code budget n i count (desk_begun h s.bytes s.console s.table)
+-- the hart at that place in its turn, where it begins the turn as h and these are the rounds of all harts
+abbrev pub found_in : Shared → TurnPlace → Hart → List (HartRound Hart) → Option Hart
+found_in s place h rs =
+    let there = ready_for s place rs in
+    found_at s.memory.code place (desk_begun h there.bytes there.console there.table)
 
 -- memory, the table and the console are those of this counter
-pub record LeftBy (s : Counter Hart ConsoleState) (p q : Paged) (u : List (Option Span)) (d : Roomed) : Type 0 where
-  pub pages : HasBytes p s.bytes q
-  pub table : u ≡ s.table
-  pub console : d.console ≡ s.console
+pub record LeftBy (c : Counter Hart ConsoleState) (old new : SharedState) : Type 0 where
+  pub pages : HasBytes old.pages c.bytes new.pages
+  pub table : new.reservations ≡ c.table
+  pub console : new.console.console ≡ c.console
 
--- harts `first`, `first` + 1, .. with these outcomes had their turns on memory, the table and the console
-abbrev pub HadTurns : ℕ → ℕ → ℕ → List Outcome → Paged → Paged → List (Option Span) → List (Option Span) → Roomed → Roomed → Type 0
-HadTurns budget n first os p q t u c d =
-    (m : Memory) (rs : List (HartRound Hart)) (s : Counter Hart ConsoleState) → AreOutcomes m rs os → s.bytes ≡ p.memory.bytes → s.console ≡ c.console → s.table ≡ t →
-    LeftBy (counter_from (words_of p.memory.code) budget n first rs s) p q u d
+-- harts with these outcomes had their turns, of which the first one's would be this
+abbrev pub HadTurns : Turn → List Outcome → SharedState → SharedState → Type 0
+HadTurns turn os old new =
+    (m : Memory) (rs : List (HartRound Hart)) (c : Counter Hart ConsoleState) → AreOutcomes m rs os →
+    c.bytes ≡ old.pages.memory.bytes → c.console ≡ old.console.console → c.table ≡ old.reservations →
+    LeftBy (counter_from (words_of old.pages.memory.code) turn.budget turn.round turn.hart rs c) old new

@@ -1,5 +1,6 @@
 pub mod Outcomes
 pub mod Machine
+pub mod Guests
 pub mod Held
 pub mod Rounds
 pub mod Settings

@@ -75,6 +75,13 @@ IsReason s file e =
 abbrev pub RefusedAs : {X : Type 0} → RunError → Result X RunError → Type 0
 RefusedAs e r = (r ≡ Err e) ⊎ (r ≡ Err refusals.OutOfMemory)
 
+-- refused in this order: numbers out of range, then the file by its least cause, and where nothing speaks against it, the plan by
+-- its own least cause
+pub record RefusedInOrder {X : Type 0} (s : Settings) (file : List ℕ) (r : Result X RunError) : Type 0 where
+  pub settings : (e : RunError) → settings_fault s ≡ Some e → r ≡ Err e
+  pub image : (cause : ImageCause) → settings_fault s ≡ None → IsImageCause s file cause → RefusedAs (refusals.Image cause) r
+  pub plan : (cause : PlanCause) → settings_fault s ≡ None → IsImage s file → IsPlanCause s cause → RefusedAs (refusals.Plan cause) r
+
 -- the plan of these rows
 abbrev pub plan_of : ℕ → List (List (List ℕ)) → ℕ → Planned
 plan_of harts rows budget = record { harts = harts; rows = numbers_of rows; budget = budget }

@@ -14,6 +14,7 @@ use Rattle.hart_step.specs.Console.{ConsoleState}
 use Rattle.hart_step.specs.Stops.{has_stop}
 use Rattle.hart_step.specs.Words.{words_of}
 use Rattle.trace.specs.Traced.{IsTrace, Traced, opening_at, opening_bytes}
+use Rattle.machine.specs.Guests.{Guest}
 use Rattle.machine.specs.Held.{most_of_round}
 use Rattle.machine.specs.Machine.{Running, after_rounds, opening}
 
@@ -28,6 +29,19 @@ pub record Untraced : Type 0 where
   pub rounds : ℕ
   pub code : List Range
   pub plan : Planned
+
+-- the same of a guest, a plan, and the numbers of events and rounds
+abbrev pub untraced_of : Guest → Planned → ℕ → ℕ → Untraced
+untraced_of g plan events rounds = record {
+  harts = g.harts;
+  bytes = g.shared.memory.bytes;
+  console = g.shared.console;
+  table = g.shared.table;
+  events = events;
+  rounds = rounds;
+  code = g.shared.memory.code;
+  plan = plan;
+}
 
 -- it is this machine of a run without its trace: what it has is what the run has, the number of events is the trace's
 -- length, and the reservations are those of the trace, which is one whose places are below the counts of their harts; and

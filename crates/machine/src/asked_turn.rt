@@ -6,6 +6,7 @@ ghost use Rattle.hart_step.specs.CodeTables.{Shows};
 ghost use Rattle.hart_step.specs.Room.{HasSpares};
 ghost use Rattle.serial_phase.specs.Roomed.{HasRoom};
 ghost use Rattle.machine.specs.Asked.{HadTurns, desk_begun, found_at, found_in};
+ghost use Rattle.machine.specs.Guests.{shared_of};
 ghost use Rattle.machine.specs.Outcomes.{AreFit, AreOutcomes, turns_of, waits_of};
 
 use crate::commit::commit;
@@ -13,10 +14,9 @@ use crate::crew::Crew;
 use crate::events::turns_needed;
 use crate::outcome::Outcome;
 use crate::room::make_turn_room;
-use hart_step::{CodeTable, Hart};
-use pages::{OutOfMemory, Pages};
-use reservations::Reservations;
-use serial_phase::{Console, SerialLog, take_turn};
+use hart_step::Hart;
+use pages::OutOfMemory;
+use serial_phase::{SharedState, Turn, take_turn};
 use std::thread::Threads;
 
 /// A place in a serial turn.
@@ -36,141 +36,95 @@ pub struct TurnPlace {
 /// of the harts before it. `None` where it does fewer instructions.
 pub fn ask_turn<G, R: Threads + Sync>(
     crew: &Crew<'_, G, R>,
-    pages: &mut Pages,
-    reservations: &mut Reservations,
-    console: &mut Console,
-    log: &mut SerialLog,
-    table: &CodeTable,
+    shared: &mut SharedState,
     outcomes: &[Outcome],
     start: Hart,
     place: TurnPlace,
 ) -> Result<Option<Hart>, OutOfMemory>
     requires workers { 1 ≤ crew.now.workers }
-    requires shows { Shows pages.old.memory table.now.first table.now.instructions }
-    requires rounds { (rs : List (HartRound Hart)) × AreOutcomes pages.old.memory rs outcomes.now × TouchesNoCode pages.old.memory.code (all_stores rs) }
+    requires shows { Shows shared.old.pages.memory shared.old.code.first shared.old.code.instructions }
+    requires rounds { (rs : List (HartRound Hart)) × AreOutcomes shared.old.pages.memory rs outcomes.now × TouchesNoCode shared.old.pages.memory.code (all_stores rs) }
     requires few { length outcomes.now ≤ 64 }
-    requires fits { AreFit pages.old.memory outcomes.now }
-    requires size { length reservations.old ≡ length outcomes.now }
+    requires fits { AreFit shared.old.pages.memory outcomes.now }
+    requires size { length shared.old.reservations ≡ length outcomes.now }
     requires hart { place.hart < length outcomes.now }
     requires budget { place.budget ≤ 1000 }
     requires count { place.count ≤ place.budget }
-    ensures { IfOk result (λ h. (rs : List (HartRound Hart)) → AreOutcomes pages.old.memory rs outcomes.now → h ≡ found_in pages.old.memory place.budget place.round place.hart place.count start rs reservations.old console.old.console) }
+    ensures { IfOk result (λ h. (rs : List (HartRound Hart)) → AreOutcomes shared.old.pages.memory rs outcomes.now → h ≡ found_in (shared_of shared.old) place start rs) }
 {
     let earlier = &outcomes[..place.hart as usize];
     let turns = turns_needed(earlier, place.budget) + place.budget;
-    make_turn_room(pages, console, log, outcomes, turns)?;
-    commit(crew, pages, reservations, outcomes);
-    take_turns(
-        pages,
-        reservations,
-        console,
-        log,
-        table,
-        earlier,
-        0,
-        place.round,
-        place.budget,
-    );
-    Ok(hart_at(pages, reservations, console, log, table, start, place))
+    make_turn_room(shared, outcomes, turns)?;
+    commit(crew, &mut shared.pages, &mut shared.reservations, outcomes);
+    let first = Turn {
+        hart: 0,
+        round: place.round,
+        budget: place.budget,
+    };
+    take_turns(shared, earlier, first);
+    Ok(hart_at(shared, start, place))
 }
 
-/// Does the turns of the waiting ones among these harts, of which the first has this number.
-fn take_turns(
-    pages: &mut Pages,
-    reservations: &mut Reservations,
-    console: &mut Console,
-    log: &mut SerialLog,
-    table: &CodeTable,
-    outcomes: &[Outcome],
-    first: u32,
-    round: u32,
-    budget: u32,
-)
-    requires shows { Shows pages.old.memory table.now.first table.now.instructions }
-    requires harts { first + length outcomes.now ≤ length reservations.old }
-    requires few { length reservations.old ≤ 64 }
-    requires pages { HasSpares (turns_of budget (waits_of outcomes.now)) pages.old }
-    requires console { HasRoom (turns_of budget (waits_of outcomes.now)) console.old }
-    requires log { turns_of budget (waits_of outcomes.now) ≤ log.old.room }
-    requires began { log.old.current ≡ [] }
-    ensures turns { HadTurns budget round first outcomes.now pages.old pages.new reservations.old reservations.new console.old console.new }
-    ensures pages { (n : ℕ) → HasSpares (n + turns_of budget (waits_of outcomes.now)) pages.old → HasSpares n pages.new }
-    ensures console { (n : ℕ) → HasRoom (n + turns_of budget (waits_of outcomes.now)) console.old → HasRoom n console.new }
-    ensures log { log.old.room ≤ log.new.room + turns_of budget (waits_of outcomes.now) }
-    ensures began { log.new.current ≡ [] }
-    ensures size { length reservations.new ≡ length reservations.old }
-    ensures shows { Shows pages.new.memory table.now.first table.now.instructions }
+/// Does the turns of the waiting ones among these harts, of which the first one's turn would be this.
+fn take_turns(shared: &mut SharedState, outcomes: &[Outcome], turn: Turn)
+    requires shows { Shows shared.old.pages.memory shared.old.code.first shared.old.code.instructions }
+    requires harts { turn.hart + length outcomes.now ≤ length shared.old.reservations }
+    requires few { length shared.old.reservations ≤ 64 }
+    requires pages { HasSpares (turns_of turn.budget (waits_of outcomes.now)) shared.old.pages }
+    requires console { HasRoom (turns_of turn.budget (waits_of outcomes.now)) shared.old.console }
+    requires log { turns_of turn.budget (waits_of outcomes.now) ≤ shared.old.log.room }
+    requires began { shared.old.log.current ≡ [] }
+    ensures turns { HadTurns turn outcomes.now shared.old shared.new }
+    ensures pages { (n : ℕ) → HasSpares (n + turns_of turn.budget (waits_of outcomes.now)) shared.old.pages → HasSpares n shared.new.pages }
+    ensures console { (n : ℕ) → HasRoom (n + turns_of turn.budget (waits_of outcomes.now)) shared.old.console → HasRoom n shared.new.console }
+    ensures log { shared.old.log.room ≤ shared.new.log.room + turns_of turn.budget (waits_of outcomes.now) }
+    ensures began { shared.new.log.current ≡ [] }
+    ensures size { length shared.new.reservations ≡ length shared.old.reservations }
+    ensures shows { Shows shared.new.pages.memory shared.new.code.first shared.new.code.instructions }
 {
     match outcomes {
         [] => {}
         [outcome, rest @ ..] => {
             let mut hart = outcome.hart;
-            let turn = turn_budget(outcome, budget);
-            take_turn(
-                &mut hart,
-                pages,
-                reservations,
-                console,
-                log,
-                table,
-                first,
-                round,
-                turn,
-            );
-            log.clear();
-            take_turns(
-                pages,
-                reservations,
-                console,
-                log,
-                table,
-                rest,
-                first + 1,
-                round,
-                budget,
-            );
+            take_turn(&mut hart, shared, turn_of(outcome, turn));
+            shared.log.clear();
+            let next = Turn {
+                hart: turn.hart + 1,
+                ..turn
+            };
+            take_turns(shared, rest, next);
         }
     }
 }
 
-/// How many instructions a hart may do in its turn: none where it does not wait.
-fn turn_budget(outcome: &Outcome, budget: u32) -> u32
-    ensures { result ≡ (if outcome.now.waits then budget else 0) }
+/// The turn of a hart: of no instruction where it does not wait.
+fn turn_of(outcome: &Outcome, turn: Turn) -> Turn
+    ensures { result ≡ record turn { budget = if outcome.now.waits then turn.budget else 0 } }
 {
-    if outcome.waits { budget } else { 0 }
+    Turn {
+        budget: if outcome.waits { turn.budget } else { 0 },
+        ..turn
+    }
 }
 
 /// A hart at a place in its turn, which begins here and now.
-fn hart_at(
-    pages: &mut Pages,
-    reservations: &mut Reservations,
-    console: &mut Console,
-    log: &mut SerialLog,
-    table: &CodeTable,
-    start: Hart,
-    place: TurnPlace,
-) -> Option<Hart>
-    requires shows { Shows pages.old.memory table.now.first table.now.instructions }
-    requires hart { place.hart < length reservations.old }
+fn hart_at(shared: &mut SharedState, start: Hart, place: TurnPlace) -> Option<Hart>
+    requires shows { Shows shared.old.pages.memory shared.old.code.first shared.old.code.instructions }
+    requires hart { place.hart < length shared.old.reservations }
     requires count { place.count ≤ place.budget }
-    requires pages { HasSpares place.budget pages.old }
-    requires console { HasRoom place.budget console.old }
-    requires log { place.budget ≤ log.old.room }
-    requires began { log.old.current ≡ [] }
-    ensures { result ≡ found_at pages.old.memory.code place.budget place.round place.hart place.count (desk_begun start pages.old.memory.bytes console.old.console reservations.old) }
+    requires pages { HasSpares place.budget shared.old.pages }
+    requires console { HasRoom place.budget shared.old.console }
+    requires log { place.budget ≤ shared.old.log.room }
+    requires began { shared.old.log.current ≡ [] }
+    ensures { result ≡ found_at shared.old.pages.memory.code place (desk_begun start shared.old.pages.memory.bytes shared.old.console.console shared.old.reservations) }
 {
     let mut here = start;
-    take_turn(
-        &mut here,
-        pages,
-        reservations,
-        console,
-        log,
-        table,
-        place.hart,
-        place.round,
-        place.count,
-    );
+    let turn = Turn {
+        hart: place.hart,
+        round: place.round,
+        budget: place.count,
+    };
+    take_turn(&mut here, shared, turn);
     if here.done.wrapping_sub(start.done) < u64::from(place.count) {
         return None;
     }
@@ -178,19 +132,9 @@ fn hart_at(
         return Some(here);
     }
     // Where one more instruction is not done, the turn ends there, and the hart may have stopped.
-    log.clear();
+    shared.log.clear();
     let mut next = here;
-    take_turn(
-        &mut next,
-        pages,
-        reservations,
-        console,
-        log,
-        table,
-        place.hart,
-        place.round,
-        1,
-    );
+    take_turn(&mut next, shared, Turn { budget: 1, ..turn });
     if next.done == here.done {
         Some(next)
     } else {

@@ -11,14 +11,16 @@ ghost use Rattle.machine.specs.Untraced.{IsUntraced};
 
 use crate::asked_turn::{TurnPlace, ask_turn};
 use crate::crew::Crew;
+use crate::guest::GuestState;
 use crate::machine::Machine;
 use crate::outcome::outcomes_of;
 use crate::running::{MANY_LINES, MOST_WORKERS};
 use crate::untraced::UntracedMachine;
-use hart_step::{Buffered, CodeTable, Hart, hart_round};
+use hart_step::{Buffered, Hart, hart_round};
 use host_io::RunError;
-use pages::{OutOfMemory, Pages};
+use pages::OutOfMemory;
 use parallel_phase::Open;
+use serial_phase::SharedState;
 use std::sync::Wait;
 use std::thread::Threads;
 
@@ -97,28 +99,24 @@ impl UntracedMachine {
         ensures { IfOk result (λ h. (m : Running) → IsUntraced m self → h ≡ hart_after (words_of m.code) m.plan.budget (quotas_of m.plan) m.state hart count) }
     {
         // The types keep: bytes in memory, at most 64 harts with quotas in range, and a budget of at most 1,000.
-        self.pages.bytes_fit();
+        self.guest.pages().bytes_fit();
         let _harts = self.plan.harts();
         let budget = self.plan.budget();
         let UntracedMachine {
-            harts,
-            mut pages,
-            table,
-            mut reservations,
-            mut console,
-            mut log,
+            guest,
             plan,
             rounds,
             ..
         } = self;
+        let GuestState { harts, mut shared } = guest;
         let before = harts[hart as usize];
         let round = rounds + 1;
-        let outcomes = outcomes_of(crew, &pages, &table, &harts, &plan, round)?;
+        let outcomes = outcomes_of(crew, &shared.pages, &shared.code, &harts, &plan, round)?;
         let parts = outcomes.as_slice();
         let part = &parts[hart as usize];
         let done = done_since(before, part.hart);
         if count < done {
-            return Ok(Some(shorter_round(&pages, &table, before, count as u32)?));
+            return Ok(Some(shorter_round(&shared, before, count as u32)?));
         }
         if !part.waits {
             if count > done {
@@ -135,17 +133,7 @@ impl UntracedMachine {
             budget,
             count: (count - done) as u32,
         };
-        ask_turn(
-            crew,
-            &mut pages,
-            &mut reservations,
-            &mut console,
-            &mut log,
-            &table,
-            parts,
-            part.hart,
-            place,
-        )
+        ask_turn(crew, &mut shared, parts, part.hart, place)
     }
 }
 
@@ -158,19 +146,14 @@ fn done_since(before: Hart, after: Hart) -> u64
 }
 
 /// A hart after its part of the parallel phase, of so many instructions at most.
-fn shorter_round(
-    pages: &Pages,
-    table: &CodeTable,
-    hart: Hart,
-    quota: u32,
-) -> Result<Hart, OutOfMemory>
-    requires { Shows pages.now.memory table.now.first table.now.instructions }
-    ensures { IfOk result (λ h. h ≡ (hart_round_of (words_of pages.now.memory.code) pages.now.memory.bytes quota hart).last.hart) }
+fn shorter_round(shared: &SharedState, hart: Hart, quota: u32) -> Result<Hart, OutOfMemory>
+    requires { Shows shared.now.pages.memory shared.now.code.first shared.now.code.instructions }
+    ensures { IfOk result (λ h. h ≡ (hart_round_of (words_of shared.now.pages.memory.code) shared.now.pages.memory.bytes quota hart).last.hart) }
 {
-    let alloc = pages.allocator();
+    let alloc = shared.pages.allocator();
     let mut turned = hart;
-    let mut view = Buffered::new(alloc, pages);
+    let mut view = Buffered::new(alloc, &shared.pages);
     let mut accesses = Vec::new(alloc);
-    let _waits = hart_round(&mut turned, &mut view, table, quota, &mut accesses)?;
+    let _waits = hart_round(&mut turned, &mut view, &shared.code, quota, &mut accesses)?;
     Ok(turned)
 }

@@ -1,14 +1,11 @@
 ghost use Rattle.std.specs.Prelude.{◌≡◌, IfOk, IfErr};
 ghost use Rattle.host_io.specs.declared.error.RunError.TheVariants as refusals;
-ghost use Rattle.machine.specs.Untraced.{IsUntraced};
+ghost use Rattle.machine.specs.Untraced.{IsUntraced, untraced_of};
 
+use crate::guest::GuestState;
 use crate::machine::Machine;
 use crate::untraced::UntracedMachine;
-use hart_step::{CodeTable, Hart};
 use host_io::RunError;
-use pages::{OutOfMemory, Pages};
-use serial_phase::SerialLog;
-use std::alloc::Global;
 
 impl Machine {
     /// A machine that is equal to this one.
@@ -74,8 +71,7 @@ impl UntracedMachine {
         ensures same { IfOk result (λ u. u ≡ self.now) }
         ensures refused { IfErr result (λ e. e ≡ refusals.OutOfMemory) }
     {
-        let pages = self.pages.copy(self.pages.allocator())?;
-        self.over(pages)
+        self.over(self.guest.copy()?)
     }
 
     /// A machine that is equal to this one and shares its pages: each of the two gets its own of a page when it writes there.
@@ -90,39 +86,22 @@ impl UntracedMachine {
         ensures stays { self.new ≡ self.old }
         ensures refused { IfErr result (λ e. e ≡ refusals.OutOfMemory) }
     {
-        let alloc = self.pages.allocator();
-        let pages = self.pages.share(alloc)?;
-        self.over(pages)
+        let guest = self.guest.share()?;
+        self.over(guest)
     }
 
-    /// The same machine over equal pages.
-    fn over(&self, pages: Pages) -> Result<UntracedMachine, RunError>
-        requires bytes { pages.memory.bytes ≡ self.now.bytes }
-        requires code { pages.memory.code ≡ self.now.code }
+    /// The same machine over an equal guest.
+    fn over(&self, guest: GuestState) -> Result<UntracedMachine, RunError>
+        requires { untraced_of guest self.now.plan self.now.events self.now.rounds ≡ self.now }
         ensures same { IfOk result (λ u. u ≡ self.now) }
         ensures refused { IfErr result (λ e. e ≡ refusals.OutOfMemory) }
     {
-        let alloc = pages.allocator();
-        let table = CodeTable::new(alloc, &pages, self.table.first(), self.table.words().len())?;
         Ok(UntracedMachine {
-            harts: copied(alloc, &self.harts)?,
-            pages,
-            table,
-            reservations: self.reservations.copy(),
-            console: self.console.copy(alloc)?,
-            // No turn is under way between two rounds.
-            log: SerialLog::new(alloc),
-            plan: self.plan.copy(alloc)?,
+            plan: self.plan.copy(guest.pages().allocator())?,
+            guest,
             rounds: self.rounds,
             events: self.events,
             work: self.work,
         })
     }
-}
-
-/// The same harts.
-fn copied(alloc: Global, harts: &[Hart]) -> Result<Vec<Hart>, OutOfMemory>
-    ensures { IfOk result (λ hs. hs.items ≡ harts.now) }
-{
-    Vec::from_slice(alloc, harts).map_err(|_| OutOfMemory)
 }

@@ -1,12 +1,9 @@
-ghost use Rattle.std.specs.Prelude.{◌≡◌, ◌⊎◌, ◌<◌, ◌++◌, Some, None, Err, IfErr, OnOk, OnErr};
-ghost use Rattle.elf_loader.specs.declared.load_error.LoadError.{LoadError as ImageCause};
+ghost use Rattle.std.specs.Prelude.{◌≡◌, ◌⊎◌, ◌<◌, ◌++◌, None, Err, IfErr, OnOk, OnErr};
 ghost use Rattle.round_planner.specs.Quotas.{Planned};
-ghost use Rattle.round_planner.specs.declared.plan_error.PlanError.{PlanError as PlanCause};
 ghost use Rattle.host_io.specs.Taken.{BeganText};
-ghost use Rattle.host_io.specs.declared.error.RunError.{RunError as Refusal};
 ghost use Rattle.host_io.specs.declared.error.RunError.TheVariants as refusals;
 ghost use Rattle.report.specs.Report.{report_of};
-ghost use Rattle.machine.specs.Settings.{IsImage, IsImageCause, IsPlan, IsPlanCause, IsReason, RefusedAs, report_after, settings_fault};
+ghost use Rattle.machine.specs.Settings.{IsPlan, IsReason, RefusedInOrder, report_after, settings_fault};
 
 use crate::machine::Machine;
 use crate::preparing::prepare;
@@ -37,13 +34,10 @@ pub fn emulate<S: Sink, R: Threads + Wait + Sync>(
     ensures begun { OnErr result ((S.took out.new ≡ S.took out.old) ⊎ ((plan : Planned) × IsPlan settings.now plan × BeganText (S.took out.old) (S.took out.new) (report_after settings.now image.now input.now plan))) }
     // Where anything else than memory or the sink refuses, it took nothing.
     ensures untouched { IfErr result (λ e. (e ≡ refusals.OutOfMemory) ⊎ (e ≡ refusals.SinkFailed) ⊎ (S.took out.new ≡ S.took out.old)) }
-    // Numbers out of range are refused first, and then an image.
-    ensures settings { (e : Refusal) → settings_fault settings.now ≡ Some e → result ≡ Err e }
+    // Numbers out of range are refused first, then an image, and then a plan.
+    ensures in_order { RefusedInOrder settings.now image.now result }
     // What is refused then is for a reason that stands.
     ensures errors { settings_fault settings.now ≡ None → IfErr result (λ e. IsReason settings.now image.now e ⊎ ((e ≡ refusals.SinkFailed) × (S.failures out.old < S.failures out.new))) }
-    ensures image { (cause : ImageCause) → settings_fault settings.now ≡ None → IsImageCause settings.now image.now cause → RefusedAs (refusals.Image cause) result }
-    // A plan is refused where the image is good.
-    ensures plan { (cause : PlanCause) → settings_fault settings.now ≡ None → IsImage settings.now image.now → IsPlanCause settings.now cause → RefusedAs (refusals.Plan cause) result }
 {
     let mut machine = prepare(alloc, image, input, settings)?;
     machine.run(rt, settings.rounds, settings.workers)?;
@@ -62,15 +56,7 @@ impl Machine {
         ensures sink { result ≡ Err RunError.SinkFailed → S.failures out.old < S.failures out.new }
         ensures errors { IfErr result (λ e. (e ≡ RunError.OutOfMemory) ⊎ (e ≡ RunError.SinkFailed)) }
     {
-        write_state(
-            alloc,
-            self.bare.rounds(),
-            self.bare.harts(),
-            self.bare.pages(),
-            self.bare.output(),
-            &self.trace,
-            out,
-        )
+        write_state(alloc, &self.bare.state(), &self.trace, out)
     }
 
     /// Writes the report of the state, with the lines of its events formatted by so many workers, though by no more than 16.
@@ -90,17 +76,6 @@ impl Machine {
         ensures sink { result ≡ Err RunError.SinkFailed → S.failures out.old < S.failures out.new }
         ensures errors { IfErr result (λ e. (e ≡ RunError.OutOfMemory) ⊎ (e ≡ RunError.SinkFailed)) }
     {
-        let machine = &self.bare;
-        write_state_on(
-            rt,
-            workers,
-            alloc,
-            machine.rounds(),
-            machine.harts(),
-            machine.pages(),
-            machine.output(),
-            &self.trace,
-            out,
-        )
+        write_state_on(rt, workers, alloc, &self.bare.state(), &self.trace, out)
     }
 }

@@ -9,6 +9,7 @@ mod crew;
 mod decoding;
 mod emulation;
 mod events;
+mod guest;
 mod keeper;
 mod machine;
 mod observing;

@@ -1,12 +1,9 @@
-ghost use Rattle.std.specs.Prelude.{◌≡◌, ℕ, ◌⊎◌, ◌<◌, ◌++◌, List, Some, None, Err, IfErr, OnErr, OnOk};
-ghost use Rattle.elf_loader.specs.declared.load_error.LoadError.{LoadError as ImageCause};
+ghost use Rattle.std.specs.Prelude.{◌≡◌, ℕ, ◌⊎◌, ◌<◌, ◌++◌, List, None, IfErr, OnErr, OnOk};
 ghost use Rattle.round_planner.specs.Quotas.{Planned};
-ghost use Rattle.round_planner.specs.declared.plan_error.PlanError.{PlanError as PlanCause};
 ghost use Rattle.host_io.specs.Taken.{BeganText};
-ghost use Rattle.host_io.specs.declared.error.RunError.{RunError as Refusal};
 ghost use Rattle.host_io.specs.declared.error.RunError.TheVariants as refusals;
 ghost use Rattle.machine.specs.OrderedRun.{IsOrderOfRun, ordered_text};
-ghost use Rattle.machine.specs.Settings.{IsImage, IsImageCause, IsPlan, IsPlanCause, IsReason, RefusedAs, settings_fault};
+ghost use Rattle.machine.specs.Settings.{IsReason, RefusedInOrder, settings_fault};
 
 use crate::observing::Observer;
 use crate::settings::Settings;
@@ -39,13 +36,10 @@ pub fn order_run<S: Sink, O: Observer, R: Threads + Wait + Sync>(
     ensures begun { OnErr result ((S.took out.new ≡ S.took out.old) ⊎ ((plan : Planned) × (places : List ℕ) × IsOrderOfRun settings.now image.now input.now plan places × BeganText (S.took out.old) (S.took out.new) (ordered_text settings.now image.now input.now plan places))) }
     // Where anything else than memory or the sink refuses, it took nothing.
     ensures untouched { IfErr result (λ e. (e ≡ refusals.OutOfMemory) ⊎ (e ≡ refusals.SinkFailed) ⊎ (S.took out.new ≡ S.took out.old)) }
-    // Numbers out of range are refused first.
-    ensures settings { (e : Refusal) → settings_fault settings.now ≡ Some e → result ≡ Err e }
+    // Numbers out of range are refused first, then an image, and then a plan.
+    ensures in_order { RefusedInOrder settings.now image.now result }
     // What is refused then is for a reason that stands.
     ensures errors { settings_fault settings.now ≡ None → IfErr result (λ e. IsReason settings.now image.now e ⊎ ((e ≡ refusals.SinkFailed) × (S.failures out.old < S.failures out.new))) }
-    ensures image { (cause : ImageCause) → settings_fault settings.now ≡ None → IsImageCause settings.now image.now cause → RefusedAs (refusals.Image cause) result }
-    // A plan is refused where the image is good.
-    ensures plan { (cause : PlanCause) → settings_fault settings.now ≡ None → IsImage settings.now image.now → IsPlanCause settings.now cause → RefusedAs (refusals.Plan cause) result }
 {
     let trace = trace_run(rt, alloc, image, input, settings, observer)?;
     write_order(alloc, &trace, out)

@@ -1,13 +1,12 @@
-ghost use Rattle.std.specs.Prelude.{◌≡◌, ◌⊎◌, ◌≤◌, Some, None, Err, IfOk, IfErr};
+ghost use Rattle.std.specs.Prelude.{◌≡◌, ◌⊎◌, ◌≤◌, None, Err, IfOk, IfErr};
 ghost use Rattle.elf_loader.specs.Causes.{IsGood, IsLeast as IsLeastOfImage};
 ghost use Rattle.elf_loader.specs.declared.load_error.LoadError.{LoadError as ImageCause};
 ghost use Rattle.round_planner.specs.Causes.{IsLeast as IsLeastOfPlan};
 ghost use Rattle.round_planner.specs.Quotas.{Planned};
 ghost use Rattle.round_planner.specs.declared.plan_error.PlanError.{PlanError as PlanCause};
-ghost use Rattle.host_io.specs.declared.error.RunError.{RunError as Refusal};
 ghost use Rattle.host_io.specs.declared.error.RunError.TheVariants as refusals;
 ghost use Rattle.machine.specs.Machine.{opening};
-ghost use Rattle.machine.specs.Settings.{IsImage, IsImageCause, IsInRange, IsPlan, IsPlanCause, IsPlanOf, IsReason, RefusedAs, StandsIn, image_for, image_of, settings_fault};
+ghost use Rattle.machine.specs.Settings.{IsInRange, IsPlan, IsPlanOf, IsReason, RefusedInOrder, StandsIn, image_for, image_of, settings_fault};
 
 use crate::machine::Machine;
 use crate::settings::{Format, Settings, check_settings};
@@ -28,12 +27,10 @@ pub fn prepare(
     settings: &Settings<'_>,
 ) -> Result<Machine, RunError>
     ensures machine { IfOk result (λ m. (plan : Planned) × IsPlan settings.now plan × (m ≡ opening (image_for settings.now image.now) input.now plan)) }
-    ensures settings { (e : Refusal) → settings_fault settings.now ≡ Some e → result ≡ Err e }
+    ensures in_order { RefusedInOrder settings.now image.now result }
     ensures workers { IfOk result (λ _. (1 ≤ settings.now.workers) × (settings.now.workers ≤ 16)) }
     ensures range { IfOk result (λ _. IsInRange settings.now) }
     ensures errors { settings_fault settings.now ≡ None → IfErr result (λ e. IsReason settings.now image.now e) }
-    ensures image { (cause : ImageCause) → settings_fault settings.now ≡ None → IsImageCause settings.now image.now cause → RefusedAs (refusals.Image cause) result }
-    ensures plan { (cause : PlanCause) → settings_fault settings.now ≡ None → IsImage settings.now image.now → IsPlanCause settings.now cause → RefusedAs (refusals.Plan cause) result }
 {
     check_settings(settings)?;
     let image = load(alloc, settings.format, image, settings.pages)?;

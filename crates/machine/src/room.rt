@@ -7,33 +7,33 @@ use crate::events::total_accesses;
 use crate::outcome::Outcome;
 use crate::ready::make_ready;
 use pages::{OutOfMemory, Pages};
-use serial_phase::{Console, SerialLog};
+use serial_phase::SharedState;
 use trace::Trace;
 
 /// Asks for all that the commit and the serial turns of a round may need, so that nothing is refused after
 /// them: the pages, the spare pages, and room in the output and the log.
 pub fn make_turn_room(
-    pages: &mut Pages,
-    console: &mut Console,
-    log: &mut SerialLog,
+    shared: &mut SharedState,
     outcomes: &[Outcome],
     turns: u32,
 ) -> Result<(), OutOfMemory>
-    requires { AreFit pages.old.memory outcomes.now }
-    ensures keeps { KeepsPages pages.old pages.new }
-    ensures console { console.new.console ≡ console.old.console }
-    ensures ready { OnOk result (AreReady pages.new outcomes.now) }
-    ensures spares { OnOk result (HasSpares turns pages.new) }
-    ensures output { OnOk result (HasRoom turns console.new) }
-    ensures log_room { OnOk result (turns ≤ log.new.room) }
-    ensures closed { OnOk result (log.new.closed ≡ []) }
-    ensures current { OnOk result (log.new.current ≡ []) }
+    requires { AreFit shared.old.pages.memory outcomes.now }
+    ensures keeps { KeepsPages shared.old.pages shared.new.pages }
+    ensures code { shared.new.code ≡ shared.old.code }
+    ensures reservations { shared.new.reservations ≡ shared.old.reservations }
+    ensures console { shared.new.console.console ≡ shared.old.console.console }
+    ensures ready { OnOk result (AreReady shared.new.pages outcomes.now) }
+    ensures spares { OnOk result (HasSpares turns shared.new.pages) }
+    ensures output { OnOk result (HasRoom turns shared.new.console) }
+    ensures log_room { OnOk result (turns ≤ shared.new.log.room) }
+    ensures closed { OnOk result (shared.new.log.closed ≡ []) }
+    ensures current { OnOk result (shared.new.log.current ≡ []) }
 {
-    make_ready(pages, outcomes)?;
-    make_spares(pages, outcomes, turns)?;
-    console.reserve(turns as usize)?;
-    log.clear();
-    log.reserve(turns as usize)
+    make_ready(&mut shared.pages, outcomes)?;
+    make_spares(&mut shared.pages, outcomes, turns)?;
+    shared.console.reserve(turns as usize)?;
+    shared.log.clear();
+    shared.log.reserve(turns as usize)
 }
 
 /// Has as many spare pages; what is ready stays ready.

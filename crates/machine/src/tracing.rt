@@ -1,14 +1,11 @@
-ghost use Rattle.std.specs.Prelude.{◌≡◌, ℕ, List, Some, None, Err, IfOk, IfErr, slice_index};
-ghost use Rattle.elf_loader.specs.declared.load_error.LoadError.{LoadError as ImageCause};
+ghost use Rattle.std.specs.Prelude.{◌≡◌, ℕ, List, None, IfOk, IfErr, slice_index};
 ghost use Rattle.round_planner.specs.Quotas.{Planned};
-ghost use Rattle.round_planner.specs.declared.plan_error.PlanError.{PlanError as PlanCause};
-ghost use Rattle.host_io.specs.declared.error.RunError.{RunError as Refusal};
 ghost use Rattle.host_io.specs.declared.error.RunError.TheVariants as refusals;
 ghost use Rattle.round_schedule.specs.RoundTrace.{IsRoundTrace};
 ghost use Rattle.memory_order.specs.RoundOrder.{IsRoundOrder};
 ghost use Rattle.memory_order.specs.Rvwmo.{MeetsRvwmo};
 ghost use Rattle.trace.specs.Traced.{opening_at};
-ghost use Rattle.machine.specs.Settings.{IsImage, IsImageCause, IsPlan, IsPlanCause, IsReason, RefusedAs, image_for, settings_fault, trace_after};
+ghost use Rattle.machine.specs.Settings.{IsPlan, IsReason, RefusedInOrder, image_for, settings_fault, trace_after};
 
 use crate::observing::Observer;
 use crate::preparing::prepare;
@@ -41,11 +38,8 @@ pub fn trace_run<O: Observer, R: Threads + Wait + Sync>(
     ensures rounds { IfOk result (λ t. IsRoundTrace t.events (opening_at t.opening) settings.now.budget) }
     // The order by rounds, which `memory_order` gives, meets RVWMO.
     ensures rvwmo { IfOk result (λ t. (g : List ℕ) → IsRoundOrder t.events g → MeetsRvwmo t.events (opening_at t.opening) g) }
-    ensures settings { (e : Refusal) → settings_fault settings.now ≡ Some e → result ≡ Err e }
+    ensures in_order { RefusedInOrder settings.now image.now result }
     ensures errors { settings_fault settings.now ≡ None → IfErr result (λ e. IsReason settings.now image.now e) }
-    ensures image { (cause : ImageCause) → settings_fault settings.now ≡ None → IsImageCause settings.now image.now cause → RefusedAs (refusals.Image cause) result }
-    // A plan is refused where the image is good.
-    ensures plan { (cause : PlanCause) → settings_fault settings.now ≡ None → IsImage settings.now image.now → IsPlanCause settings.now cause → RefusedAs (refusals.Plan cause) result }
 {
     let mut machine = prepare(alloc, image, input, settings)?;
     machine.run_observed(rt, settings.rounds, settings.workers, observer)?;

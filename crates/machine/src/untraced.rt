@@ -5,15 +5,12 @@ ghost use Rattle.hart_step.specs.Stops.{has_stop};
 ghost use Rattle.machine.specs.Machine.{Running, opening};
 ghost use Rattle.machine.specs.Untraced.{IsUntraced};
 
-use crate::decoding::decode_code;
-use crate::opening::opening_harts;
+use crate::guest::GuestState;
 use elf_loader::Image;
-use hart_step::{CodeTable, Hart};
+use hart_step::Hart;
 use host_io::RunError;
-use pages::Pages;
-use reservations::Reservations;
+use report::RunState;
 use round_planner::Plan;
-use serial_phase::{Console, SerialLog};
 use std::alloc::Global;
 use std::marker::Model;
 
@@ -21,12 +18,7 @@ use std::marker::Model;
 /// grows with the guest, and never with the run.
 #[derive(Drop)]
 pub struct UntracedMachine {
-    pub(crate) harts: Vec<Hart>,
-    pub(crate) pages: Pages,
-    pub(crate) table: CodeTable,
-    pub(crate) reservations: Reservations,
-    pub(crate) console: Console,
-    pub(crate) log: SerialLog,
+    pub(crate) guest: GuestState,
     pub(crate) plan: Plan,
     pub(crate) rounds: u32,
     pub(crate) events: u64,
@@ -35,14 +27,14 @@ pub struct UntracedMachine {
 }
 
 impl Model for UntracedMachine {
-    ghost use Rattle.machine.specs.Held.{HoldsParts};
-    ghost use Rattle.machine.specs.Untraced.{Untraced};
+    ghost use Rattle.machine.specs.Held.{HoldsRun};
+    ghost use Rattle.machine.specs.Untraced.{Untraced, untraced_of};
 
     ghost Value = { Untraced };
 
-    ghost view = { λ m. record { harts = m.harts.items; bytes = m.pages.memory.bytes; console = m.console.console; table = m.reservations; events = m.events; rounds = m.rounds; code = m.pages.memory.code; plan = m.plan } };
+    ghost view = { λ m. untraced_of m.guest m.plan m.events m.rounds };
 
-    ghost invariant = { λ m. HoldsParts m.harts.items m.plan.harts m.reservations m.pages.memory m.table m.events m.rounds };
+    ghost invariant = { λ m. HoldsRun m.guest m.plan.harts m.events m.rounds };
 }
 
 impl UntracedMachine {
@@ -77,17 +69,9 @@ impl UntracedMachine {
         ensures machine { IfOk result (λ u. IsUntraced (opening image.now input.items plan) u) }
         ensures refused { IfErr result (λ e. e ≡ refusals.OutOfMemory) }
     {
-        let pages = Pages::new(alloc, image.pages(), image.pieces(), image.code())?;
-        let entry = image.entry();
-        let table = decode_code(alloc, &pages, entry)?;
-        let harts = opening_harts(alloc, entry, plan.harts())?;
+        let guest = GuestState::open(alloc, image, input, plan.harts())?;
         Ok(UntracedMachine {
-            reservations: Reservations::new(plan.harts()),
-            harts,
-            pages,
-            table,
-            console: Console::new(alloc, input),
-            log: SerialLog::new(alloc),
+            guest,
             plan,
             rounds: 0,
             events: 0,
@@ -101,7 +85,7 @@ impl UntracedMachine {
         ensures count { length result.now ≡ self.now.plan.harts }
         ensures stops { (m : Running) → IsUntraced m self.now → All (λ h. has_stop h.stop ≡ true) result.now }
     {
-        self.harts.as_slice()
+        self.guest.harts()
     }
 
     /// The byte at an address, or `None` outside guest memory.
@@ -109,17 +93,18 @@ impl UntracedMachine {
         ensures inside { addr < length self.now.bytes → result ≡ Some (slice_index self.now.bytes addr) }
         ensures outside { length self.now.bytes ≤ addr → result ≡ None }
     {
-        if addr >= 4096 * u64::from(self.pages.count()) {
+        let pages = self.guest.pages();
+        if addr >= 4096 * u64::from(pages.count()) {
             return None;
         }
-        Some(self.pages.byte(addr))
+        Some(pages.byte(addr))
     }
 
     /// The output so far.
     pub fn output(&self) -> &[u8]
         ensures { result.now ≡ self.now.console.output }
     {
-        self.console.output()
+        self.guest.output()
     }
 
     /// How many events the trace would have.
@@ -136,22 +121,30 @@ impl UntracedMachine {
         self.rounds
     }
 
-    /// Its memory.
-    pub(crate) fn pages(&self) -> &Pages
-        ensures { result.now.memory.bytes ≡ self.now.bytes }
+    /// What the run has come to, for its report.
+    pub(crate) fn state(&self) -> RunState<'_>
+        ensures rounds { result.rounds ≡ self.now.rounds }
+        ensures harts { result.harts.now ≡ self.now.harts }
+        ensures bytes { result.pages.now.memory.bytes ≡ self.now.bytes }
+        ensures output { result.output.now ≡ self.now.console.output }
     {
-        &self.pages
+        RunState {
+            rounds: self.rounds,
+            harts: self.guest.harts(),
+            pages: self.guest.pages(),
+            output: self.guest.output(),
+        }
     }
 
     /// Where its memory comes from.
     pub(crate) fn allocator(&self) -> Global {
-        self.pages.allocator()
+        self.guest.pages().allocator()
     }
 
     /// Each byte of memory is a byte.
     pub(crate) fn bytes_fit(&self)
         ensures { IsBytes self.now.bytes }
     {
-        self.pages.bytes_fit();
+        self.guest.pages().bytes_fit();
     }
 }

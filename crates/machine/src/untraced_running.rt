@@ -11,7 +11,6 @@ ghost use Rattle.machine.specs.Untraced.{AreAdded, AreLast, HasRun, IsAfter, May
 use crate::crew::Crew;
 use crate::keeper::{EventKeeper, NoTrace};
 use crate::observing::{Observer, Unobserved};
-use crate::round::do_round;
 use crate::running::{MANY_LINES, MOST_WORKERS, RoundNote, stopped_count, workers_for};
 use crate::untraced::UntracedMachine;
 use host_io::RunError;
@@ -140,10 +139,12 @@ impl UntracedMachine {
     pub(crate) fn check_to_go_on(&self)
         ensures { (n : ℕ) (es : List Event) → self.now.rounds + n < 2 ^ 32 → AreLast self.now es → MayGoOn IsTrace n es self.now }
     {
-        self.pages.bytes_fit();
+        let pages = self.guest.pages();
+        pages.bytes_fit();
+        self.guest.sizes_agree();
         let _harts = self.plan.harts();
         let _budget = self.plan.budget();
-        let _pages = self.pages.count();
+        let _pages = pages.count();
     }
 
     /// Does so many rounds, where as many can be counted, and has their events kept.
@@ -238,36 +239,27 @@ impl UntracedMachine {
         ensures err { OnErr result (self.new ≡ self.old) }
         ensures untold { OnErr result ((es : List Event) → E.keeps keeper.old es → E.keeps keeper.new es) }
     {
-        self.pages.bytes_fit();
+        let pages = self.guest.pages();
+        pages.bytes_fit();
+        self.guest.sizes_agree();
         // The types keep: at most 64 harts with quotas in range, a budget of at most 1,000, at most 16,384 pages.
         let _harts = self.plan.harts();
         let _budget = self.plan.budget();
-        let _pages = self.pages.count();
-        let counts = do_round(
-            &crew,
-            &mut self.pages,
-            &self.table,
-            &mut self.reservations,
-            &mut self.console,
-            &mut self.log,
-            keeper,
-            &mut self.harts,
-            &self.plan,
-            self.rounds,
-        )?;
+        let _pages = pages.count();
+        let counts = self.guest.do_round(&crew, keeper, &self.plan, self.rounds)?;
         self.rounds += 1;
         self.events += counts.events;
         Ok(RoundNote {
             round: self.rounds,
             waited: counts.waited,
-            stopped: stopped_count(&self.harts),
+            stopped: stopped_count(self.harts()),
         })
     }
 
     /// How many instructions the harts have done together.
     fn instructions_done(&self) -> u64 {
         let mut done: u64 = 0;
-        for hart in &self.harts {
+        for hart in self.guest.harts() {
             done = done.wrapping_add(hart.done);
         }
         done
@@ -279,7 +271,8 @@ impl UntracedMachine {
     {
         // At most 64.
         let _harts = self.plan.harts();
-        self.harts.len() as u32 - stopped_count(&self.harts)
+        let harts = self.guest.harts();
+        harts.len() as u32 - stopped_count(harts)
     }
 
     /// About how many instructions the harts do together in the next round: as many as in the last one, or as the plan allows.

@@ -16,3 +16,4 @@ pub mod RoundCount
 pub mod Begun
 pub mod PlaceSought
 pub mod HitsAdded
+pub mod Refused

@@ -6,6 +6,7 @@ use Rattle.pages.specs.Memory.{in_range}
 use Rattle.round_schedule.specs.declared.event.Event.{Event}
 use Rattle.round_schedule.specs.Accesses.{address_of, bytes_of}
 use Rattle.round_schedule.specs.Held.{any_byte}
+use Rattle.replayer.specs.declared.rounds.Rounds.{Rounds}
 
 -- whether the address lies in one of the ranges; a range that ends past all addresses does not wrap
 abbrev pub is_watched : List Range → ℕ → Bool
@@ -28,6 +29,6 @@ abbrev pub of_rounds : ℕ → ℕ → List Event → List Event
 of_rounds from to es = filter (is_within from to) es
 
 -- the hits, of some rounds alone where they are told
-abbrev pub sought : Option (ℕ × ℕ) → List Range → List Event → List Event
-sought None ranges t = hits ranges t
-sought (Some x) ranges t = of_rounds x.0 x.1 (hits ranges t)
+abbrev pub sought_in : Option Rounds → List Range → List Event → List Event
+sought_in None ranges t = hits ranges t
+sought_in (Some rounds) ranges t = of_rounds rounds.first rounds.last (hits ranges t)

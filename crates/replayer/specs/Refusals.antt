@@ -1,12 +1,12 @@
 -- Why a recording is refused by those who run it: the workers, then the image, then the plan, or want of memory.
-use Rattle.std.specs.Prelude.{◌≡◌, ◌⊎◌, ℕ, ◌<◌, ◌≤◌}
+use Rattle.std.specs.Prelude.{◌≡◌, ◌⊎◌, ℕ, ◌<◌, ◌≤◌, Result, Err, IfErr}
 use Rattle.round_planner.specs.Causes.{IsLeast as IsLeastOfPlan}
 use Rattle.round_planner.specs.declared.plan_error.PlanError.{PlanError as PlanCause}
 use Rattle.elf_loader.specs.Causes.{IsGood, IsLeast as IsLeastOfImage}
 use Rattle.elf_loader.specs.declared.load_error.LoadError.{LoadError as ImageCause}
 use Rattle.host_io.specs.declared.error.RunError.{RunError}
 use Rattle.host_io.specs.declared.error.RunError.TheVariants as refusals
-use Rattle.machine.specs.Settings.{StandsIn}
+use Rattle.machine.specs.Settings.{RefusedAs, StandsIn}
 use Rattle.recording.specs.Recorded.{Recorded}
 use Rattle.replayer.specs.Replayed.{format_of}
 
@@ -35,3 +35,11 @@ HasReason r e =
     (e ≡ refusals.OutOfMemory)
     ⊎ ((cause : ImageCause) × HasImageCause r cause × (e ≡ refusals.Image cause))
     ⊎ ((cause : PlanCause) × HasPlanCause r cause × (e ≡ refusals.Plan cause))
+
+-- refused in this order: a number of workers out of range, then the image by its least cause, and where nothing speaks against it,
+-- the plan by its own least cause; and for no other reason
+pub record RefusedInOrder {X : Type 0} (n : ℕ) (r : Recorded) (result : Result X RunError) : Type 0 where
+  pub workers : AreNoWorkers n → result ≡ Err refusals.WorkersOutOfRange
+  pub reasons : AreWorkers n → IfErr result (λ e. HasReason r e)
+  pub image : (cause : ImageCause) → AreWorkers n → HasImageCause r cause → RefusedAs (refusals.Image cause) result
+  pub plan : (cause : PlanCause) → AreWorkers n → HasImage r → HasPlanCause r cause → RefusedAs (refusals.Plan cause) result

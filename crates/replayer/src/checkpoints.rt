@@ -1,15 +1,12 @@
-ghost use Rattle.std.specs.Prelude.{◌≡◌, ℕ, ◌≤◌, ◌<◌, ◌+◌, ◌*◌, ◌++◌, ◌∷◌, [], if◌then◌else◌, map, Some, None, Err, IfOk, IfErr, OnOk, MatchOption};
-ghost use Rattle.elf_loader.specs.declared.load_error.LoadError.{LoadError as ImageCause};
+ghost use Rattle.std.specs.Prelude.{◌≡◌, ℕ, ◌≤◌, ◌<◌, ◌+◌, ◌*◌, ◌++◌, ◌∷◌, [], if◌then◌else◌, Some, None, Err, IfOk, IfErr, OnOk, MatchOption};
 ghost use Rattle.round_planner.specs.Quotas.{Planned};
-ghost use Rattle.round_planner.specs.declared.plan_error.PlanError.{PlanError as PlanCause};
 ghost use Rattle.host_io.specs.declared.error.RunError.TheVariants as refusals;
 ghost use Rattle.machine.specs.Machine.{Running, after_rounds};
-ghost use Rattle.machine.specs.Settings.{RefusedAs};
 ghost use Rattle.machine.specs.Untraced.{IsUntraced};
 ghost use Rattle.recording.specs.Grammar.{is_due};
 ghost use Rattle.replayer.specs.Checkpoints.{AreCheckpoints, IsOpened, checkpoints_of, kept_machine};
 ghost use Rattle.replayer.specs.Past.{hart_at};
-ghost use Rattle.replayer.specs.Refusals.{AreNoWorkers, AreWorkers, HasImage, HasImageCause, HasPlanCause, HasReason};
+ghost use Rattle.replayer.specs.Refusals.{AreNoWorkers, AreWorkers, RefusedInOrder};
 ghost use Rattle.replayer.specs.Replayed.{IsPlanFor, IsVerdict};
 
 use crate::keeping::seen_of;
@@ -68,11 +65,7 @@ impl Replay {
         workers: u32,
     ) -> Result<Replay, RunError>
         ensures opened { IfOk result (λ p. (plan : Planned) × IsPlanFor recording.now plan × IsOpened recording.now plan every p) }
-        ensures workers { AreNoWorkers workers → result ≡ Err refusals.WorkersOutOfRange }
-        ensures errors { AreWorkers workers → IfErr result (λ e. HasReason recording.now e) }
-        ensures image { (cause : ImageCause) → AreWorkers workers → HasImageCause recording.now cause → RefusedAs (refusals.Image cause) result }
-        // A plan is refused where the image is good.
-        ensures plan { (cause : PlanCause) → AreWorkers workers → HasImage recording.now → HasPlanCause recording.now cause → RefusedAs (refusals.Plan cause) result }
+        ensures in_order { RefusedInOrder workers recording.now result }
     {
         let mut start = opened(alloc, recording, workers)?;
         let mut machine = start.share()?;

@@ -9,6 +9,7 @@ mod past;
 mod placing;
 mod recorder;
 mod replaying;
+mod rounds;
 mod verdict;
 mod watching;
 
@@ -20,5 +21,6 @@ pub use recorder::{record, record_observed, record_with};
 pub use recording::{Cause, ReadError, Recording, migrate, read_recording, write_recording};
 pub use replaying::{replay, replay_observed};
 pub use round_schedule::Event as Hit;
+pub use rounds::Rounds;
 pub use verdict::Verdict;
 pub use watching::{watch, watch_rounds};

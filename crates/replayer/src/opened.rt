@@ -1,12 +1,9 @@
-ghost use Rattle.std.specs.Prelude.{◌≡◌, ◌⊎◌, ◌<◌, ◌≤◌, Some, None, Err, IfOk, IfErr};
-ghost use Rattle.elf_loader.specs.declared.load_error.LoadError.{LoadError as ImageCause};
+ghost use Rattle.std.specs.Prelude.{◌≡◌, ◌<◌, Some, None, IfOk};
 ghost use Rattle.round_planner.specs.Quotas.{Planned};
-ghost use Rattle.round_planner.specs.declared.plan_error.PlanError.{PlanError as PlanCause};
 ghost use Rattle.host_io.specs.declared.error.RunError.TheVariants as refusals;
-ghost use Rattle.machine.specs.Settings.{RefusedAs, settings_fault};
+ghost use Rattle.machine.specs.Settings.{settings_fault};
 ghost use Rattle.machine.specs.Untraced.{IsUntraced};
-ghost use Rattle.machine.specs.declared.settings.Settings.{Settings as Asked};
-ghost use Rattle.replayer.specs.Refusals.{AreNoWorkers, AreWorkers, HasImage, HasImageCause, HasPlanCause, HasReason};
+ghost use Rattle.replayer.specs.Refusals.{AreNoWorkers, AreWorkers, RefusedInOrder};
 ghost use Rattle.replayer.specs.Replayed.{IsPlanFor, format_of, start_of};
 
 use host_io::RunError;
@@ -23,10 +20,7 @@ pub(crate) fn opened(
 ) -> Result<Machine, RunError>
     ensures machine { IfOk result (λ m. (plan : Planned) × IsPlanFor recording.now plan × (m ≡ start_of recording.now plan)) }
     ensures in_range { IfOk result (λ _. AreWorkers workers) }
-    ensures workers { AreNoWorkers workers → result ≡ Err refusals.WorkersOutOfRange }
-    ensures errors { AreWorkers workers → IfErr result (λ e. HasReason recording.now e) }
-    ensures image { (cause : ImageCause) → AreWorkers workers → HasImageCause recording.now cause → RefusedAs (refusals.Image cause) result }
-    ensures plan { (cause : PlanCause) → AreWorkers workers → HasImage recording.now → HasPlanCause recording.now cause → RefusedAs (refusals.Plan cause) result }
+    ensures in_order { RefusedInOrder workers recording.now result }
 {
     let settings = settings_of(recording, workers);
     prepare(alloc, recording.image(), recording.input(), &settings)
@@ -41,10 +35,7 @@ pub(crate) fn opened_untraced(
 ) -> Result<UntracedMachine, RunError>
     ensures machine { IfOk result (λ u. (plan : Planned) × IsPlanFor recording.now plan × IsUntraced (start_of recording.now plan) u) }
     ensures in_range { IfOk result (λ _. AreWorkers workers) }
-    ensures workers { AreNoWorkers workers → result ≡ Err refusals.WorkersOutOfRange }
-    ensures errors { AreWorkers workers → IfErr result (λ e. HasReason recording.now e) }
-    ensures image { (cause : ImageCause) → AreWorkers workers → HasImageCause recording.now cause → RefusedAs (refusals.Image cause) result }
-    ensures plan { (cause : PlanCause) → AreWorkers workers → HasImage recording.now → HasPlanCause recording.now cause → RefusedAs (refusals.Plan cause) result }
+    ensures in_order { RefusedInOrder workers recording.now result }
 {
     let settings = settings_of(recording, workers);
     prepare_untraced(alloc, recording.image(), recording.input(), &settings)

@@ -1,15 +1,12 @@
-ghost use Rattle.std.specs.Prelude.{◌≡◌, ◌≤◌, ◌<◌, ◌+◌, ◌^◌, Err, IfOk, IfErr};
-ghost use Rattle.elf_loader.specs.declared.load_error.LoadError.{LoadError as ImageCause};
+ghost use Rattle.std.specs.Prelude.{◌≡◌, ◌≤◌, ◌<◌, ◌+◌, ◌^◌, IfOk, IfErr};
 ghost use Rattle.round_planner.specs.Quotas.{Planned, quotas_of};
-ghost use Rattle.round_planner.specs.declared.plan_error.PlanError.{PlanError as PlanCause};
 ghost use Rattle.host_io.specs.declared.error.RunError.TheVariants as refusals;
 ghost use Rattle.round_schedule.specs.Past.{hart_after};
 ghost use Rattle.hart_step.specs.Words.{words_of};
 ghost use Rattle.machine.specs.Machine.{Running, after_rounds};
-ghost use Rattle.machine.specs.Settings.{RefusedAs};
 ghost use Rattle.machine.specs.Untraced.{IsUntraced};
 ghost use Rattle.replayer.specs.Past.{hart_at};
-ghost use Rattle.replayer.specs.Refusals.{AreNoWorkers, AreWorkers, HasImage, HasImageCause, HasPlanCause, HasReason};
+ghost use Rattle.replayer.specs.Refusals.{RefusedInOrder};
 ghost use Rattle.replayer.specs.Replayed.{IsPlanFor, start_of};
 
 use crate::opened::opened_untraced;
@@ -38,11 +35,7 @@ pub fn state_at<R: Threads + Wait + Sync>(
     workers: u32,
 ) -> Result<Option<Hart>, RunError>
     ensures hart { IfOk result (λ h. (plan : Planned) × IsPlanFor recording.now plan × (h ≡ hart_at recording.now.rounds (start_of recording.now plan) round hart count)) }
-    ensures workers { AreNoWorkers workers → result ≡ Err refusals.WorkersOutOfRange }
-    ensures errors { AreWorkers workers → IfErr result (λ e. HasReason recording.now e) }
-    ensures image { (cause : ImageCause) → AreWorkers workers → HasImageCause recording.now cause → RefusedAs (refusals.Image cause) result }
-    // A plan is refused where the image is good.
-    ensures plan { (cause : PlanCause) → AreWorkers workers → HasImage recording.now → HasPlanCause recording.now cause → RefusedAs (refusals.Plan cause) result }
+    ensures in_order { RefusedInOrder workers recording.now result }
 {
     let machine = opened_untraced(alloc, recording, workers)?;
     if round == 0 {

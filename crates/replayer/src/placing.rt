@@ -1,13 +1,10 @@
-ghost use Rattle.std.specs.Prelude.{◌≡◌, ◌≤◌, Err, IfOk, IfErr};
-ghost use Rattle.elf_loader.specs.declared.load_error.LoadError.{LoadError as ImageCause};
+ghost use Rattle.std.specs.Prelude.{◌≡◌, ◌≤◌, IfOk, IfErr};
 ghost use Rattle.round_planner.specs.Quotas.{Planned};
-ghost use Rattle.round_planner.specs.declared.plan_error.PlanError.{PlanError as PlanCause};
 ghost use Rattle.host_io.specs.declared.error.RunError.TheVariants as refusals;
 ghost use Rattle.machine.specs.Machine.{Running};
-ghost use Rattle.machine.specs.Settings.{RefusedAs};
 ghost use Rattle.machine.specs.Untraced.{IsUntraced};
 ghost use Rattle.replayer.specs.Past.{Begins, IsRoundOf, IsStateBefore};
-ghost use Rattle.replayer.specs.Refusals.{AreNoWorkers, AreWorkers, HasImage, HasImageCause, HasPlanCause, HasReason};
+ghost use Rattle.replayer.specs.Refusals.{RefusedInOrder};
 ghost use Rattle.replayer.specs.Replayed.{IsPlanFor, start_of};
 
 use crate::counting::done_by;
@@ -37,11 +34,7 @@ pub fn state_before<R: Threads + Wait + Sync>(
     workers: u32,
 ) -> Result<Option<(u32, Hart)>, RunError>
     ensures before { IfOk result (λ x. (plan : Planned) × IsPlanFor recording.now plan × IsStateBefore recording.now.rounds (start_of recording.now plan) hart place x) }
-    ensures workers { AreNoWorkers workers → result ≡ Err refusals.WorkersOutOfRange }
-    ensures errors { AreWorkers workers → IfErr result (λ e. HasReason recording.now e) }
-    ensures image { (cause : ImageCause) → AreWorkers workers → HasImageCause recording.now cause → RefusedAs (refusals.Image cause) result }
-    // A plan is refused where the image is good.
-    ensures plan { (cause : PlanCause) → AreWorkers workers → HasImage recording.now → HasPlanCause recording.now cause → RefusedAs (refusals.Plan cause) result }
+    ensures in_order { RefusedInOrder workers recording.now result }
 {
     let mut machine = opened_untraced(alloc, recording, workers)?;
     // At most 1,000, so that no count of instructions wraps.

@@ -1,11 +1,8 @@
-ghost use Rattle.std.specs.Prelude.{◌≡◌, ◌≤◌, ◌<◌, ◌^◌, ◌++◌, ◌∷◌, [], map, length, Some, None, Err, IfOk, IfErr, OnOk};
-ghost use Rattle.elf_loader.specs.declared.load_error.LoadError.{LoadError as ImageCause};
+ghost use Rattle.std.specs.Prelude.{◌≡◌, ◌≤◌, ◌<◌, ◌^◌, ◌++◌, ◌∷◌, [], map, length, None, Err, IfOk, IfErr, OnOk};
 ghost use Rattle.round_planner.specs.Quotas.{Planned};
-ghost use Rattle.round_planner.specs.declared.plan_error.PlanError.{PlanError as PlanCause};
-ghost use Rattle.host_io.specs.declared.error.RunError.{RunError as Refusal};
 ghost use Rattle.host_io.specs.declared.error.RunError.TheVariants as refusals;
 ghost use Rattle.machine.specs.Machine.{Running};
-ghost use Rattle.machine.specs.Settings.{IsImage, IsImageCause, IsInRange, IsPlan, IsPlanCause, IsReason, RefusedAs, settings_fault};
+ghost use Rattle.machine.specs.Settings.{IsInRange, IsPlan, IsReason, RefusedInOrder, settings_fault};
 ghost use Rattle.machine.specs.Untraced.{IsUntraced};
 ghost use Rattle.recording.specs.Fields.{HaveEach};
 ghost use Rattle.recording.specs.Grammar.{kept_after};
@@ -35,11 +32,8 @@ pub fn record<R: Threads + Wait + Sync>(
     settings: &Settings<'_>,
 ) -> Result<Recording, RunError>
     ensures recording { IfOk result (λ r. (plan : Planned) × IsPlan settings.now plan × (r ≡ recorded_of settings.now 0 image.now input.now plan)) }
-    ensures settings { (e : Refusal) → settings_fault settings.now ≡ Some e → result ≡ Err e }
+    ensures in_order { RefusedInOrder settings.now image.now result }
     ensures errors { settings_fault settings.now ≡ None → IfErr result (λ e. IsReason settings.now image.now e) }
-    ensures image { (cause : ImageCause) → settings_fault settings.now ≡ None → IsImageCause settings.now image.now cause → RefusedAs (refusals.Image cause) result }
-    // A plan is refused where the image is good.
-    ensures plan { (cause : PlanCause) → settings_fault settings.now ≡ None → IsImage settings.now image.now → IsPlanCause settings.now cause → RefusedAs (refusals.Plan cause) result }
 {
     record_with(rt, alloc, image, input, settings, 0)
 }
@@ -58,11 +52,8 @@ pub fn record_with<R: Threads + Wait + Sync>(
     every: u32,
 ) -> Result<Recording, RunError>
     ensures recording { IfOk result (λ r. (plan : Planned) × IsPlan settings.now plan × (r ≡ recorded_of settings.now every image.now input.now plan)) }
-    ensures settings { (e : Refusal) → settings_fault settings.now ≡ Some e → result ≡ Err e }
+    ensures in_order { RefusedInOrder settings.now image.now result }
     ensures errors { settings_fault settings.now ≡ None → IfErr result (λ e. IsReason settings.now image.now e) }
-    ensures image { (cause : ImageCause) → settings_fault settings.now ≡ None → IsImageCause settings.now image.now cause → RefusedAs (refusals.Image cause) result }
-    // A plan is refused where the image is good.
-    ensures plan { (cause : PlanCause) → settings_fault settings.now ≡ None → IsImage settings.now image.now → IsPlanCause settings.now cause → RefusedAs (refusals.Plan cause) result }
 {
     record_observed(rt, alloc, image, input, settings, every, &mut Unobserved)
 }
@@ -82,11 +73,8 @@ pub fn record_observed<O: Observer, R: Threads + Wait + Sync>(
     observer: &mut O,
 ) -> Result<Recording, RunError>
     ensures recording { IfOk result (λ r. (plan : Planned) × IsPlan settings.now plan × (r ≡ recorded_of settings.now every image.now input.now plan)) }
-    ensures settings { (e : Refusal) → settings_fault settings.now ≡ Some e → result ≡ Err e }
+    ensures in_order { RefusedInOrder settings.now image.now result }
     ensures errors { settings_fault settings.now ≡ None → IfErr result (λ e. IsReason settings.now image.now e) }
-    ensures image { (cause : ImageCause) → settings_fault settings.now ≡ None → IsImageCause settings.now image.now cause → RefusedAs (refusals.Image cause) result }
-    // A plan is refused where the image is good.
-    ensures plan { (cause : PlanCause) → settings_fault settings.now ≡ None → IsImage settings.now image.now → IsPlanCause settings.now cause → RefusedAs (refusals.Plan cause) result }
 {
     let mut machine = prepare_untraced(alloc, image, input, settings)?;
     let kept = keep_rounds(

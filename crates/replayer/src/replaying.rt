@@ -1,13 +1,10 @@
-ghost use Rattle.std.specs.Prelude.{◌≡◌, ◌≤◌, ◌<◌, ◌^◌, map, length, Err, IfOk, IfErr};
-ghost use Rattle.elf_loader.specs.declared.load_error.LoadError.{LoadError as ImageCause};
+ghost use Rattle.std.specs.Prelude.{◌≡◌, ◌≤◌, ◌<◌, ◌^◌, map, length, IfOk, IfErr};
 ghost use Rattle.round_planner.specs.Quotas.{Planned};
-ghost use Rattle.round_planner.specs.declared.plan_error.PlanError.{PlanError as PlanCause};
 ghost use Rattle.host_io.specs.declared.error.RunError.TheVariants as refusals;
 ghost use Rattle.machine.specs.Machine.{Running};
-ghost use Rattle.machine.specs.Settings.{RefusedAs};
 ghost use Rattle.machine.specs.Untraced.{IsUntraced};
 ghost use Rattle.recording.specs.Views.{kept_view};
-ghost use Rattle.replayer.specs.Refusals.{AreNoWorkers, AreWorkers, HasImage, HasImageCause, HasPlanCause, HasReason};
+ghost use Rattle.replayer.specs.Refusals.{RefusedInOrder};
 ghost use Rattle.replayer.specs.Replayed.{IsNextVerdict, IsPlanFor, IsVerdict, IsVerdictOn, start_of};
 ghost use Rattle.replayer.specs.Summaries.{kept_in};
 
@@ -34,11 +31,7 @@ pub fn replay<R: Threads + Wait + Sync>(
     workers: u32,
 ) -> Result<Verdict, RunError>
     ensures verdict { IfOk result (λ v. (plan : Planned) × IsPlanFor recording.now plan × IsVerdict recording.now (start_of recording.now plan) v) }
-    ensures workers { AreNoWorkers workers → result ≡ Err refusals.WorkersOutOfRange }
-    ensures errors { AreWorkers workers → IfErr result (λ e. HasReason recording.now e) }
-    ensures image { (cause : ImageCause) → AreWorkers workers → HasImageCause recording.now cause → RefusedAs (refusals.Image cause) result }
-    // A plan is refused where the image is good.
-    ensures plan { (cause : PlanCause) → AreWorkers workers → HasImage recording.now → HasPlanCause recording.now cause → RefusedAs (refusals.Plan cause) result }
+    ensures in_order { RefusedInOrder workers recording.now result }
 {
     replay_observed(rt, alloc, recording, workers, &mut Unobserved)
 }
@@ -57,11 +50,7 @@ pub fn replay_observed<O: Observer, R: Threads + Wait + Sync>(
     observer: &mut O,
 ) -> Result<Verdict, RunError>
     ensures verdict { IfOk result (λ v. (plan : Planned) × IsPlanFor recording.now plan × IsVerdict recording.now (start_of recording.now plan) v) }
-    ensures workers { AreNoWorkers workers → result ≡ Err refusals.WorkersOutOfRange }
-    ensures errors { AreWorkers workers → IfErr result (λ e. HasReason recording.now e) }
-    ensures image { (cause : ImageCause) → AreWorkers workers → HasImageCause recording.now cause → RefusedAs (refusals.Image cause) result }
-    // A plan is refused where the image is good.
-    ensures plan { (cause : PlanCause) → AreWorkers workers → HasImage recording.now → HasPlanCause recording.now cause → RefusedAs (refusals.Plan cause) result }
+    ensures in_order { RefusedInOrder workers recording.now result }
 {
     let mut machine = opened_untraced(alloc, recording, workers)?;
     // So many rounds are kept, as 32 bits hold.

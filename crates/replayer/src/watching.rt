@@ -1,19 +1,17 @@
 ghost use Rattle.std.specs.Prelude.{◌≡◌, ◌≤◌, ◌+◌, ◌++◌, ◌∷◌, ◌<◌, ◌^◌, [], Err, IfOk, IfErr, OnOk};
-ghost use Rattle.elf_loader.specs.declared.load_error.LoadError.{LoadError as ImageCause};
 ghost use Rattle.round_planner.specs.Quotas.{Planned};
-ghost use Rattle.round_planner.specs.declared.plan_error.PlanError.{PlanError as PlanCause};
 ghost use Rattle.host_io.specs.declared.error.RunError.TheVariants as refusals;
 ghost use Rattle.machine.specs.Machine.{Running, after_rounds};
-ghost use Rattle.machine.specs.Settings.{RefusedAs};
 ghost use Rattle.machine.specs.Untraced.{IsUntraced};
 ghost use Rattle.pages.specs.Memory.{width_bytes};
 ghost use Rattle.round_schedule.specs.Accesses.{address_of, bytes_of};
 ghost use Rattle.round_schedule.specs.Held.{any_byte};
-ghost use Rattle.replayer.specs.Hits.{hits, is_hit, is_watched, of_rounds, sought};
-ghost use Rattle.replayer.specs.Refusals.{AreNoWorkers, AreWorkers, HasImage, HasImageCause, HasPlanCause, HasReason};
+ghost use Rattle.replayer.specs.Hits.{hits, is_hit, is_watched, of_rounds, sought_in};
+ghost use Rattle.replayer.specs.Refusals.{RefusedInOrder};
 ghost use Rattle.replayer.specs.Replayed.{IsPlanFor, hits_of, start_of};
 
 use crate::opened::opened_untraced;
+use crate::rounds::Rounds;
 use host_io::RunError;
 use machine::{Observer, Unobserved, UntracedMachine};
 use pages::{OutOfMemory, Range, Width};
@@ -40,26 +38,26 @@ pub fn watch<R: Threads + Wait + Sync>(
     workers: u32,
 ) -> Result<Vec<Event>, RunError>
     ensures hits { IfOk result (λ v. (plan : Planned) × IsPlanFor recording.now plan × (v.items ≡ hits_of recording.now (start_of recording.now plan) ranges.now)) }
-    ensures workers { AreNoWorkers workers → result ≡ Err refusals.WorkersOutOfRange }
-    ensures errors { AreWorkers workers → IfErr result (λ e. HasReason recording.now e) }
-    ensures image { (cause : ImageCause) → AreWorkers workers → HasImageCause recording.now cause → RefusedAs (refusals.Image cause) result }
-    // A plan is refused where the image is good.
-    ensures plan { (cause : PlanCause) → AreWorkers workers → HasImage recording.now → HasPlanCause recording.now cause → RefusedAs (refusals.Plan cause) result }
+    ensures in_order { RefusedInOrder workers recording.now result }
 {
     let mut machine = opened_untraced(alloc, recording, workers)?;
+    let sought = Sought {
+        ranges,
+        within: None,
+    };
+    let rounds = recording.rounds();
     watch_run(
         rt,
         alloc,
         &mut machine,
-        recording.rounds(),
-        ranges,
-        None,
+        rounds,
+        sought,
         workers,
         &mut Unobserved,
     )
 }
 
-/// What `watch` gives, of the rounds from `from` to `to` alone, both counted. It runs no further than round `to`. It may wait.
+/// What `watch` gives, of some rounds alone. It runs no further than the last of them. It may wait.
 ///
 /// The observer looks at the machine after each round in which a hart runs, and once more after the rounds in which none does,
 /// since those are done at once.
@@ -72,41 +70,39 @@ pub fn watch_rounds<O: Observer, R: Threads + Wait + Sync>(
     alloc: Global,
     recording: &Recording,
     ranges: &[Range],
-    from: u32,
-    to: u32,
+    rounds: Rounds,
     workers: u32,
     observer: &mut O,
 ) -> Result<Vec<Event>, RunError>
-    ensures hits { IfOk result (λ v. (plan : Planned) × IsPlanFor recording.now plan × (v.items ≡ of_rounds from to (hits_of recording.now (start_of recording.now plan) ranges.now))) }
-    ensures workers { AreNoWorkers workers → result ≡ Err refusals.WorkersOutOfRange }
-    ensures errors { AreWorkers workers → IfErr result (λ e. HasReason recording.now e) }
-    ensures image { (cause : ImageCause) → AreWorkers workers → HasImageCause recording.now cause → RefusedAs (refusals.Image cause) result }
-    // A plan is refused where the image is good.
-    ensures plan { (cause : PlanCause) → AreWorkers workers → HasImage recording.now → HasPlanCause recording.now cause → RefusedAs (refusals.Plan cause) result }
+    ensures hits { IfOk result (λ v. (plan : Planned) × IsPlanFor recording.now plan × (v.items ≡ of_rounds rounds.first rounds.last (hits_of recording.now (start_of recording.now plan) ranges.now))) }
+    ensures in_order { RefusedInOrder workers recording.now result }
 {
     let mut machine = opened_untraced(alloc, recording, workers)?;
-    let rounds = recording.rounds().min(to);
-    watch_run(
-        rt,
-        alloc,
-        &mut machine,
-        rounds,
+    let sought = Sought {
         ranges,
-        Some((from, to)),
-        workers,
-        observer,
-    )
+        within: Some(rounds),
+    };
+    let count = recording.rounds().min(rounds.last);
+    watch_run(rt, alloc, &mut machine, count, sought, workers, observer)
 }
 
-/// Runs a machine that was just opened for so many rounds, and keeps the events that hit one of the ranges, of some rounds
-/// alone where they are told. The other events of a round are let go after it. It may wait.
+/// Which events of a run are kept.
+#[derive(Clone, Copy)]
+struct Sought<'a> {
+    /// Those that hit one of these ranges.
+    ranges: &'a [Range],
+    /// Of these rounds alone, where they are told.
+    within: Option<Rounds>,
+}
+
+/// Runs a machine that was just opened for so many rounds, and keeps the events that are sought. The other events of a round are
+/// let go after it. It may wait.
 fn watch_run<O: Observer, R: Threads + Wait + Sync>(
     rt: &R,
     alloc: Global,
     machine: &mut UntracedMachine,
     rounds: u32,
-    ranges: &[Range],
-    within: Option<(u32, u32)>,
+    sought: Sought<'_>,
     workers: u32,
     observer: &mut O,
 ) -> Result<Vec<Event>, RunError>
@@ -114,7 +110,7 @@ fn watch_run<O: Observer, R: Threads + Wait + Sync>(
     requires opened { machine.old.rounds ≡ 0 }
     // The next events of a run may be noted.
     requires run { (m : Running) × IsUntraced m machine.old }
-    ensures hits { (m : Running) → IsUntraced m machine.old → m.state.trace ≡ [] → IfOk result (λ v. v.items ≡ sought within ranges.now (after_rounds rounds m).state.trace) }
+    ensures hits { (m : Running) → IsUntraced m machine.old → m.state.trace ≡ [] → IfOk result (λ v. v.items ≡ sought_in sought.entry.within sought.entry.ranges.now (after_rounds rounds m).state.trace) }
     ensures refused { IfErr result (λ e. e ≡ refusals.OutOfMemory) }
 {
     let mut found = Vec::new(alloc);
@@ -123,7 +119,7 @@ fn watch_run<O: Observer, R: Threads + Wait + Sync>(
         let count = rounds_at_once(machine, rounds - done);
         let mut trace = Trace::new(alloc, Vec::new(alloc));
         machine.run_noting(rt, count, workers, &mut trace)?;
-        add_sought(&mut found, &trace, ranges, within)?;
+        add_sought(&mut found, &trace, sought)?;
         observer.after_round(machine);
         done += count;
     }
@@ -143,18 +139,13 @@ fn rounds_at_once(machine: &UntracedMachine, left: u32) -> u32
     }
 }
 
-/// Adds the events of a trace that hit one of the ranges, of some rounds alone where they are told, in the order of the trace.
-fn add_sought(
-    found: &mut Vec<Event>,
-    trace: &Trace,
-    ranges: &[Range],
-    within: Option<(u32, u32)>,
-) -> Result<(), OutOfMemory>
-    ensures { OnOk result (found.new.items ≡ found.old.items ++ sought within ranges.now trace.now.events) }
+/// Adds the events of a trace that are sought, in the order of the trace.
+fn add_sought(found: &mut Vec<Event>, trace: &Trace, sought: Sought<'_>) -> Result<(), OutOfMemory>
+    ensures { OnOk result (found.new.items ≡ found.old.items ++ sought_in sought.entry.within sought.entry.ranges.now trace.now.events) }
 {
-    match within {
-        None => add_hits(found, trace, ranges),
-        Some((from, to)) => add_hits_within(found, trace, ranges, from, to),
+    match sought.within {
+        None => add_hits(found, trace, sought.ranges),
+        Some(rounds) => add_hits_within(found, trace, sought.ranges, rounds),
     }
 }
 
@@ -162,13 +153,12 @@ fn add_hits_within(
     found: &mut Vec<Event>,
     trace: &Trace,
     ranges: &[Range],
-    from: u32,
-    to: u32,
+    rounds: Rounds,
 ) -> Result<(), OutOfMemory>
-    ensures { OnOk result (found.new.items ≡ found.old.items ++ of_rounds from to (hits ranges.now trace.now.events)) }
+    ensures { OnOk result (found.new.items ≡ found.old.items ++ of_rounds rounds.first rounds.last (hits ranges.now trace.now.events)) }
 {
     for event in trace.events() {
-        if is_hit(&event, ranges) && from <= event.round && event.round <= to {
+        if is_hit(&event, ranges) && rounds.first <= event.round && event.round <= rounds.last {
             add(found, event)?;
         }
     }

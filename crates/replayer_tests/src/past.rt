@@ -5,7 +5,7 @@ use host_io::RunError;
 use machine::{Unobserved, prepare, prepare_untraced};
 use pages::Range;
 use replayer::{
-    Recording, Replay, Verdict, count_at, record, state_at, state_before, watch_rounds,
+    Recording, Replay, Rounds, Verdict, count_at, record, state_at, state_before, watch_rounds,
 };
 use std::alloc::Global;
 use std::sync::Wait;
@@ -102,7 +102,11 @@ fn hits_of<R: Threads + Wait + Sync>(
         start: 0x100,
         len: 8,
     };
-    Ok(watch_rounds(rt, alloc, recording, &[bytes], from, to, 1, &mut Unobserved)?.len())
+    let rounds = Rounds {
+        first: from,
+        last: to,
+    };
+    Ok(watch_rounds(rt, alloc, recording, &[bytes], rounds, 1, &mut Unobserved)?.len())
 }
 
 #[test]

@@ -1,5 +1,8 @@
-use Rattle.std.proofs.Common.{◌+◌, sym, subst, ◌∙◌, arith}
+use Rattle.std.proofs.Common.{◌+◌, refl, sym, subst, ◌∙◌, arith}
 use Rattle.pages.specs.Memory.{Memory}
+use Rattle.commit_phase.specs.Commit.{Committed}
+use Rattle.hart_step.specs.CodeTables.{Shows}
+use Rattle.machine.specs.Guests.{shared_of}
 use Rattle.machine.specs.Outcomes.{AreOutcomes}
 use Rattle.machine.proofs.AskedTurns.{begun_there, same_room}
 use Rattle.machine.proofs.CodeKept.{shows_committed}
@@ -9,27 +12,29 @@ use Rattle.machine.proofs.asked_turn.ask_turn.Goals as goal
 pub take_turns-requires-clause-shows : goal.take_turns-requires-clause-shows
 take_turns-requires-clause-shows g c =
     let rounds = c.requires.rounds in
+    let room = c.make_turn_room.new.shared in
+    let m = c.args.shared.now.pages.memory in
     let same = c.in_ok-make_turn_room.ensures.keeps.memory in
     let committed = c.commit.ensures.committed rounds.0 (subst (λ (x : Memory). AreOutcomes x rounds.0 c.args.outcomes.now) (sym same) rounds.1) in
-    shows_committed rounds.0 c.args.pages.now.memory c.make_turn_room.new.pages c.commit.new.pages c.args.reservations.now c.commit.new.table c.args.table.now.first c.args.table.now.instructions same committed rounds.2 c.requires.shows
+    shows_committed rounds.0 m room.pages c.commit.new.pages room.reservations c.commit.new.table room.code.first room.code.instructions same committed rounds.2
+    (subst (λ x. Shows m x.first x.instructions) (sym c.in_ok-make_turn_room.ensures.code) c.requires.shows)
 
 pub hart_at-requires-clause-pages : goal.hart_at-requires-clause-pages
 hart_at-requires-clause-pages g c =
     c.take_turns.ensures.pages c.args.place.budget
-    (spares_left (c.turns_needed.result + c.args.place.budget) _ c.make_turn_room.new.pages c.commit.new.pages (omega (arith, c.turns_needed.ensures.needed)) c.commit.ensures.ready c.commit.ensures.spare c.in_ok-make_turn_room.ensures.spares)
+    (spares_left (c.turns_needed.result + c.args.place.budget) _ c.make_turn_room.new.shared.pages c.commit.new.pages (omega (arith, c.turns_needed.ensures.needed)) c.commit.ensures.ready c.commit.ensures.spare c.in_ok-make_turn_room.ensures.spares)
 
 pub hart_at-requires-clause-console : goal.hart_at-requires-clause-console
 hart_at-requires-clause-console g c =
     c.take_turns.ensures.console c.args.place.budget
-    (same_room (c.turns_needed.result + c.args.place.budget) _ c.make_turn_room.new.console (omega (arith, c.turns_needed.ensures.needed)) c.in_ok-make_turn_room.ensures.output)
+    (same_room (c.turns_needed.result + c.args.place.budget) _ c.make_turn_room.new.shared.console (omega (arith, c.turns_needed.ensures.needed)) c.in_ok-make_turn_room.ensures.output)
 
 pub returns : goal.returns
 returns g c = λ rs a.
-    let m = c.args.pages.now.memory in
+    let old = shared_of c.args.shared.now in
     let os = c.args.outcomes.now in
-    let place = c.args.place in
     let same = c.in_ok-make_turn_room.ensures.keeps.memory in
-    let committed = c.commit.ensures.committed rs (subst (λ (x : Memory). AreOutcomes x rs os) (sym same) a) in
+    let committed = subst (λ t. Committed rs c.make_turn_room.new.shared.pages c.commit.new.pages t c.commit.new.table) c.in_ok-make_turn_room.ensures.reservations
+    (c.commit.ensures.committed rs (subst (λ (x : Memory). AreOutcomes x rs os) (sym same) a)) in
     c.hart_at.ensures
-    ∙ begun_there m place.budget place.round place.hart place.count c.args.start rs os c.make_turn_room.new.pages c.commit.new.pages c.take_turns.new.pages c.args.reservations.now c.commit.new.table c.take_turns.new.reservations
-    c.make_turn_room.new.console c.take_turns.new.console c.args.console.now.console a same committed c.in_ok-make_turn_room.ensures.console c.take_turns.ensures.turns
+    ∙ begun_there _ c.args.place c.args.start old rs os c.make_turn_room.new.shared.pages _ c.take_turns.new.shared refl a same committed c.in_ok-make_turn_room.ensures.console c.take_turns.ensures.turns

@@ -3,9 +3,9 @@ use Rattle.machine.proofs.Asked.{shorter_is}
 use Rattle.machine.proofs.asking.shorter_round.Goals as goal
 
 pub hart_round-requires : goal.hart_round-requires
-hart_round-requires c = shows_through c.args.pages.now.memory c.new-view.result c.args.table.now.first c.args.table.now.instructions c.new-view.ensures c.requires
+hart_round-requires c = shows_through c.args.shared.now.pages.memory c.new-view.result c.args.shared.now.code.first c.args.shared.now.code.instructions c.new-view.ensures c.requires
 
 pub returns : goal.returns
 returns c =
-    shorter_is c.args.pages.now.memory c.new-view.result c.hart_round.new.b c.args.quota c.args.hart c.hart_round.new.h c.new-accesses.result.items c.hart_round.new.log.items c.in_ok-_waits._waits
+    shorter_is c.args.shared.now.pages.memory c.new-view.result c.hart_round.new.b c.args.quota c.args.hart c.hart_round.new.h c.new-accesses.result.items c.hart_round.new.log.items c.in_ok-_waits._waits
     c.new-view.ensures c.new-accesses.ensures.items c.in_ok-_waits.ensures.round

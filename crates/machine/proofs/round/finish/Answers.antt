@@ -1,14 +1,17 @@
 use Rattle.std.proofs.Common.{◌≡◌, ◌≤◌, ◌++◌, ℕ, List, length, sym, ap, ◌∙◌, subst, arith}
 use Rattle.pages.specs.Memory.{Memory}
+use Rattle.commit_phase.specs.Commit.{Committed}
+use Rattle.hart_step.specs.CodeTables.{Shows}
+use Rattle.serial_phase.specs.declared.shared.SharedState.{SharedState}
 use Rattle.round_schedule.specs.declared.event.Event.{Event}
 use Rattle.hart_step.specs.declared.hart.Hart.{Hart}
 use Rattle.serial_phase.specs.Phase.{TakesTurns, serial_done, budget_from}
 use Rattle.serial_phase.specs.Roomed.{HasRoom}
 use Rattle.machine.specs.declared.outcome.Outcome.{Outcome}
-use Rattle.machine.specs.Outcomes.{AreFit, AreOutcomes, AreReady, count_accesses, mask_of, waits_of, harts_of, round_events, turns_of}
+use Rattle.machine.specs.Outcomes.{AreFit, AreOutcomes, AreReady, count_accesses, mask_of, waits_of, harts_of, round_events}
 use Rattle.machine.proofs.CodeKept.{shows_committed}
 use Rattle.machine.proofs.Counted.{count_events, few_turns}
-use Rattle.machine.proofs.RoundDone.{finished_from, needed_is, length-waits, length-harts, spares_left, LogFits, log_of}
+use Rattle.machine.proofs.RoundDone.{finished_from, needed_is, length-waits, length-harts, spares_left, log_of}
 use Rattle.machine.proofs.round.finish.Goals as goal
 
 pub commit-requires-clause-few : goal.commit-requires-clause-few
@@ -16,30 +19,34 @@ commit-requires-clause-few g c = λ lifetimes within. omega (arith, c.requires.f
 
 pub commit-requires-clause-fits : goal.commit-requires-clause-fits
 commit-requires-clause-fits g c = λ lifetimes within.
-    subst (λ (x : List Outcome). AreFit c.make_turn_room.new.pages.memory x) (sym c.in_ok-adopts.ensures.outcomes)
+    subst (λ (x : List Outcome). AreFit c.make_turn_room.new.shared.pages.memory x) (sym c.in_ok-adopts.ensures.outcomes)
     (subst (λ (m : Memory). AreFit m c.args.outcomes.now) (sym c.in_ok-make_turn_room.ensures.keeps.memory) c.requires.fits)
 
 pub commit-requires-clause-ready : goal.commit-requires-clause-ready
-commit-requires-clause-ready g c = λ lifetimes within. subst (λ (x : List Outcome). AreReady c.make_turn_room.new.pages x) (sym c.in_ok-adopts.ensures.outcomes) c.in_ok-make_turn_room.ensures.ready
+commit-requires-clause-ready g c = λ lifetimes within.
+    subst (λ (x : List Outcome). AreReady c.make_turn_room.new.shared.pages x) (sym c.in_ok-adopts.ensures.outcomes) c.in_ok-make_turn_room.ensures.ready
 
 pub serial-requires : goal.serial-requires
 serial-requires g c =
     let os = c.args.outcomes.now in
+    let phase = c.args.phase in
+    let room = c.make_turn_room.new.shared in
     let size : length c.args.harts.now ≡ length os = ap length c.requires.harts ∙ length-harts os in
-    let need : budget_from c.waiting_mask-waiting.result c.args.budget 0 (length c.args.harts.now) ≡ c.turns_needed-turns.result =
-    ap (λ (w : ℕ). budget_from w c.args.budget 0 (length c.args.harts.now)) c.waiting_mask-waiting.ensures.mask
-    ∙ ap (budget_from (mask_of (waits_of os)) c.args.budget 0) (size ∙ sym (length-waits os)) ∙ needed_is c.args.budget (waits_of os) ∙ sym c.turns_needed-turns.ensures.needed in
+    let need : budget_from phase.waiting phase.budget 0 (length c.args.harts.now) ≡ c.turns_needed-turns.result =
+    ap (λ (w : ℕ). budget_from w phase.budget 0 (length c.args.harts.now)) c.requires.waiting
+    ∙ ap (budget_from (mask_of (waits_of os)) phase.budget 0) (size ∙ sym (length-waits os)) ∙ needed_is phase.budget (waits_of os) ∙ sym c.turns_needed-turns.ensures.needed in
     let rounds = c.requires.rounds in
-    let m = c.args.pages.now.memory in
+    let m = c.args.shared.now.pages.memory in
     let same = c.in_ok-make_turn_room.ensures.keeps.memory in
     let committed = c.commit.ensures.committed rounds.0 (subst (λ (x : Memory). AreOutcomes x rounds.0 c.make_room.new.outcomes) (sym same) (subst (λ (x : List Outcome). AreOutcomes m rounds.0 x) (sym c.in_ok-adopts.ensures.outcomes) rounds.1)) in
     record {
-      shows = shows_committed rounds.0 m c.make_turn_room.new.pages c.commit.new.pages c.args.reservations.now c.commit.new.table c.args.table.now.first c.args.table.now.instructions same committed rounds.2 c.requires.shows;
-      harts = size ∙ sym c.requires.size ∙ sym c.commit.ensures.size;
+      shows = shows_committed rounds.0 m room.pages c.commit.new.pages room.reservations c.commit.new.table room.code.first room.code.instructions same committed rounds.2
+          (subst (λ x. Shows m x.first x.instructions) (sym c.make_turn_room.ensures.code) c.requires.shows);
+      harts = size ∙ sym c.requires.size ∙ ap length (sym c.make_turn_room.ensures.reservations) ∙ sym c.commit.ensures.size;
       few = omega (arith, size, c.requires.few);
-      pages = spares_left c.turns_needed-turns.result _ c.make_turn_room.new.pages c.commit.new.pages need c.commit.ensures.ready c.commit.ensures.spare c.in_ok-make_turn_room.ensures.spares;
-      console = subst (λ (n : ℕ). HasRoom n c.make_turn_room.new.console) (sym need) c.in_ok-make_turn_room.ensures.output;
-      log = subst (λ (n : ℕ). n ≤ c.make_turn_room.new.log.room) (sym need) c.in_ok-make_turn_room.ensures.log_room;
+      pages = spares_left c.turns_needed-turns.result _ room.pages c.commit.new.pages need c.commit.ensures.ready c.commit.ensures.spare c.in_ok-make_turn_room.ensures.spares;
+      console = subst (λ (n : ℕ). HasRoom n room.console) (sym need) c.in_ok-make_turn_room.ensures.output;
+      log = subst (λ (n : ℕ). n ≤ room.log.room) (sym need) c.in_ok-make_turn_room.ensures.log_room;
       closed = c.in_ok-make_turn_room.ensures.closed;
       current = c.in_ok-make_turn_room.ensures.current;
     }
@@ -50,27 +57,28 @@ access_count-requires g c = omega (arith, c.requires.accesses, ap count_accesses
 pub serial_count-requires : goal.serial_count-requires
 serial_count-requires g c =
     let os = c.args.outcomes.now in
-    let by_mask = subst (λ (w : ℕ). TakesTurns (serial_done c.args.budget c.args.round w c.args.harts.now c.commit.new.pages c.commit.new.table c.make_turn_room.new.console) c.serial.new.harts c.commit.new.pages c.serial.new.pages c.serial.new.table c.serial.new.console c.serial.new.log) c.waiting_mask-waiting.ensures.mask c.serial.ensures.turns in
-    let served = subst (λ (hs : List Hart). TakesTurns (serial_done c.args.budget c.args.round (mask_of (waits_of os)) hs c.commit.new.pages c.commit.new.table c.make_turn_room.new.console) c.serial.new.harts c.commit.new.pages c.serial.new.pages c.serial.new.table c.serial.new.console c.serial.new.log) c.requires.harts by_mask in
-    let fits : LogFits (turns_of c.args.budget (waits_of os)) (length (harts_of os)) c.serial.new.log =
-    log_of c.args.budget c.args.round (waits_of os) (harts_of os) c.serial.new.harts c.commit.new.pages c.serial.new.pages c.commit.new.table c.serial.new.table c.make_turn_room.new.console c.serial.new.console c.serial.new.log (length-waits os ∙ sym (length-harts os)) served in
+    let phase = c.args.phase in
+    let start : SharedState = record c.make_turn_room.new.shared { pages = c.commit.new.pages; reservations = c.commit.new.table } in
+    let served = subst (λ (hs : List Hart). TakesTurns (serial_done phase hs start) c.serial.new.harts start c.serial.new.state) c.requires.harts c.serial.ensures.turns in
+    let fits = log_of phase (waits_of os) (harts_of os) c.serial.new.harts start c.serial.new.state (length-waits os ∙ sym (length-harts os)) c.requires.waiting served in
     record {
       harts = omega (arith, fits.length, length-harts os, ap length c.in_ok-adopts.ensures.outcomes);
       few = omega (arith, fits.length, length-harts os, c.requires.few);
-      fits = omega (arith, fits.fits, few_turns c.args.budget (waits_of os) c.requires.budget, length-waits os, c.requires.few);
+      fits = omega (arith, fits.fits, few_turns phase.budget (waits_of os) c.requires.budget, length-waits os, c.requires.few);
     }
 
 pub add-requires : goal.add-requires
 add-requires g c =
     let os = c.args.outcomes.now in
-    let by_mask = subst (λ (w : ℕ). TakesTurns (serial_done c.args.budget c.args.round w c.args.harts.now c.commit.new.pages c.commit.new.table c.make_turn_room.new.console) c.serial.new.harts c.commit.new.pages c.serial.new.pages c.serial.new.table c.serial.new.console c.serial.new.log) c.waiting_mask-waiting.ensures.mask c.serial.ensures.turns in
-    let served = subst (λ (hs : List Hart). TakesTurns (serial_done c.args.budget c.args.round (mask_of (waits_of os)) hs c.commit.new.pages c.commit.new.table c.make_turn_room.new.console) c.serial.new.harts c.commit.new.pages c.serial.new.pages c.serial.new.table c.serial.new.console c.serial.new.log) c.requires.harts by_mask in
-    let fits : LogFits (turns_of c.args.budget (waits_of os)) (length (harts_of os)) c.serial.new.log =
-    log_of c.args.budget c.args.round (waits_of os) (harts_of os) c.serial.new.harts c.commit.new.pages c.serial.new.pages c.commit.new.table c.serial.new.table c.make_turn_room.new.console c.serial.new.console c.serial.new.log (length-waits os ∙ sym (length-harts os)) served in
+    let phase = c.args.phase in
+    let start : SharedState = record c.make_turn_room.new.shared { pages = c.commit.new.pages; reservations = c.commit.new.table } in
+    let served = subst (λ (hs : List Hart). TakesTurns (serial_done phase hs start) c.serial.new.harts start c.serial.new.state) c.requires.harts c.serial.ensures.turns in
+    let fits = log_of phase (waits_of os) (harts_of os) c.serial.new.harts start c.serial.new.state (length-waits os ∙ sym (length-harts os)) c.requires.waiting served in
     let kept = c.in_ok-make_turn_room.ensures.keeps.memory in
     let same = c.in_ok-adopts.ensures.outcomes in
-    let finished = finished_from c.args.budget c.args.round os c.serial.new.harts c.args.pages.now c.make_turn_room.new.pages c.commit.new.pages c.serial.new.pages c.args.reservations.now c.commit.new.table c.serial.new.table c.args.console.now.console c.make_turn_room.new.console c.serial.new.console c.serial.new.log
-    kept (λ rs a. c.commit.ensures.committed rs (subst (λ (m : Memory). AreOutcomes m rs c.make_room.new.outcomes) (sym kept) (subst (λ (x : List Outcome). AreOutcomes c.args.pages.now.memory rs x) (sym same) a))) c.in_ok-make_turn_room.ensures.console served in
+    let finished = finished_from phase os c.serial.new.harts c.args.shared.now c.make_turn_room.new.shared start c.serial.new.state kept
+    (λ rs a. subst (λ t. Committed rs c.make_turn_room.new.shared.pages c.commit.new.pages t c.commit.new.table) c.make_turn_room.ensures.reservations (c.commit.ensures.committed rs (subst (λ (m : Memory). AreOutcomes m rs c.make_room.new.outcomes) (sym kept)
+    (subst (λ (x : List Outcome). AreOutcomes c.args.shared.now.pages.memory rs x) (sym same) a)))) c.make_turn_room.ensures.console served in
     record {
       harts = fits.length ∙ length-harts os ∙ sym (ap length same);
       few = omega (arith, c.requires.few, ap length same);
@@ -78,40 +86,40 @@ add-requires g c =
       sound = (
         c.requires.sound.0,
         c.in_ok-adopts.ensures.kept c.requires.sound.0 c.requires.sound.1,
-        subst (λ (x : List Outcome). g.E.EventKeeper.may_keep (c.requires.sound.0 ++ round_events c.args.round x c.serial.new.log.closed)) (sym same)
-            (c.requires.sound.2 c.serial.new.harts c.serial.new.pages c.serial.new.table c.serial.new.console.console _ finished),
+        subst (λ (x : List Outcome). g.E.EventKeeper.may_keep (c.requires.sound.0 ++ round_events phase.round x c.serial.new.state.log.closed)) (sym same)
+            (c.requires.sound.2 _ _ finished),
       );
     }
 
 pub returns-clause-ok : goal.returns-clause-ok
 returns-clause-ok g c =
     let os = c.args.outcomes.now in
-    let by_mask = subst (λ (w : ℕ). TakesTurns (serial_done c.args.budget c.args.round w c.args.harts.now c.commit.new.pages c.commit.new.table c.make_turn_room.new.console) c.serial.new.harts c.commit.new.pages c.serial.new.pages c.serial.new.table c.serial.new.console c.serial.new.log) c.waiting_mask-waiting.ensures.mask c.serial.ensures.turns in
-    let served = subst (λ (hs : List Hart). TakesTurns (serial_done c.args.budget c.args.round (mask_of (waits_of os)) hs c.commit.new.pages c.commit.new.table c.make_turn_room.new.console) c.serial.new.harts c.commit.new.pages c.serial.new.pages c.serial.new.table c.serial.new.console c.serial.new.log) c.requires.harts by_mask in
-    let fits : LogFits (turns_of c.args.budget (waits_of os)) (length (harts_of os)) c.serial.new.log =
-    log_of c.args.budget c.args.round (waits_of os) (harts_of os) c.serial.new.harts c.commit.new.pages c.serial.new.pages c.commit.new.table c.serial.new.table c.make_turn_room.new.console c.serial.new.console c.serial.new.log (length-waits os ∙ sym (length-harts os)) served in
+    let phase = c.args.phase in
+    let start : SharedState = record c.make_turn_room.new.shared { pages = c.commit.new.pages; reservations = c.commit.new.table } in
+    let served = subst (λ (hs : List Hart). TakesTurns (serial_done phase hs start) c.serial.new.harts start c.serial.new.state) c.requires.harts c.serial.ensures.turns in
     let kept = c.in_ok-make_turn_room.ensures.keeps.memory in
     let same = c.in_ok-adopts.ensures.outcomes in
-    let finished = finished_from c.args.budget c.args.round os c.serial.new.harts c.args.pages.now c.make_turn_room.new.pages c.commit.new.pages c.serial.new.pages c.args.reservations.now c.commit.new.table c.serial.new.table c.args.console.now.console c.make_turn_room.new.console c.serial.new.console c.serial.new.log
-    kept (λ rs a. c.commit.ensures.committed rs (subst (λ (m : Memory). AreOutcomes m rs c.make_room.new.outcomes) (sym kept) (subst (λ (x : List Outcome). AreOutcomes c.args.pages.now.memory rs x) (sym same) a))) c.in_ok-make_turn_room.ensures.console served in
-    let all = round_events c.args.round os c.serial.new.log.closed in
-    let events = subst (λ (x : List Outcome). (es : List Event) → g.E.EventKeeper.keeps c.make_room.new.self es → g.E.EventKeeper.keeps c.add.new.self (es ++ round_events c.args.round x c.serial.new.log.closed)) same c.add.ensures.kept in
-    (all, finished, omega (arith, c.access_count.ensures, ap count_accesses same, c.serial_count.ensures, count_events c.args.round os c.serial.new.log.closed), λ es k. events es (c.in_ok-adopts.ensures.kept es k))
+    let finished = finished_from phase os c.serial.new.harts c.args.shared.now c.make_turn_room.new.shared start c.serial.new.state kept
+    (λ rs a. subst (λ t. Committed rs c.make_turn_room.new.shared.pages c.commit.new.pages t c.commit.new.table) c.make_turn_room.ensures.reservations (c.commit.ensures.committed rs (subst (λ (m : Memory). AreOutcomes m rs c.make_room.new.outcomes) (sym kept)
+    (subst (λ (x : List Outcome). AreOutcomes c.args.shared.now.pages.memory rs x) (sym same) a)))) c.make_turn_room.ensures.console served in
+    let all = round_events phase.round os c.serial.new.state.log.closed in
+    let events = subst (λ (x : List Outcome). (es : List Event) → g.E.EventKeeper.keeps c.make_room.new.self es → g.E.EventKeeper.keeps c.add.new.self (es ++ round_events phase.round x c.serial.new.state.log.closed)) same c.add.ensures.kept in
+    (all, finished, omega (arith, c.access_count.ensures, ap count_accesses same, c.serial_count.ensures, count_events phase.round os c.serial.new.state.log.closed), λ es k. events es (c.in_ok-adopts.ensures.kept es k))
 
 pub returns-clause-few : goal.returns-clause-few
 returns-clause-few g c =
     let os = c.args.outcomes.now in
-    let by_mask = subst (λ (w : ℕ). TakesTurns (serial_done c.args.budget c.args.round w c.args.harts.now c.commit.new.pages c.commit.new.table c.make_turn_room.new.console) c.serial.new.harts c.commit.new.pages c.serial.new.pages c.serial.new.table c.serial.new.console c.serial.new.log) c.waiting_mask-waiting.ensures.mask c.serial.ensures.turns in
-    let served = subst (λ (hs : List Hart). TakesTurns (serial_done c.args.budget c.args.round (mask_of (waits_of os)) hs c.commit.new.pages c.commit.new.table c.make_turn_room.new.console) c.serial.new.harts c.commit.new.pages c.serial.new.pages c.serial.new.table c.serial.new.console c.serial.new.log) c.requires.harts by_mask in
-    let fits : LogFits (turns_of c.args.budget (waits_of os)) (length (harts_of os)) c.serial.new.log =
-    log_of c.args.budget c.args.round (waits_of os) (harts_of os) c.serial.new.harts c.commit.new.pages c.serial.new.pages c.commit.new.table c.serial.new.table c.make_turn_room.new.console c.serial.new.console c.serial.new.log (length-waits os ∙ sym (length-harts os)) served in
-    omega (arith, c.requires.accesses, c.access_count.ensures, ap count_accesses c.in_ok-adopts.ensures.outcomes, c.serial_count.ensures, fits.fits, few_turns c.args.budget (waits_of os) c.requires.budget, length-waits os, c.requires.few)
+    let phase = c.args.phase in
+    let start : SharedState = record c.make_turn_room.new.shared { pages = c.commit.new.pages; reservations = c.commit.new.table } in
+    let served = subst (λ (hs : List Hart). TakesTurns (serial_done phase hs start) c.serial.new.harts start c.serial.new.state) c.requires.harts c.serial.ensures.turns in
+    let fits = log_of phase (waits_of os) (harts_of os) c.serial.new.harts start c.serial.new.state (length-waits os ∙ sym (length-harts os)) c.requires.waiting served in
+    omega (arith, c.requires.accesses, c.access_count.ensures, ap count_accesses c.in_ok-adopts.ensures.outcomes, c.serial_count.ensures, fits.fits, few_turns phase.budget (waits_of os) c.requires.budget, length-waits os, c.requires.few)
 
 pub overflow_add-events : goal.overflow_add-events
 overflow_add-events g c =
     let os = c.args.outcomes.now in
-    let by_mask = subst (λ (w : ℕ). TakesTurns (serial_done c.args.budget c.args.round w c.args.harts.now c.commit.new.pages c.commit.new.table c.make_turn_room.new.console) c.serial.new.harts c.commit.new.pages c.serial.new.pages c.serial.new.table c.serial.new.console c.serial.new.log) c.waiting_mask-waiting.ensures.mask c.serial.ensures.turns in
-    let served = subst (λ (hs : List Hart). TakesTurns (serial_done c.args.budget c.args.round (mask_of (waits_of os)) hs c.commit.new.pages c.commit.new.table c.make_turn_room.new.console) c.serial.new.harts c.commit.new.pages c.serial.new.pages c.serial.new.table c.serial.new.console c.serial.new.log) c.requires.harts by_mask in
-    let fits : LogFits (turns_of c.args.budget (waits_of os)) (length (harts_of os)) c.serial.new.log =
-    log_of c.args.budget c.args.round (waits_of os) (harts_of os) c.serial.new.harts c.commit.new.pages c.serial.new.pages c.commit.new.table c.serial.new.table c.make_turn_room.new.console c.serial.new.console c.serial.new.log (length-waits os ∙ sym (length-harts os)) served in
-    omega (arith, c.requires.accesses, c.access_count.ensures, ap count_accesses c.in_ok-adopts.ensures.outcomes, c.serial_count.ensures, fits.fits, few_turns c.args.budget (waits_of os) c.requires.budget, length-waits os, c.requires.few)
+    let phase = c.args.phase in
+    let start : SharedState = record c.make_turn_room.new.shared { pages = c.commit.new.pages; reservations = c.commit.new.table } in
+    let served = subst (λ (hs : List Hart). TakesTurns (serial_done phase hs start) c.serial.new.harts start c.serial.new.state) c.requires.harts c.serial.ensures.turns in
+    let fits = log_of phase (waits_of os) (harts_of os) c.serial.new.harts start c.serial.new.state (length-waits os ∙ sym (length-harts os)) c.requires.waiting served in
+    omega (arith, c.requires.accesses, c.access_count.ensures, ap count_accesses c.in_ok-adopts.ensures.outcomes, c.serial_count.ensures, fits.fits, few_turns phase.budget (waits_of os) c.requires.budget, length-waits os, c.requires.few)

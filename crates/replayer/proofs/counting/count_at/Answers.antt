@@ -26,7 +26,7 @@ overflow_sub-result g c =
     let made = c.in_ok-machine.ensures.machine in
     let m : Running = start_of c.args.recording.now made.0 in
     let b = begins c.in_ok-machine.machine c.args.recording.now made.0 c.args.hart made.1 (omega (arith, c.if-hart-harts.false, c.harts.ensures.value)) (omega (arith, c.budget-budget.ensures.value, c.budget-budget.ensures.range.1))
-    (λ cause least. c.in_ok-machine.ensures.image cause c.in_ok-machine.ensures.in_range least) (λ cause good least. c.in_ok-machine.ensures.plan cause c.in_ok-machine.ensures.in_range good least) in
+    (λ cause least. c.in_ok-machine.ensures.in_order.image cause c.in_ok-machine.ensures.in_range least) (λ cause good least. c.in_ok-machine.ensures.in_order.plan cause c.in_ok-machine.ensures.in_range good least) in
     let first = c.in_ok-run.ensures.ok m made.2 in
     let second : IsUntraced (after_rounds (c.args.round - 1 + 1) m) c.run-2.new.self = subst (λ (r : Running). IsUntraced r c.run-2.new.self) (more_rounds (c.args.round - 1) 1 m) (c.in_ok-run-2.ensures.ok (after_rounds (c.args.round - 1) m) first) in
     let o = one_round m (c.args.round - 1) c.args.hart c.run.new.self b first (omega (arith, c.ranges.round.fits)) in
@@ -39,7 +39,7 @@ returns-clause-count g c =
     let made = c.in_ok-machine.ensures.machine in
     let m : Running = start_of c.args.recording.now made.0 in
     let b = begins c.in_ok-machine.machine c.args.recording.now made.0 c.args.hart made.1 (omega (arith, c.if-hart-harts.false, c.harts.ensures.value)) (omega (arith, c.budget-budget.ensures.value, c.budget-budget.ensures.range.1))
-    (λ cause least. c.in_ok-machine.ensures.image cause c.in_ok-machine.ensures.in_range least) (λ cause good least. c.in_ok-machine.ensures.plan cause c.in_ok-machine.ensures.in_range good least) in
+    (λ cause least. c.in_ok-machine.ensures.in_order.image cause c.in_ok-machine.ensures.in_range least) (λ cause good least. c.in_ok-machine.ensures.in_order.plan cause c.in_ok-machine.ensures.in_range good least) in
     let first = c.in_ok-run.ensures.ok m made.2 in
     let second : IsUntraced (after_rounds (c.args.round - 1 + 1) m) c.run-2.new.self = subst (λ (r : Running). IsUntraced r c.run-2.new.self) (more_rounds (c.args.round - 1) 1 m) (c.in_ok-run-2.ensures.ok (after_rounds (c.args.round - 1) m) first) in
     let o = one_round m (c.args.round - 1) c.args.hart c.run.new.self b first (omega (arith, c.ranges.round.fits)) in (

@@ -20,7 +20,7 @@ returns-in-None-clause-before g c =
     let made = c.in_ok-machine.ensures.machine in
     let m : Running = start_of c.args.recording.now made.0 in
     let b = begins c.in_ok-machine.machine c.args.recording.now made.0 c.args.hart made.1 (omega (arith, c.if-hart-harts.false, c.harts.ensures.value)) (omega (arith, c.budget-budget.ensures.value, c.budget-budget.ensures.range.1))
-    (λ cause least. c.in_ok-machine.ensures.image cause c.in_ok-machine.ensures.in_range least) (λ cause good least. c.in_ok-machine.ensures.plan cause c.in_ok-machine.ensures.in_range good least) in
+    (λ cause least. c.in_ok-machine.ensures.in_order.image cause c.in_ok-machine.ensures.in_range least) (λ cause good least. c.in_ok-machine.ensures.in_order.plan cause c.in_ok-machine.ensures.in_range good least) in
     (made.0, made.1, nowhere c.args.recording.now.rounds c.rounds-rounds.result m c.args.hart c.args.place c.in_ok-round_of.field-0 c.rounds-rounds.ensures c.in-None.is (c.in_ok-round_of.ensures.round m made.2 b))
 
 pub returns-in-Some-2-clause-before : goal.returns-in-Some-2-clause-before
@@ -29,7 +29,7 @@ returns-in-Some-2-clause-before g c =
     let asked = c.in_ok-before-in-Some.ensures.hart in
     let m : Running = start_of c.args.recording.now made.0 in
     let b = begins c.in_ok-machine.machine c.args.recording.now made.0 c.args.hart made.1 (omega (arith, c.if-hart-harts.false, c.harts.ensures.value)) (omega (arith, c.budget-budget.ensures.value, c.budget-budget.ensures.range.1))
-    (λ cause least. c.in_ok-machine.ensures.image cause c.in_ok-machine.ensures.in_range least) (λ cause good least. c.in_ok-machine.ensures.plan cause c.in_ok-machine.ensures.in_range good least) in
+    (λ cause least. c.in_ok-machine.ensures.in_order.image cause c.in_ok-machine.ensures.in_range least) (λ cause good least. c.in_ok-machine.ensures.in_order.plan cause c.in_ok-machine.ensures.in_range good least) in
     let found = somewhere c.args.recording.now.rounds c.rounds-rounds.result m c.args.hart c.args.place c.in-Some.round c.in-Some.count c.in_ok-round_of.field-0 c.rounds-rounds.ensures c.in-Some.is (c.in_ok-round_of.ensures.round m made.2 b) in (
       made.0,
       made.1,
@@ -42,6 +42,6 @@ unreachable-requires g c =
     let asked = c.in_ok-before-in-Some.ensures.hart in
     let m : Running = start_of c.args.recording.now made.0 in
     let b = begins c.in_ok-machine.machine c.args.recording.now made.0 c.args.hart made.1 (omega (arith, c.if-hart-harts.false, c.harts.ensures.value)) (omega (arith, c.budget-budget.ensures.value, c.budget-budget.ensures.range.1))
-    (λ cause least. c.in_ok-machine.ensures.image cause c.in_ok-machine.ensures.in_range least) (λ cause good least. c.in_ok-machine.ensures.plan cause c.in_ok-machine.ensures.in_range good least) in
+    (λ cause least. c.in_ok-machine.ensures.in_order.image cause c.in_ok-machine.ensures.in_range least) (λ cause good least. c.in_ok-machine.ensures.in_order.plan cause c.in_ok-machine.ensures.in_range good least) in
     let found = somewhere c.args.recording.now.rounds c.rounds-rounds.result m c.args.hart c.args.place c.in-Some.round c.in-Some.count c.in_ok-round_of.field-0 c.rounds-rounds.ensures c.in-Some.is (c.in_ok-round_of.ensures.round m made.2 b) in
     is_not_lost c.args.recording.now made.0 asked.0 c.args.hart c.args.place c.in-Some.round c.in-Some.count c.in_ok-before-in-Some.field-0 found made.1 asked.1 asked.2 c.in-None-2.is

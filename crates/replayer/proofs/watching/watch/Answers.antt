@@ -9,4 +9,4 @@ pub returns-clause-hits : goal.returns-clause-hits
 returns-clause-hits g c =
     let made = c.in_ok-machine.ensures.machine in
     let m : Running = start_of c.args.recording.now made.0 in
-    IfOk-weaker c.watch_run.result _ _ (λ v is. (made.0, made.1, is ∙ ap (λ (n : ℕ). hits c.args.ranges.now (after_rounds n m).state.trace) c.rounds.ensures)) (c.watch_run.ensures.hits m made.2 refl)
+    IfOk-weaker c.watch_run.result _ _ (λ v is. (made.0, made.1, is ∙ ap (λ (n : ℕ). hits c.args.ranges.now (after_rounds n m).state.trace) c.rounds-rounds.ensures)) (c.watch_run.ensures.hits m made.2 refl)

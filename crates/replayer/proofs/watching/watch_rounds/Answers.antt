@@ -10,6 +10,6 @@ pub returns-clause-hits : goal.returns-clause-hits
 returns-clause-hits g c =
     let made = c.in_ok-machine.ensures.machine in
     let m : Running = start_of c.args.recording.now made.0 in
-    let le : c.min-rounds.result ≤ c.args.recording.now.rounds = omega (arith, c.min-rounds.ensures, c.rounds.ensures) in
-    let ends : c.min-rounds.result < c.args.recording.now.rounds → c.min-rounds.result ≡ c.args.to = λ lt. omega (arith, c.min-rounds.ensures, c.rounds.ensures, lt) in
-    IfOk-weaker c.watch_run.result _ _ (λ v is. (made.0, made.1, is ∙ within_rounds c.args.from c.args.to c.args.recording.now.rounds c.min-rounds.result (is_hit c.args.ranges.now) m refl le ends)) (c.watch_run.ensures.hits m made.2 refl)
+    let le : c.min-count.result ≤ c.args.recording.now.rounds = omega (arith, c.min-count.ensures, c.rounds.ensures) in
+    let ends : c.min-count.result < c.args.recording.now.rounds → c.min-count.result ≡ c.args.rounds.last = λ lt. omega (arith, c.min-count.ensures, c.rounds.ensures, lt) in
+    IfOk-weaker c.watch_run.result _ _ (λ v is. (made.0, made.1, is ∙ within_rounds c.args.rounds.first c.args.rounds.last c.args.recording.now.rounds c.min-count.result (is_hit c.args.ranges.now) m refl le ends)) (c.watch_run.ensures.hits m made.2 refl)

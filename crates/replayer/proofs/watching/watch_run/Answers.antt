@@ -2,13 +2,13 @@ use Rattle.std.proofs.Common.{◌≡◌, ◌++◌, ◌∙◌, List, ap, append-n
 use Rattle.std.proofs.lemmas.Result.{err_from_is_err_and}
 use Rattle.round_schedule.specs.declared.event.Event.{Event}
 use Rattle.machine.specs.Machine.{after_rounds}
-use Rattle.replayer.specs.Hits.{sought}
+use Rattle.replayer.specs.Hits.{sought_in}
 use Rattle.replayer.proofs.HitsAdded.{at_first, at_next}
 use Rattle.replayer.proofs.Untraced.{more_after, none_after}
 use Rattle.replayer.proofs.watching.watch_run.Goals as goal
 
 pub loop-done-init : goal.loop-done-init
-loop-done-init g c = (none_after c.args.machine.now, (c.requires.opened, omega arith), λ m i none. at_first c.args.within c.args.ranges.now m c.new-found.result.items c.new-found.ensures.items none)
+loop-done-init g c = (none_after c.args.machine.now, (c.requires.opened, omega arith), λ m i none. at_first c.args.sought.within c.args.sought.ranges.now m c.new-found.result.items c.new-found.ensures.items none)
 
 pub run_noting-requires-after_bounds : goal.run_noting-requires-after_bounds
 run_noting-requires-after_bounds g c κs within =
@@ -28,11 +28,11 @@ loop-done-preserved g c = (
   more_after c.loop-done.done c.rounds_at_once-count.result c.args.machine.now c.loop-done.machine c.run_noting.new.self c.loop-done.invariant.0 c.in_ok-run_noting.ensures.ok,
   (c.in_ok-run_noting.ensures.counted ∙ omega (arith, c.loop-done.invariant.1.0), omega (arith, c.rounds_at_once-count.ensures.few)),
   λ m i none.
-      at_next c.args.within c.args.ranges.now c.loop-done.done c.rounds_at_once-count.result m c.new-trace.result.events c.run_noting.new.trace.events c.loop-done.found.items c.add_sought.new.found.items (c.loop-done.invariant.2 m i none) c.new-trace.ensures.events
+      at_next c.args.sought.within c.args.sought.ranges.now c.loop-done.done c.rounds_at_once-count.result m c.new-trace.result.events c.run_noting.new.trace.events c.loop-done.found.items c.add_sought.new.found.items (c.loop-done.invariant.2 m i none) c.new-trace.ensures.events
       (c.in_ok-run_noting.ensures.events (after_rounds c.loop-done.done m) (c.loop-done.invariant.0 m i)) c.in_ok-add_sought.ensures,
 )
 
 pub returns-clause-hits : goal.returns-clause-hits
 returns-clause-hits g c = λ m i none.
     let all : c.loop-done.done ≡ c.args.rounds = omega (arith, c.loop-done.invariant.1.1, c.loop-done-test.false) in
-    c.loop-done.invariant.2 m i none ∙ ap (λ (n : ℕ). sought c.args.within c.args.ranges.now (after_rounds n m).state.trace) all
+    c.loop-done.invariant.2 m i none ∙ ap (λ (n : ℕ). sought_in c.args.sought.within c.args.sought.ranges.now (after_rounds n m).state.trace) all

@@ -1,4 +1,4 @@
-use Rattle.std.proofs.Common.{ap, ◌∙◌, ◌≡◌, ◌+◌, arith, refl, subst, ℕ}
+use Rattle.std.proofs.Common.{ap, ◌∙◌, ◌≡◌, ◌+◌, refl, subst, ℕ}
 use Rattle.replayer.specs.Checkpoints.{Opened}
 use Rattle.replayer.proofs.KeptMachines.{going_on, going_counted}
 use Rattle.replayer.proofs.checkpoints.Replay.going_on_to.Goals as goal

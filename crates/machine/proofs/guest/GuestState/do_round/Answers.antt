@@ -1,0 +1,179 @@
+use Rattle.std.proofs.Common.{◌≡◌, ◌-◌, ◌+◌, ◌++◌, ℕ, List, length, take, drop, sym, ap, ◌∙◌, subst, arith, rules, refl, Err}
+use Rattle.std.proofs.lemmas.List.{take_at}
+use Rattle.round_schedule.specs.declared.event.Event.{Event}
+use Rattle.round_schedule.specs.Schedule.{hart_rounds}
+use Rattle.round_planner.specs.Quotas.{quotas_of}
+use Rattle.hart_step.specs.declared.hart.Hart.{Hart}
+use Rattle.hart_step.specs.Words.{words_of}
+use Rattle.machine.specs.declared.outcome.Outcome.{Outcome}
+use Rattle.machine.specs.Guests.{Guest, guest_events, guest_of, next_guest}
+use Rattle.machine.specs.Machine.{count_waiting}
+use Rattle.machine.specs.Outcomes.{AreFit, AreOutcomes, count_accesses, harts_of, mask_of, waits_of}
+use Rattle.machine.specs.Rounds.{IsFinished}
+use Rattle.machine.proofs.Asked.{how_many, outcomes_are}
+use Rattle.machine.proofs.CodeKept.{rounds_touch}
+use Rattle.machine.proofs.Counted.{few_accesses}
+use Rattle.machine.proofs.Listed.{are_fit}
+use Rattle.machine.proofs.RoundDone.{finished_done, kept_guest, length-harts, waited_is}
+use Rattle.machine.proofs.TraceKept.{low_quotas}
+use Rattle.machine.proofs.guest.GuestState.do_round.Goals as goal
+
+pub finish-requires-clause-workers : goal.finish-requires-clause-workers
+finish-requires-clause-workers g c = λ lifetimes within. c.requires.workers.0
+
+pub finish-requires-clause-shows : goal.finish-requires-clause-shows
+finish-requires-clause-shows g c = λ lifetimes within. c.self.invariant.shows
+
+pub finish-requires-clause-rounds : goal.finish-requires-clause-rounds
+finish-requires-clause-rounds g c = λ lifetimes within.
+    let i = c.self.inside in
+    let m = i.shared.pages.memory in
+    let qs = quotas_of c.args.plan.now c.args.done in
+    let rs = hart_rounds (words_of m.code) m.bytes qs i.harts.items in
+    let a = outcomes_are c.args.plan.now c.args.done i.harts.items c.deref.result.now i.shared.pages c.in_ok-outcomes.outcomes.items c.deref.ensures.value c.in_ok-outcomes.ensures in
+    (rs, subst (λ (x : List Outcome). AreOutcomes m rs x) (sym c.deref_mut.ensures.value) a, rounds_touch m qs i.harts.items)
+
+pub finish-requires-clause-few : goal.finish-requires-clause-few
+finish-requires-clause-few g c = λ lifetimes within.
+    let i = c.self.inside in
+    let many = how_many c.args.plan.now c.args.done i.harts.items c.deref.result.now i.shared.pages c.in_ok-outcomes.outcomes.items c.deref.ensures.value c.in_ok-outcomes.ensures in
+    omega (arith, many, ap length c.deref_mut.ensures.value, c.requires.harts, ap (λ (x : Guest). length x.harts) c.self.view_is, c.harts-harts.ensures.harts, c.harts-harts.ensures.few_harts)
+
+pub finish-requires-clause-fits : goal.finish-requires-clause-fits
+finish-requires-clause-fits g c = λ lifetimes within.
+    let m = c.self.inside.shared.pages.memory in
+    subst (λ (x : List Outcome). AreFit m x) (sym c.deref_mut.ensures.value) (are_fit m _ c.in_ok-outcomes.outcomes.items c.in_ok-outcomes.ensures)
+
+pub finish-requires-clause-harts : goal.finish-requires-clause-harts
+finish-requires-clause-harts g c = λ lifetimes within.
+    c.deref_mut-2.ensures.value ∙ c.in_ok-turned.ensures ∙ ap harts_of (c.deref-2.ensures.value ∙ sym c.deref_mut.ensures.value)
+
+pub finish-requires-clause-size : goal.finish-requires-clause-size
+finish-requires-clause-size g c = λ lifetimes within.
+    let i = c.self.inside in
+    let many = how_many c.args.plan.now c.args.done i.harts.items c.deref.result.now i.shared.pages c.in_ok-outcomes.outcomes.items c.deref.ensures.value c.in_ok-outcomes.ensures in
+    c.self.invariant.size ∙ sym many ∙ sym (ap length c.deref_mut.ensures.value)
+
+pub finish-requires-clause-waiting : goal.finish-requires-clause-waiting
+finish-requires-clause-waiting g c = λ lifetimes within.
+    c.waiting_mask.ensures.mask ∙ ap (λ (os : List Outcome). mask_of (waits_of os)) (c.deref-3.ensures.value ∙ sym c.deref_mut.ensures.value)
+
+pub finish-requires-clause-budget : goal.finish-requires-clause-budget
+finish-requires-clause-budget g c = λ lifetimes within. c.budget.ensures.few_budget
+
+pub finish-requires-clause-accesses : goal.finish-requires-clause-accesses
+finish-requires-clause-accesses g c = λ lifetimes within.
+    let i = c.self.inside in
+    let m = i.shared.pages.memory in
+    let os = c.in_ok-outcomes.outcomes.items in
+    let many = how_many c.args.plan.now c.args.done i.harts.items c.deref.result.now i.shared.pages os c.deref.ensures.value c.in_ok-outcomes.ensures in
+    let a = outcomes_are c.args.plan.now c.args.done i.harts.items c.deref.result.now i.shared.pages os c.deref.ensures.value c.in_ok-outcomes.ensures in
+    let few = few_accesses m (words_of m.code) m.bytes (quotas_of c.args.plan.now c.args.done) i.harts.items os (low_quotas c.args.plan.now c.harts-harts.ensures.in_range c.args.done) a in
+    omega (arith, few, ap count_accesses c.deref_mut.ensures.value, many, c.requires.harts, ap (λ (x : Guest). length x.harts) c.self.view_is, c.harts-harts.ensures.harts, c.harts-harts.ensures.few_harts)
+
+pub finish-requires-clause-sound : goal.finish-requires-clause-sound
+finish-requires-clause-sound g c = λ lifetimes within.
+    let i = c.self.inside in
+    let m = i.shared.pages.memory in
+    let rs = hart_rounds (words_of m.code) m.bytes (quotas_of c.args.plan.now c.args.done) i.harts.items in
+    let a = outcomes_are c.args.plan.now c.args.done i.harts.items c.deref.result.now i.shared.pages c.in_ok-outcomes.outcomes.items c.deref.ensures.value c.in_ok-outcomes.ensures in
+    let here = subst (λ (x : List Outcome). AreOutcomes m rs x) (sym c.deref_mut.ensures.value) a in
+    let waits = c.waiting_mask.ensures.mask ∙ ap (λ (os : List Outcome). mask_of (waits_of os)) (c.deref-3.ensures.value ∙ sym c.deref_mut.ensures.value) in
+    let sound = subst (λ (x : Guest). g.E.EventKeeper.may_keep (c.requires.sound.0 ++ guest_events c.args.plan.now c.args.done x)) (sym c.self.view_is) c.requires.sound.2 in (
+      c.requires.sound.0,
+      c.requires.sound.1,
+      λ new more f. subst (λ (x : List Event). g.E.EventKeeper.may_keep (c.requires.sound.0 ++ x))
+          (sym (finished_done c.args.plan.now _ c.args.done (guest_of i.harts.items i.shared) new more c.deref_mut.result.now here c.budget.ensures.budget refl waits f).events) sound,
+    )
+
+pub returns-clause-ok : goal.returns-clause-ok
+returns-clause-ok g c =
+    let i = c.self.inside in
+    let m = i.shared.pages.memory in
+    let rs = hart_rounds (words_of m.code) m.bytes (quotas_of c.args.plan.now c.args.done) i.harts.items in
+    let a = outcomes_are c.args.plan.now c.args.done i.harts.items c.deref.result.now i.shared.pages c.in_ok-outcomes.outcomes.items c.deref.ensures.value c.in_ok-outcomes.ensures in
+    let here = subst (λ (x : List Outcome). AreOutcomes m rs x) (sym c.deref_mut.ensures.value) a in
+    let waits = c.waiting_mask.ensures.mask ∙ ap (λ (os : List Outcome). mask_of (waits_of os)) (c.deref-3.ensures.value ∙ sym c.deref_mut.ensures.value) in
+    let ok = c.in_ok-counts.ensures.ok in
+    let done = finished_done c.args.plan.now _ c.args.done (guest_of i.harts.items i.shared) _ ok.0 c.deref_mut.result.now here c.budget.ensures.budget refl waits ok.1 in
+    let whole : take c.in_ok-turned.turned.len (c.finish.new.harts ++ drop (length c.finish.new.harts) c.in_ok-turned.turned.items) ≡ c.finish.new.harts = take_at c.finish.new.harts _ c.in_ok-turned.turned.len (omega (arith, c.finish.auto.harts, c.deref_mut-2.ensures.len, ap length c.deref_mut-2.ensures.value)) in
+    ap (λ (hs : List Hart). guest_of hs c.finish.new.shared) whole ∙ done.done ∙ ap (λ (x : Guest). next_guest c.args.plan.now c.args.done x) c.self.view_is
+
+pub returns-clause-kept : goal.returns-clause-kept
+returns-clause-kept g c = λ es kept.
+    let i = c.self.inside in
+    let m = i.shared.pages.memory in
+    let rs = hart_rounds (words_of m.code) m.bytes (quotas_of c.args.plan.now c.args.done) i.harts.items in
+    let a = outcomes_are c.args.plan.now c.args.done i.harts.items c.deref.result.now i.shared.pages c.in_ok-outcomes.outcomes.items c.deref.ensures.value c.in_ok-outcomes.ensures in
+    let here = subst (λ (x : List Outcome). AreOutcomes m rs x) (sym c.deref_mut.ensures.value) a in
+    let waits = c.waiting_mask.ensures.mask ∙ ap (λ (os : List Outcome). mask_of (waits_of os)) (c.deref-3.ensures.value ∙ sym c.deref_mut.ensures.value) in
+    let ok = c.in_ok-counts.ensures.ok in
+    let done = finished_done c.args.plan.now _ c.args.done (guest_of i.harts.items i.shared) _ ok.0 c.deref_mut.result.now here c.budget.ensures.budget refl waits ok.1 in
+    subst (λ (x : List Event). g.E.EventKeeper.keeps c.finish.new.keeper (es ++ x)) (done.events ∙ ap (λ (x : Guest). guest_events c.args.plan.now c.args.done x) c.self.view_is) (ok.3 es kept)
+
+pub returns-clause-events : goal.returns-clause-events
+returns-clause-events g c =
+    let i = c.self.inside in
+    let m = i.shared.pages.memory in
+    let rs = hart_rounds (words_of m.code) m.bytes (quotas_of c.args.plan.now c.args.done) i.harts.items in
+    let a = outcomes_are c.args.plan.now c.args.done i.harts.items c.deref.result.now i.shared.pages c.in_ok-outcomes.outcomes.items c.deref.ensures.value c.in_ok-outcomes.ensures in
+    let here = subst (λ (x : List Outcome). AreOutcomes m rs x) (sym c.deref_mut.ensures.value) a in
+    let waits = c.waiting_mask.ensures.mask ∙ ap (λ (os : List Outcome). mask_of (waits_of os)) (c.deref-3.ensures.value ∙ sym c.deref_mut.ensures.value) in
+    let ok = c.in_ok-counts.ensures.ok in
+    let done = finished_done c.args.plan.now _ c.args.done (guest_of i.harts.items i.shared) _ ok.0 c.deref_mut.result.now here c.budget.ensures.budget refl waits ok.1 in
+    ok.2 ∙ ap length (done.events ∙ ap (λ (x : Guest). guest_events c.args.plan.now c.args.done x) c.self.view_is)
+
+pub returns-clause-few : goal.returns-clause-few
+returns-clause-few g c = c.in_ok-counts.ensures.few
+
+pub returns-clause-waited : goal.returns-clause-waited
+returns-clause-waited g c =
+    let i = c.self.inside in
+    let m = i.shared.pages.memory in
+    let rs = hart_rounds (words_of m.code) m.bytes (quotas_of c.args.plan.now c.args.done) i.harts.items in
+    let a = outcomes_are c.args.plan.now c.args.done i.harts.items c.deref.result.now i.shared.pages c.in_ok-outcomes.outcomes.items c.deref.ensures.value c.in_ok-outcomes.ensures in
+    let here = subst (λ (x : List Outcome). AreOutcomes m rs x) (sym c.deref_mut.ensures.value) a in
+    c.in_ok-counts.ensures.waited ∙ waited_is m rs c.deref_mut.result.now here
+    ∙ ap (λ (x : Guest). count_waiting (hart_rounds (words_of x.shared.memory.code) x.shared.memory.bytes (quotas_of c.args.plan.now c.args.done) x.harts)) c.self.view_is
+
+pub overflow_add-round : goal.overflow_add-round
+overflow_add-round g c = search rules
+
+pub outcomes_of-requires-clause-workers : goal.outcomes_of-requires-clause-workers
+outcomes_of-requires-clause-workers g c = λ lifetimes within. c.requires.workers
+
+pub outcomes_of-requires-clause-shows : goal.outcomes_of-requires-clause-shows
+outcomes_of-requires-clause-shows g c = λ lifetimes within. c.self.invariant.shows
+
+pub outcomes_of-requires-clause-harts : goal.outcomes_of-requires-clause-harts
+outcomes_of-requires-clause-harts g c = λ lifetimes within. ap length c.deref.ensures.value ∙ ap (λ (x : Guest). length x.harts) c.self.view_is ∙ c.requires.harts
+
+pub outcomes_of-requires-clause-round : goal.outcomes_of-requires-clause-round
+outcomes_of-requires-clause-round g c = λ lifetimes within. omega arith
+
+pub waiting_mask-requires : goal.waiting_mask-requires
+waiting_mask-requires g c =
+    let i = c.self.inside in
+    let many = how_many c.args.plan.now c.args.done i.harts.items c.deref.result.now i.shared.pages c.in_ok-outcomes.outcomes.items c.deref.ensures.value c.in_ok-outcomes.ensures in
+    omega (arith, ap length c.deref-3.ensures.value, many, c.requires.harts, ap (λ (x : Guest). length x.harts) c.self.view_is, c.harts-harts.ensures.harts, c.harts-harts.ensures.few_harts)
+
+pub invariant_of-self-2 : goal.invariant_of-self-2
+invariant_of-self-2 g c =
+    let i = c.self.inside in
+    let os = c.in_ok-outcomes.outcomes.items in
+    let many = how_many c.args.plan.now c.args.done i.harts.items c.deref.result.now i.shared.pages os c.deref.ensures.value c.in_ok-outcomes.ensures in
+    let turned : length c.deref_mut-2.result.now ≡ length os = ap length (c.deref_mut-2.ensures.value ∙ c.in_ok-turned.ensures ∙ ap harts_of c.deref-2.ensures.value) ∙ length-harts os in
+    let whole : take c.in_ok-turned.turned.len (c.finish.new.harts ++ drop (length c.finish.new.harts) c.in_ok-turned.turned.items) ≡ c.finish.new.harts = take_at c.finish.new.harts _ c.in_ok-turned.turned.len (omega (arith, c.finish.auto.harts, c.deref_mut-2.ensures.len, ap length c.deref_mut-2.ensures.value)) in
+    record {
+      size = c.finish.ensures.size ∙ c.self.invariant.size ∙ sym (ap length whole ∙ omega (arith, c.finish.auto.harts, turned, many));
+      shows = c.finish.ensures.shows;
+    }
+
+pub returns-clause-count : goal.returns-clause-count
+returns-clause-count g c =
+    let i = c.self.inside in
+    let os = c.in_ok-outcomes.outcomes.items in
+    let many = how_many c.args.plan.now c.args.done i.harts.items c.deref.result.now i.shared.pages os c.deref.ensures.value c.in_ok-outcomes.ensures in
+    let turned : length c.deref_mut-2.result.now ≡ length os = ap length (c.deref_mut-2.ensures.value ∙ c.in_ok-turned.ensures ∙ ap harts_of c.deref-2.ensures.value) ∙ length-harts os in
+    let whole : take c.in_ok-turned.turned.len (c.finish.new.harts ++ drop (length c.finish.new.harts) c.in_ok-turned.turned.items) ≡ c.finish.new.harts = take_at c.finish.new.harts _ c.in_ok-turned.turned.len (omega (arith, c.finish.auto.harts, c.deref_mut-2.ensures.len, ap length c.deref_mut-2.ensures.value)) in
+    ap length whole ∙ omega (arith, c.finish.auto.harts, turned, many, ap (λ (x : Guest). length x.harts) c.self.view_is)
