@@ -1,9 +1,7 @@
-use Rattle.std.proofs.Common.{◌<◌, List, length, [], None, Some, refl, sym, ap, subst, arith, rules, slice_get}
-use Rattle.std.proofs.lemmas.List.{get_or_default}
+use Rattle.std.proofs.Common.{◌<◌, List, length, [], None, refl, sym, ap, subst, rules}
 use Rattle.hart_step.specs.declared.hart.Hart.{Hart}
 use Rattle.round_schedule.specs.declared.access.Access.{Access}
 use Rattle.round_lock.specs.Starts.{Start, content_from}
-use Rattle.parallel_phase.proofs.HartRounds.{indexed}
 use Rattle.machine.specs.Outcomes.{AreOutcomes}
 use Rattle.machine.specs.declared.outcome.Outcome.{Outcome}
 use Rattle.machine.proofs.RoundsOfHarts.{is_outcome, outcomes_more}

@@ -1,4 +1,4 @@
-use Rattle.std.proofs.Common.{◌≡◌, ◌-◌, ◌+◌, ◌++◌, ℕ, List, length, take, drop, sym, ap, ◌∙◌, subst, arith, rules, refl, Err}
+use Rattle.std.proofs.Common.{◌≡◌, ◌++◌, List, length, take, drop, sym, ap, ◌∙◌, subst, arith, rules, refl}
 use Rattle.std.proofs.lemmas.List.{take_at}
 use Rattle.round_schedule.specs.declared.event.Event.{Event}
 use Rattle.round_schedule.specs.Schedule.{hart_rounds}
@@ -9,12 +9,11 @@ use Rattle.machine.specs.declared.outcome.Outcome.{Outcome}
 use Rattle.machine.specs.Guests.{Guest, guest_events, guest_of, next_guest}
 use Rattle.machine.specs.Machine.{count_waiting}
 use Rattle.machine.specs.Outcomes.{AreFit, AreOutcomes, count_accesses, harts_of, mask_of, waits_of}
-use Rattle.machine.specs.Rounds.{IsFinished}
 use Rattle.machine.proofs.Asked.{how_many, outcomes_are}
 use Rattle.machine.proofs.CodeKept.{rounds_touch}
 use Rattle.machine.proofs.Counted.{few_accesses}
 use Rattle.machine.proofs.Listed.{are_fit}
-use Rattle.machine.proofs.RoundDone.{finished_done, kept_guest, length-harts, waited_is}
+use Rattle.machine.proofs.RoundDone.{finished_done, length-harts, waited_is}
 use Rattle.machine.proofs.TraceKept.{low_quotas}
 use Rattle.machine.proofs.guest.GuestState.do_round.Goals as goal
 

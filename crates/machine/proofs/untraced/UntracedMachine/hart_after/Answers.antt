@@ -1,8 +1,5 @@
-use Rattle.std.proofs.Common.{length, ap, sym, ◌∙◌, arith}
-use Rattle.round_schedule.specs.Past.{hart_after}
+use Rattle.std.proofs.Common.{length, ap, sym, arith}
 use Rattle.round_planner.specs.Quotas.{quotas_of}
-use Rattle.hart_step.specs.Words.{words_of}
-use Rattle.machine.specs.Machine.{Running}
 use Rattle.machine.proofs.Asked.{no_hart}
 use Rattle.machine.proofs.untraced.UntracedMachine.hart_after.Goals as goal
 

@@ -1,4 +1,4 @@
-use Rattle.std.proofs.Common.{◌≡◌, ℕ, ◌+◌, ◌++◌, List, length, sym, ap, ◌∙◌, subst, arith}
+use Rattle.std.proofs.Common.{◌≡◌, ◌+◌, ◌++◌, List, length, sym, ap, ◌∙◌, subst, arith}
 use Rattle.pages.specs.Memory.{IsBytes, Memory}
 use Rattle.round_schedule.specs.declared.event.Event.{Event}
 use Rattle.machine.specs.Untraced.{HasRun, Untraced, next_events, untraced_of, untraced_round}
