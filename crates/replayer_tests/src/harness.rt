@@ -1,7 +1,11 @@
 //! The guests of the tests, what they are run with, and texts of recordings.
+use host_io::RunError;
 use machine::{Format, Settings};
+use replayer::{Recording, record};
 use std::alloc::Global;
+use std::sync::Wait;
 use std::test::Fail;
+use std::thread::Threads;
 
 /// ADDI x17,x0,0; ECALL: the exit call with the hart's number.
 pub(crate) static EXIT: [u8; 8] = [0x93, 8, 0, 0, 0x73, 0, 0, 0];
@@ -35,16 +39,29 @@ pub(crate) static VERSION_1: [u8; 125] = [
     0, 0,
 ];
 
-/// A text with the byte at a place in place of its own.
-pub(crate) fn with_byte(
+/// A text with these bytes, each after its place, in place of its own.
+pub(crate) fn with_bytes(
     alloc: Global,
     text: &[u8],
-    place: usize,
-    byte: u8,
+    bytes: &[(usize, u8)],
 ) -> Result<Vec<u8>, Fail> {
     let mut changed = text.to_vec(alloc)?;
-    if let Some(at) = changed.get_mut(place) {
-        *at = byte;
+    for (place, byte) in bytes {
+        if let Some(at) = changed.get_mut(*place) {
+            *at = *byte;
+        }
     }
     Ok(changed)
+}
+
+/// The plan of the runs of `RESERVED`: in each round hart 0 may do 3 instructions, and hart 1 may do 2 in round 1 and then 3.
+pub(crate) const PLAN: &[u8] = b"3 2\n3 3\n";
+
+/// So many rounds of `RESERVED`, recorded. The LR is in round 1, the store and the SC in round 2.
+pub(crate) fn reserved<R: Threads + Wait + Sync>(
+    rt: &R,
+    alloc: Global,
+    rounds: u32,
+) -> Result<Recording, RunError> {
+    record(rt, alloc, &RESERVED, &[], &settings(rounds, PLAN))
 }

@@ -2,10 +2,16 @@
 #![tactic(auto)]
 
 #[cfg(test)]
+mod copies;
+#[cfg(test)]
 mod harness;
+#[cfg(test)]
+mod kept;
 #[cfg(test)]
 mod past;
 #[cfg(test)]
 mod recordings;
 #[cfg(test)]
 mod refusals;
+#[cfg(test)]
+mod watched;

@@ -1,12 +1,9 @@
-//! Recordings, replayed and watched.
-use crate::harness::{EXIT, RESERVED, VERSION_1, settings, with_byte};
+//! Recordings, written and replayed.
+use crate::harness::{EXIT, VERSION_1, settings, with_bytes};
 use host_io::{RunError, WriteSink};
-use pages::Range;
 use replayer::{
-    Recording, Verdict, migrate, read_recording, record, record_with, replay, watch,
-    write_recording,
+    Recording, Verdict, migrate, read_recording, record, record_with, replay, write_recording,
 };
-use round_schedule::Access;
 use std::alloc::Global;
 use std::sync::Wait;
 use std::test::Fail;
@@ -17,6 +14,19 @@ fn text_of(alloc: Global, recording: &Recording) -> Result<Vec<u8>, RunError> {
     let mut text = Vec::new(alloc);
     write_recording(alloc, recording, &mut WriteSink::new(&mut text))?;
     Ok(text)
+}
+
+/// The text of the recording of so many rounds of the exits.
+fn exits<R: Threads + Wait + Sync>(
+    rt: &R,
+    alloc: Global,
+    rounds: u32,
+    plan: &[u8],
+) -> Result<Vec<u8>, RunError> {
+    text_of(
+        alloc,
+        &record(rt, alloc, &EXIT, &[], &settings(rounds, plan))?,
+    )
 }
 
 /// The verdict on a text of a recording, by so many workers.
@@ -30,118 +40,74 @@ fn verdict_on<R: Threads + Wait + Sync>(
     Ok(replay(rt, alloc, &recording, workers)?)
 }
 
+/// Whether this is the verdict on a text by any number of workers.
+fn is_verdict_on<R: Threads + Wait + Sync>(
+    rt: &R,
+    alloc: Global,
+    text: &[u8],
+    verdict: Verdict,
+) -> Result<bool, Fail> {
+    for workers in [1, 4, 16] {
+        if verdict_on(rt, alloc, text, workers)? != verdict {
+            return Ok(false);
+        }
+    }
+    Ok(true)
+}
+
 #[test]
 fn exits_are_recorded(rt: HostRuntime) -> Result<(), Fail> {
-    let alloc = rt.alloc();
-    let recording = record(&rt, alloc, &EXIT, &[], &settings(1, b"4\n"))?;
-    let migrated = migrate(read_recording(alloc, &VERSION_1)?);
-    let text = text_of(alloc, &recording)?;
+    let text = exits(&rt, rt.alloc(), 1, b"4\n")?;
     assert_eq!(rt; text.len(), 133);
-    assert!(rt; text.as_slice() == text_of(alloc, &migrated)?.as_slice());
-    for workers in [1, 4, 16] {
-        assert!(rt; verdict_on(&rt, alloc, &text, workers)? == Verdict::Same);
-        assert!(rt; verdict_on(&rt, alloc, &VERSION_1, workers)? == Verdict::Same);
-    }
+    assert!(rt; is_verdict_on(&rt, rt.alloc(), &text, Verdict::Same)?);
+    assert!(rt; is_verdict_on(&rt, rt.alloc(), &VERSION_1, Verdict::Same)?);
+    Ok(())
+}
+
+#[test]
+fn version_1_is_migrated(rt: HostRuntime) -> Result<(), Fail> {
+    let text = exits(&rt, rt.alloc(), 1, b"4\n")?;
+    let migrated = migrate(read_recording(rt.alloc(), &VERSION_1)?);
+    assert!(rt; text.as_slice() == text_of(rt.alloc(), &migrated)?.as_slice());
     Ok(())
 }
 
 #[test]
 fn the_first_difference_is_found(rt: HostRuntime) -> Result<(), Fail> {
-    let alloc = rt.alloc();
-    let recording = record(&rt, alloc, &EXIT, &[], &settings(4, b"1\n"))?;
-    let text = text_of(alloc, &recording)?;
+    let text = exits(&rt, rt.alloc(), 4, b"1\n")?;
     // Eight bytes of version 2 more than in version 1, which has 323.
     assert_eq!(rt; text.len(), 331);
-    // The pc of hart 0 after round 3 is 4.
-    assert!(rt; text.get(215).copied() == Some(4));
-    let changed = with_byte(alloc, &text, 215, 8)?;
-    // The trace's length after the last round is 0.
-    let last = with_byte(alloc, &text, 273, 1)?;
-    for workers in [1, 4, 16] {
-        assert!(rt; verdict_on(&rt, alloc, &text, workers)? == Verdict::Same);
-        assert!(rt; verdict_on(&rt, alloc, &changed, workers)? == Verdict::Differs(3));
-        assert!(rt; verdict_on(&rt, alloc, &last, workers)? == Verdict::Differs(4));
+    for (place, byte, verdict) in [
+        // The pc of hart 0 after round 3 is 4.
+        (215, 4, Verdict::Same),
+        (215, 8, Verdict::Differs(3)),
+        // The trace's length after the last round is 0.
+        (273, 0, Verdict::Same),
+        (273, 1, Verdict::Differs(4)),
+    ] {
+        let changed = with_bytes(rt.alloc(), &text, &[(place, byte)])?;
+        assert!(rt; is_verdict_on(&rt, rt.alloc(), &changed, verdict)?);
     }
     Ok(())
 }
 
 #[test]
 fn registers_are_compared(rt: HostRuntime) -> Result<(), Fail> {
-    let alloc = rt.alloc();
-    let recording = record_with(&rt, alloc, &EXIT, &[], &settings(1, b"4\n"), 1)?;
-    let text = text_of(alloc, &recording)?;
+    let recording = record_with(&rt, rt.alloc(), &EXIT, &[], &settings(1, b"4\n"), 1)?;
+    let text = text_of(rt.alloc(), &recording)?;
     assert_eq!(rt; text.len(), 629);
-    assert!(rt; verdict_on(&rt, alloc, &text, 4)? == Verdict::Same);
     // x11 of hart 0 is 2.
-    assert!(rt; text.get(213).copied() == Some(2));
-    let changed = with_byte(alloc, &text, 213, 3)?;
-    assert!(rt; verdict_on(&rt, alloc, &changed, 4)? == Verdict::Differs(1));
+    for (x11, verdict) in [(2, Verdict::Same), (3, Verdict::Differs(1))] {
+        let changed = with_bytes(rt.alloc(), &text, &[(213, x11)])?;
+        assert!(rt; verdict_on(&rt, rt.alloc(), &changed, 4)? == verdict);
+    }
     Ok(())
 }
 
 #[test]
 fn a_changed_image_differs(rt: HostRuntime) -> Result<(), Fail> {
-    let alloc = rt.alloc();
     // ADDI x17,x0,1 in place of ADDI x17,x0,0: the call writes x10, and the harts go on.
-    let changed = with_byte(alloc, &VERSION_1, 35, 0x10)?;
-    assert!(rt; verdict_on(&rt, alloc, &changed, 1)? == Verdict::Differs(1));
-    Ok(())
-}
-
-#[test]
-fn reserved_accesses_hit(rt: HostRuntime) -> Result<(), Fail> {
-    let alloc = rt.alloc();
-    let recording = record(&rt, alloc, &RESERVED, &[], &settings(2, b"3 2\n3 3\n"))?;
-    for workers in [1, 4] {
-        let byte = Range {
-            start: 0x107,
-            len: 1,
-        };
-        let hits = watch(&rt, alloc, &recording, &[byte], workers)?;
-        assert_eq!(rt; hits.len(), 3);
-        let kinds = match hits.as_slice() {
-            [first, second, third] => {
-                matches!(first.access, Access::LoadReserved { .. })
-                    && matches!(second.access, Access::Store { .. })
-                    && matches!(third.access, Access::StoreConditional { written: None, .. })
-                    && (first.round, second.round, third.round) == (1, 2, 2)
-                    && (first.hart, second.hart, third.hart) == (0, 1, 0)
-            }
-            _ => false,
-        };
-        assert!(rt; kinds);
-        let beside = Range {
-            start: 0x108,
-            len: 8,
-        };
-        let below = Range {
-            start: 0xf8,
-            len: 8,
-        };
-        let empty = Range {
-            start: 0x100,
-            len: 0,
-        };
-        let past_all = Range {
-            start: u64::MAX,
-            len: u64::MAX,
-        };
-        let none = watch(
-            &rt,
-            alloc,
-            &recording,
-            &[beside, below, empty, past_all],
-            workers,
-        )?;
-        assert!(rt; none.is_empty());
-        let second = Range {
-            start: 0,
-            len: 0x101,
-        };
-        assert_eq!(rt;
-            watch(&rt, alloc, &recording, &[empty, second], workers)?.len(),
-            3
-        );
-    }
+    let changed = with_bytes(rt.alloc(), &VERSION_1, &[(35, 0x10)])?;
+    assert!(rt; verdict_on(&rt, rt.alloc(), &changed, 1)? == Verdict::Differs(1));
     Ok(())
 }

@@ -1,5 +1,5 @@
 //! What refuses a recorded run.
-use crate::harness::{EXIT, VERSION_1, settings, with_byte};
+use crate::harness::{EXIT, VERSION_1, settings, with_bytes};
 use machine::Settings;
 use replayer::{read_recording, record, replay, watch};
 use std::alloc::Global;
@@ -26,17 +26,25 @@ fn refusals<R: Threads + Wait + Sync>(
     Ok((replayed, watched))
 }
 
+/// Bytes of `VERSION_1` that are others, workers, and the number of both refusals.
+static REFUSED: [(&[(usize, u8)], u32, u32); 5] = [
+    (&[], 1, 0),
+    // The plan is `0`; an ELF file that is too short as well; too many workers, or too few, as well.
+    (&[(57, b'0')], 1, 32),
+    (&[(57, b'0'), (12, 0)], 16, 1),
+    (&[(57, b'0'), (12, 0)], 17, 53),
+    (&[(57, b'0'), (12, 0)], 0, 53),
+];
+
 #[test]
 fn refusals_in_order(rt: HostRuntime) -> Result<(), Fail> {
-    let alloc = rt.alloc();
-    assert!(rt; refusals(&rt, alloc, &VERSION_1, 1)? == (0, 0));
-    // The plan is `0`; an ELF file that is too short as well; too many workers as well.
-    let plan = with_byte(alloc, &VERSION_1, 57, b'0')?;
-    assert!(rt; refusals(&rt, alloc, &plan, 1)? == (32, 32));
-    let image = with_byte(alloc, &plan, 12, 0)?;
-    assert!(rt; refusals(&rt, alloc, &image, 16)? == (1, 1));
-    assert!(rt; refusals(&rt, alloc, &image, 17)? == (53, 53));
-    assert!(rt; refusals(&rt, alloc, &image, 0)? == (53, 53));
+    for (bytes, workers, number) in &REFUSED {
+        let text = with_bytes(rt.alloc(), &VERSION_1, bytes)?;
+        assert_eq!(rt;
+            refusals(&rt, rt.alloc(), &text, *workers)?,
+            (*number, *number)
+        );
+    }
     Ok(())
 }
 
@@ -53,17 +61,22 @@ fn record_answer<R: Threads + Wait + Sync>(
     }
 }
 
+/// Whether there is an image, the harts, the rounds, the plan, and the number of the refusal.
+static RECORDS: [(bool, u32, u32, &[u8], u32); 4] = [
+    (true, 2, 1, b"0\n", 32),
+    (false, 2, 1, b"0\n", 12),
+    (false, 65, 1, b"0\n", 51),
+    (true, 2, 0, b"4\n", 0),
+];
+
 #[test]
 fn records_are_refused_as_runs_are(rt: HostRuntime) {
-    let alloc = rt.alloc();
-    let bad_plan = settings(1, b"0\n");
-    assert_eq!(rt; record_answer(&rt, alloc, &EXIT, &bad_plan), 32);
-    assert_eq!(rt; record_answer(&rt, alloc, &[], &bad_plan), 12);
-    let many_harts = Settings {
-        harts: 65,
-        ..settings(1, b"0\n")
-    };
-    assert_eq!(rt; record_answer(&rt, alloc, &[], &many_harts), 51);
-    let no_rounds = settings(0, b"4\n");
-    assert_eq!(rt; record_answer(&rt, alloc, &EXIT, &no_rounds), 0);
+    for (has_image, harts, rounds, plan, number) in &RECORDS {
+        let image: &[u8] = if *has_image { &EXIT } else { &[] };
+        let settings = Settings {
+            harts: *harts,
+            ..settings(*rounds, plan)
+        };
+        assert_eq!(rt; record_answer(&rt, rt.alloc(), image, &settings), *number);
+    }
 }

@@ -1,0 +1,44 @@
+//! Machines that a replay keeps to go on from.
+use crate::harness::reserved;
+use host_io::RunError;
+use replayer::{Recording, Replay, Verdict};
+use std::alloc::Global;
+use std::sync::Wait;
+use std::test::Fail;
+use std::thread::Threads;
+
+/// Whether hart 0 of a replay is at 0x10 after its failed SC of round 2.
+fn is_after_its_sc<R: Threads + Wait + Sync>(rt: &R, replay: &Replay) -> Result<bool, RunError> {
+    Ok(match replay.state_at(rt, 2, 0, 1, 1)? {
+        Some(hart) => hart.pc == 0x10,
+        None => false,
+    })
+}
+
+/// Whether a recording, opened to keep the machines after multiples of `every`, keeps so many, is the recorded run, and has
+/// hart 0 after its failed SC of round 2.
+fn keeps<R: Threads + Wait + Sync>(
+    rt: &R,
+    alloc: Global,
+    recording: &Recording,
+    every: u32,
+    kept: usize,
+) -> Result<bool, RunError> {
+    let replay = Replay::open(rt, alloc, recording, every, 1)?;
+    Ok(
+        replay.verdict() == Verdict::Same
+            && replay.checkpoints() == kept
+            && replay.kept(0).is_some()
+            && replay.kept(kept).is_none()
+            && is_after_its_sc(rt, &replay)?,
+    )
+}
+
+#[test]
+fn machines_are_kept(rt: HostRuntime) -> Result<(), Fail> {
+    let recording = reserved(&rt, rt.alloc(), 4)?;
+    for (every, kept) in [(0, 1), (1, 5), (2, 3), (3, 2)] {
+        assert!(rt; keeps(&rt, rt.alloc(), &recording, every, kept)?, "{every}");
+    }
+    Ok(())
+}
