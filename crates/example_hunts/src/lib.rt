@@ -2,6 +2,4 @@
 #![tactic(auto)]
 
 #[cfg(test)]
-mod example_files;
-#[cfg(test)]
 mod tests;

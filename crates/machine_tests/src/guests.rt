@@ -2,9 +2,9 @@
 
 ghost use Rattle.std.specs.Prelude.{◌≤◌};
 
-use crate::example_files::{HELLO, LOST_UPDATE, SUM};
 use crate::harness::settings;
 use elf_loader::load_elf;
+use example_files::{HELLO, LOST_UPDATE, SUM};
 use hart_step::Stop;
 use host_io::{RunError, WriteSink};
 use machine::{Format, Machine, Settings, Shown, Unobserved, show_run};

@@ -4,8 +4,6 @@
 #[cfg(test)]
 mod budgets;
 #[cfg(test)]
-mod example_files;
-#[cfg(test)]
 mod guests;
 #[cfg(test)]
 mod harness;

@@ -8,14 +8,10 @@ use crate::reports::OWN_STORES;
 use host_io::RunError;
 use machine::{Gate, Machine, Open};
 use std::alloc::Global;
-use std::hint;
 use std::sync::Wait;
-use std::sync::atomic::{AtomicBool, Ordering};
 use std::test::Fail;
 use std::thread::Threads;
-
-/// How often a gate looks for what it waits for.
-const TURNS: u32 = 100_000_000;
+use test_gates::{Behind, Meeting};
 
 /// Each hart adds 1 to address 512 by LR.D and SC.D until that succeeds, adds 1 to address 520 by AMOADD.D, stores its
 /// number plus 1 to a doubleword of its own, loads that of its neighbour, and begins anew:
@@ -204,78 +200,12 @@ fn a_line_has_the_last_hart_that_stored_there(rt: HostRuntime) -> Result<(), Fai
     Ok(())
 }
 
-/// Whether a mark was seen in so many turns.
-fn is_seen(mark: &AtomicBool) -> bool {
-    for _ in 0..TURNS {
-        if mark.load(Ordering::SeqCst) {
-            return true;
-        }
-        hint::spin_loop();
-    }
-    false
-}
-
-/// Each of two harts is marked as come, and then waits until the other is.
-#[derive(Drop)]
-struct Meeting {
-    first_came: AtomicBool,
-    second_came: AtomicBool,
-    first_met: AtomicBool,
-    second_met: AtomicBool,
-}
-
-impl Gate for Meeting {
-    fn pass(&self, hart: u32) {
-        if hart == 0 {
-            self.first_came.store(true, Ordering::SeqCst);
-            self.first_met
-                .store(is_seen(&self.second_came), Ordering::SeqCst);
-        } else {
-            self.second_came.store(true, Ordering::SeqCst);
-            self.second_met
-                .store(is_seen(&self.first_came), Ordering::SeqCst);
-        }
-    }
-
-    fn done(&self, _hart: u32) {}
-}
-
-/// Hart 0 waits until the round of hart 1 was put.
-#[derive(Drop)]
-struct Behind {
-    second_done: AtomicBool,
-    saw_it: AtomicBool,
-}
-
-impl Gate for Behind {
-    fn pass(&self, hart: u32) {
-        if hart == 0 {
-            self.saw_it
-                .store(is_seen(&self.second_done), Ordering::SeqCst);
-        }
-    }
-
-    fn done(&self, hart: u32) {
-        if hart == 1 {
-            self.second_done.store(true, Ordering::SeqCst);
-        }
-    }
-}
-
 /// Whether two harts meet in a round by two workers: hart 0 sees hart 1 come, and hart 1 sees hart 0. Where one thread does both,
 /// only hart 1 does.
 fn meet<R: Threads + Wait + Sync>(rt: &R, machine: &mut Machine) -> Result<(bool, bool), RunError> {
-    let gate = Meeting {
-        first_came: AtomicBool::new(false),
-        second_came: AtomicBool::new(false),
-        first_met: AtomicBool::new(false),
-        second_met: AtomicBool::new(false),
-    };
+    let gate = Meeting::new();
     machine.round(rt, 2, &gate)?;
-    Ok((
-        gate.first_met.load(Ordering::SeqCst),
-        gate.second_met.load(Ordering::SeqCst),
-    ))
+    Ok(gate.met())
 }
 
 /// How many harts have stopped after one more round by two workers.
@@ -301,11 +231,8 @@ fn stopped_harts_meet_too(rt: HostRuntime) -> Result<(), Fail> {
 #[test]
 fn a_hart_is_done_while_another_waits(rt: HostRuntime) -> Result<(), Fail> {
     let mut machine = machine_of(rt.alloc(), &EXIT, 2, b"4\n")?;
-    let gate = Behind {
-        second_done: AtomicBool::new(false),
-        saw_it: AtomicBool::new(false),
-    };
+    let gate = Behind::new();
     assert!(rt; round_behind(&rt, &mut machine, 2, &gate)? == 1);
-    assert!(rt; gate.saw_it.load(Ordering::SeqCst));
+    assert!(rt; gate.saw_it());
     Ok(())
 }
