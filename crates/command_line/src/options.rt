@@ -27,7 +27,8 @@ pub(crate) fn dethart_command<'a>(alloc: Global) -> Result<Command<'a>, AllocErr
 
 /// The command without those that are neither of runs nor of recordings nor of hunts.
 fn with_hunting_commands<'a>(alloc: Global) -> Result<Command<'a>, AllocError>
-    ensures app { IfOk result (λ command. app_of command ≡ with_commands with_recording_commands hunting_commands) }
+    ensures app { IfOk result (λ command. app_of command ≡
+        with_commands with_recording_commands hunting_commands) }
     ensures local { IfOk result (λ command. (out-Command command).has_globals ≡ false) }
 {
     let recording = with_recording_commands(alloc);
@@ -62,7 +63,8 @@ fn with_subcommand<'a>(
     command: Result<Command<'a>, AllocError>,
     subcommand: Result<Command<'a>, AllocError>,
 ) -> Result<Command<'a>, AllocError>
-    ensures { IfOk result (λ new. IsOkAnd command.entry (λ old. IsOkAnd subcommand.entry (λ sub. AddsSubcommand old sub new))) }
+    ensures { IfOk result (λ new. IsOkAnd command.entry (λ old.
+        IsOkAnd subcommand.entry (λ sub. AddsSubcommand old sub new))) }
 {
     command?.subcommand(subcommand?)
 }

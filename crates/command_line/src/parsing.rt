@@ -29,7 +29,8 @@ const BAD_SHOW: &str = "invalid value for '--show <WHAT>': it is report, output 
 ///
 /// An error has `clap`'s text for the user, and is also what asks for help.
 pub fn parse_line<'a>(alloc: Global, words: &'a [&'a str]) -> Result<Command<'a>, Error>
-    ensures reads { IfOk result (HoldsLine (subcommand_of dethart_app (map (λ s. s.now) words.entry.now))) }
+    ensures reads { IfOk result (HoldsLine (subcommand_of dethart_app (map (λ s.
+        s.now) words.entry.now))) }
     ensures fails { FailsBy (line_fault (map (λ s. s.now) words.entry.now)) result }
 {
     let mut command = dethart_command(alloc)?;

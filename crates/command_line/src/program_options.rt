@@ -57,7 +57,8 @@ pub(crate) fn program_command<'a>(
     after_help: &'a str,
     rounds: &'a str,
 ) -> Result<Command<'a>, AllocError>
-    ensures app { IfOk result (λ command. app_of command ≡ guest_app name.entry.now rounds.entry.now) }
+    ensures app { IfOk result (λ command. app_of command ≡
+        guest_app name.entry.now rounds.entry.now) }
     ensures local { IfOk result (λ command. (out-Command command).has_globals ≡ false) }
 {
     guest_command(alloc, name, about, after_help)?

@@ -11,7 +11,8 @@ use std::alloc::{AllocError, Global};
 
 /// The bytes after each `--see`, in the order of the line.
 pub(crate) fn seen_of(alloc: Global, matches: &ArgMatches<'_>) -> Result<Vec<Bytes>, AllocError>
-    ensures { IfOk result (λ seen. seen.items ≡ map bytes_of (seen_given (rows_of (found_of matches.now)))) }
+    ensures { IfOk result (λ seen. seen.items ≡
+        map bytes_of (seen_given (rows_of (found_of matches.now)))) }
 {
     match matches.get_strs("see") {
         Some(texts) => bytes_in(alloc, texts),
@@ -25,7 +26,8 @@ pub(crate) fn texts_of<'a>(
     matches: &ArgMatches<'a>,
     id: &str,
 ) -> Result<Vec<&'a str>, AllocError>
-    ensures { IfOk result (λ texts. map (λ s. s.now) texts.items ≡ texts_given id.now (rows_of (found_of matches.now))) }
+    ensures { IfOk result (λ texts. map (λ s. s.now) texts.items ≡
+        texts_given id.now (rows_of (found_of matches.now))) }
 {
     match matches.get_strs(id) {
         Some(texts) => Vec::from_slice(alloc, texts),

@@ -62,7 +62,7 @@ one_store : (t : Bool) (s : Store) (rest : List Store) (r : Option Span) → con
 one_store true s rest r = refl
 one_store false s rest r = unless_unless (covers s) (covered rest) r
 
-pub breaking_next : (i : ℕ) (ss rest : List Store) (s : Store) (old now new : List (Option Span)) → Breaks i (record { address = s.addr; width = s.width }) now new → Breaking i ss (s ∷ rest) old now → Breaking i ss rest old new
+pub breaking_next : (i : ℕ) (ss rest : List Store) (s : Store) (old now new : List (Option Span)) → Breaks i (record { address = s.address; width = s.width }) now new → Breaking i ss (s ∷ rest) old now → Breaking i ss rest old new
 breaking_next i ss rest s old now new b k = record {
   size = b.size ∙ k.size;
   each = λ h low.

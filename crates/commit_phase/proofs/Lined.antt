@@ -127,8 +127,8 @@ place_covered a l j h =
     ap (λ (t : Bool). put_first (a + j) (byte_if t (slice_index l.bytes j)) []) (eq-eqb (l.mask / 2 ^ j % 2) 1 (sym (shr_and_one l.mask j) ∙ h))
 
 -- a store whose address is a place in a page
-in_place : (a v : ℕ) (w : Width) → a < 4096 → in_page (record { addr = a; width = w; value = v }) ≡ record { addr = a; width = w; value = v }
-in_place a v w h = ap (λ (x : ℕ). record { addr = x; width = w; value = v }) (mod-eq_of_lt h)
+in_place : (a v : ℕ) (w : Width) → a < 4096 → in_page (record { address = a; width = w; value = v }) ≡ record { address = a; width = w; value = v }
+in_place a v w h = ap (λ (x : ℕ). record { address = x; width = w; value = v }) (mod-eq_of_lt h)
 
 -- one store of eight bytes
 pub word_ready : (p : Page) (a : ℕ) (l : Line) (j : ℕ) → bit_and (l.mask / 2 ^ j) 255 ≡ 255 → Writable p (word_bytes a l j) → is_ready p ≡ true
@@ -136,7 +136,7 @@ unfolding word_bytes
 word_ready p a l j e w = each_place (λ (x : ℕ). is_ready p ≡ true) 8 a l j (all_covered l j 8 e) w 0 (omega arith)
 
 pub word_written : (p q : Page) (a : ℕ) (l : Line) (j v : ℕ) → bit_and (l.mask / 2 ^ j) 255 ≡ 255 → ((k : ℕ) → slice_index l.bytes k < 2 ^ 8) → v ≡ number_at l.bytes j 8 → a + j < 4096 → is_ready p ≡ true →
-    full q ≡ put (full p) (in_page (record { addr = a + j; width = W8; value = v })) → is_ready q ≡ true → Written (word_bytes a l j) p q
+    full q ≡ put (full p) (in_page (record { address = a + j; width = W8; value = v })) → is_ready q ≡ true → Written (word_bytes a l j) p q
 unfolding word_bytes put
 word_written p q a l j v e small is inside before done behind = record {
   bytes = done ∙ ap (put (full p)) (in_place (a + j) v W8 inside) ∙ ap (λ (n : ℕ). written (full p) (a + j) n 8) is ∙ sym (after_covered 8 a l j (full p) small (all_covered l j 8 e));
@@ -150,12 +150,12 @@ place_ready p a l j e w =
     All-head (λ (e : ℕ × ℕ). is_ready p ≡ true) one [] (subst (λ (es : List (ℕ × ℕ)). Writable p es) (place_covered a l j e) w)
 
 pub place_written : (p q : Page) (a : ℕ) (l : Line) (j v : ℕ) → bit_and (l.mask / 2 ^ j) 1 ≡ 1 → v ≡ slice_index l.bytes j → v < 2 ^ 8 → a + j < 4096 → is_ready p ≡ true →
-    full q ≡ put (full p) (in_page (record { addr = a + j; width = W1; value = v })) → is_ready q ≡ true → Written (place_bytes a l j) p q
+    full q ≡ put (full p) (in_page (record { address = a + j; width = W1; value = v })) → is_ready q ≡ true → Written (place_bytes a l j) p q
 place_written p q a l j v e is small inside before done behind =
     let value : v ≡ slice_index l.bytes j % 2 ^ 8 = sym (mod-eq_of_lt small) ∙ ap (λ (x : ℕ). x % 2 ^ 8) is in
     record {
       bytes = done ∙ ap (put (full p)) (in_place (a + j) v W1 inside)
-          ∙ ap (λ (n : ℕ). put (full p) (record { addr = a + j; width = W1; value = n })) value
+          ∙ ap (λ (n : ℕ). put (full p) (record { address = a + j; width = W1; value = n })) value
           ∙ ap (λ (es : List (ℕ × ℕ)). after (full p) (stores_of es)) (sym (place_covered a l j e));
       ready = behind ∙ sym before;
     }

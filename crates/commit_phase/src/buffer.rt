@@ -20,7 +20,8 @@ pub fn commit_buffer(pages: &mut Pages, table: &mut Reservations, hart: u32, buf
     ensures ready { pages.new.ready ≡ pages.old.ready }
     ensures spare { pages.new.spare ≡ pages.old.spare }
     ensures size { length table.new ≡ length table.old }
-    ensures table { (h : ℕ) → h < length table.old → entry table.new h ≡ (if hart == h then entry table.old h else unless (covered (stores_of buffer.now)) (entry table.old h)) }
+    ensures table { (h : ℕ) → h < length table.old → entry table.new h ≡ (if hart == h then entry
+        table.old h else unless (covered (stores_of buffer.now)) (entry table.old h)) }
 {
     write_shard(pages.parts(), 0, buffer);
     break_others(table, hart, buffer);
@@ -29,13 +30,14 @@ pub fn commit_buffer(pages: &mut Pages, table: &mut Reservations, hart: u32, buf
 /// Breaks the reservations of other harts of which the buffer has a byte, if there are some.
 pub(crate) fn break_others(table: &mut Reservations, hart: u32, buffer: &StoreBuffer)
     ensures size { length table.new ≡ length table.old }
-    ensures table { (h : ℕ) → h < length table.old → entry table.new h ≡ (if hart == h then entry table.old h else unless (covered (stores_of buffer.now)) (entry table.old h)) }
+    ensures table { (h : ℕ) → h < length table.old → entry table.new h ≡ (if hart == h then entry
+        table.old h else unless (covered (stores_of buffer.now)) (entry table.old h)) }
 {
     // A hart that waits for a lock has often stored nothing.
     if buffer.is_empty() || table.is_only_of(hart) {
         return;
     }
     for byte in buffer.stores() {
-        table.break_by(hart, byte.addr, byte.width);
+        table.break_by(hart, byte.address, byte.width);
     }
 }

@@ -15,11 +15,13 @@ use reservations::Reservations;
 pub fn commit<B: Buffered>(pages: &mut Pages, table: &mut Reservations, rounds: &[B])
     requires few { length rounds.now ≤ 64 }
     requires writable { All (IsWritable pages.old) (map B.bytes rounds.now) }
-    ensures memory { pages.new.memory ≡ stored pages.old.memory (all_buffered (map B.bytes rounds.now)) }
+    ensures memory { pages.new.memory ≡
+        stored pages.old.memory (all_buffered (map B.bytes rounds.now)) }
     ensures ready { pages.new.ready ≡ pages.old.ready }
     ensures spare { pages.new.spare ≡ pages.old.spare }
     ensures size { length table.new ≡ length table.old }
-    ensures table { (h : ℕ) → h < length table.old → entry table.new h ≡ unless (covered_from 0 h (map B.bytes rounds.now)) (entry table.old h) }
+    ensures table { (h : ℕ) → h < length table.old →
+        entry table.new h ≡ unless (covered_from 0 h (map B.bytes rounds.now)) (entry table.old h) }
 {
     write_all(pages.parts(), 0, rounds);
     break_all(table, rounds);
@@ -29,7 +31,8 @@ pub fn commit<B: Buffered>(pages: &mut Pages, table: &mut Reservations, rounds: 
 pub(crate) fn break_all<B: Buffered>(table: &mut Reservations, rounds: &[B])
     requires few { length rounds.now ≤ 64 }
     ensures size { length table.new ≡ length table.old }
-    ensures table { (h : ℕ) → h < length table.old → entry table.new h ≡ unless (covered_from 0 h (map B.bytes rounds.now)) (entry table.old h) }
+    ensures table { (h : ℕ) → h < length table.old →
+        entry table.new h ≡ unless (covered_from 0 h (map B.bytes rounds.now)) (entry table.old h) }
 {
     let mut hart = 0;
     for round in rounds {

@@ -34,7 +34,7 @@ fn write_word(part: &mut Part, start: u64, line: &Line, place: u64)
     }
     if cover == 0xff {
         part.apply(Store {
-            addr: start + place,
+            address: start + place,
             width: Width::W8,
             value: number_in(&line.bytes, place as usize, Width::W8),
         });
@@ -65,7 +65,7 @@ fn write_place(part: &mut Part, start: u64, line: &Line, place: u64)
 {
     if (line.mask >> place) & 1 == 1 {
         part.apply(Store {
-            addr: start + place,
+            address: start + place,
             width: Width::W1,
             value: u64::from(line.bytes[place as usize]),
         });

@@ -33,11 +33,13 @@ pub fn commit_on<R: Threads + Sync, B: Buffered + Sync, G: ShardGate + Sync>(
     requires some_workers { 1 ≤ workers }
     requires few { length rounds.now ≤ 64 }
     requires writable { All (IsWritable pages.old) (map B.bytes rounds.now) }
-    ensures memory { pages.new.memory ≡ stored pages.old.memory (all_buffered (map B.bytes rounds.now)) }
+    ensures memory { pages.new.memory ≡
+        stored pages.old.memory (all_buffered (map B.bytes rounds.now)) }
     ensures ready { pages.new.ready ≡ pages.old.ready }
     ensures spare { pages.new.spare ≡ pages.old.spare }
     ensures size { length table.new ≡ length table.old }
-    ensures table { (h : ℕ) → h < length table.old → entry table.new h ≡ unless (covered_from 0 h (map B.bytes rounds.now)) (entry table.old h) }
+    ensures table { (h : ℕ) → h < length table.old →
+        entry table.new h ≡ unless (covered_from 0 h (map B.bytes rounds.now)) (entry table.old h) }
 {
     let count = pages.count();
     let size = count.div_ceil(workers).max(1);

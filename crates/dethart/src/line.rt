@@ -29,10 +29,14 @@ pub(crate) fn texts_of<'a>(
 
 /// Answers a line that `clap` doesn't take: prints the help or the version that was asked for, and else says what fails.
 pub(crate) fn answer_line(rt: &HostRuntime, error: clap::Error) -> Result<(), Failure>
-    ensures memory { kind_of error ≡ ErrorKind.OutOfMemory → result ≡ Err (failures.Refused RunError.OutOfMemory) }
-    ensures help { kind_of error ≡ ErrorKind.DisplayHelp → IfErr result (λ failure. failure ≡ failures.Refused RunError.SinkFailed) }
-    ensures version { kind_of error ≡ ErrorKind.DisplayVersion → IfErr result (λ failure. failure ≡ failures.Refused RunError.SinkFailed) }
-    ensures bad { kind_of error ≢ ErrorKind.OutOfMemory → kind_of error ≢ ErrorKind.DisplayHelp → kind_of error ≢ ErrorKind.DisplayVersion → result ≡ Err (failures.Line error) }
+    ensures memory { kind_of error ≡ ErrorKind.OutOfMemory →
+        result ≡ Err (failures.Refused RunError.OutOfMemory) }
+    ensures help { kind_of error ≡ ErrorKind.DisplayHelp →
+        IfErr result (λ failure. failure ≡ failures.Refused RunError.SinkFailed) }
+    ensures version { kind_of error ≡ ErrorKind.DisplayVersion →
+        IfErr result (λ failure. failure ≡ failures.Refused RunError.SinkFailed) }
+    ensures bad { kind_of error ≢ ErrorKind.OutOfMemory → kind_of error ≢ ErrorKind.DisplayHelp →
+        kind_of error ≢ ErrorKind.DisplayVersion → result ≡ Err (failures.Line error) }
 {
     match error.kind() {
         ErrorKind::OutOfMemory => Err(Failure::Refused(RunError::OutOfMemory)),

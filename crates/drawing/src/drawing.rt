@@ -30,15 +30,21 @@ pub fn draw_run<S: Sink, O: Observer, R: Threads + Wait + Sync>(
     out: &mut S,
 ) -> Result<(), RunError>
     // The sink took the picture of the run that the definitions name.
-    ensures draws { OnOk result ((plan : Planned) × IsPlan settings.now plan × (S.took out.new ≡ S.took out.old ++ picture_after settings.now image.now input.now plan view.now)) }
+    ensures draws { OnOk result ((plan : Planned) × IsPlan settings.now plan × (S.took out.new ≡
+        S.took out.old ++ picture_after settings.now image.now input.now plan view.now)) }
     // Else it took nothing, or a beginning of that picture.
-    ensures begun { OnErr result ((S.took out.new ≡ S.took out.old) ⊎ ((plan : Planned) × IsPlan settings.now plan × BeganText (S.took out.old) (S.took out.new) (picture_after settings.now image.now input.now plan view.now))) }
+    ensures begun { OnErr result ((S.took out.new ≡ S.took out.old) ⊎
+        ((plan : Planned) × IsPlan settings.now plan × BeganText (S.took out.old) (S.took out.new)
+        (picture_after settings.now image.now input.now plan view.now))) }
     // Where anything else than the sink refuses, it took nothing.
-    ensures untouched { IfErr result (λ e. (e ≡ refusals.SinkFailed) ⊎ (S.took out.new ≡ S.took out.old)) }
+    ensures untouched { IfErr result (λ e. (e ≡ refusals.SinkFailed) ⊎
+        (S.took out.new ≡ S.took out.old)) }
     // Numbers out of range are refused first, then an image, and then a plan.
     ensures in_order { RefusedInOrder settings.now image.now result }
     // What is refused then is for a reason that stands.
-    ensures errors { settings_fault settings.now ≡ None → IfErr result (λ e. IsReason settings.now image.now e ⊎ ((e ≡ refusals.SinkFailed) × (S.failures out.old < S.failures out.new))) }
+    ensures errors { settings_fault settings.now ≡ None →
+        IfErr result (λ e. IsReason settings.now image.now e ⊎
+        ((e ≡ refusals.SinkFailed) × (S.failures out.old < S.failures out.new))) }
 {
     let mut machine = prepare(alloc, image, input, settings)?;
     machine.run_observed(rt, settings.rounds, settings.workers, observer)?;

@@ -182,9 +182,11 @@ pub fn load_elf(alloc: Global, file: &[u8], pages: u32) -> Result<Image, LoadErr
     // A file is accepted only where no cause stands.
     ensures accepted { IfOk result (λ i. (cause : Cause) → StandsInElf file.now pages cause → ⊥) }
     // A cause that is answered stands, and is the least.
-    ensures refused { IfErr result (λ e. e ≢ causes.OutOfMemory → IsLeast (StandsInElf file.now pages) e) }
+    ensures refused { IfErr result (λ e. e ≢ causes.OutOfMemory →
+        IsLeast (StandsInElf file.now pages) e) }
     // Where causes stand, the least is answered, if memory doesn't run out.
-    ensures exact { (cause : Cause) → IsLeast (StandsInElf file.now pages) cause → (result ≡ Err cause) ⊎ (result ≡ Err causes.OutOfMemory) }
+    ensures exact { (cause : Cause) → IsLeast (StandsInElf file.now pages) cause →
+        (result ≡ Err cause) ⊎ (result ≡ Err causes.OutOfMemory) }
 {
     check_header(file)?;
     let segments = segments_of(alloc, file)?;

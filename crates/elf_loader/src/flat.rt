@@ -23,9 +23,11 @@ pub fn load_flat(alloc: Global, file: &[u8], pages: u32) -> Result<Image, LoadEr
     // A file is accepted only where no cause stands.
     ensures accepted { IfOk result (λ i. (cause : Cause) → StandsInFlat file.now pages cause → ⊥) }
     // A cause that is answered stands, and is the least.
-    ensures refused { IfErr result (λ e. e ≢ causes.OutOfMemory → IsLeast (StandsInFlat file.now pages) e) }
+    ensures refused { IfErr result (λ e. e ≢ causes.OutOfMemory →
+        IsLeast (StandsInFlat file.now pages) e) }
     // Where causes stand, the least is answered, if memory doesn't run out.
-    ensures exact { (cause : Cause) → IsLeast (StandsInFlat file.now pages) cause → (result ≡ Err cause) ⊎ (result ≡ Err causes.OutOfMemory) }
+    ensures exact { (cause : Cause) → IsLeast (StandsInFlat file.now pages) cause →
+        (result ≡ Err cause) ⊎ (result ≡ Err causes.OutOfMemory) }
 {
     if file.len() > pages as usize * 4096 {
         return Err(LoadError::PastMemory);

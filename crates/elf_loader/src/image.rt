@@ -24,7 +24,12 @@ impl Model for Image {
 
     ghost Value = { Loaded };
 
-    ghost view = { λ i. record { bytes = bytes_from i.pieces.items 0 (4096 * i.pages); code = i.code.items; entry = i.entry; pages = i.pages } };
+    ghost view = { λ i. record {
+      bytes = bytes_from i.pieces.items 0 (4096 * i.pages);
+      code = i.code.items;
+      entry = i.entry;
+      pages = i.pages;
+    } };
 
     ghost invariant = { λ i. IsImage i.pieces.items i.code.items i.entry i.pages };
 }
@@ -36,7 +41,8 @@ impl Image {
         // There is a byte for each address of guest memory.
         ensures length { length self.now.bytes ≡ 4096 * self.now.pages }
         ensures is_bytes { IsBytes self.now.bytes }
-        ensures within { All (λ (p : PieceOf). p.start + length p.bytes.items ≤ 4096 * self.now.pages) result.now }
+        ensures within { All (λ (p : PieceOf). p.start + length p.bytes.items ≤
+            4096 * self.now.pages) result.now }
         ensures apart { AllPairs AreApart result.now }
     {
         self.pieces.as_slice()
@@ -45,7 +51,8 @@ impl Image {
     /// The same bytes, handed over.
     pub fn into_pieces(self) -> Vec<Piece>
         ensures bytes { bytes_from result.items 0 (4096 * self.pages) ≡ self.bytes }
-        ensures within { All (λ (p : PieceOf). p.start + length p.bytes.items ≤ 4096 * self.pages) result.items }
+        ensures within { All (λ (p : PieceOf). p.start + length p.bytes.items ≤
+            4096 * self.pages) result.items }
     {
         let Image { pieces, .. } = self;
         pieces

@@ -116,16 +116,16 @@ module _ (bs : List ℕ) (w : Width) (p a : ℕ) where
   pub match_reserved : (ordering : AcquireRelease) (v : ℕ) → IsBytes bs → a + width_bytes w ≤ length bs → value_at bs a w ≡ v → Matches bs (LoadReserved w ordering p a v) []
   match_reserved ordering v small h e = record { read_within = λ x r. within bs a (width_bytes w) x h r; read_bytes = λ x r. read_byte bs a x w v small e r; put_bytes = λ x b. refl; put_where = λ x. refl }
 
-  pub match_store : (v : ℕ) → Matches bs (StoreAccess w p a (cut w v)) (record { addr = a; width = w; value = v } ∷ [])
+  pub match_store : (v : ℕ) → Matches bs (StoreAccess w p a (cut w v)) (record { address = a; width = w; value = v } ∷ [])
   match_store v = record { read_within = λ x r. absurd (cc r); read_bytes = λ x r. absurd (cc r); put_bytes = λ x b. put_byte a v x b w (in_range a (width_bytes w) x) refl; put_where = λ x. only (in_range a (width_bytes w) x) }
 
-  pub match_success : (ordering : AcquireRelease) (v : ℕ) → Matches bs (StoreConditional w ordering p a (Some (cut w v))) (record { addr = a; width = w; value = v } ∷ [])
+  pub match_success : (ordering : AcquireRelease) (v : ℕ) → Matches bs (StoreConditional w ordering p a (Some (cut w v))) (record { address = a; width = w; value = v } ∷ [])
   match_success ordering v = record { read_within = λ x r. absurd (cc r); read_bytes = λ x r. absurd (cc r); put_bytes = λ x b. put_byte a v x b w (in_range a (width_bytes w) x) refl; put_where = λ x. only (in_range a (width_bytes w) x) }
 
   pub match_failure : (ordering : AcquireRelease) → Matches bs (StoreConditional w ordering p a None) []
   match_failure ordering = record { read_within = λ x r. absurd (cc r); read_bytes = λ x r. absurd (cc r); put_bytes = λ x b. refl; put_where = λ x. refl }
 
-  pub match_atomic : (ordering : AcquireRelease) (old new : ℕ) → IsBytes bs → a + width_bytes w ≤ length bs → value_at bs a w ≡ old → Matches bs (Atomic w ordering p a old new) (record { addr = a; width = w; value = new } ∷ [])
+  pub match_atomic : (ordering : AcquireRelease) (old new : ℕ) → IsBytes bs → a + width_bytes w ≤ length bs → value_at bs a w ≡ old → Matches bs (Atomic w ordering p a old new) (record { address = a; width = w; value = new } ∷ [])
   match_atomic ordering old new small h e = record { read_within = λ x r. within bs a (width_bytes w) x h r; read_bytes = λ x r. read_byte bs a x w old small e r; put_bytes = λ x b. refl; put_where = λ x. only (in_range a (width_bytes w) x) }
 
 pub match_fence : (bs : List ℕ) (before after : FenceSet) (mode : FenceMode) (p : ℕ) → Matches bs (Fence before after mode p) []

@@ -30,13 +30,13 @@ clear_with_bytes code es a v (suc n) e c =
     let p = or_false (is_code code a) (any_code code (a + 1) n) e in
     clear_with_bytes code (with_byte es a (v % 2 ^ 8)) (a + 1) (v / 2 ^ 8) n p.1 (clear_with_byte code es a (v % 2 ^ 8) p.0 c)
 
-pub clear_with_store : (m : Memory) (es : List (ℕ × ℕ)) (s : Store) → store_fault m s.addr s.width ≡ None → Clear m.code es → Clear m.code (with_store es s)
+pub clear_with_store : (m : Memory) (es : List (ℕ × ℕ)) (s : Store) → store_fault m s.address s.width ≡ None → Clear m.code es → Clear m.code (with_store es s)
 unfolding with_store
-clear_with_store m es s e c = clear_with_bytes m.code es s.addr s.value (width_bytes s.width) (store_accepted m s.addr s.width e).2 c
+clear_with_store m es s e c = clear_with_bytes m.code es s.address s.value (width_bytes s.width) (store_accepted m s.address s.width e).2 c
 
 touches_none : (code : List Range) (es : List (ℕ × ℕ)) → Clear code es → TouchesNoCode code (stores_of es)
 touches_none code [] c = λ k d h. absurd (omega arith)
-touches_none code (e ∷ es) c = All-cons (λ (s : Store). any_code code s.addr (width_bytes s.width) ≡ false) _ (stores_of es) (one (is_code code e.0) c.0) (touches_none code es c.1)
+touches_none code (e ∷ es) c = All-cons (λ (s : Store). any_code code s.address (width_bytes s.width) ≡ false) _ (stores_of es) (one (is_code code e.0) c.0) (touches_none code es c.1)
   where
     one : (b : Bool) → b ≡ false → (b || false) ≡ false
     one true e = e

@@ -50,14 +50,14 @@ within : (m : Memory) (a : ℕ) (w : Width) → store_fault m a w ≡ None → a
 unfolding store_fault
 within m a w ok = grind (arith, nat_tests)
 
-pub took_one : (p : Paged) (s : Store) → s.addr / 4096 < length p.ready → TakesDirectly p (s ∷ []) (applied p s)
+pub took_one : (p : Paged) (s : Store) → s.address / 4096 < length p.ready → TakesDirectly p (s ∷ []) (applied p s)
 unfolding applied
 took_one p s low = record {
   memory = refl;
-  count = length-set p.ready (s.addr / 4096) true;
-  stays = λ page h. stays_ready p.ready (s.addr / 4096) page h;
-  spares = λ n h. left n (count_unready p.ready) (count_unready (set p.ready (s.addr / 4096) true)) p.spare (is_page_ready p (s.addr / 4096))
-      (same_count p.ready (s.addr / 4096)) (one_less p.ready (s.addr / 4096) low) h;
+  count = length-set p.ready (s.address / 4096) true;
+  stays = λ page h. stays_ready p.ready (s.address / 4096) page h;
+  spares = λ n h. left n (count_unready p.ready) (count_unready (set p.ready (s.address / 4096) true)) p.spare (is_page_ready p (s.address / 4096))
+      (same_count p.ready (s.address / 4096)) (one_less p.ready (s.address / 4096) low) h;
 }
 
 can_take_by : (p : Paged) (page : ℕ) (b : Bool) → is_page_ready p page ≡ b → page < length p.ready → HasSpares 1 p → CanTakeOn p page
@@ -68,11 +68,11 @@ pub can_take : (p : Paged) (page : ℕ) → page < length p.ready → HasSpares 
 can_take p page low h = can_take_by p page (is_page_ready p page) refl low h
 
 -- a store that has no fault lies in one of the pages
-pub within_pages : (p : Paged) (s : Store) (pages : ℕ) → store_fault p.memory s.addr s.width ≡ None → pages ≡ length p.ready → 4096 * pages ≡ length p.memory.bytes → s.addr / 4096 < length p.ready
-within_pages p s pages ok count bytes = let inside : s.addr + width_bytes s.width ≤ length p.memory.bytes = within p.memory s.addr s.width ok in let some : 0 < width_bytes s.width = positive s.width in omega arith
+pub within_pages : (p : Paged) (s : Store) (pages : ℕ) → store_fault p.memory s.address s.width ≡ None → pages ≡ length p.ready → 4096 * pages ≡ length p.memory.bytes → s.address / 4096 < length p.ready
+within_pages p s pages ok count bytes = let inside : s.address + width_bytes s.width ≤ length p.memory.bytes = within p.memory s.address s.width ok in let some : 0 < width_bytes s.width = positive s.width in omega arith
 
 -- a store after room was made for it
-pub took_after : (p q : Paged) (s : Store) → s.addr / 4096 < length p.ready → IsRoomier (s.addr / 4096) p q → TakesDirectly p (s ∷ []) (applied q s)
+pub took_after : (p q : Paged) (s : Store) → s.address / 4096 < length p.ready → IsRoomier (s.address / 4096) p q → TakesDirectly p (s ∷ []) (applied q s)
 took_after p q s low r =
     let one = took_one q s (omega (arith, r.count)) in
     record {
@@ -81,6 +81,6 @@ took_after p q s low r =
       stays = λ page h. one.stays page (r.stays page h);
       spares = λ n h.
           let some : HasSpares 1 p = omega arith in
-          let same : q ≡ p = r.idle (can_take p (s.addr / 4096) low some) in
+          let same : q ≡ p = r.idle (can_take p (s.address / 4096) low some) in
           one.spares n (subst (λ (x : Paged). HasSpares (n + 1) x) (sym same) h);
     }

@@ -22,7 +22,7 @@ Clear code (e ∷ es) = (is_code code e.0 ≡ false) × Clear code es
 
 -- a byte of the store's line of 64 is there
 abbrev pub HasLine : Overlay → Store → Type 0
-HasLine v s = (x : ℕ) × (x / 64 ≡ s.addr / 64) × IsSome (byte_at v.bytes x)
+HasLine v s = (x : ℕ) × (x / 64 ≡ s.address / 64) × IsSome (byte_at v.bytes x)
 
 -- the stores put over the bytes that are there, on the same memory
 pub record Puts (v : Overlay) (ss : List Store) (w : Overlay) : Type 0 where

@@ -61,13 +61,13 @@ impl Bus for Buffered<'_> {
     }
 
     #[inline(always)]
-    fn load(&self, addr: u64, width: Width) -> Result<u64, Fault> {
-        self.buffer.read_over(self.pages, addr, width)
+    fn load(&self, address: u64, width: Width) -> Result<u64, Fault> {
+        self.buffer.read_over(self.pages, address, width)
     }
 
     #[inline(always)]
     fn store(&mut self, s: Store) -> Result<Result<(), Fault>, OutOfMemory> {
-        match self.pages.check_store(s.addr, s.width) {
+        match self.pages.check_store(s.address, s.width) {
             Err(f) => Ok(Err(f)),
             Ok(()) => {
                 self.buffer.bytes_rise();

@@ -21,15 +21,16 @@ pub trait Bus {
         ensures { result ≡ fetched (memory self.now) pc };
 
     /// The number in the bytes from an address on, without any extension.
-    fn load(&self, addr: u64, width: Width) -> Result<u64, Fault>
-        ensures { result ≡ loaded (memory self.now) addr width };
+    fn load(&self, address: u64, width: Width) -> Result<u64, Fault>
+        ensures { result ≡ loaded (memory self.now) address width };
 
     /// Takes a store, or answers its fault.
     fn store(&mut self, s: Store) -> Result<Result<(), Fault>, OutOfMemory>
         ensures ok { IfOk result (λ r. Stores r s (memory self.old) (memory self.new)) }
         ensures takes { IfOk result (λ r. takes self.old (taken_of r s) self.new) }
         ensures err { OnErr result (memory self.new ≡ memory self.old) }
-        ensures room { (store_fault (memory self.old) s.addr s.width ≡ None → has_room self.old s) → IsOk result };
+        ensures room { (store_fault (memory self.old) s.address s.width ≡ None → has_room self.old s) →
+            IsOk result };
 
     ghost takes_none: { (b : Self) → takes b [] b };
 

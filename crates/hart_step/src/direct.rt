@@ -25,18 +25,18 @@ impl Bus for Pages {
     }
 
     #[inline(always)]
-    fn load(&self, addr: u64, width: Width) -> Result<u64, Fault> {
-        self.read(addr, width)
+    fn load(&self, address: u64, width: Width) -> Result<u64, Fault> {
+        self.read(address, width)
     }
 
     #[inline]
     fn store(&mut self, s: Store) -> Result<Result<(), Fault>, OutOfMemory> {
-        if let Err(fault) = self.check_store(s.addr, s.width) {
+        if let Err(fault) = self.check_store(s.address, s.width) {
             return Ok(Err(fault));
         }
         // A store that has no fault lies in one of these pages.
         let _pages = self.count();
-        make_room(self, (s.addr / 4096) as u32)?;
+        make_room(self, (s.address / 4096) as u32)?;
         self.apply(s);
         Ok(Ok(()))
     }

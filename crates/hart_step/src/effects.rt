@@ -138,9 +138,12 @@ pub fn load<B: Bus>(
     signed: bool,
 ) -> Answer
     requires { seen.old ≡ None }
-    ensures answer { with_access seen.new result ≡ (read_by h.old rd address width signed (loaded (B.memory b.now) address width)).answer }
-    ensures hart { h.new ≡ (read_by h.old rd address width signed (loaded (B.memory b.now) address width)).hart }
-    ensures stores { (read_by h.old rd address width signed (loaded (B.memory b.now) address width)).stores ≡ [] }
+    ensures answer { with_access seen.new result ≡
+        (read_by h.old rd address width signed (loaded (B.memory b.now) address width)).answer }
+    ensures hart { h.new ≡
+        (read_by h.old rd address width signed (loaded (B.memory b.now) address width)).hart }
+    ensures stores { (read_by h.old rd address width signed
+        (loaded (B.memory b.now) address width)).stores ≡ [] }
 {
     match b.load(address, width) {
         Err(f) => halt(h, stop_code(f)),
@@ -167,16 +170,21 @@ pub fn store<B: Bus>(
     value: u64,
 ) -> Result<Answer, OutOfMemory>
     requires { seen.old ≡ None }
-    ensures answer { IfOk result (λ a. with_access seen.new a ≡ (written_by h.old address width value (store_fault (B.memory b.old) address width)).answer) }
-    ensures hart { OnOk result (h.new ≡ (written_by h.old address width value (store_fault (B.memory b.old) address width)).hart) }
-    ensures memory { OnOk result (B.memory b.new ≡ stored (B.memory b.old) (written_by h.old address width value (store_fault (B.memory b.old) address width)).stores) }
-    ensures takes { OnOk result (B.takes b.old (written_by h.old address width value (store_fault (B.memory b.old) address width)).stores b.new) }
+    ensures answer { IfOk result (λ a. with_access seen.new a ≡ (written_by h.old address width
+        value (store_fault (B.memory b.old) address width)).answer) }
+    ensures hart { OnOk result (h.new ≡
+        (written_by h.old address width value (store_fault (B.memory b.old) address width)).hart) }
+    ensures memory { OnOk result (B.memory b.new ≡ stored (B.memory b.old) (written_by h.old address
+        width value (store_fault (B.memory b.old) address width)).stores) }
+    ensures takes { OnOk result (B.takes b.old (written_by h.old address width value
+        (store_fault (B.memory b.old) address width)).stores b.new) }
     ensures err_hart { OnErr result (h.new ≡ h.old) }
     ensures err_bus { OnErr result (B.memory b.new ≡ B.memory b.old) }
-    ensures room { AllHaveRoom (B.has_room b.old) (written_by h.old address width value (store_fault (B.memory b.old) address width)).stores → IsOk result }
+    ensures room { AllHaveRoom (B.has_room b.old) (written_by h.old address width value
+        (store_fault (B.memory b.old) address width)).stores → IsOk result }
 {
     let s = Store {
-        addr: address,
+        address,
         width,
         value,
     };

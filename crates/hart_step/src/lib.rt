@@ -10,12 +10,14 @@ mod direct;
 mod effects;
 mod hart;
 mod laws;
+mod listing;
 mod numbers;
 mod performing;
 mod rounds;
 mod stepping;
 
 pub use amo::amo_value;
+pub use answer::Answer;
 pub use buffered::Buffered;
 pub use bus::Bus;
 pub use code_table::CodeTable;
@@ -26,6 +28,7 @@ pub use laws::{
     accesses_have_their_forms, done_counts_instructions, instructions_are_sound,
     stops_have_their_codes, waits_before_serial_words,
 };
+pub use listing::{count_of, place_of, step_listed};
 pub use round_schedule::{Access, Span, Stepped};
 pub use rounds::hart_round;
 pub use stepping::{step, step_decoded};

@@ -23,7 +23,8 @@ pub trait Source {
         ensures gave { IfOk result (λ n. gave self.new ≡ gave self.old ++ take n buf.new) }
         ensures err { OnErr result (gave self.new ≡ gave self.old) }
         ensures ends { Ended buf.new result (ends self.old) (ends self.new) }
-        ensures counts { MatchResult result (λ _. failures self.new ≡ failures self.old) (λ _. failures self.new ≡ failures self.old + 1) };
+        ensures counts { MatchResult result (λ _. failures self.new ≡
+            failures self.old) (λ _. failures self.new ≡ failures self.old + 1) };
 }
 
 /// How many bytes are asked for at once.

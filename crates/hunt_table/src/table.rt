@@ -23,7 +23,8 @@ pub fn write_table<S: Sink>(
     out: &mut S,
 ) -> Result<(), RunError>
     ensures ok { OnOk result (S.took out.new ≡ S.took out.old ++ table_text header.now rows.now) }
-    ensures begun { OnErr result (BeganText (S.took out.old) (S.took out.new) (table_text header.now rows.now)) }
+    ensures begun { OnErr result
+        (BeganText (S.took out.old) (S.took out.new) (table_text header.now rows.now)) }
     ensures memory { result ≡ Err RunError.OutOfMemory → S.took out.new ≡ S.took out.old }
     ensures sink { result ≡ Err RunError.SinkFailed → S.failures out.old < S.failures out.new }
     ensures errors { IfErr result (λ e. (e ≡ RunError.OutOfMemory) ⊎ (e ≡ RunError.SinkFailed)) }
@@ -50,7 +51,8 @@ pub fn add_table(line: &mut Line, header: &Header, rows: &[Row]) -> Result<(), O
 /// Adds the lines of the plans and of the number of endings.
 #[tactic(auto, unfolding(crate::specs::Text::header_text))]
 fn add_header(line: &mut Line, header: &Header, endings: u64) -> Result<(), OutOfMemory>
-    ensures { OnOk result (line.new ≡ line.old ++ header_text header.now.seed header.now.first header.now.count endings) }
+    ensures { OnOk result (line.new ≡
+        line.old ++ header_text header.now.seed header.now.first header.now.count endings) }
 {
     line.text("plans ")?;
     line.decimal(u64::from(header.first))?;

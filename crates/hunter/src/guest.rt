@@ -71,11 +71,14 @@ impl<'a> Guest<'a> {
         settings: &'a HuntSettings,
     ) -> Result<Guest<'a>, RunError>
         requires range { IsGuest settings.now }
-        ensures image { IfOk result (λ g. g.image ≡ image_of settings.now.format file.now settings.now.pages) }
+        ensures image { IfOk result (λ g. g.image ≡
+            image_of settings.now.format file.now settings.now.pages) }
         ensures input { IfOk result (λ g. g.input.now ≡ input.now) }
         ensures settings { IfOk result (λ g. g.settings.now ≡ settings.now) }
-        ensures errors { IfErr result (λ e. (e ≡ refusals.OutOfMemory) ⊎ ((cause : ImageCause) × IsImageCause settings.now file.now cause × (e ≡ refusals.Image cause))) }
-        ensures refused { (cause : ImageCause) → IsImageCause settings.now file.now cause → (result ≡ Err (refusals.Image cause)) ⊎ (result ≡ Err refusals.OutOfMemory) }
+        ensures errors { IfErr result (λ e. (e ≡ refusals.OutOfMemory) ⊎ ((cause : ImageCause) ×
+            IsImageCause settings.now file.now cause × (e ≡ refusals.Image cause))) }
+        ensures refused { (cause : ImageCause) → IsImageCause settings.now file.now cause →
+            (result ≡ Err (refusals.Image cause)) ⊎ (result ≡ Err refusals.OutOfMemory) }
     {
         let image = load(alloc, settings.format, file, settings.pages)?;
         Ok(Guest {
@@ -129,7 +132,8 @@ fn stops_of(alloc: Global, harts: &[Hart]) -> Result<Vec<Option<Stop>>, OutOfMem
 /// Adds the bytes of a range.
 #[tactic(auto, using(crate::proofs::Seen::next_byte, crate::proofs::Seen::no_more_bytes))]
 fn look(machine: &UntracedMachine, range: SeenRange, seen: &mut Vec<u8>) -> Result<(), OutOfMemory>
-    ensures { OnOk result (seen.new.items ≡ seen.old.items ++ take range.length (drop range.address machine.now.bytes)) }
+    ensures { OnOk result (seen.new.items ≡
+        seen.old.items ++ take range.length (drop range.address machine.now.bytes)) }
 {
     for offset in 0..range.length {
         let Some(byte) = machine.byte(u64::from(range.address) + u64::from(offset)) else {
@@ -163,7 +167,8 @@ fn ending_of(
     machine: &UntracedMachine,
     ranges: &[SeenRange],
 ) -> Result<Ending, OutOfMemory>
-    ensures { (m : Running) → IsUntraced m machine.now → IfOk result (λ e. e ≡ ended_of ranges.now m) }
+    ensures { (m : Running) → IsUntraced m machine.now →
+        IfOk result (λ e. e ≡ ended_of ranges.now m) }
 {
     let stops = stops_of(alloc, machine.harts())?;
     let Ok(output) = Vec::from_slice(alloc, machine.output()) else {

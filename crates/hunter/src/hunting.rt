@@ -36,8 +36,11 @@ pub fn tabulate_hunt<O: HuntObserver, R: Threads + Wait + Sync>(
 ) -> Result<Vec<Row>, HuntError>
     ensures table { IfOk result (λ rows. IsHunted settings.now image.now input.now rows.items) }
     ensures settings { (e : Refusal) → hunt_fault settings.now ≡ Some e → result ≡ Err e }
-    ensures errors { hunt_fault settings.now ≡ None → IfErr result (λ e. IsHuntReason settings.now image.now e) }
-    ensures image { (cause : ImageCause) → hunt_fault settings.now ≡ None → IsImageCause settings.now image.now cause → (result ≡ Err (Run (refusals.Image cause))) ⊎ (result ≡ Err (Run refusals.OutOfMemory)) }
+    ensures errors { hunt_fault settings.now ≡ None →
+        IfErr result (λ e. IsHuntReason settings.now image.now e) }
+    ensures image { (cause : ImageCause) → hunt_fault settings.now ≡ None →
+        IsImageCause settings.now image.now cause →
+        (result ≡ Err (Run (refusals.Image cause))) ⊎ (result ≡ Err (Run refusals.OutOfMemory)) }
 {
     check_hunt(settings)?;
     let guest = Guest::load(alloc, image, input, settings)?;
@@ -100,16 +103,25 @@ pub fn hunt<S: Sink, O: HuntObserver, R: Threads + Wait + Sync>(
     out: &mut S,
 ) -> Result<bool, HuntError>
     // The sink took the table of the runs that the definitions name, and the answer is that of the table.
-    ensures hunts { IfOk result (λ exits. (rows : List TableRow) × IsHunted settings.now image.now input.now rows × (S.took out.new ≡ S.took out.old ++ table_text settings.now.header rows) × (exits ≡ is_one_exit rows)) }
+    ensures hunts { IfOk result (λ exits.
+        (rows : List TableRow) × IsHunted settings.now image.now input.now rows × (S.took out.new ≡
+        S.took out.old ++ table_text settings.now.header rows) × (exits ≡ is_one_exit rows)) }
     // Else it took nothing, or a beginning of that table.
-    ensures begun { OnErr result ((S.took out.new ≡ S.took out.old) ⊎ ((rows : List TableRow) × IsHunted settings.now image.now input.now rows × BeganText (S.took out.old) (S.took out.new) (table_text settings.now.header rows))) }
+    ensures begun { OnErr result ((S.took out.new ≡ S.took out.old) ⊎
+        ((rows : List TableRow) × IsHunted settings.now image.now input.now rows ×
+        BeganText (S.took out.old) (S.took out.new) (table_text settings.now.header rows))) }
     // Where anything else than the sink refuses, it took nothing.
-    ensures untouched { IfErr result (λ e. (e ≡ Run refusals.SinkFailed) ⊎ (S.took out.new ≡ S.took out.old)) }
+    ensures untouched { IfErr result (λ e. (e ≡ Run refusals.SinkFailed) ⊎
+        (S.took out.new ≡ S.took out.old)) }
     // Settings out of range are refused first, and then an image.
     ensures settings { (e : Refusal) → hunt_fault settings.now ≡ Some e → result ≡ Err e }
     // What is refused then is for a reason that stands.
-    ensures errors { hunt_fault settings.now ≡ None → IfErr result (λ e. IsHuntReason settings.now image.now e ⊎ ((e ≡ Run refusals.SinkFailed) × (S.failures out.old < S.failures out.new))) }
-    ensures image { (cause : ImageCause) → hunt_fault settings.now ≡ None → IsImageCause settings.now image.now cause → (result ≡ Err (Run (refusals.Image cause))) ⊎ (result ≡ Err (Run refusals.OutOfMemory)) }
+    ensures errors { hunt_fault settings.now ≡ None →
+        IfErr result (λ e. IsHuntReason settings.now image.now e ⊎
+        ((e ≡ Run refusals.SinkFailed) × (S.failures out.old < S.failures out.new))) }
+    ensures image { (cause : ImageCause) → hunt_fault settings.now ≡ None →
+        IsImageCause settings.now image.now cause →
+        (result ≡ Err (Run (refusals.Image cause))) ⊎ (result ≡ Err (Run refusals.OutOfMemory)) }
 {
     let rows = tabulate_hunt(rt, alloc, image, input, settings, observer)?;
     write_table(alloc, &settings.header, &rows, out)?;

@@ -34,7 +34,8 @@ fn is_outside(ranges: &[SeenRange], pages: u32) -> bool
 /// Refuses harts, pages or workers that are out of range.
 fn check_guest(settings: &HuntSettings) -> Result<(), HuntError>
     ensures ok { IfOk result (λ _. IsGuest settings.now) }
-    ensures err { IfErr result (λ e. (hunt_fault settings.now ≡ Some e) × (shrink_fault settings.now ≡ Some e)) }
+    ensures err { IfErr result (λ e. (hunt_fault settings.now ≡ Some e) ×
+        (shrink_fault settings.now ≡ Some e)) }
 {
     if settings.harts < 1 || settings.harts > 64 {
         return Err(HuntError::Run(RunError::HartsOutOfRange));

@@ -36,12 +36,16 @@ pub fn shrink<O: ShrinkObserver, R: Threads + Wait + Sync>(
     observer: &mut O,
 ) -> Result<Plan, HuntError>
     // It has the harts and the budget of plan `number` and its ending, and no single step from it leads to that ending.
-    ensures shrunk { IfOk result (λ p. IsShrunk (ends_under settings.now image.now input.now) (family_plan (family_of settings.now) number) p) }
+    ensures shrunk { IfOk result (λ p. IsShrunk (ends_under settings.now image.now input.now)
+        (family_plan (family_of settings.now) number) p) }
     // Settings out of range are refused first, and then an image.
     ensures settings { (e : Refusal) → shrink_fault settings.now ≡ Some e → result ≡ Err e }
     // What is refused then is for a reason that stands.
-    ensures errors { shrink_fault settings.now ≡ None → IfErr result (λ e. IsHuntReason settings.now image.now e) }
-    ensures image { (cause : ImageCause) → shrink_fault settings.now ≡ None → IsImageCause settings.now image.now cause → (result ≡ Err (Run (refusals.Image cause))) ⊎ (result ≡ Err (Run refusals.OutOfMemory)) }
+    ensures errors { shrink_fault settings.now ≡ None →
+        IfErr result (λ e. IsHuntReason settings.now image.now e) }
+    ensures image { (cause : ImageCause) → shrink_fault settings.now ≡ None →
+        IsImageCause settings.now image.now cause →
+        (result ≡ Err (Run (refusals.Image cause))) ⊎ (result ≡ Err (Run refusals.OutOfMemory)) }
 {
     check_shrink(settings)?;
     let guest = Guest::load(alloc, image, input, settings)?;
@@ -55,7 +59,8 @@ fn shrunk<O: ShrinkObserver, R: Threads + Wait + Sync>(
     number: u32,
     observer: &mut O,
 ) -> Result<Plan, OutOfMemory>
-    ensures { IfOk result (λ p. IsShrunk (ends_from guest.now.settings.now guest.now.image guest.now.input.now) (family_plan (family_of guest.now.settings.now) number) p) }
+    ensures { IfOk result (λ p. IsShrunk (ends_from guest.now.settings.now guest.now.image
+        guest.now.input.now) (family_plan (family_of guest.now.settings.now) number) p) }
 {
     let family = guest.family();
     let rows = family.rows_of(guest.alloc, number)?;

@@ -10,12 +10,12 @@ use Rattle.round_schedule.specs.declared.access.Stepped.{Stepped}
 use Rattle.round_schedule.specs.declared.access.Stepped.TheVariants.{Done, Waits, Stopped}
 use Rattle.round_schedule.specs.declared.event.Event.{Event}
 use Rattle.round_schedule.specs.declared.span.Span.{Span}
-use Rattle.round_schedule.specs.Desk.{Desk, desk_from, desk_next, desk_turned}
+use Rattle.round_schedule.specs.TabledTurn.{TabledTurn, tabled_turn_from, tabled_turn_next, tabled_turn_taken}
 use Rattle.round_schedule.specs.Past.{hart_after}
 use Rattle.round_schedule.specs.Schedule.{HartRound, SerialOutcome, State, Words, began, hart_round_of, hart_rounds, round_from}
 use Rattle.round_schedule.specs.Sound.{counted}
 use Rattle.round_schedule.specs.Tables.{Tied, entry}
-use Rattle.round_schedule.proofs.PastAnswers.{HartAsked, TurnAsked, asked_there, desk_there, hart_asked}
+use Rattle.round_schedule.proofs.PastAnswers.{HartAsked, TurnAsked, asked_there, tabled_turn_there, hart_asked}
 use Rattle.round_schedule.proofs.PastAsking.{counts_steps}
 use Rattle.round_schedule.proofs.PastEnds.{no_past, round_at}
 use Rattle.round_schedule.proofs.PastParts.{parts_are, steps_from}
@@ -49,34 +49,34 @@ shorter_is m v x quota h g before log w e f l =
 
 -- ---- a hart's count stays a count
 
-small_answered : (code : List Range) (n i k : ℕ) (d : Desk Hart ConsoleState) (y : Stepped) → (desk_next (words_of code) n i d).answer ≡ y → ((z : Desk Hart ConsoleState) → z.hart.done < 2 ^ 64 → (desk_from (words_of code) n i k z).hart.done < 2 ^ 64) →
-    d.hart.done < 2 ^ 64 → (desk_turned i y d (desk_next (words_of code) n i d) (desk_from (words_of code) n i k)).hart.done < 2 ^ 64
+small_answered : (code : List Range) (n i k : ℕ) (d : TabledTurn Hart ConsoleState) (y : Stepped) → (tabled_turn_next (words_of code) n i d).answer ≡ y → ((z : TabledTurn Hart ConsoleState) → z.hart.done < 2 ^ 64 → (tabled_turn_from (words_of code) n i k z).hart.done < 2 ^ 64) →
+    d.hart.done < 2 ^ 64 → (tabled_turn_taken i y d (tabled_turn_next (words_of code) n i d) (tabled_turn_from (words_of code) n i k)).hart.done < 2 ^ 64
 small_answered code n i k d (Done a) e rest low =
-    let o : SerialOutcome Hart ConsoleState = desk_next (words_of code) n i d in
+    let o : SerialOutcome Hart ConsoleState = tabled_turn_next (words_of code) n i d in
     let c : o.hart.done ≡ counted (Done a) d.hart.done = subst (λ (y : Stepped). o.hart.done ≡ counted y d.hart.done) e ((counts_done code).serial_counts n d.hart d.bytes d.console (entry d.table i)) in
     rest _ (omega (arith, c))
 small_answered code n i k d Waits e rest low =
-    let o : SerialOutcome Hart ConsoleState = desk_next (words_of code) n i d in
+    let o : SerialOutcome Hart ConsoleState = tabled_turn_next (words_of code) n i d in
     let c : o.hart.done ≡ counted Waits d.hart.done = subst (λ (y : Stepped). o.hart.done ≡ counted y d.hart.done) e ((counts_done code).serial_counts n d.hart d.bytes d.console (entry d.table i)) in
     omega (arith, c, low)
 small_answered code n i k d (Stopped z) e rest low =
-    let o : SerialOutcome Hart ConsoleState = desk_next (words_of code) n i d in
+    let o : SerialOutcome Hart ConsoleState = tabled_turn_next (words_of code) n i d in
     let c : o.hart.done ≡ counted (Stopped z) d.hart.done = subst (λ (y : Stepped). o.hart.done ≡ counted y d.hart.done) e ((counts_done code).serial_counts n d.hart d.bytes d.console (entry d.table i)) in
     omega (arith, c, low)
 
-either_small : (b : Bool) (d e : Desk Hart ConsoleState) → d.hart.done < 2 ^ 64 → e.hart.done < 2 ^ 64 → (cond b d e).hart.done < 2 ^ 64
+either_small : (b : Bool) (d e : TabledTurn Hart ConsoleState) → d.hart.done < 2 ^ 64 → e.hart.done < 2 ^ 64 → (cond b d e).hart.done < 2 ^ 64
 either_small true d e x y = x
 either_small false d e x y = y
 
-desk_small : (code : List Range) (n i k : ℕ) (d : Desk Hart ConsoleState) → d.hart.done < 2 ^ 64 → (desk_from (words_of code) n i k d).hart.done < 2 ^ 64
-unfolding desk_from
-desk_small code n i zero d low = low
-desk_small code n i (suc k) d low =
-    either_small ((words_of code).stopped d.hart) d _ low (small_answered code n i k d (desk_next (words_of code) n i d).answer refl (desk_small code n i k) low)
+tabled_turn_small : (code : List Range) (n i k : ℕ) (d : TabledTurn Hart ConsoleState) → d.hart.done < 2 ^ 64 → (tabled_turn_from (words_of code) n i k d).hart.done < 2 ^ 64
+unfolding tabled_turn_from
+tabled_turn_small code n i zero d low = low
+tabled_turn_small code n i (suc k) d low =
+    either_small ((words_of code).stopped d.hart) d _ low (small_answered code n i k d (tabled_turn_next (words_of code) n i d).answer refl (tabled_turn_small code n i k) low)
 
 -- ---- two short turns
 
-by_tests : (budget count k : ℕ) (xs : List Hart) (d e : Desk Hart ConsoleState) (a b c : Bool) → TurnAsked (λ (h : Hart). h.done) budget count k xs d e → count ≤ budget → nat_lt k count ≡ a → nat_eq count budget ≡ b → nat_eq e.hart.done d.hart.done ≡ c →
+by_tests : (budget count k : ℕ) (xs : List Hart) (d e : TabledTurn Hart ConsoleState) (a b c : Bool) → TurnAsked (λ (h : Hart). h.done) budget count k xs d e → count ≤ budget → nat_lt k count ≡ a → nat_eq count budget ≡ b → nat_eq e.hart.done d.hart.done ≡ c →
     cond a None (cond b (Some d.hart) (cond c (Some e.hart) (Some d.hart))) ≡ slice_get xs count
 by_tests budget count k xs d e true b c t few x y z = let lt : k < count = grind (arith, nat_tests) in sym (t.fewer lt)
 by_tests budget count k xs d e false true c t few x y z = let le : count ≤ k = grind (arith, nat_tests) in let all : count ≡ budget = grind (arith, nat_tests) in sym (t.all le all)
@@ -90,7 +90,7 @@ by_tests budget count k xs d e false false false t few x y z =
     let less : count < budget = grind (arith, nat_tests) in
     sym (t.goes le less (λ same. let w : nat_eq e.hart.done d.hart.done ≡ true = grind (arith, nat_tests) in cc))
 
-found_is : (budget count : ℕ) (h : Hart) (xs : List Hart) (d e : Desk Hart ConsoleState) → TurnAsked (λ (g : Hart). g.done) budget count (minus d.hart.done h.done) xs d e → count ≤ budget → found_by budget count h d e ≡ slice_get xs count
+found_is : (budget count : ℕ) (h : Hart) (xs : List Hart) (d e : TabledTurn Hart ConsoleState) → TurnAsked (λ (g : Hart). g.done) budget count (minus d.hart.done h.done) xs d e → count ≤ budget → found_by budget count h d e ≡ slice_get xs count
 found_is budget count h xs d e t few = by_tests budget count (minus d.hart.done h.done) xs d e _ _ _ t few refl refl refl
 
 -- ---- within a round
@@ -149,9 +149,9 @@ module _ (code : List Range) (budget : ℕ) (quotas : ℕ → List ℕ) (s : Sta
       hart_after W budget quotas s i count ≡ found_in (shared_by code s table) (place_by budget s i (count - k)) part.last.hart (hart_rounds W s.bytes (quotas s.rounds) s.harts)
   by_turn w le few =
       let rs = hart_rounds W s.bytes (quotas s.rounds) s.harts in
-      let d : Desk Hart ConsoleState = desk_there W budget s rs table i part.last.hart (count - k) in
+      let d : TabledTurn Hart ConsoleState = tabled_turn_there W budget s rs table i part.last.hart (count - k) in
       let done_there : ℕ = minus d.hart.done part.last.hart.done in
-      let d_low : d.hart.done < 2 ^ 64 = desk_small code (s.rounds + 1) i (count - k) _ part_low in
+      let d_low : d.hart.done < 2 ^ 64 = tabled_turn_small code (s.rounds + 1) i (count - k) _ part_low in
       let asked = asked_there W (sound code) (λ (g : Hart). g.done) (counts_done code) budget i (count - k) done_there s (quotas s.rounds) table part tied size bytes low_i w few (omega (arith, small)) part_low (omega arith)
       (wrapped part.last.hart.done d.hart.done part_low d_low) in
       by_round.in_turn le ∙ sym (found_is budget (count - k) part.last.hart _ d _ asked few)

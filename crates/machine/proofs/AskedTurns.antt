@@ -5,7 +5,7 @@ use Rattle.pages.specs.Memory.{Memory, stored}
 use Rattle.pages.specs.Paged.{Paged}
 use Rattle.pages.specs.declared.access.Range.{Range}
 use Rattle.round_schedule.specs.declared.span.Span.{Span}
-use Rattle.round_schedule.specs.Desk.{Counter, Desk, counter_from, counter_joined, desk_from, desk_of}
+use Rattle.round_schedule.specs.TabledTurn.{TabledPhase, TabledTurn, tabled_phase_from, tabled_phase_joined, tabled_turn_from, tabled_turn_of}
 use Rattle.round_schedule.specs.Schedule.{HartRound, all_stores}
 use Rattle.commit_phase.specs.Commit.{Committed}
 use Rattle.hart_step.specs.declared.hart.Hart.{Hart}
@@ -21,7 +21,7 @@ use Rattle.serial_phase.specs.declared.shared.Turn.{Turn}
 use Rattle.machine.specs.declared.asked_turn.TurnPlace.{TurnPlace}
 use Rattle.machine.specs.declared.outcome.Outcome.{Outcome}
 use Rattle.machine.specs.Guests.{Shared}
-use Rattle.machine.specs.Asked.{HadTurns, LeftBy, desk_begun, found, found_at, found_in, one_further, ready_for_turns}
+use Rattle.machine.specs.Asked.{HadTurns, LeftBy, tabled_turn_begun, found, found_at, found_in, one_further, ready_for_turns}
 use Rattle.machine.specs.Outcomes.{AreOutcomes, turns_of, waits_of}
 
 -- ---- room for fewer
@@ -60,19 +60,19 @@ turns_more turn o os s s' u k h x y m (r ∷ rs) c a eb ec et =
     let first = turn.hart in
     let budget = turn.budget in
     let W = words_of s.pages.memory.code in
-    let desk : Bool → Hart → List ℕ → ConsoleState → List (Option Span) → Desk Hart ConsoleState = λ b g bs e table. desk_from W n first (cond b budget 0) (desk_begun g bs e table) in
-    let D : Desk Hart ConsoleState = desk_of W budget n c first r.last.hart r.waits in
+    let tabled_turn : Bool → Hart → List ℕ → ConsoleState → List (Option Span) → TabledTurn Hart ConsoleState = λ b g bs e table. tabled_turn_from W n first (cond b budget 0) (tabled_turn_begun g bs e table) in
+    let D : TabledTurn Hart ConsoleState = tabled_turn_of W budget n c first r.last.hart r.waits in
     let same : turn_done (turn_for turn o) o.hart s ≡ D =
-    ap (λ (b : Bool). desk b o.hart s.pages.memory.bytes s.console.console s.reservations) a.0.waits
-    ∙ ap (λ (g : Hart). desk r.waits g s.pages.memory.bytes s.console.console s.reservations) a.0.hart
-    ∙ ap (λ (bs : List ℕ). desk r.waits r.last.hart bs s.console.console s.reservations) (sym eb)
-    ∙ ap (λ (e : ConsoleState). desk r.waits r.last.hart c.bytes e s.reservations) (sym ec)
-    ∙ ap (λ (table : List (Option Span)). desk r.waits r.last.hart c.bytes c.console table) (sym et) in
-    let x' = subst (λ (z : Desk Hart ConsoleState). TakesTurn z h s s') same x in
-    let z = y m rs (counter_joined c D) a.1 (sym x'.pages.bytes) (sym x'.console) (sym x'.table) in
+    ap (λ (b : Bool). tabled_turn b o.hart s.pages.memory.bytes s.console.console s.reservations) a.0.waits
+    ∙ ap (λ (g : Hart). tabled_turn r.waits g s.pages.memory.bytes s.console.console s.reservations) a.0.hart
+    ∙ ap (λ (bs : List ℕ). tabled_turn r.waits r.last.hart bs s.console.console s.reservations) (sym eb)
+    ∙ ap (λ (e : ConsoleState). tabled_turn r.waits r.last.hart c.bytes e s.reservations) (sym ec)
+    ∙ ap (λ (table : List (Option Span)). tabled_turn r.waits r.last.hart c.bytes c.console table) (sym et) in
+    let x' = subst (λ (z : TabledTurn Hart ConsoleState). TakesTurn z h s s') same x in
+    let z = y m rs (tabled_phase_joined c D) a.1 (sym x'.pages.bytes) (sym x'.console) (sym x'.table) in
     let next : first + 1 ≡ suc first = omega arith in
-    let w = subst (λ (j : ℕ). LeftBy (counter_from W budget n j rs (counter_joined c D)) (record s' { log = k }) u) next
-    (subst (λ (code : List Range). LeftBy (counter_from (words_of code) budget n (first + 1) rs (counter_joined c D)) (record s' { log = k }) u) x'.pages.code z) in
+    let w = subst (λ (j : ℕ). LeftBy (tabled_phase_from W budget n j rs (tabled_phase_joined c D)) (record s' { log = k }) u) next
+    (subst (λ (code : List Range). LeftBy (tabled_phase_from (words_of code) budget n (first + 1) rs (tabled_phase_joined c D)) (record s' { log = k }) u) x'.pages.code z) in
     record { pages = same_bytes s.pages s'.pages u.pages _ _ x'.pages w.pages; table = w.table; console = w.console }
 
 -- by the first of a list
@@ -120,19 +120,6 @@ first_outcomes m (suc i) (r ∷ rs) (o ∷ os) a = (a.0, first_outcomes m i rs o
 
 -- ---- a hart in its own turn
 
--- one more instruction, from where a turn left everything
-pub further_is : (turn : Turn) (h : Hart) (d : Desk Hart ConsoleState) (old new : SharedState) → TakesTurn d h old new →
-    turn_done (record turn { budget = 1 }) h new ≡ one_further old.pages.memory.code turn.round turn.hart d
-further_is turn h d old new x =
-    let n = turn.round in
-    let i = turn.hart in
-    let W = words_of old.pages.memory.code in
-    ap (λ (code : List Range). desk_from (words_of code) n i 1 (desk_begun h new.pages.memory.bytes new.console.console new.reservations)) x.pages.code
-    ∙ ap (λ (g : Hart). desk_from W n i 1 (desk_begun g new.pages.memory.bytes new.console.console new.reservations)) x.hart
-    ∙ ap (λ (bs : List ℕ). desk_from W n i 1 (desk_begun d.hart bs new.console.console new.reservations)) x.pages.bytes
-    ∙ ap (λ (e : ConsoleState). desk_from W n i 1 (desk_begun d.hart d.bytes e new.reservations)) x.console
-    ∙ ap (λ (table : List (Option Span)). desk_from W n i 1 (desk_begun d.hart d.bytes d.console table)) x.table
-
 pub found_none : (budget count : ℕ) (h d e : Hart) → minus d.done h.done < count → found budget count h d e ≡ None
 found_none budget count h d e lt = let t : nat_lt (minus d.done h.done) count ≡ true = grind (arith, nat_tests) in rw t refl
 
@@ -161,18 +148,18 @@ found_further budget count h d e le less differ =
 pub begun_there : (turn : Turn) (place : TurnPlace) (h : Hart) (old : Shared) (rs : List (HartRound Hart)) (os : List Outcome) (ready : Paged) (start end : SharedState) →
     turn ≡ record { hart = 0; round = place.round; budget = place.budget } → AreOutcomes old.memory rs os → ready.memory ≡ old.memory → Committed rs ready start.pages old.table start.reservations →
     start.console.console ≡ old.console → HadTurns turn (take place.hart os) start end →
-    found_at end.pages.memory.code place (desk_begun h end.pages.memory.bytes end.console.console end.reservations) ≡ found_in old place h rs
+    found_at end.pages.memory.code place (tabled_turn_begun h end.pages.memory.bytes end.console.console end.reservations) ≡ found_in old place h rs
 begun_there turn place h old rs os ready start end first a same committed console had =
     let m = old.memory in
     let i = place.hart in
     let memory : start.pages.memory ≡ stored m (all_stores rs) = committed.memory ∙ ap (λ (x : Memory). stored x (all_stores rs)) same in
-    let c : Counter Hart ConsoleState = ready_for_turns old rs in
+    let c : TabledPhase Hart ConsoleState = ready_for_turns old rs in
     let had' = subst (λ (t : Turn). HadTurns t (take i os) start end) first had in
     let left = had' m (take i rs) c (first_outcomes m i rs os a) (sym (ap (λ (x : Memory). x.bytes) memory)) (sym console) (sym committed.table) in
     let code : start.pages.memory.code ≡ m.code = ap (λ (x : Memory). x.code) memory in
-    let there = subst (λ (z : List Range). LeftBy (counter_from (words_of z) place.budget place.round 0 (take i rs) c) start end) code left in
-    let s : Counter Hart ConsoleState = counter_from (words_of m.code) place.budget place.round 0 (take i rs) c in
-    ap (λ (z : List Range). found_at z place (desk_begun h end.pages.memory.bytes end.console.console end.reservations)) (there.pages.code ∙ code)
-    ∙ ap (λ (bs : List ℕ). found_at m.code place (desk_begun h bs end.console.console end.reservations)) there.pages.bytes
-    ∙ ap (λ (z : ConsoleState). found_at m.code place (desk_begun h s.bytes z end.reservations)) there.console
-    ∙ ap (λ (z : List (Option Span)). found_at m.code place (desk_begun h s.bytes s.console z)) there.table
+    let there = subst (λ (z : List Range). LeftBy (tabled_phase_from (words_of z) place.budget place.round 0 (take i rs) c) start end) code left in
+    let s : TabledPhase Hart ConsoleState = tabled_phase_from (words_of m.code) place.budget place.round 0 (take i rs) c in
+    ap (λ (z : List Range). found_at z place (tabled_turn_begun h end.pages.memory.bytes end.console.console end.reservations)) (there.pages.code ∙ code)
+    ∙ ap (λ (bs : List ℕ). found_at m.code place (tabled_turn_begun h bs end.console.console end.reservations)) there.pages.bytes
+    ∙ ap (λ (z : ConsoleState). found_at m.code place (tabled_turn_begun h s.bytes z end.reservations)) there.console
+    ∙ ap (λ (z : List (Option Span)). found_at m.code place (tabled_turn_begun h s.bytes s.console z)) there.table

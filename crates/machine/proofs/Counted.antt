@@ -7,7 +7,7 @@ use Rattle.round_schedule.specs.declared.access.Access.{Access}
 use Rattle.round_schedule.specs.declared.access.Stepped.{Stepped}
 use Rattle.round_schedule.specs.declared.access.Stepped.TheVariants.{Done, Waits, Stopped}
 use Rattle.round_schedule.specs.declared.event.Phase.TheVariants.{Parallel, Serial}
-use Rattle.round_schedule.specs.Desk.{log_events}
+use Rattle.round_schedule.specs.TabledTurn.{log_events}
 use Rattle.round_schedule.specs.Events.{event_of, events_of}
 use Rattle.round_schedule.specs.Schedule.{Words, HartRound, Outcome as Left, Progress, by_answer, began, ended, first_or_zero, hart_rounds, next_of, rest_of, round_from, went}
 use Rattle.hart_step.specs.declared.hart.Hart.{Hart}

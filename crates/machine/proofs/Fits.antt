@@ -22,7 +22,7 @@ use Rattle.machine.specs.Outcomes.{AllFit}
 -- the stores have no fault
 abbrev pub FitStores : Memory → List Store → Type 0
 FitStores m [] = Unit {0}
-FitStores m (s ∷ ss) = (store_fault m s.addr s.width ≡ None) × FitStores m ss
+FitStores m (s ∷ ss) = (store_fault m s.address s.width ≡ None) × FitStores m ss
 
 fit-append : (m : Memory) (ss ts : List Store) → FitStores m ss → FitStores m ts → FitStores m (ss ++ ts)
 fit-append m [] ts f g = g
@@ -37,7 +37,7 @@ same_fault m n a w e f =
 
 quiet_fits : (m n : Memory) (o : Outcome Hart) → length n.bytes ≡ length m.bytes → n.code ≡ m.code → Quiet n o → FitStores m o.stores
 quiet_fits m n o e f (none g) = subst (FitStores m) (sym g) tt
-quiet_fits m n o e f (one s g h) = subst (FitStores m) (sym g) (sym (same_fault m n s.addr s.width e f) ∙ h, tt)
+quiet_fits m n o e f (one s g h) = subst (FitStores m) (sym g) (sym (same_fault m n s.address s.width e f) ∙ h, tt)
 
 step_fits : (m : Memory) (ss : List Store) (h : Hart) → FitStores m ((words_of m.code).step h (after m.bytes ss)).stores
 step_fits m ss h = quiet_fits m (stored m ss) (stepped h (stored m ss)) (length-after m.bytes ss) refl (good_step (stored m ss) h).quiet
@@ -101,9 +101,9 @@ pub no_code : (m : Memory) (a : ℕ) (w : Width) → store_fault m a w ≡ None 
 unfolding store_fault
 no_code m a w ok = grind (arith, nat_tests)
 
-fit_store : (m : Memory) (es : List (ℕ × ℕ)) (s : Store) → store_fault m s.addr s.width ≡ None → FitBytes m es → FitBytes m (with_store es s)
+fit_store : (m : Memory) (es : List (ℕ × ℕ)) (s : Store) → store_fault m s.address s.width ≡ None → FitBytes m es → FitBytes m (with_store es s)
 unfolding with_store
-fit_store m es s ok f = fit_bytes m (width_bytes s.width) es s.addr s.value (in_memory m s.addr s.width ok) (no_code m s.addr s.width ok) f
+fit_store m es s ok f = fit_bytes m (width_bytes s.width) es s.address s.value (in_memory m s.address s.width ok) (no_code m s.address s.width ok) f
 
 fit_stores : (m : Memory) (es : List (ℕ × ℕ)) (ss : List Store) → FitStores m ss → FitBytes m es → FitBytes m (with_stores es ss)
 fit_stores m es [] g f = f

@@ -12,7 +12,7 @@ use Rattle.round_schedule.specs.declared.event.Event.{Event}
 use Rattle.round_schedule.specs.declared.event.Phase.TheVariants.{Parallel}
 use Rattle.round_schedule.specs.declared.span.Span.{Span}
 use Rattle.round_schedule.specs.ByTable.{Tabled, tabled_round, committed_table}
-use Rattle.round_schedule.specs.Desk.{Desk, Counter, updated_by, desk_from, desk_turned, desk_next, desk_of, counter_from, counter_joined, log_events}
+use Rattle.round_schedule.specs.TabledTurn.{TabledTurn, TabledPhase, updated_by, tabled_turn_from, tabled_turn_taken, tabled_turn_next, tabled_turn_of, tabled_phase_from, tabled_phase_joined, log_events}
 use Rattle.round_schedule.specs.Events.{events_of}
 use Rattle.round_schedule.specs.Schedule.{State, Words, HartRound, SerialOutcome, hart_rounds, all_stores, events_from, rest_of}
 use Rattle.commit_phase.specs.Commit.{Committed}
@@ -75,22 +75,22 @@ length-harts (o ∷ os) = ap suc (length-harts os)
 
 -- ---- the serial phase from the outcomes
 
-counter_same : (W : Words Hart ConsoleState) (budget n i w : ℕ) (m : Memory) (rs : List (HartRound Hart)) (os : List Outcome) (s : Counter Hart ConsoleState) → AreOutcomes m rs os →
-    ((k : ℕ) → k < length os → is_waiting w (i + k) ≡ get_or (waits_of os) k false) → counter_from W budget n i (waiting_rounds w i (harts_of os)) s ≡ counter_from W budget n i rs s
-counter_same W budget n i w m [] [] s a f = refl
-counter_same W budget n i w m (r ∷ rs) [] s a f = absurd a
-counter_same W budget n i w m [] (o ∷ os) s a f = absurd a
-counter_same W budget n i w m (r ∷ rs) (o ∷ os) s a f =
+tabled_phase_same : (W : Words Hart ConsoleState) (budget n i w : ℕ) (m : Memory) (rs : List (HartRound Hart)) (os : List Outcome) (s : TabledPhase Hart ConsoleState) → AreOutcomes m rs os →
+    ((k : ℕ) → k < length os → is_waiting w (i + k) ≡ get_or (waits_of os) k false) → tabled_phase_from W budget n i (waiting_rounds w i (harts_of os)) s ≡ tabled_phase_from W budget n i rs s
+tabled_phase_same W budget n i w m [] [] s a f = refl
+tabled_phase_same W budget n i w m (r ∷ rs) [] s a f = absurd a
+tabled_phase_same W budget n i w m [] (o ∷ os) s a f = absurd a
+tabled_phase_same W budget n i w m (r ∷ rs) (o ∷ os) s a f =
     let waits : is_waiting w i ≡ r.waits = ap (is_waiting w) (omega arith) ∙ f 0 (omega arith) ∙ a.0.waits in
-    counter_same W budget n (suc i) w m rs os (counter_joined s (desk_of W budget n s i o.hart (is_waiting w i))) a.1 (λ k low. ap (is_waiting w) (omega arith) ∙ f (suc k) (omega arith))
-    ∙ ap (λ (h : Hart). counter_from W budget n (suc i) rs (counter_joined s (desk_of W budget n s i h (is_waiting w i)))) a.0.hart
-    ∙ ap (λ (b : Bool). counter_from W budget n (suc i) rs (counter_joined s (desk_of W budget n s i r.last.hart b))) waits
+    tabled_phase_same W budget n (suc i) w m rs os (tabled_phase_joined s (tabled_turn_of W budget n s i o.hart (is_waiting w i))) a.1 (λ k low. ap (is_waiting w) (omega arith) ∙ f (suc k) (omega arith))
+    ∙ ap (λ (h : Hart). tabled_phase_from W budget n (suc i) rs (tabled_phase_joined s (tabled_turn_of W budget n s i h (is_waiting w i)))) a.0.hart
+    ∙ ap (λ (b : Bool). tabled_phase_from W budget n (suc i) rs (tabled_phase_joined s (tabled_turn_of W budget n s i r.last.hart b))) waits
 
 pub serial_is : (phase : SerialRound) (m : Memory) (rs : List (HartRound Hart)) (os : List Outcome) (start : SharedState) → AreOutcomes m rs os → phase.waiting ≡ mask_of (waits_of os) →
     serial_done phase (harts_of os) start
-    ≡ counter_from (words_of start.pages.memory.code) phase.budget phase.round 0 rs (record { harts = []; bytes = start.pages.memory.bytes; console = start.console.console; table = start.reservations; log = [] })
+    ≡ tabled_phase_from (words_of start.pages.memory.code) phase.budget phase.round 0 rs (record { harts = []; bytes = start.pages.memory.bytes; console = start.console.console; table = start.reservations; log = [] })
 serial_is phase m rs os start a w =
-    counter_same (words_of start.pages.memory.code) phase.budget phase.round 0 phase.waiting m rs os _ a
+    tabled_phase_same (words_of start.pages.memory.code) phase.budget phase.round 0 phase.waiting m rs os _ a
     (λ k low. ap (λ (x : ℕ). is_waiting x (0 + k)) w ∙ ap (is_waiting (mask_of (waits_of os))) (omega arith) ∙ waiting_bit (waits_of os) k)
 
 pub events_are : (m : Memory) (n i : ℕ) (rs : List (HartRound Hart)) (os : List Outcome) → AreOutcomes m rs os → outcome_events n i os ≡ events_from n i rs
@@ -107,40 +107,40 @@ added : (a : Option Access) → length (option_to_list a) ≤ 1
 added None = omega arith
 added (Some a) = omega arith
 
-log_turned : (i k : ℕ) (y : Stepped) (p : Desk Hart ConsoleState) (o : SerialOutcome Hart ConsoleState) (f : Desk Hart ConsoleState → Desk Hart ConsoleState) →
-    ((q : Desk Hart ConsoleState) → length (f q).log ≤ length q.log + k) → length (desk_turned i y p o f).log ≤ length p.log + suc k
+log_turned : (i k : ℕ) (y : Stepped) (p : TabledTurn Hart ConsoleState) (o : SerialOutcome Hart ConsoleState) (f : TabledTurn Hart ConsoleState → TabledTurn Hart ConsoleState) →
+    ((q : TabledTurn Hart ConsoleState) → length (f q).log ≤ length q.log + k) → length (tabled_turn_taken i y p o f).log ≤ length p.log + suc k
 log_turned i k (Done a) p o f rest = omega (arith, rest (record { hart = o.hart; bytes = after p.bytes o.stores; console = o.console; table = updated_by i a p.table; log = p.log ++ option_to_list a }), length-append p.log (option_to_list a), added a)
 log_turned i k Waits p o f rest = omega arith
 log_turned i k (Stopped code) p o f rest = omega arith
 
-log_either : (b : Bool) (k : ℕ) (p q : Desk Hart ConsoleState) → length q.log ≤ length p.log + k → length (cond b p q).log ≤ length p.log + k
+log_either : (b : Bool) (k : ℕ) (p q : TabledTurn Hart ConsoleState) → length q.log ≤ length p.log + k → length (cond b p q).log ≤ length p.log + k
 log_either true k p q h = omega arith
 log_either false k p q h = h
 
-desk_log : (W : Words Hart ConsoleState) (n i k : ℕ) (d : Desk Hart ConsoleState) → length (desk_from W n i k d).log ≤ length d.log + k
-unfolding desk_from
-desk_log W n i zero d = omega arith
-desk_log W n i (suc k) d = log_either (W.stopped d.hart) (suc k) d _ (log_turned i k (desk_next W n i d).answer d (desk_next W n i d) (desk_from W n i k) (desk_log W n i k))
+tabled_turn_log : (W : Words Hart ConsoleState) (n i k : ℕ) (d : TabledTurn Hart ConsoleState) → length (tabled_turn_from W n i k d).log ≤ length d.log + k
+unfolding tabled_turn_from
+tabled_turn_log W n i zero d = omega arith
+tabled_turn_log W n i (suc k) d = log_either (W.stopped d.hart) (suc k) d _ (log_turned i k (tabled_turn_next W n i d).answer d (tabled_turn_next W n i d) (tabled_turn_from W n i k) (tabled_turn_log W n i k))
 
 count-append : (xs : List (List Access)) (l : List Access) → count_log (xs ++ l ∷ []) ≡ count_log xs + length l
 count-append [] l = omega arith
 count-append (x ∷ xs) l = omega (arith, count-append xs l)
 
-pub log_fits : (W : Words Hart ConsoleState) (budget n w i : ℕ) (hs : List Hart) (s : Counter Hart ConsoleState) →
-    count_log (counter_from W budget n i (waiting_rounds w i hs) s).log ≤ count_log s.log + budget_from w budget i (length hs)
+pub log_fits : (W : Words Hart ConsoleState) (budget n w i : ℕ) (hs : List Hart) (s : TabledPhase Hart ConsoleState) →
+    count_log (tabled_phase_from W budget n i (waiting_rounds w i hs) s).log ≤ count_log s.log + budget_from w budget i (length hs)
 log_fits W budget n w i [] s = omega arith
 log_fits W budget n w i (h ∷ hs) s =
-    let d = desk_of W budget n s i h (is_waiting w i) in
-    let one : length d.log ≤ 0 + budget_of w i budget = desk_log W n i (budget_of w i budget) (record { hart = h; bytes = s.bytes; console = s.console; table = s.table; log = [] }) in
-    let rest = log_fits W budget n w (suc i) hs (counter_joined s d) in
+    let d = tabled_turn_of W budget n s i h (is_waiting w i) in
+    let one : length d.log ≤ 0 + budget_of w i budget = tabled_turn_log W n i (budget_of w i budget) (record { hart = h; bytes = s.bytes; console = s.console; table = s.table; log = [] }) in
+    let rest = log_fits W budget n w (suc i) hs (tabled_phase_joined s d) in
     omega (arith, rest, one, count-append s.log d.log)
 
-pub log_length : (W : Words Hart ConsoleState) (budget n w i : ℕ) (hs : List Hart) (s : Counter Hart ConsoleState) →
-    length (counter_from W budget n i (waiting_rounds w i hs) s).log ≡ length s.log + length hs
+pub log_length : (W : Words Hart ConsoleState) (budget n w i : ℕ) (hs : List Hart) (s : TabledPhase Hart ConsoleState) →
+    length (tabled_phase_from W budget n i (waiting_rounds w i hs) s).log ≡ length s.log + length hs
 log_length W budget n w i [] s = omega arith
 log_length W budget n w i (h ∷ hs) s =
-    let d = desk_of W budget n s i h (is_waiting w i) in
-    omega (arith, log_length W budget n w (suc i) hs (counter_joined s d), length-append s.log (d.log ∷ []))
+    let d = tabled_turn_of W budget n s i h (is_waiting w i) in
+    omega (arith, log_length W budget n w (suc i) hs (tabled_phase_joined s d), length-append s.log (d.log ∷ []))
 
 -- ---- all parts together
 
@@ -167,13 +167,6 @@ same_guest hs gs bs cs code ranges t u c d e1 e2 e3 e4 e5 =
     ∙ ap (λ (x : List (Option Span)). guest_by gs cs ranges x c) e4
     ∙ ap (λ (x : ConsoleState). guest_by gs cs ranges u x) e5
 
--- nothing that a run shows of the guest has changed
-pub kept_guest : (hs : List Hart) (old new : SharedState) → new.pages.memory ≡ old.pages.memory → new.reservations ≡ old.reservations → new.console.console ≡ old.console.console →
-    guest_of hs new ≡ guest_of hs old
-kept_guest hs old new e1 e2 e3 =
-    same_guest hs hs new.pages.memory.bytes old.pages.memory.bytes new.pages.memory.code old.pages.memory.code new.reservations old.reservations new.console.console old.console.console
-    refl (ap (λ (m : Memory). m.bytes) e1) (ap (λ (m : Memory). m.code) e1) e2 e3
-
 -- the log of the serial phase
 pub record LogFits (turns harts : ℕ) (k : Turns) : Type 0 where
   pub fits : count_log k.closed ≤ turns
@@ -183,7 +176,7 @@ pub log_of : (phase : SerialRound) (bs : List Bool) (hs gs : List Hart) (start e
     TakesTurns (serial_done phase hs start) gs start end → LogFits (turns_of phase.budget bs) (length hs) end.log
 log_of phase bs hs gs start end same w x =
     let W = words_of start.pages.memory.code in
-    let s : Counter Hart ConsoleState = record { harts = []; bytes = start.pages.memory.bytes; console = start.console.console; table = start.reservations; log = [] } in
+    let s : TabledPhase Hart ConsoleState = record { harts = []; bytes = start.pages.memory.bytes; console = start.console.console; table = start.reservations; log = [] } in
     record {
       fits = omega (arith, ap count_log x.log, log_fits W phase.budget phase.round phase.waiting 0 hs s, ap (λ (y : ℕ). budget_from y phase.budget 0 (length hs)) w, ap (budget_from (mask_of bs) phase.budget 0) same, needed_is phase.budget bs);
       length = ap length x.log ∙ log_length W phase.budget phase.round phase.waiting 0 hs s ∙ omega arith;
@@ -204,8 +197,8 @@ finished_done plan phase n old new more os a budget round waiting x =
     let rs = hart_rounds W m.bytes (quotas_of plan n) old.harts in
     let committed = x.committed rs a in
     let memory : x.start.pages.memory ≡ stored m (all_stores rs) = committed.memory ∙ ap (λ (y : Memory). stored y (all_stores rs)) x.kept in
-    let from : ℕ → ℕ → List Range → List ℕ → ConsoleState → List (Option Span) → Counter Hart ConsoleState =
-    λ b k code bs c t. counter_from (words_of code) b k 0 rs (record { harts = []; bytes = bs; console = c; table = t; log = [] }) in
+    let from : ℕ → ℕ → List Range → List ℕ → ConsoleState → List (Option Span) → TabledPhase Hart ConsoleState =
+    λ b k code bs c t. tabled_phase_from (words_of code) b k 0 rs (record { harts = []; bytes = bs; console = c; table = t; log = [] }) in
     let done : serial_done phase (harts_of os) x.start ≡ from plan.budget (n + 1) m.code (after m.bytes (all_stores rs)) old.shared.console (committed_table 0 rs old.shared.table) =
     serial_is phase m rs os x.start a waiting
     ∙ ap (λ (b : ℕ). from b phase.round x.start.pages.memory.code x.start.pages.memory.bytes x.start.console.console x.start.reservations) budget
@@ -217,15 +210,15 @@ finished_done plan phase n old new more os a budget round waiting x =
     let served = x.served in
     record {
       done = same_guest new.harts _ new.shared.memory.bytes _ new.shared.memory.code m.code new.shared.table _ new.shared.console _
-          (served.harts ∙ ap (λ (y : Counter Hart ConsoleState). y.harts) done)
-          (ap (λ (y : Shared). y.memory.bytes) left ∙ served.pages.bytes ∙ ap (λ (y : Counter Hart ConsoleState). y.bytes) done)
+          (served.harts ∙ ap (λ (y : TabledPhase Hart ConsoleState). y.harts) done)
+          (ap (λ (y : Shared). y.memory.bytes) left ∙ served.pages.bytes ∙ ap (λ (y : TabledPhase Hart ConsoleState). y.bytes) done)
           (ap (λ (y : Shared). y.memory.code) left ∙ served.pages.code ∙ ap (λ (y : Memory). y.code) memory)
-          (ap (λ (y : Shared). y.table) left ∙ served.table ∙ ap (λ (y : Counter Hart ConsoleState). y.table) done)
-          (ap (λ (y : Shared). y.console) left ∙ served.console ∙ ap (λ (y : Counter Hart ConsoleState). y.console) done);
+          (ap (λ (y : Shared). y.table) left ∙ served.table ∙ ap (λ (y : TabledPhase Hart ConsoleState). y.table) done)
+          (ap (λ (y : Shared). y.console) left ∙ served.console ∙ ap (λ (y : TabledPhase Hart ConsoleState). y.console) done);
       events = x.events
           ∙ ap (λ (k : ℕ). round_events k os x.end.log.closed) round
           ∙ ap (λ (y : List Event). y ++ log_events (n + 1) 0 x.end.log.closed) (events_are m (n + 1) 0 rs os a)
-          ∙ ap (λ (y : List (List Access)). events_from (n + 1) 0 rs ++ log_events (n + 1) 0 y) (served.log ∙ ap (λ (y : Counter Hart ConsoleState). y.log) done);
+          ∙ ap (λ (y : List (List Access)). events_from (n + 1) 0 rs ++ log_events (n + 1) 0 y) (served.log ∙ ap (λ (y : TabledPhase Hart ConsoleState). y.log) done);
     }
 
 pub waited_is : (m : Memory) (rs : List (HartRound Hart)) (os : List Outcome) → AreOutcomes m rs os → count_true (waits_of os) ≡ count_waiting rs

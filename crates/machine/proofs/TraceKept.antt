@@ -6,7 +6,7 @@ use Rattle.std.proofs.lemmas.List.Elements.{All-cons}
 use Rattle.round_schedule.specs.declared.event.Event.{Event}
 use Rattle.round_schedule.specs.declared.access.Access.{Access}
 use Rattle.round_schedule.specs.declared.event.Phase.TheVariants.{Parallel, Serial}
-use Rattle.round_schedule.specs.Desk.{log_events}
+use Rattle.round_schedule.specs.TabledTurn.{log_events}
 use Rattle.round_schedule.specs.Events.{event_of, events_of}
 use Rattle.round_schedule.specs.Places.{Placed}
 use Rattle.round_schedule.proofs.Phases.{All-weaker}

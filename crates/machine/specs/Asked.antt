@@ -4,7 +4,7 @@ use Rattle.pages.specs.declared.access.Range.{Range}
 use Rattle.pages.specs.Memory.{Memory, after}
 use Rattle.round_schedule.specs.declared.span.Span.{Span}
 use Rattle.round_schedule.specs.ByTable.{committed_table}
-use Rattle.round_schedule.specs.Desk.{Counter, Desk, counter_from, desk_from}
+use Rattle.round_schedule.specs.TabledTurn.{TabledPhase, TabledTurn, tabled_phase_from, tabled_turn_from}
 use Rattle.round_schedule.specs.Schedule.{HartRound, all_stores}
 use Rattle.hart_step.specs.declared.hart.Hart.{Hart}
 use Rattle.hart_step.specs.Console.{ConsoleState}
@@ -27,26 +27,26 @@ found budget count h d e =
     else (if e.done == d.done then Some e
     else Some d))
 
-abbrev pub found_by : ℕ → ℕ → Hart → Desk Hart ConsoleState → Desk Hart ConsoleState → Option Hart
+abbrev pub found_by : ℕ → ℕ → Hart → TabledTurn Hart ConsoleState → TabledTurn Hart ConsoleState → Option Hart
 found_by budget count h d e = found budget count h d.hart e.hart
 
--- the desk after one more instruction of hart i's turn in round n
-abbrev pub one_further : List Range → ℕ → ℕ → Desk Hart ConsoleState → Desk Hart ConsoleState
-one_further code n i d = desk_from (words_of code) n i 1 (record d { log = [] })
+-- the state after one more instruction of hart i's turn in round n
+abbrev pub one_further : List Range → ℕ → ℕ → TabledTurn Hart ConsoleState → TabledTurn Hart ConsoleState
+one_further code n i d = tabled_turn_from (words_of code) n i 1 (record d { log = [] })
 
--- the same from the desk at which the turn begins
-abbrev pub found_at : List Range → TurnPlace → Desk Hart ConsoleState → Option Hart
+-- the same from the state in which the turn begins
+abbrev pub found_at : List Range → TurnPlace → TabledTurn Hart ConsoleState → Option Hart
 found_at code place d =
-    let e = desk_from (words_of code) place.round place.hart place.count d in
+    let e = tabled_turn_from (words_of code) place.round place.hart place.count d in
     found_by place.budget place.count d.hart e (one_further code place.round place.hart e)
 
--- the desk at which a hart's turn begins
-abbrev pub desk_begun : Hart → List ℕ → ConsoleState → List (Option Span) → Desk Hart ConsoleState
-desk_begun h bs c table = record { hart = h; bytes = bs; console = c; table = table; log = [] }
+-- the state in which a hart's turn begins
+abbrev pub tabled_turn_begun : Hart → List ℕ → ConsoleState → List (Option Span) → TabledTurn Hart ConsoleState
+tabled_turn_begun h bs c table = record { hart = h; bytes = bs; console = c; table = table; log = [] }
 
 -- what is shared once the stores of all harts are committed, where these are their rounds, and once the harts before that place had
 -- their turns
-abbrev pub ready_for_turns : Shared → List (HartRound Hart) → Counter Hart ConsoleState
+abbrev pub ready_for_turns : Shared → List (HartRound Hart) → TabledPhase Hart ConsoleState
 ready_for_turns s rs = record {
   harts = [];
   bytes = after s.memory.bytes (all_stores rs);
@@ -55,17 +55,17 @@ ready_for_turns s rs = record {
   log = [];
 }
 
-abbrev pub ready_for : Shared → TurnPlace → List (HartRound Hart) → Counter Hart ConsoleState
-ready_for s place rs = counter_from (words_of s.memory.code) place.budget place.round 0 (take place.hart rs) (ready_for_turns s rs)
+abbrev pub ready_for : Shared → TurnPlace → List (HartRound Hart) → TabledPhase Hart ConsoleState
+ready_for s place rs = tabled_phase_from (words_of s.memory.code) place.budget place.round 0 (take place.hart rs) (ready_for_turns s rs)
 
 -- the hart at that place in its turn, where it begins the turn as h and these are the rounds of all harts
 abbrev pub found_in : Shared → TurnPlace → Hart → List (HartRound Hart) → Option Hart
 found_in s place h rs =
     let there = ready_for s place rs in
-    found_at s.memory.code place (desk_begun h there.bytes there.console there.table)
+    found_at s.memory.code place (tabled_turn_begun h there.bytes there.console there.table)
 
--- memory, the table and the console are those of this counter
-pub record LeftBy (c : Counter Hart ConsoleState) (old new : SharedState) : Type 0 where
+-- memory, the table and the console are those of this phase
+pub record LeftBy (c : TabledPhase Hart ConsoleState) (old new : SharedState) : Type 0 where
   pub pages : HasBytes old.pages c.bytes new.pages
   pub table : new.reservations ≡ c.table
   pub console : new.console.console ≡ c.console
@@ -73,6 +73,6 @@ pub record LeftBy (c : Counter Hart ConsoleState) (old new : SharedState) : Type
 -- harts with these outcomes had their turns, of which the first one's would be this
 abbrev pub HadTurns : Turn → List Outcome → SharedState → SharedState → Type 0
 HadTurns turn os old new =
-    (m : Memory) (rs : List (HartRound Hart)) (c : Counter Hart ConsoleState) → AreOutcomes m rs os →
+    (m : Memory) (rs : List (HartRound Hart)) (c : TabledPhase Hart ConsoleState) → AreOutcomes m rs os →
     c.bytes ≡ old.pages.memory.bytes → c.console ≡ old.console.console → c.table ≡ old.reservations →
-    LeftBy (counter_from (words_of old.pages.memory.code) turn.budget turn.round turn.hart rs c) old new
+    LeftBy (tabled_phase_from (words_of old.pages.memory.code) turn.budget turn.round turn.hart rs c) old new

@@ -7,7 +7,7 @@ use Rattle.store_buffer.specs.Covered.{with_stores}
 use Rattle.round_schedule.specs.declared.access.Access.{Access}
 use Rattle.round_schedule.specs.declared.event.Event.{Event}
 use Rattle.round_schedule.specs.declared.event.Phase.TheVariants.{Parallel}
-use Rattle.round_schedule.specs.Desk.{log_events}
+use Rattle.round_schedule.specs.TabledTurn.{log_events}
 use Rattle.round_schedule.specs.Events.{events_of}
 use Rattle.round_schedule.specs.Schedule.{HartRound}
 use Rattle.hart_step.specs.declared.hart.Hart.{Hart}

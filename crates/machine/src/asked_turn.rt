@@ -5,7 +5,7 @@ ghost use Rattle.hart_step.specs.declared.hart.Hart.{Hart};
 ghost use Rattle.hart_step.specs.CodeTables.{Shows};
 ghost use Rattle.hart_step.specs.Room.{HasSpares};
 ghost use Rattle.serial_phase.specs.Roomed.{HasRoom};
-ghost use Rattle.machine.specs.Asked.{HadTurns, desk_begun, found_at, found_in};
+ghost use Rattle.machine.specs.Asked.{HadTurns, tabled_turn_begun, found_at, found_in};
 ghost use Rattle.machine.specs.Guests.{shared_of};
 ghost use Rattle.machine.specs.Outcomes.{AreFit, AreOutcomes, turns_of, waits_of};
 
@@ -42,15 +42,18 @@ pub fn ask_turn<G, R: Threads + Sync>(
     place: TurnPlace,
 ) -> Result<Option<Hart>, OutOfMemory>
     requires workers { 1 ≤ crew.now.workers }
-    requires shows { Shows shared.old.pages.memory shared.old.code.first shared.old.code.instructions }
-    requires rounds { (rs : List (HartRound Hart)) × AreOutcomes shared.old.pages.memory rs outcomes.now × TouchesNoCode shared.old.pages.memory.code (all_stores rs) }
+    requires shows { Shows shared.old.pages.memory shared.old.code.first
+        shared.old.code.instructions }
+    requires rounds { (rs : List (HartRound Hart)) × AreOutcomes shared.old.pages.memory rs
+        outcomes.now × TouchesNoCode shared.old.pages.memory.code (all_stores rs) }
     requires few { length outcomes.now ≤ 64 }
     requires fits { AreFit shared.old.pages.memory outcomes.now }
     requires size { length shared.old.reservations ≡ length outcomes.now }
     requires hart { place.hart < length outcomes.now }
     requires budget { place.budget ≤ 1000 }
     requires count { place.count ≤ place.budget }
-    ensures { IfOk result (λ h. (rs : List (HartRound Hart)) → AreOutcomes shared.old.pages.memory rs outcomes.now → h ≡ found_in (shared_of shared.old) place start rs) }
+    ensures { IfOk result (λ h. (rs : List (HartRound Hart)) → AreOutcomes shared.old.pages.memory
+        rs outcomes.now → h ≡ found_in (shared_of shared.old) place start rs) }
 {
     let earlier = &outcomes[..place.hart as usize];
     let turns = turns_needed(earlier, place.budget) + place.budget;
@@ -67,7 +70,8 @@ pub fn ask_turn<G, R: Threads + Sync>(
 
 /// Does the turns of the waiting ones among these harts, of which the first one's turn would be this.
 fn take_turns(shared: &mut SharedState, outcomes: &[Outcome], turn: Turn)
-    requires shows { Shows shared.old.pages.memory shared.old.code.first shared.old.code.instructions }
+    requires shows { Shows shared.old.pages.memory shared.old.code.first
+        shared.old.code.instructions }
     requires harts { turn.hart + length outcomes.now ≤ length shared.old.reservations }
     requires few { length shared.old.reservations ≤ 64 }
     requires pages { HasSpares (turns_of turn.budget (waits_of outcomes.now)) shared.old.pages }
@@ -75,12 +79,16 @@ fn take_turns(shared: &mut SharedState, outcomes: &[Outcome], turn: Turn)
     requires log { turns_of turn.budget (waits_of outcomes.now) ≤ shared.old.log.room }
     requires began { shared.old.log.current ≡ [] }
     ensures turns { HadTurns turn outcomes.now shared.old shared.new }
-    ensures pages { (n : ℕ) → HasSpares (n + turns_of turn.budget (waits_of outcomes.now)) shared.old.pages → HasSpares n shared.new.pages }
-    ensures console { (n : ℕ) → HasRoom (n + turns_of turn.budget (waits_of outcomes.now)) shared.old.console → HasRoom n shared.new.console }
-    ensures log { shared.old.log.room ≤ shared.new.log.room + turns_of turn.budget (waits_of outcomes.now) }
+    ensures pages { (n : ℕ) → HasSpares (n + turns_of turn.budget (waits_of outcomes.now))
+        shared.old.pages → HasSpares n shared.new.pages }
+    ensures console { (n : ℕ) → HasRoom (n + turns_of turn.budget (waits_of outcomes.now))
+        shared.old.console → HasRoom n shared.new.console }
+    ensures log { shared.old.log.room ≤
+        shared.new.log.room + turns_of turn.budget (waits_of outcomes.now) }
     ensures began { shared.new.log.current ≡ [] }
     ensures size { length shared.new.reservations ≡ length shared.old.reservations }
-    ensures shows { Shows shared.new.pages.memory shared.new.code.first shared.new.code.instructions }
+    ensures shows { Shows shared.new.pages.memory shared.new.code.first
+        shared.new.code.instructions }
 {
     match outcomes {
         [] => {}
@@ -109,14 +117,16 @@ fn turn_of(outcome: &Outcome, turn: Turn) -> Turn
 
 /// A hart at a place in its turn, which begins here and now.
 fn hart_at(shared: &mut SharedState, start: Hart, place: TurnPlace) -> Option<Hart>
-    requires shows { Shows shared.old.pages.memory shared.old.code.first shared.old.code.instructions }
+    requires shows { Shows shared.old.pages.memory shared.old.code.first
+        shared.old.code.instructions }
     requires hart { place.hart < length shared.old.reservations }
     requires count { place.count ≤ place.budget }
     requires pages { HasSpares place.budget shared.old.pages }
     requires console { HasRoom place.budget shared.old.console }
     requires log { place.budget ≤ shared.old.log.room }
     requires began { shared.old.log.current ≡ [] }
-    ensures { result ≡ found_at shared.old.pages.memory.code place (desk_begun start shared.old.pages.memory.bytes shared.old.console.console shared.old.reservations) }
+    ensures { result ≡ found_at shared.old.pages.memory.code place (tabled_turn_begun start
+        shared.old.pages.memory.bytes shared.old.console.console shared.old.reservations) }
 {
     let mut here = start;
     let turn = Turn {

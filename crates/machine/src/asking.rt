@@ -38,10 +38,13 @@ impl Machine {
         count: u64,
         workers: u32,
     ) -> Result<Option<Hart>, RunError>
-        ensures hart { IfOk result (λ h. h ≡ hart_after (words_of self.code) self.plan.budget (quotas_of self.plan) self.state hart count) }
+        ensures hart { IfOk result (λ h. h ≡ hart_after (words_of self.code) self.plan.budget
+            (quotas_of self.plan) self.state hart count) }
         ensures workers { (workers < 1) ⊎ (16 < workers) → result ≡ Err refusals.WorkersOutOfRange }
-        ensures exhausted { 1 ≤ workers → workers ≤ 16 → self.state.rounds + 1 ≡ 2 ^ 32 → result ≡ Err refusals.RoundsExhausted }
-        ensures refused { 1 ≤ workers → workers ≤ 16 → self.state.rounds + 1 < 2 ^ 32 → IfErr result (λ e. e ≡ refusals.OutOfMemory) }
+        ensures exhausted { 1 ≤ workers → workers ≤ 16 → self.state.rounds + 1 ≡ 2 ^ 32 →
+            result ≡ Err refusals.RoundsExhausted }
+        ensures refused { 1 ≤ workers → workers ≤ 16 → self.state.rounds + 1 < 2 ^ 32 →
+            IfErr result (λ e. e ≡ refusals.OutOfMemory) }
     {
         let Machine { bare, .. } = self;
         bare.hart_after(rt, hart, count, workers)
@@ -62,10 +65,13 @@ impl UntracedMachine {
         workers: u32,
     ) -> Result<Option<Hart>, RunError>
         requires run { (m : Running) × IsUntraced m self }
-        ensures hart { (m : Running) → IsUntraced m self → IfOk result (λ h. h ≡ hart_after (words_of m.code) m.plan.budget (quotas_of m.plan) m.state hart count) }
+        ensures hart { (m : Running) → IsUntraced m self → IfOk result (λ h. h ≡
+            hart_after (words_of m.code) m.plan.budget (quotas_of m.plan) m.state hart count) }
         ensures workers { (workers < 1) ⊎ (16 < workers) → result ≡ Err refusals.WorkersOutOfRange }
-        ensures exhausted { 1 ≤ workers → workers ≤ 16 → self.rounds + 1 ≡ 2 ^ 32 → result ≡ Err refusals.RoundsExhausted }
-        ensures refused { 1 ≤ workers → workers ≤ 16 → self.rounds + 1 < 2 ^ 32 → IfErr result (λ e. e ≡ refusals.OutOfMemory) }
+        ensures exhausted { 1 ≤ workers → workers ≤ 16 → self.rounds + 1 ≡ 2 ^ 32 →
+            result ≡ Err refusals.RoundsExhausted }
+        ensures refused { 1 ≤ workers → workers ≤ 16 → self.rounds + 1 < 2 ^ 32 →
+            IfErr result (λ e. e ≡ refusals.OutOfMemory) }
     {
         if workers < 1 || workers > MOST_WORKERS {
             return Err(RunError::WorkersOutOfRange);
@@ -96,7 +102,8 @@ impl UntracedMachine {
         requires rounds { self.rounds + 1 < 2 ^ 32 }
         requires hart { hart < length self.harts }
         requires run { (m : Running) × IsUntraced m self }
-        ensures { IfOk result (λ h. (m : Running) → IsUntraced m self → h ≡ hart_after (words_of m.code) m.plan.budget (quotas_of m.plan) m.state hart count) }
+        ensures { IfOk result (λ h. (m : Running) → IsUntraced m self →
+            h ≡ hart_after (words_of m.code) m.plan.budget (quotas_of m.plan) m.state hart count) }
     {
         // The types keep: bytes in memory, at most 64 harts with quotas in range, and a budget of at most 1,000.
         self.guest.pages().bytes_fit();
@@ -148,7 +155,8 @@ fn done_since(before: Hart, after: Hart) -> u64
 /// A hart after its part of the parallel phase, of so many instructions at most.
 fn shorter_round(shared: &SharedState, hart: Hart, quota: u32) -> Result<Hart, OutOfMemory>
     requires { Shows shared.now.pages.memory shared.now.code.first shared.now.code.instructions }
-    ensures { IfOk result (λ h. h ≡ (hart_round_of (words_of shared.now.pages.memory.code) shared.now.pages.memory.bytes quota hart).last.hart) }
+    ensures { IfOk result (λ h. h ≡ (hart_round_of (words_of shared.now.pages.memory.code)
+        shared.now.pages.memory.bytes quota hart).last.hart) }
 {
     let alloc = shared.pages.allocator();
     let mut turned = hart;

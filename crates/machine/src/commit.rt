@@ -27,7 +27,8 @@ pub fn commit<G, R: Threads + Sync>(
     ensures ready { pages.new.ready ≡ pages.old.ready }
     ensures spare { pages.new.spare ≡ pages.old.spare }
     ensures size { length table.new ≡ length table.old }
-    ensures committed { (rs : List (HartRound Hart)) → AreOutcomes pages.old.memory rs outcomes.now → Committed rs pages.old pages.new table.old table.new }
+    ensures committed { (rs : List (HartRound Hart)) → AreOutcomes pages.old.memory rs
+        outcomes.now → Committed rs pages.old pages.new table.old table.new }
 {
     if crew.workers > 1 && stores_lines(outcomes, crew.least_lines) {
         commit_on(crew.rt, pages, table, outcomes, crew.workers, &OpenShards);

@@ -29,15 +29,21 @@ pub fn emulate<S: Sink, R: Threads + Wait + Sync>(
     out: &mut S,
 ) -> Result<(), RunError>
     // The sink took the report of the run that the definitions name.
-    ensures reports { OnOk result ((plan : Planned) × IsPlan settings.now plan × (S.took out.new ≡ S.took out.old ++ report_after settings.now image.now input.now plan)) }
+    ensures reports { OnOk result ((plan : Planned) × IsPlan settings.now plan ×
+        (S.took out.new ≡ S.took out.old ++ report_after settings.now image.now input.now plan)) }
     // Else it took nothing, or a beginning of that report.
-    ensures begun { OnErr result ((S.took out.new ≡ S.took out.old) ⊎ ((plan : Planned) × IsPlan settings.now plan × BeganText (S.took out.old) (S.took out.new) (report_after settings.now image.now input.now plan))) }
+    ensures begun { OnErr result ((S.took out.new ≡ S.took out.old) ⊎
+        ((plan : Planned) × IsPlan settings.now plan × BeganText (S.took out.old) (S.took out.new)
+        (report_after settings.now image.now input.now plan))) }
     // Where anything else than memory or the sink refuses, it took nothing.
-    ensures untouched { IfErr result (λ e. (e ≡ refusals.OutOfMemory) ⊎ (e ≡ refusals.SinkFailed) ⊎ (S.took out.new ≡ S.took out.old)) }
+    ensures untouched { IfErr result (λ e. (e ≡ refusals.OutOfMemory) ⊎ (e ≡ refusals.SinkFailed) ⊎
+        (S.took out.new ≡ S.took out.old)) }
     // Numbers out of range are refused first, then an image, and then a plan.
     ensures in_order { RefusedInOrder settings.now image.now result }
     // What is refused then is for a reason that stands.
-    ensures errors { settings_fault settings.now ≡ None → IfErr result (λ e. IsReason settings.now image.now e ⊎ ((e ≡ refusals.SinkFailed) × (S.failures out.old < S.failures out.new))) }
+    ensures errors { settings_fault settings.now ≡ None →
+        IfErr result (λ e. IsReason settings.now image.now e ⊎
+        ((e ≡ refusals.SinkFailed) × (S.failures out.old < S.failures out.new))) }
 {
     let mut machine = prepare(alloc, image, input, settings)?;
     machine.run(rt, settings.rounds, settings.workers)?;
@@ -52,9 +58,11 @@ impl Machine {
     /// `OutOfMemory` and `SinkFailed`; a beginning of the report is written then.
     pub fn report<S: Sink>(&self, alloc: Global, out: &mut S) -> Result<(), RunError>
         ensures ok { OnOk result (S.took out.new ≡ S.took out.old ++ report_of self.now.state) }
-        ensures begun { OnErr result (BeganText (S.took out.old) (S.took out.new) (report_of self.now.state)) }
+        ensures begun { OnErr result
+            (BeganText (S.took out.old) (S.took out.new) (report_of self.now.state)) }
         ensures sink { result ≡ Err RunError.SinkFailed → S.failures out.old < S.failures out.new }
-        ensures errors { IfErr result (λ e. (e ≡ RunError.OutOfMemory) ⊎ (e ≡ RunError.SinkFailed)) }
+        ensures errors { IfErr result (λ e. (e ≡ RunError.OutOfMemory) ⊎
+            (e ≡ RunError.SinkFailed)) }
     {
         write_state(alloc, &self.bare.state(), &self.trace, out)
     }
@@ -72,9 +80,11 @@ impl Machine {
         out: &mut S,
     ) -> Result<(), RunError>
         ensures ok { OnOk result (S.took out.new ≡ S.took out.old ++ report_of self.now.state) }
-        ensures begun { OnErr result (BeganText (S.took out.old) (S.took out.new) (report_of self.now.state)) }
+        ensures begun { OnErr result
+            (BeganText (S.took out.old) (S.took out.new) (report_of self.now.state)) }
         ensures sink { result ≡ Err RunError.SinkFailed → S.failures out.old < S.failures out.new }
-        ensures errors { IfErr result (λ e. (e ≡ RunError.OutOfMemory) ⊎ (e ≡ RunError.SinkFailed)) }
+        ensures errors { IfErr result (λ e. (e ≡ RunError.OutOfMemory) ⊎
+            (e ≡ RunError.SinkFailed)) }
     {
         write_state_on(rt, workers, alloc, &self.bare.state(), &self.trace, out)
     }

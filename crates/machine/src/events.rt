@@ -1,6 +1,6 @@
 ghost use Rattle.std.specs.Prelude.{◌≡◌, ◌+◌, ◌*◌, ◌^◌, ◌<◌, ◌≤◌, ◌++◌, [], length, IfSome, drop, true, if◌then◌else◌};
 ghost use Rattle.round_schedule.specs.declared.event.Phase.TheVariants.{Parallel};
-ghost use Rattle.round_schedule.specs.Desk.{log_events};
+ghost use Rattle.round_schedule.specs.TabledTurn.{log_events};
 ghost use Rattle.round_schedule.specs.Events.{events_of};
 ghost use Rattle.trace.specs.Traced.{IsTrace};
 ghost use Rattle.machine.specs.Outcomes.{HasPlaces, count_accesses, count_copied, count_log, outcome_events, turns_of, waits_of};
@@ -72,7 +72,8 @@ pub fn add_parallel(
     requires harts { first + length outcomes.old ≤ 64 }
     requires places { HasPlaces adopts outcomes.old trace.old }
     requires sound { IsTrace (trace.old.events ++ outcome_events round first outcomes.old) }
-    ensures events { trace.new.events ≡ trace.old.events ++ outcome_events round first outcomes.old }
+    ensures events { trace.new.events ≡
+        trace.old.events ++ outcome_events round first outcomes.old }
     ensures opening { trace.new.opening ≡ trace.old.opening }
     ensures room { trace.old.room ≤ trace.new.room + count_copied adopts outcomes.old }
 {
@@ -123,8 +124,10 @@ pub fn add_serial(trace: &mut Trace, round: u32, first: u32, left: u32, log: &Se
     requires harts { first + left ≡ length log.now.closed }
     requires few { length log.now.closed ≤ 64 }
     requires room { count_log (drop first log.now.closed) ≤ trace.old.room }
-    requires sound { IsTrace (trace.old.events ++ log_events round first (drop first log.now.closed)) }
-    ensures events { trace.new.events ≡ trace.old.events ++ log_events round first (drop first log.now.closed) }
+    requires sound { IsTrace (trace.old.events ++
+        log_events round first (drop first log.now.closed)) }
+    ensures events { trace.new.events ≡
+        trace.old.events ++ log_events round first (drop first log.now.closed) }
     ensures opening { trace.new.opening ≡ trace.old.opening }
 {
     if left == 0 {

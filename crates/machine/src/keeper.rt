@@ -36,9 +36,12 @@ pub trait EventKeeper {
     fn add(&mut self, round: u32, outcomes: &mut [Outcome], log: &SerialLog, adopts: bool)
         requires harts { length log.now.closed ≡ length outcomes.old }
         requires few { length outcomes.old ≤ 64 }
-        requires room { (turns : ℕ) × has_room self.old adopts outcomes.old turns × (count_log log.now.closed ≤ turns) }
-        requires sound { (es : List Happened) × keeps self.old es × may_keep (es ++ round_events round outcomes.old log.now.closed) }
-        ensures kept { (es : List Happened) → keeps self.old es → keeps self.new (es ++ round_events round outcomes.old log.now.closed) }
+        requires room { (turns : ℕ) × has_room self.old adopts outcomes.old turns ×
+            (count_log log.now.closed ≤ turns) }
+        requires sound { (es : List Happened) × keeps self.old es ×
+            may_keep (es ++ round_events round outcomes.old log.now.closed) }
+        ensures kept { (es : List Happened) → keeps self.old es →
+            keeps self.new (es ++ round_events round outcomes.old log.now.closed) }
         ensures opening { opens_with self.new ≡ opens_with self.old };
 }
 

@@ -60,11 +60,12 @@ impl Machine {
     }
 
     /// The byte at an address, or `None` outside guest memory.
-    pub fn byte(&self, addr: u64) -> Option<u8>
-        ensures inside { addr < length self.now.state.bytes → result ≡ Some (slice_index self.now.state.bytes addr) }
-        ensures outside { length self.now.state.bytes ≤ addr → result ≡ None }
+    pub fn byte(&self, address: u64) -> Option<u8>
+        ensures inside { address < length self.now.state.bytes →
+            result ≡ Some (slice_index self.now.state.bytes address) }
+        ensures outside { length self.now.state.bytes ≤ address → result ≡ None }
     {
-        self.bare.byte(addr)
+        self.bare.byte(address)
     }
 
     /// The output so far.
@@ -78,8 +79,10 @@ impl Machine {
     /// RVWMO.
     pub fn trace(&self) -> &Trace
         ensures events { result.now.events ≡ self.now.state.trace }
-        ensures rounds { IsRoundTrace result.now.events (opening_at result.now.opening) self.now.plan.budget }
-        ensures opening { (x : ℕ) → opening_at result.now.opening x ≡ slice_index self.now.opening x }
+        ensures rounds { IsRoundTrace result.now.events (opening_at result.now.opening)
+            self.now.plan.budget }
+        ensures opening { (x : ℕ) → opening_at result.now.opening x ≡
+            slice_index self.now.opening x }
     {
         &self.trace
     }

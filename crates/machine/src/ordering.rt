@@ -31,15 +31,23 @@ pub fn order_run<S: Sink, O: Observer, R: Threads + Wait + Sync>(
     out: &mut S,
 ) -> Result<(), RunError>
     // The sink took the text of an order of the run that the definitions name.
-    ensures orders { OnOk result ((plan : Planned) × (places : List ℕ) × IsOrderOfRun settings.now image.now input.now plan places × (S.took out.new ≡ S.took out.old ++ ordered_text settings.now image.now input.now plan places)) }
+    ensures orders { OnOk result ((plan : Planned) × (places : List ℕ) ×
+        IsOrderOfRun settings.now image.now input.now plan places × (S.took out.new ≡
+        S.took out.old ++ ordered_text settings.now image.now input.now plan places)) }
     // Else it took nothing, or a beginning of such a text.
-    ensures begun { OnErr result ((S.took out.new ≡ S.took out.old) ⊎ ((plan : Planned) × (places : List ℕ) × IsOrderOfRun settings.now image.now input.now plan places × BeganText (S.took out.old) (S.took out.new) (ordered_text settings.now image.now input.now plan places))) }
+    ensures begun { OnErr result ((S.took out.new ≡ S.took out.old) ⊎
+        ((plan : Planned) × (places : List ℕ) ×
+        IsOrderOfRun settings.now image.now input.now plan places × BeganText (S.took out.old)
+        (S.took out.new) (ordered_text settings.now image.now input.now plan places))) }
     // Where anything else than memory or the sink refuses, it took nothing.
-    ensures untouched { IfErr result (λ e. (e ≡ refusals.OutOfMemory) ⊎ (e ≡ refusals.SinkFailed) ⊎ (S.took out.new ≡ S.took out.old)) }
+    ensures untouched { IfErr result (λ e. (e ≡ refusals.OutOfMemory) ⊎ (e ≡ refusals.SinkFailed) ⊎
+        (S.took out.new ≡ S.took out.old)) }
     // Numbers out of range are refused first, then an image, and then a plan.
     ensures in_order { RefusedInOrder settings.now image.now result }
     // What is refused then is for a reason that stands.
-    ensures errors { settings_fault settings.now ≡ None → IfErr result (λ e. IsReason settings.now image.now e ⊎ ((e ≡ refusals.SinkFailed) × (S.failures out.old < S.failures out.new))) }
+    ensures errors { settings_fault settings.now ≡ None →
+        IfErr result (λ e. IsReason settings.now image.now e ⊎
+        ((e ≡ refusals.SinkFailed) × (S.failures out.old < S.failures out.new))) }
 {
     let trace = trace_run(rt, alloc, image, input, settings, observer)?;
     write_order(alloc, &trace, out)

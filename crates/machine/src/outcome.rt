@@ -55,7 +55,9 @@ pub fn outcomes_of<G: Gate + Sync, R: Threads + Wait + Sync>(
     requires shows { Shows pages.now.memory table.now.first table.now.instructions }
     requires harts { length harts.now ≡ plan.now.harts }
     requires round { 1 ≤ round }
-    ensures { IfOk result (λ os. AreOutcomes pages.now.memory (hart_rounds (words_of pages.now.memory.code) pages.now.memory.bytes (quotas_of plan.now (round - 1)) harts.now) os.items) }
+    ensures { IfOk result (λ os.
+        AreOutcomes pages.now.memory (hart_rounds (words_of pages.now.memory.code)
+        pages.now.memory.bytes (quotas_of plan.now (round - 1)) harts.now) os.items) }
 {
     // At most 64.
     let _harts = plan.harts();
@@ -106,7 +108,8 @@ fn outcomes_alone<G: Gate>(gate: &G, start: &RoundStart<'_>) -> Result<Vec<Outco
 fn quotas_in(alloc: Global, plan: &Plan, round: u32) -> Result<Vec<u32>, OutOfMemory>
     requires round { 1 ≤ round }
     ensures sized { IfOk result (λ qs. length qs.items ≡ plan.now.harts) }
-    ensures quotas { IfOk result (λ qs. (h : ℕ) → h < plan.now.harts → slice_index qs.items h ≡ quota_of plan.now round h) }
+    ensures quotas { IfOk result (λ qs. (h : ℕ) → h < plan.now.harts →
+        slice_index qs.items h ≡ quota_of plan.now round h) }
 {
     let mut quotas = Vec::with_capacity(alloc, plan.harts() as usize)?;
     for hart in 0..plan.harts() {

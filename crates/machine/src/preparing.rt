@@ -26,11 +26,13 @@ pub fn prepare(
     input: &[u8],
     settings: &Settings<'_>,
 ) -> Result<Machine, RunError>
-    ensures machine { IfOk result (λ m. (plan : Planned) × IsPlan settings.now plan × (m ≡ opening (image_for settings.now image.now) input.now plan)) }
+    ensures machine { IfOk result (λ m. (plan : Planned) × IsPlan settings.now plan ×
+        (m ≡ opening (image_for settings.now image.now) input.now plan)) }
     ensures in_order { RefusedInOrder settings.now image.now result }
     ensures workers { IfOk result (λ _. (1 ≤ settings.now.workers) × (settings.now.workers ≤ 16)) }
     ensures range { IfOk result (λ _. IsInRange settings.now) }
-    ensures errors { settings_fault settings.now ≡ None → IfErr result (λ e. IsReason settings.now image.now e) }
+    ensures errors { settings_fault settings.now ≡ None →
+        IfErr result (λ e. IsReason settings.now image.now e) }
 {
     check_settings(settings)?;
     let image = load(alloc, settings.format, image, settings.pages)?;
@@ -58,9 +60,12 @@ pub fn load(alloc: Global, format: Format, file: &[u8], pages: u32) -> Result<Im
     requires some_pages { 1 ≤ pages }
     requires few_pages { pages ≤ 16384 }
     ensures image { IfOk result (λ i. i ≡ image_of format file.now pages) }
-    ensures errors { IfErr result (λ e. (e ≡ refusals.OutOfMemory) ⊎ ((cause : ImageCause) × IsLeastOfImage (StandsIn format file.now pages) cause × (e ≡ refusals.Image cause))) }
-    ensures refused { (cause : ImageCause) → IsLeastOfImage (StandsIn format file.now pages) cause → (result ≡ Err (refusals.Image cause)) ⊎ (result ≡ Err refusals.OutOfMemory) }
-    ensures taken { IsGood (StandsIn format file.now pages) → IfErr result (λ e. e ≡ refusals.OutOfMemory) }
+    ensures errors { IfErr result (λ e. (e ≡ refusals.OutOfMemory) ⊎ ((cause : ImageCause) ×
+        IsLeastOfImage (StandsIn format file.now pages) cause × (e ≡ refusals.Image cause))) }
+    ensures refused { (cause : ImageCause) → IsLeastOfImage (StandsIn format file.now pages) cause →
+        (result ≡ Err (refusals.Image cause)) ⊎ (result ≡ Err refusals.OutOfMemory) }
+    ensures taken { IsGood (StandsIn format file.now pages) →
+        IfErr result (λ e. e ≡ refusals.OutOfMemory) }
 {
     load_as(alloc, format, file, pages)
 }
@@ -70,8 +75,10 @@ fn load_as(alloc: Global, format: Format, file: &[u8], pages: u32) -> Result<Ima
     requires some_pages { 1 ≤ pages }
     requires few_pages { pages ≤ 16384 }
     ensures image { IfOk result (λ i. i ≡ image_of format file.now pages) }
-    ensures errors { IfErr result (λ e. (e ≡ refusals.OutOfMemory) ⊎ ((cause : ImageCause) × IsLeastOfImage (StandsIn format file.now pages) cause × (e ≡ refusals.Image cause))) }
-    ensures refused { (cause : ImageCause) → IsLeastOfImage (StandsIn format file.now pages) cause → (result ≡ Err (refusals.Image cause)) ⊎ (result ≡ Err refusals.OutOfMemory) }
+    ensures errors { IfErr result (λ e. (e ≡ refusals.OutOfMemory) ⊎ ((cause : ImageCause) ×
+        IsLeastOfImage (StandsIn format file.now pages) cause × (e ≡ refusals.Image cause))) }
+    ensures refused { (cause : ImageCause) → IsLeastOfImage (StandsIn format file.now pages) cause →
+        (result ≡ Err (refusals.Image cause)) ⊎ (result ≡ Err refusals.OutOfMemory) }
 {
     let loaded = match format {
         Format::Elf => load_elf(alloc, file, pages),
@@ -96,8 +103,10 @@ pub(crate) fn read_plan(
     requires some_budget { 1 ≤ budget }
     requires few_budget { budget ≤ 1000 }
     ensures plan { IfOk result (λ p. IsPlanOf harts text.now budget p) }
-    ensures errors { IfErr result (λ e. (e ≡ refusals.OutOfMemory) ⊎ ((cause : PlanCause) × IsLeastOfPlan harts text.now cause × (e ≡ refusals.Plan cause))) }
-    ensures refused { (cause : PlanCause) → IsLeastOfPlan harts text.now cause → (result ≡ Err (refusals.Plan cause)) ⊎ (result ≡ Err refusals.OutOfMemory) }
+    ensures errors { IfErr result (λ e. (e ≡ refusals.OutOfMemory) ⊎
+        ((cause : PlanCause) × IsLeastOfPlan harts text.now cause × (e ≡ refusals.Plan cause))) }
+    ensures refused { (cause : PlanCause) → IsLeastOfPlan harts text.now cause →
+        (result ≡ Err (refusals.Plan cause)) ⊎ (result ≡ Err refusals.OutOfMemory) }
 {
     match Plan::parse(alloc, text, harts) {
         Ok(mut plan) => {

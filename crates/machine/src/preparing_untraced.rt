@@ -22,11 +22,13 @@ pub fn prepare_untraced(
     input: &[u8],
     settings: &Settings<'_>,
 ) -> Result<UntracedMachine, RunError>
-    ensures machine { IfOk result (λ u. (plan : Planned) × IsPlan settings.now plan × IsUntraced (opening (image_for settings.now image.now) input.now plan) u) }
+    ensures machine { IfOk result (λ u. (plan : Planned) × IsPlan settings.now plan ×
+        IsUntraced (opening (image_for settings.now image.now) input.now plan) u) }
     ensures in_order { RefusedInOrder settings.now image.now result }
     ensures workers { IfOk result (λ _. (1 ≤ settings.now.workers) × (settings.now.workers ≤ 16)) }
     ensures range { IfOk result (λ _. IsInRange settings.now) }
-    ensures errors { settings_fault settings.now ≡ None → IfErr result (λ e. IsReason settings.now image.now e) }
+    ensures errors { settings_fault settings.now ≡ None →
+        IfErr result (λ e. IsReason settings.now image.now e) }
 {
     check_settings(settings)?;
     let image = load(alloc, settings.format, image, settings.pages)?;

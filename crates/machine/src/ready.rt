@@ -35,7 +35,8 @@ fn make_buffer_ready(pages: &mut Pages, buffer: &StoreBuffer) -> Result<(), OutO
 /// Makes the page of an address of guest memory ready. An address past it has none.
 fn make_page_ready(pages: &mut Pages, address: u64) -> Result<(), OutOfMemory>
     ensures keeps { KeepsPages pages.old pages.new }
-    ensures ready { OnOk result (address / 4096 < length pages.old.ready → is_page_ready pages.new (address / 4096) ≡ true) }
+    ensures ready { OnOk result (address / 4096 < length pages.old.ready →
+        is_page_ready pages.new (address / 4096) ≡ true) }
 {
     if address / 4096 >= u64::from(pages.count()) {
         return Ok(());

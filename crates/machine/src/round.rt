@@ -51,16 +51,22 @@ impl GuestState {
         requires workers { (1 ≤ crew.now.workers) × (crew.now.workers ≤ 16) }
         requires harts { length self.old.harts ≡ plan.now.harts }
         requires done { done + 1 < 2 ^ 32 }
-        requires sound { (es : List Event) × E.keeps keeper.old es × E.may_keep (es ++ guest_events plan.now done self.old) }
+        requires sound { (es : List Event) × E.keeps keeper.old es ×
+            E.may_keep (es ++ guest_events plan.now done self.old) }
         ensures ok { OnOk result (self.new ≡ next_guest plan.now done self.old) }
         ensures count { OnOk result (length self.new.harts ≡ length self.old.harts) }
-        ensures kept { OnOk result ((es : List Event) → E.keeps keeper.old es → E.keeps keeper.new (es ++ guest_events plan.now done self.old)) }
+        ensures kept { OnOk result ((es : List Event) → E.keeps keeper.old es →
+            E.keeps keeper.new (es ++ guest_events plan.now done self.old)) }
         ensures opening { E.opens_with keeper.new ≡ E.opens_with keeper.old }
-        ensures waited { IfOk result (λ n. n.waited ≡ count_waiting (hart_rounds (words_of self.old.shared.memory.code) self.old.shared.memory.bytes (quotas_of plan.now done) self.old.harts)) }
-        ensures events { IfOk result (λ n. n.events ≡ length (guest_events plan.now done self.old)) }
+        ensures waited { IfOk result (λ n. n.waited ≡
+            count_waiting (hart_rounds (words_of self.old.shared.memory.code)
+            self.old.shared.memory.bytes (quotas_of plan.now done) self.old.harts)) }
+        ensures events { IfOk result (λ n. n.events ≡
+            length (guest_events plan.now done self.old)) }
         ensures few { IfOk result (λ n. n.events ≤ 64 * most_of_round) }
         ensures err { OnErr result (self.new ≡ self.old) }
-        ensures untold { OnErr result ((es : List Event) → E.keeps keeper.old es → E.keeps keeper.new es) }
+        ensures untold { OnErr result ((es : List Event) → E.keeps keeper.old es →
+            E.keeps keeper.new es) }
     {
         let shared = &mut self.shared;
         let alloc = shared.pages.allocator();
@@ -97,8 +103,10 @@ fn finish<E: EventKeeper, G, R: Threads + Sync>(
     phase: SerialRound,
 ) -> Result<RoundCounts, OutOfMemory>
     requires workers { 1 ≤ crew.now.workers }
-    requires shows { Shows shared.old.pages.memory shared.old.code.first shared.old.code.instructions }
-    requires rounds { (rs : List (HartRound Hart)) × AreOutcomes shared.old.pages.memory rs outcomes.old × TouchesNoCode shared.old.pages.memory.code (all_stores rs) }
+    requires shows { Shows shared.old.pages.memory shared.old.code.first
+        shared.old.code.instructions }
+    requires rounds { (rs : List (HartRound Hart)) × AreOutcomes shared.old.pages.memory rs
+        outcomes.old × TouchesNoCode shared.old.pages.memory.code (all_stores rs) }
     requires few { length outcomes.old ≤ 64 }
     requires fits { AreFit shared.old.pages.memory outcomes.old }
     requires harts { harts.old ≡ harts_of outcomes.old }
@@ -106,17 +114,22 @@ fn finish<E: EventKeeper, G, R: Threads + Sync>(
     requires waiting { phase.waiting ≡ mask_of (waits_of outcomes.old) }
     requires budget { phase.budget ≤ 1000 }
     requires accesses { count_accesses outcomes.old ≤ 64000000 }
-    requires sound { (es : List Event) × E.keeps keeper.old es × MayFinish E.may_keep phase outcomes.old (shared_of shared.old) es }
-    ensures ok { IfOk result (λ n. (more : List Event) × IsFinished phase outcomes.old (shared_of shared.old) (guest_of harts.new shared.new) more × (n.events ≡ length more) × ((es : List Event) → E.keeps keeper.old es → E.keeps keeper.new (es ++ more))) }
+    requires sound { (es : List Event) × E.keeps keeper.old es ×
+        MayFinish E.may_keep phase outcomes.old (shared_of shared.old) es }
+    ensures ok { IfOk result (λ n. (more : List Event) × IsFinished phase outcomes.old
+        (shared_of shared.old) (guest_of harts.new shared.new) more × (n.events ≡ length more) ×
+        ((es : List Event) → E.keeps keeper.old es → E.keeps keeper.new (es ++ more))) }
     ensures few { IfOk result (λ n. n.events ≤ 64 * most_of_round) }
     ensures opening { E.opens_with keeper.new ≡ E.opens_with keeper.old }
     ensures size { length shared.new.reservations ≡ length shared.old.reservations }
-    ensures shows { Shows shared.new.pages.memory shared.new.code.first shared.new.code.instructions }
+    ensures shows { Shows shared.new.pages.memory shared.new.code.first
+        shared.new.code.instructions }
     ensures waited { IfOk result (λ n. n.waited ≡ count_true (waits_of outcomes.old)) }
     ensures memory { OnErr result (shared.new.pages.memory ≡ shared.old.pages.memory) }
     ensures reservations { OnErr result (shared.new.reservations ≡ shared.old.reservations) }
     ensures console { OnErr result (shared.new.console.console ≡ shared.old.console.console) }
-    ensures untold { OnErr result ((es : List Event) → E.keeps keeper.old es → E.keeps keeper.new es) }
+    ensures untold { OnErr result ((es : List Event) → E.keeps keeper.old es →
+        E.keeps keeper.new es) }
 {
     let turns = turns_needed(outcomes, phase.budget);
     make_turn_room(shared, outcomes, turns)?;

@@ -54,12 +54,16 @@ impl Machine {
         ensures ok { OnOk result (self.new ≡ after_round self.old) }
         ensures round { IfOk result (λ n. n.round ≡ self.new.state.rounds) }
         ensures one_more { OnOk result (self.new.state.rounds ≡ self.old.state.rounds + 1) }
-        ensures waited { IfOk result (λ n. n.waited ≡ count_waiting (hart_rounds (words_of self.old.code) self.old.state.bytes (quotas_of self.old.plan self.old.state.rounds) self.old.state.harts)) }
+        ensures waited { IfOk result (λ n. n.waited ≡
+            count_waiting (hart_rounds (words_of self.old.code) self.old.state.bytes
+            (quotas_of self.old.plan self.old.state.rounds) self.old.state.harts)) }
         ensures stopped { IfOk result (λ n. n.stopped ≡ count_stopped self.new.state.harts) }
         ensures err { OnErr result (self.new ≡ self.old) }
         ensures workers { (workers < 1) ⊎ (16 < workers) → result ≡ Err refusals.WorkersOutOfRange }
-        ensures exhausted { 1 ≤ workers → workers ≤ 16 → self.old.state.rounds + 1 ≡ 2 ^ 32 → result ≡ Err refusals.RoundsExhausted }
-        ensures refused { 1 ≤ workers → workers ≤ 16 → self.old.state.rounds + 1 < 2 ^ 32 → IfErr result (λ e. e ≡ refusals.OutOfMemory) }
+        ensures exhausted { 1 ≤ workers → workers ≤ 16 → self.old.state.rounds + 1 ≡ 2 ^ 32 →
+            result ≡ Err refusals.RoundsExhausted }
+        ensures refused { 1 ≤ workers → workers ≤ 16 → self.old.state.rounds + 1 < 2 ^ 32 →
+            IfErr result (λ e. e ≡ refusals.OutOfMemory) }
     {
         if workers < 1 || workers > MOST_WORKERS {
             return Err(RunError::WorkersOutOfRange);
@@ -95,11 +99,17 @@ impl Machine {
         ensures ok { OnOk result (self.new ≡ after_rounds rounds self.old) }
         ensures enough { OnOk result (self.old.state.rounds + rounds < 2 ^ 32) }
         ensures counted { OnOk result (self.new.state.rounds ≡ self.old.state.rounds + rounds) }
-        ensures fewer { result ≡ Err refusals.OutOfMemory → (k : ℕ) × (k < rounds) × (self.new ≡ after_rounds k self.old) }
-        ensures exhausted { result ≡ Err refusals.RoundsExhausted → (2 ^ 32 ≤ self.old.state.rounds + rounds) × (self.new ≡ after_rounds (2 ^ 32 - 1 - self.old.state.rounds) self.old) }
-        ensures workers { (workers < 1) ⊎ (16 < workers) → (result ≡ Err refusals.WorkersOutOfRange) × (self.new ≡ self.old) }
-        ensures errors { 1 ≤ workers → workers ≤ 16 → IfErr result (λ e. (e ≡ refusals.OutOfMemory) ⊎ (e ≡ refusals.RoundsExhausted)) }
-        ensures refused { 1 ≤ workers → workers ≤ 16 → self.old.state.rounds + rounds < 2 ^ 32 → IfErr result (λ e. e ≡ refusals.OutOfMemory) }
+        ensures fewer { result ≡ Err refusals.OutOfMemory →
+            (k : ℕ) × (k < rounds) × (self.new ≡ after_rounds k self.old) }
+        ensures exhausted { result ≡ Err refusals.RoundsExhausted →
+            (2 ^ 32 ≤ self.old.state.rounds + rounds) ×
+            (self.new ≡ after_rounds (2 ^ 32 - 1 - self.old.state.rounds) self.old) }
+        ensures workers { (workers < 1) ⊎ (16 < workers) →
+            (result ≡ Err refusals.WorkersOutOfRange) × (self.new ≡ self.old) }
+        ensures errors { 1 ≤ workers → workers ≤ 16 →
+            IfErr result (λ e. (e ≡ refusals.OutOfMemory) ⊎ (e ≡ refusals.RoundsExhausted)) }
+        ensures refused { 1 ≤ workers → workers ≤ 16 → self.old.state.rounds + rounds < 2 ^ 32 →
+            IfErr result (λ e. e ≡ refusals.OutOfMemory) }
     {
         self.run_observed(rt, rounds, workers, &mut Unobserved)
     }
@@ -119,11 +129,17 @@ impl Machine {
         ensures ok { OnOk result (self.new ≡ after_rounds rounds self.old) }
         ensures enough { OnOk result (self.old.state.rounds + rounds < 2 ^ 32) }
         ensures counted { OnOk result (self.new.state.rounds ≡ self.old.state.rounds + rounds) }
-        ensures fewer { result ≡ Err refusals.OutOfMemory → (k : ℕ) × (k < rounds) × (self.new ≡ after_rounds k self.old) }
-        ensures exhausted { result ≡ Err refusals.RoundsExhausted → (2 ^ 32 ≤ self.old.state.rounds + rounds) × (self.new ≡ after_rounds (2 ^ 32 - 1 - self.old.state.rounds) self.old) }
-        ensures workers { (workers < 1) ⊎ (16 < workers) → (result ≡ Err refusals.WorkersOutOfRange) × (self.new ≡ self.old) }
-        ensures errors { 1 ≤ workers → workers ≤ 16 → IfErr result (λ e. (e ≡ refusals.OutOfMemory) ⊎ (e ≡ refusals.RoundsExhausted)) }
-        ensures refused { 1 ≤ workers → workers ≤ 16 → self.old.state.rounds + rounds < 2 ^ 32 → IfErr result (λ e. e ≡ refusals.OutOfMemory) }
+        ensures fewer { result ≡ Err refusals.OutOfMemory →
+            (k : ℕ) × (k < rounds) × (self.new ≡ after_rounds k self.old) }
+        ensures exhausted { result ≡ Err refusals.RoundsExhausted →
+            (2 ^ 32 ≤ self.old.state.rounds + rounds) ×
+            (self.new ≡ after_rounds (2 ^ 32 - 1 - self.old.state.rounds) self.old) }
+        ensures workers { (workers < 1) ⊎ (16 < workers) →
+            (result ≡ Err refusals.WorkersOutOfRange) × (self.new ≡ self.old) }
+        ensures errors { 1 ≤ workers → workers ≤ 16 →
+            IfErr result (λ e. (e ≡ refusals.OutOfMemory) ⊎ (e ≡ refusals.RoundsExhausted)) }
+        ensures refused { 1 ≤ workers → workers ≤ 16 → self.old.state.rounds + rounds < 2 ^ 32 →
+            IfErr result (λ e. e ≡ refusals.OutOfMemory) }
     {
         self.bare.check_to_go_on();
         self.bare

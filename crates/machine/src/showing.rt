@@ -48,15 +48,23 @@ pub fn show_run<S: Sink, O: Observer, R: Threads + Wait + Sync>(
     out: &mut S,
 ) -> Result<bool, RunError>
     // The sink took what is shown of the run that the definitions name, and the answer is that of its harts.
-    ensures shows { IfOk result (λ well. (plan : Planned) × IsPlan settings.now plan × (S.took out.new ≡ S.took out.old ++ shown_text shown (after_run settings.now image.now input.now plan).state) × (well ≡ all_end_well (after_run settings.now image.now input.now plan).state.harts)) }
+    ensures shows { IfOk result (λ well. (plan : Planned) × IsPlan settings.now plan ×
+        (S.took out.new ≡ S.took out.old ++
+        shown_text shown (after_run settings.now image.now input.now plan).state) ×
+        (well ≡ all_end_well (after_run settings.now image.now input.now plan).state.harts)) }
     // Else it took nothing, or a beginning of that text.
-    ensures begun { OnErr result ((S.took out.new ≡ S.took out.old) ⊎ ((plan : Planned) × IsPlan settings.now plan × BeganText (S.took out.old) (S.took out.new) (shown_text shown (after_run settings.now image.now input.now plan).state))) }
+    ensures begun { OnErr result ((S.took out.new ≡ S.took out.old) ⊎
+        ((plan : Planned) × IsPlan settings.now plan × BeganText (S.took out.old) (S.took out.new)
+        (shown_text shown (after_run settings.now image.now input.now plan).state))) }
     // Where anything else than memory or the sink refuses, it took nothing.
-    ensures untouched { IfErr result (λ e. (e ≡ refusals.OutOfMemory) ⊎ (e ≡ refusals.SinkFailed) ⊎ (S.took out.new ≡ S.took out.old)) }
+    ensures untouched { IfErr result (λ e. (e ≡ refusals.OutOfMemory) ⊎ (e ≡ refusals.SinkFailed) ⊎
+        (S.took out.new ≡ S.took out.old)) }
     // Numbers out of range are refused first, then an image, and then a plan.
     ensures in_order { RefusedInOrder settings.now image.now result }
     // What is refused then is for a reason that stands.
-    ensures errors { settings_fault settings.now ≡ None → IfErr result (λ e. IsReason settings.now image.now e ⊎ ((e ≡ refusals.SinkFailed) × (S.failures out.old < S.failures out.new))) }
+    ensures errors { settings_fault settings.now ≡ None →
+        IfErr result (λ e. IsReason settings.now image.now e ⊎
+        ((e ≡ refusals.SinkFailed) × (S.failures out.old < S.failures out.new))) }
 {
     let mut machine = prepare_untraced(alloc, image, input, settings)?;
     machine.run_observed(rt, settings.rounds, settings.workers, observer)?;
@@ -80,15 +88,22 @@ pub fn report_run<S: Sink, O: Observer, R: Threads + Wait + Sync>(
     out: &mut S,
 ) -> Result<bool, RunError>
     // The sink took the report of the run that the definitions name, and the answer is that of its harts.
-    ensures reports { IfOk result (λ well. (plan : Planned) × IsPlan settings.now plan × (S.took out.new ≡ S.took out.old ++ report_after settings.now image.now input.now plan) × (well ≡ all_end_well (after_run settings.now image.now input.now plan).state.harts)) }
+    ensures reports { IfOk result (λ well. (plan : Planned) × IsPlan settings.now plan ×
+        (S.took out.new ≡ S.took out.old ++ report_after settings.now image.now input.now plan) ×
+        (well ≡ all_end_well (after_run settings.now image.now input.now plan).state.harts)) }
     // Else it took nothing, or a beginning of that report.
-    ensures begun { OnErr result ((S.took out.new ≡ S.took out.old) ⊎ ((plan : Planned) × IsPlan settings.now plan × BeganText (S.took out.old) (S.took out.new) (report_after settings.now image.now input.now plan))) }
+    ensures begun { OnErr result ((S.took out.new ≡ S.took out.old) ⊎
+        ((plan : Planned) × IsPlan settings.now plan × BeganText (S.took out.old) (S.took out.new)
+        (report_after settings.now image.now input.now plan))) }
     // Where anything else than memory or the sink refuses, it took nothing.
-    ensures untouched { IfErr result (λ e. (e ≡ refusals.OutOfMemory) ⊎ (e ≡ refusals.SinkFailed) ⊎ (S.took out.new ≡ S.took out.old)) }
+    ensures untouched { IfErr result (λ e. (e ≡ refusals.OutOfMemory) ⊎ (e ≡ refusals.SinkFailed) ⊎
+        (S.took out.new ≡ S.took out.old)) }
     // Numbers out of range are refused first, then an image, and then a plan.
     ensures in_order { RefusedInOrder settings.now image.now result }
     // What is refused then is for a reason that stands.
-    ensures errors { settings_fault settings.now ≡ None → IfErr result (λ e. IsReason settings.now image.now e ⊎ ((e ≡ refusals.SinkFailed) × (S.failures out.old < S.failures out.new))) }
+    ensures errors { settings_fault settings.now ≡ None →
+        IfErr result (λ e. IsReason settings.now image.now e ⊎
+        ((e ≡ refusals.SinkFailed) × (S.failures out.old < S.failures out.new))) }
 {
     let mut machine = prepare(alloc, image, input, settings)?;
     machine.run_observed(rt, settings.rounds, settings.workers, observer)?;
@@ -103,8 +118,10 @@ fn write_shown<S: Sink>(
     shown: Shown,
     out: &mut S,
 ) -> Result<(), RunError>
-    ensures ok { (m : Running) → IsUntraced m machine.now → OnOk result (S.took out.new ≡ S.took out.old ++ shown_text shown m.state) }
-    ensures begun { (m : Running) → IsUntraced m machine.now → OnErr result (BeganText (S.took out.old) (S.took out.new) (shown_text shown m.state)) }
+    ensures ok { (m : Running) → IsUntraced m machine.now →
+        OnOk result (S.took out.new ≡ S.took out.old ++ shown_text shown m.state) }
+    ensures begun { (m : Running) → IsUntraced m machine.now →
+        OnErr result (BeganText (S.took out.old) (S.took out.new) (shown_text shown m.state)) }
     ensures sink { result ≡ Err RunError.SinkFailed → S.failures out.old < S.failures out.new }
     ensures errors { IfErr result (λ e. (e ≡ RunError.OutOfMemory) ⊎ (e ≡ RunError.SinkFailed)) }
 {

@@ -33,13 +33,18 @@ pub fn trace_run<O: Observer, R: Threads + Wait + Sync>(
     observer: &mut O,
 ) -> Result<Trace, RunError>
     // It has the events of the run that the definitions name.
-    ensures events { IfOk result (λ t. (plan : Planned) × IsPlan settings.now plan × (t.events ≡ trace_after settings.now image.now input.now plan)) }
-    ensures opening { IfOk result (λ t. (x : ℕ) → opening_at t.opening x ≡ slice_index (image_for settings.now image.now).bytes x) }
-    ensures rounds { IfOk result (λ t. IsRoundTrace t.events (opening_at t.opening) settings.now.budget) }
+    ensures events { IfOk result (λ t. (plan : Planned) × IsPlan settings.now plan ×
+        (t.events ≡ trace_after settings.now image.now input.now plan)) }
+    ensures opening { IfOk result (λ t. (x : ℕ) → opening_at t.opening x ≡
+        slice_index (image_for settings.now image.now).bytes x) }
+    ensures rounds { IfOk result (λ t.
+        IsRoundTrace t.events (opening_at t.opening) settings.now.budget) }
     // The order by rounds, which `memory_order` gives, meets RVWMO.
-    ensures rvwmo { IfOk result (λ t. (g : List ℕ) → IsRoundOrder t.events g → MeetsRvwmo t.events (opening_at t.opening) g) }
+    ensures rvwmo { IfOk result (λ t. (g : List ℕ) → IsRoundOrder t.events g →
+        MeetsRvwmo t.events (opening_at t.opening) g) }
     ensures in_order { RefusedInOrder settings.now image.now result }
-    ensures errors { settings_fault settings.now ≡ None → IfErr result (λ e. IsReason settings.now image.now e) }
+    ensures errors { settings_fault settings.now ≡ None →
+        IfErr result (λ e. IsReason settings.now image.now e) }
 {
     let mut machine = prepare(alloc, image, input, settings)?;
     machine.run_observed(rt, settings.rounds, settings.workers, observer)?;

@@ -83,21 +83,23 @@ impl UntracedMachine {
     pub fn harts(&self) -> &[Hart]
         ensures harts { result.now ≡ self.now.harts }
         ensures count { length result.now ≡ self.now.plan.harts }
-        ensures stops { (m : Running) → IsUntraced m self.now → All (λ h. has_stop h.stop ≡ true) result.now }
+        ensures stops { (m : Running) → IsUntraced m self.now →
+            All (λ h. has_stop h.stop ≡ true) result.now }
     {
         self.guest.harts()
     }
 
     /// The byte at an address, or `None` outside guest memory.
-    pub fn byte(&self, addr: u64) -> Option<u8>
-        ensures inside { addr < length self.now.bytes → result ≡ Some (slice_index self.now.bytes addr) }
-        ensures outside { length self.now.bytes ≤ addr → result ≡ None }
+    pub fn byte(&self, address: u64) -> Option<u8>
+        ensures inside { address < length self.now.bytes →
+            result ≡ Some (slice_index self.now.bytes address) }
+        ensures outside { length self.now.bytes ≤ address → result ≡ None }
     {
         let pages = self.guest.pages();
-        if addr >= 4096 * u64::from(pages.count()) {
+        if address >= 4096 * u64::from(pages.count()) {
             return None;
         }
-        Some(pages.byte(addr))
+        Some(pages.byte(address))
     }
 
     /// The output so far.

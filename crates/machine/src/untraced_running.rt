@@ -39,11 +39,16 @@ impl UntracedMachine {
         ensures ok { OnOk result (IsAfter rounds self.old self.new) }
         ensures enough { OnOk result (self.old.rounds + rounds < 2 ^ 32) }
         ensures counted { OnOk result (self.new.rounds ≡ self.old.rounds + rounds) }
-        ensures fewer { result ≡ Err refusals.OutOfMemory → (k : ℕ) × (k < rounds) × IsAfter k self.old self.new }
-        ensures exhausted { result ≡ Err refusals.RoundsExhausted → (2 ^ 32 ≤ self.old.rounds + rounds) × IsAfter (2 ^ 32 - 1 - self.old.rounds) self.old self.new }
-        ensures workers { (workers < 1) ⊎ (16 < workers) → (result ≡ Err refusals.WorkersOutOfRange) × (self.new ≡ self.old) }
-        ensures errors { 1 ≤ workers → workers ≤ 16 → IfErr result (λ e. (e ≡ refusals.OutOfMemory) ⊎ (e ≡ refusals.RoundsExhausted)) }
-        ensures refused { 1 ≤ workers → workers ≤ 16 → self.old.rounds + rounds < 2 ^ 32 → IfErr result (λ e. e ≡ refusals.OutOfMemory) }
+        ensures fewer { result ≡ Err refusals.OutOfMemory →
+            (k : ℕ) × (k < rounds) × IsAfter k self.old self.new }
+        ensures exhausted { result ≡ Err refusals.RoundsExhausted → (2 ^ 32 ≤
+            self.old.rounds + rounds) × IsAfter (2 ^ 32 - 1 - self.old.rounds) self.old self.new }
+        ensures workers { (workers < 1) ⊎ (16 < workers) →
+            (result ≡ Err refusals.WorkersOutOfRange) × (self.new ≡ self.old) }
+        ensures errors { 1 ≤ workers → workers ≤ 16 →
+            IfErr result (λ e. (e ≡ refusals.OutOfMemory) ⊎ (e ≡ refusals.RoundsExhausted)) }
+        ensures refused { 1 ≤ workers → workers ≤ 16 → self.old.rounds + rounds < 2 ^ 32 →
+            IfErr result (λ e. e ≡ refusals.OutOfMemory) }
     {
         self.run_observed(rt, rounds, workers, &mut Unobserved)
     }
@@ -63,11 +68,16 @@ impl UntracedMachine {
         ensures ok { OnOk result (IsAfter rounds self.old self.new) }
         ensures enough { OnOk result (self.old.rounds + rounds < 2 ^ 32) }
         ensures counted { OnOk result (self.new.rounds ≡ self.old.rounds + rounds) }
-        ensures fewer { result ≡ Err refusals.OutOfMemory → (k : ℕ) × (k < rounds) × IsAfter k self.old self.new }
-        ensures exhausted { result ≡ Err refusals.RoundsExhausted → (2 ^ 32 ≤ self.old.rounds + rounds) × IsAfter (2 ^ 32 - 1 - self.old.rounds) self.old self.new }
-        ensures workers { (workers < 1) ⊎ (16 < workers) → (result ≡ Err refusals.WorkersOutOfRange) × (self.new ≡ self.old) }
-        ensures errors { 1 ≤ workers → workers ≤ 16 → IfErr result (λ e. (e ≡ refusals.OutOfMemory) ⊎ (e ≡ refusals.RoundsExhausted)) }
-        ensures refused { 1 ≤ workers → workers ≤ 16 → self.old.rounds + rounds < 2 ^ 32 → IfErr result (λ e. e ≡ refusals.OutOfMemory) }
+        ensures fewer { result ≡ Err refusals.OutOfMemory →
+            (k : ℕ) × (k < rounds) × IsAfter k self.old self.new }
+        ensures exhausted { result ≡ Err refusals.RoundsExhausted → (2 ^ 32 ≤
+            self.old.rounds + rounds) × IsAfter (2 ^ 32 - 1 - self.old.rounds) self.old self.new }
+        ensures workers { (workers < 1) ⊎ (16 < workers) →
+            (result ≡ Err refusals.WorkersOutOfRange) × (self.new ≡ self.old) }
+        ensures errors { 1 ≤ workers → workers ≤ 16 →
+            IfErr result (λ e. (e ≡ refusals.OutOfMemory) ⊎ (e ≡ refusals.RoundsExhausted)) }
+        ensures refused { 1 ≤ workers → workers ≤ 16 → self.old.rounds + rounds < 2 ^ 32 →
+            IfErr result (λ e. e ≡ refusals.OutOfMemory) }
     {
         self.run_keeping(rt, rounds, workers, &mut NoTrace, observer)
     }
@@ -91,11 +101,18 @@ impl UntracedMachine {
         ensures opening { trace.new.opening ≡ trace.old.opening }
         ensures enough { OnOk result (self.old.rounds + rounds < 2 ^ 32) }
         ensures counted { OnOk result (self.new.rounds ≡ self.old.rounds + rounds) }
-        ensures fewer { result ≡ Err refusals.OutOfMemory → (k : ℕ) × (k < rounds) × IsAfter k self.old self.new × AreAdded k self.old trace.old.events trace.new.events }
-        ensures exhausted { result ≡ Err refusals.RoundsExhausted → (2 ^ 32 ≤ self.old.rounds + rounds) × IsAfter (2 ^ 32 - 1 - self.old.rounds) self.old self.new × AreAdded (2 ^ 32 - 1 - self.old.rounds) self.old trace.old.events trace.new.events }
-        ensures workers { (workers < 1) ⊎ (16 < workers) → (result ≡ Err refusals.WorkersOutOfRange) × (self.new ≡ self.old) × (trace.new.events ≡ trace.old.events) }
-        ensures errors { 1 ≤ workers → workers ≤ 16 → IfErr result (λ e. (e ≡ refusals.OutOfMemory) ⊎ (e ≡ refusals.RoundsExhausted)) }
-        ensures refused { 1 ≤ workers → workers ≤ 16 → self.old.rounds + rounds < 2 ^ 32 → IfErr result (λ e. e ≡ refusals.OutOfMemory) }
+        ensures fewer { result ≡ Err refusals.OutOfMemory → (k : ℕ) × (k < rounds) ×
+            IsAfter k self.old self.new × AreAdded k self.old trace.old.events trace.new.events }
+        ensures exhausted { result ≡ Err refusals.RoundsExhausted → (2 ^ 32 ≤
+            self.old.rounds + rounds) × IsAfter (2 ^ 32 - 1 - self.old.rounds) self.old self.new ×
+            AreAdded (2 ^ 32 - 1 - self.old.rounds) self.old trace.old.events trace.new.events }
+        ensures workers { (workers < 1) ⊎ (16 < workers) →
+            (result ≡ Err refusals.WorkersOutOfRange) × (self.new ≡ self.old) ×
+            (trace.new.events ≡ trace.old.events) }
+        ensures errors { 1 ≤ workers → workers ≤ 16 →
+            IfErr result (λ e. (e ≡ refusals.OutOfMemory) ⊎ (e ≡ refusals.RoundsExhausted)) }
+        ensures refused { 1 ≤ workers → workers ≤ 16 → self.old.rounds + rounds < 2 ^ 32 →
+            IfErr result (λ e. e ≡ refusals.OutOfMemory) }
     {
         self.check_to_go_on();
         self.run_keeping(rt, rounds, workers, trace, &mut Unobserved)
@@ -111,16 +128,25 @@ impl UntracedMachine {
         observer: &mut O,
     ) -> Result<(), RunError>
         requires kept { (es : List Event) × E.keeps keeper.old es }
-        requires sound { (n : ℕ) (es : List Event) → self.old.rounds + n < 2 ^ 32 → E.keeps keeper.old es → MayGoOn E.may_keep n es self.old }
-        ensures some { (k : ℕ) × HasRun k self.old self.new (E.keeps keeper.old) (E.keeps keeper.new) }
-        ensures ok { OnOk result (HasRun rounds self.old self.new (E.keeps keeper.old) (E.keeps keeper.new)) }
+        requires sound { (n : ℕ) (es : List Event) → self.old.rounds + n < 2 ^ 32 →
+            E.keeps keeper.old es → MayGoOn E.may_keep n es self.old }
+        ensures some { (k : ℕ) ×
+            HasRun k self.old self.new (E.keeps keeper.old) (E.keeps keeper.new) }
+        ensures ok { OnOk result (HasRun rounds self.old self.new (E.keeps keeper.old)
+            (E.keeps keeper.new)) }
         ensures enough { OnOk result (self.old.rounds + rounds < 2 ^ 32) }
-        ensures fewer { result ≡ Err refusals.OutOfMemory → (k : ℕ) × (k < rounds) × HasRun k self.old self.new (E.keeps keeper.old) (E.keeps keeper.new) }
-        ensures exhausted { result ≡ Err refusals.RoundsExhausted → (2 ^ 32 ≤ self.old.rounds + rounds) × HasRun (2 ^ 32 - 1 - self.old.rounds) self.old self.new (E.keeps keeper.old) (E.keeps keeper.new) }
+        ensures fewer { result ≡ Err refusals.OutOfMemory → (k : ℕ) × (k < rounds) ×
+            HasRun k self.old self.new (E.keeps keeper.old) (E.keeps keeper.new) }
+        ensures exhausted { result ≡ Err refusals.RoundsExhausted →
+            (2 ^ 32 ≤ self.old.rounds + rounds) × HasRun (2 ^ 32 - 1 -
+            self.old.rounds) self.old self.new (E.keeps keeper.old) (E.keeps keeper.new) }
         ensures opening { E.opens_with keeper.new ≡ E.opens_with keeper.old }
-        ensures workers { (workers < 1) ⊎ (16 < workers) → (result ≡ Err refusals.WorkersOutOfRange) × (self.new ≡ self.old) × (keeper.new ≡ keeper.old) }
-        ensures errors { 1 ≤ workers → workers ≤ 16 → IfErr result (λ e. (e ≡ refusals.OutOfMemory) ⊎ (e ≡ refusals.RoundsExhausted)) }
-        ensures refused { 1 ≤ workers → workers ≤ 16 → self.old.rounds + rounds < 2 ^ 32 → IfErr result (λ e. e ≡ refusals.OutOfMemory) }
+        ensures workers { (workers < 1) ⊎ (16 < workers) → (result ≡
+            Err refusals.WorkersOutOfRange) × (self.new ≡ self.old) × (keeper.new ≡ keeper.old) }
+        ensures errors { 1 ≤ workers → workers ≤ 16 →
+            IfErr result (λ e. (e ≡ refusals.OutOfMemory) ⊎ (e ≡ refusals.RoundsExhausted)) }
+        ensures refused { 1 ≤ workers → workers ≤ 16 → self.old.rounds + rounds < 2 ^ 32 →
+            IfErr result (λ e. e ≡ refusals.OutOfMemory) }
     {
         if workers < 1 || workers > MOST_WORKERS {
             return Err(RunError::WorkersOutOfRange);
@@ -137,7 +163,8 @@ impl UntracedMachine {
     /// The last events of a run go on with those of its next rounds, since the types keep: bytes in memory, at most 16,384
     /// pages, at most 64 harts with quotas in range, and a budget of at most 1,000.
     pub(crate) fn check_to_go_on(&self)
-        ensures { (n : ℕ) (es : List Event) → self.now.rounds + n < 2 ^ 32 → AreLast self.now es → MayGoOn IsTrace n es self.now }
+        ensures { (n : ℕ) (es : List Event) → self.now.rounds + n < 2 ^ 32 → AreLast self.now es →
+            MayGoOn IsTrace n es self.now }
     {
         let pages = self.guest.pages();
         pages.bytes_fit();
@@ -158,9 +185,12 @@ impl UntracedMachine {
     ) -> Result<(), OutOfMemory>
         requires workers { (1 ≤ workers) × (workers ≤ 16) }
         requires rounds { self.old.rounds + rounds < 2 ^ 32 }
-        requires sound { (es : List Event) × E.keeps keeper.old es × MayGoOn E.may_keep rounds es self.old }
-        ensures ok { OnOk result (HasRun rounds self.old self.new (E.keeps keeper.old) (E.keeps keeper.new)) }
-        ensures fewer { OnErr result ((k : ℕ) × (k < rounds) × HasRun k self.old self.new (E.keeps keeper.old) (E.keeps keeper.new)) }
+        requires sound { (es : List Event) × E.keeps keeper.old es ×
+            MayGoOn E.may_keep rounds es self.old }
+        ensures ok { OnOk result (HasRun rounds self.old self.new (E.keeps keeper.old)
+            (E.keeps keeper.new)) }
+        ensures fewer { OnErr result ((k : ℕ) × (k < rounds) ×
+            HasRun k self.old self.new (E.keeps keeper.old) (E.keeps keeper.new)) }
         ensures opening { E.opens_with keeper.new ≡ E.opens_with keeper.old }
     {
         for done in 0..rounds {
@@ -183,13 +213,17 @@ impl UntracedMachine {
     ) -> Result<(), OutOfMemory>
         requires workers { (1 ≤ workers) × (workers ≤ 16) }
         requires rounds { self.old.rounds + 1 < 2 ^ 32 }
-        requires sound { (es : List Event) × E.keeps keeper.old es × E.may_keep (es ++ next_events self.old) }
+        requires sound { (es : List Event) × E.keeps keeper.old es ×
+            E.may_keep (es ++ next_events self.old) }
         ensures ok { OnOk result (self.new ≡ untraced_round self.old) }
-        ensures run { OnOk result (HasRun 1 self.old self.new (E.keeps keeper.old) (E.keeps keeper.new)) }
-        ensures kept { OnOk result ((es : List Event) → E.keeps keeper.old es → E.keeps keeper.new (es ++ next_events self.old)) }
+        ensures run { OnOk result (HasRun 1 self.old self.new (E.keeps keeper.old)
+            (E.keeps keeper.new)) }
+        ensures kept { OnOk result ((es : List Event) → E.keeps keeper.old es →
+            E.keeps keeper.new (es ++ next_events self.old)) }
         ensures opening { E.opens_with keeper.new ≡ E.opens_with keeper.old }
         ensures err { OnErr result (self.new ≡ self.old) }
-        ensures untold { OnErr result ((es : List Event) → E.keeps keeper.old es → E.keeps keeper.new es) }
+        ensures untold { OnErr result ((es : List Event) → E.keeps keeper.old es →
+            E.keeps keeper.new es) }
     {
         let before = self.instructions_done();
         let workers = workers_for(self.expected_work(), self.running_harts(), workers);
@@ -228,16 +262,22 @@ impl UntracedMachine {
     ) -> Result<RoundNote, OutOfMemory>
         requires workers { (1 ≤ crew.workers) × (crew.workers ≤ 16) }
         requires rounds { self.old.rounds + 1 < 2 ^ 32 }
-        requires sound { (es : List Event) × E.keeps keeper.old es × E.may_keep (es ++ next_events self.old) }
+        requires sound { (es : List Event) × E.keeps keeper.old es ×
+            E.may_keep (es ++ next_events self.old) }
         ensures ok { OnOk result (self.new ≡ untraced_round self.old) }
-        ensures run { OnOk result (HasRun 1 self.old self.new (E.keeps keeper.old) (E.keeps keeper.new)) }
-        ensures kept { OnOk result ((es : List Event) → E.keeps keeper.old es → E.keeps keeper.new (es ++ next_events self.old)) }
+        ensures run { OnOk result (HasRun 1 self.old self.new (E.keeps keeper.old)
+            (E.keeps keeper.new)) }
+        ensures kept { OnOk result ((es : List Event) → E.keeps keeper.old es →
+            E.keeps keeper.new (es ++ next_events self.old)) }
         ensures opening { E.opens_with keeper.new ≡ E.opens_with keeper.old }
         ensures round { IfOk result (λ n. n.round ≡ self.new.rounds) }
-        ensures waited { IfOk result (λ n. n.waited ≡ count_waiting (hart_rounds (words_of self.old.code) self.old.bytes (quotas_of self.old.plan self.old.rounds) self.old.harts)) }
+        ensures waited { IfOk result (λ n. n.waited ≡
+            count_waiting (hart_rounds (words_of self.old.code) self.old.bytes
+            (quotas_of self.old.plan self.old.rounds) self.old.harts)) }
         ensures stopped { IfOk result (λ n. n.stopped ≡ count_stopped self.new.harts) }
         ensures err { OnErr result (self.new ≡ self.old) }
-        ensures untold { OnErr result ((es : List Event) → E.keeps keeper.old es → E.keeps keeper.new es) }
+        ensures untold { OnErr result ((es : List Event) → E.keeps keeper.old es →
+            E.keeps keeper.new es) }
     {
         let pages = self.guest.pages();
         pages.bytes_fit();

@@ -29,8 +29,10 @@ pub struct Order(pub Vec<usize>);
 pub fn memory_order(alloc: Global, trace: &Trace) -> Result<Order, OutOfMemory>
     ensures ordered { IfOk result (λ o. IsRoundOrder trace.now.events o.0.items) }
     ensures lists { IfOk result (λ o. ListsOperations trace.now.events o.0.items) }
-    ensures meets { IfOk result (λ o. (opening : ℕ → ℕ) (budget : ℕ) → IsRoundTrace trace.now.events opening budget → MeetsRvwmo trace.now.events opening o.0.items) }
-    ensures program { IfOk result (λ o. (opening : ℕ → ℕ) (budget : ℕ) → IsRoundTrace trace.now.events opening budget → KeepsProgramOrder trace.now.events (place o.0.items)) }
+    ensures meets { IfOk result (λ o. (opening : ℕ → ℕ) (budget : ℕ) → IsRoundTrace trace.now.events
+        opening budget → MeetsRvwmo trace.now.events opening o.0.items) }
+    ensures program { IfOk result (λ o. (opening : ℕ → ℕ) (budget : ℕ) → IsRoundTrace
+        trace.now.events opening budget → KeepsProgramOrder trace.now.events (place o.0.items)) }
 {
     let events = trace.to_vec(alloc)?;
     Ok(Order(by_rounds(alloc, &events)?))
@@ -47,7 +49,8 @@ fn by_rounds(alloc: Global, events: &[Event]) -> Result<Vec<usize>, OutOfMemory>
 
 /// The places of the memory operations, in rising order.
 fn operations(alloc: Global, events: &[Event]) -> Result<Vec<usize>, OutOfMemory>
-    ensures { IfOk result (λ v. v.items ≡ filter (λ i. is_operation (event events.now i)) (range_with_len 0 (length events.now))) }
+    ensures { IfOk result (λ v. v.items ≡
+        filter (λ i. is_operation (event events.now i)) (range_with_len 0 (length events.now))) }
 {
     let places: Vec<usize> = (0..events.len())
         .filter(|place| is_operation_at(events, *place))

@@ -156,7 +156,8 @@ fn may_take(
     phase: Phase,
     accesses: &[Access],
 ) -> bool
-    ensures { result ≡ true → IsTrace (trace.now.events ++ events_of round hart phase accesses.now) }
+    ensures { result ≡ true →
+        IsTrace (trace.now.events ++ events_of round hart phase accesses.now) }
 {
     let Ok(mut events) = trace.to_vec(alloc) else {
         return false;

@@ -41,13 +41,13 @@ fn bytes_over_memory(rt: HostRuntime) -> Result<(), Fail> {
     let mut buffer = StoreBuffer::new(rt.alloc());
     assert!(rt; are_read_over(&buffer, &p, STORED_NOTHING.as_slice()));
     buffer.put(Store {
-        addr: 0x103,
+        address: 0x103,
         width: W1,
         value: 0xaa,
     })?;
     assert!(rt; are_read_over(&buffer, &p, STORED_A_BYTE.as_slice()));
     buffer.put(Store {
-        addr: 0x100,
+        address: 0x100,
         width: W8,
         value: 0x1020_3040_5060_7080,
     })?;
@@ -62,12 +62,12 @@ fn bytes_over_memory(rt: HostRuntime) -> Result<(), Fail> {
 fn two_stores(alloc: Global) -> Result<StoreBuffer, OutOfMemory> {
     let mut buffer = StoreBuffer::new(alloc);
     buffer.put(Store {
-        addr: 0x40,
+        address: 0x40,
         width: W8,
         value: 0x1122_3344_5566_7788,
     })?;
     buffer.put(Store {
-        addr: 0x3f,
+        address: 0x3f,
         width: W1,
         value: 0xaa,
     })?;
@@ -85,7 +85,7 @@ fn bytes_as_stores(rt: HostRuntime) -> Result<(), Fail> {
     let mut given = buffer.stores();
     for (k, byte) in BYTES.iter().enumerate() {
         let want = Store {
-            addr: 0x3f + k as u64,
+            address: 0x3f + k as u64,
             width: W1,
             value: *byte,
         };
@@ -112,10 +112,10 @@ fn bytes_as_lines(rt: HostRuntime) -> Result<(), Fail> {
 fn byte_of(line: u64, turn: u64) -> Store
     requires line { line < 3 }
     requires turn { turn < 3 }
-    ensures { result.addr % width_bytes result.width ≡ 0 }
+    ensures { result.address % width_bytes result.width ≡ 0 }
 {
     Store {
-        addr: 0x1000 * line + 0x40 + turn,
+        address: 0x1000 * line + 0x40 + turn,
         width: Width::W1,
         value: 16 * line + turn,
     }
@@ -142,10 +142,10 @@ fn lines_64_apart_are_told_apart(rt: HostRuntime) -> Result<(), Fail> {
 /// The doubleword at the start of a line, with the line's number as its value.
 fn first_of(line: u64) -> Store
     requires { line < 1_000_000 }
-    ensures { result.addr % width_bytes result.width ≡ 0 }
+    ensures { result.address % width_bytes result.width ≡ 0 }
 {
     Store {
-        addr: 64 * line,
+        address: 64 * line,
         width: Width::W8,
         value: line,
     }
@@ -169,11 +169,11 @@ fn many_lines_are_found(rt: HostRuntime) -> Result<(), Fail> {
         let buffer = lines_apart(rt.alloc(), step)?;
         let mut lines = buffer.lines();
         for k in 0..1_500 {
-            let addr = 64 * step * k;
-            assert!(rt; buffer.read_over(&p, addr, Width::W8) == Ok(step * k));
-            assert!(rt; step == 1 || buffer.read_over(&p, addr + 64, Width::W8) == Ok(0));
+            let address = 64 * step * k;
+            assert!(rt; buffer.read_over(&p, address, Width::W8) == Ok(step * k));
+            assert!(rt; step == 1 || buffer.read_over(&p, address + 64, Width::W8) == Ok(0));
             let (start, line) = lines.next().ok_or("no line")?;
-            assert!(rt; start == addr && line.mask == 0xff);
+            assert!(rt; start == address && line.mask == 0xff);
         }
         assert!(rt; lines.next().is_none());
     }
@@ -189,7 +189,7 @@ fn next(seed: &mut u64) -> u64 {
 
 /// A store at a multiple of its width, or a load of as many bytes.
 fn access(seed: &mut u64) -> Store
-    ensures { result.addr % width_bytes result.width ≡ 0 }
+    ensures { result.address % width_bytes result.width ≡ 0 }
 {
     let width = match next(seed) % 4 {
         0 => Width::W1,
@@ -198,32 +198,32 @@ fn access(seed: &mut u64) -> Store
         _ => Width::W8,
     };
     Store {
-        addr: next(seed) % (0x1000 / width.bytes()) * width.bytes(),
+        address: next(seed) % (0x1000 / width.bytes()) * width.bytes(),
         width,
         value: next(seed).wrapping_mul(0x1_0000_0003),
     }
 }
 
 /// The byte that the last covering store of a list puts at an address, else the other one.
-fn last_byte(stores: &[Store], addr: u64, other: u8) -> u8 {
+fn last_byte(stores: &[Store], address: u64, other: u8) -> u8 {
     for s in stores.iter().rev() {
-        if s.addr <= addr && addr - s.addr < s.width.bytes() {
-            return (s.value >> (8 * (addr - s.addr)) & 0xff) as u8;
+        if s.address <= address && address - s.address < s.width.bytes() {
+            return (s.value >> (8 * (address - s.address)) & 0xff) as u8;
         }
     }
     other
 }
 
 /// The number that a load gives under a list of stores.
-fn number_under(p: &Pages, stores: &[Store], addr: u64, width: Width) -> u64 {
+fn number_under(p: &Pages, stores: &[Store], address: u64, width: Width) -> u64 {
     let mut number = 0u64;
     for k in (0..width.bytes()).rev() {
-        let addr = addr.wrapping_add(k);
-        let byte = match p.read(addr, Width::W1) {
+        let address = address.wrapping_add(k);
+        let byte = match p.read(address, Width::W1) {
             Ok(byte) => byte as u8,
             Err(_) => 0,
         };
-        number = number.wrapping_mul(256) | u64::from(last_byte(stores, addr, byte));
+        number = number.wrapping_mul(256) | u64::from(last_byte(stores, address, byte));
     }
     number
 }
@@ -240,14 +240,14 @@ fn lines_are_stores(rt: HostRuntime) -> Result<(), Fail> {
         stores.push(s)?;
         let load = access(&mut seed);
         assert!(rt;
-            buffer.read_over(&p, load.addr, load.width)
-                == Ok(number_under(&p, &stores, load.addr, load.width))
+            buffer.read_over(&p, load.address, load.width)
+                == Ok(number_under(&p, &stores, load.address, load.width))
         );
     }
-    let mut addr = 0;
+    let mut address = 0;
     for s in buffer.stores() {
-        assert!(rt; s.addr >= addr && s.value == u64::from(last_byte(&stores, s.addr, 0)));
-        addr = s.addr.wrapping_add(1);
+        assert!(rt; s.address >= address && s.value == u64::from(last_byte(&stores, s.address, 0)));
+        address = s.address.wrapping_add(1);
     }
     Ok(())
 }

@@ -41,10 +41,10 @@ fn pages_stand_where_bytes_are(rt: HostRuntime) -> Result<(), Fail> {
 
 /// Does a store on the pages as they are, and says whether it has no fault and there is a page for it.
 fn apply(p: &mut Pages, s: Store) -> bool {
-    if p.check_store(s.addr, s.width).is_err() || s.addr >= 0x10_0000 {
+    if p.check_store(s.address, s.width).is_err() || s.address >= 0x10_0000 {
         return false;
     }
-    if p.ready((s.addr / 4096) as u32) || p.spare() > 0 {
+    if p.ready((s.address / 4096) as u32) || p.spare() > 0 {
         p.apply(s);
         return true;
     }
@@ -59,7 +59,7 @@ fn spare_pages(rt: HostRuntime) -> Result<(), Fail> {
     assert!(rt; p.ready(5) && p.spare() >= 2);
     let spare = p.spare();
     let s = Store {
-        addr: 0x7000,
+        address: 0x7000,
         width: W8,
         value: 0x1122_3344_5566_7788,
     };
@@ -144,8 +144,8 @@ static CHECKED: [(u64, Width, Result<(), Fault>); 6] = [
 fn faults(rt: HostRuntime) -> Result<(), Fail> {
     let p = pages_with_code(rt.alloc())?;
     assert!(rt; are_read(&p, LOADED.as_slice()));
-    for (addr, width, answer) in &CHECKED {
-        assert!(rt; p.check_store(*addr, *width) == *answer, "{addr}");
+    for (address, width, answer) in &CHECKED {
+        assert!(rt; p.check_store(*address, *width) == *answer, "{address}");
     }
     Ok(())
 }
@@ -160,7 +160,7 @@ fn a_copy_keeps_its_bytes(rt: HostRuntime) -> Result<(), Fail> {
     assert!(rt; parts.len() == 2);
     assert!(rt; parts[1].ready());
     parts[1].apply(Store {
-        addr: 0x1010,
+        address: 0x1010,
         width: W2,
         value: 0xabcd_1234,
     });
@@ -191,7 +191,7 @@ const BEFORE: u64 = 0x0807_0605_0403_0201;
 const AFTER: u64 = 0x0807_0605_abcd_0201;
 
 const STORED: Store = Store {
-    addr: 0x1002,
+    address: 0x1002,
     width: W2,
     value: 0xabcd,
 };

@@ -5,8 +5,8 @@ use store_buffer::StoreBuffer;
 
 /// Whether each load of memory gives what stands beside it.
 pub(crate) fn are_read(p: &Pages, rows: &[(u64, Width, Result<u64, Fault>)]) -> bool {
-    for (addr, width, number) in rows {
-        if p.read(*addr, *width) != *number {
+    for (address, width, number) in rows {
+        if p.read(*address, *width) != *number {
             return false;
         }
     }
@@ -19,8 +19,8 @@ pub(crate) fn are_read_over(
     p: &Pages,
     rows: &[(u64, Width, Result<u64, Fault>)],
 ) -> bool {
-    for (addr, width, number) in rows {
-        if buffer.read_over(p, *addr, *width) != *number {
+    for (address, width, number) in rows {
+        if buffer.read_over(p, *address, *width) != *number {
             return false;
         }
     }

@@ -21,7 +21,7 @@ fn access(seed: &mut u64) -> Store {
         _ => Width::W8,
     };
     Store {
-        addr: next(seed) % 16400 & !(width.bytes() - 1),
+        address: next(seed) % 16400 & !(width.bytes() - 1),
         width,
         value: next(seed).wrapping_mul(0x1_0000_0003),
     }
@@ -36,7 +36,7 @@ fn zeros(alloc: Global, count: usize) -> Result<Vec<u8>, AllocError> {
 fn write(bytes: &mut [u8], s: Store) {
     for (k, byte) in s.value.to_le_bytes().iter().enumerate() {
         if (k as u64) < s.width.bytes() {
-            if let Some(place) = bytes.get_mut((s.addr as usize).wrapping_add(k)) {
+            if let Some(place) = bytes.get_mut((s.address as usize).wrapping_add(k)) {
                 *place = *byte;
             }
         }
@@ -44,10 +44,10 @@ fn write(bytes: &mut [u8], s: Store) {
 }
 
 /// The number in bytes of memory, if it lies in them.
-fn number_of(bytes: &[u8], addr: u64, width: Width) -> Option<u64> {
+fn number_of(bytes: &[u8], address: u64, width: Width) -> Option<u64> {
     let mut number = 0u64;
     for k in (0..width.bytes()).rev() {
-        let byte = bytes.get(addr.checked_add(k)? as usize)?;
+        let byte = bytes.get(address.checked_add(k)? as usize)?;
         number = number.wrapping_mul(256) | u64::from(*byte);
     }
     Some(number)
@@ -62,11 +62,13 @@ fn sparse_pages_are_bytes(rt: HostRuntime) -> Result<(), Fail> {
         let s = access(&mut seed);
         assert_eq!(rt;
             store(rt.alloc(), &mut p, s)?,
-            number_of(&bytes, s.addr, s.width).is_some()
+            number_of(&bytes, s.address, s.width).is_some()
         );
         write(&mut bytes, s);
         let load = access(&mut seed);
-        assert!(rt; p.read(load.addr, load.width).ok() == number_of(&bytes, load.addr, load.width));
+        assert!(rt;
+            p.read(load.address, load.width).ok() == number_of(&bytes, load.address, load.width)
+        );
     }
     Ok(())
 }

@@ -22,7 +22,8 @@ use trace::Trace;
 ///
 /// `OutOfMemory` alone.
 pub fn check_order(alloc: Global, trace: &Trace, order: &Order) -> Result<bool, OutOfMemory>
-    ensures { IfOk result (λ yes. IsTrue yes ↔ MeetsRvwmo trace.now.events (opening_at trace.now.opening) order.now.0.items) }
+    ensures { IfOk result (λ yes. IsTrue yes ↔
+        MeetsRvwmo trace.now.events (opening_at trace.now.opening) order.now.0.items) }
 {
     let events = trace.to_vec(alloc)?;
     meets_rvwmo(alloc, trace, &events, &order.0)
@@ -36,7 +37,8 @@ fn meets_rvwmo(
     order: &[usize],
 ) -> Result<bool, OutOfMemory>
     requires { All HasForm events.now }
-    ensures { IfOk result (λ yes. IsTrue yes ↔ MeetsRvwmo events.now (opening_at trace.now.opening) order.now) }
+    ensures { IfOk result (λ yes. IsTrue yes ↔
+        MeetsRvwmo events.now (opening_at trace.now.opening) order.now) }
 {
     match positions(alloc, events, order)? {
         Some(ranks) => Ok(meets_axioms(alloc, trace, events, order, &ranks)?),
@@ -55,7 +57,9 @@ fn meets_axioms(
     requires formed { All HasForm events.now }
     requires lists { ListsOperations events.now order.now }
     requires ranked { IsRanking events.now order.now ranks.now }
-    ensures { IfOk result (λ yes. IsTrue yes ↔ (PreservedOrder events.now (place order.now) × LoadValueAxiom events.now (opening_at trace.now.opening) (place order.now) × AtomicityAxiom events.now (place order.now))) }
+    ensures { IfOk result (λ yes. IsTrue yes ↔ (PreservedOrder events.now (place order.now) ×
+        LoadValueAxiom events.now (opening_at trace.now.opening) (place order.now) ×
+        AtomicityAxiom events.now (place order.now))) }
 {
     if !keeps_but_overlap(alloc, events, order, ranks)? {
         return Ok(false);

@@ -86,13 +86,13 @@ small-written zero bs a v small = small
 small-written (suc n) bs a v small = small-written n (set bs a (v % 2 ^ 8)) (a + 1) (v / 2 ^ 8) (small-set bs a (v % 2 ^ 8) small (omega arith))
 
 -- a store within a page that is ready
-pub put_page : (p q : Page) (s : Store) → length p.bytes ≡ 4096 → ((k : ℕ) → get_or p.bytes k 0 < 2 ^ 8) → q.bytes ≡ written p.bytes (s.addr % 4096) s.value (width_bytes s.width) → full q ≡ put (full p) (in_page s)
+pub put_page : (p q : Page) (s : Store) → length p.bytes ≡ 4096 → ((k : ℕ) → get_or p.bytes k 0 < 2 ^ 8) → q.bytes ≡ written p.bytes (s.address % 4096) s.value (width_bytes s.width) → full q ≡ put (full p) (in_page s)
 unfolding put
 put_page p q s e small is =
-    let w = written p.bytes (s.addr % 4096) s.value (width_bytes s.width) in
-    let size : length q.bytes ≡ 4096 = ap length is ∙ length-written (width_bytes s.width) p.bytes (s.addr % 4096) s.value ∙ e in
-    let low : (k : ℕ) → get_or q.bytes k 0 < 2 ^ 8 = subst (λ (bs : List ℕ). (k : ℕ) → get_or bs k 0 < 2 ^ 8) (sym is) (small-written (width_bytes s.width) p.bytes (s.addr % 4096) s.value small) in
-    full_ready q size low ∙ is ∙ ap (λ bs. written bs (s.addr % 4096) s.value (width_bytes s.width)) (sym (full_ready p e small))
+    let w = written p.bytes (s.address % 4096) s.value (width_bytes s.width) in
+    let size : length q.bytes ≡ 4096 = ap length is ∙ length-written (width_bytes s.width) p.bytes (s.address % 4096) s.value ∙ e in
+    let low : (k : ℕ) → get_or q.bytes k 0 < 2 ^ 8 = subst (λ (bs : List ℕ). (k : ℕ) → get_or bs k 0 < 2 ^ 8) (sym is) (small-written (width_bytes s.width) p.bytes (s.address % 4096) s.value small) in
+    full_ready q size low ∙ is ∙ ap (λ bs. written bs (s.address % 4096) s.value (width_bytes s.width)) (sym (full_ready p e small))
 
 -- one of bytes of its own that nothing was written to
 pub full_blank : full (record { own = true; bytes = blank }) ≡ blank
@@ -146,10 +146,10 @@ pub own_size : (bs shared : List ℕ) → (length bs ≡ 0) ⊎ (length bs ≡ 4
 own_size bs shared h own = omega (arith, h, own_bytes bs shared own)
 
 -- a store to own bytes, which come back to their vector
-pub put_back : (bs w shared : List ℕ) (s : Store) (n : ℕ) → length bs ≡ 4096 → n ≡ 4096 → ((k : ℕ) → get_or bs k 0 < 2 ^ 8) → w ≡ written bs (s.addr % 4096) s.value (width_bytes s.width) →
+pub put_back : (bs w shared : List ℕ) (s : Store) (n : ℕ) → length bs ≡ 4096 → n ≡ 4096 → ((k : ℕ) → get_or bs k 0 < 2 ^ 8) → w ≡ written bs (s.address % 4096) s.value (width_bytes s.width) →
     full (page_of (take n (w ++ drop (length w) bs)) shared) ≡ put (full (page_of bs shared)) (in_page s)
 put_back bs w shared s n e m small is =
-    let size : length w ≡ 4096 = ap length is ∙ length-written (width_bytes s.width) bs (s.addr % 4096) s.value ∙ e in
+    let size : length w ≡ 4096 = ap length is ∙ length-written (width_bytes s.width) bs (s.address % 4096) s.value ∙ e in
     let back : take n (w ++ drop (length w) bs) ≡ w = take_at w (drop (length w) bs) n (size ∙ sym m) in
     ap (λ zs. full (page_of zs shared)) back
     ∙ ap full (page_own w shared (omega arith))

@@ -43,7 +43,7 @@ is_ready p = p.own
 
 -- a store, its address counted from the start of its page
 abbrev pub in_page : Store → Store
-in_page s = record s { addr = s.addr % 4096 }
+in_page s = record s { address = s.address % 4096 }
 
 -- ys over the front of xs, which has the same length where the two have
 abbrev pub laid : {X : Type 0} → List X → List X → List X

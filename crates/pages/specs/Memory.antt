@@ -41,7 +41,7 @@ value_at bs a W8 = number_at bs a 8
 
 -- the bytes after one store
 unfoldable pub put : List ℕ → Store → List ℕ
-put bs s = written bs s.addr s.value (width_bytes s.width)
+put bs s = written bs s.address s.value (width_bytes s.width)
 
 -- the bytes after a list of stores, the first of them first
 abbrev pub after : List ℕ → List Store → List ℕ
@@ -57,13 +57,13 @@ in_range a n x = nat_le a x && nat_lt x (a + n)
 
 -- whether a store writes the byte at an address, and which byte it writes there
 abbrev pub covers : Store → ℕ → Bool
-covers s x = in_range s.addr (width_bytes s.width) x
+covers s x = in_range s.address (width_bytes s.width) x
 
 abbrev pub byte_of : ℕ → ℕ → ℕ
 byte_of v k = v / 2 ^ (8 * k) % 2 ^ 8
 
 abbrev pub byte_put : Store → ℕ → ℕ
-byte_put s x = byte_of s.value (x - s.addr)
+byte_put s x = byte_of s.value (x - s.address)
 
 -- the byte that the last covering store of a list writes at an address, or b where no store covers it
 abbrev pub last_byte : ℕ → List Store → ℕ → ℕ

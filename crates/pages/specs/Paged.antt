@@ -25,8 +25,8 @@ spare_after ready n = if ready then n else n - 1
 unfoldable pub applied : Paged → Store → Paged
 applied p s = record {
   memory = record p.memory { bytes = put p.memory.bytes s };
-  ready = slice_set p.ready (s.addr / 4096) true;
-  spare = spare_after (is_page_ready p (s.addr / 4096)) p.spare;
+  ready = slice_set p.ready (s.address / 4096) true;
+  spare = spare_after (is_page_ready p (s.address / 4096)) p.spare;
 }
 
 -- after a list of stores, the first of them first

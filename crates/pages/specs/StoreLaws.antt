@@ -12,7 +12,7 @@ use Rattle.pages.specs.Memory.{IsBytes, Memory, after, all_code, any_code, byte_
 
 -- no store of the list touches code
 abbrev pub TouchesNoCode : List Range → List Store → Type 0
-TouchesNoCode code ss = All (λ (s : Store). any_code code s.addr (width_bytes s.width) ≡ false) ss
+TouchesNoCode code ss = All (λ (s : Store). any_code code s.address (width_bytes s.width) ≡ false) ss
 
 length-written : (n : ℕ) (bs : List ℕ) (a v : ℕ) → length (written bs a v n) ≡ length bs
 length-written zero bs a v = refl
@@ -20,7 +20,7 @@ length-written (suc n) bs a v = length-written n (set bs a (v % 2 ^ 8)) (a + 1) 
 
 pub length-put : (bs : List ℕ) (s : Store) → length (put bs s) ≡ length bs
 unfolding put
-length-put bs s = length-written (width_bytes s.width) bs s.addr s.value
+length-put bs s = length-written (width_bytes s.width) bs s.address s.value
 
 -- stores leave as many bytes as there were
 pub length-after : (bs : List ℕ) (ss : List Store) → length (after bs ss) ≡ length bs
@@ -53,7 +53,7 @@ bytes_written (suc n) bs a v h = bytes_written n (set bs a (v % 2 ^ 8)) (a + 1) 
 
 pub bytes_put : (bs : List ℕ) (s : Store) → IsBytes bs → IsBytes (put bs s)
 unfolding put
-bytes_put bs s h = bytes_written (width_bytes s.width) bs s.addr s.value h
+bytes_put bs s h = bytes_written (width_bytes s.width) bs s.address s.value h
 
 -- stores leave bytes
 pub bytes_after : (bs : List ℕ) (ss : List Store) → IsBytes bs → IsBytes (after bs ss)
@@ -121,7 +121,7 @@ written_at (suc n) bs a v k h =
 -- a byte after one store
 pub byte_put_at : (bs : List ℕ) (s : Store) (k : ℕ) → k < length bs → get_or (put bs s) k 0 ≡ (if covers s k then byte_put s k else get_or bs k 0)
 unfolding put
-byte_put_at bs s k h = written_at (width_bytes s.width) bs s.addr s.value k h
+byte_put_at bs s k h = written_at (width_bytes s.width) bs s.address s.value k h
 
 -- each byte is that of the last store that covers it, else what it was
 pub byte_after : (bs : List ℕ) (k : ℕ) (ss : List Store) → k < length bs → slice_index (after bs ss) k ≡ last_byte (slice_index bs k) ss k
@@ -165,13 +165,13 @@ apart_at code (suc n) a x h e =
 code_stays : (code : List Range) (bs : List ℕ) (ss : List Store) (x : ℕ) → TouchesNoCode code ss → is_code code x ≡ true → x < length bs → get_or (after bs ss) x 0 ≡ get_or bs x 0
 code_stays code bs [] x h e l = refl
 code_stays code bs (s ∷ ss) x h e l =
-    let P : Store → Type 0 = λ (s : Store). any_code code s.addr (width_bytes s.width) ≡ false in
+    let P : Store → Type 0 = λ (s : Store). any_code code s.address (width_bytes s.width) ≡ false in
     let here = All-head P s ss h in
     let rest = All-tail P s ss h in
     let inside : x < length (put bs s) = omega (arith, length-put bs s) in
     code_stays code (put bs s) ss x rest e inside
     ∙ byte_put_at bs s x l
-    ∙ ap (λ t. if t then byte_put s x else get_or bs x 0) (apart_at code (width_bytes s.width) s.addr x here e)
+    ∙ ap (λ t. if t then byte_put s x else get_or bs x 0) (apart_at code (width_bytes s.width) s.address x here e)
 
 numbers_agree : (n : ℕ) (bs cs : List ℕ) (a : ℕ) (code : List Range) → all_code code a n ≡ true → a + n ≤ length bs → ((x : ℕ) → is_code code x ≡ true → x < length bs → get_or cs x 0 ≡ get_or bs x 0) → number_at cs a n ≡ number_at bs a n
 numbers_agree zero bs cs a code h l same = refl

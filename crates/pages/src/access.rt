@@ -48,7 +48,7 @@ pub enum Fault {
 #[derive(Clone, Copy, Debug, PartialEq, Eq)]
 pub struct Store {
     /// The address of the first byte.
-    pub addr: u64,
+    pub address: u64,
     /// How many bytes are written.
     pub width: Width,
     /// The number whose low bytes are written.

@@ -8,56 +8,56 @@ ghost use Rattle.pages.specs.Memory.{all_code, any_code, is_code, width_bytes};
 use crate::{Range, Width};
 
 /// Whether an address is code.
-pub(crate) fn is_code_at(code: &[Range], addr: u64) -> bool
-    ensures { result ≡ list_any (has_address addr) code.now }
+pub(crate) fn is_code_at(code: &[Range], address: u64) -> bool
+    ensures { result ≡ list_any (has_address address) code.now }
 {
-    code.iter().any(|range| range.start <= addr && addr - range.start < range.len)
+    code.iter().any(|range| range.start <= address && address - range.start < range.len)
 }
 
 /// Whether four addresses are code.
 #[tactic(auto, using(crate::proofs::CodeTests::is_code_by_range))]
-pub(crate) fn all_code_at(code: &[Range], addr: u64) -> bool
-    requires { addr + 4 < 2 ^ 64 }
-    ensures { result ≡ all_code code.now addr 4 }
+pub(crate) fn all_code_at(code: &[Range], address: u64) -> bool
+    requires { address + 4 < 2 ^ 64 }
+    ensures { result ≡ all_code code.now address 4 }
 {
-    is_code_at(code, addr)
-        && is_code_at(code, addr + 1)
-        && is_code_at(code, addr + 2)
-        && is_code_at(code, addr + 3)
+    is_code_at(code, address)
+        && is_code_at(code, address + 1)
+        && is_code_at(code, address + 2)
+        && is_code_at(code, address + 3)
 }
 
 /// Whether one range has the four addresses of a word.
 #[inline]
-pub(crate) fn has_word_at(code: &[Range], addr: u64) -> bool
-    ensures { result ≡ list_any (has_word addr) code.now }
+pub(crate) fn has_word_at(code: &[Range], address: u64) -> bool
+    ensures { result ≡ list_any (has_word address) code.now }
 {
-    code.iter().any(|range| range.start <= addr
-        && (range.len >= 4 && addr - range.start <= range.len - 4))
+    code.iter().any(|range| range.start <= address
+        && (range.len >= 4 && address - range.start <= range.len - 4))
 }
 
 /// Whether one of `count` addresses, at least one, is code.
-pub(crate) fn any_code_at(code: &[Range], addr: u64, count: u64) -> bool
-    ensures { result ≡ list_any (has_some_address addr count) code.now }
+pub(crate) fn any_code_at(code: &[Range], address: u64, count: u64) -> bool
+    ensures { result ≡ list_any (has_some_address address count) code.now }
 {
     code.iter().any(|range| {
-        if addr < range.start {
-            range.start - addr < count && range.len > 0
+        if address < range.start {
+            range.start - address < count && range.len > 0
         } else {
-            addr - range.start < range.len
+            address - range.start < range.len
         }
     })
 }
 
 /// Whether an access touches code, all of which lies between two addresses.
 #[inline]
-pub(crate) fn touches_code(code: &[Range], start: u64, end: u64, addr: u64, width: Width) -> bool
+pub(crate) fn touches_code(code: &[Range], start: u64, end: u64, address: u64, width: Width) -> bool
     requires within { All (λ (r : RangeOf). LiesWithin start end r) code.now }
-    requires fits { addr + width_bytes width < 2 ^ 64 }
-    ensures { result ≡ any_code code.now addr (width_bytes width) }
+    requires fits { address + width_bytes width < 2 ^ 64 }
+    ensures { result ≡ any_code code.now address (width_bytes width) }
 {
     let count = width.bytes();
-    if addr >= end || addr + count <= start {
+    if address >= end || address + count <= start {
         return false;
     }
-    any_code_at(code, addr, count)
+    any_code_at(code, address, count)
 }

@@ -20,7 +20,8 @@ pub(crate) fn parts_of(
     requires most { count ≤ 16384 }
     requires pieces { All (λ (p : PieceOf). p.start + length p.bytes.items ≤ 2 ^ 26) pieces.now }
     ensures bytes { IfOk result (λ v. flat v.items ≡ bytes_from pieces.now 0 (4096 * count)) }
-    ensures ready { IfOk result (λ v. map is_ready v.items ≡ map (is_touched pieces.now) (range_with_len 0 count)) }
+    ensures ready { IfOk result (λ v. map is_ready v.items ≡
+        map (is_touched pieces.now) (range_with_len 0 count)) }
 {
     let mut parts = Vec::with_capacity(alloc, count as usize)?;
     for page in 0..count {
@@ -71,8 +72,11 @@ fn part_of(alloc: Global, page: u32, pieces: &[Piece]) -> Result<Part, OutOfMemo
 fn lay(alloc: Global, part: &mut Part, start: u64, piece: &Piece) -> Result<(), OutOfMemory>
     requires start { start < 2 ^ 26 }
     requires piece { piece.now.start + length piece.now.bytes.items ≤ 2 ^ 26 }
-    ensures bytes { OnOk result ((k : ℕ) → k < 4096 → slice_index (full part.new) k ≡ (if in_range piece.now.start (length piece.now.bytes.items) (start + k) then slice_index piece.now.bytes.items (start + k - piece.now.start) else slice_index (full part.old) k)) }
-    ensures ready { OnOk result (is_ready part.new ≡ (overlaps piece.now.start (length piece.now.bytes.items) start 4096 || is_ready part.old)) }
+    ensures bytes { OnOk result ((k : ℕ) → k < 4096 → slice_index (full part.new) k ≡
+        (if in_range piece.now.start (length piece.now.bytes.items) (start + k) then slice_index
+        piece.now.bytes.items (start + k - piece.now.start) else slice_index (full part.old) k)) }
+    ensures ready { OnOk result (is_ready part.new ≡
+        (overlaps piece.now.start (length piece.now.bytes.items) start 4096 || is_ready part.old)) }
 {
     let from = piece.start.max(start);
     let to = (piece.start + piece.bytes.len() as u64).min(start + 4096);

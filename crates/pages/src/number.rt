@@ -40,7 +40,8 @@ pub fn write_number(bytes: &mut [u8], place: usize, width: Width, value: u64)
 /// Lays bytes over others from a place on.
 pub(crate) fn lay_over(bytes: &mut [u8], place: usize, part: &[u8])
     requires { place + length part.now ≤ length bytes.old }
-    ensures laid { (k : ℕ) → slice_index bytes.new k ≡ (if in_range place (length part.now) k then slice_index part.now (k - place) else slice_index bytes.old k) }
+    ensures laid { (k : ℕ) → slice_index bytes.new k ≡ (if in_range place (length part.now) k
+        then slice_index part.now (k - place) else slice_index bytes.old k) }
     ensures old_bytes { (k : ℕ) → slice_index bytes.old k < 2 ^ 8 }
     ensures new_bytes { (k : ℕ) → slice_index bytes.new k < 2 ^ 8 }
 {

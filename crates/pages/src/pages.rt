@@ -36,9 +36,17 @@ impl Model for Pages {
     ghost use Rattle.pages.specs.Flat.{flat, is_ready};
     ghost use Rattle.pages.specs.Kept.{Kept};
 
-    ghost view = { λ p. record { memory = record { bytes = flat p.parts.items; code = p.code.items }; ready = map is_ready p.parts.items; spare = length p.spares.items } };
+    ghost view = { λ p. record {
+      memory = record {
+        bytes = flat p.parts.items;
+        code = p.code.items;
+      };
+      ready = map is_ready p.parts.items;
+      spare = length p.spares.items;
+    } };
 
-    ghost invariant = { λ p. Kept p.parts.items (length p.spares.items) p.code.items p.code_start p.code_end };
+    ghost invariant = { λ p.
+        Kept p.parts.items (length p.spares.items) p.code.items p.code_start p.code_end };
 }
 
 impl Pages {
@@ -52,7 +60,8 @@ impl Pages {
     ) -> Result<Pages, OutOfMemory>
         requires least { 1 ≤ count }
         requires most { count ≤ 16384 }
-        requires pieces { All (λ (p : PieceOf). p.start + length p.bytes.items ≤ 4096 * count) pieces.now }
+        requires pieces { All (λ (p : PieceOf). p.start + length p.bytes.items ≤
+            4096 * count) pieces.now }
         requires code { All (λ (r : RangeOf). r.start + r.len ≤ 4096 * count) code.now }
         ensures { IfOk result (λ p. p ≡ initial count pieces.now code.now) }
     {
@@ -92,7 +101,8 @@ impl Pages {
         ensures memory { IfOk result (λ p. p.memory ≡ self.old.memory) }
         ensures unready { IfOk result (λ p. p.ready ≡ replicate (length self.old.ready) false) }
         ensures no_spare { IfOk result (λ p. p.spare ≡ 0) }
-        ensures left_unready { OnOk result (self.new.ready ≡ replicate (length self.old.ready) false) }
+        ensures left_unready { OnOk result (self.new.ready ≡
+            replicate (length self.old.ready) false) }
         ensures stays { self.new.memory ≡ self.old.memory }
         ensures spare { self.new.spare ≡ self.old.spare }
         ensures count { length self.new.ready ≡ length self.old.ready }
@@ -133,7 +143,9 @@ impl Pages {
     /// The 4096 bytes of a page, if it holds some. One that holds none reads 0.
     pub fn page(&self, page: u32) -> Option<&[u8]>
         ensures ready { IfNone result (is_page_ready self.now page ≡ false) }
-        ensures bytes { MatchOption result (page < length self.now.ready → page_bytes self.now.memory.bytes page ≡ blank) (λ bytes. bytes.now ≡ page_bytes self.now.memory.bytes page) }
+        ensures bytes { MatchOption result (page < length self.now.ready →
+            page_bytes self.now.memory.bytes page ≡ blank) (λ bytes. bytes.now ≡
+            page_bytes self.now.memory.bytes page) }
     {
         match self.parts.get(page as usize) {
             Some(part) => part.bytes(),
@@ -143,26 +155,26 @@ impl Pages {
 
     /// The number of this width at an address, or why it cannot be loaded.
     #[inline(always)]
-    pub fn read(&self, addr: u64, width: Width) -> Result<u64, Fault>
-        ensures value { result ≡ loaded self.now.memory addr width }
+    pub fn read(&self, address: u64, width: Width) -> Result<u64, Fault>
+        ensures value { result ≡ loaded self.now.memory address width }
         ensures fits { IfOk result (λ v. v < 2 ^ (8 * width_bytes width)) }
     {
-        if addr % width.bytes() != 0 {
+        if address % width.bytes() != 0 {
             return Err(Fault::LoadMisaligned);
         }
-        match self.parts.get((addr / 4096) as usize) {
-            Some(part) => Ok(part.number(addr % 4096, width)),
+        match self.parts.get((address / 4096) as usize) {
+            Some(part) => Ok(part.number(address % 4096, width)),
             None => Err(Fault::LoadOutside),
         }
     }
 
     /// The byte at an address of guest memory.
     #[inline]
-    pub fn byte(&self, addr: u64) -> u8
-        requires { addr < length self.now.memory.bytes }
-        ensures { result ≡ slice_index self.now.memory.bytes addr }
+    pub fn byte(&self, address: u64) -> u8
+        requires { address < length self.now.memory.bytes }
+        ensures { result ≡ slice_index self.now.memory.bytes address }
     {
-        self.parts[(addr / 4096) as usize].number(addr % 4096, Width::W1) as u8
+        self.parts[(address / 4096) as usize].number(address % 4096, Width::W1) as u8
     }
 
     /// Each byte of guest memory is one.
@@ -224,16 +236,17 @@ impl Pages {
 
     /// Whether a store of this width may be done at an address, or its fault.
     #[inline]
-    pub fn check_store(&self, addr: u64, width: Width) -> Result<(), Fault>
-        ensures { MatchResult result (λ _. store_fault self.now.memory addr width ≡ None) (λ e. store_fault self.now.memory addr width ≡ Some e) }
+    pub fn check_store(&self, address: u64, width: Width) -> Result<(), Fault>
+        ensures { MatchResult result (λ _. store_fault self.now.memory address width ≡
+            None) (λ e. store_fault self.now.memory address width ≡ Some e) }
     {
-        if addr % width.bytes() != 0 {
+        if address % width.bytes() != 0 {
             return Err(Fault::StoreMisaligned);
         }
-        if addr / 4096 >= self.parts.len() as u64 {
+        if address / 4096 >= self.parts.len() as u64 {
             return Err(Fault::StoreOutside);
         }
-        if touches_code(&self.code, self.code_start, self.code_end, addr, width) {
+        if touches_code(&self.code, self.code_start, self.code_end, address, width) {
             return Err(Fault::StoreToCode);
         }
         Ok(())
@@ -247,7 +260,8 @@ impl Pages {
         ensures ready { OnOk result (self.new.ready ≡ all_ready self.old.ready pages.now) }
         ensures spare { OnOk result (min spare (count_unready self.new.ready) ≤ self.new.spare) }
         ensures count { length self.new.ready ≡ length self.old.ready }
-        ensures stays { (p : ℕ) → is_page_ready self.old p ≡ true → is_page_ready self.new p ≡ true }
+        ensures stays { (p : ℕ) → is_page_ready self.old p ≡ true →
+            is_page_ready self.new p ≡ true }
     {
         let parts = self.parts.as_mut_slice();
         make_all_ready(alloc, parts, &mut self.spares, pages)?;
@@ -257,12 +271,12 @@ impl Pages {
     /// Does a store that has no fault, on a page that is ready or with a spare page left. It takes no memory.
     #[inline(always)]
     pub fn apply(&mut self, s: Store)
-        requires accepted { store_fault self.old.memory s.addr s.width ≡ None }
-        requires room { (is_page_ready self.old (s.addr / 4096) ≡ true) ⊎ (0 < self.old.spare) }
+        requires accepted { store_fault self.old.memory s.address s.width ≡ None }
+        requires room { (is_page_ready self.old (s.address / 4096) ≡ true) ⊎ (0 < self.old.spare) }
         ensures { self.new ≡ applied self.old s }
     {
         let parts = self.parts.as_mut_slice();
-        ready_page(parts, &mut self.spares, (s.addr / 4096) as usize);
+        ready_page(parts, &mut self.spares, (s.address / 4096) as usize);
         put_into(parts, s);
     }
 

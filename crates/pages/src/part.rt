@@ -16,7 +16,8 @@ pub(crate) const PAGE_BYTES: usize = 4096;
 /// The bytes, if there are some.
 #[inline]
 fn if_some(bytes: &[u8]) -> Option<&[u8]>
-    ensures { MatchOption result (length bytes.now ≡ 0) (λ b. (0 < length bytes.now) × (b.now ≡ bytes.now) × ((k : ℕ) → slice_index bytes.now k < 2 ^ 8)) }
+    ensures { MatchOption result (length bytes.now ≡ 0) (λ b. (0 < length bytes.now) ×
+        (b.now ≡ bytes.now) × ((k : ℕ) → slice_index bytes.now k < 2 ^ 8)) }
 {
     if bytes.is_empty() {
         return None;
@@ -37,7 +38,8 @@ impl Model for Part {
 
     ghost view = { λ p. page_of p.own.items (bytes_in p.shared (λ a. a.value.items)) };
 
-    ghost invariant = { λ p. ((length p.own.items ≡ 0) ⊎ (length p.own.items ≡ 4096)) × IfSome p.shared (λ a. length a.value.items ≡ 4096) };
+    ghost invariant = { λ p. ((length p.own.items ≡ 0) ⊎ (length p.own.items ≡ 4096)) ×
+        IfSome p.shared (λ a. length a.value.items ≡ 4096) };
 }
 
 impl Part {
@@ -118,7 +120,9 @@ impl Part {
         bytes: &[u8],
     ) -> Result<(), OutOfMemory>
         requires { place + length bytes.now ≤ 4096 }
-        ensures bytes { OnOk result ((k : ℕ) → k < 4096 → slice_index (full self.new) k ≡ (if in_range place (length bytes.now) k then slice_index bytes.now (k - place) else slice_index (full self.old) k)) }
+        ensures bytes { OnOk result ((k : ℕ) → k < 4096 → slice_index (full self.new) k ≡
+            (if in_range place (length bytes.now) k then slice_index bytes.now (k -
+            place) else slice_index (full self.old) k)) }
         ensures ready { OnOk result (is_ready self.new ≡ true) }
     {
         self.make_own(alloc)?;
@@ -136,7 +140,8 @@ impl Part {
 
     /// The page's bytes, its own or those that it shares, if it holds some.
     pub(crate) fn bytes(&self) -> Option<&[u8]>
-        ensures { MatchOption result ((is_ready self.now ≡ false) × (full self.now ≡ blank)) (λ bytes. bytes.now ≡ full self.now) }
+        ensures { MatchOption result ((is_ready self.now ≡ false) ×
+            (full self.now ≡ blank)) (λ bytes. bytes.now ≡ full self.now) }
     {
         if_some(self.held())
     }
@@ -186,10 +191,10 @@ impl Part {
     #[inline(always)]
     pub fn apply(&mut self, s: Store)
         requires ready { is_ready self.old ≡ true }
-        requires aligned { s.addr % width_bytes s.width ≡ 0 }
+        requires aligned { s.address % width_bytes s.width ≡ 0 }
         ensures bytes { full self.new ≡ put (full self.old) (in_page s) }
         ensures ready { is_ready self.new ≡ true }
     {
-        write_number(&mut self.own, (s.addr % 4096) as usize, s.width, s.value);
+        write_number(&mut self.own, (s.address % 4096) as usize, s.width, s.value);
     }
 }

@@ -25,10 +25,12 @@ pub(crate) fn use_spare(parts: &mut [Part], spares: &mut Vec<Spare>, page: usize
 #[inline(always)]
 pub(crate) fn ready_page(parts: &mut [Part], spares: &mut Vec<Spare>, page: usize)
     requires page { page < length parts.old }
-    requires room { (is_ready (slice_index_or parts.old page absent) ≡ true) ⊎ (0 < vec_len spares.old) }
+    requires room { (is_ready (slice_index_or parts.old page absent) ≡ true) ⊎
+        (0 < vec_len spares.old) }
     ensures bytes { flat parts.new ≡ flat parts.old }
     ensures ready { map is_ready parts.new ≡ slice_set (map is_ready parts.old) page true }
-    ensures spares { vec_len spares.new ≡ spare_after (is_ready (slice_index_or parts.old page absent)) (vec_len spares.old) }
+    ensures spares { vec_len spares.new ≡
+        spare_after (is_ready (slice_index_or parts.old page absent)) (vec_len spares.old) }
 {
     if parts[page].ready() {
         return;
@@ -39,13 +41,13 @@ pub(crate) fn ready_page(parts: &mut [Part], spares: &mut Vec<Spare>, page: usiz
 /// Does a store on its page, which is ready.
 #[inline(always)]
 pub(crate) fn put_into(parts: &mut [Part], s: Store)
-    requires page { s.addr / 4096 < length parts.old }
-    requires ready { is_ready (slice_index_or parts.old (s.addr / 4096) absent) ≡ true }
-    requires aligned { s.addr % width_bytes s.width ≡ 0 }
+    requires page { s.address / 4096 < length parts.old }
+    requires ready { is_ready (slice_index_or parts.old (s.address / 4096) absent) ≡ true }
+    requires aligned { s.address % width_bytes s.width ≡ 0 }
     ensures bytes { flat parts.new ≡ put (flat parts.old) s }
     ensures ready { map is_ready parts.new ≡ map is_ready parts.old }
 {
-    parts[(s.addr / 4096) as usize].apply(s);
+    parts[(s.address / 4096) as usize].apply(s);
 }
 
 /// Makes a page ready, with a spare one if there is one.
@@ -57,7 +59,8 @@ pub(crate) fn make_ready(
 ) -> Result<(), OutOfMemory>
     requires page { page < length parts.old }
     ensures bytes { flat parts.new ≡ flat parts.old }
-    ensures ready { OnOk result (map is_ready parts.new ≡ slice_set (map is_ready parts.old) page true) }
+    ensures ready { OnOk result (map is_ready parts.new ≡
+        slice_set (map is_ready parts.old) page true) }
     ensures err { OnErr result (map is_ready parts.new ≡ map is_ready parts.old) }
     ensures spares { vec_len spares.new ≤ vec_len spares.old }
 {
@@ -80,8 +83,10 @@ pub(crate) fn make_all_ready(
 ) -> Result<(), OutOfMemory>
     requires pages { All (λ (p : ℕ). p < length parts.old) pages.now }
     ensures bytes { flat parts.new ≡ flat parts.old }
-    ensures ready { OnOk result (map is_ready parts.new ≡ all_ready (map is_ready parts.old) pages.now) }
-    ensures stays { (p : ℕ) → slice_index_or (map is_ready parts.old) p false ≡ true → slice_index_or (map is_ready parts.new) p false ≡ true }
+    ensures ready { OnOk result (map is_ready parts.new ≡
+        all_ready (map is_ready parts.old) pages.now) }
+    ensures stays { (p : ℕ) → slice_index_or (map is_ready parts.old) p false ≡ true →
+        slice_index_or (map is_ready parts.new) p false ≡ true }
     ensures spares { vec_len spares.new ≤ vec_len spares.old }
 {
     for page in pages {
@@ -98,7 +103,8 @@ pub(crate) fn add_spares(
     count: usize,
 ) -> Result<(), OutOfMemory>
     requires few { vec_len spares.old ≤ length parts.now }
-    ensures count { OnOk result (min count (count_unready (map is_ready parts.now)) ≤ vec_len spares.new) }
+    ensures count { OnOk result (min count (count_unready (map is_ready parts.now)) ≤
+        vec_len spares.new) }
     ensures few { vec_len spares.new ≤ length parts.now }
 {
     if spares.len() >= count {

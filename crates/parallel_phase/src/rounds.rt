@@ -20,7 +20,8 @@ pub fn round_from(
 ) -> Result<(StoreBuffer, Vec<Access>, bool), OutOfMemory>
     requires number { number < length start.now.harts }
     requires hart { slice_get start.now.harts number ≡ Some hart.old }
-    ensures { IfOk result (λ r. round_at start.now number ≡ Some (content_from hart.new r.0 r.1.items r.2)) }
+    ensures { IfOk result (λ r. round_at start.now number ≡
+        Some (content_from hart.new r.0 r.1.items r.2)) }
 {
     let quota = start.quotas()[number];
     let pages = start.pages();

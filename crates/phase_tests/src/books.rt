@@ -101,8 +101,10 @@ fn open_two<B: BookStart, R: Abort>(
 )
     requires { start.now ≡ B.start }
     ensures seats { result.0.seats ≡ 2 }
-    ensures first { (result.1.table ≡ result.0.table) × (harts_put result.1 ≡ []) × (result.1.claims ≡ []) }
-    ensures second { (result.2.table ≡ result.0.table) × (harts_put result.2 ≡ []) × (result.2.claims ≡ []) }
+    ensures first { (result.1.table ≡ result.0.table) × (harts_put result.1 ≡ []) ×
+        (result.1.claims ≡ []) }
+    ensures second { (result.2.table ≡ result.0.table) × (harts_put result.2 ≡ []) ×
+        (result.2.claims ≡ []) }
 {
     let (book, mut seats) = RoundBook::<HartRound<B>>::open(start, 2).expect(rt, "memory");
     let second = seats.pop().expect(rt, "two seats");
@@ -164,11 +166,13 @@ fn two_threads<B: BookStart + Send + Sync, R: Abort + Threads + Wait + Sync>(
     let (mut first, mut second) = join(
         rt,
         || -> Seat<HartRound<B>>
-            requires { (start.now ≡ B.start) × (first.table ≡ book.table) × (harts_put first ≡ first.claims) }
+            requires { (start.now ≡ B.start) × (first.table ≡ book.table) ×
+                (harts_put first ≡ first.claims) }
             ensures { result.table ≡ first.table }
         { take_part(rt, alloc, start, &book, first) },
         || -> Seat<HartRound<B>>
-            requires { (start.now ≡ B.start) × (second.table ≡ book.table) × (harts_put second ≡ second.claims) }
+            requires { (start.now ≡ B.start) × (second.table ≡ book.table) ×
+                (harts_put second ≡ second.claims) }
             ensures { result.table ≡ second.table }
         { take_part(rt, alloc, start, &book, second) },
     );

@@ -24,27 +24,38 @@ fn memory(alloc: Global) -> Result<Pages, OutOfMemory> {
 }
 
 /// A buffer of one store.
-fn buffer_of(alloc: Global, addr: u64, width: Width, value: u64) -> Result<StoreBuffer, OutOfMemory>
-    requires { addr % width_bytes width ≡ 0 }
+fn buffer_of(
+    alloc: Global,
+    address: u64,
+    width: Width,
+    value: u64,
+) -> Result<StoreBuffer, OutOfMemory>
+    requires { address % width_bytes width ≡ 0 }
 {
     let mut buffer = StoreBuffer::new(alloc);
-    buffer.put(Store { addr, width, value })?;
+    buffer.put(Store {
+        address,
+        width,
+        value,
+    })?;
     Ok(buffer)
 }
 
 /// Whether a store has no fault, and its page is ready.
 fn is_writable(pages: &Pages, s: Store) -> bool
-    ensures fits { IsTrue result → store_fault pages.now.memory s.addr s.width ≡ None }
-    ensures ready { IsTrue result → is_page_ready pages.now (s.addr / 4096) ≡ true }
+    ensures fits { IsTrue result → store_fault pages.now.memory s.address s.width ≡ None }
+    ensures ready { IsTrue result → is_page_ready pages.now (s.address / 4096) ≡ true }
 {
-    let page = s.addr / 4096;
-    page < 16_384 && pages.ready(page as u32) && pages.check_store(s.addr, s.width).is_ok()
+    let page = s.address / 4096;
+    page < 16_384 && pages.ready(page as u32) && pages.check_store(s.address, s.width).is_ok()
 }
 
 /// Whether the bytes of a buffer lie on pages that are ready, and are not code.
 fn fits(pages: &Pages, buffer: &StoreBuffer) -> bool
-    ensures fits { IsTrue result → All (λ (e : ℕ × ℕ). store_fault pages.now.memory e.0 W1 ≡ None) buffer.now }
-    ensures ready { IsTrue result → All (λ (e : ℕ × ℕ). is_page_ready pages.now (e.0 / 4096) ≡ true) buffer.now }
+    ensures fits { IsTrue result →
+        All (λ (e : ℕ × ℕ). store_fault pages.now.memory e.0 W1 ≡ None) buffer.now }
+    ensures ready { IsTrue result →
+        All (λ (e : ℕ × ℕ). is_page_ready pages.now (e.0 / 4096) ≡ true) buffer.now }
 {
     for s in buffer.stores() {
         if !is_writable(pages, s) {

@@ -109,7 +109,7 @@ fn gathers_stores<B: BookStart + Send + Sync, R: Abort + Threads + Wait + Sync>(
         assert!(rt; round.accesses().len() == 2, "hart {h}");
         let first = round.buffer().stores().next().expect(rt, "it stored");
         assert!(rt;
-            first.addr == 0x100 && first.value == 2 * (h as u64 + 5),
+            first.address == 0x100 && first.value == 2 * (h as u64 + 5),
             "hart {h}"
         );
     }

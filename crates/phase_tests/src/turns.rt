@@ -91,11 +91,13 @@ fn turns(
     waiting: u64,
     budget: u32,
 ) -> Result<(), OutOfMemory>
-    requires shows { Shows shared.old.pages.memory shared.old.code.first shared.old.code.instructions }
+    requires shows { Shows shared.old.pages.memory shared.old.code.first
+        shared.old.code.instructions }
     requires harts { length harts.old ≡ length shared.old.reservations }
     requires few { length harts.old ≤ 64 }
     requires budget { budget ≤ 1000 }
-    ensures shows { Shows shared.new.pages.memory shared.new.code.first shared.new.code.instructions }
+    ensures shows { Shows shared.new.pages.memory shared.new.code.first
+        shared.new.code.instructions }
     ensures size { length shared.new.reservations ≡ length shared.old.reservations }
 {
     let room = room_from(waiting, budget, 0, harts.len() as u32);

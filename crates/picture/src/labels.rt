@@ -105,7 +105,8 @@ fn fence(
     after: FenceSet,
     mode: FenceMode,
 ) -> Result<(), OutOfMemory>
-    ensures { OnOk result (line.new ≡ line.old ++ (codes "fence " ++ set_text before ++ codes " " ++ set_text after ++ mode_text mode)) }
+    ensures { OnOk result (line.new ≡ line.old ++
+        (codes "fence " ++ set_text before ++ codes " " ++ set_text after ++ mode_text mode)) }
 {
     line.text("fence ")?;
     line.text(fence_set(before))?;

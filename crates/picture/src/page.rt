@@ -74,7 +74,8 @@ fn rest(line: &mut Line, bottom: u64, left_out: usize) -> Result<(), OutOfMemory
 }
 
 fn bands(line: &mut Line, width: u64, boxes: &[EventBox]) -> Result<(), OutOfMemory>
-    ensures { OnOk result (line.new ≡ line.old ++ each_with_earlier (band_at width boxes.now) [] boxes.now) }
+    ensures { OnOk result (line.new ≡
+        line.old ++ each_with_earlier (band_at width boxes.now) [] boxes.now) }
 {
     for (number, shown) in boxes.iter().enumerate() {
         band_at(line, width, boxes, &boxes[..number], shown)?;
@@ -88,7 +89,8 @@ fn arrows(
     trace: &Trace,
     boxes: &[EventBox],
 ) -> Result<(), OutOfMemory>
-    ensures { OnOk result (line.new ≡ line.old ++ each_with_earlier (arrows_to trace.now.events) [] boxes.now) }
+    ensures { OnOk result (line.new ≡
+        line.old ++ each_with_earlier (arrows_to trace.now.events) [] boxes.now) }
 {
     for (number, shown) in boxes.iter().enumerate() {
         arrows_to(alloc, line, trace, &boxes[..number], shown)?;
@@ -97,7 +99,8 @@ fn arrows(
 }
 
 fn event_boxes(line: &mut Line, trace: &Trace, boxes: &[EventBox]) -> Result<(), OutOfMemory>
-    ensures { OnOk result (line.new ≡ line.old ++ each_with_earlier (box_text trace.now.events) [] boxes.now) }
+    ensures { OnOk result (line.new ≡
+        line.old ++ each_with_earlier (box_text trace.now.events) [] boxes.now) }
 {
     for (number, shown) in boxes.iter().enumerate() {
         event_box(line, trace, &boxes[..number], shown)?;
@@ -115,7 +118,8 @@ fn drawing(
     left_out: usize,
 ) -> Result<(), OutOfMemory>
     requires { length harts.now ≤ 64 }
-    ensures { OnOk result (line.new ≡ line.old ++ drawing_text trace.now.events harts.now boxes.now left_out) }
+    ensures { OnOk result (line.new ≡
+        line.old ++ drawing_text trace.now.events harts.now boxes.now left_out) }
 {
     let width = width_for(harts.len());
     let bottom = last_top(boxes) + 48;
@@ -139,7 +143,8 @@ fn picture(
     view: &View<'_>,
 ) -> Result<(), OutOfMemory>
     requires { length harts.now ≤ 64 }
-    ensures { OnOk result (line.new ≡ line.old ++ picture_text trace.now.events harts.now view.now) }
+    ensures { OnOk result (line.new ≡
+        line.old ++ picture_text trace.now.events harts.now view.now) }
 {
     let mut places = places_seen(alloc, view, trace)?;
     let left_out = places.len().saturating_sub(MOST);
@@ -167,8 +172,10 @@ pub fn write_picture<S: Sink>(
     out: &mut S,
 ) -> Result<(), RunError>
     requires { length harts.now ≤ 64 }
-    ensures ok { OnOk result (S.took out.new ≡ S.took out.old ++ picture_text trace.now.events harts.now view.now) }
-    ensures begun { OnErr result (BeganText (S.took out.old) (S.took out.new) (picture_text trace.now.events harts.now view.now)) }
+    ensures ok { OnOk result (S.took out.new ≡
+        S.took out.old ++ picture_text trace.now.events harts.now view.now) }
+    ensures begun { OnErr result (BeganText (S.took out.old) (S.took out.new)
+        (picture_text trace.now.events harts.now view.now)) }
     ensures sink { result ≡ Err RunError.SinkFailed → S.failures out.old < S.failures out.new }
     ensures memory { result ≡ Err RunError.OutOfMemory → S.took out.new ≡ S.took out.old }
     ensures errors { IfErr result (λ e. (e ≡ RunError.OutOfMemory) ⊎ (e ≡ RunError.SinkFailed)) }

@@ -102,9 +102,11 @@ impl Family {
         requires some_harts { 1 ≤ self.now.harts }
         requires few_harts { self.now.harts ≤ 64 }
         // With the harts of the family and the budget of the number they are the plan.
-        ensures rows { IfOk result (λ v. planned self.now.harts (map (λ r. r.items) v.items) (serial_budget number) ≡ family_plan self.now number) }
+        ensures rows { IfOk result (λ v. planned self.now.harts (map (λ r.
+            r.items) v.items) (serial_budget number) ≡ family_plan self.now number) }
         ensures some { IfOk result (λ v. 1 ≤ length v.items) }
-        ensures accepted { IfOk result (λ v. checked self.now.harts (map (λ r. r.items) v.items) ≡ Ok tt) }
+        ensures accepted { IfOk result (λ v. checked self.now.harts (map (λ r. r.items) v.items) ≡
+            Ok tt) }
     {
         self.rows(alloc, number, row_count(number))
     }

@@ -8,7 +8,8 @@ use pages::OutOfMemory;
 
 /// The row of an ending, where there is one.
 pub(crate) fn place_of(rows: &[Row], ending: &Ending) -> Option<usize>
-    ensures { MatchOption result (IsNew rows.now ending.now) (λ i. (i < length rows.now) × HoldsAt (λ r. r.ending ≡ ending.now) rows.now i) }
+    ensures { MatchOption result (IsNew rows.now ending.now) (λ i. (i < length rows.now) ×
+        HoldsAt (λ r. r.ending ≡ ending.now) rows.now i) }
 {
     for (place, row) in rows.iter().enumerate() {
         if row.ending.is_same(ending) {

@@ -33,7 +33,8 @@ pub(crate) fn tabulate_block<Q: Runs + Sync, R: Threads + Wait + Sync>(
 ) -> Result<(), OutOfMemory>
     requires few { block.first + (block.done + block.count) < 2 ^ 32 }
     requires table { IsTable (Q.ends runs.now) block.first block.done rows.old.items }
-    ensures { OnOk result (IsTable (Q.ends runs.now) block.first (block.done + block.count) rows.new.items) }
+    ensures { OnOk result (IsTable (Q.ends runs.now) block.first (block.done +
+        block.count) rows.new.items) }
 {
     let mut slots = found(
         rt,
@@ -115,7 +116,8 @@ fn search<Q: Runs + Sync, R: Threads + Wait + Sync>(
         seats,
         workers,
         &|_, found: &mut Vec<Found>|
-            requires { IsSync R.row × (first + count < 2 ^ 32) × All (IsFound (Q.ends runs.now) first) found.now.items }
+            requires { IsSync R.row × (first + count < 2 ^ 32) ×
+                All (IsFound (Q.ends runs.now) first) found.now.items }
             ensures { All (IsFound (Q.ends runs.entry.now) first) found.exit.now.items }
         { work(rt, runs, first, count, &next, found) },
     );
@@ -133,7 +135,8 @@ fn finish<Q: Runs, R: Threads + Wait + Sync>(
     requires few { block.first + (block.done + length slots.old) < 2 ^ 32 }
     requires slots { AreSlots (Q.ends runs.now) (block.first + block.done) slots.old }
     requires table { IsTable (Q.ends runs.now) block.first block.done rows.old.items }
-    ensures { OnOk result (IsTable (Q.ends runs.now) block.first (block.done + length slots.old) rows.new.items) }
+    ensures { OnOk result (IsTable (Q.ends runs.now) block.first (block.done +
+        length slots.old) rows.new.items) }
 {
     for place in 0..slots.len() {
         let number = block.first + (block.done + place as u32);

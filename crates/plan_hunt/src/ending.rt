@@ -19,7 +19,8 @@ impl Model for Ending {
 
     ghost Value = { Ended };
 
-    ghost view = { λ e. record { stops = e.stops.items; output = e.output.items; seen = e.seen.items } };
+    ghost view = { λ e.
+        record { stops = e.stops.items; output = e.output.items; seen = e.seen.items } };
 }
 
 impl Ending {

@@ -30,7 +30,8 @@ fn add_changed(
     row: &[u32],
     change: Change,
 ) -> Result<(), AllocError>
-    ensures { OnOk result (map (λ r. r.items) rows.new.items ≡ map (λ r. r.items) rows.old.items ++ changed change row.now) }
+    ensures { OnOk result (map (λ r. r.items) rows.new.items ≡
+        map (λ r. r.items) rows.old.items ++ changed change row.now) }
 {
     let row = match change {
         Change::LeftOut => return Ok(()),
@@ -48,7 +49,8 @@ pub(crate) fn add_copies(
     rows: &mut Vec<Vec<u32>>,
     others: &[Vec<u32>],
 ) -> Result<(), AllocError>
-    ensures { OnOk result (map (λ r. r.items) rows.new.items ≡ map (λ r. r.items) rows.old.items ++ map (λ r. r.items) others.now) }
+    ensures { OnOk result (map (λ r. r.items) rows.new.items ≡
+        map (λ r. r.items) rows.old.items ++ map (λ r. r.items) others.now) }
 {
     for other in others {
         rows.push(Vec::from_slice(alloc, other)?)?;
@@ -63,7 +65,8 @@ pub(crate) fn rows_after(
     step: Step,
 ) -> Result<Vec<Vec<u32>>, AllocError>
     requires { step.row < length rows.now }
-    ensures { IfOk result (λ v. map (λ r. r.items) v.items ≡ rows_after step (map (λ r. r.items) rows.now)) }
+    ensures { IfOk result (λ v. map (λ r. r.items) v.items ≡
+        rows_after step (map (λ r. r.items) rows.now)) }
 {
     let mut after = Vec::new(alloc);
     add_copies(alloc, &mut after, &rows[..step.row])?;

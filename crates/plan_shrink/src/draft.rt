@@ -26,9 +26,14 @@ impl Model for Draft {
 
     ghost Value = { Planned };
 
-    ghost view = { λ d. record { harts = d.harts; rows = map (λ r. r.items) d.rows.items; budget = d.budget } };
+    ghost view = { λ d.
+        record { harts = d.harts; rows = map (λ r. r.items) d.rows.items; budget = d.budget } };
 
-    ghost invariant = { λ d. IsDraft (record { harts = d.harts; rows = map (λ r. r.items) d.rows.items; budget = d.budget }) };
+    ghost invariant = { λ d. IsDraft (record {
+      harts = d.harts;
+      rows = map (λ r. r.items) d.rows.items;
+      budget = d.budget;
+    }) };
 }
 
 /// Copies of rows.
@@ -77,7 +82,8 @@ impl Draft {
 
     /// The plan after a step, where that leaves a smaller one.
     pub(crate) fn after(&self, alloc: Global, step: Step) -> Result<Option<Draft>, OutOfMemory>
-        ensures { IfOk result (λ found. MatchOption found (IsStep self.now step → ⊥) (λ d. IsStep self.now step × (d ≡ after_step step self.now))) }
+        ensures { IfOk result (λ found. MatchOption found (IsStep self.now step →
+            ⊥) (λ d. IsStep self.now step × (d ≡ after_step step self.now))) }
     {
         if step.row >= self.rows.len() || !step.change.has_hart(self.harts) {
             return Ok(None);

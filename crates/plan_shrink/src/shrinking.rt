@@ -38,7 +38,8 @@ pub fn shrink<Q: PlanRuns, O: ShrinkObserver, R: Threads + Wait + Sync>(
     requires accepted { checked harts (map (λ r. r.items) rows.items) ≡ Ok tt }
     requires some_budget { 1 ≤ budget }
     requires few_budget { budget ≤ 1000 }
-    ensures { IfOk result (λ p. IsShrunk (Q.ends runs.now) (planned harts (map (λ r. r.items) rows.items) budget) p) }
+    ensures { IfOk result (λ p.
+        IsShrunk (Q.ends runs.now) (planned harts (map (λ r. r.items) rows.items) budget) p) }
 {
     let draft = Draft {
         rows,
@@ -76,7 +77,8 @@ fn try_all<Q: PlanRuns, O: ShrinkObserver, R: Threads + Wait + Sync>(
     observer: &mut O,
 ) -> Result<bool, OutOfMemory>
     requires sync { IsSync R.row }
-    ensures { IfOk result (λ taken. IsTried (Q.ends runs.now) ending.now draft.old (NoStepLeads (Q.ends runs.now) ending.now draft.old) taken draft.new) }
+    ensures { IfOk result (λ taken. IsTried (Q.ends runs.now) ending.now draft.old
+        (NoStepLeads (Q.ends runs.now) ending.now draft.old) taken draft.new) }
 {
     let rows = draft.row_count();
     let mut taken = false;
@@ -100,7 +102,8 @@ fn try_step<Q: PlanRuns, O: ShrinkObserver, R: Threads + Wait + Sync>(
     observer: &mut O,
 ) -> Result<bool, OutOfMemory>
     requires sync { IsSync R.row }
-    ensures { IfOk result (λ taken. IsTried (Q.ends runs.now) ending.now draft.old (LeadsTo (Q.ends runs.now) ending.now draft.old step → ⊥) taken draft.new) }
+    ensures { IfOk result (λ taken. IsTried (Q.ends runs.now) ending.now draft.old
+        (LeadsTo (Q.ends runs.now) ending.now draft.old step → ⊥) taken draft.new) }
 {
     let Some(smaller) = draft.after(alloc, step)? else {
         return Ok(false);

@@ -17,7 +17,8 @@ pub fn double_or(
     low: u64,
     high: u64,
 ) -> Result<(u64, &[u8]), ReadError>
-    ensures { Gives (λ x. (x.0, x.1.now)) result ((number_or w64 short wrong low high).taken bytes.now) }
+    ensures { Gives (λ x.
+        (x.0, x.1.now)) result ((number_or w64 short wrong low high).taken bytes.now) }
 {
     if bytes.len() < 8 {
         return Err(ReadError::Refused(short));
@@ -40,7 +41,8 @@ pub fn word_or(
     low: u32,
     high: u32,
 ) -> Result<(u32, &[u8]), ReadError>
-    ensures { Gives (λ x. (x.0, x.1.now)) result ((number_or w32 short wrong low high).taken bytes.now) }
+    ensures { Gives (λ x.
+        (x.0, x.1.now)) result ((number_or w32 short wrong low high).taken bytes.now) }
 {
     if bytes.len() < 4 {
         return Err(ReadError::Refused(short));
@@ -61,7 +63,8 @@ pub fn byte_or(
     low: u8,
     high: u8,
 ) -> Result<(u8, &[u8]), ReadError>
-    ensures { Gives (λ x. (x.0, x.1.now)) result ((number_or w8 short wrong low high).taken bytes.now) }
+    ensures { Gives (λ x.
+        (x.0, x.1.now)) result ((number_or w8 short wrong low high).taken bytes.now) }
 {
     let Some((number, rest)) = bytes.split_first() else {
         return Err(ReadError::Refused(short));
@@ -112,7 +115,8 @@ pub fn from_version_2(
     low: u32,
     high: u32,
 ) -> Result<(u32, &[u8]), ReadError>
-    ensures { Gives (λ x. (x.0, x.1.now)) result ((from_version_2 version before (number w32 low high)).taken bytes.now) }
+    ensures { Gives (λ x. (x.0, x.1.now)) result
+        ((from_version_2 version before (number w32 low high)).taken bytes.now) }
 {
     if version == 2 {
         return word_or(bytes, Cause::Cut, Cause::OutOfRange, low, high);

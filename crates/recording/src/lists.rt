@@ -16,7 +16,8 @@ pub fn harts_at(
     bytes: &[u8],
     count: u32,
 ) -> Result<(Vec<HartSummary>, &[u8]), ReadError>
-    ensures { Gives (λ x. (map hart_view x.0.items, x.1.now)) result ((each count 0 (λ i. hart_summary)).taken bytes.now) }
+    ensures { Gives (λ x. (map hart_view x.0.items, x.1.now)) result ((each count 0 (λ i.
+        hart_summary)).taken bytes.now) }
 {
     let mut harts = Vec::new(alloc);
     let mut rest = bytes;
@@ -31,7 +32,8 @@ pub fn harts_at(
 /// Registers x1 to x31 of a hart, and what follows them.
 #[tactic(auto, using(crate::proofs::Loops::starts))]
 pub fn hart_registers_at(alloc: Global, bytes: &[u8]) -> Result<(Vec<u64>, &[u8]), ReadError>
-    ensures { Gives (λ x. (x.0.items, x.1.now)) result ((each 31 1 (λ x. any w64)).taken bytes.now) }
+    ensures { Gives (λ x.
+        (x.0.items, x.1.now)) result ((each 31 1 (λ x. any w64)).taken bytes.now) }
 {
     let mut registers = Vec::new(alloc);
     let mut rest = bytes;
@@ -50,7 +52,8 @@ pub fn registers_at(
     bytes: &[u8],
     count: u32,
 ) -> Result<(Vec<Vec<u64>>, &[u8]), ReadError>
-    ensures { Gives (λ x. (map (λ r. r.items) x.0.items, x.1.now)) result ((registers count).taken bytes.now) }
+    ensures { Gives (λ x.
+        (map (λ r. r.items) x.0.items, x.1.now)) result ((registers count).taken bytes.now) }
 {
     let mut harts = Vec::new(alloc);
     let mut rest = bytes;
@@ -87,7 +90,8 @@ pub fn kept_at(
     every: u32,
     round: u32,
 ) -> Result<(Kept, &[u8]), ReadError>
-    ensures { Gives (λ x. (kept_view x.0, x.1.now)) result ((kept_after count every round).taken bytes.now) }
+    ensures { Gives (λ x.
+        (kept_view x.0, x.1.now)) result ((kept_after count every round).taken bytes.now) }
 {
     let (summary, rest) = summary_at(alloc, bytes, count)?;
     if every != 0 && round % every == 0 {
@@ -118,7 +122,8 @@ pub fn rounds_at(
     every: u32,
     rounds: u32,
 ) -> Result<(Vec<Kept>, &[u8]), ReadError>
-    ensures { Gives (λ x. (map kept_view x.0.items, x.1.now)) result ((each rounds 1 (kept_after count every)).taken bytes.now) }
+    ensures { Gives (λ x. (map kept_view x.0.items, x.1.now)) result
+        ((each rounds 1 (kept_after count every)).taken bytes.now) }
 {
     let mut kept = Vec::new(alloc);
     let mut rest = bytes;

@@ -18,7 +18,8 @@ use std::alloc::{AllocError, Global};
 /// `OutOfMemory`: nothing is written then. `SinkFailed`: a beginning of the text is.
 pub fn write_recording<S: Sink>(alloc: Global, r: &Recording, out: &mut S) -> Result<(), RunError>
     ensures ok { OnOk result (S.took out.new ≡ S.took out.old ++ recording.spelled r.now) }
-    ensures begun { OnErr result (BeganText (S.took out.old) (S.took out.new) (recording.spelled r.now)) }
+    ensures begun { OnErr result
+        (BeganText (S.took out.old) (S.took out.new) (recording.spelled r.now)) }
     ensures sink { result ≡ Err refusals.SinkFailed → S.failures out.old < S.failures out.new }
     ensures memory { result ≡ Err refusals.OutOfMemory → S.took out.new ≡ S.took out.old }
     ensures errors { IfErr result (λ e. (e ≡ refusals.OutOfMemory) ⊎ (e ≡ refusals.SinkFailed)) }
@@ -36,7 +37,8 @@ const MAGIC: u64 = 0x4345_5254_4544_5652;
 /// The settings and inputs of a run, and what is kept of its rounds.
 #[tactic(auto, using(crate::proofs::Written::assoc))]
 fn put_recording(text: &mut Vec<u8>, r: &Parts) -> Result<(), AllocError>
-    ensures { OnOk result (text.new.items ≡ text.old.items ++ recording.spelled (as_recorded r.now)) }
+    ensures { OnOk result (text.new.items ≡
+        text.old.items ++ recording.spelled (as_recorded r.now)) }
 {
     put_double(text, MAGIC)?;
     put_word(text, r.version)?;
@@ -75,7 +77,8 @@ fn put_byte(text: &mut Vec<u8>, number: u8) -> Result<(), AllocError>
 
 /// A number of four bytes in version 2, and nothing before.
 fn put_from_version_2(text: &mut Vec<u8>, version: u32, number: u32) -> Result<(), AllocError>
-    ensures { OnOk result ((before low high : ℕ) → text.new.items ≡ text.old.items ++ (from_version_2 version before (between w32 low high)).spelled number) }
+    ensures { OnOk result ((before low high : ℕ) → text.new.items ≡
+        text.old.items ++ (from_version_2 version before (between w32 low high)).spelled number) }
 {
     if version == 2 {
         return put_word(text, number);
@@ -95,7 +98,8 @@ fn put_bytes(text: &mut Vec<u8>, bytes: &[u8]) -> Result<(), AllocError>
 /// What is kept of a hart.
 #[tactic(auto, using(crate::proofs::Written::assoc))]
 fn put_hart(text: &mut Vec<u8>, hart: &HartSummary) -> Result<(), AllocError>
-    ensures { OnOk result (text.new.items ≡ text.old.items ++ hart_summary.spelled (hart_view hart.now)) }
+    ensures { OnOk result (text.new.items ≡
+        text.old.items ++ hart_summary.spelled (hart_view hart.now)) }
 {
     put_double(text, hart.pc)?;
     put_double(text, hart.done)?;
@@ -105,7 +109,8 @@ fn put_hart(text: &mut Vec<u8>, hart: &HartSummary) -> Result<(), AllocError>
 
 /// What is kept of the harts, in hart order.
 fn put_harts(text: &mut Vec<u8>, harts: &[HartSummary]) -> Result<(), AllocError>
-    ensures { OnOk result (text.new.items ≡ text.old.items ++ spelled_each 0 (λ _. hart_summary) (map hart_view harts.now)) }
+    ensures { OnOk result (text.new.items ≡
+        text.old.items ++ spelled_each 0 (λ _. hart_summary) (map hart_view harts.now)) }
 {
     for hart in harts {
         put_hart(text, hart)?;
@@ -115,7 +120,8 @@ fn put_harts(text: &mut Vec<u8>, harts: &[HartSummary]) -> Result<(), AllocError
 
 /// Registers of a hart.
 fn put_registers(text: &mut Vec<u8>, values: &[u64]) -> Result<(), AllocError>
-    ensures { OnOk result (text.new.items ≡ text.old.items ++ spelled_each 1 (λ _. any w64) values.now) }
+    ensures { OnOk result (text.new.items ≡
+        text.old.items ++ spelled_each 1 (λ _. any w64) values.now) }
 {
     for value in values {
         put_double(text, *value)?;
@@ -125,7 +131,8 @@ fn put_registers(text: &mut Vec<u8>, values: &[u64]) -> Result<(), AllocError>
 
 /// The same of the harts, in hart order.
 fn put_all_registers(text: &mut Vec<u8>, harts: &[Vec<u64>]) -> Result<(), AllocError>
-    ensures { OnOk result (text.new.items ≡ text.old.items ++ spelled_each 0 (λ _. each 31 1 (λ _. any w64)) (map (λ r. r.items) harts.now)) }
+    ensures { OnOk result (text.new.items ≡ text.old.items ++
+        spelled_each 0 (λ _. each 31 1 (λ _. any w64)) (map (λ r. r.items) harts.now)) }
 {
     for values in harts {
         put_registers(text, values.as_slice())?;
@@ -136,7 +143,8 @@ fn put_all_registers(text: &mut Vec<u8>, harts: &[Vec<u64>]) -> Result<(), Alloc
 /// The summary of a state.
 #[tactic(auto, using(crate::proofs::Written::assoc))]
 fn put_summary(text: &mut Vec<u8>, state: &Summary) -> Result<(), AllocError>
-    ensures { OnOk result ((count : ℕ) → text.new.items ≡ text.old.items ++ (summary count).spelled (summary_view state.now)) }
+    ensures { OnOk result ((count : ℕ) → text.new.items ≡
+        text.old.items ++ (summary count).spelled (summary_view state.now)) }
 {
     put_double(text, state.output)?;
     put_double(text, state.trace)?;
@@ -150,7 +158,8 @@ fn put_due(
     every: u32,
     round: u64,
 ) -> Result<(), AllocError>
-    ensures { OnOk result ((count : ℕ) → text.new.items ≡ text.old.items ++ (where_due (is_due every round) (registers count)).spelled (registers_view kept.now)) }
+    ensures { OnOk result ((count : ℕ) → text.new.items ≡ text.old.items ++
+        (where_due (is_due every round) (registers count)).spelled (registers_view kept.now)) }
 {
     if every != 0 && round % u64::from(every) == 0 {
         return match kept {
@@ -164,7 +173,8 @@ fn put_due(
 /// What is kept of a round.
 #[tactic(auto, using(crate::proofs::Written::assoc))]
 fn put_kept(text: &mut Vec<u8>, kept: &Kept, every: u32, round: u64) -> Result<(), AllocError>
-    ensures { OnOk result ((count : ℕ) → text.new.items ≡ text.old.items ++ (kept_after count every round).spelled (kept_view kept.now)) }
+    ensures { OnOk result ((count : ℕ) → text.new.items ≡
+        text.old.items ++ (kept_after count every round).spelled (kept_view kept.now)) }
 {
     put_summary(text, &kept.summary)?;
     put_due(text, &kept.registers, every, round)
@@ -172,7 +182,8 @@ fn put_kept(text: &mut Vec<u8>, kept: &Kept, every: u32, round: u64) -> Result<(
 
 /// What is kept of the rounds, of which the first is 1.
 fn put_rounds(text: &mut Vec<u8>, kept: &[Kept], every: u32) -> Result<(), AllocError>
-    ensures { OnOk result ((count : ℕ) → text.new.items ≡ text.old.items ++ spelled_each 1 (kept_after count every) (map kept_view kept.now)) }
+    ensures { OnOk result ((count : ℕ) → text.new.items ≡
+        text.old.items ++ spelled_each 1 (kept_after count every) (map kept_view kept.now)) }
 {
     for (place, state) in kept.iter().enumerate() {
         put_kept(text, state, every, place as u64 + 1)?;

@@ -37,10 +37,10 @@ fn put_one(buffer: &mut StoreBuffer, number: u64) -> Ending
 /// The byte of a line, as a store.
 fn byte(number: u64) -> Store
     requires { number < 40 }
-    ensures { result.addr % width_bytes result.width ≡ 0 }
+    ensures { result.address % width_bytes result.width ≡ 0 }
 {
     Store {
-        addr: 64 * number,
+        address: 64 * number,
         width: Width::W1,
         value: number + 1,
     }

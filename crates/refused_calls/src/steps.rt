@@ -52,11 +52,11 @@ fn has_stored(before: &Hart, hart: &Hart, answer: Stepped, bus: Buffered<'_>) ->
 /// Whether a buffer has the eight bytes of the number 1 at 0x100, and no other.
 fn has_bytes(buffer: &StoreBuffer) -> bool {
     let mut stores = buffer.stores();
-    for addr in 0x100..0x108 {
+    for address in 0x100..0x108 {
         let byte = Store {
-            addr,
+            address,
             width: Width::W1,
-            value: u64::from(addr == 0x100),
+            value: u64::from(address == 0x100),
         };
         if stores.next() != Some(byte) {
             return false;

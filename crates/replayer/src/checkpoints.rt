@@ -41,9 +41,11 @@ impl Model for Replay {
 
     ghost Value = { Opened };
 
-    ghost view = { λ r. record { rounds = r.rounds; start = r.start; every = r.every; verdict = r.verdict } };
+    ghost view = { λ r.
+        record { rounds = r.rounds; start = r.start; every = r.every; verdict = r.verdict } };
 
-    ghost invariant = { λ r. (r.start.state.rounds ≡ 0) × AreCheckpoints r.every r.rounds r.start r.later.items };
+    ghost invariant = { λ r. (r.start.state.rounds ≡ 0) ×
+        AreCheckpoints r.every r.rounds r.start r.later.items };
 }
 
 impl Replay {
@@ -64,7 +66,8 @@ impl Replay {
         every: u32,
         workers: u32,
     ) -> Result<Replay, RunError>
-        ensures opened { IfOk result (λ p. (plan : Planned) × IsPlanFor recording.now plan × IsOpened recording.now plan every p) }
+        ensures opened { IfOk result (λ p. (plan : Planned) × IsPlanFor recording.now plan ×
+            IsOpened recording.now plan every p) }
         ensures in_order { RefusedInOrder workers recording.now result }
     {
         let mut start = opened(alloc, recording, workers)?;
@@ -95,7 +98,8 @@ impl Replay {
 
     /// The machine after round `number` times `every`, or `None` from `checkpoints` on.
     pub fn kept(&self, number: usize) -> Option<&Machine>
-        ensures { MatchOption result (kept_machine self.now number ≡ None) (λ m. kept_machine self.now number ≡ Some m.now) }
+        ensures { MatchOption result (kept_machine self.now number ≡
+            None) (λ m. kept_machine self.now number ≡ Some m.now) }
     {
         if number == 0 {
             return Some(&self.start);
@@ -119,7 +123,8 @@ impl Replay {
         count: u64,
         workers: u32,
     ) -> Result<Option<Hart>, RunError>
-        ensures hart { IfOk result (λ h. h ≡ hart_at self.now.rounds self.now.start round hart count) }
+        ensures hart { IfOk result (λ h. h ≡
+            hart_at self.now.rounds self.now.start round hart count) }
         ensures workers { AreNoWorkers workers → result ≡ Err refusals.WorkersOutOfRange }
         ensures errors { AreWorkers workers → IfErr result (λ e. e ≡ refusals.OutOfMemory) }
     {
@@ -136,7 +141,8 @@ impl Replay {
     /// A copy of the last kept machine that did at most so many rounds, without its trace, and how many of them are left to do.
     fn going_on_to(&self, rounds: u32) -> Result<(UntracedMachine, u32), RunError>
         requires { rounds < self.now.rounds }
-        ensures machine { IfOk result (λ x. (m : Running) × IsUntraced m x.0 × (after_rounds x.1 m ≡ after_rounds rounds self.now.start)) }
+        ensures machine { IfOk result (λ x. (m : Running) × IsUntraced m x.0 ×
+            (after_rounds x.1 m ≡ after_rounds rounds self.now.start)) }
         ensures rounds { IfOk result (λ x. x.0.rounds + x.1 ≡ rounds) }
         ensures refused { IfErr result (λ e. e ≡ refusals.OutOfMemory) }
     {
@@ -173,7 +179,8 @@ fn run_keeping<R: Threads + Wait + Sync>(
     requires workers { (1 ≤ workers) × (workers ≤ 16) }
     requires opened { machine.old.state.rounds ≡ 0 }
     ensures verdict { IfOk result (λ x. IsVerdict recording.now machine.old x.0) }
-    ensures machines { IfOk result (λ x. AreCheckpoints every recording.now.rounds machine.old x.1.items) }
+    ensures machines { IfOk result (λ x.
+        AreCheckpoints every recording.now.rounds machine.old x.1.items) }
     ensures refused { IfErr result (λ e. e ≡ refusals.OutOfMemory) }
 {
     let kept = recording.kept();
@@ -198,7 +205,8 @@ fn keep_if_due(
     every: u32,
     round: u32,
 ) -> Result<(), RunError>
-    ensures ok { OnOk result (machines.new.items ≡ machines.old.items ++ (if is_due every round then machine.old ∷ [] else [])) }
+    ensures ok { OnOk result (machines.new.items ≡
+        machines.old.items ++ (if is_due every round then machine.old ∷ [] else [])) }
     ensures stays { machine.new ≡ machine.old }
     ensures refused { IfErr result (λ e. e ≡ refusals.OutOfMemory) }
 {

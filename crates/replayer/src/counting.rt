@@ -28,7 +28,8 @@ pub fn count_at<R: Threads + Wait + Sync>(
     hart: u32,
     workers: u32,
 ) -> Result<Option<u64>, RunError>
-    ensures count { IfOk result (λ n. (plan : Planned) × IsPlanFor recording.now plan × IsCountAt recording.now.rounds (start_of recording.now plan) round hart n) }
+    ensures count { IfOk result (λ n. (plan : Planned) × IsPlanFor recording.now plan ×
+        IsCountAt recording.now.rounds (start_of recording.now plan) round hart n) }
     ensures in_order { RefusedInOrder workers recording.now result }
 {
     let mut machine = opened_untraced(alloc, recording, workers)?;

@@ -50,7 +50,8 @@ pub(crate) fn seen_untraced(machine: &UntracedMachine, round: u32) -> Seen<'_>
     ensures seen { (m : Running) → IsUntraced m machine.now → IsSeenOf result m.state }
     ensures harts { length result.harts.now ≡ machine.now.plan.harts }
     ensures round { result.round ≡ round }
-    ensures stops { (m : Running) → IsUntraced m machine.now → All (λ h. has_stop h.stop ≡ true) result.harts.now }
+    ensures stops { (m : Running) → IsUntraced m machine.now →
+        All (λ h. has_stop h.stop ≡ true) result.harts.now }
 {
     Seen {
         harts: machine.harts(),
@@ -64,7 +65,8 @@ pub(crate) fn seen_untraced(machine: &UntracedMachine, round: u32) -> Seen<'_>
 pub(crate) fn keep(alloc: Global, seen: &Seen<'_>, every: u32) -> Result<Kept, RunError>
     requires { All (λ h. has_stop h.stop ≡ true) seen.now.harts.now }
     ensures kept { IfOk result (λ k. kept_view k ≡ kept_in every seen.now) }
-    ensures ranges { IfOk result (λ k. (kept_after (length seen.now.harts.now) every seen.now.round).Has (kept_view k)) }
+    ensures ranges { IfOk result (λ k.
+        (kept_after (length seen.now.harts.now) every seen.now.round).Has (kept_view k)) }
     ensures refused { IfErr result (λ e. e ≡ refusals.OutOfMemory) }
 {
     let summary = summary_of(alloc, seen)?;
@@ -94,7 +96,8 @@ fn summary_of(alloc: Global, seen: &Seen<'_>) -> Result<Summary, RunError>
 fn summaries_of(alloc: Global, harts: &[Hart]) -> Result<Vec<HartSummary>, RunError>
     requires { All (λ h. has_stop h.stop ≡ true) harts.now }
     ensures summaries { IfOk result (λ v. map hart_view v.items ≡ map hart_summary_of harts.now) }
-    ensures ranges { IfOk result (λ v. HaveEach (length harts.now) 0 (λ i. hart_summary) (map hart_view v.items)) }
+    ensures ranges { IfOk result (λ v.
+        HaveEach (length harts.now) 0 (λ i. hart_summary) (map hart_view v.items)) }
     ensures refused { IfErr result (λ e. e ≡ refusals.OutOfMemory) }
 {
     let mut summaries = Vec::new(alloc);
@@ -139,7 +142,8 @@ fn doubleword(number: u64) -> u64
 /// Registers x1 to x31 of harts.
 fn registers_of_all(alloc: Global, harts: &[Hart]) -> Result<Vec<Vec<u64>>, RunError>
     ensures registers { IfOk result (λ v. map (λ r. r.items) v.items ≡ map registers_of harts.now) }
-    ensures ranges { IfOk result (λ v. (registers (length harts.now)).Has (map (λ r. r.items) v.items)) }
+    ensures ranges { IfOk result (λ v.
+        (registers (length harts.now)).Has (map (λ r. r.items) v.items)) }
     ensures refused { IfErr result (λ e. e ≡ refusals.OutOfMemory) }
 {
     let mut all = Vec::new(alloc);

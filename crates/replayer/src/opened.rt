@@ -18,7 +18,8 @@ pub(crate) fn opened(
     recording: &Recording,
     workers: u32,
 ) -> Result<Machine, RunError>
-    ensures machine { IfOk result (λ m. (plan : Planned) × IsPlanFor recording.now plan × (m ≡ start_of recording.now plan)) }
+    ensures machine { IfOk result (λ m. (plan : Planned) × IsPlanFor recording.now plan ×
+        (m ≡ start_of recording.now plan)) }
     ensures in_range { IfOk result (λ _. AreWorkers workers) }
     ensures in_order { RefusedInOrder workers recording.now result }
 {
@@ -33,7 +34,8 @@ pub(crate) fn opened_untraced(
     recording: &Recording,
     workers: u32,
 ) -> Result<UntracedMachine, RunError>
-    ensures machine { IfOk result (λ u. (plan : Planned) × IsPlanFor recording.now plan × IsUntraced (start_of recording.now plan) u) }
+    ensures machine { IfOk result (λ u. (plan : Planned) × IsPlanFor recording.now plan ×
+        IsUntraced (start_of recording.now plan) u) }
     ensures in_range { IfOk result (λ _. AreWorkers workers) }
     ensures in_order { RefusedInOrder workers recording.now result }
 {
@@ -45,7 +47,8 @@ pub(crate) fn opened_untraced(
 fn settings_of(recording: &Recording, workers: u32) -> Settings<'_>
     ensures format { result.format ≡ format_of recording.now.format }
     ensures machine { (result.harts ≡ recording.now.harts) × (result.pages ≡ recording.now.pages) }
-    ensures rounds { (result.rounds ≡ recording.now.rounds) × (result.budget ≡ recording.now.budget) × (result.workers ≡ workers) }
+    ensures rounds { (result.rounds ≡ recording.now.rounds) ×
+        (result.budget ≡ recording.now.budget) × (result.workers ≡ workers) }
     ensures plan { result.plan.now ≡ recording.now.plan }
     ensures bad { AreNoWorkers workers → settings_fault result ≡ Some refusals.WorkersOutOfRange }
     ensures good { AreWorkers workers → settings_fault result ≡ None }

@@ -34,7 +34,8 @@ pub fn state_at<R: Threads + Wait + Sync>(
     count: u64,
     workers: u32,
 ) -> Result<Option<Hart>, RunError>
-    ensures hart { IfOk result (λ h. (plan : Planned) × IsPlanFor recording.now plan × (h ≡ hart_at recording.now.rounds (start_of recording.now plan) round hart count)) }
+    ensures hart { IfOk result (λ h. (plan : Planned) × IsPlanFor recording.now plan ×
+        (h ≡ hart_at recording.now.rounds (start_of recording.now plan) round hart count)) }
     ensures in_order { RefusedInOrder workers recording.now result }
 {
     let machine = opened_untraced(alloc, recording, workers)?;
@@ -59,7 +60,8 @@ pub(crate) fn hart_in_round<R: Threads + Wait + Sync>(
     requires workers { (1 ≤ workers) × (workers ≤ 16) }
     requires rounds { machine.rounds + before + 1 < 2 ^ 32 }
     requires run { (m : Running) × IsUntraced m machine }
-    ensures hart { (m : Running) → IsUntraced m machine → IfOk result (λ h. h ≡ hart_after (words_of m.code) m.plan.budget (quotas_of m.plan) (after_rounds before m).state hart count) }
+    ensures hart { (m : Running) → IsUntraced m machine → IfOk result (λ h. h ≡ hart_after (words_of
+        m.code) m.plan.budget (quotas_of m.plan) (after_rounds before m).state hart count) }
     ensures refused { IfErr result (λ e. e ≡ refusals.OutOfMemory) }
 {
     machine.run(rt, before, workers)?;

@@ -33,7 +33,8 @@ pub fn state_before<R: Threads + Wait + Sync>(
     place: u64,
     workers: u32,
 ) -> Result<Option<(u32, Hart)>, RunError>
-    ensures before { IfOk result (λ x. (plan : Planned) × IsPlanFor recording.now plan × IsStateBefore recording.now.rounds (start_of recording.now plan) hart place x) }
+    ensures before { IfOk result (λ x. (plan : Planned) × IsPlanFor recording.now plan ×
+        IsStateBefore recording.now.rounds (start_of recording.now plan) hart place x) }
     ensures in_order { RefusedInOrder workers recording.now result }
 {
     let mut machine = opened_untraced(alloc, recording, workers)?;
@@ -66,7 +67,8 @@ fn round_of<R: Threads + Wait + Sync>(
 ) -> Result<Option<(u32, u64)>, RunError>
     requires workers { (1 ≤ workers) × (workers ≤ 16) }
     requires opened { machine.old.rounds ≡ 0 }
-    ensures round { (m : Running) → IsUntraced m machine.old → Begins m hart → IfOk result (λ x. IsRoundOf rounds m hart place x) }
+    ensures round { (m : Running) → IsUntraced m machine.old → Begins m hart →
+        IfOk result (λ x. IsRoundOf rounds m hart place x) }
     ensures refused { IfErr result (λ e. e ≡ refusals.OutOfMemory) }
 {
     let mut before = 0;

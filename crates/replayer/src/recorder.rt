@@ -31,9 +31,11 @@ pub fn record<R: Threads + Wait + Sync>(
     input: &[u8],
     settings: &Settings<'_>,
 ) -> Result<Recording, RunError>
-    ensures recording { IfOk result (λ r. (plan : Planned) × IsPlan settings.now plan × (r ≡ recorded_of settings.now 0 image.now input.now plan)) }
+    ensures recording { IfOk result (λ r. (plan : Planned) × IsPlan settings.now plan ×
+        (r ≡ recorded_of settings.now 0 image.now input.now plan)) }
     ensures in_order { RefusedInOrder settings.now image.now result }
-    ensures errors { settings_fault settings.now ≡ None → IfErr result (λ e. IsReason settings.now image.now e) }
+    ensures errors { settings_fault settings.now ≡ None →
+        IfErr result (λ e. IsReason settings.now image.now e) }
 {
     record_with(rt, alloc, image, input, settings, 0)
 }
@@ -51,9 +53,11 @@ pub fn record_with<R: Threads + Wait + Sync>(
     settings: &Settings<'_>,
     every: u32,
 ) -> Result<Recording, RunError>
-    ensures recording { IfOk result (λ r. (plan : Planned) × IsPlan settings.now plan × (r ≡ recorded_of settings.now every image.now input.now plan)) }
+    ensures recording { IfOk result (λ r. (plan : Planned) × IsPlan settings.now plan ×
+        (r ≡ recorded_of settings.now every image.now input.now plan)) }
     ensures in_order { RefusedInOrder settings.now image.now result }
-    ensures errors { settings_fault settings.now ≡ None → IfErr result (λ e. IsReason settings.now image.now e) }
+    ensures errors { settings_fault settings.now ≡ None →
+        IfErr result (λ e. IsReason settings.now image.now e) }
 {
     record_observed(rt, alloc, image, input, settings, every, &mut Unobserved)
 }
@@ -72,9 +76,11 @@ pub fn record_observed<O: Observer, R: Threads + Wait + Sync>(
     every: u32,
     observer: &mut O,
 ) -> Result<Recording, RunError>
-    ensures recording { IfOk result (λ r. (plan : Planned) × IsPlan settings.now plan × (r ≡ recorded_of settings.now every image.now input.now plan)) }
+    ensures recording { IfOk result (λ r. (plan : Planned) × IsPlan settings.now plan ×
+        (r ≡ recorded_of settings.now every image.now input.now plan)) }
     ensures in_order { RefusedInOrder settings.now image.now result }
-    ensures errors { settings_fault settings.now ≡ None → IfErr result (λ e. IsReason settings.now image.now e) }
+    ensures errors { settings_fault settings.now ≡ None →
+        IfErr result (λ e. IsReason settings.now image.now e) }
 {
     let mut machine = prepare_untraced(alloc, image, input, settings)?;
     let kept = keep_rounds(
@@ -103,8 +109,10 @@ fn keep_rounds<O: Observer, R: Threads + Wait + Sync>(
     requires opened { machine.old.rounds ≡ 0 }
     // The harts of a run have good stops.
     requires run { (m : Running) × IsUntraced m machine.old }
-    ensures kept { (m : Running) → IsUntraced m machine.old → IfOk result (λ v. map kept_view v.items ≡ kept_of_rounds every rounds m) }
-    ensures ranges { IfOk result (λ v. HaveEach rounds 1 (kept_after machine.old.plan.harts every) (map kept_view v.items)) }
+    ensures kept { (m : Running) → IsUntraced m machine.old →
+        IfOk result (λ v. map kept_view v.items ≡ kept_of_rounds every rounds m) }
+    ensures ranges { IfOk result (λ v.
+        HaveEach rounds 1 (kept_after machine.old.plan.harts every) (map kept_view v.items)) }
     ensures refused { IfErr result (λ e. e ≡ refusals.OutOfMemory) }
 {
     let mut kept = Vec::new(alloc);
@@ -127,8 +135,10 @@ fn recording_of(
     kept: Vec<Kept>,
 ) -> Result<Recording, RunError>
     requires settings { IsInRange settings.now }
-    requires kept { HaveEach settings.now.rounds 1 (kept_after settings.now.harts every) (map kept_view kept.items) }
-    ensures ok { IfOk result (λ r. r ≡ recorded_with settings.now every image.now input.now (map kept_view kept.items)) }
+    requires kept { HaveEach settings.now.rounds 1 (kept_after settings.now.harts every)
+        (map kept_view kept.items) }
+    ensures ok { IfOk result (λ r. r ≡
+        recorded_with settings.now every image.now input.now (map kept_view kept.items)) }
     ensures err { IfErr result (λ e. e ≡ refusals.OutOfMemory) }
 {
     Ok(Recording::of(Parts {

@@ -30,7 +30,8 @@ pub fn replay<R: Threads + Wait + Sync>(
     recording: &Recording,
     workers: u32,
 ) -> Result<Verdict, RunError>
-    ensures verdict { IfOk result (λ v. (plan : Planned) × IsPlanFor recording.now plan × IsVerdict recording.now (start_of recording.now plan) v) }
+    ensures verdict { IfOk result (λ v. (plan : Planned) × IsPlanFor recording.now plan ×
+        IsVerdict recording.now (start_of recording.now plan) v) }
     ensures in_order { RefusedInOrder workers recording.now result }
 {
     replay_observed(rt, alloc, recording, workers, &mut Unobserved)
@@ -49,7 +50,8 @@ pub fn replay_observed<O: Observer, R: Threads + Wait + Sync>(
     workers: u32,
     observer: &mut O,
 ) -> Result<Verdict, RunError>
-    ensures verdict { IfOk result (λ v. (plan : Planned) × IsPlanFor recording.now plan × IsVerdict recording.now (start_of recording.now plan) v) }
+    ensures verdict { IfOk result (λ v. (plan : Planned) × IsPlanFor recording.now plan ×
+        IsVerdict recording.now (start_of recording.now plan) v) }
     ensures in_order { RefusedInOrder workers recording.now result }
 {
     let mut machine = opened_untraced(alloc, recording, workers)?;
@@ -78,7 +80,8 @@ fn first_difference<O: Observer, R: Threads + Wait + Sync>(
     requires workers { (1 ≤ workers) × (workers ≤ 16) }
     requires opened { machine.old.rounds ≡ 0 }
     requires rounds { length kept.now < 2 ^ 32 }
-    ensures verdict { (m : Running) → IsUntraced m machine.old → IfOk result (λ v. IsVerdictOn (map kept_view kept.now) every m v) }
+    ensures verdict { (m : Running) → IsUntraced m machine.old →
+        IfOk result (λ v. IsVerdictOn (map kept_view kept.now) every m v) }
     ensures refused { IfErr result (λ e. e ≡ refusals.OutOfMemory) }
 {
     for place in 0..kept.len() {
@@ -94,7 +97,8 @@ fn first_difference<O: Observer, R: Threads + Wait + Sync>(
 
 /// The verdict after one more round, where the one on the rounds before it is this.
 pub(crate) fn next_verdict(before: Verdict, kept: &Kept, every: u32, seen: &Seen<'_>) -> Verdict
-    ensures { IsNextVerdict before (kept_view kept.now ≡ kept_in every seen.now) seen.now.round result }
+    ensures { IsNextVerdict before (kept_view kept.now ≡
+        kept_in every seen.now) seen.now.round result }
 {
     match before {
         Verdict::Differs(_) => before,

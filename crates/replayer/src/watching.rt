@@ -37,7 +37,8 @@ pub fn watch<R: Threads + Wait + Sync>(
     ranges: &[Range],
     workers: u32,
 ) -> Result<Vec<Event>, RunError>
-    ensures hits { IfOk result (λ v. (plan : Planned) × IsPlanFor recording.now plan × (v.items ≡ hits_of recording.now (start_of recording.now plan) ranges.now)) }
+    ensures hits { IfOk result (λ v. (plan : Planned) × IsPlanFor recording.now plan ×
+        (v.items ≡ hits_of recording.now (start_of recording.now plan) ranges.now)) }
     ensures in_order { RefusedInOrder workers recording.now result }
 {
     let mut machine = opened_untraced(alloc, recording, workers)?;
@@ -74,7 +75,9 @@ pub fn watch_rounds<O: Observer, R: Threads + Wait + Sync>(
     workers: u32,
     observer: &mut O,
 ) -> Result<Vec<Event>, RunError>
-    ensures hits { IfOk result (λ v. (plan : Planned) × IsPlanFor recording.now plan × (v.items ≡ of_rounds rounds.first rounds.last (hits_of recording.now (start_of recording.now plan) ranges.now))) }
+    ensures hits { IfOk result (λ v. (plan : Planned) × IsPlanFor recording.now plan ×
+        (v.items ≡ of_rounds rounds.first rounds.last
+        (hits_of recording.now (start_of recording.now plan) ranges.now))) }
     ensures in_order { RefusedInOrder workers recording.now result }
 {
     let mut machine = opened_untraced(alloc, recording, workers)?;
@@ -110,7 +113,9 @@ fn watch_run<O: Observer, R: Threads + Wait + Sync>(
     requires opened { machine.old.rounds ≡ 0 }
     // The next events of a run may be noted.
     requires run { (m : Running) × IsUntraced m machine.old }
-    ensures hits { (m : Running) → IsUntraced m machine.old → m.state.trace ≡ [] → IfOk result (λ v. v.items ≡ sought_in sought.entry.within sought.entry.ranges.now (after_rounds rounds m).state.trace) }
+    ensures hits { (m : Running) → IsUntraced m machine.old → m.state.trace ≡ [] →
+        IfOk result (λ v. v.items ≡
+        sought_in sought.entry.within sought.entry.ranges.now (after_rounds rounds m).state.trace) }
     ensures refused { IfErr result (λ e. e ≡ refusals.OutOfMemory) }
 {
     let mut found = Vec::new(alloc);
@@ -141,7 +146,8 @@ fn rounds_at_once(machine: &UntracedMachine, left: u32) -> u32
 
 /// Adds the events of a trace that are sought, in the order of the trace.
 fn add_sought(found: &mut Vec<Event>, trace: &Trace, sought: Sought<'_>) -> Result<(), OutOfMemory>
-    ensures { OnOk result (found.new.items ≡ found.old.items ++ sought_in sought.entry.within sought.entry.ranges.now trace.now.events) }
+    ensures { OnOk result (found.new.items ≡
+        found.old.items ++ sought_in sought.entry.within sought.entry.ranges.now trace.now.events) }
 {
     match sought.within {
         None => add_hits(found, trace, sought.ranges),
@@ -155,7 +161,8 @@ fn add_hits_within(
     ranges: &[Range],
     rounds: Rounds,
 ) -> Result<(), OutOfMemory>
-    ensures { OnOk result (found.new.items ≡ found.old.items ++ of_rounds rounds.first rounds.last (hits ranges.now trace.now.events)) }
+    ensures { OnOk result (found.new.items ≡
+        found.old.items ++ of_rounds rounds.first rounds.last (hits ranges.now trace.now.events)) }
 {
     for event in trace.events() {
         if is_hit(&event, ranges) && rounds.first <= event.round && event.round <= rounds.last {

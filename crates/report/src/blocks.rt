@@ -49,7 +49,8 @@ fn block_lines<R: Threads + Sync>(
         blocks,
         &|block: usize| -> Result<Line, OutOfMemory>
             requires { start + 16384 * block < 2 ^ 64 }
-            ensures { IfOk result (λ l. l ≡ block_text trace.entry.now.events (start + 16384 * block)) }
+            ensures { IfOk result (λ l. l ≡
+                block_text trace.entry.now.events (start + 16384 * block)) }
         { block_line(alloc, trace, start + BLOCK * block) },
     );
     match texts {
@@ -60,7 +61,8 @@ fn block_lines<R: Threads + Sync>(
 
 /// Puts the text of a block, if there was memory for it.
 fn put_block<S: Sink>(out: &mut S, text: &Result<Line, OutOfMemory>) -> Result<(), RunError>
-    ensures { (lines : List ℕ) → IfOk text.now (λ t. t ≡ lines) → Wrote lines (way (S.took out.old) (S.failures out.old) []) result (way (S.took out.new) (S.failures out.new) []) }
+    ensures { (lines : List ℕ) → IfOk text.now (λ t. t ≡ lines) → Wrote lines (way (S.took out.old)
+        (S.failures out.old) []) result (way (S.took out.new) (S.failures out.new) []) }
 {
     match text {
         Ok(line) => put_all(out, line.as_bytes()),
@@ -78,7 +80,8 @@ fn put_group<S: Sink, R: Threads + Sync>(
     blocks: usize,
 ) -> Result<(), RunError>
     requires { start + 16384 * blocks < 2 ^ 64 + 16384 }
-    ensures { Wrote (events_text (take (16384 * blocks) (drop start trace.now.events))) (way (S.took out.old) (S.failures out.old) []) result (way (S.took out.new) (S.failures out.new) []) }
+    ensures { Wrote (events_text (take (16384 * blocks) (drop start trace.now.events))) (way (S.took
+        out.old) (S.failures out.old) []) result (way (S.took out.new) (S.failures out.new) []) }
 {
     let texts = block_lines(rt, alloc, trace, start, blocks)?;
     for text in &texts {
@@ -97,7 +100,8 @@ fn put_blocks<S: Sink, R: Threads + Sync>(
 ) -> Result<(), RunError>
     requires some { 0 < workers }
     requires few { workers ≤ 16 }
-    ensures { Wrote (events_text trace.now.events) (way (S.took out.old) (S.failures out.old) []) result (way (S.took out.new) (S.failures out.new) []) }
+    ensures { Wrote (events_text trace.now.events) (way (S.took out.old) (S.failures out.old) [])
+        result (way (S.took out.new) (S.failures out.new) []) }
 {
     let mut left = trace.len();
     while left > 0 {
@@ -119,7 +123,8 @@ pub(crate) fn put_trace_on<S: Sink, R: Threads + Sync>(
     trace: &Trace,
 ) -> Result<(), RunError>
     requires { workers ≤ 16 }
-    ensures { Wrote (trace_text trace.now.events) (way (S.took out.old) (S.failures out.old) line.old) result (way (S.took out.new) (S.failures out.new) line.new) }
+    ensures { Wrote (trace_text trace.now.events) (way (S.took out.old) (S.failures out.old)
+        line.old) result (way (S.took out.new) (S.failures out.new) line.new) }
 {
     if workers <= 1 || trace.len() <= BLOCK {
         return put_trace(out, line, trace);

@@ -22,7 +22,8 @@ fn put_places<S: Sink>(
     places: &[usize],
 ) -> Result<(), RunError>
     requires { All (λ place. place < length trace.now.events) places.now }
-    ensures { Wrote (places_text trace.now.events places.now) (way (S.took out.old) (S.failures out.old) line.old) result (way (S.took out.new) (S.failures out.new) line.new) }
+    ensures { Wrote (places_text trace.now.events places.now) (way (S.took out.old)
+        (S.failures out.old) line.old) result (way (S.took out.new) (S.failures out.new) line.new) }
 {
     for place in places {
         put_event(out, line, &trace.event(*place))?;
@@ -31,7 +32,8 @@ fn put_places<S: Sink>(
 }
 
 fn put_checked<S: Sink>(out: &mut S, line: &mut Line, checked: bool) -> Result<(), RunError>
-    ensures wrote { Wrote (checked_text checked) (way (S.took out.old) (S.failures out.old) line.old) result (way (S.took out.new) (S.failures out.new) line.new) }
+    ensures wrote { Wrote (checked_text checked) (way (S.took out.old) (S.failures out.old)
+        line.old) result (way (S.took out.new) (S.failures out.new) line.new) }
     ensures empty { OnOk result (line.new ≡ []) }
 {
     line.text(checked_line(checked))?;
@@ -56,7 +58,8 @@ fn put_order<S: Sink>(
     checked: bool,
 ) -> Result<(), RunError>
     requires { All (λ place. place < length trace.now.events) places.now }
-    ensures wrote { Wrote (order_text trace.now.events places.now checked) (way (S.took out.old) (S.failures out.old) line.old) result (way (S.took out.new) (S.failures out.new) line.new) }
+    ensures wrote { Wrote (order_text trace.now.events places.now checked) (way (S.took out.old)
+        (S.failures out.old) line.old) result (way (S.took out.new) (S.failures out.new) line.new) }
     ensures empty { OnOk result (line.new ≡ []) }
 {
     put_count(out, line, "order ", places.len() as u64)?;
@@ -75,10 +78,16 @@ fn put_order<S: Sink>(
 /// `OutOfMemory` where the order, the check or a line found no memory, and `SinkFailed` where the sink failed. Nothing or
 /// a beginning of the text is out then.
 pub fn write_order<S: Sink>(alloc: Global, trace: &Trace, out: &mut S) -> Result<(), RunError>
-    ensures ok { OnOk result ((g : List ℕ) × (yes : Bool) × IsCheckedOrder trace.now g yes × (S.took out.new ≡ S.took out.old ++ order_text trace.now.events g yes)) }
+    ensures ok { OnOk result ((g : List ℕ) × (yes : Bool) × IsCheckedOrder trace.now g yes ×
+        (S.took out.new ≡ S.took out.old ++ order_text trace.now.events g yes)) }
     // The text of a trace of rounds says that its order meets RVWMO, and it does.
-    ensures meets { (budget : ℕ) → IsRoundTrace trace.now.events (opening_at trace.now.opening) budget → OnOk result ((g : List ℕ) × IsCheckedOrder trace.now g true × MeetsRvwmo trace.now.events (opening_at trace.now.opening) g × (S.took out.new ≡ S.took out.old ++ order_text trace.now.events g true)) }
-    ensures begun { OnErr result ((S.took out.new ≡ S.took out.old) ⊎ ((g : List ℕ) × (yes : Bool) × IsCheckedOrder trace.now g yes × BeganText (S.took out.old) (S.took out.new) (order_text trace.now.events g yes))) }
+    ensures meets { (budget : ℕ) → IsRoundTrace trace.now.events (opening_at trace.now.opening)
+        budget → OnOk result ((g : List ℕ) × IsCheckedOrder trace.now g true ×
+        MeetsRvwmo trace.now.events (opening_at trace.now.opening) g ×
+        (S.took out.new ≡ S.took out.old ++ order_text trace.now.events g true)) }
+    ensures begun { OnErr result ((S.took out.new ≡ S.took out.old) ⊎
+        ((g : List ℕ) × (yes : Bool) × IsCheckedOrder trace.now g yes ×
+        BeganText (S.took out.old) (S.took out.new) (order_text trace.now.events g yes))) }
     ensures sink { result ≡ Err RunError.SinkFailed → S.failures out.old < S.failures out.new }
     ensures errors { IfErr result (λ e. (e ≡ RunError.OutOfMemory) ⊎ (e ≡ RunError.SinkFailed)) }
 {

@@ -23,7 +23,8 @@ pub fn write_untraced<S: Sink>(
     out: &mut S,
 ) -> Result<(), RunError>
     ensures ok { OnOk result (S.took out.new ≡ S.took out.old ++ state_of state.now) }
-    ensures begun { OnErr result (BeganText (S.took out.old) (S.took out.new) (state_of state.now)) }
+    ensures begun { OnErr result
+        (BeganText (S.took out.old) (S.took out.new) (state_of state.now)) }
     ensures sink { result ≡ Err RunError.SinkFailed → S.failures out.old < S.failures out.new }
     ensures errors { IfErr result (λ e. (e ≡ RunError.OutOfMemory) ⊎ (e ≡ RunError.SinkFailed)) }
 {
@@ -32,7 +33,8 @@ pub fn write_untraced<S: Sink>(
 }
 
 fn put_untraced<S: Sink>(out: &mut S, line: &mut Line, state: &RunState<'_>) -> Result<(), RunError>
-    ensures wrote { Wrote (state_of state.now) (way (S.took out.old) (S.failures out.old) line.old) result (way (S.took out.new) (S.failures out.new) line.new) }
+    ensures wrote { Wrote (state_of state.now) (way (S.took out.old) (S.failures out.old) line.old)
+        result (way (S.took out.new) (S.failures out.new) line.new) }
     ensures empty { OnOk result (line.new ≡ []) }
 {
     put_head(out, line, state)?;
@@ -50,7 +52,8 @@ pub fn write_summary<S: Sink>(
     out: &mut S,
 ) -> Result<(), RunError>
     ensures ok { OnOk result (S.took out.new ≡ S.took out.old ++ summary_of state.now) }
-    ensures begun { OnErr result (BeganText (S.took out.old) (S.took out.new) (summary_of state.now)) }
+    ensures begun { OnErr result
+        (BeganText (S.took out.old) (S.took out.new) (summary_of state.now)) }
     ensures sink { result ≡ Err RunError.SinkFailed → S.failures out.old < S.failures out.new }
     ensures errors { IfErr result (λ e. (e ≡ RunError.OutOfMemory) ⊎ (e ≡ RunError.SinkFailed)) }
 {
@@ -59,7 +62,8 @@ pub fn write_summary<S: Sink>(
 }
 
 fn put_summary<S: Sink>(out: &mut S, line: &mut Line, state: &RunState<'_>) -> Result<(), RunError>
-    ensures wrote { Wrote (summary_of state.now) (way (S.took out.old) (S.failures out.old) line.old) result (way (S.took out.new) (S.failures out.new) line.new) }
+    ensures wrote { Wrote (summary_of state.now) (way (S.took out.old) (S.failures out.old)
+        line.old) result (way (S.took out.new) (S.failures out.new) line.new) }
     ensures empty { OnOk result (line.new ≡ []) }
 {
     put_count(out, line, "rounds ", state.rounds as u64)?;
@@ -69,7 +73,8 @@ fn put_summary<S: Sink>(out: &mut S, line: &mut Line, state: &RunState<'_>) -> R
 
 /// Puts the line of how many bytes of output there are, and all that was to be put before it.
 fn put_output_line<S: Sink>(out: &mut S, line: &mut Line, output: &[u8]) -> Result<(), RunError>
-    ensures wrote { Wrote (output_line output.now) (way (S.took out.old) (S.failures out.old) line.old) result (way (S.took out.new) (S.failures out.new) line.new) }
+    ensures wrote { Wrote (output_line output.now) (way (S.took out.old) (S.failures out.old)
+        line.old) result (way (S.took out.new) (S.failures out.new) line.new) }
     ensures empty { OnOk result (line.new ≡ []) }
 {
     put_count(out, line, "output ", output.len() as u64)?;

@@ -27,14 +27,16 @@ pub(crate) fn put_count<S: Sink>(
     word: &str,
     count: u64,
 ) -> Result<(), RunError>
-    ensures { Wrote (word.now ++ decimal count ++ codes "\n") (way (S.took out.old) (S.failures out.old) line.old) result (way (S.took out.new) (S.failures out.new) line.new) }
+    ensures { Wrote (word.now ++ decimal count ++ codes "\n") (way (S.took out.old)
+        (S.failures out.old) line.old) result (way (S.took out.new) (S.failures out.new) line.new) }
 {
     count_line(line, word, count)?;
     put_long(out, line)
 }
 
 fn put_hart<S: Sink>(out: &mut S, line: &mut Line, number: u64, hart: &Hart) -> Result<(), RunError>
-    ensures { Wrote (hart_text number hart.now) (way (S.took out.old) (S.failures out.old) line.old) result (way (S.took out.new) (S.failures out.new) line.new) }
+    ensures { Wrote (hart_text number hart.now) (way (S.took out.old) (S.failures out.old) line.old)
+        result (way (S.took out.new) (S.failures out.new) line.new) }
 {
     hart_lines(line, number, hart)?;
     put_long(out, line)
@@ -45,14 +47,16 @@ pub(crate) fn put_event<S: Sink>(
     line: &mut Line,
     event: &Event,
 ) -> Result<(), RunError>
-    ensures { Wrote (event_text event.now) (way (S.took out.old) (S.failures out.old) line.old) result (way (S.took out.new) (S.failures out.new) line.new) }
+    ensures { Wrote (event_text event.now) (way (S.took out.old) (S.failures out.old) line.old)
+        result (way (S.took out.new) (S.failures out.new) line.new) }
 {
     event_line(line, event)?;
     put_long(out, line)
 }
 
 fn put_events<S: Sink>(out: &mut S, line: &mut Line, trace: &Trace) -> Result<(), RunError>
-    ensures { Wrote (events_text trace.now.events) (way (S.took out.old) (S.failures out.old) line.old) result (way (S.took out.new) (S.failures out.new) line.new) }
+    ensures { Wrote (events_text trace.now.events) (way (S.took out.old) (S.failures out.old)
+        line.old) result (way (S.took out.new) (S.failures out.new) line.new) }
 {
     for event in trace.events() {
         put_event(out, line, &event)?;
@@ -65,7 +69,8 @@ pub(crate) fn put_trace<S: Sink>(
     line: &mut Line,
     trace: &Trace,
 ) -> Result<(), RunError>
-    ensures { Wrote (trace_text trace.now.events) (way (S.took out.old) (S.failures out.old) line.old) result (way (S.took out.new) (S.failures out.new) line.new) }
+    ensures { Wrote (trace_text trace.now.events) (way (S.took out.old) (S.failures out.old)
+        line.old) result (way (S.took out.new) (S.failures out.new) line.new) }
 {
     put_count(out, line, "trace ", trace.len() as u64)?;
     put_events(out, line, trace)
@@ -76,7 +81,8 @@ pub(crate) fn put_harts<S: Sink>(
     line: &mut Line,
     harts: &[Hart],
 ) -> Result<(), RunError>
-    ensures { Wrote (harts_text 0 harts.now) (way (S.took out.old) (S.failures out.old) line.old) result (way (S.took out.new) (S.failures out.new) line.new) }
+    ensures { Wrote (harts_text 0 harts.now) (way (S.took out.old) (S.failures out.old) line.old)
+        result (way (S.took out.new) (S.failures out.new) line.new) }
 {
     for (number, hart) in harts.iter().enumerate() {
         put_hart(out, line, number as u64, hart)?;
@@ -87,7 +93,9 @@ pub(crate) fn put_harts<S: Sink>(
 fn put_page<S: Sink>(out: &mut S, line: &mut Line, pages: &Pages, page: u32) -> Result<(), RunError>
     requires page { page < length pages.now.ready }
     requires bytes { 4096 * page + 4096 ≤ length pages.now.memory.bytes }
-    ensures { Wrote (memory_rows (4096 * page) (page_bytes pages.now.memory.bytes page) 256) (way (S.took out.old) (S.failures out.old) line.old) result (way (S.took out.new) (S.failures out.new) line.new) }
+    ensures { Wrote (memory_rows (4096 *
+        page) (page_bytes pages.now.memory.bytes page) 256) (way (S.took out.old)
+        (S.failures out.old) line.old) result (way (S.took out.new) (S.failures out.new) line.new) }
 {
     match pages.page(page) {
         Some(bytes) => {
@@ -99,7 +107,9 @@ fn put_page<S: Sink>(out: &mut S, line: &mut Line, pages: &Pages, page: u32) -> 
 }
 
 fn put_pages<S: Sink>(out: &mut S, line: &mut Line, pages: &Pages) -> Result<(), RunError>
-    ensures { Wrote (memory_rows 0 pages.now.memory.bytes (length pages.now.memory.bytes / 16)) (way (S.took out.old) (S.failures out.old) line.old) result (way (S.took out.new) (S.failures out.new) line.new) }
+    ensures { Wrote (memory_rows 0 pages.now.memory.bytes (length pages.now.memory.bytes / 16))
+        (way (S.took out.old) (S.failures out.old) line.old) result
+        (way (S.took out.new) (S.failures out.new) line.new) }
 {
     for page in 0..pages.count() {
         put_page(out, line, pages, page)?;
@@ -108,21 +118,24 @@ fn put_pages<S: Sink>(out: &mut S, line: &mut Line, pages: &Pages) -> Result<(),
 }
 
 fn put_memory<S: Sink>(out: &mut S, line: &mut Line, pages: &Pages) -> Result<(), RunError>
-    ensures { Wrote (memory_text pages.now.memory.bytes) (way (S.took out.old) (S.failures out.old) line.old) result (way (S.took out.new) (S.failures out.new) line.new) }
+    ensures { Wrote (memory_text pages.now.memory.bytes) (way (S.took out.old) (S.failures out.old)
+        line.old) result (way (S.took out.new) (S.failures out.new) line.new) }
 {
     put_count(out, line, "memory ", pages.count() as u64)?;
     put_pages(out, line, pages)
 }
 
 fn put_row<S: Sink>(out: &mut S, line: &mut Line, output: &[u8]) -> Result<(), RunError>
-    ensures { Wrote (bytes_text (take 32 output.now) ++ codes "\n") (way (S.took out.old) (S.failures out.old) line.old) result (way (S.took out.new) (S.failures out.new) line.new) }
+    ensures { Wrote (bytes_text (take 32 output.now) ++ codes "\n") (way (S.took out.old)
+        (S.failures out.old) line.old) result (way (S.took out.new) (S.failures out.new) line.new) }
 {
     output_row(line, output)?;
     put_long(out, line)
 }
 
 fn put_rows<S: Sink>(out: &mut S, line: &mut Line, output: &[u8]) -> Result<(), RunError>
-    ensures { Wrote (output_rows output.now ((length output.now + 31) / 32)) (way (S.took out.old) (S.failures out.old) line.old) result (way (S.took out.new) (S.failures out.new) line.new) }
+    ensures { Wrote (output_rows output.now ((length output.now + 31) / 32)) (way (S.took out.old)
+        (S.failures out.old) line.old) result (way (S.took out.new) (S.failures out.new) line.new) }
 {
     for row in 0..(output.len() + 31) / 32 {
         put_row(out, line, &output[32 * row..])?;
@@ -131,14 +144,16 @@ fn put_rows<S: Sink>(out: &mut S, line: &mut Line, output: &[u8]) -> Result<(), 
 }
 
 fn put_output<S: Sink>(out: &mut S, line: &mut Line, output: &[u8]) -> Result<(), RunError>
-    ensures { Wrote (output_text output.now) (way (S.took out.old) (S.failures out.old) line.old) result (way (S.took out.new) (S.failures out.new) line.new) }
+    ensures { Wrote (output_text output.now) (way (S.took out.old) (S.failures out.old) line.old)
+        result (way (S.took out.new) (S.failures out.new) line.new) }
 {
     put_count(out, line, "output ", output.len() as u64)?;
     put_rows(out, line, output)
 }
 
 pub(crate) fn put_end<S: Sink>(out: &mut S, line: &mut Line) -> Result<(), RunError>
-    ensures wrote { Wrote (codes "end\n") (way (S.took out.old) (S.failures out.old) line.old) result (way (S.took out.new) (S.failures out.new) line.new) }
+    ensures wrote { Wrote (codes "end\n") (way (S.took out.old) (S.failures out.old) line.old)
+        result (way (S.took out.new) (S.failures out.new) line.new) }
     ensures empty { OnOk result (line.new ≡ []) }
 {
     line.text("end\n")?;
@@ -151,7 +166,8 @@ pub(crate) fn put_head<S: Sink>(
     line: &mut Line,
     state: &RunState<'_>,
 ) -> Result<(), RunError>
-    ensures { Wrote (head_of state.now) (way (S.took out.old) (S.failures out.old) line.old) result (way (S.took out.new) (S.failures out.new) line.new) }
+    ensures { Wrote (head_of state.now) (way (S.took out.old) (S.failures out.old) line.old) result
+        (way (S.took out.new) (S.failures out.new) line.new) }
 {
     put_count(out, line, "rounds ", state.rounds as u64)?;
     put_harts(out, line, state.harts)?;
@@ -165,7 +181,8 @@ fn put_state<S: Sink>(
     state: &RunState<'_>,
     trace: &Trace,
 ) -> Result<(), RunError>
-    ensures wrote { Wrote (report_with state.now trace.now.events) (way (S.took out.old) (S.failures out.old) line.old) result (way (S.took out.new) (S.failures out.new) line.new) }
+    ensures wrote { Wrote (report_with state.now trace.now.events) (way (S.took out.old)
+        (S.failures out.old) line.old) result (way (S.took out.new) (S.failures out.new) line.new) }
     ensures empty { OnOk result (line.new ≡ []) }
 {
     put_head(out, line, state)?;
@@ -186,8 +203,10 @@ pub fn write_state<S: Sink>(
     trace: &Trace,
     out: &mut S,
 ) -> Result<(), RunError>
-    ensures ok { OnOk result (S.took out.new ≡ S.took out.old ++ report_with state.now trace.now.events) }
-    ensures begun { OnErr result (BeganText (S.took out.old) (S.took out.new) (report_with state.now trace.now.events)) }
+    ensures ok { OnOk result (S.took out.new ≡
+        S.took out.old ++ report_with state.now trace.now.events) }
+    ensures begun { OnErr result
+        (BeganText (S.took out.old) (S.took out.new) (report_with state.now trace.now.events)) }
     ensures sink { result ≡ Err RunError.SinkFailed → S.failures out.old < S.failures out.new }
     ensures errors { IfErr result (λ e. (e ≡ RunError.OutOfMemory) ⊎ (e ≡ RunError.SinkFailed)) }
 {
@@ -215,8 +234,10 @@ pub fn write_state_on<S: Sink, R: Threads + Sync>(
     trace: &Trace,
     out: &mut S,
 ) -> Result<(), RunError>
-    ensures ok { OnOk result (S.took out.new ≡ S.took out.old ++ report_with state.now trace.now.events) }
-    ensures begun { OnErr result (BeganText (S.took out.old) (S.took out.new) (report_with state.now trace.now.events)) }
+    ensures ok { OnOk result (S.took out.new ≡
+        S.took out.old ++ report_with state.now trace.now.events) }
+    ensures begun { OnErr result
+        (BeganText (S.took out.old) (S.took out.new) (report_with state.now trace.now.events)) }
     ensures sink { result ≡ Err RunError.SinkFailed → S.failures out.old < S.failures out.new }
     ensures errors { IfErr result (λ e. (e ≡ RunError.OutOfMemory) ⊎ (e ≡ RunError.SinkFailed)) }
 {

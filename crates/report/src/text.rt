@@ -77,7 +77,9 @@ fn bytes(width: Width) -> &'static str
 /// What follows the ordering bits of an access that is no fence: its bytes, and the numbers that it read and wrote.
 fn operands(tail: &mut Tail, address: u64, width: Width, numbers: (Option<u64>, Option<u64>))
     requires { length tail.old ≤ 1 }
-    ensures text { tail.new ≡ (codes " " ++ hex 8 address ++ codes " " ++ decimal (width_bytes width) ++ codes " " ++ number_text width numbers.0 ++ codes " " ++ number_text width numbers.1) ++ tail.old }
+    ensures text { tail.new ≡
+        (codes " " ++ hex 8 address ++ codes " " ++ decimal (width_bytes width) ++ codes " " ++
+        number_text width numbers.0 ++ codes " " ++ number_text width numbers.1) ++ tail.old }
     ensures length { length tail.new ≤ 46 }
 {
     number(tail, width, numbers.1);
@@ -92,7 +94,8 @@ fn operands(tail: &mut Tail, address: u64, width: Width, numbers: (Option<u64>, 
 
 fn fence(tail: &mut Tail, before: FenceSet, after: FenceSet, mode: FenceMode)
     requires { length tail.old ≤ 1 }
-    ensures text { tail.new ≡ (codes "fence " ++ decimal (set_number before) ++ codes " " ++ decimal (set_number after) ++ codes " " ++ mode_text mode) ++ tail.old }
+    ensures text { tail.new ≡ (codes "fence " ++ decimal (set_number before) ++ codes " " ++
+        decimal (set_number after) ++ codes " " ++ mode_text mode) ++ tail.old }
     ensures length { length tail.new ≤ 56 }
 {
     tail.text(match mode {
@@ -281,7 +284,8 @@ pub fn write_hart<S: Sink>(
     out: &mut S,
 ) -> Result<(), RunError>
     ensures ok { OnOk result (S.took out.new ≡ S.took out.old ++ hart_text number hart.now) }
-    ensures begun { OnErr result (BeganText (S.took out.old) (S.took out.new) (hart_text number hart.now)) }
+    ensures begun { OnErr result
+        (BeganText (S.took out.old) (S.took out.new) (hart_text number hart.now)) }
     ensures sink { result ≡ Err RunError.SinkFailed → S.failures out.old < S.failures out.new }
     ensures memory { result ≡ Err RunError.OutOfMemory → S.took out.new ≡ S.took out.old }
     ensures errors { IfErr result (λ e. (e ≡ RunError.OutOfMemory) ⊎ (e ≡ RunError.SinkFailed)) }
@@ -298,7 +302,8 @@ pub fn write_hart<S: Sink>(
 /// `OutOfMemory`: nothing is written then. `SinkFailed`: a beginning of the line is.
 pub fn write_event<S: Sink>(alloc: Global, event: &Event, out: &mut S) -> Result<(), RunError>
     ensures ok { OnOk result (S.took out.new ≡ S.took out.old ++ event_text event.now) }
-    ensures begun { OnErr result (BeganText (S.took out.old) (S.took out.new) (event_text event.now)) }
+    ensures begun { OnErr result
+        (BeganText (S.took out.old) (S.took out.new) (event_text event.now)) }
     ensures sink { result ≡ Err RunError.SinkFailed → S.failures out.old < S.failures out.new }
     ensures memory { result ≡ Err RunError.OutOfMemory → S.took out.new ≡ S.took out.old }
     ensures errors { IfErr result (λ e. (e ≡ RunError.OutOfMemory) ⊎ (e ≡ RunError.SinkFailed)) }

@@ -9,7 +9,8 @@ const LONG: usize = 32_768;
 
 /// Puts the line, which is empty then.
 pub(crate) fn put_line<S: Sink>(out: &mut S, line: &mut Line) -> Result<(), RunError>
-    ensures wrote { Wrote [] (way (S.took out.old) (S.failures out.old) line.old) result (way (S.took out.new) (S.failures out.new) line.new) }
+    ensures wrote { Wrote [] (way (S.took out.old) (S.failures out.old) line.old) result
+        (way (S.took out.new) (S.failures out.new) line.new) }
     ensures empty { OnOk result (line.new ≡ []) }
 {
     put_all(out, line.as_bytes())?;
@@ -19,7 +20,8 @@ pub(crate) fn put_line<S: Sink>(out: &mut S, line: &mut Line) -> Result<(), RunE
 
 /// Puts the line if it is long.
 pub(crate) fn put_long<S: Sink>(out: &mut S, line: &mut Line) -> Result<(), RunError>
-    ensures { Wrote [] (way (S.took out.old) (S.failures out.old) line.old) result (way (S.took out.new) (S.failures out.new) line.new) }
+    ensures { Wrote [] (way (S.took out.old) (S.failures out.old) line.old) result
+        (way (S.took out.new) (S.failures out.new) line.new) }
 {
     if line.as_bytes().len() < LONG {
         return Ok(());

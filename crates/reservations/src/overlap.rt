@@ -6,7 +6,8 @@ use round_schedule::Span;
 
 /// Whether the two share a byte. Sums of addresses are not formed, so none wraps.
 pub fn shares_byte(held: Span, span: Span) -> bool
-    ensures { result ≡ any_byte (in_range span.address (width_bytes span.width)) held.address (width_bytes held.width) }
+    ensures { result ≡ any_byte (in_range span.address (width_bytes span.width)) held.address
+        (width_bytes held.width) }
 {
     if span.address <= held.address {
         held.address - span.address < span.width.bytes()

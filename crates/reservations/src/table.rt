@@ -31,7 +31,8 @@ impl Model for Reservations {
 
     ghost view = { λ r. take r.harts r.entries };
 
-    ghost invariant = { λ r. (r.harts ≤ 64) × (r.any ≡ false → (h : ℕ) → h < r.harts → entry r.entries h ≡ None) };
+    ghost invariant = { λ r. (r.harts ≤ 64) ×
+        (r.any ≡ false → (h : ℕ) → h < r.harts → entry r.entries h ≡ None) };
 }
 
 impl Reservations {
@@ -48,49 +49,42 @@ impl Reservations {
     }
 
     /// Gives the hart this reservation, in place of any older one.
-    pub fn set(&mut self, hart: u32, addr: u64, width: Width)
+    pub fn set(&mut self, hart: u32, address: u64, width: Width)
         requires { hart < length self.old }
-        ensures { Sets hart (record { address = addr; width = width }) self.old self.new }
+        ensures { Sets hart (record { address = address; width = width }) self.old self.new }
     {
-        self.entries[hart as usize] = Some(Span {
-            address: addr,
-            width,
-        });
+        self.entries[hart as usize] = Some(Span { address, width });
         self.any = true;
     }
 
     /// Whether the hart has the reservation of just these bytes; it has none afterwards.
-    pub fn take(&mut self, hart: u32, addr: u64, width: Width) -> bool
+    pub fn take(&mut self, hart: u32, address: u64, width: Width) -> bool
         requires { hart < length self.old }
-        ensures answer { result ≡ is_span (entry self.old hart) (record { address = addr; width = width }) }
+        ensures answer { result ≡
+            is_span (entry self.old hart) (record { address = address; width = width }) }
         ensures drops { Drops hart self.old self.new }
     {
         let held = self.entries[hart as usize];
         self.entries[hart as usize] = None;
-        held == Some(Span {
-            address: addr,
-            width,
-        })
+        held == Some(Span { address, width })
     }
 
     /// Drops the reservations of other harts of which a byte is written.
-    pub fn break_by(&mut self, hart: u32, addr: u64, width: Width)
-        ensures { Breaks hart (record { address = addr; width = width }) self.old self.new }
+    pub fn break_by(&mut self, hart: u32, address: u64, width: Width)
+        ensures { Breaks hart (record { address = address; width = width }) self.old self.new }
     {
         if !self.any {
             return;
         }
-        let span = Span {
-            address: addr,
-            width,
-        };
+        let span = Span { address, width };
         self.any = break_others(&mut self.entries[..self.harts], hart as usize, span);
     }
 
     /// Whether no other hart than this one has a reservation.
     #[inline]
     pub fn is_only_of(&self, hart: u32) -> bool
-        ensures { IsTrue result ↔ ((h : ℕ) → h < length self.now → hart ≢ h → entry self.now h ≡ None) }
+        ensures { IsTrue result ↔
+            ((h : ℕ) → h < length self.now → hart ≢ h → entry self.now h ≡ None) }
     {
         !self.any || no_others(&self.entries[..self.harts], hart as usize)
     }
@@ -108,7 +102,8 @@ impl Reservations {
 }
 
 fn no_others(entries: &[Option<Span>], hart: usize) -> bool
-    ensures { IsTrue result ↔ ((h : ℕ) → h < length entries.now → hart ≢ h → entry entries.now h ≡ None) }
+    ensures { IsTrue result ↔
+        ((h : ℕ) → h < length entries.now → hart ≢ h → entry entries.now h ≡ None) }
 {
     for other in 0..entries.len() {
         if other != hart && entries[other].is_some() {
@@ -142,7 +137,8 @@ fn is_any(left: bool, entry: Option<Span>) -> bool
 
 /// The entry of hart `other` that is left after a write of `hart`.
 fn left_after(hart: usize, span: Span, other: usize, entry: Option<Span>) -> Option<Span>
-    ensures { result ≡ (if hart == other then entry else unless (in_range span.address (width_bytes span.width)) entry) }
+    ensures { result ≡ (if hart == other then entry else unless
+        (in_range span.address (width_bytes span.width)) entry) }
 {
     if hart == other {
         entry

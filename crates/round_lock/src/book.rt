@@ -34,9 +34,14 @@ pub struct RoundBook<E: Entry> {
 impl<E: Entry> Model for RoundBook<E> {
     ghost Value = { Bound };
 
-    ghost view = { λ b. record { table = b.table.shared.table_id; harts = b.table.shared.key.harts; seats = b.table.shared.key.seats } };
+    ghost view = { λ b. record {
+      table = b.table.shared.table_id;
+      harts = b.table.shared.key.harts;
+      seats = b.table.shared.key.seats;
+    } };
 
-    ghost invariant = { λ b. (b.table.shared.table_id.words ≡ 2) × (b.table.shared.table_id.slots ≡ 1) × (b.harts ≡ b.table.shared.key.harts) × (0 < b.table.shared.key.seats) };
+    ghost invariant = { λ b. (b.table.shared.table_id.words ≡ 2) × (b.table.shared.table_id.slots ≡
+        1) × (b.harts ≡ b.table.shared.key.harts) × (0 < b.table.shared.key.seats) };
 }
 
 impl<E: Entry> RoundBook<E> {
@@ -73,7 +78,8 @@ impl<E: Entry> RoundBook<E> {
         requires { s.old.table ≡ self.now.table }
         ensures named { IfSome result (λ t. (t.seat ≡ s.old.number) × (t.hart < s.old.harts)) }
         ensures new { IfSome result (λ t. has s.old.claims t.hart ≡ false) }
-        ensures claims { IfSome result (λ t. s.new ≡ record s.old { claims = s.old.claims ++ t.hart ∷ [] }) }
+        ensures claims { IfSome result (λ t. s.new ≡
+            record s.old { claims = s.old.claims ++ t.hart ∷ [] }) }
         ensures none { IfNone result (s.new ≡ record s.old { ended = true }) }
         ensures ended { s.old.ended ≡ true → IsNone result }
     {
@@ -164,10 +170,12 @@ impl<E: Entry> RoundBook<E> {
         requires table { Each (λ k. k.table ≡ self.table) seats.items }
         ensures harts { result.harts ≡ self.harts }
         ensures begins { Each (λ k. Begins k.seen result.history) seats.items }
-        ensures own { Each (λ k. k.own ≡ of_seat E.hart E.seat k.number result.history) seats.items }
+        ensures own { Each (λ k. k.own ≡
+            of_seat E.hart E.seat k.number result.history) seats.items }
         ensures whose { Each (λ e. has (numbers seats.items) (E.seat e) ≡ true) result.history }
         ensures parted { AllParted seats.items }
-        ensures all_claimed { Each (λ k. k.ended ≡ true → (h : ℕ) → h < self.harts → claimed_by seats.items h ≡ true) seats.items }
+        ensures all_claimed { Each (λ k. k.ended ≡ true → (h : ℕ) → h < self.harts →
+            claimed_by seats.items h ≡ true) seats.items }
         ensures made { IsMade E.hart E.seat E.right self.harts seats.items result.history }
     {
         let RoundBook { table, harts, .. } = self;

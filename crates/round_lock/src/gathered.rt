@@ -27,7 +27,8 @@ impl<E: Entry> Model for Gathered<E> {
 impl<E: Entry> Gathered<E> {
     /// The entry of a hart, if it was put.
     pub fn get(&self, hart: u32) -> Option<&E>
-        ensures entry { option_map (λ e. e.now) result ≡ entry_of E.hart E.seat hart self.now.history }
+        ensures entry { option_map (λ e. e.now) result ≡
+            entry_of E.hart E.seat hart self.now.history }
         ensures right { IfSome result (λ e. E.right e.now) }
     {
         self.history.iter().find(|e| e.hart_number() == hart)
@@ -38,7 +39,8 @@ impl<E: Entry> Gathered<E> {
         ensures taken { is_some result ≡ has (harts_of E.hart E.seat self.old.history) hart }
         ensures hart { IfSome result (λ e. E.hart e ≡ hart) }
         ensures right { IfSome result (λ e. E.right e) }
-        ensures others { (h : ℕ) → h ≢ hart → has (harts_of E.hart E.seat self.new.history) h ≡ has (harts_of E.hart E.seat self.old.history) h }
+        ensures others { (h : ℕ) → h ≢ hart → has (harts_of E.hart E.seat self.new.history) h ≡
+            has (harts_of E.hart E.seat self.old.history) h }
         ensures harts { self.new.harts ≡ self.old.harts }
     {
         let place = place_of(&self.history, hart)?;
@@ -62,7 +64,8 @@ impl<E: Entry> Gathered<E> {
 /// Where the entry of a hart stands, if it was put.
 fn place_of<E: Entry>(history: &[E], hart: u32) -> Option<usize>
     ensures none { IfNone result (has (harts_of E.hart E.seat history.now) hart ≡ false) }
-    ensures some { IfSome result (λ i. (i < length history.now) × ((d : E) → E.hart (slice_index_or history.now i d) ≡ hart)) }
+    ensures some { IfSome result (λ i. (i < length history.now) ×
+        ((d : E) → E.hart (slice_index_or history.now i d) ≡ hart)) }
 {
     for (i, entry) in history.iter().enumerate() {
         if entry.hart_number() == hart {

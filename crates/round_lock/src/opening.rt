@@ -17,8 +17,10 @@ impl<B: BookStart> RoundBook<HartRound<B>> {
     ) -> Result<(RoundBook<HartRound<B>>, Vec<Seat<HartRound<B>>>), OutOfMemory>
         requires start { start.now ≡ B.start }
         requires seats { (0 < seats) × (seats ≤ 16) }
-        ensures book { IfOk result (λ r. (r.0.harts ≡ length start.now.harts) × (r.0.seats ≡ seats)) }
-        ensures seats { IfOk result (λ r. r.1.items ≡ fresh_seats r.0.table (length start.now.harts) seats) }
+        ensures book { IfOk result (λ r. (r.0.harts ≡ length start.now.harts) ×
+            (r.0.seats ≡ seats)) }
+        ensures seats { IfOk result (λ r. r.1.items ≡
+            fresh_seats r.0.table (length start.now.harts) seats) }
     {
         let harts = start.harts().len() as u32;
         RoundBook::with_harts(start.pages().allocator(), harts, seats).map_err(|_| OutOfMemory)

@@ -39,7 +39,8 @@ impl<B: BookStart> HartRound<B> {
         accesses: Vec<Access>,
         waits: bool,
     ) -> HartRound<B>
-        requires { round_at B.start ticket.hart ≡ Some (content_from hart buffer accesses.items waits) }
+        requires { round_at B.start ticket.hart ≡
+            Some (content_from hart buffer accesses.items waits) }
         ensures ticket { ticket_of result ≡ ticket }
         ensures content { content_in result ≡ content_from hart buffer accesses.items waits }
     {

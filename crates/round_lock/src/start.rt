@@ -19,9 +19,11 @@ pub struct RoundStart<'a> {
 impl<'a> Model for RoundStart<'a> {
     ghost Value = { Start };
 
-    ghost view = { λ s. record { memory = s.pages.now.memory; quotas = s.quotas.now; harts = s.harts.now } };
+    ghost view = { λ s.
+        record { memory = s.pages.now.memory; quotas = s.quotas.now; harts = s.harts.now } };
 
-    ghost invariant = { λ s. (length s.quotas.now ≡ length s.harts.now) × (length s.harts.now ≤ 64) × Shows s.pages.now.memory s.table.now.first s.table.now.instructions };
+    ghost invariant = { λ s. (length s.quotas.now ≡ length s.harts.now) × (length s.harts.now ≤
+        64) × Shows s.pages.now.memory s.table.now.first s.table.now.instructions };
 }
 
 impl<'a> RoundStart<'a> {
@@ -35,7 +37,8 @@ impl<'a> RoundStart<'a> {
         requires quotas { length quotas.now ≡ length harts.now }
         requires few { length harts.now ≤ 64 }
         requires shows { Shows pages.now.memory table.now.first table.now.instructions }
-        ensures { result ≡ record { memory = pages.now.memory; quotas = quotas.now; harts = harts.now } }
+        ensures { result ≡
+            record { memory = pages.now.memory; quotas = quotas.now; harts = harts.now } }
     {
         RoundStart {
             pages,

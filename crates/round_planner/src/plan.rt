@@ -38,9 +38,14 @@ impl Model for Plan {
 
     ghost Value = { Planned };
 
-    ghost view = { λ p. record { harts = p.harts; rows = map (λ r. r.items) p.rows.items; budget = p.budget } };
+    ghost view = { λ p.
+        record { harts = p.harts; rows = map (λ r. r.items) p.rows.items; budget = p.budget } };
 
-    ghost invariant = { λ p. IsPlan (record { harts = p.harts; rows = map (λ r. r.items) p.rows.items; budget = p.budget }) };
+    ghost invariant = { λ p. IsPlan (record {
+      harts = p.harts;
+      rows = map (λ r. r.items) p.rows.items;
+      budget = p.budget;
+    }) };
 }
 
 fn is_row_out_of_range(row: &[u32]) -> bool
@@ -104,7 +109,8 @@ impl Plan {
         requires some_harts { 1 ≤ harts }
         requires few_harts { harts ≤ 64 }
         // The rows are those of the text.
-        ensures rows { IfOk result (λ p. (rows : List (List (List ℕ))) × IsPlanText text.now rows × (p.rows ≡ numbers_of rows)) }
+        ensures rows { IfOk result (λ p. (rows : List (List (List ℕ))) × IsPlanText text.now rows ×
+            (p.rows ≡ numbers_of rows)) }
         ensures harts { IfOk result (λ p. p.harts ≡ harts) }
         ensures budget { IfOk result (λ p. p.budget ≡ 1) }
         // A plan is accepted only where no cause stands.
@@ -112,7 +118,8 @@ impl Plan {
         // A cause that is answered stands, and is the least.
         ensures refused { IfErr result (λ e. e ≢ causes.OutOfMemory → IsLeast harts text.now e) }
         // Where causes stand, the least is answered, if memory doesn't run out.
-        ensures exact { (cause : Cause) → IsLeast harts text.now cause → (result ≡ Err cause) ⊎ (result ≡ Err causes.OutOfMemory) }
+        ensures exact { (cause : Cause) → IsLeast harts text.now cause →
+            (result ≡ Err cause) ⊎ (result ≡ Err causes.OutOfMemory) }
     {
         let rows = read_rows(alloc, text)?;
         check_rows(&rows, harts)?;
@@ -137,7 +144,8 @@ impl Plan {
         ensures plan { IfOk result (λ p. p ≡ planned harts (map (λ r. r.items) rows.items) budget) }
         // It is refused exactly where a cause stands in the numbers, by the least.
         ensures accepted { OnOk result (checked harts (map (λ r. r.items) rows.items) ≡ Ok tt) }
-        ensures refused { IfErr result (λ e. checked harts (map (λ r. r.items) rows.items) ≡ Err e) }
+        ensures refused { IfErr result (λ e. checked harts (map (λ r. r.items) rows.items) ≡
+            Err e) }
     {
         check_rows(&rows, harts)?;
         Ok(Plan {

@@ -26,7 +26,8 @@ impl Model for Reader {
 
     ghost Value = { Reading };
 
-    ghost view = { λ r. record { rows = map (λ v. v.items) r.rows.items; row = r.row.items; number = r.number } };
+    ghost view = { λ r.
+        record { rows = map (λ v. v.items) r.rows.items; row = r.row.items; number = r.number } };
 }
 
 /// The number after one more digit: none where the digit follows a first 0.
@@ -100,7 +101,8 @@ impl Reader {
 
     /// The rows, where a plan may end here.
     fn finish(self) -> Result<Vec<Vec<u32>>, PlanError>
-        ensures { MatchResult result (λ v. rows_at_end self ≡ Some (map (λ r. r.items) v.items)) (λ e. Refuses e (rows_at_end self)) }
+        ensures { MatchResult result (λ v. rows_at_end self ≡
+            Some (map (λ r. r.items) v.items)) (λ e. Refuses e (rows_at_end self)) }
     {
         if self.number.is_some() || !self.row.is_empty() || self.rows.is_empty() {
             return Err(PlanError::NotAPlan);
@@ -111,7 +113,8 @@ impl Reader {
 
 /// The rows of a text.
 pub fn read_rows(alloc: Global, text: &[u8]) -> Result<Vec<Vec<u32>>, PlanError>
-    ensures { MatchResult result (λ v. read_from start text.now ≡ Some (map (λ r. r.items) v.items)) (λ e. Refuses e (read_from start text.now)) }
+    ensures { MatchResult result (λ v. read_from start text.now ≡
+        Some (map (λ r. r.items) v.items)) (λ e. Refuses e (read_from start text.now)) }
 {
     let mut reader = Reader::new(alloc);
     for byte in text {

@@ -51,7 +51,8 @@ fn write_row(text: &mut Vec<u8>, row: &[u32]) -> Result<(), OutOfMemory>
 
 /// Adds the rows of a plan.
 pub fn write_rows(text: &mut Vec<u8>, rows: &[Vec<u32>]) -> Result<(), OutOfMemory>
-    ensures { OnOk result (text.new.items ≡ text.old.items ++ plan_text (map (λ r. r.items) rows.now)) }
+    ensures { OnOk result (text.new.items ≡
+        text.old.items ++ plan_text (map (λ r. r.items) rows.now)) }
 {
     for row in rows {
         write_row(text, row)?;

@@ -1,4 +1,4 @@
-pub mod Desks
+pub mod TabledTurns
 pub mod Folds
 pub mod Forms
 pub mod Holding

@@ -8,14 +8,14 @@ use Rattle.round_schedule.specs.declared.access.Stepped.{Stepped}
 use Rattle.round_schedule.specs.declared.access.Stepped.TheVariants.{Done, Waits, Stopped}
 use Rattle.round_schedule.specs.declared.event.Event.{Event}
 use Rattle.round_schedule.specs.declared.span.Span.{Span}
-use Rattle.round_schedule.specs.ByTable.{RoundByTable, RoundsByTable, RunsByTable, Tabled, committed_table, counter_of, opening_tabled, tabled_round, tabled_run}
-use Rattle.round_schedule.specs.Desk.{Counter, Desk, SerialByTable, counter_from, counter_joined, desk_from, desk_next, desk_of, desk_turned}
+use Rattle.round_schedule.specs.ByTable.{RoundByTable, RoundsByTable, RunsByTable, Tabled, committed_table, tabled_phase_of, opening_tabled, tabled_round, tabled_run}
+use Rattle.round_schedule.specs.TabledTurn.{TabledPhase, TabledTurn, SerialByTable, tabled_phase_from, tabled_phase_joined, tabled_turn_from, tabled_turn_next, tabled_turn_of, tabled_turn_taken}
 use Rattle.round_schedule.specs.Held.{unless}
 use Rattle.round_schedule.specs.RoundTrace.{IsRoundTrace}
 use Rattle.round_schedule.specs.Schedule.{HartRound, SerialOutcome, State, Words, all_stores, events_from, hart_rounds, rest_of, round_of, run_of, serial_from}
 use Rattle.round_schedule.specs.Sound.{Sound}
 use Rattle.round_schedule.specs.Tables.{Commits, Tied, covered_by_others, entry}
-use Rattle.round_schedule.proofs.Desks.{serial_by_table}
+use Rattle.round_schedule.proofs.TabledTurns.{serial_by_table}
 use Rattle.round_schedule.proofs.Holding.{held_start}
 use Rattle.round_schedule.proofs.Runs.{traces}
 use Rattle.round_schedule.proofs.Tabling.{commit_ties}
@@ -46,34 +46,34 @@ module _ {H C : Type 0} (w : Words H C) (budget n : ℕ) where
   length_push [] x = refl
   length_push (y ∷ ys) x = ap (λ (j : ℕ). suc j) (length_push ys x)
 
-  counted_harts : (i : ℕ) (rs : List (HartRound H)) (s : Counter H C) → length (counter_from w budget n i rs s).harts ≡ length s.harts + length rs
+  counted_harts : (i : ℕ) (rs : List (HartRound H)) (s : TabledPhase H C) → length (tabled_phase_from w budget n i rs s).harts ≡ length s.harts + length rs
   counted_harts i [] s = omega arith
   counted_harts i (r ∷ rs) s =
-      let d : Desk H C = desk_of w budget n s i r.last.hart r.waits in
-      omega (arith, counted_harts (suc i) rs (counter_joined s d), length_push s.harts d.hart)
+      let d : TabledTurn H C = tabled_turn_of w budget n s i r.last.hart r.waits in
+      omega (arith, counted_harts (suc i) rs (tabled_phase_joined s d), length_push s.harts d.hart)
 
-  desk_answered : (i k : ℕ) (p : Desk H C) (y : Stepped) (o : SerialOutcome H C) → ((q : Desk H C) → IsBytes q.bytes → IsBytes (desk_from w n i k q).bytes) → IsBytes p.bytes →
-      IsBytes (desk_turned i y p o (desk_from w n i k)).bytes
-  desk_answered i k p (Done a) o rest small = rest _ (bytes_after p.bytes o.stores small)
-  desk_answered i k p Waits o rest small = small
-  desk_answered i k p (Stopped code) o rest small = small
+  tabled_turn_answered : (i k : ℕ) (p : TabledTurn H C) (y : Stepped) (o : SerialOutcome H C) → ((q : TabledTurn H C) → IsBytes q.bytes → IsBytes (tabled_turn_from w n i k q).bytes) → IsBytes p.bytes →
+      IsBytes (tabled_turn_taken i y p o (tabled_turn_from w n i k)).bytes
+  tabled_turn_answered i k p (Done a) o rest small = rest _ (bytes_after p.bytes o.stores small)
+  tabled_turn_answered i k p Waits o rest small = small
+  tabled_turn_answered i k p (Stopped code) o rest small = small
 
-  desk_stopped : (p d : Desk H C) (s : Bool) → IsBytes p.bytes → IsBytes d.bytes → IsBytes (if s then p else d).bytes
-  desk_stopped p d true a b = a
-  desk_stopped p d false a b = b
+  tabled_turn_stopped : (p d : TabledTurn H C) (s : Bool) → IsBytes p.bytes → IsBytes d.bytes → IsBytes (if s then p else d).bytes
+  tabled_turn_stopped p d true a b = a
+  tabled_turn_stopped p d false a b = b
 
-  desk_bytes : (i k : ℕ) (p : Desk H C) → IsBytes p.bytes → IsBytes (desk_from w n i k p).bytes
-  unfolding desk_from
-  desk_bytes i zero p small = small
-  desk_bytes i (suc k) p small =
-      desk_stopped p (desk_turned i (desk_next w n i p).answer p (desk_next w n i p) (desk_from w n i k)) (w.stopped p.hart) small
-      (desk_answered i k p (desk_next w n i p).answer (desk_next w n i p) (desk_bytes i k) small)
+  tabled_turn_bytes : (i k : ℕ) (p : TabledTurn H C) → IsBytes p.bytes → IsBytes (tabled_turn_from w n i k p).bytes
+  unfolding tabled_turn_from
+  tabled_turn_bytes i zero p small = small
+  tabled_turn_bytes i (suc k) p small =
+      tabled_turn_stopped p (tabled_turn_taken i (tabled_turn_next w n i p).answer p (tabled_turn_next w n i p) (tabled_turn_from w n i k)) (w.stopped p.hart) small
+      (tabled_turn_answered i k p (tabled_turn_next w n i p).answer (tabled_turn_next w n i p) (tabled_turn_bytes i k) small)
 
-  counted_bytes : (i : ℕ) (rs : List (HartRound H)) (s : Counter H C) → IsBytes s.bytes → IsBytes (counter_from w budget n i rs s).bytes
+  counted_bytes : (i : ℕ) (rs : List (HartRound H)) (s : TabledPhase H C) → IsBytes s.bytes → IsBytes (tabled_phase_from w budget n i rs s).bytes
   counted_bytes i [] s small = small
   counted_bytes i (r ∷ rs) s small =
-      counted_bytes (suc i) rs (counter_joined s (desk_of w budget n s i r.last.hart r.waits))
-      (desk_bytes i (if r.waits then budget else 0) (record { hart = r.last.hart; bytes = s.bytes; console = s.console; table = s.table; log = [] }) small)
+      counted_bytes (suc i) rs (tabled_phase_joined s (tabled_turn_of w budget n s i r.last.hart r.waits))
+      (tabled_turn_bytes i (if r.waits then budget else 0) (record { hart = r.last.hart; bytes = s.bytes; console = s.console; table = s.table; log = [] }) small)
 
 -- ---- one round
 
@@ -84,7 +84,7 @@ round_meets {H = H} {C = C} w sound budget quotas m small tied size =
     let rs : List (HartRound H) = hart_rounds w m.state.bytes (quotas m.state.rounds) m.state.harts in
     let n : ℕ = m.state.rounds + 1 in
     let t : List Event = m.state.trace ++ events_from n 0 rs in
-    let s : Counter H C = counter_of m rs in
+    let s : TabledPhase H C = tabled_phase_of m rs in
     let many : length rs ≡ length m.state.harts = length-hart_rounds w m.state.bytes (quotas m.state.rounds) m.state.harts in
     let kept : length s.table ≡ length m.table = length-committed 0 rs m.table in
     let after_commit : Tied s.table t = commit_ties w sound m.state.bytes small n (quotas m.state.rounds) m.state.harts m.table s.table m.state.trace tied (commits rs m.table) in

@@ -5,12 +5,12 @@ use Rattle.pages.specs.Memory.{IsBytes, after}
 use Rattle.round_schedule.specs.declared.event.Event.{Event}
 use Rattle.round_schedule.specs.declared.span.Span.{Span}
 use Rattle.round_schedule.specs.ByTable.{committed_table}
-use Rattle.round_schedule.specs.Desk.{Counter, Desk, counter_from, desk_from, log_events, told}
+use Rattle.round_schedule.specs.TabledTurn.{TabledPhase, TabledTurn, tabled_phase_from, tabled_turn_from, log_events, told}
 use Rattle.round_schedule.specs.Past.{before_turn, goes_on_with, hart_after, parts_from, turn_of_waiting, turns_from}
 use Rattle.round_schedule.specs.Schedule.{HartRound, State, Turn, Words, all_stores, began, events_from, hart_round_of, hart_rounds, serial_from, turn_from}
 use Rattle.round_schedule.specs.Sound.{Counts, Sound}
 use Rattle.round_schedule.specs.Tables.{Tied}
-use Rattle.round_schedule.proofs.Desks.{turn_size}
+use Rattle.round_schedule.proofs.TabledTurns.{turn_size}
 use Rattle.round_schedule.proofs.Machines.{commits}
 use Rattle.round_schedule.proofs.PastAsking.{counts_steps, counts_turn, early, late}
 use Rattle.round_schedule.proofs.PastEnds.{past_is, rounds_length}
@@ -18,14 +18,14 @@ use Rattle.round_schedule.proofs.PastParts.{parts_are, steps_from, turn_steps, t
 use Rattle.round_schedule.proofs.PastTurns.{Before, TurnsThere, again, before_is, did_all, did_fewer, did_so_many, shown, start_of, turns_there}
 use Rattle.round_schedule.proofs.Tabling.{commit_ties}
 
--- what is at `count` of a list, by a turn of so many instructions that ended at a desk after k, and by one more from there
-pub record TurnAsked {H C : Type 0} (done : H → ℕ) (budget count k : ℕ) (xs : List H) (d e : Desk H C) : Type 0 where
+-- what is at `count` of a list, by a turn of so many instructions that ended over the table after k, and by one more from there
+pub record TurnAsked {H C : Type 0} (done : H → ℕ) (budget count k : ℕ) (xs : List H) (d e : TabledTurn H C) : Type 0 where
   pub fewer : k < count → slice_get xs count ≡ None
   pub all : count ≤ k → count ≡ budget → slice_get xs count ≡ Some d.hart
   pub ends : count ≤ k → count < budget → done e.hart ≡ done d.hart → slice_get xs count ≡ Some e.hart
   pub goes : count ≤ k → count < budget → (done e.hart ≡ done d.hart → ⊥) → slice_get xs count ≡ Some d.hart
 
-module _ {H C : Type 0} (w : Words H C) (done : H → ℕ) (counts : Counts w done) (n i budget count k : ℕ) (u : Turn H C) (d e : Desk H C)
+module _ {H C : Type 0} (w : Words H C) (done : H → ℕ) (counts : Counts w done) (n i budget count k : ℕ) (u : Turn H C) (d e : TabledTurn H C)
     (few : count ≤ budget) (small : budget < 2 ^ 63) (low : done u.hart < 2 ^ 64) (k_low : k < 2 ^ 64) (by_k : done d.hart ≡ (done u.hart + k) % 2 ^ 64)
     (first : (turn_from w n i count u).hart ≡ d.hart) (second : (turn_from w n i 1 (turn_from w n i count u)).hart ≡ e.hart) where
   steps_are : k ≡ turn_steps w n i count u
@@ -75,13 +75,13 @@ module _ {H C : Type 0} (w : Words H C) (done : H → ℕ) (counts : Counts w do
 -- ---- from the start of a round
 
 -- what is shared once the stores of these rounds are committed and the harts before hart i had their turns
-abbrev pub counter_before : {H C : Type 0} → Words H C → ℕ → State H C → List (HartRound H) → List (Option Span) → ℕ → Counter H C
-counter_before w budget s rs table i =
-    counter_from w budget (s.rounds + 1) 0 (take i rs) (record { harts = []; bytes = after s.bytes (all_stores rs); console = s.console; table = committed_table 0 rs table; log = [] })
+abbrev pub tabled_phase_before : {H C : Type 0} → Words H C → ℕ → State H C → List (HartRound H) → List (Option Span) → ℕ → TabledPhase H C
+tabled_phase_before w budget s rs table i =
+    tabled_phase_from w budget (s.rounds + 1) 0 (take i rs) (record { harts = []; bytes = after s.bytes (all_stores rs); console = s.console; table = committed_table 0 rs table; log = [] })
 
--- the desk of a hart after so many instructions of its turn there
-abbrev pub desk_there : {H C : Type 0} → Words H C → ℕ → State H C → List (HartRound H) → List (Option Span) → ℕ → H → ℕ → Desk H C
-desk_there w budget s rs table i h count = desk_from w (s.rounds + 1) i count (start_of h (counter_before w budget s rs table i))
+-- the turn over the table of a hart, after so many instructions of its turn there
+abbrev pub tabled_turn_there : {H C : Type 0} → Words H C → ℕ → State H C → List (HartRound H) → List (Option Span) → ℕ → H → ℕ → TabledTurn H C
+tabled_turn_there w budget s rs table i h count = tabled_turn_from w (s.rounds + 1) i count (start_of h (tabled_phase_before w budget s rs table i))
 
 take_length : {A : Type 0} (i : ℕ) (xs : List A) → length (take i xs) ≤ length xs
 take_length zero xs = omega arith
@@ -94,14 +94,14 @@ module _ {H C : Type 0} (w : Words H C) (sound : Sound w) (done : H → ℕ) (co
   abbrev rounds : List (HartRound H)
   rounds = hart_rounds w s.bytes qs s.harts
 
-  abbrev ready : Counter H C
+  abbrev ready : TabledPhase H C
   ready = record { harts = []; bytes = after s.bytes (all_stores rounds); console = s.console; table = committed_table 0 rounds table; log = [] }
 
   abbrev front : List Event
   front = s.trace ++ events_from (s.rounds + 1) 0 rounds
 
-  abbrev counter : Counter H C
-  counter = counter_before w budget s rounds table i
+  abbrev tabled_phase : TabledPhase H C
+  tabled_phase = tabled_phase_before w budget s rounds table i
 
   ready_tied : Tied ready.table (front ++ log_events (s.rounds + 1) 0 ready.log)
   ready_tied = subst (Tied ready.table) (sym (append-nil front)) (commit_ties w sound s.bytes bytes (s.rounds + 1) qs s.harts table ready.table s.trace tied (commits rounds table))
@@ -110,39 +110,39 @@ module _ {H C : Type 0} (w : Words H C) (sound : Sound w) (done : H → ℕ) (co
   before = before_is w budget (s.rounds + 1) i rounds front ready ready_tied refl (omega (arith, take_length i rounds, rounds_length w s.bytes qs s.harts, size, (commits rounds table).size))
 
   -- the state in which the turn begins
-  begun : before_turn w budget s rounds i ≡ told front (s.rounds + 1) counter
+  begun : before_turn w budget s rounds i ≡ told front (s.rounds + 1) tabled_phase
   begun =
       ap (λ (t : List Event). serial_from w budget 0 (take i rounds) (record { harts = []; bytes = ready.bytes; console = ready.console; trace = t; rounds = s.rounds + 1 })) (sym (append-nil front))
       ∙ before.same
 
   abbrev trace : List Event
-  trace = front ++ log_events (s.rounds + 1) 0 counter.log
+  trace = front ++ log_events (s.rounds + 1) 0 tabled_phase.log
 
   abbrev start : Turn H C
-  start = record { hart = r.last.hart; bytes = counter.bytes; console = counter.console; trace = trace }
+  start = record { hart = r.last.hart; bytes = tabled_phase.bytes; console = tabled_phase.console; trace = trace }
 
-  abbrev desk : Desk H C
-  desk = desk_there w budget s rounds table i r.last.hart count
+  abbrev tabled_turn : TabledTurn H C
+  tabled_turn = tabled_turn_there w budget s rounds table i r.last.hart count
 
-  in_table : i < length counter.table
+  in_table : i < length tabled_phase.table
   in_table = omega (arith, there, size, before.size, (commits rounds table).size)
 
-  two_turns : TurnsThere w (s.rounds + 1) i count 1 r.last.hart trace counter
-  two_turns = turns_there w (s.rounds + 1) i count 1 r.last.hart trace counter before.tied in_table
-      (turn_size w trace (s.rounds + 1) i count (start_of r.last.hart counter) (subst (Tied counter.table) (sym (append-nil trace)) before.tied) in_table)
+  two_turns : TurnsThere w (s.rounds + 1) i count 1 r.last.hart trace tabled_phase
+  two_turns = turns_there w (s.rounds + 1) i count 1 r.last.hart trace tabled_phase before.tied in_table
+      (turn_size w trace (s.rounds + 1) i count (start_of r.last.hart tabled_phase) (subst (Tied tabled_phase.table) (sym (append-nil trace)) before.tied) in_table)
 
   whole_turn_is : turn_of_waiting w budget (before_turn w budget s rounds i) i r ≡ turns_from w (s.rounds + 1) i budget start
   whole_turn_is =
       ap (λ (z : State H C). turn_of_waiting w budget z i r) begun
       ∙ ap (λ (b : Bool). turns_from w (s.rounds + 1) i (cond b budget 0) start) waits
 
-  pub asked_there : done desk.hart ≡ (done r.last.hart + k) % 2 ^ 64 →
-      TurnAsked done budget count k (turn_of_waiting w budget (before_turn w budget s rounds i) i r) desk (desk_from w (s.rounds + 1) i 1 (again desk))
+  pub asked_there : done tabled_turn.hart ≡ (done r.last.hart + k) % 2 ^ 64 →
+      TurnAsked done budget count k (turn_of_waiting w budget (before_turn w budget s rounds i) i r) tabled_turn (tabled_turn_from w (s.rounds + 1) i 1 (again tabled_turn))
   asked_there by_k =
-      let second : turn_from w (s.rounds + 1) i 1 (turn_from w (s.rounds + 1) i count start) ≡ shown (s.rounds + 1) i _ (desk_from w (s.rounds + 1) i 1 (again desk)) =
+      let second : turn_from w (s.rounds + 1) i 1 (turn_from w (s.rounds + 1) i count start) ≡ shown (s.rounds + 1) i _ (tabled_turn_from w (s.rounds + 1) i 1 (again tabled_turn)) =
       ap (turn_from w (s.rounds + 1) i 1) two_turns.first ∙ two_turns.second in
-      subst (λ (xs : List H). TurnAsked done budget count k xs desk (desk_from w (s.rounds + 1) i 1 (again desk))) (sym whole_turn_is)
-      (turn_asked w done counts (s.rounds + 1) i budget count k start desk (desk_from w (s.rounds + 1) i 1 (again desk)) few small low k_low by_k
+      subst (λ (xs : List H). TurnAsked done budget count k xs tabled_turn (tabled_turn_from w (s.rounds + 1) i 1 (again tabled_turn))) (sym whole_turn_is)
+      (turn_asked w done counts (s.rounds + 1) i budget count k start tabled_turn (tabled_turn_from w (s.rounds + 1) i 1 (again tabled_turn)) few small low k_low by_k
       (ap (λ (v : Turn H C). v.hart) two_turns.first) (ap (λ (v : Turn H C). v.hart) second))
 
 -- ---- of a hart's whole round

@@ -3,7 +3,7 @@ use Rattle.std.specs.Prelude.{◌≡◌, ℕ, zero, suc, ◌+◌, List, [], ◌�
 use Rattle.pages.specs.Memory.{IsBytes, after}
 use Rattle.round_schedule.specs.declared.event.Event.{Event}
 use Rattle.round_schedule.specs.declared.span.Span.{Span}
-use Rattle.round_schedule.specs.Desk.{Counter, counter_from, log_events}
+use Rattle.round_schedule.specs.TabledTurn.{TabledPhase, tabled_phase_from, log_events}
 use Rattle.round_schedule.specs.Held.{unless}
 use Rattle.round_schedule.specs.RoundTrace.{IsRoundTrace}
 use Rattle.round_schedule.specs.Schedule.{Words, HartRound, State, hart_rounds, all_stores, events_from, opening_state, round_of, run_of}
@@ -26,11 +26,11 @@ pub record Tabled (H C : Type 0) : Type 0 where
   pub state : State H C
   pub table : List (Option Span)
 
-abbrev pub counter_of : {H C : Type 0} → Tabled H C → List (HartRound H) → Counter H C
-counter_of m rs = record { harts = []; bytes = after m.state.bytes (all_stores rs); console = m.state.console; table = committed_table 0 rs m.table; log = [] }
+abbrev pub tabled_phase_of : {H C : Type 0} → Tabled H C → List (HartRound H) → TabledPhase H C
+tabled_phase_of m rs = record { harts = []; bytes = after m.state.bytes (all_stores rs); console = m.state.console; table = committed_table 0 rs m.table; log = [] }
 
-abbrev pub counted_to : {H C : Type 0} → Tabled H C → List (HartRound H) → Counter H C → Tabled H C
-counted_to m rs c = record {
+abbrev pub tabled_after : {H C : Type 0} → Tabled H C → List (HartRound H) → TabledPhase H C → Tabled H C
+tabled_after m rs c = record {
   state = record {
     harts = c.harts;
     bytes = c.bytes;
@@ -45,7 +45,7 @@ counted_to m rs c = record {
 unfoldable pub tabled_round : {H C : Type 0} → Words H C → ℕ → (ℕ → List ℕ) → Tabled H C → Tabled H C
 tabled_round w budget quotas m =
     let rs = hart_rounds w m.state.bytes (quotas m.state.rounds) m.state.harts in
-    counted_to m rs (counter_from w budget (m.state.rounds + 1) 0 rs (counter_of m rs))
+    tabled_after m rs (tabled_phase_from w budget (m.state.rounds + 1) 0 rs (tabled_phase_of m rs))
 
 -- a round over a table that is what the trace says is a round of a run, and so is the table after it
 pub record RoundByTable {H C : Type 0} (w : Words H C) (budget : ℕ) (quotas : ℕ → List ℕ) (m : Tabled H C) : Type 0 where

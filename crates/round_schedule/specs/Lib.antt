@@ -1,6 +1,6 @@
 pub mod Accesses
 pub mod ByTable
-pub mod Desk
+pub mod TabledTurn
 pub mod Events
 pub mod Held
 pub mod HeldBy

@@ -2,7 +2,7 @@
 
 ghost use Rattle.round_schedule.specs.HeldBy.{HeldIsByLastReserve};
 ghost use Rattle.round_schedule.specs.ByTable.{CommitsByTable, RoundsByTable, RunsByTable};
-ghost use Rattle.round_schedule.specs.Desk.{SerialPhaseByTable};
+ghost use Rattle.round_schedule.specs.TabledTurn.{SerialPhaseByTable};
 ghost use Rattle.round_schedule.specs.Past.{PastEndsInRound};
 ghost use Rattle.round_schedule.specs.Places.{EventsPass, PlacesOfRunsRise};
 ghost use Rattle.round_schedule.specs.Preserved.{RoundsPreserve};

@@ -68,6 +68,7 @@ pub enum Atomic {
 
 impl Instr {
     /// What it does as an instruction of the A extension, by kind, width and operands; `None` for every other instruction.
+    #[inline]
     pub fn atomic(&self) -> Option<Atomic>
         ensures { result ≡ atomic_of self.now }
     {

@@ -8,7 +8,7 @@ use Rattle.round_schedule.specs.declared.access.Access.{Access}
 use Rattle.round_schedule.specs.declared.access.Access.TheVariants.{Store, LoadReserved, StoreConditional, Atomic}
 use Rattle.round_schedule.specs.declared.span.Span.{Span}
 use Rattle.round_schedule.specs.Accesses.{writes}
-use Rattle.round_schedule.specs.Desk.{updated}
+use Rattle.round_schedule.specs.TabledTurn.{updated}
 use Rattle.round_schedule.specs.Held.{any_byte, unless, kept_by_own}
 use Rattle.round_schedule.specs.Tables.{entry, Sets, Drops, Breaks}
 

@@ -2,7 +2,7 @@ ghost use Rattle.std.specs.Prelude.{◌≡◌, Some};
 ghost use Rattle.hart_step.specs.CodeTables.{decoded};
 ghost use Rattle.hart_step.specs.Room.{HasSpares};
 ghost use Rattle.hart_step.specs.Step.{stepped};
-ghost use Rattle.round_schedule.specs.Desk.{updated};
+ghost use Rattle.round_schedule.specs.TabledTurn.{updated};
 ghost use Rattle.serial_phase.specs.Plain.{IsPlain, IsPlainAnswer};
 ghost use Rattle.serial_phase.specs.Words.{Leaves, answered_table};
 

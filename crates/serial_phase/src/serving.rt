@@ -107,14 +107,14 @@ fn conditional(
         h.new state.old state.new }
 {
     let store = Store {
-        addr: target.address,
+        address: target.address,
         width: width_of(target.width),
         value,
     };
-    if let Err(fault) = state.pages.check_store(store.addr, store.width) {
+    if let Err(fault) = state.pages.check_store(store.address, store.width) {
         return stop(h, stop_code(fault), 0);
     }
-    if state.reservations.take(hart, store.addr, store.width) {
+    if state.reservations.take(hart, store.address, store.width) {
         return succeed(h, state, hart, target.rd, store, target.ordering);
     }
     let place = h.done;
@@ -123,7 +123,7 @@ fn conditional(
         width: store.width,
         ordering: target.ordering,
         place,
-        address: store.addr,
+        address: store.address,
         written: None,
     }))
 }
@@ -137,11 +137,11 @@ fn succeed(
     store: Store,
     ordering: AcquireRelease,
 ) -> Stepped
-    requires fault { store_fault state.old.pages.memory store.addr store.width ≡ None }
+    requires fault { store_fault state.old.pages.memory store.address store.width ≡ None }
     requires room { HasSpares 1 state.old.pages }
     ensures answer { result ≡
-        (succeeded h.old rd store.addr store.width store.value ordering).answer }
-    ensures hart { h.new ≡ (succeeded h.old rd store.addr store.width store.value ordering).hart }
+        (succeeded h.old rd store.address store.width store.value ordering).answer }
+    ensures hart { h.new ≡ (succeeded h.old rd store.address store.width store.value ordering).hart }
     ensures stores { Stores hart store state.old state.new }
 {
     put(state, hart, store);
@@ -151,7 +151,7 @@ fn succeed(
         width: store.width,
         ordering,
         place,
-        address: store.addr,
+        address: store.address,
         written: Some(cut_to(store.width, store.value)),
     }))
 }
@@ -177,7 +177,7 @@ fn exchange(
     let old = state.pages.read(target.address, width).unwrap();
     let written = amo_value(operation, target.width, old, operand);
     let store = Store {
-        addr: target.address,
+        address: target.address,
         width,
         value: written,
     };
@@ -197,14 +197,16 @@ fn exchange(
 /// Does a store of a hart, which has no fault, where room is left. It breaks the reservations of
 /// other harts (manual, section 8.2).
 fn put(state: &mut SharedState, hart: u32, store: Store)
-    requires fault { store_fault state.old.pages.memory store.addr store.width ≡ None }
+    requires fault { store_fault state.old.pages.memory store.address store.width ≡ None }
     requires room { HasSpares 1 state.old.pages }
     ensures { Stores hart store state.old state.new }
 {
     // A store that has no fault lies in one of these pages.
     let _pages = state.pages.count();
     state.pages.apply(store);
-    state.reservations.break_by(hart, store.addr, store.width);
+    state
+        .reservations
+        .break_by(hart, store.address, store.width);
 }
 
 /// A call of the environment: x17 is its number, x10 its argument and its answer.

@@ -174,7 +174,7 @@ other_line : (a w x : ℕ) → a % 64 + w ≤ 64 → (x / 64 ≡ a / 64 → ⊥)
 other_line a w x h n = in_no a w x (⊎_elim (λ (lt : x < a). inl lt) (λ (ge : a ≤ x). ⊎_elim (λ (lt : x < a + w). absurd (n (omega arith))) (λ (past : a + w ≤ x). inr past) (cases_lt x (a + w))) (cases_lt x a))
 
 -- lines of which one took a store
-pub put_lines : (es fs : List (ℕ × Line)) (l : Line) (s : Store) → RisingLines 0 es → RisingLines 0 fs → s.addr % 64 + width_bytes s.width ≤ 64 → ((q : ℕ) → line_of fs q ≡ cond (is_at (nat_cmp (s.addr / 64)) q) (Some l) (line_of es q)) → ((j : ℕ) → j < 64 → line_at l j ≡ (if in_range (s.addr % 64) (width_bytes s.width) j then Some (byte_of s.value (j - s.addr % 64)) else place_of (line_of es (s.addr / 64)) j)) → lines_bytes fs ≡ with_store (lines_bytes es) s
+pub put_lines : (es fs : List (ℕ × Line)) (l : Line) (s : Store) → RisingLines 0 es → RisingLines 0 fs → s.address % 64 + width_bytes s.width ≤ 64 → ((q : ℕ) → line_of fs q ≡ cond (is_at (nat_cmp (s.address / 64)) q) (Some l) (line_of es q)) → ((j : ℕ) → j < 64 → line_at l j ≡ (if in_range (s.address % 64) (width_bytes s.width) j then Some (byte_of s.value (j - s.address % 64)) else place_of (line_of es (s.address / 64)) j)) → lines_bytes fs ≡ with_store (lines_bytes es) s
 put_lines es fs l s r t within others here =
     let w = width_bytes s.width in
     let re : Rising 0 (lines_bytes es) = rising_lines 0 es r in
@@ -182,20 +182,20 @@ put_lines es fs l s r t within others here =
     (λ x.
     lines_at 0 fs x t ∙ ap (λ o. place_of o (x % 64)) (others (x / 64))
     ∙ ⊎_elim
-    (λ (same : x / 64 ≡ s.addr / 64).
-    let back : s.addr / 64 ≡ x / 64 = sym same in
+    (λ (same : x / 64 ≡ s.address / 64).
+    let back : s.address / 64 ≡ x / 64 = sym same in
     let low : x % 64 < 64 = omega arith in
-    ap (λ b. place_of (cond b (Some l) (line_of es (x / 64))) (x % 64)) (is_at_same (s.addr / 64) (x / 64) back)
+    ap (λ b. place_of (cond b (Some l) (line_of es (x / 64))) (x % 64)) (is_at_same (s.address / 64) (x / 64) back)
     ∙ here (x % 64) low
-    ∙ ap (λ b. if b then Some (byte_of s.value (x % 64 - s.addr % 64)) else place_of (line_of es (s.addr / 64)) (x % 64)) (sym (same_line s.addr w x within same))
-    ∙ ap (λ k. if covers s x then Some (byte_of s.value (x % 64 - s.addr % 64)) else place_of (line_of es k) (x % 64)) back
-    ∙ ap (λ k. if covers s x then Some (byte_of s.value k) else place_of (line_of es (x / 64)) (x % 64)) (distance s.addr x same)
+    ∙ ap (λ b. if b then Some (byte_of s.value (x % 64 - s.address % 64)) else place_of (line_of es (s.address / 64)) (x % 64)) (sym (same_line s.address w x within same))
+    ∙ ap (λ k. if covers s x then Some (byte_of s.value (x % 64 - s.address % 64)) else place_of (line_of es k) (x % 64)) back
+    ∙ ap (λ k. if covers s x then Some (byte_of s.value k) else place_of (line_of es (x / 64)) (x % 64)) (distance s.address x same)
     ∙ ap (λ o. if covers s x then Some (byte_put s x) else o) (sym (lines_at 0 es x r)))
-    (λ (other : x / 64 ≡ s.addr / 64 → ⊥).
-    ap (λ b. place_of (cond b (Some l) (line_of es (x / 64))) (x % 64)) (is_at_other (s.addr / 64) (x / 64) (λ e. other (sym e)))
+    (λ (other : x / 64 ≡ s.address / 64 → ⊥).
+    ap (λ b. place_of (cond b (Some l) (line_of es (x / 64))) (x % 64)) (is_at_other (s.address / 64) (x / 64) (λ e. other (sym e)))
     ∙ sym (lines_at 0 es x r)
-    ∙ sym (ap (λ b. if b then Some (byte_put s x) else byte_at (lines_bytes es) x) (other_line s.addr w x within other)))
-    (cases_eq (x / 64) (s.addr / 64))
+    ∙ sym (ap (λ b. if b then Some (byte_put s x) else byte_at (lines_bytes es) x) (other_line s.address w x within other)))
+    (cases_eq (x / 64) (s.address / 64))
     ∙ sym (byte_at-with_store (lines_bytes es) s x))
   where
     distance : (a x : ℕ) → x / 64 ≡ a / 64 → x % 64 - a % 64 ≡ x - a

@@ -16,7 +16,7 @@ with_bytes es a v (suc n) = with_bytes (with_byte es a (v % 2 ^ 8)) (a + 1) (v /
 
 -- one store more
 unfoldable pub with_store : List (ℕ × ℕ) → Store → List (ℕ × ℕ)
-with_store es s = with_bytes es s.addr s.value (width_bytes s.width)
+with_store es s = with_bytes es s.address s.value (width_bytes s.width)
 
 -- a list of stores more, the first of them first
 abbrev pub with_stores : List (ℕ × ℕ) → List Store → List (ℕ × ℕ)
@@ -30,7 +30,7 @@ byte_at (e ∷ es) x = if e.0 == x then Some e.1 else byte_at es x
 
 -- a byte as a store of width 1
 abbrev pub one_byte : ℕ × ℕ → Store
-one_byte e = record { addr = e.0; width = W1; value = e.1 }
+one_byte e = record { address = e.0; width = W1; value = e.1 }
 
 abbrev pub stores_of : List (ℕ × ℕ) → List Store
 stores_of es = map one_byte es

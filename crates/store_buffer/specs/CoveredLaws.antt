@@ -105,7 +105,7 @@ byte_at-with_bytes (suc n) es a v x =
 -- the byte at an address after one store more
 pub byte_at-with_store : (es : List (ℕ × ℕ)) (s : Store) (x : ℕ) → byte_at (with_store es s) x ≡ (if covers s x then Some (byte_put s x) else byte_at es x)
 unfolding with_store
-byte_at-with_store es s x = byte_at-with_bytes (width_bytes s.width) es s.addr s.value x
+byte_at-with_store es s x = byte_at-with_bytes (width_bytes s.width) es s.address s.value x
 
 pub rising_from : (low high : ℕ) (es : List (ℕ × ℕ)) → low ≤ high → Rising high es → Rising low es
 rising_from low high [] l h = tt
@@ -142,7 +142,7 @@ rising_with_bytes (suc n) es a v h = rising_with_bytes n (with_byte es a (v % 2 
 -- one store more keeps the order
 pub rising_with_store : (es : List (ℕ × ℕ)) (s : Store) → Rising 0 es → Rising 0 (with_store es s)
 unfolding with_store
-rising_with_store es s h = rising_with_bytes (width_bytes s.width) es s.addr s.value h
+rising_with_store es s h = rising_with_bytes (width_bytes s.width) es s.address s.value h
 
 pub rising_with_stores : (es : List (ℕ × ℕ)) (ss : List Store) → Rising 0 es → Rising 0 (with_stores es ss)
 rising_with_stores es [] h = h

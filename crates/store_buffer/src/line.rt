@@ -32,7 +32,8 @@ impl Line {
     #[inline]
     pub(crate) fn put(&mut self, place: u64, width: Width, value: u64)
         requires { place + width_bytes width ≤ 64 }
-        ensures { (j : ℕ) → j < 64 → line_at self.new j ≡ (if in_range place (width_bytes width) j then Some (byte_of value (j - place)) else line_at self.old j) }
+        ensures { (j : ℕ) → j < 64 → line_at self.new j ≡ (if in_range place (width_bytes width) j
+            then Some (byte_of value (j - place)) else line_at self.old j) }
     {
         write_number(&mut self.bytes, place as usize, width, value);
         self.mask |= ones(width) << place;

@@ -57,7 +57,8 @@ impl LineMap {
     /// The line of a number.
     #[inline]
     pub(crate) fn get(&self, number: u64) -> Option<&Line>
-        ensures { MatchOption result (None ≡ line_of self.now number) (λ line. Some line.now ≡ line_of self.now number) }
+        ensures { MatchOption result (None ≡ line_of self.now number) (λ line. Some line.now ≡
+            line_of self.now number) }
     {
         let place = find(&self.lines, &self.latest, number)?;
         Some(&self.lines[place].line)
@@ -117,10 +118,12 @@ fn place_for(
 ) -> Result<usize, OutOfMemory>
     requires placed { ArePlaced lines.old.items places.old.entries }
     requires chained { AreChained (length lines.old.items) lines.old.items latest.old.items }
-    ensures ok { IfOk result (λ place. IsOpen number place lines.old.items lines.new.items places.old.entries places.new.entries) }
+    ensures ok { IfOk result (λ place.
+        IsOpen number place lines.old.items lines.new.items places.old.entries places.new.entries) }
     ensures chained { AreChained (length lines.new.items) lines.new.items latest.new.items }
     ensures ordered { IsOrdered nat_cmp places.old → IsOrdered nat_cmp places.new }
-    ensures near { number < 2 ^ 58 → All (λ k. k < 2 ^ 58) (keys_of places.old.entries) → All (λ k. k < 2 ^ 58) (keys_of places.new.entries) }
+    ensures near { number < 2 ^ 58 → All (λ k. k < 2 ^ 58) (keys_of places.old.entries) →
+        All (λ k. k < 2 ^ 58) (keys_of places.new.entries) }
     ensures err_lines { OnErr result (lines.new.items ≡ lines.old.items) }
     ensures err_places { OnErr result (places.new.entries ≡ places.old.entries) }
     ensures room { IsSome (listed_at places.old.entries number) → IsOk result }
@@ -140,10 +143,12 @@ fn add_line(
     number: u64,
 ) -> Result<usize, OutOfMemory>
     requires chained { AreChained (length lines.old.items) lines.old.items latest.old.items }
-    ensures ok { IfOk result (λ place. HasAdded number place lines.old.items lines.new.items places.old.entries places.new.entries) }
+    ensures ok { IfOk result (λ place. HasAdded number place lines.old.items lines.new.items
+        places.old.entries places.new.entries) }
     ensures chained { AreChained (length lines.new.items) lines.new.items latest.new.items }
     ensures ordered { IsOrdered nat_cmp places.old → IsOrdered nat_cmp places.new }
-    ensures near { number < 2 ^ 58 → All (λ k. k < 2 ^ 58) (keys_of places.old.entries) → All (λ k. k < 2 ^ 58) (keys_of places.new.entries) }
+    ensures near { number < 2 ^ 58 → All (λ k. k < 2 ^ 58) (keys_of places.old.entries) →
+        All (λ k. k < 2 ^ 58) (keys_of places.new.entries) }
     ensures err_lines { OnErr result (lines.new.items ≡ lines.old.items) }
     ensures err_places { OnErr result (places.new.entries ≡ places.old.entries) }
 {
@@ -165,7 +170,8 @@ fn wider_table(
     lines: usize,
 ) -> Result<Option<Vec<Option<usize>>>, OutOfMemory>
     requires { lines ≤ length latest.now.items }
-    ensures { IfOk result (λ o. MatchOption o (lines < length latest.now.items) (λ slots. (lines < length slots.items) × ((i : ℕ) → get_or slots.items i None ≡ None))) }
+    ensures { IfOk result (λ o. MatchOption o (lines < length latest.now.items) (λ slots.
+        (lines < length slots.items) × ((i : ℕ) → get_or slots.items i None ≡ None))) }
 {
     if lines < latest.len() {
         return Ok(None);

@@ -34,8 +34,10 @@ pub(crate) fn slot_of(number: u64, count: usize) -> usize
 #[inline(always)]
 pub(crate) fn find(lines: &[Numbered], latest: &[Option<usize>], number: u64) -> Option<usize>
     requires { AreChained (length lines.now) lines.now latest.now }
-    ensures some { IfSome result (λ place. (place < length lines.now) × (number_in lines.now place ≡ number)) }
-    ensures none { IfNone result ((p : ℕ) → p < length lines.now → number_in lines.now p ≡ number → ⊥) }
+    ensures some { IfSome result (λ place. (place < length lines.now) ×
+        (number_in lines.now place ≡ number)) }
+    ensures none { IfNone result ((p : ℕ) → p < length lines.now →
+        number_in lines.now p ≡ number → ⊥) }
 {
     if latest.is_empty() {
         return None;

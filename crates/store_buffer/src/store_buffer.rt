@@ -42,26 +42,26 @@ impl StoreBuffer {
     /// Puts the bytes of a store over those that are there. A line of 64 bytes that is there takes no memory.
     #[inline]
     pub fn put(&mut self, s: Store) -> Result<(), OutOfMemory>
-        requires { s.addr % width_bytes s.width ≡ 0 }
+        requires { s.address % width_bytes s.width ≡ 0 }
         ensures ok { OnOk result (self.new ≡ with_store self.old s) }
         ensures err { OnErr result (self.new ≡ self.old) }
-        ensures room { (x : ℕ) → x / 64 ≡ s.addr / 64 → IsSome (byte_at self.old x) → IsOk result }
+        ensures room { (x : ℕ) → x / 64 ≡ s.address / 64 → IsSome (byte_at self.old x) → IsOk result }
         ensures rising { Rising 0 self.new }
     {
-        let at = s.addr % LINE_BYTES;
-        self.lines.put(s.addr / LINE_BYTES, at, s.width, s.value)
+        let at = s.address % LINE_BYTES;
+        self.lines.put(s.address / LINE_BYTES, at, s.width, s.value)
     }
 
     /// The number of this width at an address of guest memory, with the buffer's bytes over those of memory,
     /// or why it cannot be loaded.
     #[inline]
-    pub fn read_over(&self, p: &Pages, addr: u64, width: Width) -> Result<u64, Fault>
-        ensures { result ≡ loaded (stored p.now.memory (stores_of self.now)) addr width }
+    pub fn read_over(&self, p: &Pages, address: u64, width: Width) -> Result<u64, Fault>
+        ensures { result ≡ loaded (stored p.now.memory (stores_of self.now)) address width }
     {
-        let number = p.read(addr, width)?;
+        let number = p.read(address, width)?;
         p.bytes_fit();
-        match self.lines.get(addr / LINE_BYTES) {
-            Some(line) => Ok(line.over(number, addr % LINE_BYTES, width)),
+        match self.lines.get(address / LINE_BYTES) {
+            Some(line) => Ok(line.over(number, address % LINE_BYTES, width)),
             None => Ok(number),
         }
     }

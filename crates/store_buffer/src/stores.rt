@@ -61,7 +61,7 @@ impl<'a> Iterator for Stores<'a> {
         let place = self.line.mask.trailing_zeros();
         self.line.mask &= !(1 << place);
         Some(Store {
-            addr: self.start + u64::from(place),
+            address: self.start + u64::from(place),
             width: Width::W1,
             value: u64::from(self.line.bytes[place as usize]),
         })

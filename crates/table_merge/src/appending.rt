@@ -33,7 +33,8 @@ pub(crate) fn are_few(first: u32, count: u32) -> bool
 
 /// Whether the plans of a header are those that follow another's. Their number, with those before, stays below 2^32.
 fn follows(header: &Header, next: &Header) -> bool
-    ensures { IsTrue result ↔ ((next.now.first ≡ header.now.first + header.now.count) × (header.now.first + header.now.count + next.now.count < 2 ^ 32)) }
+    ensures { IsTrue result ↔ ((next.now.first ≡ header.now.first + header.now.count) ×
+        (header.now.first + header.now.count + next.now.count < 2 ^ 32)) }
 {
     let end = u64::from(header.first) + u64::from(header.count);
     u64::from(next.first) == end && end + u64::from(next.count) <= u64::from(u32::MAX)
@@ -51,7 +52,8 @@ fn adjoins(whole: &Table, table: &Table, harts: usize) -> bool
 
 /// Joins to a table that of the plans which follow.
 pub(crate) fn append(whole: &mut Table, table: Table, harts: usize) -> Result<(), MergeError>
-    ensures ok { OnOk result (Adjoins harts whole.old table × IsAppended whole.old table whole.new) }
+    ensures ok { OnOk result (Adjoins harts whole.old table ×
+        IsAppended whole.old table whole.new) }
     ensures apart { result ≡ Err Apart → Adjoins harts whole.old table → ⊥ }
     ensures errors { IfErr result (λ e. (e ≡ Apart) ⊎ (e ≡ Run refusals.OutOfMemory)) }
 {

@@ -17,9 +17,11 @@ use table_reader::{Table, read_table};
 /// The table that the tables of slices of one hunt are merged to.
 fn merged(alloc: Global, texts: &[Vec<u8>]) -> Result<Table, MergeError>
     ensures merged { IfOk result (λ w. AreMerged texts.now w) }
-    ensures not_a_table { result ≡ Err NotATable → Any (λ (x : Bytes ℕ). IsNoTable x.items) texts.now }
+    ensures not_a_table { result ≡ Err NotATable →
+        Any (λ (x : Bytes ℕ). IsNoTable x.items) texts.now }
     ensures apart { result ≡ Err Apart → AreApart texts.now }
-    ensures errors { IfErr result (λ e. (e ≡ NotATable) ⊎ (e ≡ Apart) ⊎ (e ≡ Run refusals.OutOfMemory)) }
+    ensures errors { IfErr result (λ e. (e ≡ NotATable) ⊎ (e ≡ Apart) ⊎
+        (e ≡ Run refusals.OutOfMemory)) }
 {
     let [first, others @ ..] = texts else {
         return Err(MergeError::Apart);
@@ -44,15 +46,22 @@ fn merged(alloc: Global, texts: &[Vec<u8>]) -> Result<Table, MergeError>
 /// `OutOfMemory`; `SinkFailed`. Only where the sink failed is anything out: a beginning of the table.
 pub fn merge<S: Sink>(alloc: Global, texts: &[Vec<u8>], out: &mut S) -> Result<(), MergeError>
     // The sink took the table that the tables are merged to.
-    ensures merged { OnOk result ((w : TableOf) × AreMerged texts.now w × (S.took out.new ≡ S.took out.old ++ table_text w.header w.rows.items)) }
+    ensures merged { OnOk result ((w : TableOf) × AreMerged texts.now w ×
+        (S.took out.new ≡ S.took out.old ++ table_text w.header w.rows.items)) }
     // Else it took nothing, or a beginning of that table.
-    ensures begun { OnErr result ((S.took out.new ≡ S.took out.old) ⊎ ((w : TableOf) × AreMerged texts.now w × BeganText (S.took out.old) (S.took out.new) (table_text w.header w.rows.items))) }
+    ensures begun { OnErr result ((S.took out.new ≡ S.took out.old) ⊎
+        ((w : TableOf) × AreMerged texts.now w ×
+        BeganText (S.took out.old) (S.took out.new) (table_text w.header w.rows.items))) }
     // Where anything else than the sink refuses, it took nothing.
-    ensures untouched { IfErr result (λ e. (e ≡ Run refusals.SinkFailed) ⊎ (S.took out.new ≡ S.took out.old)) }
+    ensures untouched { IfErr result (λ e. (e ≡ Run refusals.SinkFailed) ⊎
+        (S.took out.new ≡ S.took out.old)) }
     // A text is refused where it is no table's, and tables where they do not adjoin.
-    ensures not_a_table { result ≡ Err NotATable → Any (λ (x : Bytes ℕ). IsNoTable x.items) texts.now }
+    ensures not_a_table { result ≡ Err NotATable →
+        Any (λ (x : Bytes ℕ). IsNoTable x.items) texts.now }
     ensures apart { result ≡ Err Apart → AreApart texts.now }
-    ensures errors { IfErr result (λ e. (e ≡ NotATable) ⊎ (e ≡ Apart) ⊎ (e ≡ Run refusals.OutOfMemory) ⊎ ((e ≡ Run refusals.SinkFailed) × (S.failures out.old < S.failures out.new))) }
+    ensures errors { IfErr result (λ e. (e ≡ NotATable) ⊎ (e ≡ Apart) ⊎
+        (e ≡ Run refusals.OutOfMemory) ⊎
+        ((e ≡ Run refusals.SinkFailed) × (S.failures out.old < S.failures out.new))) }
 {
     let table = merged(alloc, texts)?;
     write_table(alloc, &table.header, &table.rows, out)?;

@@ -57,7 +57,8 @@ fn ending_at(alloc: Global, text: &[u8]) -> Result<(Row, Vec<SeenRange>, &[u8]),
 /// At most so many endings.
 pub(crate) fn endings_at(alloc: Global, text: &[u8], count: u64) -> Result<Endings, OutOfMemory>
     ensures rows { IfOk result (λ e. e.rows.items ≡ rows_of (endings_at count text.now).0) }
-    ensures ranges { IfOk result (λ e. e.ranges.items ≡ last_ranges [] (endings_at count text.now).0) }
+    ensures ranges { IfOk result (λ e. e.ranges.items ≡
+        last_ranges [] (endings_at count text.now).0) }
 {
     let mut rows = Vec::new(alloc);
     let mut ranges = Vec::new(alloc);

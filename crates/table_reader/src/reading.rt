@@ -50,7 +50,8 @@ pub fn read_table(alloc: Global, text: &[u8]) -> Result<Table, ReadError>
     // The text is that of the table.
     ensures found { IfOk result (λ t. text.now ≡ table_text t.header t.rows.items) }
     // Each table is read from its text, unless memory runs out.
-    ensures only { (h : TableHeader) (rows : List TableRow) → IsTold h rows → text.now ≡ table_text h rows → IsReadAs h rows result }
+    ensures only { (h : TableHeader) (rows : List TableRow) → IsTold h rows →
+        text.now ≡ table_text h rows → IsReadAs h rows result }
 {
     // Each part was read as if it were there: the text is a table's where it is the text of what was read.
     let table = table_at(alloc, text)?;

@@ -30,8 +30,10 @@ impl Seen {
     /// Adds what the line of a range says, and gives the lines after it.
     #[tactic(auto, unfolding(crate::specs::Reading::seen_line_at))]
     fn add_line<'a>(&mut self, text: &'a [u8]) -> Result<&'a [u8], OutOfMemory>
-        ensures ranges { OnOk result (self.new.ranges.items ≡ self.old.ranges.items ++ (seen_line_at text.now).0.0 ∷ []) }
-        ensures bytes { OnOk result (self.new.bytes.items ≡ self.old.bytes.items ++ (seen_line_at text.now).0.1) }
+        ensures ranges { OnOk result (self.new.ranges.items ≡
+            self.old.ranges.items ++ (seen_line_at text.now).0.0 ∷ []) }
+        ensures bytes { OnOk result (self.new.bytes.items ≡
+            self.old.bytes.items ++ (seen_line_at text.now).0.1) }
         ensures rest { IfOk result (λ r. r.now ≡ (seen_line_at text.now).1) }
     {
         let digits = skip(text, "see ".len());

@@ -3,4 +3,4 @@ pub mod Growing
 pub mod Lasting
 pub mod Openings
 mod Dropping
-mod Parting
+mod Chunking

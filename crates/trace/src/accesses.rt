@@ -52,7 +52,8 @@ impl<'a> Accesses<'a> {
     /// Takes the first access out.
     #[inline]
     pub(crate) fn take_first(&mut self) -> Option<Access>
-        ensures none { IfNone result ((accesses_lent self.old ≡ []) × (accesses_lent self.new ≡ [])) }
+        ensures none { IfNone result ((accesses_lent self.old ≡ []) ×
+            (accesses_lent self.new ≡ [])) }
         ensures some { IfSome result (λ a. accesses_lent self.old ≡ a ∷ accesses_lent self.new) }
     {
         match self {

@@ -1,13 +1,13 @@
-//! A list of events in parts.
+//! A list of events in chunks.
 
 ghost use Rattle.std.specs.Prelude.{◌≡◌, ◌+◌, ◌<◌, ◌≤◌, ◌^◌, ◌++◌, [], ◌∷◌, IfOk, OnErr, OnOk, drop, length};
 ghost use Rattle.round_schedule.specs.Events.{events_of};
 ghost use Rattle.round_schedule.specs.Positions.{event};
-ghost use Rattle.trace.specs.Parts.{AreCounted, AreParts, events_in, joined};
+ghost use Rattle.trace.specs.Chunks.{AreCounted, AreChunks, events_in, joined};
 
+use crate::chunk::{Batch, Chunk, chunks_with};
 use crate::events::Events;
 use crate::log::Log;
-use crate::part::{Batch, Part, parts_with};
 use pages::OutOfMemory;
 use round_schedule::{Event, Phase};
 use std::alloc::Global;
@@ -21,24 +21,30 @@ const PART: usize = 4096;
 /// How many events may be finished, so that the number of all is a `usize`.
 const MOST_FINISHED: usize = 1 << 62;
 
-/// A list of events: finished parts, which its copies share, and the events after them.
+/// A list of events: finished chunks, which its copies share, and the events after them.
 #[derive(Drop)]
 pub(crate) struct EventList {
-    parts: Vec<Part>,
-    /// How many events the parts have.
+    chunks: Vec<Chunk>,
+    /// How many events the chunks have.
     finished: usize,
     tail: Vec<Event>,
 }
 
 impl Model for EventList {
     ghost use Rattle.std.specs.Prelude.{◌-◌, ◌++◌, vec_len, vec_capacity};
-    ghost use Rattle.trace.specs.Parts.{AreCounted, Listing, joined, logs_after};
+    ghost use Rattle.trace.specs.Chunks.{AreCounted, Listing, joined, logs_after};
 
     ghost Value = { Listing };
 
-    ghost view = { λ l. record { events = joined l.parts.items ++ l.tail.items; room = vec_capacity l.tail - vec_len l.tail; logs = logs_after l.tail.items (vec_capacity l.parts - vec_len l.parts) } };
+    ghost view = { λ l. record {
+      events = joined l.chunks.items ++
+          l.tail.items;
+      room = vec_capacity l.tail -
+          vec_len l.tail;
+      logs = logs_after l.tail.items (vec_capacity l.chunks - vec_len l.chunks);
+    } };
 
-    ghost invariant = { λ l. AreCounted l.parts.items l.finished };
+    ghost invariant = { λ l. AreCounted l.chunks.items l.finished };
 }
 
 impl EventList {
@@ -54,7 +60,7 @@ impl EventList {
         ensures { result.events ≡ events.items }
     {
         EventList {
-            parts: Vec::new(*events.allocator()),
+            chunks: Vec::new(*events.allocator()),
             finished: 0,
             tail: events,
         }
@@ -73,8 +79,8 @@ impl EventList {
         ensures { result ≡ event self.now.events place }
     {
         if place < self.finished {
-            let (part, _) = parts_with(&self.parts, place);
-            part.run().get(place - part.start)
+            let (chunk, _) = chunks_with(&self.chunks, place);
+            chunk.run().get(place - chunk.start)
         } else {
             self.tail[place - self.finished]
         }
@@ -84,7 +90,7 @@ impl EventList {
     pub(crate) fn iter(&self) -> Events<'_>
         ensures { result ≡ self.now.events }
     {
-        Events::new(&self.parts, &self.tail)
+        Events::new(&self.chunks, &self.tail)
     }
 
     /// The events from a place on, in order.
@@ -92,8 +98,8 @@ impl EventList {
         ensures { result ≡ drop place self.now.events }
     {
         if place < self.finished {
-            let (part, others) = parts_with(&self.parts, place);
-            Events::beginning(part.run().from(place - part.start), others, &self.tail)
+            let (chunk, others) = chunks_with(&self.chunks, place);
+            Events::beginning(chunk.run().from(place - chunk.start), others, &self.tail)
         } else {
             let passed = (place - self.finished).min(self.tail.len());
             Events::new(&[], &self.tail[passed..])
@@ -120,8 +126,8 @@ impl EventList {
         if self.tail.len() < PART {
             return Ok(self.tail.reserve(n)?);
         }
-        finish(&mut self.parts, &mut self.finished, &mut self.tail)?;
-        // The room is for a part more, so that a tail short of a part still has it.
+        finish(&mut self.chunks, &mut self.finished, &mut self.tail)?;
+        // The room is for a chunk more, so that a tail short of a chunk still has it.
         Ok(self.tail.reserve(n.saturating_add(PART))?)
     }
 
@@ -132,11 +138,11 @@ impl EventList {
         ensures ok { OnOk result (n ≤ self.new.logs) }
         ensures few { OnOk result (length self.new.events + accesses ≤ 2 ^ 62) }
     {
-        finish(&mut self.parts, &mut self.finished, &mut self.tail)?;
+        finish(&mut self.chunks, &mut self.finished, &mut self.tail)?;
         if accesses > MOST_FINISHED - self.finished {
             return Err(OutOfMemory);
         }
-        Ok(self.parts.reserve(n)?)
+        Ok(self.chunks.reserve(n)?)
     }
 
     /// Adds an event at the end, where room was made. It takes no memory.
@@ -160,7 +166,7 @@ impl EventList {
         if count == 0 {
             return;
         }
-        self.parts.push_reserved(Part {
+        self.chunks.push_reserved(Chunk {
             start: self.finished,
             batch: Batch::Log {
                 round,
@@ -172,30 +178,31 @@ impl EventList {
         self.finished += count;
     }
 
-    /// An equal list, which shares the finished parts.
+    /// An equal list, which shares the finished chunks.
     pub(crate) fn copy(&self, alloc: Global) -> Result<EventList, OutOfMemory>
         ensures { IfOk result (λ l. l.events ≡ self.now.events) }
     {
         Ok(EventList {
-            parts: copies_of(alloc, &self.parts)?,
+            chunks: copies_of(alloc, &self.chunks)?,
             finished: self.finished,
             tail: Vec::from_slice(alloc, &self.tail)?,
         })
     }
 }
 
-/// Moves what stands in the tail into a part, and leaves it empty. The events stay where they are.
+/// Moves what stands in the tail into a chunk, and leaves it empty. The events stay where they are.
 fn finish(
-    parts: &mut Vec<Part>,
+    chunks: &mut Vec<Chunk>,
     finished: &mut usize,
     tail: &mut Vec<Event>,
 ) -> Result<(), OutOfMemory>
-    requires { AreCounted parts.old.items finished.old }
-    ensures counted { AreCounted parts.new.items finished.new }
-    ensures events { joined parts.new.items ++ tail.new.items ≡ joined parts.old.items ++ tail.old.items }
+    requires { AreCounted chunks.old.items finished.old }
+    ensures counted { AreCounted chunks.new.items finished.new }
+    ensures events { joined chunks.new.items ++ tail.new.items ≡
+        joined chunks.old.items ++ tail.old.items }
     ensures emptied { OnOk result (tail.new.items ≡ []) }
     ensures err { OnErr result (tail.new.items ≡ tail.old.items) }
-    ensures kept { tail.old.items ≡ [] → (parts.new ≡ parts.old) × (tail.new ≡ tail.old) }
+    ensures kept { tail.old.items ≡ [] → (chunks.new ≡ chunks.old) × (tail.new ≡ tail.old) }
 {
     let count = tail.len();
     if count == 0 {
@@ -204,15 +211,15 @@ fn finish(
     if count > MOST_FINISHED - *finished {
         return Err(OutOfMemory);
     }
-    parts.reserve(1)?;
-    let part = part_of(*finished, tail)?;
-    parts.push_reserved(part);
+    chunks.reserve(1)?;
+    let chunk = chunk_of(*finished, tail)?;
+    chunks.push_reserved(chunk);
     *finished += count;
     Ok(())
 }
 
-/// Moves a tail into a part that starts at a place, and leaves an empty one.
-fn part_of(start: usize, tail: &mut Vec<Event>) -> Result<Part, OutOfMemory>
+/// Moves a tail into a chunk that starts at a place, and leaves an empty one.
+fn chunk_of(start: usize, tail: &mut Vec<Event>) -> Result<Chunk, OutOfMemory>
     ensures start { IfOk result (λ p. p.start ≡ start) }
     ensures events { IfOk result (λ p. events_in p ≡ tail.old.items) }
     ensures emptied { OnOk result (tail.new.items ≡ []) }
@@ -222,7 +229,7 @@ fn part_of(start: usize, tail: &mut Vec<Event>) -> Result<Part, OutOfMemory>
     let mut events = mem::replace(tail, Vec::new(alloc));
     events.shrink_to_fit();
     match Arc::new(alloc, events) {
-        Ok(events) => Ok(Part {
+        Ok(events) => Ok(Chunk {
             start,
             batch: Batch::Events(events),
         }),
@@ -233,15 +240,15 @@ fn part_of(start: usize, tail: &mut Vec<Event>) -> Result<Part, OutOfMemory>
     }
 }
 
-/// Further owners of parts.
-fn copies_of(alloc: Global, parts: &[Part]) -> Result<Vec<Part>, OutOfMemory>
-    requires { AreParts parts.now }
-    ensures parts { IfOk result (λ v. AreParts v.items) }
-    ensures events { IfOk result (λ v. joined v.items ≡ joined parts.now) }
+/// Further owners of chunks.
+fn copies_of(alloc: Global, chunks: &[Chunk]) -> Result<Vec<Chunk>, OutOfMemory>
+    requires { AreChunks chunks.now }
+    ensures chunks { IfOk result (λ v. AreChunks v.items) }
+    ensures events { IfOk result (λ v. joined v.items ≡ joined chunks.now) }
 {
-    let mut copies = Vec::with_capacity(alloc, parts.len())?;
-    for part in parts {
-        copies.push(part.copy()?)?;
+    let mut copies = Vec::with_capacity(alloc, chunks.len())?;
+    for chunk in chunks {
+        copies.push(chunk.copy()?)?;
     }
     Ok(copies)
 }

@@ -3,13 +3,13 @@
 
 mod accesses;
 mod brief;
+mod chunk;
 mod event_list;
 mod events;
 mod form;
 mod laws;
 mod log;
 mod opening;
-mod part;
 mod remaining;
 mod rising;
 mod run;

@@ -81,7 +81,9 @@ fn opening_byte(pieces: &[Piece], address: u64) -> u8
 
 /// The byte of a piece at an address, if it holds one there.
 fn byte_at(piece: &Piece, address: u64) -> Option<u8>
-    ensures { MatchOption result (in_range piece.now.start (length piece.now.bytes.items) address ≡ false) (λ b. (in_range piece.now.start (length piece.now.bytes.items) address ≡ true) × (b ≡ slice_index piece.now.bytes.items (address - piece.now.start))) }
+    ensures { MatchOption result (in_range piece.now.start (length piece.now.bytes.items) address ≡
+        false) (λ b. (in_range piece.now.start (length piece.now.bytes.items) address ≡ true) ×
+        (b ≡ slice_index piece.now.bytes.items (address - piece.now.start))) }
 {
     let start = piece.start;
     if address < start {

@@ -3,7 +3,7 @@
 ghost use Rattle.std.specs.Prelude.{◌≡◌, ◌<◌, ◌≤◌, ◌∷◌, ◌↔◌, [], drop, length, IfNone, IfSome, IsTrue};
 ghost use Rattle.round_schedule.specs.Positions.{event};
 ghost use Rattle.round_schedule.specs.Events.{event_of};
-ghost use Rattle.trace.specs.Parts.{run_events};
+ghost use Rattle.trace.specs.Chunks.{run_events};
 
 use crate::accesses::Accesses;
 use round_schedule::{Access, Event, Phase};

@@ -41,7 +41,12 @@ impl Model for Trace {
 
     ghost Value = { Traced };
 
-    ghost view = { λ t. record { opening = map laid (pieces_in t.opening); events = t.events.events; room = t.events.room; logs = t.events.logs } };
+    ghost view = { λ t. record {
+      opening = map laid (pieces_in t.opening);
+      events = t.events.events;
+      room = t.events.room;
+      logs = t.events.logs;
+    } };
 
     ghost invariant = { λ t. IsTrace t.events.events };
 }
@@ -119,7 +124,8 @@ impl Trace {
     pub fn extend(&mut self, round: u32, hart: u8, phase: Phase, accesses: &[Access])
         requires room { length accesses.now ≤ self.old.room }
         requires sound { IsTrace (self.old.events ++ events_of round hart phase accesses.now) }
-        ensures events { self.new.events ≡ self.old.events ++ events_of round hart phase accesses.now }
+        ensures events { self.new.events ≡
+            self.old.events ++ events_of round hart phase accesses.now }
         ensures opening { self.new.opening ≡ self.old.opening }
         ensures room { self.old.room ≤ self.new.room + length accesses.now }
     {
@@ -141,8 +147,10 @@ impl Trace {
     /// Adds accesses of a hart in one phase of a round, event by event, where room for them was made.
     fn push_all(&mut self, round: u32, hart: u8, phase: Phase, accesses: Accesses<'_>)
         requires room { length (accesses_lent accesses) ≤ self.old.room }
-        requires sound { IsTrace (self.old.events ++ events_of round hart phase (accesses_lent accesses)) }
-        ensures events { self.new.events ≡ self.old.events ++ events_of round hart phase (accesses_lent accesses.entry) }
+        requires sound { IsTrace (self.old.events ++
+            events_of round hart phase (accesses_lent accesses)) }
+        ensures events { self.new.events ≡
+            self.old.events ++ events_of round hart phase (accesses_lent accesses.entry) }
         ensures opening { self.new.opening ≡ self.old.opening }
         ensures room { self.old.room ≤ self.new.room + length (accesses_lent accesses.entry) }
     {

@@ -26,7 +26,8 @@ pub(crate) fn pairs_are_atomic(
 ) -> Result<bool, OutOfMemory>
     requires formed { All HasForm events.now }
     requires lists { ListsOperations events.now order.now }
-    requires sourced { (r x : ℕ) → reads_at events.now r x ≡ true → IsMax (place order.now) (MaySee events.now (place order.now) r x) (bound sources.now r x) }
+    requires sourced { (r x : ℕ) → reads_at events.now r x ≡ true →
+        IsMax (place order.now) (MaySee events.now (place order.now) r x) (bound sources.now r x) }
     ensures { IfOk result (λ yes. IsTrue yes ↔ AtomicityAxiom events.now (place order.now)) }
 {
     let reserved = last_reserved(alloc, events)?;
@@ -55,9 +56,11 @@ fn is_atomic(
     requires within { p < length order.now }
     requires formed { All HasForm events.now }
     requires lists { ListsOperations events.now order.now }
-    requires sourced { (r x : ℕ) → reads_at events.now r x ≡ true → IsMax (place order.now) (MaySee events.now (place order.now) r x) (bound sources.now r x) }
+    requires sourced { (r x : ℕ) → reads_at events.now r x ≡ true →
+        IsMax (place order.now) (MaySee events.now (place order.now) r x) (bound sources.now r x) }
     requires reserved { AreReserved events.now (length events.now) reserved.now }
-    requires latest { (x : ℕ) → IsLatestStore events.now (place order.now) p x (latest_of latest.now x) }
+    requires latest { (x : ℕ) →
+        IsLatestStore events.now (place order.now) p x (latest_of latest.now x) }
     ensures { IsTrue result ↔ AtomicAt events.now (place order.now) (slice_index order.now p) }
 {
     let place = listed(events, order, p);
@@ -81,7 +84,9 @@ fn keeps_bytes(
     p: usize,
 ) -> bool
     requires { address_of access.now + bytes_of access.now < 2 ^ 64 }
-    ensures { IsTrue result ↔ ((x : ℕ) → in_range (address_of access.now) (bytes_of access.now) x ≡ true → (others_of (latest_of latest.now x) hart ≤ bound sources.now reader x) × (bound sources.now reader x ≤ p)) }
+    ensures { IsTrue result ↔ ((x : ℕ) → in_range (address_of access.now) (bytes_of access.now) x ≡
+        true → (others_of (latest_of latest.now x) hart ≤ bound sources.now reader x) ×
+        (bound sources.now reader x ≤ p)) }
 {
     let start = address(access);
     for k in 0..width(access) {

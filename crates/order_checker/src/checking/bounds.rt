@@ -65,7 +65,8 @@ pub(crate) fn raise_to(
     owner: u64,
 ) -> Result<(), OutOfMemory>
     requires { address + width < 2 ^ 64 }
-    ensures { OnOk result (RaisesBytes bounds.old bounds.new to address width (λ x. bound from.now owner x)) }
+    ensures { OnOk result (RaisesBytes bounds.old bounds.new to address width (λ x.
+        bound from.now owner x)) }
 {
     for k in 0..width {
         raise(bounds, to, address + k, bound(from, owner, address + k))?;
@@ -82,7 +83,8 @@ pub(crate) fn are_at_most(
     limit: usize,
 ) -> bool
     requires { address + width < 2 ^ 64 }
-    ensures { IsTrue result ↔ ((x : ℕ) → in_range address width x ≡ true → bound bounds.now owner x ≤ limit) }
+    ensures { IsTrue result ↔
+        ((x : ℕ) → in_range address width x ≡ true → bound bounds.now owner x ≤ limit) }
 {
     for k in 0..width {
         if bound(bounds, owner, address + k) > limit {

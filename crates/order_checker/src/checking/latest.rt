@@ -52,7 +52,8 @@ pub(crate) fn note_latest(
     next: usize,
 ) -> Result<(), OutOfMemory>
     requires { address_of access.now + bytes_of access.now < 2 ^ 64 }
-    ensures { OnOk result ((x : ℕ) → latest_of latest.new x ≡ (if writes access.now x then after_store (latest_of latest.old x) hart next else latest_of latest.old x)) }
+    ensures { OnOk result ((x : ℕ) → latest_of latest.new x ≡ (if writes access.now x
+        then after_store (latest_of latest.old x) hart next else latest_of latest.old x)) }
 {
     if !stores(access) {
         return Ok(());
@@ -68,7 +69,8 @@ fn note_bytes(
     next: usize,
 ) -> Result<(), OutOfMemory>
     requires { address + width < 2 ^ 64 }
-    ensures { OnOk result ((x : ℕ) → latest_of latest.new x ≡ (if in_range address width x then after_store (latest_of latest.old x) hart next else latest_of latest.old x)) }
+    ensures { OnOk result ((x : ℕ) → latest_of latest.new x ≡ (if in_range address width x
+        then after_store (latest_of latest.old x) hart next else latest_of latest.old x)) }
 {
     for k in 0..width {
         note_byte(latest, hart, address + k, next)?;
@@ -82,7 +84,8 @@ fn note_byte(
     byte: u64,
     next: usize,
 ) -> Result<(), OutOfMemory>
-    ensures { OnOk result ((x : ℕ) → latest_of latest.new x ≡ (if x == byte then after_store (latest_of latest.old byte) hart next else latest_of latest.old x)) }
+    ensures { OnOk result ((x : ℕ) → latest_of latest.new x ≡ (if x == byte then after_store
+        (latest_of latest.old byte) hart next else latest_of latest.old x)) }
 {
     let old = latest_of(latest, byte);
     let new = Latest {

@@ -18,7 +18,8 @@ pub(crate) fn note_load(
     owner: u64,
 ) -> Result<(), OutOfMemory>
     requires { address_of access.now + bytes_of access.now < 2 ^ 64 }
-    ensures { OnOk result ((r x : ℕ) → bound sources.new r x ≡ (if r == reader && reads access.now x then max (bound sources.old r x) (bound from.now owner x) else bound sources.old r x)) }
+    ensures { OnOk result ((r x : ℕ) → bound sources.new r x ≡ (if r == reader && reads access.now x
+        then max (bound sources.old r x) (bound from.now owner x) else bound sources.old r x)) }
 {
     if !loads(access) {
         return Ok(());
@@ -34,7 +35,8 @@ pub(crate) fn note_store(
     next: usize,
 ) -> Result<(), OutOfMemory>
     requires { address_of access.now + bytes_of access.now < 2 ^ 64 }
-    ensures { OnOk result ((h x : ℕ) → bound bounds.new h x ≡ (if h == owner && writes access.now x then max (bound bounds.old h x) next else bound bounds.old h x)) }
+    ensures { OnOk result ((h x : ℕ) → bound bounds.new h x ≡ (if h == owner && writes access.now x
+        then max (bound bounds.old h x) next else bound bounds.old h x)) }
 {
     if !stores(access) {
         return Ok(());
@@ -45,7 +47,8 @@ pub(crate) fn note_store(
 /// Whether the owner's bounds of the bytes that a store writes are at most `position`.
 pub(crate) fn may_store(bounds: &Bounds, owner: u64, access: &Access, position: usize) -> bool
     requires { address_of access.now + bytes_of access.now < 2 ^ 64 }
-    ensures { IsTrue result ↔ ((x : ℕ) → writes access.now x ≡ true → bound bounds.now owner x ≤ position) }
+    ensures { IsTrue result ↔
+        ((x : ℕ) → writes access.now x ≡ true → bound bounds.now owner x ≤ position) }
 {
     !stores(access) || are_at_most(bounds, owner, address(access), width(access), position)
 }

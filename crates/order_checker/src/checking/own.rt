@@ -24,7 +24,9 @@ pub(crate) fn own_stores(
 ) -> Result<Option<Bounds>, OutOfMemory>
     requires formed { All HasForm events.now }
     requires ranked { IsRanking events.now order.now ranks.now }
-    ensures { IfOk result (λ o. MatchOption o (KeptOverlap events.now (place order.now) → ⊥) (λ m. KeptOverlap events.now (place order.now) × ((r x : ℕ) → reads_at events.now r x ≡ true → IsMax (place order.now) (OwnWrite events.now r x) (bound m r x)))) }
+    ensures { IfOk result (λ o. MatchOption o (KeptOverlap events.now (place order.now) →
+        ⊥) (λ m. KeptOverlap events.now (place order.now) × ((r x : ℕ) → reads_at events.now r x ≡
+        true → IsMax (place order.now) (OwnWrite events.now r x) (bound m r x)))) }
 {
     let mut own = BTreeMap::new(alloc);
     let mut sources = BTreeMap::new(alloc);

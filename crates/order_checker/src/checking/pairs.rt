@@ -35,7 +35,8 @@ pub(crate) fn paired(events: &[Event], reserved: &[usize], i: usize) -> Option<u
     requires within { i < length events.now }
     requires formed { All HasForm events.now }
     requires reserved { AreReserved events.now (length events.now) reserved.now }
-    ensures { MatchOption result ((l : ℕ) → IsPaired events.now l i → ⊥) (λ l. (l < length events.now) × IsPaired events.now l i) }
+    ensures { MatchOption result ((l : ℕ) → IsPaired events.now l i →
+        ⊥) (λ l. (l < length events.now) × IsPaired events.now l i) }
 {
     let last = reserved[i];
     if last == 0 || !is_sc(&event_at(events, i).access) {

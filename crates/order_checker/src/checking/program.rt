@@ -73,7 +73,8 @@ fn set_bounds(
     hart: u8,
     bounds: HartBounds,
 ) -> Result<(), OutOfMemory>
-    ensures { OnOk result ((h : ℕ) → bounds_of harts.new h ≡ (if h == hart then bounds else bounds_of harts.old h)) }
+    ensures { OnOk result ((h : ℕ) → bounds_of harts.new h ≡
+        (if h == hart then bounds else bounds_of harts.old h)) }
 {
     harts.insert(hart, bounds)?;
     Ok(())

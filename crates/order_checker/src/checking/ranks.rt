@@ -15,7 +15,8 @@ pub(crate) fn positions(
     events: &[Event],
     order: &[usize],
 ) -> Result<Option<Vec<usize>>, OutOfMemory>
-    ensures { IfOk result (λ o. MatchOption o (ListsOperations events.now order.now → ⊥) (λ r. ListsOperations events.now order.now × IsRanking events.now order.now r.items)) }
+    ensures { IfOk result (λ o. MatchOption o (ListsOperations events.now order.now →
+        ⊥) (λ r. ListsOperations events.now order.now × IsRanking events.now order.now r.items)) }
 {
     let absent = order.len();
     let mut ranks = vec![in alloc; absent; events.len()]?;

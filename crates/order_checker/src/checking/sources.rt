@@ -24,8 +24,10 @@ pub(crate) fn all_sources(
 ) -> Result<Bounds, OutOfMemory>
     requires formed { All HasForm events.now }
     requires lists { ListsOperations events.now order.now }
-    requires own { (r x : ℕ) → reads_at events.now r x ≡ true → IsMax (place order.now) (OwnWrite events.now r x) (bound sources r x) }
-    ensures { IfOk result (λ m. (r x : ℕ) → reads_at events.now r x ≡ true → IsMax (place order.now) (MaySee events.now (place order.now) r x) (bound m r x)) }
+    requires own { (r x : ℕ) → reads_at events.now r x ≡ true →
+        IsMax (place order.now) (OwnWrite events.now r x) (bound sources r x) }
+    ensures { IfOk result (λ m. (r x : ℕ) → reads_at events.now r x ≡ true →
+        IsMax (place order.now) (MaySee events.now (place order.now) r x) (bound m r x)) }
 {
     // the stores so far, at owner 0
     let mut seen = BTreeMap::new(alloc);

@@ -20,8 +20,10 @@ pub(crate) fn loads_are_right(
 ) -> bool
     requires formed { All HasForm events.now }
     requires lists { ListsOperations events.now order.now }
-    requires listed { (r x : ℕ) → reads_at events.now r x ≡ true → bound sources.now r x ≤ length order.now }
-    ensures { IsTrue result ↔ ((r x : ℕ) → reads_at events.now r x ≡ true → IsLeft events.now (opening_at trace.now.opening) order.now r x (bound sources.now r x)) }
+    requires listed { (r x : ℕ) → reads_at events.now r x ≡ true →
+        bound sources.now r x ≤ length order.now }
+    ensures { IsTrue result ↔ ((r x : ℕ) → reads_at events.now r x ≡ true →
+        IsLeft events.now (opening_at trace.now.opening) order.now r x (bound sources.now r x)) }
 {
     for i in 0..events.len() {
         if !load_is_right(trace, events, order, sources, i) {
@@ -41,8 +43,10 @@ fn load_is_right(
     requires within { reader < length events.now }
     requires formed { All HasForm events.now }
     requires lists { ListsOperations events.now order.now }
-    requires listed { (x : ℕ) → reads_at events.now reader x ≡ true → bound sources.now reader x ≤ length order.now }
-    ensures { IsTrue result ↔ ((x : ℕ) → reads_at events.now reader x ≡ true → IsLeft events.now (opening_at trace.now.opening) order.now reader x (bound sources.now reader x)) }
+    requires listed { (x : ℕ) → reads_at events.now reader x ≡ true →
+        bound sources.now reader x ≤ length order.now }
+    ensures { IsTrue result ↔ ((x : ℕ) → reads_at events.now reader x ≡ true → IsLeft events.now
+        (opening_at trace.now.opening) order.now reader x (bound sources.now reader x)) }
 {
     let event = event_at(events, reader);
     if !loads(&event.access) {

@@ -110,13 +110,13 @@ fn commit_all<R: Threads + Sync, G: ShardGate + Sync>(
 fn three_buffers(alloc: Global) -> Result<Vec<StoreBuffer>, OutOfMemory> {
     let mut first = buffer_of(alloc, 0xff8, Width::W8, 0x1111_1111_1111_1111)?;
     first.put(Store {
-        addr: 0x9ffe,
+        address: 0x9ffe,
         width: Width::W1,
         value: 0x44,
     })?;
     let mut second = buffer_of(alloc, 0xffc, Width::W4, 0x2222_2222)?;
     second.put(Store {
-        addr: 0x1000,
+        address: 0x1000,
         width: Width::W4,
         value: 0x3333_3333,
     })?;

@@ -60,9 +60,11 @@ fn the_exit_call(rt: HostRuntime) -> Result<(), Fail> {
 
 /// The answers of three harts, of which the first and the last take a byte, and the second puts a Z.
 fn answers(alloc: Global, shared: &mut SharedState) -> Result<[u64; 3], OutOfMemory>
-    requires shows { Shows shared.old.pages.memory shared.old.code.first shared.old.code.instructions }
+    requires shows { Shows shared.old.pages.memory shared.old.code.first
+        shared.old.code.instructions }
     requires size { length shared.old.reservations ≡ 3 }
-    ensures shows { Shows shared.new.pages.memory shared.new.code.first shared.new.code.instructions }
+    ensures shows { Shows shared.new.pages.memory shared.new.code.first
+        shared.new.code.instructions }
     ensures size { length shared.new.reservations ≡ 3 }
 {
     let mut harts = [caller(2, 0), caller(1, 0x5a), caller(2, 0)];

@@ -1,7 +1,7 @@
 use Rattle.std.proofs.Common.{◌+◌, ◌++◌, List, arith, drop, drop-cons, subst, sym}
 use Rattle.std.proofs.lemmas.Grind.{common_steps}
 use Rattle.round_schedule.specs.declared.event.Event.{Event}
-use Rattle.round_schedule.specs.Desk.{log_events}
+use Rattle.round_schedule.specs.TabledTurn.{log_events}
 use Rattle.trace.specs.Traced.{IsTrace}
 use Rattle.trace.proofs.Growing.{beginning}
 use Rattle.machine.proofs.TraceKept.{turn_first}

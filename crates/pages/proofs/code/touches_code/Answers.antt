@@ -4,14 +4,14 @@ use Rattle.pages.specs.Memory.{width_bytes}
 use Rattle.std.specs.List.{list_any}
 use Rattle.pages.specs.Code.{has_some_address}
 use Rattle.pages.proofs.code.touches_code.Goals as goal
-use Rattle.pages.proofs.code.touches_code.Goals.{then-addr-end-via-then-addr-end, then-addr-end-via-else-addr-end+then-addr-count}
+use Rattle.pages.proofs.code.touches_code.Goals.{then-address-end-via-then-address-end, then-address-end-via-else-address-end+then-address-count}
 
-pub returns-then-addr-end : goal.returns-then-addr-end
-returns-then-addr-end c =
-    elim c.then-addr-end.branch [
-      | then-addr-end-via-then-addr-end w ↦ sym (no_code_outside (width_bytes c.args.width) c.args.code.now c.args.start c.args.end c.args.addr c.requires.within (inr w.if-addr-end.true))
-      | then-addr-end-via-else-addr-end+then-addr-count w ↦ sym (no_code_outside (width_bytes c.args.width) c.args.code.now c.args.start c.args.end c.args.addr c.requires.within (inl (omega (arith, w.if-addr-count.true, c.bytes-count.ensures))))
+pub returns-then-address-end : goal.returns-then-address-end
+returns-then-address-end c =
+    elim c.then-address-end.branch [
+      | then-address-end-via-then-address-end w ↦ sym (no_code_outside (width_bytes c.args.width) c.args.code.now c.args.start c.args.end c.args.address c.requires.within (inr w.if-address-end.true))
+      | then-address-end-via-else-address-end+then-address-count w ↦ sym (no_code_outside (width_bytes c.args.width) c.args.code.now c.args.start c.args.end c.args.address c.requires.within (inl (omega (arith, w.if-address-count.true, c.bytes-count.ensures))))
     ]
 
 pub returns : goal.returns
-returns c = c.any_code_at.ensures ∙ ap (λ n. list_any (has_some_address c.args.addr n) c.args.code.now) c.bytes-count.ensures ∙ any_code_by_width c.args.width c.args.code.now c.args.addr
+returns c = c.any_code_at.ensures ∙ ap (λ n. list_any (has_some_address c.args.address n) c.args.code.now) c.bytes-count.ensures ∙ any_code_by_width c.args.width c.args.code.now c.args.address

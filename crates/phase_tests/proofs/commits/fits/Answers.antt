@@ -14,8 +14,8 @@ all_bytes P (e ∷ es) h =
 pub loop-s-preserved : goal.loop-s-preserved
 loop-s-preserved c =
     let m = c.args.pages.now.memory in
-    let fits : Store → Type 0 = λ (s : Store). store_fault m s.addr s.width ≡ None in
-    let ready : Store → Type 0 = λ (s : Store). is_page_ready c.args.pages.now (s.addr / 4096) ≡ true in
+    let fits : Store → Type 0 = λ (s : Store). store_fault m s.address s.width ≡ None in
+    let ready : Store → Type 0 = λ (s : Store). is_page_ready c.args.pages.now (s.address / 4096) ≡ true in
     record {
       fits = λ rest. c.loop-s.invariant.fits (All-same fits _ _ c.in-Some.ensures.steps (All-cons fits c.in-Some.s _ (c.is_writable.ensures.fits (search rules)) rest));
       ready = λ rest. c.loop-s.invariant.ready (All-same ready _ _ c.in-Some.ensures.steps (All-cons ready c.in-Some.s _ (c.is_writable.ensures.ready (search rules)) rest));
@@ -23,10 +23,10 @@ loop-s-preserved c =
 
 pub returns-clause-fits : goal.returns-clause-fits
 returns-clause-fits c = λ _.
-    let fits : Store → Type 0 = λ (s : Store). store_fault c.args.pages.now.memory s.addr s.width ≡ None in
+    let fits : Store → Type 0 = λ (s : Store). store_fault c.args.pages.now.memory s.address s.width ≡ None in
     all_bytes fits c.args.buffer.now (c.loop-s.invariant.fits (All-same fits _ _ c.in-None.ensures.steps.0 (All-nil fits)))
 
 pub returns-clause-ready : goal.returns-clause-ready
 returns-clause-ready c = λ _.
-    let ready : Store → Type 0 = λ (s : Store). is_page_ready c.args.pages.now (s.addr / 4096) ≡ true in
+    let ready : Store → Type 0 = λ (s : Store). is_page_ready c.args.pages.now (s.address / 4096) ≡ true in
     all_bytes ready c.args.buffer.now (c.loop-s.invariant.ready (All-same ready _ _ c.in-None.ensures.steps.0 (All-nil ready)))

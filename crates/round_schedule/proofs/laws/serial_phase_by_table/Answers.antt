@@ -1,4 +1,4 @@
-use Rattle.round_schedule.proofs.Desks.{serial_by_table}
+use Rattle.round_schedule.proofs.TabledTurns.{serial_by_table}
 use Rattle.round_schedule.proofs.laws.serial_phase_by_table.Goals as goal
 
 pub returns : goal.returns

@@ -1,6 +1,6 @@
 use Rattle.std.proofs.Common.{◌≡◌, refl, sym, subst}
 use Rattle.round_schedule.specs.declared.access.Access.{Access}
-use Rattle.round_schedule.specs.Desk.{updated}
+use Rattle.round_schedule.specs.TabledTurn.{updated}
 use Rattle.serial_phase.proofs.TableUpdates.{table_stays, table_stored}
 use Rattle.serial_phase.proofs.plain.note.Goals as goal
 

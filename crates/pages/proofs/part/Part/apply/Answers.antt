@@ -12,5 +12,5 @@ returns-clause-bytes c =
     let size : length bs ≡ 4096 = own_size bs shared c.self.invariant.0 own in
     let len : c.self.inside.own.len ≡ 4096 = search rules in
     let small : (k : ℕ) → get_or bs k 0 < 2 ^ 8 = search (rules, c.write_number.ensures.bytes) in
-    let is = c.write_number.ensures.written ∙ ap (λ q. written q (c.args.s.addr % 4096) c.args.s.value (width_bytes c.args.s.width)) c.deref_mut.ensures.value in
+    let is = c.write_number.ensures.written ∙ ap (λ q. written q (c.args.s.address % 4096) c.args.s.value (width_bytes c.args.s.width)) c.deref_mut.ensures.value in
     put_back bs c.write_number.new.bytes shared c.args.s c.self.inside.own.len size len small is ∙ ap (λ q. put (full q) (in_page c.args.s)) c.self.view_is

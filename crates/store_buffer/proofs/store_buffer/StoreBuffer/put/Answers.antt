@@ -9,13 +9,13 @@ use Rattle.store_buffer.proofs.store_buffer.StoreBuffer.put.Goals as goal
 pub put-requires : goal.put-requires
 put-requires c = record {
   number = search rules;
-  at = in_one_line c.args.s.addr c.args.s.width c.requires;
+  at = in_one_line c.args.s.address c.args.s.width c.requires;
 }
 
 pub returns-clause-ok : goal.returns-clause-ok
 returns-clause-ok c =
     let s = c.args.s in
-    on_ok c.put.result _ _ (λ took. put_lines c.self.inside.lines c.put.new.self took.line s c.self.invariant.rising c.put.ensures.rising (in_one_line s.addr s.width c.requires) took.others took.here
+    on_ok c.put.result _ _ (λ took. put_lines c.self.inside.lines c.put.new.self took.line s c.self.invariant.rising c.put.ensures.rising (in_one_line s.address s.width c.requires) took.others took.here
     ∙ ap (λ (es : List (ℕ × ℕ)). with_store es s) c.self.view_is) c.put.ensures.ok
 
 pub returns-clause-room : goal.returns-clause-room

@@ -11,18 +11,18 @@ use Rattle.store_buffer.proofs.store_buffer.StoreBuffer.read_over.Goals as goal
 pub returns-in_err-number : goal.returns-in_err-number
 returns-in_err-number c =
     let p = err_from_is_err_and c.from_residual.result c.from_residual.ensures.1 in
-    let failed = load_err c.args.p.now.memory (stores_of c.args.self.now) c.args.addr c.args.width c.in_err-number.field-0.0 (sym c.in_err-number.ensures.value) in
+    let failed = load_err c.args.p.now.memory (stores_of c.args.self.now) c.args.address c.args.width c.in_err-number.field-0.0 (sym c.in_err-number.ensures.value) in
     rw (p.1, p.2) (sym failed)
 
 pub over-requires-clause-place : goal.over-requires-clause-place
 over-requires-clause-place c =
-    let ok = load_ok c.args.p.now.memory (stores_of c.args.self.now) c.args.addr c.args.width c.in_ok-number.number (sym c.in_ok-number.ensures.value) in
-    in_one_line c.args.addr c.args.width ok.1
+    let ok = load_ok c.args.p.now.memory (stores_of c.args.self.now) c.args.address c.args.width c.in_ok-number.number (sym c.in_ok-number.ensures.value) in
+    in_one_line c.args.address c.args.width ok.1
 
 pub returns-in-Some : goal.returns-in-Some
 returns-in-Some c =
     let m = c.args.p.now.memory in
-    let a = c.args.addr in
+    let a = c.args.address in
     let w = c.args.width in
     let es = c.self.inside.lines in
     let line = c.in-Some.line.now in
@@ -41,7 +41,7 @@ returns-in-Some c =
 pub returns-in-None : goal.returns-in-None
 returns-in-None c =
     let m = c.args.p.now.memory in
-    let a = c.args.addr in
+    let a = c.args.address in
     let w = c.args.width in
     let es = c.self.inside.lines in
     let ok = load_ok m (stores_of c.args.self.now) a w c.in_ok-number.number (sym c.in_ok-number.ensures.value) in

@@ -1,6 +1,6 @@
 use Rattle.std.proofs.Common.{◌≡◌, ◌-◌, ◌∙◌, ap, arith, drop, length, min, sym}
 use Rattle.std.proofs.lemmas.List.{drop_min, take_rest}
-use Rattle.trace.specs.Parts.{joined}
+use Rattle.trace.specs.Chunks.{joined}
 use Rattle.trace.proofs.Dropping.{rest_after}
 use Rattle.trace.proofs.event_list.EventList.from.Goals as goal
 
@@ -14,4 +14,4 @@ returns-else-place-self c =
     ∙ take_rest c.deref-else-place-self.result.now c.min-passed.result
     ∙ ap (drop c.min-passed.result) c.deref-else-place-self.ensures.value
     ∙ ap (λ k. drop k tail) passed ∙ drop_min past tail
-    ∙ rest_after (joined c.self.inside.parts.items) tail c.args.self.now.events c.args.place c.self.inside.finished c.self.invariant.counted c.if-place-self.false (sym (ap (λ l. l.events) c.self.view_is))
+    ∙ rest_after (joined c.self.inside.chunks.items) tail c.args.self.now.events c.args.place c.self.inside.finished c.self.invariant.counted c.if-place-self.false (sym (ap (λ l. l.events) c.self.view_is))

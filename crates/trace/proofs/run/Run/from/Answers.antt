@@ -3,7 +3,7 @@ use Rattle.std.proofs.lemmas.List.{drop-map}
 use Rattle.round_schedule.specs.Events.{event_of, events_of}
 use Rattle.trace.specs.LentLogs.{accesses_lent}
 use Rattle.trace.specs.declared.run.Run.{Run}
-use Rattle.trace.specs.Parts.{run_events}
+use Rattle.trace.specs.Chunks.{run_events}
 use Rattle.trace.proofs.run.Run.from.Goals as goal
 
 pub returns-in-Log : goal.returns-in-Log

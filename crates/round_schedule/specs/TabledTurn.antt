@@ -23,29 +23,29 @@ updated_by i None table = table
 updated_by i (Some a) table = updated i 0 a table
 
 -- a serial turn under way: the hart, memory, the console, the table, and the accesses of the turn so far
-pub record Desk (H C : Type 0) : Type 0 where
+pub record TabledTurn (H C : Type 0) : Type 0 where
   pub hart : H
   pub bytes : List ℕ
   pub console : C
   pub table : List (Option Span)
   pub log : List Access
 
-abbrev pub desk_turned : {H C : Type 0} → ℕ → Stepped → Desk H C → SerialOutcome H C → (Desk H C → Desk H C) → Desk H C
-desk_turned i (Done a) p o f = f (record { hart = o.hart; bytes = after p.bytes o.stores; console = o.console; table = updated_by i a p.table; log = p.log ++ option_to_list a })
-desk_turned i Waits p o f = record p { hart = o.hart }
-desk_turned i (Stopped code) p o f = record p { hart = o.hart }
+abbrev pub tabled_turn_taken : {H C : Type 0} → ℕ → Stepped → TabledTurn H C → SerialOutcome H C → (TabledTurn H C → TabledTurn H C) → TabledTurn H C
+tabled_turn_taken i (Done a) p o f = f (record { hart = o.hart; bytes = after p.bytes o.stores; console = o.console; table = updated_by i a p.table; log = p.log ++ option_to_list a })
+tabled_turn_taken i Waits p o f = record p { hart = o.hart }
+tabled_turn_taken i (Stopped code) p o f = record p { hart = o.hart }
 
 -- the next instruction of hart i in round n
-abbrev pub desk_next : {H C : Type 0} → Words H C → ℕ → ℕ → Desk H C → SerialOutcome H C
-desk_next w n i p = w.serial_step n p.hart p.bytes p.console (entry p.table i)
+abbrev pub tabled_turn_next : {H C : Type 0} → Words H C → ℕ → ℕ → TabledTurn H C → SerialOutcome H C
+tabled_turn_next w n i p = w.serial_step n p.hart p.bytes p.console (entry p.table i)
 
 -- at most k further instructions of hart i's turn in round n
-unfoldable pub desk_from : {H C : Type 0} → Words H C → ℕ → ℕ → ℕ → Desk H C → Desk H C
-desk_from w n i zero p = p
-desk_from w n i (suc k) p = if w.stopped p.hart then p else desk_turned i (desk_next w n i p).answer p (desk_next w n i p) (desk_from w n i k)
+unfoldable pub tabled_turn_from : {H C : Type 0} → Words H C → ℕ → ℕ → ℕ → TabledTurn H C → TabledTurn H C
+tabled_turn_from w n i zero p = p
+tabled_turn_from w n i (suc k) p = if w.stopped p.hart then p else tabled_turn_taken i (tabled_turn_next w n i p).answer p (tabled_turn_next w n i p) (tabled_turn_from w n i k)
 
 -- the serial phase so far: the harts that had their turn, memory, the console, the table, and the accesses of each turn
-pub record Counter (H C : Type 0) : Type 0 where
+pub record TabledPhase (H C : Type 0) : Type 0 where
   pub harts : List H
   pub bytes : List ℕ
   pub console : C
@@ -53,16 +53,16 @@ pub record Counter (H C : Type 0) : Type 0 where
   pub log : List (List Access)
 
 -- the turn of hart i, of budget instructions if it waits and of none else
-abbrev pub desk_of : {H C : Type 0} → Words H C → ℕ → ℕ → Counter H C → ℕ → H → Bool → Desk H C
-desk_of w budget n s i h waits = desk_from w n i (if waits then budget else 0) (record { hart = h; bytes = s.bytes; console = s.console; table = s.table; log = [] })
+abbrev pub tabled_turn_of : {H C : Type 0} → Words H C → ℕ → ℕ → TabledPhase H C → ℕ → H → Bool → TabledTurn H C
+tabled_turn_of w budget n s i h waits = tabled_turn_from w n i (if waits then budget else 0) (record { hart = h; bytes = s.bytes; console = s.console; table = s.table; log = [] })
 
-abbrev pub counter_joined : {H C : Type 0} → Counter H C → Desk H C → Counter H C
-counter_joined s p = record { harts = s.harts ++ p.hart ∷ []; bytes = p.bytes; console = p.console; table = p.table; log = s.log ++ p.log ∷ [] }
+abbrev pub tabled_phase_joined : {H C : Type 0} → TabledPhase H C → TabledTurn H C → TabledPhase H C
+tabled_phase_joined s p = record { harts = s.harts ++ p.hart ∷ []; bytes = p.bytes; console = p.console; table = p.table; log = s.log ++ p.log ∷ [] }
 
 -- the turns of the rounds' harts, from hart i on
-abbrev pub counter_from : {H C : Type 0} → Words H C → ℕ → ℕ → ℕ → List (HartRound H) → Counter H C → Counter H C
-counter_from w budget n i [] s = s
-counter_from w budget n i (r ∷ rs) s = counter_from w budget n (suc i) rs (counter_joined s (desk_of w budget n s i r.last.hart r.waits))
+abbrev pub tabled_phase_from : {H C : Type 0} → Words H C → ℕ → ℕ → ℕ → List (HartRound H) → TabledPhase H C → TabledPhase H C
+tabled_phase_from w budget n i [] s = s
+tabled_phase_from w budget n i (r ∷ rs) s = tabled_phase_from w budget n (suc i) rs (tabled_phase_joined s (tabled_turn_of w budget n s i r.last.hart r.waits))
 
 -- the serial events of round n, hart by hart from hart i on
 abbrev pub log_events : ℕ → ℕ → List (List Access) → List Event
@@ -70,16 +70,16 @@ log_events n i [] = []
 log_events n i (l ∷ ls) = events_of n i Serial l ++ log_events n (suc i) ls
 
 -- the same in a run, after the trace t
-abbrev pub told : {H C : Type 0} → List Event → ℕ → Counter H C → State H C
+abbrev pub told : {H C : Type 0} → List Event → ℕ → TabledPhase H C → State H C
 told t n s = record { harts = s.harts; bytes = s.bytes; console = s.console; trace = t ++ log_events n 0 s.log; rounds = n }
 
 -- over a table that is what the trace says, the serial phase is that of a run, and so is the table after it
-pub record SerialByTable {H C : Type 0} (w : Words H C) (budget n i : ℕ) (rs : List (HartRound H)) (t : List Event) (s : Counter H C) : Type 0 where
-  pub same : serial_from w budget i rs (told t n s) ≡ told t n (counter_from w budget n i rs s)
-  pub tied : Tied (counter_from w budget n i rs s).table (t ++ log_events n 0 (counter_from w budget n i rs s).log)
-  pub size : length (counter_from w budget n i rs s).table ≡ length s.table
+pub record SerialByTable {H C : Type 0} (w : Words H C) (budget n i : ℕ) (rs : List (HartRound H)) (t : List Event) (s : TabledPhase H C) : Type 0 where
+  pub same : serial_from w budget i rs (told t n s) ≡ told t n (tabled_phase_from w budget n i rs s)
+  pub tied : Tied (tabled_phase_from w budget n i rs s).table (t ++ log_events n 0 (tabled_phase_from w budget n i rs s).log)
+  pub size : length (tabled_phase_from w budget n i rs s).table ≡ length s.table
 
 abbrev pub SerialPhaseByTable : (H C : Type 0) → Type 0
 SerialPhaseByTable H C =
-    (w : Words H C) (budget n i : ℕ) (rs : List (HartRound H)) (t : List Event) (s : Counter H C) →
+    (w : Words H C) (budget n i : ℕ) (rs : List (HartRound H)) (t : List Event) (s : TabledPhase H C) →
     Tied s.table (t ++ log_events n 0 s.log) → length s.log ≡ i → i + length rs ≤ length s.table → SerialByTable w budget n i rs t s

@@ -1,11 +1,11 @@
--- Lists of events in parts.
+-- Lists of events in chunks.
 use Rattle.std.specs.Prelude.{◌≡◌, ℕ, ◌<◌, ◌≤◌, ◌^◌, List, [], ◌∷◌, length, take, slice_index_or, All}
 use Rattle.std.specs.List.{flat_map}
 use Rattle.round_schedule.specs.declared.event.Event.{Event}
 use Rattle.round_schedule.specs.Events.{events_of}
-use Rattle.trace.specs.declared.part.Batch.{Batch}
-use Rattle.trace.specs.declared.part.Batch.TheVariants as batches
-use Rattle.trace.specs.declared.part.Part.{Part}
+use Rattle.trace.specs.declared.chunk.Batch.{Batch}
+use Rattle.trace.specs.declared.chunk.Batch.TheVariants as batches
+use Rattle.trace.specs.declared.chunk.Chunk.{Chunk}
 use Rattle.trace.specs.declared.run.Run.{Run}
 use Rattle.trace.specs.declared.run.Run.TheVariants as runs
 use Rattle.trace.specs.LentLogs.{accesses_lent}
@@ -16,12 +16,12 @@ pub record Listing : Type 0 where
   pub room : ℕ
   pub logs : ℕ
 
--- the events of one part
+-- the events of one chunk
 abbrev pub batch_events : Batch → List Event
 batch_events (batches.Events v) = v.value.items
 batch_events (batches.Log n i s l) = events_of n i s l
 
-abbrev pub events_in : Part → List Event
+abbrev pub events_in : Chunk → List Event
 events_in p = batch_events p.batch
 
 -- the events of a run that is lent
@@ -29,25 +29,25 @@ abbrev pub run_events : Run → List Event
 run_events (runs.Events es) = es.now
 run_events (runs.Log l) = events_of l.round l.hart l.phase (accesses_lent l.accesses)
 
--- the events of finished parts, one after another
-abbrev pub joined : List Part → List Event
-joined parts = flat_map events_in parts
+-- the events of finished chunks, one after another
+abbrev pub joined : List Chunk → List Event
+joined chunks = flat_map events_in chunks
 
-abbrev pub HasEvents : Part → Type 0
+abbrev pub HasEvents : Chunk → Type 0
 HasEvents p = 0 < length (events_in p)
 
--- each finished part has events, and starts where those before it end
-pub record AreParts (parts : List Part) : Type 0 where
-  pub filled : All HasEvents parts
-  pub starts : (k : ℕ) (d : Part) → k < length parts → (slice_index_or parts k d).start ≡ length (joined (take k parts))
+-- each finished chunk has events, and starts where those before it end
+pub record AreChunks (chunks : List Chunk) : Type 0 where
+  pub filled : All HasEvents chunks
+  pub starts : (k : ℕ) (d : Chunk) → k < length chunks → (slice_index_or chunks k d).start ≡ length (joined (take k chunks))
 
--- the finished parts have so many events, few enough that the number of all events is one of 64 bits
-pub record AreCounted (parts : List Part) (count : ℕ) : Type 0 where
-  pub stand : AreParts parts
-  pub counted : count ≡ length (joined parts)
+-- the finished chunks have so many events, few enough that the number of all events is one of 64 bits
+pub record AreCounted (chunks : List Chunk) (count : ℕ) : Type 0 where
+  pub stand : AreChunks chunks
+  pub counted : count ≡ length (joined chunks)
   pub few : count ≤ 2 ^ 62
 
--- there is room for a log after the finished parts alone: none while events stand in the tail
+-- there is room for a log after the finished chunks alone: none while events stand in the tail
 abbrev pub logs_after : List Event → ℕ → ℕ
 logs_after [] n = n
 logs_after (e ∷ es) n = 0

@@ -1,8 +1,8 @@
-//! The finished parts of a list of events.
+//! The finished chunks of a list of events.
 
 ghost use Rattle.std.specs.Prelude.{◌≡◌, ◌-◌, ◌<◌, ◌≤◌, ◌++◌, All, IfOk, drop, length};
 ghost use Rattle.round_schedule.specs.Positions.{event};
-ghost use Rattle.trace.specs.Parts.{AreParts, HasEvents, events_in, joined, run_events};
+ghost use Rattle.trace.specs.Chunks.{AreChunks, HasEvents, events_in, joined, run_events};
 
 use crate::log::Log;
 use crate::run::{LogRun, Run};
@@ -12,13 +12,13 @@ use std::sync::Arc;
 
 /// Events of a list that no longer change, so that its copies share them.
 #[derive(Drop)]
-pub(crate) struct Part {
+pub(crate) struct Chunk {
     /// How many events of the list stand before them.
     pub(crate) start: usize,
     pub(crate) batch: Batch,
 }
 
-/// The events of a part.
+/// The events of a chunk.
 #[derive(Drop)]
 pub(crate) enum Batch {
     /// Events one by one.
@@ -32,7 +32,7 @@ pub(crate) enum Batch {
     },
 }
 
-impl Part {
+impl Chunk {
     /// The events.
     pub(crate) fn run(&self) -> Run<'_>
         ensures { run_events result ≡ events_in self.now }
@@ -54,7 +54,7 @@ impl Part {
     }
 
     /// Another owner of the events.
-    pub(crate) fn copy(&self) -> Result<Part, OutOfMemory>
+    pub(crate) fn copy(&self) -> Result<Chunk, OutOfMemory>
         ensures start { IfOk result (λ p. p.start ≡ self.now.start) }
         ensures events { IfOk result (λ p. events_in p ≡ events_in self.now) }
     {
@@ -72,23 +72,25 @@ impl Part {
                 log: log.copy()?,
             },
         };
-        Ok(Part {
+        Ok(Chunk {
             start: self.start,
             batch,
         })
     }
 }
 
-/// The part that has the event at a place of the list, and those after it.
-pub(crate) fn parts_with(parts: &[Part], place: usize) -> (&Part, &[Part])
-    requires parts { AreParts parts.now }
-    requires within { place < length (joined parts.now) }
+/// The chunk that has the event at a place of the list, and those after it.
+pub(crate) fn chunks_with(chunks: &[Chunk], place: usize) -> (&Chunk, &[Chunk])
+    requires chunks { AreChunks chunks.now }
+    requires within { place < length (joined chunks.now) }
     ensures start { result.0.now.start ≤ place }
     ensures within { place - result.0.now.start < length (events_in result.0.now) }
-    ensures event { event (events_in result.0.now) (place - result.0.now.start) ≡ event (joined parts.now) place }
-    ensures rest { drop (place - result.0.now.start) (events_in result.0.now) ++ joined result.1.now ≡ drop place (joined parts.now) }
+    ensures event { event (events_in result.0.now) (place - result.0.now.start) ≡
+        event (joined chunks.now) place }
+    ensures rest { drop (place - result.0.now.start) (events_in result.0.now) ++
+        joined result.1.now ≡ drop place (joined chunks.now) }
     ensures filled { All HasEvents result.1.now }
 {
-    let begun = parts.partition_point(|part| part.start <= place);
-    (&parts[begun - 1], &parts[begun..])
+    let begun = chunks.partition_point(|chunk| chunk.start <= place);
+    (&chunks[begun - 1], &chunks[begun..])
 }

@@ -8,7 +8,7 @@ use Rattle.round_schedule.specs.declared.event.Event.{Event}
 use Rattle.round_schedule.specs.declared.event.Phase.TheVariants.{Serial}
 use Rattle.round_schedule.specs.declared.span.Span.{Span}
 use Rattle.round_schedule.specs.Accesses.{writes}
-use Rattle.round_schedule.specs.Desk.{Counter, Desk, SerialByTable, SerialPhaseByTable, counter_joined, desk_from, desk_next, desk_turned, log_events, told, updated, updated_by}
+use Rattle.round_schedule.specs.TabledTurn.{TabledPhase, TabledTurn, SerialByTable, SerialPhaseByTable, tabled_phase_joined, tabled_turn_from, tabled_turn_next, tabled_turn_taken, log_events, told, updated, updated_by}
 use Rattle.round_schedule.specs.Events.{events_of}
 use Rattle.round_schedule.specs.Held.{kept_by_own, unless}
 use Rattle.round_schedule.specs.Schedule.{HartRound, SerialOutcome, Turn, Words, joined, serial_from, serial_next, turn_from, turned}
@@ -48,23 +48,23 @@ tied_more t n i log (Some a) table tied =
     (access_ties n i Serial a table (updated i 0 a table) (t ++ events_of n i Serial log) tied (updates i a table))
 
 module _ {H C : Type 0} (w : Words H C) (t : List Event) (n i : ℕ) where
-  -- a desk as a turn after the trace t
-  abbrev turn_told : Desk H C → Turn H C
+  -- a turn over the table as a turn after the trace t
+  abbrev turn_told : TabledTurn H C → Turn H C
   turn_told p = record { hart = p.hart; bytes = p.bytes; console = p.console; trace = t ++ events_of n i Serial p.log }
 
-  -- a desk that goes as the turn does
-  record Alike (p d : Desk H C) (u : Turn H C) : Type 0 where
+  -- a turn over the table that goes as the turn does
+  record Alike (p d : TabledTurn H C) (u : Turn H C) : Type 0 where
     same : u ≡ turn_told d
     tied : Tied d.table (t ++ events_of n i Serial d.log)
     size : length d.table ≡ length p.table
 
-  alike_by : (k : ℕ) (p : Desk H C) (y : Stepped) (o : SerialOutcome H C) →
-      ((q : Desk H C) → Tied q.table (t ++ events_of n i Serial q.log) → i < length q.table → Alike q (desk_from w n i k q) (turn_from w n i k (turn_told q))) →
+  alike_by : (k : ℕ) (p : TabledTurn H C) (y : Stepped) (o : SerialOutcome H C) →
+      ((q : TabledTurn H C) → Tied q.table (t ++ events_of n i Serial q.log) → i < length q.table → Alike q (tabled_turn_from w n i k q) (turn_from w n i k (turn_told q))) →
       Tied p.table (t ++ events_of n i Serial p.log) → i < length p.table →
-      Alike p (desk_turned i y p o (desk_from w n i k)) (turned n i y (turn_told p) o (turn_from w n i k))
+      Alike p (tabled_turn_taken i y p o (tabled_turn_from w n i k)) (turned n i y (turn_told p) o (turn_from w n i k))
   alike_by k p (Done a) o rest tied l =
-      let q : Desk H C = record { hart = o.hart; bytes = after p.bytes o.stores; console = o.console; table = updated_by i a p.table; log = p.log ++ option_to_list a } in
-      let next : Alike q (desk_from w n i k q) (turn_from w n i k (turn_told q)) =
+      let q : TabledTurn H C = record { hart = o.hart; bytes = after p.bytes o.stores; console = o.console; table = updated_by i a p.table; log = p.log ++ option_to_list a } in
+      let next : Alike q (tabled_turn_from w n i k q) (turn_from w n i k (turn_told q)) =
       rest q (tied_more t n i p.log a p.table tied) (omega (arith, l, length-updated_by i a p.table)) in
       record {
         same = ap (λ (u : List Event). turn_from w n i k (record { hart = o.hart; bytes = after p.bytes o.stores; console = o.console; trace = u })) (logged_more t n i p.log (option_to_list a)) ∙ next.same;
@@ -74,32 +74,32 @@ module _ {H C : Type 0} (w : Words H C) (t : List Event) (n i : ℕ) where
   alike_by k p Waits o rest tied l = record { same = refl; tied = tied; size = refl }
   alike_by k p (Stopped code) o rest tied l = record { same = refl; tied = tied; size = refl }
 
-  alike_stopped : (p d : Desk H C) (u : Turn H C) (s : Bool) → Tied p.table (t ++ events_of n i Serial p.log) → Alike p d u → Alike p (if s then p else d) (if s then turn_told p else u)
+  alike_stopped : (p d : TabledTurn H C) (u : Turn H C) (s : Bool) → Tied p.table (t ++ events_of n i Serial p.log) → Alike p d u → Alike p (if s then p else d) (if s then turn_told p else u)
   alike_stopped p d u true tied h = record { same = refl; tied = tied; size = refl }
   alike_stopped p d u false tied h = h
 
-  same_next : (p : Desk H C) → Tied p.table (t ++ events_of n i Serial p.log) → i < length p.table → desk_next w n i p ≡ serial_next w n i (turn_told p)
+  same_next : (p : TabledTurn H C) → Tied p.table (t ++ events_of n i Serial p.log) → i < length p.table → tabled_turn_next w n i p ≡ serial_next w n i (turn_told p)
   same_next p tied l = ap (λ (r : Option Span). w.serial_step n p.hart p.bytes p.console r) (tied.each i l)
 
-  turn_alike : (k : ℕ) (p : Desk H C) → Tied p.table (t ++ events_of n i Serial p.log) → i < length p.table → Alike p (desk_from w n i k p) (turn_from w n i k (turn_told p))
-  unfolding desk_from turn_from
+  turn_alike : (k : ℕ) (p : TabledTurn H C) → Tied p.table (t ++ events_of n i Serial p.log) → i < length p.table → Alike p (tabled_turn_from w n i k p) (turn_from w n i k (turn_told p))
+  unfolding tabled_turn_from turn_from
   turn_alike zero p tied l = record { same = refl; tied = tied; size = refl }
   turn_alike (suc k) p tied l =
-      alike_stopped p (desk_turned i (desk_next w n i p).answer p (desk_next w n i p) (desk_from w n i k))
+      alike_stopped p (tabled_turn_taken i (tabled_turn_next w n i p).answer p (tabled_turn_next w n i p) (tabled_turn_from w n i k))
       (turned n i (serial_next w n i (turn_told p)).answer (turn_told p) (serial_next w n i (turn_told p)) (turn_from w n i k)) (w.stopped p.hart) tied
-      (subst (λ (o : SerialOutcome H C). Alike p (desk_turned i (desk_next w n i p).answer p (desk_next w n i p) (desk_from w n i k)) (turned n i o.answer (turn_told p) o (turn_from w n i k)))
+      (subst (λ (o : SerialOutcome H C). Alike p (tabled_turn_taken i (tabled_turn_next w n i p).answer p (tabled_turn_next w n i p) (tabled_turn_from w n i k)) (turned n i o.answer (turn_told p) o (turn_from w n i k)))
       (same_next p tied l)
-      (alike_by k p (desk_next w n i p).answer (desk_next w n i p) (turn_alike k) tied l))
+      (alike_by k p (tabled_turn_next w n i p).answer (tabled_turn_next w n i p) (turn_alike k) tied l))
 
   -- a whole turn
-  pub turn_same : (k : ℕ) (p : Desk H C) (u : Turn H C) → u ≡ turn_told p → Tied p.table (t ++ events_of n i Serial p.log) → i < length p.table →
-      turn_from w n i k u ≡ turn_told (desk_from w n i k p)
+  pub turn_same : (k : ℕ) (p : TabledTurn H C) (u : Turn H C) → u ≡ turn_told p → Tied p.table (t ++ events_of n i Serial p.log) → i < length p.table →
+      turn_from w n i k u ≡ turn_told (tabled_turn_from w n i k p)
   turn_same k p u e tied l = ap (turn_from w n i k) e ∙ (turn_alike k p tied l).same
 
-  pub turn_tied : (k : ℕ) (p : Desk H C) → Tied p.table (t ++ events_of n i Serial p.log) → i < length p.table → Tied (desk_from w n i k p).table (t ++ events_of n i Serial (desk_from w n i k p).log)
+  pub turn_tied : (k : ℕ) (p : TabledTurn H C) → Tied p.table (t ++ events_of n i Serial p.log) → i < length p.table → Tied (tabled_turn_from w n i k p).table (t ++ events_of n i Serial (tabled_turn_from w n i k p).log)
   turn_tied k p tied l = (turn_alike k p tied l).tied
 
-  pub turn_size : (k : ℕ) (p : Desk H C) → Tied p.table (t ++ events_of n i Serial p.log) → i < length p.table → length (desk_from w n i k p).table ≡ length p.table
+  pub turn_size : (k : ℕ) (p : TabledTurn H C) → Tied p.table (t ++ events_of n i Serial p.log) → i < length p.table → length (tabled_turn_from w n i k p).table ≡ length p.table
   turn_size k p tied l = (turn_alike k p tied l).size
 
 -- ---- the turns of all harts
@@ -111,20 +111,20 @@ log_events-push n i (m ∷ ls) l =
     ∙ sym (append_assoc (events_of n i Serial m) (log_events n (suc i) ls) (events_of n (i + suc (length ls)) Serial l))
 
 module _ {H C : Type 0} (w : Words H C) (budget n : ℕ) (t : List Event) where
-  by_table : (i : ℕ) (rs : List (HartRound H)) (s : Counter H C) → Tied s.table (t ++ log_events n 0 s.log) → length s.log ≡ i → i + length rs ≤ length s.table → SerialByTable w budget n i rs t s
+  by_table : (i : ℕ) (rs : List (HartRound H)) (s : TabledPhase H C) → Tied s.table (t ++ log_events n 0 s.log) → length s.log ≡ i → i + length rs ≤ length s.table → SerialByTable w budget n i rs t s
   by_table i [] s tied count l = record { same = refl; tied = tied; size = refl }
   by_table i (r ∷ rs) s tied count l =
       let front : List Event = t ++ log_events n 0 s.log in
-      let start : Desk H C = record { hart = r.last.hart; bytes = s.bytes; console = s.console; table = s.table; log = [] } in
+      let start : TabledTurn H C = record { hart = r.last.hart; bytes = s.bytes; console = s.console; table = s.table; log = [] } in
       let k : ℕ = if r.waits then budget else 0 in
-      let d : Desk H C = desk_from w n i k start in
+      let d : TabledTurn H C = tabled_turn_from w n i k start in
       let low : i < length s.table = omega (arith, l) in
       let begun : Tied s.table (front ++ []) = subst (Tied s.table) (sym (append-nil front)) tied in
       let u : Turn H C = turn_from w n i k (record { hart = r.last.hart; bytes = s.bytes; console = s.console; trace = front }) in
       let same : u ≡ record { hart = d.hart; bytes = d.bytes; console = d.console; trace = front ++ events_of n i Serial d.log } =
       turn_same w front n i k start (record { hart = r.last.hart; bytes = s.bytes; console = s.console; trace = front })
       (ap (λ (v : List Event). record { hart = r.last.hart; bytes = s.bytes; console = s.console; trace = v }) (sym (append-nil front))) begun low in
-      let after_it : Counter H C = counter_joined s d in
+      let after_it : TabledPhase H C = tabled_phase_joined s d in
       let trace : front ++ events_of n i Serial d.log ≡ t ++ log_events n 0 (s.log ++ d.log ∷ []) =
       append_assoc t (log_events n 0 s.log) (events_of n i Serial d.log)
       ∙ ap (λ (v : List Event). t ++ v) (ap (λ (j : ℕ). log_events n 0 s.log ++ events_of n j Serial d.log) (omega (arith, count)) ∙ sym (log_events-push n 0 s.log d.log)) in
