@@ -1,5 +1,6 @@
 pub mod Decimals
 pub mod Digits
+pub mod Tails
 pub mod Writing
 pub mod RowsMore
 pub mod Orders

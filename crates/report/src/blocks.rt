@@ -7,6 +7,7 @@ ghost use Rattle.report.specs.Report.{events_text, trace_text};
 
 use crate::line::Line;
 use crate::state::{put_count, put_trace};
+use crate::tail::Tail;
 use crate::text::event_line;
 use crate::writer::put_line;
 use host_io::{RunError, Sink, put_all};
@@ -26,8 +27,9 @@ fn block_line(alloc: Global, trace: &Trace, start: usize) -> Result<Line, OutOfM
     ensures { IfOk result (λ l. l ≡ block_text trace.now.events start) }
 {
     let mut line = Line::with_capacity(alloc, BLOCK_BYTES)?;
+    let mut tail = Tail::new();
     for event in trace.events_from(start).take(BLOCK) {
-        event_line(&mut line, &event)?;
+        event_line(&mut line, &mut tail, &event)?;
     }
     Ok(line)
 }

@@ -8,6 +8,7 @@ ghost use Rattle.report.specs.Pending.{Wrote, way};
 
 use crate::line::Line;
 use crate::state::{put_count, put_event};
+use crate::tail::Tail;
 use crate::writer::put_line;
 use host_io::{RunError, Sink};
 use memory_order::memory_order;
@@ -25,8 +26,9 @@ fn put_places<S: Sink>(
     ensures { Wrote (places_text trace.now.events places.now) (way (S.took out.old)
         (S.failures out.old) line.old) result (way (S.took out.new) (S.failures out.new) line.new) }
 {
+    let mut tail = Tail::new();
     for place in places {
-        put_event(out, line, &trace.event(*place))?;
+        put_event(out, line, &mut tail, &trace.event(*place))?;
     }
     Ok(())
 }

@@ -11,6 +11,7 @@ use crate::blocks::put_trace_on;
 use crate::line::Line;
 use crate::rows::{count_line, output_row, page_rows};
 use crate::run_state::RunState;
+use crate::tail::Tail;
 use crate::text::{event_line, hart_lines};
 use crate::writer::{put_line, put_long};
 use hart_step::Hart;
@@ -42,15 +43,18 @@ fn put_hart<S: Sink>(out: &mut S, line: &mut Line, number: u64, hart: &Hart) -> 
     put_long(out, line)
 }
 
+/// Puts an event's line.
+#[inline(always)]
 pub(crate) fn put_event<S: Sink>(
     out: &mut S,
     line: &mut Line,
+    tail: &mut Tail,
     event: &Event,
 ) -> Result<(), RunError>
     ensures { Wrote (event_text event.now) (way (S.took out.old) (S.failures out.old) line.old)
         result (way (S.took out.new) (S.failures out.new) line.new) }
 {
-    event_line(line, event)?;
+    event_line(line, tail, event)?;
     put_long(out, line)
 }
 
@@ -58,8 +62,9 @@ fn put_events<S: Sink>(out: &mut S, line: &mut Line, trace: &Trace) -> Result<()
     ensures { Wrote (events_text trace.now.events) (way (S.took out.old) (S.failures out.old)
         line.old) result (way (S.took out.new) (S.failures out.new) line.new) }
 {
+    let mut tail = Tail::new();
     for event in trace.events() {
-        put_event(out, line, &event)?;
+        put_event(out, line, &mut tail, &event)?;
     }
     Ok(())
 }

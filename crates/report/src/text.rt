@@ -46,7 +46,7 @@ fn set_number(set: FenceSet) -> u64
 /// A number of as many bytes as the access has, or a dash.
 #[inline(always)]
 fn number(tail: &mut Tail, width: Width, number: Option<u64>)
-    requires { 16 + length tail.old ≤ 128 }
+    requires { 16 + length tail.old ≤ 256 }
     ensures text { tail.new ≡ number_text width number ++ tail.old }
     ensures length { length tail.new ≤ 16 + length tail.old }
 {
@@ -75,12 +75,13 @@ fn bytes(width: Width) -> &'static str
 }
 
 /// What follows the ordering bits of an access that is no fence: its bytes, and the numbers that it read and wrote.
+#[inline(always)]
 fn operands(tail: &mut Tail, address: u64, width: Width, numbers: (Option<u64>, Option<u64>))
-    requires { length tail.old ≤ 1 }
+    requires { length tail.old ≤ 129 }
     ensures text { tail.new ≡
         (codes " " ++ hex 8 address ++ codes " " ++ decimal (width_bytes width) ++ codes " " ++
         number_text width numbers.0 ++ codes " " ++ number_text width numbers.1) ++ tail.old }
-    ensures length { length tail.new ≤ 46 }
+    ensures length { length tail.new ≤ 174 }
 {
     number(tail, width, numbers.1);
     tail.text(" ");
@@ -92,11 +93,32 @@ fn operands(tail: &mut Tail, address: u64, width: Width, numbers: (Option<u64>, 
     tail.text(" ");
 }
 
+/// The ordering bits of an access, and what follows them. It stands apart, so that the line of a plain access stays short.
+#[inline(never)]
+fn ordered(
+    tail: &mut Tail,
+    order: AcquireRelease,
+    address: u64,
+    width: Width,
+    numbers: (Option<u64>, Option<u64>),
+)
+    requires { length tail.old ≤ 129 }
+    ensures text { tail.new ≡ (ordering_text order ++ codes " " ++ hex 8 address ++ codes " " ++
+        decimal (width_bytes width) ++ codes " " ++ number_text width numbers.0 ++ codes " " ++
+        number_text width numbers.1) ++ tail.old }
+    ensures length { length tail.new ≤ 178 }
+{
+    operands(tail, address, width, numbers);
+    tail.text(ordering(order));
+}
+
+/// A fence. It stands apart as well.
+#[inline(never)]
 fn fence(tail: &mut Tail, before: FenceSet, after: FenceSet, mode: FenceMode)
-    requires { length tail.old ≤ 1 }
+    requires { length tail.old ≤ 129 }
     ensures text { tail.new ≡ (codes "fence " ++ decimal (set_number before) ++ codes " " ++
         decimal (set_number after) ++ codes " " ++ mode_text mode) ++ tail.old }
-    ensures length { length tail.new ≤ 56 }
+    ensures length { length tail.new ≤ 184 }
 {
     tail.text(match mode {
         FenceMode::Normal => "normal",
@@ -109,11 +131,13 @@ fn fence(tail: &mut Tail, before: FenceSet, after: FenceSet, mode: FenceMode)
     tail.text("fence ");
 }
 
+/// What an event did.
+#[inline(always)]
 #[tactic(auto, unfolding(crate::specs::Text::access_text))]
 fn access(tail: &mut Tail, access: &Access)
-    requires { length tail.old ≤ 1 }
+    requires { length tail.old ≤ 129 }
     ensures text { tail.new ≡ access_text access.now ++ tail.old }
-    ensures length { length tail.new ≤ 56 }
+    ensures length { length tail.new ≤ 184 }
 {
     match *access {
         Access::Load {
@@ -141,8 +165,7 @@ fn access(tail: &mut Tail, access: &Access)
             read,
             ..
         } => {
-            operands(tail, address, width, (Some(read), None));
-            tail.text(ordering(order));
+            ordered(tail, order, address, width, (Some(read), None));
             tail.text("lr ");
         }
         Access::StoreConditional {
@@ -152,8 +175,7 @@ fn access(tail: &mut Tail, access: &Access)
             written,
             ..
         } => {
-            operands(tail, address, width, (None, written));
-            tail.text(ordering(order));
+            ordered(tail, order, address, width, (None, written));
             tail.text("sc ");
         }
         Access::Atomic {
@@ -164,8 +186,7 @@ fn access(tail: &mut Tail, access: &Access)
             written,
             ..
         } => {
-            operands(tail, address, width, (Some(read), Some(written)));
-            tail.text(ordering(order));
+            ordered(tail, order, address, width, (Some(read), Some(written)));
             tail.text("amo ");
         }
         Access::Fence {
@@ -178,10 +199,11 @@ fn access(tail: &mut Tail, access: &Access)
 }
 
 /// An event's line, in a tail with no text yet.
-#[inline]
+#[inline(always)]
 fn columns(tail: &mut Tail, event: &Event)
-    requires { length tail.old ≡ 0 }
-    ensures { tail.new ≡ event_text event.now ++ tail.old }
+    requires { length tail.old ≡ 128 }
+    ensures text { tail.new ≡ event_text event.now ++ tail.old }
+    ensures length { length tail.new ≤ 256 }
 {
     tail.text("\n");
     access(tail, &event.access);
@@ -195,13 +217,15 @@ fn columns(tail: &mut Tail, event: &Event)
     tail.decimal(event.round as u64);
 }
 
-/// An event's line.
-pub fn event_line(line: &mut Line, event: &Event) -> Result<(), OutOfMemory>
+/// An event's line. What a plain access needs of it is inlined into the loops over events, so that an event isn't put together
+/// in memory first.
+#[inline(always)]
+pub fn event_line(line: &mut Line, tail: &mut Tail, event: &Event) -> Result<(), OutOfMemory>
     ensures { OnOk result (line.new ≡ line.old ++ event_text event.now) }
 {
-    let mut tail = Tail::new();
-    columns(&mut tail, event);
-    line.bytes(tail.as_bytes())
+    tail.clear();
+    columns(tail, event);
+    line.first_bytes(tail.block(), tail.len())
 }
 
 fn stop_state(line: &mut Line, stop: Option<Stop>) -> Result<(), OutOfMemory>
@@ -309,6 +333,6 @@ pub fn write_event<S: Sink>(alloc: Global, event: &Event, out: &mut S) -> Result
     ensures errors { IfErr result (λ e. (e ≡ RunError.OutOfMemory) ⊎ (e ≡ RunError.SinkFailed)) }
 {
     let mut line = Line::new(alloc);
-    event_line(&mut line, event)?;
+    event_line(&mut line, &mut Tail::new(), event)?;
     put_all(out, line.as_bytes())
 }

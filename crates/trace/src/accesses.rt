@@ -50,7 +50,7 @@ impl<'a> Accesses<'a> {
     }
 
     /// Takes the first access out.
-    #[inline]
+    #[inline(always)]
     pub(crate) fn take_first(&mut self) -> Option<Access>
         ensures none { IfNone result ((accesses_lent self.old ≡ []) ×
             (accesses_lent self.new ≡ [])) }

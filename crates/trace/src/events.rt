@@ -1,6 +1,6 @@
 //! An iterator over a list of events in chunks.
 
-ghost use Rattle.std.specs.Prelude.{◌≡◌, ◌<◌, ◌++◌, All, length};
+ghost use Rattle.std.specs.Prelude.{◌≡◌, ◌<◌, ◌++◌, [], All, length};
 ghost use Rattle.std.specs.Iterator.{YieldsFirst, item_count};
 ghost use Rattle.trace.specs.Chunks.{HasEvents, joined, run_events};
 
@@ -37,14 +37,10 @@ impl<'a> Events<'a> {
         requires { All HasEvents chunks.now }
         ensures { result ≡ joined chunks.now ++ tail.now }
     {
-        let Some((chunk, others)) = chunks.split_first() else {
-            return Events {
-                run: Run::Events(tail),
-                chunks,
-                tail: &[],
-            };
-        };
-        Events::beginning(chunk.run(), others, tail)
+        let mut run = Run::Events(&[]);
+        let (mut chunks, mut tail) = (chunks, tail);
+        open_chunk(&mut run, &mut chunks, &mut tail);
+        Events { run, chunks, tail }
     }
 
     /// The events of a run, then those of these chunks, and then those of the tail.
@@ -64,12 +60,34 @@ impl<'a> Iterator for Events<'a> {
 
     ghost remaining = { item_count (λ rest. rest) };
 
-    #[inline]
+    #[inline(always)]
     fn next(&mut self) -> Option<Event> {
         let event = self.run.take_first()?;
         if self.run.is_empty() {
-            *self = Events::new(self.chunks, self.tail);
+            open_chunk(&mut self.run, &mut self.chunks, &mut self.tail);
         }
         Some(event)
+    }
+}
+
+/// Opens the next chunk, or the tail after the last one. It stands apart and answers nothing, so that `next` stays short.
+#[cold]
+#[inline(never)]
+fn open_chunk<'a>(run: &mut Run<'a>, chunks: &mut &'a [Chunk], tail: &mut &'a [Event])
+    requires { All HasEvents chunks.old.now }
+    ensures same { run_events run.new ++ (joined chunks.new.now ++ tail.new.now) ≡
+        joined chunks.old.now ++ tail.old.now }
+    ensures filled { All HasEvents chunks.new.now }
+    ensures some { run_events run.new ≡ [] → joined chunks.new.now ++ tail.new.now ≡ [] }
+{
+    match chunks.split_first() {
+        Some((chunk, others)) => {
+            *run = chunk.run();
+            *chunks = others;
+        }
+        None => {
+            *run = Run::Events(tail);
+            *tail = &[];
+        }
     }
 }

@@ -1,5 +1,5 @@
-ghost use Rattle.std.specs.Prelude.{◌≡◌, ◌<◌, ◌∷◌, ◌↔◌, [], drop, length, slice_index_or, IfNone, IfSome, IsTrue};
-ghost use Rattle.trace.specs.Briefs.{in_turn};
+ghost use Rattle.std.specs.Prelude.{◌≡◌, ◌<◌, ◌∷◌, ◌↔◌, ◌++◌, [], drop, length, map, slice_index_or, IfNone, IfSome, IsTrue};
+ghost use Rattle.trace.specs.Briefs.{in_turn, widened};
 
 use crate::brief::Brief;
 use crate::stretch::Stretch;
@@ -75,21 +75,36 @@ impl<'a> Remaining<'a> {
     }
 
     /// Takes the first access out.
-    #[inline]
+    #[inline(always)]
     pub(crate) fn take_first(&mut self) -> Option<Access>
         ensures none { IfNone result ((self.old ≡ []) × (self.new ≡ [])) }
         ensures some { IfSome result (λ a. self.old ≡ a ∷ self.new) }
     {
-        match self.briefs.split_first() {
-            Some((brief, briefs)) => {
-                self.briefs = briefs;
-                Some(brief.access(self.base))
-            }
-            None => {
-                let (access, rest) = first_of(self.stretches)?;
-                *self = rest;
-                Some(access)
-            }
+        if self.briefs.is_empty() {
+            open_stretch(&mut self.base, &mut self.briefs, &mut self.stretches);
+        }
+        let (brief, briefs) = self.briefs.split_first()?;
+        self.briefs = briefs;
+        Some(brief.access(self.base))
+    }
+}
+
+/// Opens the first of the stretches that has an access, after the one of these briefs. It stands apart and answers nothing, so
+/// that what takes the accesses one by one stays short.
+#[cold]
+#[inline(never)]
+fn open_stretch<'a>(base: &mut u64, briefs: &mut &'a [Brief], stretches: &mut &'a [Stretch])
+    requires { length briefs.old.now ≡ 0 }
+    ensures same { map (widened base.new) briefs.new.now ++ in_turn stretches.new.now ≡
+        in_turn stretches.old.now }
+    ensures none { length briefs.new.now ≡ 0 → in_turn stretches.new.now ≡ [] }
+{
+    while let Some((stretch, others)) = stretches.split_first() {
+        *stretches = others;
+        if !stretch.briefs.is_empty() {
+            *base = stretch.base;
+            *briefs = &stretch.briefs;
+            return;
         }
     }
 }
@@ -104,25 +119,6 @@ fn are_empty(stretches: &[Stretch]) -> bool
             [] => are_empty(rest),
             _ => false,
         },
-    }
-}
-
-/// The first access of stretches, and those after it.
-fn first_of<'a>(stretches: &'a [Stretch]) -> Option<(Access, Remaining<'a>)>
-    ensures none { IfNone result (in_turn stretches.now ≡ []) }
-    ensures some { IfSome result (λ r. in_turn stretches.now ≡ r.0 ∷ r.1) }
-{
-    let (stretch, others) = stretches.split_first()?;
-    match stretch.briefs.split_first() {
-        Some((brief, briefs)) => Some((
-            brief.access(stretch.base),
-            Remaining {
-                base: stretch.base,
-                briefs,
-                stretches: others,
-            },
-        )),
-        None => first_of(others),
     }
 }
 

@@ -66,7 +66,7 @@ impl<'a> Run<'a> {
     }
 
     /// Takes the first event out.
-    #[inline]
+    #[inline(always)]
     pub(crate) fn take_first(&mut self) -> Option<Event>
         ensures none { IfNone result ((run_events self.old ≡ []) × (run_events self.new ≡ [])) }
         ensures some { IfSome result (λ e. run_events self.old ≡ e ∷ run_events self.new) }

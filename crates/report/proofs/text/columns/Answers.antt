@@ -2,6 +2,6 @@ use Rattle.std.proofs.Common.{append_assoc}
 use Rattle.report.specs.Text.{event_text}
 use Rattle.report.proofs.text.columns.Goals as goal
 
-pub returns : goal.returns
+pub returns-clause-text : goal.returns-clause-text
 unfolding event_text
-returns c = simp append_assoc (cc)
+returns-clause-text c = simp append_assoc (cc)
