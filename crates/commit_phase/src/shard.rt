@@ -14,6 +14,10 @@ pub(crate) fn write_shard(parts: &mut [Part], first: u64, buffer: &StoreBuffer)
     requires ready { IsShardReady first parts.old buffer.now }
     ensures { ShardWritten first (stores_of buffer.now) parts.old parts.new }
 {
+    // A hart that waits for a lock has often stored nothing.
+    if buffer.is_empty() {
+        return;
+    }
     let end = first + parts.len() as u64;
     for (start, line) in buffer.lines() {
         let page = start / 4096;

@@ -1,6 +1,6 @@
 //! Lines by their numbers.
 
-ghost use Rattle.std.specs.Prelude.{◌≡◌, ◌≤◌, ◌+◌, ◌^◌, ◌<◌, ℕ, [], All, Some, None, IsSome, IsOk, IfOk, OnOk, OnErr, MatchOption, get_or, length, vec_capacity, vec_len};
+ghost use Rattle.std.specs.Prelude.{◌≡◌, ◌≤◌, ◌+◌, ◌^◌, ◌<◌, ℕ, [], All, Some, None, IsSome, IsOk, IsTrue, IfOk, OnOk, OnErr, MatchOption, get_or, length, vec_capacity, vec_len};
 ghost use Rattle.std.specs.Ordering.{nat_cmp};
 ghost use Rattle.std.specs.BTreeMap.{IsOrdered};
 ghost use Rattle.std.specs.Iterator.{YieldsFirstBy, item_count};
@@ -96,6 +96,14 @@ impl LineMap {
             places: self.places.iter(),
             lines: &self.lines,
         }
+    }
+
+    /// Whether there are no lines.
+    #[inline]
+    pub(crate) fn is_empty(&self) -> bool
+        ensures { IsTrue result → self.now ≡ [] }
+    {
+        self.lines.is_empty()
     }
 
     /// Takes all lines out.
