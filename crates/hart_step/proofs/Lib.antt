@@ -12,4 +12,4 @@ pub mod Formation
 pub mod Stopping
 pub mod Listed
 pub mod Paused
-mod Zeroed
+pub mod Zeroed

@@ -29,8 +29,8 @@ pub trait Bus {
         ensures ok { IfOk result (λ r. Stores r s (memory self.old) (memory self.new)) }
         ensures takes { IfOk result (λ r. takes self.old (taken_of r s) self.new) }
         ensures err { OnErr result (memory self.new ≡ memory self.old) }
-        ensures room { (store_fault (memory self.old) s.address s.width ≡ None → has_room self.old s) →
-            IsOk result };
+        ensures room { (store_fault (memory self.old) s.address s.width ≡ None →
+            has_room self.old s) → IsOk result };
 
     ghost takes_none: { (b : Self) → takes b [] b };
 

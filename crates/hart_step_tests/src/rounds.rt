@@ -63,3 +63,31 @@ fn x0_reads_0_in_a_round(rt: HostRuntime) -> Result<(), Fail> {
     }
     Ok(())
 }
+
+/// The hart after a round of one instruction at this address, and whether it waits.
+fn after_one(alloc: Global, pc: u64) -> Result<(Hart, bool), Fail> {
+    // SD x1,256(x0); AMOADD.D x3,x1,(x2); EBREAK; no instruction
+    let mut pages = memory(alloc, [0x1010_3023, 0x0011_31af, 0x0010_0073, 0])?;
+    let table = CodeTable::new(alloc, &pages, 0, 4)?;
+    let mut h = hart(3, 256);
+    h.pc = pc;
+    let mut log = Vec::new(alloc);
+    let waits = hart_round(&mut h, &mut pages, &table, 1, &mut log)?;
+    Ok((h, waits))
+}
+
+// A table has an ECALL where there is no instruction, and the hart doesn't wait there.
+#[test]
+fn listed_words_go_wait_or_stop(rt: HostRuntime) -> Result<(), Fail> {
+    for (pc, done, waits, code) in [
+        (0, 1, false, None),
+        (4, 0, true, None),
+        (8, 0, false, Some(10)),
+        (12, 0, false, Some(2)),
+    ] {
+        let (h, waited) = after_one(rt.alloc(), pc)?;
+        assert_eq!(rt; (h.pc, h.done, waited), (pc + 4 * done, done, waits));
+        assert_eq!(rt; h.stop.map(|stop| stop.code), code);
+    }
+    Ok(())
+}

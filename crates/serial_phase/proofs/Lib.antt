@@ -9,3 +9,4 @@ pub mod Settled
 pub mod TurnUnderWay
 pub mod PhaseUnderWay
 pub mod CodeKept
+pub mod PlainRun

@@ -18,7 +18,8 @@ use Rattle.serial_phase.specs.Phase.{TakesTurns, turn_done, serial_done, waiting
 use Rattle.serial_phase.specs.Roomed.{Roomed, HasRoom}
 use Rattle.serial_phase.specs.Turns.{Turns}
 use Rattle.serial_phase.proofs.CodeKept.{ShowsCode}
-use Rattle.serial_phase.proofs.TurnUnderWay.{At, Ends}
+use Rattle.serial_phase.specs.UnderWay.{At}
+use Rattle.serial_phase.proofs.TurnUnderWay.{Ends}
 
 -- all harts with what they share
 pub record Group : Type 0 where

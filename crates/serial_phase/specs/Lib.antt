@@ -4,3 +4,4 @@ pub mod Atomics
 pub mod Words
 pub mod Plain
 pub mod Phase
+pub mod UnderWay

@@ -6,6 +6,7 @@ mod instruction;
 mod log;
 mod phase;
 mod plain;
+mod plain_run;
 mod serving;
 mod shared;
 mod target;

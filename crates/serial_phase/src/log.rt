@@ -1,4 +1,4 @@
-ghost use Rattle.std.specs.Prelude.{◌≡◌, ℕ, ◌+◌, ◌-◌, ◌≤◌, ◌<◌, [], ◌∷◌, ◌++◌, List, length, take, drop, OnOk, slice_index_or};
+ghost use Rattle.std.specs.Prelude.{◌≡◌, ℕ, ◌+◌, ◌-◌, ◌≤◌, ◌<◌, [], ◌∷◌, ◌++◌, List, option_to_list, length, take, drop, OnOk, slice_index_or};
 ghost use Rattle.serial_phase.specs.Turns.{start_of};
 
 use pages::OutOfMemory;
@@ -116,4 +116,17 @@ fn between(accesses: &[Access], start: usize, end: usize) -> &[Access]
     ensures { result.now ≡ take (end - start) (drop start accesses.now) }
 {
     &accesses[start..end]
+}
+
+/// Adds an access to the turn that is under way, where there is one.
+pub fn keep(log: &mut SerialLog, access: Option<Access>)
+    requires { 0 < log.old.room }
+    ensures current { log.new.current ≡ log.old.current ++ option_to_list access }
+    ensures closed { log.new.closed ≡ log.old.closed }
+    ensures room { log.old.room ≤ log.new.room + 1 }
+{
+    match access {
+        Some(access) => log.push(access),
+        None => {}
+    }
 }

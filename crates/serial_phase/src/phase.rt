@@ -1,14 +1,15 @@
-ghost use Rattle.std.specs.Prelude.{◌≡◌, ℕ, ◌<◌, ◌≤◌, ◌+◌, [], ◌++◌, option_to_list, length};
+ghost use Rattle.std.specs.Prelude.{◌≡◌, ℕ, ◌<◌, ◌≤◌, ◌+◌, [], length};
 ghost use Rattle.hart_step.specs.CodeTables.{Shows};
 ghost use Rattle.hart_step.specs.Room.{HasSpares};
 ghost use Rattle.serial_phase.specs.Phase.{TakesTurn, TakesTurns, turn_done, serial_done, budget_of, budget_of_all};
 ghost use Rattle.serial_phase.specs.Roomed.{HasRoom};
 
 use crate::instruction::serve;
-use crate::log::SerialLog;
+use crate::log::keep;
+use crate::plain_run::take_plain;
 use crate::shared::{SerialRound, SharedState, Turn};
 use hart_step::Hart;
-use round_schedule::{Access, Stepped};
+use round_schedule::Stepped;
 
 /// Does the serial phase of a round: the turns of the waiting harts, in hart order, each of up to
 /// `budget` instructions, 1 to 1,000.
@@ -84,19 +85,13 @@ pub fn take_turn(h: &mut Hart, state: &mut SharedState, turn: Turn)
             Stepped::Waits => return,
             Stepped::Stopped(_) => return,
         }
-        left -= 1;
-    }
-}
-
-/// Adds an access to the turn that is under way, where there is one.
-fn keep(log: &mut SerialLog, access: Option<Access>)
-    requires { 0 < log.old.room }
-    ensures current { log.new.current ≡ log.old.current ++ option_to_list access }
-    ensures closed { log.new.closed ≡ log.old.closed }
-    ensures room { log.old.room ≤ log.new.room + 1 }
-{
-    match access {
-        Some(access) => log.push(access),
-        None => {}
+        left = take_plain(
+            h,
+            state,
+            Turn {
+                budget: left - 1,
+                ..turn
+            },
+        );
     }
 }

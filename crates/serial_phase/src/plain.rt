@@ -2,7 +2,8 @@ ghost use Rattle.std.specs.Prelude.{◌≡◌, Some};
 ghost use Rattle.hart_step.specs.CodeTables.{decoded};
 ghost use Rattle.hart_step.specs.Room.{HasSpares};
 ghost use Rattle.hart_step.specs.Step.{stepped};
-ghost use Rattle.round_schedule.specs.TabledTurn.{updated};
+ghost use Rattle.round_schedule.specs.declared.access.Stepped.TheVariants.{Done};
+ghost use Rattle.round_schedule.specs.TabledTurn.{updated, updated_by};
 ghost use Rattle.serial_phase.specs.Plain.{IsPlain, IsPlainAnswer};
 ghost use Rattle.serial_phase.specs.Words.{Leaves, answered_table};
 
@@ -33,10 +34,21 @@ fn note_answer(answer: Stepped, table: &mut Reservations, hart: u32)
     ensures { table.new ≡ answered_table hart answer table.old }
 {
     match answer {
-        Stepped::Done(Some(access)) => note(access, table, hart),
-        Stepped::Done(None) => {}
+        Stepped::Done(seen) => note_seen(seen, table, hart),
         Stepped::Waits => {}
         Stepped::Stopped(_) => {}
+    }
+}
+
+/// Breaks the reservations of other harts that the access of a plain instruction breaks, where it made one.
+#[inline(always)]
+pub fn note_seen(seen: Option<Access>, table: &mut Reservations, hart: u32)
+    requires { IsPlainAnswer (Done seen) }
+    ensures { table.new ≡ updated_by hart seen table.old }
+{
+    match seen {
+        Some(access) => note(access, table, hart),
+        None => {}
     }
 }
 

@@ -141,7 +141,8 @@ fn succeed(
     requires room { HasSpares 1 state.old.pages }
     ensures answer { result ≡
         (succeeded h.old rd store.address store.width store.value ordering).answer }
-    ensures hart { h.new ≡ (succeeded h.old rd store.address store.width store.value ordering).hart }
+    ensures hart { h.new ≡
+        (succeeded h.old rd store.address store.width store.value ordering).hart }
     ensures stores { Stores hart store state.old state.new }
 {
     put(state, hart, store);

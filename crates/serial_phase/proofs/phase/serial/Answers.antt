@@ -1,7 +1,7 @@
-use Rattle.std.proofs.Common.{◌≡◌, arith}
+use Rattle.std.proofs.Common.{arith}
 use Rattle.std.proofs.lemmas.List.{get_or_default}
 use Rattle.serial_phase.proofs.PhaseUnderWay.{Group, serving_first, needs, serving_next, serving_over}
-use Rattle.serial_phase.proofs.TurnUnderWay.{At}
+use Rattle.serial_phase.specs.UnderWay.{At}
 use Rattle.serial_phase.proofs.phase.serial.Goals as goal
 
 pub take_turn-requires-clause-pages : goal.take_turn-requires-clause-pages

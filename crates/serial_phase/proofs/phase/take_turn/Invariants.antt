@@ -1,4 +1,4 @@
-use Rattle.serial_phase.proofs.TurnUnderWay.{Under}
+use Rattle.serial_phase.specs.UnderWay.{Under}
 use Rattle.serial_phase.proofs.phase.take_turn.Given as goal
 
 abbrev pub invariant-loop-left : goal.invariant-loop-left
