@@ -17,3 +17,4 @@ pub mod TracedRun
 pub mod Ordered
 pub mod AskedTurns
 pub mod Asked
+pub mod Tallied

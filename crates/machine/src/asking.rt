@@ -115,10 +115,22 @@ impl UntracedMachine {
             rounds,
             ..
         } = self;
-        let GuestState { harts, mut shared } = guest;
+        let GuestState {
+            harts,
+            outcomes: room,
+            mut shared,
+        } = guest;
         let before = harts[hart as usize];
         let round = rounds + 1;
-        let outcomes = outcomes_of(crew, &shared.pages, &shared.code, &harts, &plan, round)?;
+        let outcomes = outcomes_of(
+            crew,
+            &shared.pages,
+            &shared.code,
+            &harts,
+            &plan,
+            round,
+            room,
+        )?;
         let parts = outcomes.as_slice();
         let part = &parts[hart as usize];
         let done = done_since(before, part.hart);

@@ -1,38 +1,14 @@
-ghost use Rattle.std.specs.Prelude.{◌≡◌, ◌+◌, ◌*◌, ◌^◌, ◌<◌, ◌≤◌, ◌++◌, [], length, IfSome, drop, true, if◌then◌else◌};
+ghost use Rattle.std.specs.Prelude.{◌≡◌, ◌+◌, ◌*◌, ◌^◌, ◌<◌, ◌≤◌, ◌++◌, length, drop, true, if◌then◌else◌};
 ghost use Rattle.round_schedule.specs.declared.event.Phase.TheVariants.{Parallel};
 ghost use Rattle.round_schedule.specs.TabledTurn.{log_events};
 ghost use Rattle.round_schedule.specs.Events.{events_of};
 ghost use Rattle.trace.specs.Traced.{IsTrace};
-ghost use Rattle.machine.specs.Outcomes.{HasPlaces, count_accesses, count_copied, count_log, outcome_events, turns_of, waits_of};
+ghost use Rattle.machine.specs.Outcomes.{HasPlaces, count_copied, count_log, outcome_events, turns_of, waits_of};
 
 use crate::outcome::Outcome;
 use round_schedule::Phase;
 use serial_phase::SerialLog;
 use trace::{Log, Trace};
-
-/// How many accesses on average make a round's logs long.
-const LONG: usize = 64;
-
-/// How many accesses the harts made in their rounds, where the number fits.
-pub fn total_accesses(outcomes: &[Outcome]) -> Option<usize>
-    ensures { IfSome result (λ n. n ≡ count_accesses outcomes.now) }
-{
-    match outcomes {
-        [] => Some(0),
-        [first, rest @ ..] => total_accesses(rest)?.checked_add(first.log.len()),
-    }
-}
-
-/// How many accesses the harts made in their rounds, which did a million instructions each at most.
-pub fn access_count(outcomes: &[Outcome]) -> u64
-    requires { count_accesses outcomes.now < 2 ^ 32 }
-    ensures { result ≡ count_accesses outcomes.now }
-{
-    match outcomes {
-        [] => 0,
-        [first, rest @ ..] => first.log.len() as u64 + access_count(rest),
-    }
-}
 
 /// How many accesses there are in the serial turns of harts `first`, `first` + 1, .., `left` of them.
 pub fn serial_count(log: &SerialLog, first: u32, left: u32) -> u64
@@ -98,25 +74,14 @@ fn add_log(trace: &mut Trace, round: u32, hart: u32, log: &mut Log, adopts: bool
     ensures room { trace.old.room ≤ trace.new.room + (if adopts then 0 else length log.old) }
     ensures logs { adopts ≡ true → trace.old.logs ≤ trace.new.logs + 1 }
 {
+    if log.len() == 0 {
+        return;
+    }
     if adopts {
         trace.adopt(round, hart as u8, Phase::Parallel, log.take());
     } else {
         trace.copy_log(round, hart as u8, Phase::Parallel, log);
     }
-}
-
-/// Whether the harts made many accesses, for their number: then the trace adopts their logs.
-pub fn are_long(outcomes: &[Outcome]) -> bool {
-    let mut logs: usize = 0;
-    let mut accesses: usize = 0;
-    for outcome in outcomes {
-        let count = outcome.log.len();
-        if count > 0 {
-            logs = logs.saturating_add(1);
-            accesses = accesses.saturating_add(count);
-        }
-    }
-    logs > 0 && accesses / LONG >= logs
 }
 
 /// Adds the events of the serial turns of harts `first`, `first` + 1, .., `left` of them.

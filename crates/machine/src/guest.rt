@@ -3,6 +3,7 @@ ghost use Rattle.machine.specs.Guests.{opening_guest};
 
 use crate::decoding::decode_code;
 use crate::opening::opening_harts;
+use crate::outcome::Outcome;
 use elf_loader::Image;
 use hart_step::{CodeTable, Hart};
 use pages::{OutOfMemory, Pages};
@@ -15,6 +16,8 @@ use std::marker::Model;
 #[derive(Drop)]
 pub(crate) struct GuestState {
     pub(crate) harts: Vec<Hart>,
+    /// Room for what the harts of a round leave. It is empty between two rounds, and kept for the next.
+    pub(crate) outcomes: Vec<Outcome>,
     pub(crate) shared: SharedState,
 }
 
@@ -51,7 +54,11 @@ impl GuestState {
             console: Console::new(alloc, input),
             log: SerialLog::new(alloc),
         };
-        Ok(GuestState { harts, shared })
+        Ok(GuestState {
+            harts,
+            outcomes: Vec::new(alloc),
+            shared,
+        })
     }
 
     /// The harts, in hart order.
@@ -111,6 +118,7 @@ impl GuestState {
         let code = CodeTable::new(alloc, &pages, known.first(), known.words().len())?;
         Ok(GuestState {
             harts: copied(alloc, &self.harts)?,
+            outcomes: Vec::new(alloc),
             shared: SharedState {
                 pages,
                 code,

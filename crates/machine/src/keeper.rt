@@ -2,11 +2,12 @@ ghost use Rattle.std.specs.Prelude.{◌≡◌, ℕ, ◌+◌, ◌≤◌, ◌++◌
 ghost use Rattle.round_schedule.specs.declared.event.Event.{Event as Happened};
 ghost use Rattle.trace.specs.Traced.{IsTrace, Laid};
 ghost use Rattle.machine.specs.declared.outcome.Outcome.{Outcome as Left};
-ghost use Rattle.machine.specs.Outcomes.{HasPlaces, count_copied, count_log, round_events};
+ghost use Rattle.machine.specs.Outcomes.{HasPlaces, count_accesses, count_copied, count_log, round_events};
 
-use crate::events::{add_parallel, add_serial, are_long};
+use crate::events::{add_parallel, add_serial};
 use crate::outcome::Outcome;
 use crate::room::make_places;
+use crate::tally::Tally;
 use pages::OutOfMemory;
 use serial_phase::SerialLog;
 use trace::Trace;
@@ -26,7 +27,13 @@ pub trait EventKeeper {
     ghost has_room: { Self → Bool → List Left → ℕ → Type 0 };
 
     /// Asks for the room that the events of a round may need. Answers whether the logs of the harts are to be handed over.
-    fn make_room(&mut self, outcomes: &mut [Outcome], turns: u32) -> Result<bool, OutOfMemory>
+    fn make_room(
+        &mut self,
+        outcomes: &mut [Outcome],
+        tally: Tally,
+        turns: u32,
+    ) -> Result<bool, OutOfMemory>
+        requires { tally.accesses ≡ count_accesses outcomes.old }
         ensures kept { (es : List Happened) → keeps self.old es → keeps self.new es }
         ensures opening { opens_with self.new ≡ opens_with self.old }
         ensures outcomes { outcomes.new ≡ outcomes.old }
@@ -54,12 +61,18 @@ impl EventKeeper for Trace {
 
     ghost has_room = { λ t adopts os turns. HasPlaces adopts os t × (count_copied adopts os + turns ≤ t.room) };
 
-    fn make_room(&mut self, outcomes: &mut [Outcome], turns: u32) -> Result<bool, OutOfMemory> {
-        let adopts = are_long(outcomes);
+    fn make_room(
+        &mut self,
+        outcomes: &mut [Outcome],
+        tally: Tally,
+        turns: u32,
+    ) -> Result<bool, OutOfMemory> {
+        let adopts = tally.is_long();
         if adopts {
             share_logs(outcomes)?;
         }
-        make_places(self, outcomes, turns as usize, adopts)?;
+        let accesses = tally.accesses as usize;
+        make_places(self, outcomes, accesses, turns as usize, adopts)?;
         Ok(adopts)
     }
 
@@ -93,7 +106,12 @@ impl EventKeeper for NoTrace {
 
     ghost has_room = { λ _ _ _ _. Unit {0} };
 
-    fn make_room(&mut self, _outcomes: &mut [Outcome], _turns: u32) -> Result<bool, OutOfMemory> {
+    fn make_room(
+        &mut self,
+        _outcomes: &mut [Outcome],
+        _tally: Tally,
+        _turns: u32,
+    ) -> Result<bool, OutOfMemory> {
         Ok(false)
     }
 

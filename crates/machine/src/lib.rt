@@ -24,10 +24,10 @@ mod round;
 mod running;
 mod settings;
 mod showing;
+mod tally;
 mod tracing;
 mod untraced;
 mod untraced_running;
-mod waiting;
 
 pub use emulation::emulate;
 pub use machine::Machine;

@@ -1,10 +1,10 @@
-ghost use Rattle.std.specs.Prelude.{◌≡◌, ◌<◌, ◌≤◌, ◌+◌, ◌-◌, IfOk, length, ℕ, slice_index};
+ghost use Rattle.std.specs.Prelude.{◌≡◌, ◌<◌, ◌≤◌, ◌+◌, ◌-◌, ℕ, [], IfOk, OnOk, Some, length, slice_get, slice_index, vec_capacity};
 ghost use Rattle.round_schedule.specs.Schedule.{hart_rounds};
 ghost use Rattle.round_planner.specs.Quotas.{quota_of, quotas_of};
 ghost use Rattle.hart_step.specs.CodeTables.{Shows};
 ghost use Rattle.hart_step.specs.Words.{words_of};
-ghost use Rattle.round_lock.specs.Starts.{rounds_of};
-ghost use Rattle.machine.specs.Outcomes.{AreOutcomes};
+ghost use Rattle.round_lock.specs.Starts.{content_from, round_at, rounds_of};
+ghost use Rattle.machine.specs.Outcomes.{AreOutcomes, harts_of};
 
 use crate::crew::Crew;
 use commit_phase::Buffered;
@@ -13,12 +13,14 @@ use pages::{OutOfMemory, Pages};
 use parallel_phase::{Gate, gather, round_from};
 use round_lock::{BookStart, RoundStart};
 use round_planner::Plan;
-use std::alloc::Global;
 use std::marker::Brand;
 use std::sync::Wait;
 use std::thread::Threads;
 use store_buffer::StoreBuffer;
 use trace::Log;
+
+/// How many harts a plan has at most.
+const MOST_HARTS: usize = 64;
 
 /// What the round of one hart left: the hart, its stores, its accesses in program order, and whether it waits
 /// for the serial phase.
@@ -42,7 +44,8 @@ impl Buffered for Outcome {
     }
 }
 
-/// Does the rounds of all harts, each on memory as it is, by the workers of a crew.
+/// Does the rounds of all harts, each on memory as it is, by the workers of a crew. The list is taken for its room: what it holds
+/// is let go.
 pub fn outcomes_of<G: Gate + Sync, R: Threads + Wait + Sync>(
     crew: &Crew<'_, G, R>,
     pages: &Pages,
@@ -50,6 +53,7 @@ pub fn outcomes_of<G: Gate + Sync, R: Threads + Wait + Sync>(
     harts: &[Hart],
     plan: &Plan,
     round: u32,
+    room: Vec<Outcome>,
 ) -> Result<Vec<Outcome>, OutOfMemory>
     requires workers { (1 ≤ crew.now.workers) × (crew.now.workers ≤ 16) }
     requires shows { Shows pages.now.memory table.now.first table.now.instructions }
@@ -61,78 +65,113 @@ pub fn outcomes_of<G: Gate + Sync, R: Threads + Wait + Sync>(
 {
     // At most 64.
     let _harts = plan.harts();
-    let quotas = quotas_in(pages.allocator(), plan, round)?;
-    let start = RoundStart::new(pages, table, harts, &quotas);
-    outcomes_by::<Brand, G, R>(crew, &start)
+    let mut all = [0; MOST_HARTS];
+    let quotas = &mut all[..harts.len()];
+    set_quotas(plan, round, quotas);
+    let start = RoundStart::new(pages, table, harts, quotas);
+    outcomes_by::<Brand, G, R>(crew, &start, room)
 }
 
-/// Does the rounds of all harts: a lone worker without a book.
+/// Does the rounds of all harts, in a list that is taken for its room: a lone worker without a book.
 fn outcomes_by<B: BookStart + Send + Sync, G: Gate + Sync, R: Threads + Wait + Sync>(
     crew: &Crew<'_, G, R>,
     start: &RoundStart<'_>,
+    mut room: Vec<Outcome>,
 ) -> Result<Vec<Outcome>, OutOfMemory>
     requires workers { (1 ≤ crew.now.workers) × (crew.now.workers ≤ 16) }
     requires start { start.now ≡ B.start }
     requires sized { length start.now.quotas ≡ length start.now.harts }
     ensures { IfOk result (λ os. AreOutcomes start.now.memory (rounds_of start.now) os.items) }
 {
+    room.clear();
+    room.reserve(start.harts().len())?;
     if crew.workers == 1 {
-        outcomes_alone(crew.gate, start)
+        outcomes_alone(crew.gate, start, room)
     } else {
-        gather_outcomes::<B, G, R>(crew, start)
+        gather_outcomes::<B, G, R>(crew, start, room)
     }
 }
 
-/// Does the rounds of all harts on the calling thread, in hart order.
-fn outcomes_alone<G: Gate>(gate: &G, start: &RoundStart<'_>) -> Result<Vec<Outcome>, OutOfMemory>
+/// Does the rounds of all harts on the calling thread, in hart order, each in the place of its outcome.
+fn outcomes_alone<G: Gate>(
+    gate: &G,
+    start: &RoundStart<'_>,
+    mut outcomes: Vec<Outcome>,
+) -> Result<Vec<Outcome>, OutOfMemory>
     requires sized { length start.now.quotas ≡ length start.now.harts }
+    requires empty { outcomes.items ≡ [] }
+    requires room { length start.now.harts ≤ vec_capacity outcomes }
     ensures { IfOk result (λ os. AreOutcomes start.now.memory (rounds_of start.now) os.items) }
 {
-    let mut outcomes = Vec::with_capacity(start.pages().allocator(), start.harts().len())?;
+    let alloc = start.pages().allocator();
     for number in 0..start.harts().len() {
         gate.pass(number as u32);
-        let mut hart = start.harts()[number];
-        let (buffer, accesses, waits) = round_from(number, start, &mut hart)?;
         outcomes.push_reserved(Outcome {
-            hart,
-            buffer,
-            log: Log::of(accesses),
-            waits,
+            hart: start.harts()[number],
+            buffer: StoreBuffer::new(alloc),
+            log: Log::of(Vec::new(alloc)),
+            waits: false,
         });
+        round_in_place(number, start, &mut outcomes[number])?;
         gate.done(number as u32);
     }
     Ok(outcomes)
 }
 
-/// How many instructions each hart may do in a round.
-fn quotas_in(alloc: Global, plan: &Plan, round: u32) -> Result<Vec<u32>, OutOfMemory>
-    requires round { 1 ≤ round }
-    ensures sized { IfOk result (λ qs. length qs.items ≡ plan.now.harts) }
-    ensures quotas { IfOk result (λ qs. (h : ℕ) → h < plan.now.harts →
-        slice_index qs.items h ≡ quota_of plan.now round h) }
+/// Does the round of a hart in its outcome, in which the hart is as it starts.
+fn round_in_place(
+    number: usize,
+    start: &RoundStart<'_>,
+    outcome: &mut Outcome,
+) -> Result<(), OutOfMemory>
+    requires number { number < length start.now.harts }
+    requires hart { slice_get start.now.harts number ≡ Some outcome.old.hart }
+    ensures { OnOk result (round_at start.now number ≡ Some (content_from outcome.new.hart
+        outcome.new.buffer outcome.new.log outcome.new.waits)) }
 {
-    let mut quotas = Vec::with_capacity(alloc, plan.harts() as usize)?;
-    for hart in 0..plan.harts() {
-        match quotas.push(plan.quota(round, hart)) {
-            Ok(()) => {}
-            Err(_) => return Err(OutOfMemory),
-        }
+    let (buffer, accesses, waits) = round_from(number, start, &mut outcome.hart)?;
+    outcome.buffer = buffer;
+    outcome.log = Log::of(accesses);
+    outcome.waits = waits;
+    Ok(())
+}
+
+/// Gives each hart the state that its round left.
+pub fn give_harts(outcomes: &[Outcome], harts: &mut [Hart])
+    requires { length harts.old ≡ length outcomes.now }
+    ensures { harts.new ≡ harts_of outcomes.now }
+{
+    for number in 0..outcomes.len() {
+        harts[number] = outcomes[number].hart;
     }
-    Ok(quotas)
+}
+
+/// Sets how many instructions each hart may do in a round.
+fn set_quotas(plan: &Plan, round: u32, quotas: &mut [u32])
+    requires round { 1 ≤ round }
+    requires sized { length quotas.old ≡ plan.now.harts }
+    ensures { (h : ℕ) → h < plan.now.harts →
+        slice_index quotas.new h ≡ quota_of plan.now round h }
+{
+    for hart in 0..plan.harts() {
+        quotas[hart as usize] = plan.quota(round, hart);
+    }
 }
 
 /// Gathers the rounds of all harts, and puts them in hart order.
 fn gather_outcomes<B: BookStart + Send + Sync, G: Gate + Sync, R: Threads + Wait + Sync>(
     crew: &Crew<'_, G, R>,
     start: &RoundStart<'_>,
+    mut outcomes: Vec<Outcome>,
 ) -> Result<Vec<Outcome>, OutOfMemory>
     requires workers { (1 ≤ crew.now.workers) × (crew.now.workers ≤ 16) }
     requires start { start.now ≡ B.start }
     requires sized { length start.now.quotas ≡ length start.now.harts }
+    requires empty { outcomes.items ≡ [] }
+    requires room { length start.now.harts ≤ vec_capacity outcomes }
     ensures { IfOk result (λ os. AreOutcomes start.now.memory (rounds_of start.now) os.items) }
 {
     let mut gathered = gather::<B, G, R>(crew.rt, start, crew.workers, crew.gate)?;
-    let mut outcomes = Vec::with_capacity(start.pages().allocator(), start.harts().len())?;
     for number in 0..start.harts().len() {
         // The history is complete.
         let Some(round) = gathered.take(number as u32) else {

@@ -24,6 +24,9 @@ fn make_buffer_ready(pages: &mut Pages, buffer: &StoreBuffer) -> Result<(), OutO
     ensures keeps { KeepsPages pages.old pages.new }
     ensures ready { OnOk result (AllOnReady pages.new buffer.now) }
 {
+    if buffer.is_empty() {
+        return Ok(());
+    }
     // A byte of guest memory lies in one of these pages.
     let _pages = pages.count();
     for (start, _line) in buffer.lines() {

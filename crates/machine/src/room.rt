@@ -3,7 +3,6 @@ ghost use Rattle.hart_step.specs.Room.{HasSpares};
 ghost use Rattle.serial_phase.specs.Roomed.{HasRoom};
 ghost use Rattle.machine.specs.Outcomes.{AreFit, AreReady, HasPlaces, KeepsPages, count_accesses, count_copied};
 
-use crate::events::total_accesses;
 use crate::outcome::Outcome;
 use crate::ready::make_ready;
 use pages::{OutOfMemory, Pages};
@@ -52,17 +51,16 @@ fn make_spares(pages: &mut Pages, outcomes: &[Outcome], spare: u32) -> Result<()
 pub fn make_places(
     trace: &mut Trace,
     outcomes: &[Outcome],
+    accesses: usize,
     turns: usize,
     adopts: bool,
 ) -> Result<(), OutOfMemory>
+    requires accesses { accesses ≡ count_accesses outcomes.now }
     ensures trace { trace.new.events ≡ trace.old.events }
     ensures opening { trace.new.opening ≡ trace.old.opening }
     ensures places { OnOk result (HasPlaces adopts outcomes.now trace.new) }
     ensures events { OnOk result (count_copied adopts outcomes.now + turns ≤ trace.new.room) }
 {
-    let Some(accesses) = total_accesses(outcomes) else {
-        return Err(OutOfMemory);
-    };
     if adopts {
         trace.reserve_logs(outcomes.len(), accesses)?;
         return trace.reserve(turns);

@@ -9,22 +9,23 @@ ghost use Rattle.hart_step.specs.Words.{words_of};
 ghost use Rattle.machine.specs.Guests.{guest_events, guest_of, next_guest, shared_of};
 ghost use Rattle.machine.specs.Held.{most_of_round};
 ghost use Rattle.machine.specs.Machine.{count_waiting};
-ghost use Rattle.machine.specs.Outcomes.{AreFit, AreOutcomes, count_accesses, count_true, harts_of, mask_of, waits_of};
+ghost use Rattle.machine.specs.Outcomes.{AreFit, AreOutcomes, count_accesses, count_true, mask_of, waits_of};
 ghost use Rattle.machine.specs.Rounds.{IsFinished, MayFinish};
 
 use crate::commit::commit;
 use crate::crew::Crew;
-use crate::events::{access_count, serial_count, turns_needed};
+use crate::events::serial_count;
 use crate::guest::GuestState;
 use crate::keeper::EventKeeper;
-use crate::outcome::{Outcome, outcomes_of};
+use crate::outcome::{Outcome, give_harts, outcomes_of};
 use crate::room::make_turn_room;
-use crate::waiting::{harts_after, waiting_count, waiting_mask};
+use crate::tally::Tally;
 use hart_step::Hart;
 use pages::OutOfMemory;
 use parallel_phase::Gate;
 use round_planner::Plan;
 use serial_phase::{SerialRound, SharedState, serial};
+use std::mem;
 use std::sync::Wait;
 use std::thread::Threads;
 
@@ -73,6 +74,7 @@ impl GuestState {
         let round = done + 1;
         // At most 64.
         let _harts = plan.harts();
+        let room = mem::replace(&mut self.outcomes, Vec::new(alloc));
         let mut outcomes = outcomes_of(
             crew,
             &shared.pages,
@@ -80,15 +82,25 @@ impl GuestState {
             &self.harts,
             plan,
             round,
+            room,
         )?;
-        let mut turned = harts_after(alloc, &outcomes)?;
+        let tally = Tally::of(&outcomes);
         let phase = SerialRound {
             round,
-            waiting: waiting_mask(&outcomes),
+            waiting: tally.waiting,
             budget: plan.budget(),
         };
-        let counts = finish(crew, shared, keeper, &mut outcomes, &mut turned, phase)?;
-        self.harts = turned;
+        let counts = finish(
+            crew,
+            shared,
+            keeper,
+            &mut outcomes,
+            &mut self.harts,
+            phase,
+            tally,
+        )?;
+        outcomes.clear();
+        self.outcomes = outcomes;
         Ok(counts)
     }
 }
@@ -101,6 +113,7 @@ fn finish<E: EventKeeper, G, R: Threads + Sync>(
     outcomes: &mut [Outcome],
     harts: &mut [Hart],
     phase: SerialRound,
+    tally: Tally,
 ) -> Result<RoundCounts, OutOfMemory>
     requires workers { 1 ≤ crew.now.workers }
     requires shows { Shows shared.old.pages.memory shared.old.code.first
@@ -109,10 +122,12 @@ fn finish<E: EventKeeper, G, R: Threads + Sync>(
         outcomes.old × TouchesNoCode shared.old.pages.memory.code (all_stores rs) }
     requires few { length outcomes.old ≤ 64 }
     requires fits { AreFit shared.old.pages.memory outcomes.old }
-    requires harts { harts.old ≡ harts_of outcomes.old }
+    requires harts { length harts.old ≡ length outcomes.old }
     requires size { length shared.old.reservations ≡ length outcomes.old }
     requires waiting { phase.waiting ≡ mask_of (waits_of outcomes.old) }
     requires budget { phase.budget ≤ 1000 }
+    requires waited { tally.waited ≡ count_true (waits_of outcomes.old) }
+    requires counted { tally.accesses ≡ count_accesses outcomes.old }
     requires accesses { count_accesses outcomes.old ≤ 64000000 }
     requires sound { (es : List Event) × E.keeps keeper.old es ×
         MayFinish E.may_keep phase outcomes.old (shared_of shared.old) es }
@@ -125,19 +140,24 @@ fn finish<E: EventKeeper, G, R: Threads + Sync>(
     ensures shows { Shows shared.new.pages.memory shared.new.code.first
         shared.new.code.instructions }
     ensures waited { IfOk result (λ n. n.waited ≡ count_true (waits_of outcomes.old)) }
+    ensures harts { OnErr result (harts.new ≡ harts.old) }
     ensures memory { OnErr result (shared.new.pages.memory ≡ shared.old.pages.memory) }
     ensures reservations { OnErr result (shared.new.reservations ≡ shared.old.reservations) }
     ensures console { OnErr result (shared.new.console.console ≡ shared.old.console.console) }
     ensures untold { OnErr result ((es : List Event) → E.keeps keeper.old es →
         E.keeps keeper.new es) }
 {
-    let turns = turns_needed(outcomes, phase.budget);
+    let turns = tally.waited * phase.budget;
     make_turn_room(shared, outcomes, turns)?;
-    let adopts = keeper.make_room(outcomes, turns)?;
+    let adopts = keeper.make_room(outcomes, tally, turns)?;
+    // From here on nothing is refused.
     commit(crew, &mut shared.pages, &mut shared.reservations, outcomes);
+    give_harts(outcomes, harts);
     serial(shared, harts, phase);
-    let waited = waiting_count(outcomes);
-    let events = access_count(outcomes) + serial_count(&shared.log, 0, outcomes.len() as u32);
+    let events = tally.accesses + serial_count(&shared.log, 0, outcomes.len() as u32);
     keeper.add(phase.round, outcomes, &shared.log, adopts);
-    Ok(RoundCounts { waited, events })
+    Ok(RoundCounts {
+        waited: tally.waited,
+        events,
+    })
 }

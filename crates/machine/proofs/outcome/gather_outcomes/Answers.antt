@@ -14,7 +14,7 @@ loop-number-init g c = record {
   left = λ h least most. has_from_times _ h (c.in_ok-gathered.ensures.complete h most);
   count = search rules;
   room = search rules;
-  rounds = subst (λ (os : List Outcome). AreOutcomes c.args.start.now.memory [] os) (sym c.in_ok-outcomes.ensures.items) tt;
+  rounds = subst (λ (os : List Outcome). AreOutcomes c.args.start.now.memory [] os) (sym c.requires.empty) tt;
 }
 
 pub loop-number-preserved : goal.loop-number-preserved

@@ -1,7 +1,9 @@
-use Rattle.std.proofs.Common.{◌<◌, List, length, [], None, refl, sym, ap, subst, rules}
+use Rattle.std.proofs.Common.{◌≡◌, ◌<◌, ℕ, zero, suc, List, [], ◌∷◌, ◌++◌, Some, None, get_or, slice_get, length, refl, sym, ap, ◌∙◌, subst, rules, arith}
+use Rattle.std.proofs.Math.ListN.{set}
+use Rattle.std.proofs.Math.Seq.{set-append_seam}
 use Rattle.hart_step.specs.declared.hart.Hart.{Hart}
-use Rattle.round_schedule.specs.declared.access.Access.{Access}
 use Rattle.round_lock.specs.Starts.{Start, content_from}
+use Rattle.parallel_phase.proofs.HartRounds.{indexed}
 use Rattle.machine.specs.Outcomes.{AreOutcomes}
 use Rattle.machine.specs.declared.outcome.Outcome.{Outcome}
 use Rattle.machine.proofs.RoundsOfHarts.{is_outcome, outcomes_more}
@@ -9,24 +11,51 @@ use Rattle.machine.proofs.outcome.outcomes_alone.Goals as goal
 
 pub loop-number-init : goal.loop-number-init
 loop-number-init g c = record {
-  rounds = subst (λ (os : List Outcome). AreOutcomes c.args.start.now.memory [] os) (sym c.in_ok-outcomes.ensures.items) tt;
+  rounds = subst (λ (os : List Outcome). AreOutcomes c.args.start.now.memory [] os) (sym c.requires.empty) tt;
   count = search rules;
   room = search rules;
 }
+
+last_at : (os : List Outcome) (x : Outcome) (n : ℕ) (d : Outcome) → n ≡ length os → get_or (os ++ x ∷ []) n d ≡ x
+last_at [] x zero d e = refl
+last_at [] x (suc n) d e = absurd (omega (arith, e))
+last_at (y ∷ os) x zero d e = absurd (omega (arith, e))
+last_at (y ∷ os) x (suc n) d e = last_at os x n d (omega (arith, e))
+
+-- the hart of the outcome that was added is as it starts
+begun : (hs gs : List Hart) (n : ℕ) (d : Hart) (os ms : List Outcome) (x o : Outcome) → n < length hs → n ≡ length os → gs ≡ hs → ms ≡ os ++ x ∷ [] → o ≡ get_or ms n o → x.hart ≡ get_or gs n d →
+    Some o.hart ≡ slice_get hs n
+begun hs gs n d os ms x o low many same more at first =
+    let is : o ≡ x = at ∙ ap (λ (xs : List Outcome). get_or xs n o) more ∙ last_at os x n o many in
+    ap (λ (y : Outcome). Some y.hart) is ∙ ap (λ (h : Hart). Some h) first ∙ ap (λ (xs : List Hart). Some (get_or xs n d)) same ∙ sym (indexed hs n d low)
+
+pub round_in_place-requires : goal.round_in_place-requires
+round_in_place-requires g c =
+    let s : Start = c.args.start.now in
+    let n = c.loop-number.number in
+    let low : n < length s.harts = subst (λ (hs : List Hart). n < length hs) c.harts-number-end.ensures.harts c.loop-number-test.true in
+    record {
+      number = low;
+      hart = sym (begun s.harts c.harts.result.now n _ c.loop-number.outcomes.items c.push_reserved.new.self.items _ c.index_mut.result.now low (grind (arith, c.loop-number.invariant.count)) c.harts.ensures.harts c.push_reserved.ensures.items c.index_mut.ensures.value refl);
+    }
+
+-- the outcome that was added is the last
+replaced : (os ms : List Outcome) (x o : Outcome) (n : ℕ) → n ≡ length os → ms ≡ os ++ x ∷ [] → set ms n o ≡ os ++ o ∷ []
+replaced os ms x o n many more = ap (λ (xs : List Outcome). set xs n o) more ∙ ap (λ (k : ℕ). set (os ++ x ∷ []) k o) many ∙ set-append_seam os x [] o
 
 pub loop-number-preserved : goal.loop-number-preserved
 loop-number-preserved g c =
     let s : Start = c.args.start.now in
     let n = c.loop-number.number in
+    let os = c.loop-number.outcomes.items in
     let none : Hart = record { x = []; pc = 0; done = 0; stop = None } in
-    let turned : Hart = c.round_from.new.hart in
-    let o : Outcome = record { hart = turned; buffer = c.in_ok-buffer.buffer; log = c.of.result; waits = c.in_ok-buffer.waits } in
+    let o : Outcome = c.round_in_place.new.outcome in
     let low : n < length s.harts = subst (λ (hs : List Hart). n < length hs) c.harts-number-end.ensures.harts c.loop-number-test.true in
+    let many : n ≡ length os = grind (arith, c.loop-number.invariant.count) in
+    let grown : set c.push_reserved.new.self.items n o ≡ os ++ o ∷ [] = replaced os c.push_reserved.new.self.items _ o n many c.push_reserved.ensures.items in
     record {
-      rounds = outcomes_more s.memory s.quotas s.harts n none _ c.loop-number.outcomes.items c.push_reserved.new.self.items o
-          low refl c.push_reserved.ensures.items c.loop-number.invariant.rounds
-          (is_outcome s n none (content_from turned c.in_ok-buffer.buffer c.in_ok-buffer.accesses.items c.in_ok-buffer.waits) o low c.requires.sized c.in_ok-buffer.ensures
-          (ap (λ (as' : List Access). content_from turned c.in_ok-buffer.buffer as' c.in_ok-buffer.waits) (sym c.of.ensures)));
+      rounds = outcomes_more s.memory s.quotas s.harts n none _ os _ o low refl grown c.loop-number.invariant.rounds
+          (is_outcome s n none (content_from o.hart o.buffer o.log o.waits) o low c.requires.sized c.in_ok-round_in_place.ensures refl);
       count = search rules;
       room = search rules;
     }

@@ -1,5 +1,5 @@
 use Rattle.std.proofs.lemmas.Result.{IfOk-weaker}
-use Rattle.std.proofs.Common.{◌-◌, ◌∙◌, ℕ, List, get_or, ap, subst, arith}
+use Rattle.std.proofs.Common.{◌-◌, List, subst, arith}
 use Rattle.round_schedule.specs.Schedule.{HartRound, hart_rounds}
 use Rattle.round_planner.specs.Quotas.{quotas_of}
 use Rattle.hart_step.specs.declared.hart.Hart.{Hart}
@@ -16,6 +16,6 @@ returns g c =
     let rs = hart_rounds (words_of m.code) m.bytes (quotas_of plan (c.args.round - 1)) c.args.harts.now in
     IfOk-weaker c.outcomes_by.result _ _ (λ os done.
     subst (λ (them : List (HartRound Hart)). AreOutcomes m them os.items)
-    (same_rounds (words_of m.code) m.bytes c.deref.result.now (quotas_of plan (c.args.round - 1)) c.args.harts.now (λ k low.
-    ap (λ (qs : List ℕ). get_or qs k 0) c.deref.ensures.value ∙ c.in_ok-quotas.ensures.quotas k (omega (arith, low, c.requires.harts))))
+    (same_rounds (words_of m.code) m.bytes c.set_quotas.new.quotas (quotas_of plan (c.args.round - 1)) c.args.harts.now (λ k low.
+    c.set_quotas.ensures k (omega (arith, low, c.requires.harts))))
     (subst (λ (s : Start). AreOutcomes s.memory (rounds_of s) os.items) c.new-start.ensures done)) c.outcomes_by.ensures

@@ -1,4 +1,5 @@
-use Rattle.std.proofs.Common.{◌≡◌, ◌≤◌, ◌++◌, ℕ, List, length, sym, ap, ◌∙◌, subst, arith}
+use Rattle.std.proofs.Common.{◌≡◌, ◌*◌, ◌≤◌, ◌++◌, ℕ, List, length, sym, ap, ◌∙◌, subst, arith}
+use Rattle.std.proofs.lemmas.Nat.{mul-le}
 use Rattle.pages.specs.Memory.{Memory}
 use Rattle.commit_phase.specs.Commit.{Committed}
 use Rattle.hart_step.specs.CodeTables.{Shows}
@@ -8,11 +9,18 @@ use Rattle.hart_step.specs.declared.hart.Hart.{Hart}
 use Rattle.serial_phase.specs.Phase.{TakesTurns, serial_done, budget_from}
 use Rattle.serial_phase.specs.Roomed.{HasRoom}
 use Rattle.machine.specs.declared.outcome.Outcome.{Outcome}
-use Rattle.machine.specs.Outcomes.{AreFit, AreOutcomes, AreReady, count_accesses, mask_of, waits_of, harts_of, round_events}
+use Rattle.machine.specs.Outcomes.{AreFit, AreOutcomes, AreReady, mask_of, waits_of, harts_of, round_events}
 use Rattle.machine.proofs.CodeKept.{shows_committed}
 use Rattle.machine.proofs.Counted.{count_events, few_turns}
 use Rattle.machine.proofs.RoundDone.{finished_from, needed_is, length-waits, length-harts, spares_left, log_of}
+use Rattle.machine.proofs.Tallied.{count_most, turns_by_count}
 use Rattle.machine.proofs.round.finish.Goals as goal
+
+pub overflow_mul-turns : goal.overflow_mul-turns
+overflow_mul-turns g c =
+    let bs = waits_of c.args.outcomes.now in
+    let few : c.args.tally.waited ≤ 64 = omega (arith, c.requires.waited, count_most bs, length-waits c.args.outcomes.now, c.requires.few) in
+    omega (arith, mul-le c.args.tally.waited c.args.phase.budget 64 1000 few c.requires.budget)
 
 pub commit-requires-clause-few : goal.commit-requires-clause-few
 commit-requires-clause-few g c = λ lifetimes within. omega (arith, c.requires.few, ap length c.in_ok-adopts.ensures.outcomes)
@@ -31,10 +39,13 @@ serial-requires g c =
     let os = c.args.outcomes.now in
     let phase = c.args.phase in
     let room = c.make_turn_room.new.shared in
-    let size : length c.args.harts.now ≡ length os = ap length c.requires.harts ∙ length-harts os in
-    let need : budget_from phase.waiting phase.budget 0 (length c.args.harts.now) ≡ c.turns_needed-turns.result =
-    ap (λ (w : ℕ). budget_from w phase.budget 0 (length c.args.harts.now)) c.requires.waiting
-    ∙ ap (budget_from (mask_of (waits_of os)) phase.budget 0) (size ∙ sym (length-waits os)) ∙ needed_is phase.budget (waits_of os) ∙ sym c.turns_needed-turns.ensures.needed in
+    let hs = c.give_harts.new.harts in
+    let size : length hs ≡ length os = ap length (c.give_harts.ensures ∙ ap harts_of c.in_ok-adopts.ensures.outcomes) ∙ length-harts os in
+    let turns = c.args.tally.waited * phase.budget in
+    let need : budget_from phase.waiting phase.budget 0 (length hs) ≡ turns =
+    ap (λ (w : ℕ). budget_from w phase.budget 0 (length hs)) c.requires.waiting
+    ∙ ap (budget_from (mask_of (waits_of os)) phase.budget 0) (size ∙ sym (length-waits os)) ∙ needed_is phase.budget (waits_of os)
+    ∙ turns_by_count phase.budget (waits_of os) ∙ sym (ap (λ (n : ℕ). n * phase.budget) c.requires.waited) in
     let rounds = c.requires.rounds in
     let m = c.args.shared.now.pages.memory in
     let same = c.in_ok-make_turn_room.ensures.keeps.memory in
@@ -44,22 +55,19 @@ serial-requires g c =
           (subst (λ x. Shows m x.first x.instructions) (sym c.make_turn_room.ensures.code) c.requires.shows);
       harts = size ∙ sym c.requires.size ∙ ap length (sym c.make_turn_room.ensures.reservations) ∙ sym c.commit.ensures.size;
       few = omega (arith, size, c.requires.few);
-      pages = spares_left c.turns_needed-turns.result _ room.pages c.commit.new.pages need c.commit.ensures.ready c.commit.ensures.spare c.in_ok-make_turn_room.ensures.spares;
+      pages = spares_left turns _ room.pages c.commit.new.pages need c.commit.ensures.ready c.commit.ensures.spare c.in_ok-make_turn_room.ensures.spares;
       console = subst (λ (n : ℕ). HasRoom n room.console) (sym need) c.in_ok-make_turn_room.ensures.output;
       log = subst (λ (n : ℕ). n ≤ room.log.room) (sym need) c.in_ok-make_turn_room.ensures.log_room;
       closed = c.in_ok-make_turn_room.ensures.closed;
       current = c.in_ok-make_turn_room.ensures.current;
     }
 
-pub access_count-requires : goal.access_count-requires
-access_count-requires g c = omega (arith, c.requires.accesses, ap count_accesses c.in_ok-adopts.ensures.outcomes)
-
 pub serial_count-requires : goal.serial_count-requires
 serial_count-requires g c =
     let os = c.args.outcomes.now in
     let phase = c.args.phase in
     let start : SharedState = record c.make_turn_room.new.shared { pages = c.commit.new.pages; reservations = c.commit.new.table } in
-    let served = subst (λ (hs : List Hart). TakesTurns (serial_done phase hs start) c.serial.new.harts start c.serial.new.state) c.requires.harts c.serial.ensures.turns in
+    let served = subst (λ (hs : List Hart). TakesTurns (serial_done phase hs start) c.serial.new.harts start c.serial.new.state) (c.give_harts.ensures ∙ ap harts_of c.in_ok-adopts.ensures.outcomes) c.serial.ensures.turns in
     let fits = log_of phase (waits_of os) (harts_of os) c.serial.new.harts start c.serial.new.state (length-waits os ∙ sym (length-harts os)) c.requires.waiting served in
     record {
       harts = omega (arith, fits.length, length-harts os, ap length c.in_ok-adopts.ensures.outcomes);
@@ -72,7 +80,7 @@ add-requires g c =
     let os = c.args.outcomes.now in
     let phase = c.args.phase in
     let start : SharedState = record c.make_turn_room.new.shared { pages = c.commit.new.pages; reservations = c.commit.new.table } in
-    let served = subst (λ (hs : List Hart). TakesTurns (serial_done phase hs start) c.serial.new.harts start c.serial.new.state) c.requires.harts c.serial.ensures.turns in
+    let served = subst (λ (hs : List Hart). TakesTurns (serial_done phase hs start) c.serial.new.harts start c.serial.new.state) (c.give_harts.ensures ∙ ap harts_of c.in_ok-adopts.ensures.outcomes) c.serial.ensures.turns in
     let fits = log_of phase (waits_of os) (harts_of os) c.serial.new.harts start c.serial.new.state (length-waits os ∙ sym (length-harts os)) c.requires.waiting served in
     let kept = c.in_ok-make_turn_room.ensures.keeps.memory in
     let same = c.in_ok-adopts.ensures.outcomes in
@@ -82,7 +90,7 @@ add-requires g c =
     record {
       harts = fits.length ∙ length-harts os ∙ sym (ap length same);
       few = omega (arith, c.requires.few, ap length same);
-      room = (c.turns_needed-turns.result, c.in_ok-adopts.ensures.room, omega (arith, fits.fits, c.turns_needed-turns.ensures.needed));
+      room = (c.args.tally.waited * phase.budget, c.in_ok-adopts.ensures.room, omega (arith, fits.fits, turns_by_count phase.budget (waits_of os), ap (λ (n : ℕ). n * phase.budget) c.requires.waited));
       sound = (
         c.requires.sound.0,
         c.in_ok-adopts.ensures.kept c.requires.sound.0 c.requires.sound.1,
@@ -96,7 +104,7 @@ returns-clause-ok g c =
     let os = c.args.outcomes.now in
     let phase = c.args.phase in
     let start : SharedState = record c.make_turn_room.new.shared { pages = c.commit.new.pages; reservations = c.commit.new.table } in
-    let served = subst (λ (hs : List Hart). TakesTurns (serial_done phase hs start) c.serial.new.harts start c.serial.new.state) c.requires.harts c.serial.ensures.turns in
+    let served = subst (λ (hs : List Hart). TakesTurns (serial_done phase hs start) c.serial.new.harts start c.serial.new.state) (c.give_harts.ensures ∙ ap harts_of c.in_ok-adopts.ensures.outcomes) c.serial.ensures.turns in
     let kept = c.in_ok-make_turn_room.ensures.keeps.memory in
     let same = c.in_ok-adopts.ensures.outcomes in
     let finished = finished_from phase os c.serial.new.harts c.args.shared.now c.make_turn_room.new.shared start c.serial.new.state kept
@@ -104,22 +112,22 @@ returns-clause-ok g c =
     (subst (λ (x : List Outcome). AreOutcomes c.args.shared.now.pages.memory rs x) (sym same) a)))) c.make_turn_room.ensures.console served in
     let all = round_events phase.round os c.serial.new.state.log.closed in
     let events = subst (λ (x : List Outcome). (es : List Event) → g.E.EventKeeper.keeps c.make_room.new.self es → g.E.EventKeeper.keeps c.add.new.self (es ++ round_events phase.round x c.serial.new.state.log.closed)) same c.add.ensures.kept in
-    (all, finished, omega (arith, c.access_count.ensures, ap count_accesses same, c.serial_count.ensures, count_events phase.round os c.serial.new.state.log.closed), λ es k. events es (c.in_ok-adopts.ensures.kept es k))
+    (all, finished, omega (arith, c.requires.counted, c.serial_count.ensures, count_events phase.round os c.serial.new.state.log.closed), λ es k. events es (c.in_ok-adopts.ensures.kept es k))
 
 pub returns-clause-few : goal.returns-clause-few
 returns-clause-few g c =
     let os = c.args.outcomes.now in
     let phase = c.args.phase in
     let start : SharedState = record c.make_turn_room.new.shared { pages = c.commit.new.pages; reservations = c.commit.new.table } in
-    let served = subst (λ (hs : List Hart). TakesTurns (serial_done phase hs start) c.serial.new.harts start c.serial.new.state) c.requires.harts c.serial.ensures.turns in
+    let served = subst (λ (hs : List Hart). TakesTurns (serial_done phase hs start) c.serial.new.harts start c.serial.new.state) (c.give_harts.ensures ∙ ap harts_of c.in_ok-adopts.ensures.outcomes) c.serial.ensures.turns in
     let fits = log_of phase (waits_of os) (harts_of os) c.serial.new.harts start c.serial.new.state (length-waits os ∙ sym (length-harts os)) c.requires.waiting served in
-    omega (arith, c.requires.accesses, c.access_count.ensures, ap count_accesses c.in_ok-adopts.ensures.outcomes, c.serial_count.ensures, fits.fits, few_turns phase.budget (waits_of os) c.requires.budget, length-waits os, c.requires.few)
+    omega (arith, c.requires.accesses, c.requires.counted, c.serial_count.ensures, fits.fits, few_turns phase.budget (waits_of os) c.requires.budget, length-waits os, c.requires.few)
 
 pub overflow_add-events : goal.overflow_add-events
 overflow_add-events g c =
     let os = c.args.outcomes.now in
     let phase = c.args.phase in
     let start : SharedState = record c.make_turn_room.new.shared { pages = c.commit.new.pages; reservations = c.commit.new.table } in
-    let served = subst (λ (hs : List Hart). TakesTurns (serial_done phase hs start) c.serial.new.harts start c.serial.new.state) c.requires.harts c.serial.ensures.turns in
+    let served = subst (λ (hs : List Hart). TakesTurns (serial_done phase hs start) c.serial.new.harts start c.serial.new.state) (c.give_harts.ensures ∙ ap harts_of c.in_ok-adopts.ensures.outcomes) c.serial.ensures.turns in
     let fits = log_of phase (waits_of os) (harts_of os) c.serial.new.harts start c.serial.new.state (length-waits os ∙ sym (length-harts os)) c.requires.waiting served in
-    omega (arith, c.requires.accesses, c.access_count.ensures, ap count_accesses c.in_ok-adopts.ensures.outcomes, c.serial_count.ensures, fits.fits, few_turns phase.budget (waits_of os) c.requires.budget, length-waits os, c.requires.few)
+    omega (arith, c.requires.accesses, c.requires.counted, c.serial_count.ensures, fits.fits, few_turns phase.budget (waits_of os) c.requires.budget, length-waits os, c.requires.few)

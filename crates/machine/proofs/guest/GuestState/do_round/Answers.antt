@@ -8,12 +8,12 @@ use Rattle.hart_step.specs.Words.{words_of}
 use Rattle.machine.specs.declared.outcome.Outcome.{Outcome}
 use Rattle.machine.specs.Guests.{Guest, guest_events, guest_of, next_guest}
 use Rattle.machine.specs.Machine.{count_waiting}
-use Rattle.machine.specs.Outcomes.{AreFit, AreOutcomes, count_accesses, harts_of, mask_of, waits_of}
+use Rattle.machine.specs.Outcomes.{AreFit, AreOutcomes, count_accesses, count_true, mask_of, waits_of}
 use Rattle.machine.proofs.Asked.{how_many, outcomes_are}
 use Rattle.machine.proofs.CodeKept.{rounds_touch}
 use Rattle.machine.proofs.Counted.{few_accesses}
 use Rattle.machine.proofs.Listed.{are_fit}
-use Rattle.machine.proofs.RoundDone.{finished_done, length-harts, waited_is}
+use Rattle.machine.proofs.RoundDone.{finished_done, waited_is}
 use Rattle.machine.proofs.TraceKept.{low_quotas}
 use Rattle.machine.proofs.guest.GuestState.do_round.Goals as goal
 
@@ -45,7 +45,9 @@ finish-requires-clause-fits g c = λ lifetimes within.
 
 pub finish-requires-clause-harts : goal.finish-requires-clause-harts
 finish-requires-clause-harts g c = λ lifetimes within.
-    c.deref_mut-2.ensures.value ∙ c.in_ok-turned.ensures ∙ ap harts_of (c.deref-2.ensures.value ∙ sym c.deref_mut.ensures.value)
+    let i = c.self.inside in
+    let many = how_many c.args.plan.now c.args.done i.harts.items c.deref.result.now i.shared.pages c.in_ok-outcomes.outcomes.items c.deref.ensures.value c.in_ok-outcomes.ensures in
+    ap length c.deref_mut-2.ensures.value ∙ sym many ∙ sym (ap length c.deref_mut.ensures.value)
 
 pub finish-requires-clause-size : goal.finish-requires-clause-size
 finish-requires-clause-size g c = λ lifetimes within.
@@ -55,7 +57,14 @@ finish-requires-clause-size g c = λ lifetimes within.
 
 pub finish-requires-clause-waiting : goal.finish-requires-clause-waiting
 finish-requires-clause-waiting g c = λ lifetimes within.
-    c.waiting_mask.ensures.mask ∙ ap (λ (os : List Outcome). mask_of (waits_of os)) (c.deref-3.ensures.value ∙ sym c.deref_mut.ensures.value)
+    c.of-tally.ensures.waiting ∙ ap (λ (os : List Outcome). mask_of (waits_of os)) (c.deref-2.ensures.value ∙ sym c.deref_mut.ensures.value)
+
+pub finish-requires-clause-waited : goal.finish-requires-clause-waited
+finish-requires-clause-waited g c = λ lifetimes within.
+    c.of-tally.ensures.waited ∙ ap (λ (os : List Outcome). count_true (waits_of os)) (c.deref-2.ensures.value ∙ sym c.deref_mut.ensures.value)
+
+pub finish-requires-clause-counted : goal.finish-requires-clause-counted
+finish-requires-clause-counted g c = λ lifetimes within. c.of-tally.ensures.accesses ∙ ap count_accesses (c.deref-2.ensures.value ∙ sym c.deref_mut.ensures.value)
 
 pub finish-requires-clause-budget : goal.finish-requires-clause-budget
 finish-requires-clause-budget g c = λ lifetimes within. c.budget.ensures.few_budget
@@ -77,7 +86,7 @@ finish-requires-clause-sound g c = λ lifetimes within.
     let rs = hart_rounds (words_of m.code) m.bytes (quotas_of c.args.plan.now c.args.done) i.harts.items in
     let a = outcomes_are c.args.plan.now c.args.done i.harts.items c.deref.result.now i.shared.pages c.in_ok-outcomes.outcomes.items c.deref.ensures.value c.in_ok-outcomes.ensures in
     let here = subst (λ (x : List Outcome). AreOutcomes m rs x) (sym c.deref_mut.ensures.value) a in
-    let waits = c.waiting_mask.ensures.mask ∙ ap (λ (os : List Outcome). mask_of (waits_of os)) (c.deref-3.ensures.value ∙ sym c.deref_mut.ensures.value) in
+    let waits = c.of-tally.ensures.waiting ∙ ap (λ (os : List Outcome). mask_of (waits_of os)) (c.deref-2.ensures.value ∙ sym c.deref_mut.ensures.value) in
     let sound = subst (λ (x : Guest). g.E.EventKeeper.may_keep (c.requires.sound.0 ++ guest_events c.args.plan.now c.args.done x)) (sym c.self.view_is) c.requires.sound.2 in (
       c.requires.sound.0,
       c.requires.sound.1,
@@ -92,10 +101,10 @@ returns-clause-ok g c =
     let rs = hart_rounds (words_of m.code) m.bytes (quotas_of c.args.plan.now c.args.done) i.harts.items in
     let a = outcomes_are c.args.plan.now c.args.done i.harts.items c.deref.result.now i.shared.pages c.in_ok-outcomes.outcomes.items c.deref.ensures.value c.in_ok-outcomes.ensures in
     let here = subst (λ (x : List Outcome). AreOutcomes m rs x) (sym c.deref_mut.ensures.value) a in
-    let waits = c.waiting_mask.ensures.mask ∙ ap (λ (os : List Outcome). mask_of (waits_of os)) (c.deref-3.ensures.value ∙ sym c.deref_mut.ensures.value) in
+    let waits = c.of-tally.ensures.waiting ∙ ap (λ (os : List Outcome). mask_of (waits_of os)) (c.deref-2.ensures.value ∙ sym c.deref_mut.ensures.value) in
     let ok = c.in_ok-counts.ensures.ok in
     let done = finished_done c.args.plan.now _ c.args.done (guest_of i.harts.items i.shared) _ ok.0 c.deref_mut.result.now here c.budget.ensures.budget refl waits ok.1 in
-    let whole : take c.in_ok-turned.turned.len (c.finish.new.harts ++ drop (length c.finish.new.harts) c.in_ok-turned.turned.items) ≡ c.finish.new.harts = take_at c.finish.new.harts _ c.in_ok-turned.turned.len (omega (arith, c.finish.auto.harts, c.deref_mut-2.ensures.len, ap length c.deref_mut-2.ensures.value)) in
+    let whole : take i.harts.len (c.finish.new.harts ++ drop (length c.finish.new.harts) i.harts.items) ≡ c.finish.new.harts = take_at c.finish.new.harts _ i.harts.len (omega (arith, c.finish.auto.harts, c.deref_mut-2.ensures.len, ap length c.deref_mut-2.ensures.value)) in
     ap (λ (hs : List Hart). guest_of hs c.finish.new.shared) whole ∙ done.done ∙ ap (λ (x : Guest). next_guest c.args.plan.now c.args.done x) c.self.view_is
 
 pub returns-clause-kept : goal.returns-clause-kept
@@ -105,7 +114,7 @@ returns-clause-kept g c = λ es kept.
     let rs = hart_rounds (words_of m.code) m.bytes (quotas_of c.args.plan.now c.args.done) i.harts.items in
     let a = outcomes_are c.args.plan.now c.args.done i.harts.items c.deref.result.now i.shared.pages c.in_ok-outcomes.outcomes.items c.deref.ensures.value c.in_ok-outcomes.ensures in
     let here = subst (λ (x : List Outcome). AreOutcomes m rs x) (sym c.deref_mut.ensures.value) a in
-    let waits = c.waiting_mask.ensures.mask ∙ ap (λ (os : List Outcome). mask_of (waits_of os)) (c.deref-3.ensures.value ∙ sym c.deref_mut.ensures.value) in
+    let waits = c.of-tally.ensures.waiting ∙ ap (λ (os : List Outcome). mask_of (waits_of os)) (c.deref-2.ensures.value ∙ sym c.deref_mut.ensures.value) in
     let ok = c.in_ok-counts.ensures.ok in
     let done = finished_done c.args.plan.now _ c.args.done (guest_of i.harts.items i.shared) _ ok.0 c.deref_mut.result.now here c.budget.ensures.budget refl waits ok.1 in
     subst (λ (x : List Event). g.E.EventKeeper.keeps c.finish.new.keeper (es ++ x)) (done.events ∙ ap (λ (x : Guest). guest_events c.args.plan.now c.args.done x) c.self.view_is) (ok.3 es kept)
@@ -117,7 +126,7 @@ returns-clause-events g c =
     let rs = hart_rounds (words_of m.code) m.bytes (quotas_of c.args.plan.now c.args.done) i.harts.items in
     let a = outcomes_are c.args.plan.now c.args.done i.harts.items c.deref.result.now i.shared.pages c.in_ok-outcomes.outcomes.items c.deref.ensures.value c.in_ok-outcomes.ensures in
     let here = subst (λ (x : List Outcome). AreOutcomes m rs x) (sym c.deref_mut.ensures.value) a in
-    let waits = c.waiting_mask.ensures.mask ∙ ap (λ (os : List Outcome). mask_of (waits_of os)) (c.deref-3.ensures.value ∙ sym c.deref_mut.ensures.value) in
+    let waits = c.of-tally.ensures.waiting ∙ ap (λ (os : List Outcome). mask_of (waits_of os)) (c.deref-2.ensures.value ∙ sym c.deref_mut.ensures.value) in
     let ok = c.in_ok-counts.ensures.ok in
     let done = finished_done c.args.plan.now _ c.args.done (guest_of i.harts.items i.shared) _ ok.0 c.deref_mut.result.now here c.budget.ensures.budget refl waits ok.1 in
     ok.2 ∙ ap length (done.events ∙ ap (λ (x : Guest). guest_events c.args.plan.now c.args.done x) c.self.view_is)
@@ -150,21 +159,30 @@ outcomes_of-requires-clause-harts g c = λ lifetimes within. ap length c.deref.e
 pub outcomes_of-requires-clause-round : goal.outcomes_of-requires-clause-round
 outcomes_of-requires-clause-round g c = λ lifetimes within. omega arith
 
-pub waiting_mask-requires : goal.waiting_mask-requires
-waiting_mask-requires g c =
+pub of-tally-requires-clause-few : goal.of-tally-requires-clause-few
+of-tally-requires-clause-few g c =
     let i = c.self.inside in
     let many = how_many c.args.plan.now c.args.done i.harts.items c.deref.result.now i.shared.pages c.in_ok-outcomes.outcomes.items c.deref.ensures.value c.in_ok-outcomes.ensures in
-    omega (arith, ap length c.deref-3.ensures.value, many, c.requires.harts, ap (λ (x : Guest). length x.harts) c.self.view_is, c.harts-harts.ensures.harts, c.harts-harts.ensures.few_harts)
+    omega (arith, ap length c.deref-2.ensures.value, many, c.requires.harts, ap (λ (x : Guest). length x.harts) c.self.view_is, c.harts-harts.ensures.harts, c.harts-harts.ensures.few_harts)
+
+pub of-tally-requires-clause-accesses : goal.of-tally-requires-clause-accesses
+of-tally-requires-clause-accesses g c =
+    let i = c.self.inside in
+    let m = i.shared.pages.memory in
+    let os = c.in_ok-outcomes.outcomes.items in
+    let many = how_many c.args.plan.now c.args.done i.harts.items c.deref.result.now i.shared.pages os c.deref.ensures.value c.in_ok-outcomes.ensures in
+    let a = outcomes_are c.args.plan.now c.args.done i.harts.items c.deref.result.now i.shared.pages os c.deref.ensures.value c.in_ok-outcomes.ensures in
+    let few = few_accesses m (words_of m.code) m.bytes (quotas_of c.args.plan.now c.args.done) i.harts.items os (low_quotas c.args.plan.now c.harts-harts.ensures.in_range c.args.done) a in
+    omega (arith, few, ap count_accesses c.deref-2.ensures.value, many, c.requires.harts, ap (λ (x : Guest). length x.harts) c.self.view_is, c.harts-harts.ensures.harts, c.harts-harts.ensures.few_harts)
 
 pub invariant_of-self-2 : goal.invariant_of-self-2
 invariant_of-self-2 g c =
     let i = c.self.inside in
     let os = c.in_ok-outcomes.outcomes.items in
     let many = how_many c.args.plan.now c.args.done i.harts.items c.deref.result.now i.shared.pages os c.deref.ensures.value c.in_ok-outcomes.ensures in
-    let turned : length c.deref_mut-2.result.now ≡ length os = ap length (c.deref_mut-2.ensures.value ∙ c.in_ok-turned.ensures ∙ ap harts_of c.deref-2.ensures.value) ∙ length-harts os in
-    let whole : take c.in_ok-turned.turned.len (c.finish.new.harts ++ drop (length c.finish.new.harts) c.in_ok-turned.turned.items) ≡ c.finish.new.harts = take_at c.finish.new.harts _ c.in_ok-turned.turned.len (omega (arith, c.finish.auto.harts, c.deref_mut-2.ensures.len, ap length c.deref_mut-2.ensures.value)) in
+    let whole : take i.harts.len (c.finish.new.harts ++ drop (length c.finish.new.harts) i.harts.items) ≡ c.finish.new.harts = take_at c.finish.new.harts _ i.harts.len (omega (arith, c.finish.auto.harts, c.deref_mut-2.ensures.len, ap length c.deref_mut-2.ensures.value)) in
     record {
-      size = c.finish.ensures.size ∙ c.self.invariant.size ∙ sym (ap length whole ∙ omega (arith, c.finish.auto.harts, turned, many));
+      size = c.finish.ensures.size ∙ c.self.invariant.size ∙ sym (ap length whole ∙ omega (arith, c.finish.auto.harts, ap length c.deref_mut-2.ensures.value));
       shows = c.finish.ensures.shows;
     }
 
@@ -173,6 +191,5 @@ returns-clause-count g c =
     let i = c.self.inside in
     let os = c.in_ok-outcomes.outcomes.items in
     let many = how_many c.args.plan.now c.args.done i.harts.items c.deref.result.now i.shared.pages os c.deref.ensures.value c.in_ok-outcomes.ensures in
-    let turned : length c.deref_mut-2.result.now ≡ length os = ap length (c.deref_mut-2.ensures.value ∙ c.in_ok-turned.ensures ∙ ap harts_of c.deref-2.ensures.value) ∙ length-harts os in
-    let whole : take c.in_ok-turned.turned.len (c.finish.new.harts ++ drop (length c.finish.new.harts) c.in_ok-turned.turned.items) ≡ c.finish.new.harts = take_at c.finish.new.harts _ c.in_ok-turned.turned.len (omega (arith, c.finish.auto.harts, c.deref_mut-2.ensures.len, ap length c.deref_mut-2.ensures.value)) in
-    ap length whole ∙ omega (arith, c.finish.auto.harts, turned, many, ap (λ (x : Guest). length x.harts) c.self.view_is)
+    let whole : take i.harts.len (c.finish.new.harts ++ drop (length c.finish.new.harts) i.harts.items) ≡ c.finish.new.harts = take_at c.finish.new.harts _ i.harts.len (omega (arith, c.finish.auto.harts, c.deref_mut-2.ensures.len, ap length c.deref_mut-2.ensures.value)) in
+    ap length whole ∙ omega (arith, c.finish.auto.harts, ap length c.deref_mut-2.ensures.value, ap (λ (x : Guest). length x.harts) c.self.view_is)
