@@ -21,7 +21,7 @@ use Rattle.serial_phase.specs.declared.shared.Turn.{Turn}
 use Rattle.machine.specs.declared.asked_turn.TurnPlace.{TurnPlace}
 use Rattle.machine.specs.declared.outcome.Outcome.{Outcome}
 use Rattle.machine.specs.Guests.{Shared}
-use Rattle.machine.specs.Asked.{HadTurns, LeftBy, tabled_turn_begun, found, found_at, found_in, one_further, ready_for_turns}
+use Rattle.machine.specs.Asked.{HadTurns, LeftBy, tabled_turn_begun, found, found_at, found_in, ready_for_turns}
 use Rattle.machine.specs.Outcomes.{AreOutcomes, turns_of, waits_of}
 
 -- ---- room for fewer

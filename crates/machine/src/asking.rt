@@ -87,6 +87,7 @@ impl UntracedMachine {
             workers,
             gate: &Open,
             least_lines: MANY_LINES,
+            shares_logs: false,
         };
         Ok(self.ask(&crew, hart, count)?)
     }

@@ -26,6 +26,9 @@ pub trait EventKeeper {
     // It has room for the events of these outcomes, handed over or copied, and of turns of so many instructions.
     ghost has_room: { Self → Bool → List Left → ℕ → Type 0 };
 
+    /// Whether the logs of harts are wanted in the form that copies of a trace share.
+    fn shares_logs(&self) -> bool;
+
     /// Asks for the room that the events of a round may need. Answers whether the logs of the harts are to be handed over.
     fn make_room(
         &mut self,
@@ -60,6 +63,10 @@ impl EventKeeper for Trace {
     ghost may_keep = { IsTrace };
 
     ghost has_room = { λ t adopts os turns. HasPlaces adopts os t × (count_copied adopts os + turns ≤ t.room) };
+
+    fn shares_logs(&self) -> bool {
+        true
+    }
 
     fn make_room(
         &mut self,
@@ -105,6 +112,10 @@ impl EventKeeper for NoTrace {
     ghost may_keep = { λ _. Unit {0} };
 
     ghost has_room = { λ _ _ _ _. Unit {0} };
+
+    fn shares_logs(&self) -> bool {
+        false
+    }
 
     fn make_room(
         &mut self,

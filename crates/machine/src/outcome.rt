@@ -68,8 +68,22 @@ pub fn outcomes_of<G: Gate + Sync, R: Threads + Wait + Sync>(
     let mut all = [0; MOST_HARTS];
     let quotas = &mut all[..harts.len()];
     set_quotas(plan, round, quotas);
-    let start = RoundStart::new(pages, table, harts, quotas);
+    let start = sharing(
+        RoundStart::new(pages, table, harts, quotas),
+        crew.shares_logs,
+    );
     outcomes_by::<Brand, G, R>(crew, &start, room)
+}
+
+/// The same start, of a round whose workers put long logs in brief, if they are to.
+fn sharing(start: RoundStart<'_>, shares_logs: bool) -> RoundStart<'_>
+    ensures { result ≡ start.entry }
+{
+    if shares_logs {
+        start.sharing_logs()
+    } else {
+        start
+    }
 }
 
 /// Does the rounds of all harts, in a list that is taken for its room: a lone worker without a book.
@@ -177,11 +191,11 @@ fn gather_outcomes<B: BookStart + Send + Sync, G: Gate + Sync, R: Threads + Wait
         let Some(round) = gathered.take(number as u32) else {
             unreachable!()
         };
-        let (hart, buffer, accesses, waits) = round.into_parts();
+        let (hart, buffer, log, waits) = round.into_parts();
         outcomes.push_reserved(Outcome {
             hart,
             buffer,
-            log: Log::of(accesses),
+            log,
             waits,
         });
     }

@@ -77,6 +77,7 @@ impl Machine {
             workers,
             gate,
             least_lines: 0,
+            shares_logs: true,
         };
         Ok(self.bare.round_by(crew, &mut self.trace)?)
     }

@@ -232,6 +232,7 @@ impl UntracedMachine {
             workers,
             gate: &Open,
             least_lines: MANY_LINES,
+            shares_logs: keeper.shares_logs(),
         };
         self.round_by(crew, keeper)?;
         self.note_work(before);

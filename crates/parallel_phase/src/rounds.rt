@@ -6,6 +6,10 @@ use hart_step::{Access, Buffered, Hart};
 use pages::OutOfMemory;
 use round_lock::{BookStart, HartRound, RoundStart, Ticket};
 use store_buffer::StoreBuffer;
+use trace::Log;
+
+/// From so many accesses on a log is long.
+const LONG: usize = 64;
 
 /// Does the round of a hart in place, on the memory of its start. The hart is as it starts. Answers its stores, its accesses,
 /// and whether it waits.
@@ -48,5 +52,9 @@ pub fn hart_round<B: BookStart>(
     let number = ticket.hart() as usize;
     let mut hart = start.harts()[number];
     let (buffer, accesses, waits) = round_from(number, start, &mut hart)?;
-    Ok(HartRound::new(ticket, hart, buffer, accesses, waits))
+    let mut log = Log::of(accesses);
+    if start.shares_logs() && log.len() >= LONG {
+        log.share()?;
+    }
+    Ok(HartRound::new(ticket, hart, buffer, log, waits))
 }

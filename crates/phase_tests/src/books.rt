@@ -14,6 +14,7 @@ use std::sync::Wait;
 use std::test::Fail;
 use std::thread::{Threads, join};
 use store_buffer::StoreBuffer;
+use trace::Log;
 
 /// A hart whose registers all have one value.
 fn hart(value: u64) -> Hart {
@@ -43,7 +44,7 @@ fn idle_round<B: BookStart>(
         ticket,
         hart,
         StoreBuffer::new(alloc),
-        Vec::new(alloc),
+        Log::of(Vec::new(alloc)),
         false,
     ))
 }
@@ -144,12 +145,12 @@ fn two_meet<B: BookStart, R: Abort + Wait>(rt: &R, alloc: Global, start: &RoundS
     assert!(rt; gathered.is_complete());
     let last = gathered.get(1).expect(rt, "the hart was put");
     assert!(rt; last.hart().x[5] == 7 && !last.waits());
-    assert!(rt; last.accesses().is_empty() && last.buffer().stores().next().is_none());
+    assert!(rt; last.log().len() == 0 && last.buffer().stores().next().is_none());
     assert!(rt; gathered.get(2).is_none());
     let taken = gathered.take(0).expect(rt, "the hart was put");
-    let (hart, buffer, accesses, waits) = taken.into_parts();
+    let (hart, buffer, log, waits) = taken.into_parts();
     assert!(rt; hart.x[5] == 6 && !waits);
-    assert!(rt; accesses.is_empty() && buffer.stores().next().is_none());
+    assert!(rt; log.len() == 0 && buffer.stores().next().is_none());
     assert!(rt; gathered.get(0).is_none() && gathered.get(1).is_some());
     assert!(rt; gathered.take(0).is_none() && !gathered.is_complete());
 }

@@ -6,8 +6,8 @@ ghost use Rattle.std.specs.Prelude.{◌≡◌, ◌≤◌, length};
 
 mod gates;
 
-use hart_step::{CodeTable, Hart};
-use pages::{Pages, Piece, Range};
+use hart_step::{Access, CodeTable, Hart};
+use pages::{Pages, Piece, Range, Width};
 use parallel_phase::{Gate, Open, gather};
 use round_lock::{BookStart, RoundStart};
 use std::alloc::Global;
@@ -29,6 +29,9 @@ const STORE_THEN_LOAD: [u32; 6] = [
     0x0000_0893,
     0x0000_0073,
 ];
+
+/// ADDI x6,x6,1; SD x6,256(x0); JAL x0,-8
+const COUNT: [u32; 3] = [0x0013_0313, 0x1060_3023, 0xff9f_f06f];
 
 /// One page with these words from address 0 on as its code.
 fn memory(alloc: Global, words: &[u32]) -> Result<Pages, Fail>
@@ -84,7 +87,7 @@ fn gathers_exits<B: BookStart + Send + Sync, R: Abort + Threads + Wait + Sync>(
             "hart {h}"
         );
         assert!(rt;
-            round.accesses().is_empty() && round.buffer().stores().next().is_none(),
+            round.log().len() == 0 && round.buffer().stores().next().is_none(),
             "hart {h}"
         );
     }
@@ -106,13 +109,54 @@ fn gathers_stores<B: BookStart + Send + Sync, R: Abort + Threads + Wait + Sync>(
         let round = gathered.get(h as u32).expect(rt, "the hart was put");
         assert!(rt; round.hart().x[7] == 2 * (h as u64 + 5), "hart {h}");
         assert!(rt; round.hart().done == 5 && round.waits(), "hart {h}");
-        assert!(rt; round.accesses().len() == 2, "hart {h}");
+        assert!(rt; round.log().len() == 2, "hart {h}");
         let first = round.buffer().stores().next().expect(rt, "it stored");
         assert!(rt;
             first.address == 0x100 && first.value == 2 * (h as u64 + 5),
             "hart {h}"
         );
     }
+}
+
+/// Gathers harts that count to 100, and looks at what each of them stored.
+fn gathers_counts<B: BookStart + Send + Sync, R: Abort + Threads + Wait + Sync>(
+    rt: &R,
+    start: &RoundStart<'_>,
+)
+    requires { start.now ≡ B.start }
+{
+    let gathered = gather::<B, Open, R>(rt, start, 4, &Open).expect(rt, "memory");
+    for h in 0..start.harts().len() {
+        let log = gathered.get(h as u32).expect(rt, "the hart was put").log();
+        assert!(rt; log.len() == 100, "hart {h}");
+        for k in 0..100 {
+            assert!(rt;
+                log.get(k as usize)
+                    == Access::Store {
+                        width: Width::W8,
+                        place: 3 * k + 1,
+                        address: 0x100,
+                        written: k + 1,
+                    },
+                "access {k} of hart {h}"
+            );
+        }
+    }
+}
+
+#[test]
+fn logs_are_the_same_in_brief(rt: HostRuntime) -> Result<(), Fail> {
+    let pages = memory(rt.alloc(), &COUNT)?;
+    let table = CodeTable::new(rt.alloc(), &pages, 0, 3)?;
+    let harts = harts();
+    let quotas = [300; 64];
+    let whole = RoundStart::new(&pages, &table, &harts, &quotas);
+    assert!(rt; !whole.shares_logs());
+    gathers_counts::<Brand, _>(&rt, &whole);
+    let brief = RoundStart::new(&pages, &table, &harts, &quotas).sharing_logs();
+    assert!(rt; brief.shares_logs());
+    gathers_counts::<Brand, _>(&rt, &brief);
+    Ok(())
 }
 
 #[test]

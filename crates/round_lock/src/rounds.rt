@@ -8,9 +8,10 @@ use crate::entry::Entry;
 use crate::hart_round::HartRound;
 use crate::start::BookStart;
 use crate::ticket::Ticket;
-use hart_step::{Access, Hart};
+use hart_step::Hart;
 use std::marker::PhantomData;
 use store_buffer::StoreBuffer;
+use trace::Log;
 
 impl<B: BookStart> Entry for HartRound<B> {
     ghost hart = { λ r. (ticket_of r).hart };
@@ -36,19 +37,19 @@ impl<B: BookStart> HartRound<B> {
         ticket: Ticket,
         hart: Hart,
         buffer: StoreBuffer,
-        accesses: Vec<Access>,
+        log: Log,
         waits: bool,
     ) -> HartRound<B>
         requires { round_at B.start ticket.hart ≡
-            Some (content_from hart buffer accesses.items waits) }
+            Some (content_from hart buffer log waits) }
         ensures ticket { ticket_of result ≡ ticket }
-        ensures content { content_in result ≡ content_from hart buffer accesses.items waits }
+        ensures content { content_in result ≡ content_from hart buffer log waits }
     {
         HartRound {
             ticket,
             hart,
             buffer,
-            accesses,
+            log,
             waits,
             of: PhantomData,
         }
@@ -69,10 +70,10 @@ impl<B: BookStart> HartRound<B> {
     }
 
     /// Its accesses, in program order.
-    pub fn accesses(&self) -> &[Access]
+    pub fn log(&self) -> &Log
         ensures { result.now ≡ (content_in self.now).accesses }
     {
-        &self.accesses
+        &self.log
     }
 
     /// Whether it waits for the serial phase.
@@ -83,16 +84,16 @@ impl<B: BookStart> HartRound<B> {
     }
 
     /// The hart after its round, the bytes that it stored, its accesses in program order, and whether it waits.
-    pub fn into_parts(self) -> (Hart, StoreBuffer, Vec<Access>, bool)
-        ensures { content_in self ≡ content_from result.0 result.1 result.2.items result.3 }
+    pub fn into_parts(self) -> (Hart, StoreBuffer, Log, bool)
+        ensures { content_in self ≡ content_from result.0 result.1 result.2 result.3 }
     {
         let HartRound {
             hart,
             buffer,
-            accesses,
+            log,
             waits,
             ..
         } = self;
-        (hart, buffer, accesses, waits)
+        (hart, buffer, log, waits)
     }
 }

@@ -14,6 +14,8 @@ pub struct RoundStart<'a> {
     table: &'a CodeTable,
     harts: &'a [Hart],
     quotas: &'a [u32],
+    // Whether the workers put long logs in brief, for a trace to take over.
+    shares_logs: bool,
 }
 
 impl<'a> Model for RoundStart<'a> {
@@ -45,7 +47,23 @@ impl<'a> RoundStart<'a> {
             table,
             harts,
             quotas,
+            shares_logs: false,
         }
+    }
+
+    /// The same start, of a round whose long logs are put in brief by the workers that made them, for a trace to take over.
+    pub fn sharing_logs(self) -> RoundStart<'a>
+        ensures { result ≡ self.entry }
+    {
+        RoundStart {
+            shares_logs: true,
+            ..self
+        }
+    }
+
+    /// Whether the workers put long logs in brief.
+    pub fn shares_logs(&self) -> bool {
+        self.shares_logs
     }
 
     /// Guest memory.

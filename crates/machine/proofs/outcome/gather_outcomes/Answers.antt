@@ -1,8 +1,7 @@
 use Rattle.std.proofs.Common.{◌≡◌, ◌<◌, List, length, [], None, Some, refl, sym, ap, ◌∙◌, subst, arith, rules}
 use Rattle.hart_step.specs.declared.hart.Hart.{Hart}
 use Rattle.round_lock.specs.Rounds.{content_in, hart_of}
-use Rattle.round_schedule.specs.declared.access.Access.{Access}
-use Rattle.round_lock.specs.Starts.{Start, content_from, round_at}
+use Rattle.round_lock.specs.Starts.{Start, round_at}
 use Rattle.round_lock.proofs.Lists.{has_from_times}
 use Rattle.machine.specs.Outcomes.{AreOutcomes}
 use Rattle.machine.specs.declared.outcome.Outcome.{Outcome}
@@ -25,7 +24,7 @@ loop-number-preserved g c =
     let e = c.in-Some.round in
     let at : round_at s n ≡ Some (content_in e) = ap (round_at s) (sym c.in-Some.ensures.hart) ∙ (ap (λ (t : Start). round_at t (hart_of e)) c.requires.start ∙ c.in-Some.ensures.right) in
     let parts = c.into_parts-buffer.result in
-    let o : Outcome = record { hart = parts.0; buffer = parts.1; log = c.of.result; waits = parts.3 } in
+    let o : Outcome = record { hart = parts.0; buffer = parts.1; log = parts.2; waits = parts.3 } in
     let low : n < length s.harts = subst (λ (hs : List Hart). n < length hs) c.harts-number-end.ensures.harts c.loop-number-test.true in
     record {
       left = λ h least most. c.take.ensures.others h (λ same. omega (arith, same, least)) ∙ c.loop-number.invariant.left h (omega arith) most;
@@ -34,5 +33,5 @@ loop-number-preserved g c =
       rounds = outcomes_more s.memory s.quotas s.harts n none _ c.loop-number.outcomes.items c.push_reserved.new.self.items o
           low refl c.push_reserved.ensures.items c.loop-number.invariant.rounds
           (is_outcome s n none (content_in e) o low c.requires.sized at
-          (c.into_parts-buffer.ensures ∙ ap (λ (as' : List Access). content_from parts.0 parts.1 as' parts.3) (sym c.of.ensures)));
+          c.into_parts-buffer.ensures);
     }

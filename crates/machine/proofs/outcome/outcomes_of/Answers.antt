@@ -1,5 +1,5 @@
 use Rattle.std.proofs.lemmas.Result.{IfOk-weaker}
-use Rattle.std.proofs.Common.{◌-◌, List, subst, arith}
+use Rattle.std.proofs.Common.{◌-◌, ◌∙◌, List, subst, arith}
 use Rattle.round_schedule.specs.Schedule.{HartRound, hart_rounds}
 use Rattle.round_planner.specs.Quotas.{quotas_of}
 use Rattle.hart_step.specs.declared.hart.Hart.{Hart}
@@ -18,4 +18,4 @@ returns g c =
     subst (λ (them : List (HartRound Hart)). AreOutcomes m them os.items)
     (same_rounds (words_of m.code) m.bytes c.set_quotas.new.quotas (quotas_of plan (c.args.round - 1)) c.args.harts.now (λ k low.
     c.set_quotas.ensures k (omega (arith, low, c.requires.harts))))
-    (subst (λ (s : Start). AreOutcomes s.memory (rounds_of s) os.items) c.new-start.ensures done)) c.outcomes_by.ensures
+    (subst (λ (s : Start). AreOutcomes s.memory (rounds_of s) os.items) (c.sharing-start.ensures ∙ c.new.ensures) done)) c.outcomes_by.ensures

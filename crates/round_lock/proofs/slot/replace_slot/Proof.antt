@@ -1,5 +1,5 @@
 -- `replace_slot` hands its references and facts on to `exchange`, for as long as it has them itself, and gives what comes back.
-use Rattle.atomic_table.proofs.Names.{◌^◌, List, [], ◌∷◌, sym, refl, subst, lit<, w64, a_type, dcons, dnil, Val, vint, vptr, inst_fn, ent, id⊢, ‵, raw, ◌⊛◌, some, later, ◌$◌, ◌∵◌, !, qed, by, move, keep, split, join, fsplit, fsplit3, fjoin, pick, await, use1, feq_i, flt_i, stop, address, of_opd, lit, and_then, no_more, returns, enter, alloc_all, pass_all, free_all, look_at, get, through, sets, lands_as, tables, yes, no, RattleType, owns, types_at, plain, nothing, peeks, param, bounded, alive, Stays, stay_dropped, walk_of, Goes-dropped, Is, shows, RefOf, WpFn, calls_at, triple_of}
+use Rattle.atomic_table.proofs.Names.{◌^◌, List, [], ◌∷◌, sym, refl, subst, lit<, w64, a_type, dcons, dnil, Val, vint, vptr, inst_fn, ent, id⊢, ‵, raw, ◌⊛◌, some, later, ◌$◌, ◌∵◌, !, qed, by, move, keep, split, join, fsplit, fsplit3, fjoin, pick, await, use1, feq_i, flt_i, stop, addr, of_opd, lit, and_then, no_more, returns, enter, alloc_all, pass_all, free_all, look_at, get, through, sets, lands_as, tables, yes, no, RattleType, owns, types_at, plain, nothing, peeks, param, bounded, alive, Stays, stay_dropped, walk_of, Goes-dropped, Is, shows, RefOf, WpFn, calls_at, triple_of}
 use Rattle.atomic_table.proofs.Calls.{fm}
 use Rattle.atomic_table.proofs.Walks.{leaves, proved_at}
 use Rattle.std.proofs.mem.Param.{El, lawful, Good, one}
@@ -45,7 +45,7 @@ replace_slot_spec 𝓤 𝓛 𝓜 𝓡 wired T U Q P L LU LQ LP g d kept =
     split ! $ move ! (1 ∷ []) $ fsplit3 ! $
     -- [the table; the seat; the new value; the tokens; the facts]
     enter ! 𝓣.C 𝓣.Λ fn (at_table ∷ at_seat ∷ new ∷ []) (W.post y) $ alloc_all ! (λ l. pass_all ! refl ((tt, tt), ((tt, tt), (good, tt))) $
-    sets ! (address ! (through ! refl (stop !))) refl (tt, tt) $ sets ! (of_opd ! (get ! refl)) refl good $
+    sets ! (addr ! (through ! refl (stop !))) refl (tt, tt) $ sets ! (of_opd ! (get ! refl)) refl good $
     -- what `exchange` asks: the tokens, the four arguments, the facts
     move ! (2 ∷ []) $ flt_i ! 0 (2 ^ 64) (lit< tt) $ feq_i ! (List Val) (vint w64 0 ∷ []) (vint w64 0 ∷ []) refl $ fjoin ! $ fjoin ! $
     move ! (2 ∷ 0 ∷ []) $ fjoin ! $ move ! (1 ∷ 0 ∷ []) $ fjoin ! $ move ! (1 ∷ 0 ∷ []) $ join ! $ join ! $ use1 𝓛 (raw (G.pre z)) (id⊢ 𝓤 (G.pre z)) $
