@@ -2,7 +2,7 @@
 
 use crate::failure::Failure;
 use crate::ranges::{access_ranges, named_bytes};
-use crate::run::{progress_of, read_run, settings_of};
+use crate::run::{guest_files, progress_of, read_run, settings_of};
 use command_line::Draw;
 use drawing::{View, draw_run};
 use host_io::WriteSink;
@@ -34,8 +34,7 @@ pub(crate) fn write_drawing<R: Threads + Wait + Sync, W: Write>(
     let answer = draw_run(
         threads,
         rt.alloc(),
-        &files.program.image,
-        &files.program.input,
+        &guest_files(&files.program),
         &settings_of(&asked.run.program, &files.plan),
         &view,
         &mut progress,

@@ -7,7 +7,7 @@ use crate::plans::{AskedPlan, plan_of};
 use crate::progress::Progress;
 use command_line::{Print, Program, Run, Shown};
 use host_io::WriteSink;
-use machine::{Format, Settings, order_run, report_run, show_run};
+use machine::{Format, GuestFiles, Settings, order_run, report_run, show_run};
 use std::io::Write;
 use std::sync::Wait;
 use std::thread::Threads;
@@ -21,15 +21,14 @@ pub(crate) fn write_run<R: Threads + Wait + Sync, W: Write>(
 ) -> Result<bool, Failure> {
     let files = read_run(rt, &asked.run)?;
     let settings = settings_of(&asked.run.program, &files.plan);
-    let (image, input) = (&files.program.image, &files.program.input);
+    let guest = guest_files(&files.program);
     let mut sink = WriteSink::new(out);
     let mut progress = progress_of(rt, &asked.run.program);
     let answer = match shown_of(asked) {
         Some(shown) => show_run(
             threads,
             rt.alloc(),
-            image,
-            input,
+            &guest,
             &settings,
             shown,
             &mut progress,
@@ -38,8 +37,7 @@ pub(crate) fn write_run<R: Threads + Wait + Sync, W: Write>(
         None => report_run(
             threads,
             rt.alloc(),
-            image,
-            input,
+            &guest,
             &settings,
             &mut progress,
             &mut sink,
@@ -47,6 +45,14 @@ pub(crate) fn write_run<R: Threads + Wait + Sync, W: Write>(
     };
     progress.end();
     files.plan.explain(rt.alloc(), settings.harts, answer)
+}
+
+/// What the guest is given.
+pub(crate) fn guest_files(files: &ProgramFiles) -> GuestFiles<'_> {
+    GuestFiles {
+        image: &files.image,
+        input: &files.input,
+    }
 }
 
 /// Tells how far a run is, where the line asks for that.

@@ -6,7 +6,7 @@ ghost use Rattle.machine.specs.Settings.{IsPlan, IsReason, RefusedInOrder, setti
 ghost use Rattle.drawing.specs.Drawn.{picture_after};
 
 use host_io::{RunError, Sink};
-use machine::{Observer, Settings, prepare};
+use machine::{GuestFiles, Observer, Settings, prepare};
 use picture::{View, write_picture};
 use std::alloc::Global;
 use std::sync::Wait;
@@ -22,31 +22,31 @@ use std::thread::Threads;
 pub fn draw_run<S: Sink, O: Observer, R: Threads + Wait + Sync>(
     rt: &R,
     alloc: Global,
-    image: &[u8],
-    input: &[u8],
+    files: &GuestFiles<'_>,
     settings: &Settings<'_>,
     view: &View<'_>,
     observer: &mut O,
     out: &mut S,
 ) -> Result<(), RunError>
     // The sink took the picture of the run that the definitions name.
-    ensures draws { OnOk result ((plan : Planned) × IsPlan settings.now plan × (S.took out.new ≡
-        S.took out.old ++ picture_after settings.now image.now input.now plan view.now)) }
+    ensures draws { OnOk result ((plan : Planned) × IsPlan settings.now plan ×
+        (S.took out.new ≡ S.took out.old ++
+        picture_after settings.now files.now.image.now files.now.input.now plan view.now)) }
     // Else it took nothing, or a beginning of that picture.
     ensures begun { OnErr result ((S.took out.new ≡ S.took out.old) ⊎
         ((plan : Planned) × IsPlan settings.now plan × BeganText (S.took out.old) (S.took out.new)
-        (picture_after settings.now image.now input.now plan view.now))) }
+        (picture_after settings.now files.now.image.now files.now.input.now plan view.now))) }
     // Where anything else than the sink refuses, it took nothing.
     ensures untouched { IfErr result (λ e. (e ≡ refusals.SinkFailed) ⊎
         (S.took out.new ≡ S.took out.old)) }
     // Numbers out of range are refused first, then an image, and then a plan.
-    ensures in_order { RefusedInOrder settings.now image.now result }
+    ensures in_order { RefusedInOrder settings.now files.now.image.now result }
     // What is refused then is for a reason that stands.
     ensures errors { settings_fault settings.now ≡ None →
-        IfErr result (λ e. IsReason settings.now image.now e ⊎
+        IfErr result (λ e. IsReason settings.now files.now.image.now e ⊎
         ((e ≡ refusals.SinkFailed) × (S.failures out.old < S.failures out.new))) }
 {
-    let mut machine = prepare(alloc, image, input, settings)?;
+    let mut machine = prepare(alloc, files.image, files.input, settings)?;
     machine.run_observed(rt, settings.rounds, settings.workers, observer)?;
     write_picture(alloc, machine.trace(), machine.harts(), view, out)
 }

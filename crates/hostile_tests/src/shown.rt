@@ -3,7 +3,7 @@
 use crate::devices::{Stride, writes};
 use crate::harness::settings;
 use host_io::WriteSink;
-use machine::{Format, Settings, Shown, Unobserved, show_run};
+use machine::{Format, GuestFiles, Settings, Shown, Unobserved, show_run};
 use std::alloc::Global;
 use std::sync::Wait;
 use std::thread::Threads;
@@ -22,12 +22,16 @@ fn echoes() -> Settings<'static> {
 /// Whether what is shown of the run is this text, and all its ways into a sink that fails are told.
 fn shows<R: Threads + Wait + Sync>(rt: &R, alloc: Global, shown: Shown, text: &[u8]) -> bool {
     let asked = echoes();
+    let guest = GuestFiles {
+        image: ECHO,
+        input: b"A",
+    };
     writes(
         alloc,
         text,
         &[Stride::One, Stride::All],
         &|tray| {
-            match show_run(rt, alloc, ECHO, b"A", &asked, shown, &mut Unobserved, tray) {
+            match show_run(rt, alloc, &guest, &asked, shown, &mut Unobserved, tray) {
                 Ok(_) => Ok(()),
                 Err(error) => Err(error),
             }
@@ -83,8 +87,10 @@ fn harts_end_well_where_each_exits_with_0(rt: HostRuntime) {
         let answer = show_run(
             &rt,
             rt.alloc(),
-            EXIT,
-            b"",
+            &GuestFiles {
+                image: EXIT,
+                input: b"",
+            },
             &asked,
             Shown::Harts,
             &mut Unobserved,

@@ -10,6 +10,7 @@ mod decoding;
 mod emulation;
 mod events;
 mod guest;
+mod guest_files;
 mod keeper;
 mod machine;
 mod observing;
@@ -30,6 +31,7 @@ mod untraced;
 mod untraced_running;
 
 pub use emulation::emulate;
+pub use guest_files::GuestFiles;
 pub use machine::Machine;
 pub use observing::{Observer, Unobserved};
 pub use ordering::order_run;

@@ -7,6 +7,7 @@ ghost use Rattle.machine.specs.Settings.{IsPlan, IsReason, RefusedInOrder, after
 ghost use Rattle.machine.specs.Showing.{all_end_well, ends_well, shown_text};
 ghost use Rattle.machine.specs.Untraced.{IsUntraced};
 
+use crate::guest_files::GuestFiles;
 use crate::observing::Observer;
 use crate::preparing::prepare;
 use crate::preparing_untraced::prepare_untraced;
@@ -40,8 +41,7 @@ pub enum Shown {
 pub fn show_run<S: Sink, O: Observer, R: Threads + Wait + Sync>(
     rt: &R,
     alloc: Global,
-    image: &[u8],
-    input: &[u8],
+    files: &GuestFiles<'_>,
     settings: &Settings<'_>,
     shown: Shown,
     observer: &mut O,
@@ -49,24 +49,24 @@ pub fn show_run<S: Sink, O: Observer, R: Threads + Wait + Sync>(
 ) -> Result<bool, RunError>
     // The sink took what is shown of the run that the definitions name, and the answer is that of its harts.
     ensures shows { IfOk result (λ well. (plan : Planned) × IsPlan settings.now plan ×
-        (S.took out.new ≡ S.took out.old ++
-        shown_text shown (after_run settings.now image.now input.now plan).state) ×
-        (well ≡ all_end_well (after_run settings.now image.now input.now plan).state.harts)) }
+        (S.took out.new ≡ S.took out.old ++ shown_text shown (after_run settings.now
+        files.now.image.now files.now.input.now plan).state) × (well ≡ all_end_well
+        (after_run settings.now files.now.image.now files.now.input.now plan).state.harts)) }
     // Else it took nothing, or a beginning of that text.
-    ensures begun { OnErr result ((S.took out.new ≡ S.took out.old) ⊎
-        ((plan : Planned) × IsPlan settings.now plan × BeganText (S.took out.old) (S.took out.new)
-        (shown_text shown (after_run settings.now image.now input.now plan).state))) }
+    ensures begun { OnErr result ((S.took out.new ≡ S.took out.old) ⊎ ((plan : Planned) ×
+        IsPlan settings.now plan × BeganText (S.took out.old) (S.took out.new) (shown_text shown
+        (after_run settings.now files.now.image.now files.now.input.now plan).state))) }
     // Where anything else than memory or the sink refuses, it took nothing.
     ensures untouched { IfErr result (λ e. (e ≡ refusals.OutOfMemory) ⊎ (e ≡ refusals.SinkFailed) ⊎
         (S.took out.new ≡ S.took out.old)) }
     // Numbers out of range are refused first, then an image, and then a plan.
-    ensures in_order { RefusedInOrder settings.now image.now result }
+    ensures in_order { RefusedInOrder settings.now files.now.image.now result }
     // What is refused then is for a reason that stands.
     ensures errors { settings_fault settings.now ≡ None →
-        IfErr result (λ e. IsReason settings.now image.now e ⊎
+        IfErr result (λ e. IsReason settings.now files.now.image.now e ⊎
         ((e ≡ refusals.SinkFailed) × (S.failures out.old < S.failures out.new))) }
 {
-    let mut machine = prepare_untraced(alloc, image, input, settings)?;
+    let mut machine = prepare_untraced(alloc, files.image, files.input, settings)?;
     machine.run_observed(rt, settings.rounds, settings.workers, observer)?;
     write_shown(alloc, &machine, shown, out)?;
     Ok(all_end_well(machine.harts()))
@@ -81,31 +81,31 @@ pub fn show_run<S: Sink, O: Observer, R: Threads + Wait + Sync>(
 pub fn report_run<S: Sink, O: Observer, R: Threads + Wait + Sync>(
     rt: &R,
     alloc: Global,
-    image: &[u8],
-    input: &[u8],
+    files: &GuestFiles<'_>,
     settings: &Settings<'_>,
     observer: &mut O,
     out: &mut S,
 ) -> Result<bool, RunError>
     // The sink took the report of the run that the definitions name, and the answer is that of its harts.
     ensures reports { IfOk result (λ well. (plan : Planned) × IsPlan settings.now plan ×
-        (S.took out.new ≡ S.took out.old ++ report_after settings.now image.now input.now plan) ×
-        (well ≡ all_end_well (after_run settings.now image.now input.now plan).state.harts)) }
+        (S.took out.new ≡ S.took out.old ++ report_after settings.now files.now.image.now
+        files.now.input.now plan) × (well ≡ all_end_well
+        (after_run settings.now files.now.image.now files.now.input.now plan).state.harts)) }
     // Else it took nothing, or a beginning of that report.
     ensures begun { OnErr result ((S.took out.new ≡ S.took out.old) ⊎
         ((plan : Planned) × IsPlan settings.now plan × BeganText (S.took out.old) (S.took out.new)
-        (report_after settings.now image.now input.now plan))) }
+        (report_after settings.now files.now.image.now files.now.input.now plan))) }
     // Where anything else than memory or the sink refuses, it took nothing.
     ensures untouched { IfErr result (λ e. (e ≡ refusals.OutOfMemory) ⊎ (e ≡ refusals.SinkFailed) ⊎
         (S.took out.new ≡ S.took out.old)) }
     // Numbers out of range are refused first, then an image, and then a plan.
-    ensures in_order { RefusedInOrder settings.now image.now result }
+    ensures in_order { RefusedInOrder settings.now files.now.image.now result }
     // What is refused then is for a reason that stands.
     ensures errors { settings_fault settings.now ≡ None →
-        IfErr result (λ e. IsReason settings.now image.now e ⊎
+        IfErr result (λ e. IsReason settings.now files.now.image.now e ⊎
         ((e ≡ refusals.SinkFailed) × (S.failures out.old < S.failures out.new))) }
 {
-    let mut machine = prepare(alloc, image, input, settings)?;
+    let mut machine = prepare(alloc, files.image, files.input, settings)?;
     machine.run_observed(rt, settings.rounds, settings.workers, observer)?;
     machine.report_on(rt, settings.workers, alloc, out)?;
     Ok(all_end_well(machine.harts()))

@@ -7,7 +7,7 @@ use elf_loader::load_elf;
 use example_files::{HELLO, LOST_UPDATE, SUM};
 use hart_step::Stop;
 use host_io::{RunError, WriteSink};
-use machine::{Format, Machine, Settings, Shown, Unobserved, show_run};
+use machine::{Format, GuestFiles, Machine, Settings, Shown, Unobserved, show_run};
 use round_planner::Plan;
 use std::alloc::Global;
 use std::sync::Wait;
@@ -96,8 +96,10 @@ fn what_four_harts_say_is_shown(rt: HostRuntime) -> Result<(), Fail> {
     let ends_well = show_run(
         &rt,
         rt.alloc(),
-        HELLO,
-        b"",
+        &GuestFiles {
+            image: HELLO,
+            input: b"",
+        },
         &asked,
         Shown::Output,
         &mut Unobserved,

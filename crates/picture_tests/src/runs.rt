@@ -2,7 +2,7 @@
 
 use drawing::{View, draw_run};
 use host_io::WriteSink;
-use machine::{Format, Settings, Unobserved};
+use machine::{Format, GuestFiles, Settings, Unobserved};
 use std::test::Fail;
 
 /// SLLI x5,x10,3; XORI x6,x5,8; ADDI x7,x0,1; SD x7,256(x5); FENCE RW,RW; LD x28,256(x6): each of two harts stores 1, and
@@ -50,8 +50,10 @@ fn crossed_stores_and_fences(rt: HostRuntime) -> Result<(), Fail> {
     draw_run(
         &rt,
         rt.alloc(),
-        &image,
-        b"",
+        &GuestFiles {
+            image: &image,
+            input: b"",
+        },
         &settings,
         &view,
         &mut Unobserved,

@@ -5,7 +5,7 @@ use crate::ending::Ending;
 use crate::guest::{GUEST, REPORT, ended, settings};
 use crate::recordings::EXITS;
 use host_io::{RunError, WriteSink};
-use machine::{Shown, Unobserved, emulate, order_run, report_run, show_run};
+use machine::{GuestFiles, Shown, Unobserved, emulate, order_run, report_run, show_run};
 use recording::{read_recording, write_recording};
 use std::alloc::Global;
 use std::io::{self, Write};
@@ -129,8 +129,10 @@ fn try_report_run<R: Threads + Wait + Sync>(rt: &R, alloc: Global) -> Ending {
             report_run(
                 rt,
                 alloc,
-                &GUEST,
-                &[],
+                &GuestFiles {
+                    image: &GUEST,
+                    input: &[],
+                },
                 &settings,
                 &mut Unobserved,
                 &mut WriteSink::new(page),
@@ -149,8 +151,10 @@ fn try_show_run<R: Threads + Wait + Sync>(rt: &R, alloc: Global) -> Ending {
             show_run(
                 rt,
                 alloc,
-                &GUEST,
-                &[],
+                &GuestFiles {
+                    image: &GUEST,
+                    input: &[],
+                },
                 &settings,
                 Shown::Harts,
                 &mut Unobserved,
