@@ -72,7 +72,7 @@ impl Machine {
     /// # Errors
     ///
     /// `OutOfMemory` and `SinkFailed`; a beginning of the report is written then.
-    pub fn report_on<S: Sink, R: Threads + Sync>(
+    pub fn report_on<S: Sink, R: Threads + Wait + Sync>(
         &self,
         rt: &R,
         workers: u32,

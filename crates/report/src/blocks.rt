@@ -1,99 +1,86 @@
 //! The lines of events in blocks, which several workers format beside each other.
 
-ghost use Rattle.std.specs.Prelude.{◌≡◌, ℕ, ◌+◌, ◌*◌, ◌<◌, ◌≤◌, ◌^◌, List, [], IfOk, drop, take};
-ghost use Rattle.report.specs.Blocks.{AreBlocks, block_text};
+ghost use Rattle.std.specs.Prelude.{◌≡◌, ◌-◌, ◌<◌, ◌≤◌, []};
+ghost use denote.Param.Send.{IsSync};
 ghost use Rattle.report.specs.Pending.{Wrote, way};
 ghost use Rattle.report.specs.Report.{events_text, trace_text};
 
+use crate::block::{BLOCK, PutEvents};
+use crate::formatting::Formatting;
 use crate::line::Line;
+use crate::putting::put_all_blocks;
 use crate::state::{put_count, put_trace};
-use crate::tail::Tail;
-use crate::text::event_line;
 use crate::writer::put_line;
-use host_io::{RunError, Sink, put_all};
-use pages::OutOfMemory;
+use host_io::{RunError, Sink};
 use std::alloc::Global;
-use std::thread::{Threads, map_indices};
+use std::marker::Brand;
+use std::sync::Wait;
+use std::thread::{self, Threads};
 use trace::Trace;
 
-/// How many events a block has.
-const BLOCK: usize = 16_384;
-
-/// How many bytes a block's text has room for at once: most lines have at most 72.
-const BLOCK_BYTES: usize = 72 * BLOCK;
-
-/// The lines of the block that begins with the event at a place.
-fn block_line(alloc: Global, trace: &Trace, start: usize) -> Result<Line, OutOfMemory>
-    ensures { IfOk result (λ l. l ≡ block_text trace.now.events start) }
-{
-    let mut line = Line::with_capacity(alloc, BLOCK_BYTES)?;
-    let mut tail = Tail::new();
-    for event in trace.events_from(start).take(BLOCK) {
-        event_line(&mut line, &mut tail, &event)?;
-    }
-    Ok(line)
-}
-
-/// The lines of so many blocks in a row, each formatted on a thread of its own where one can be started.
-fn block_lines<R: Threads + Sync>(
+/// Puts the blocks on the calling thread, with so many other threads that format them.
+#[cycle(workers)]
+fn put_with<B: PutEvents + Send + Sync, S: Sink, R: Threads + Wait + Sync>(
     rt: &R,
-    alloc: Global,
-    trace: &Trace,
-    start: usize,
-    blocks: usize,
-) -> Result<Vec<Result<Line, OutOfMemory>>, OutOfMemory>
-    requires { start + 16384 * blocks < 2 ^ 64 + 16384 }
-    ensures { IfOk result (λ v. AreBlocks trace.now.events start blocks v.items) }
+    others: usize,
+    formatting: &Formatting<'_, B>,
+    out: &mut S,
+) -> Result<(), RunError>
+    ensures { Wrote (events_text B.events) (way (S.took out.old) (S.failures out.old) []) result
+        (way (S.took out.new) (S.failures out.new) []) }
 {
-    let texts = map_indices(
-        rt,
-        alloc,
-        blocks,
-        &|block: usize| -> Result<Line, OutOfMemory>
-            requires { start + 16384 * block < 2 ^ 64 }
-            ensures { IfOk result (λ l. l ≡
-                block_text trace.entry.now.events (start + 16384 * block)) }
-        { block_line(alloc, trace, start + BLOCK * block) },
-    );
-    match texts {
-        Ok(texts) => Ok(texts),
-        Err(_) => Err(OutOfMemory),
+    if others == 0 {
+        put_all_blocks::<B, S, R>(rt, formatting, out)
+    } else {
+        put_beside(rt, others - 1, formatting, out)
     }
 }
 
-/// Puts the text of a block, if there was memory for it.
-fn put_block<S: Sink>(out: &mut S, text: &Result<Line, OutOfMemory>) -> Result<(), RunError>
-    ensures { (lines : List ℕ) → IfOk text.now (λ t. t ≡ lines) → Wrote lines (way (S.took out.old)
-        (S.failures out.old) []) result (way (S.took out.new) (S.failures out.new) []) }
-{
-    match text {
-        Ok(line) => put_all(out, line.as_bytes()),
-        Err(_) => Err(RunError::OutOfMemory),
-    }
-}
-
-/// Puts the lines of so many blocks in a row, which are formatted beside each other.
-fn put_group<S: Sink, R: Threads + Sync>(
+/// Starts one thread that formats blocks, and puts them with so many further ones. Where the thread can't be started, its work
+/// comes last, and finds none left.
+#[cycle(workers)]
+fn put_beside<B: PutEvents + Send + Sync, S: Sink, R: Threads + Wait + Sync>(
     rt: &R,
+    others: usize,
+    formatting: &Formatting<'_, B>,
+    out: &mut S,
+) -> Result<(), RunError>
+    ensures { Wrote (events_text B.events) (way (S.took out.old) (S.failures out.old) []) result
+        (way (S.took out.new) (S.failures out.new) []) }
+{
+    let mut theirs = || formatting.work(rt);
+    let mut ours = || -> Result<(), RunError>
+        requires { IsSync R.row × IsSync B.row }
+        ensures { Wrote (events_text B.events) (way (S.took out.entry.now)
+            (S.failures out.entry.now) []) result
+            (way (S.took out.exit.now) (S.failures out.exit.now) []) }
+    { put_with(rt, others, formatting, out) };
+    thread::join_mut(rt, &mut theirs, &mut ours).1
+}
+
+/// Puts the lines of the events that the brand names. The threads are started once for all blocks: on a busy machine a new thread
+/// may wait longer for a processor than a block takes.
+fn put_events_of<B: PutEvents + Send + Sync, S: Sink, R: Threads + Wait + Sync>(
+    rt: &R,
+    workers: usize,
     alloc: Global,
     out: &mut S,
     trace: &Trace,
-    start: usize,
-    blocks: usize,
 ) -> Result<(), RunError>
-    requires { start + 16384 * blocks < 2 ^ 64 + 16384 }
-    ensures { Wrote (events_text (take (16384 * blocks) (drop start trace.now.events))) (way (S.took
-        out.old) (S.failures out.old) []) result (way (S.took out.new) (S.failures out.new) []) }
+    requires events { trace.now.events ≡ B.events }
+    requires some { 0 < workers }
+    requires few { workers ≤ 16 }
+    ensures { Wrote (events_text trace.now.events) (way (S.took out.old) (S.failures out.old) [])
+        result (way (S.took out.new) (S.failures out.new) []) }
 {
-    let texts = block_lines(rt, alloc, trace, start, blocks)?;
-    for text in &texts {
-        put_block(out, text)?;
-    }
-    Ok(())
+    let formatting = Formatting::<B>::new(alloc, trace, workers);
+    // The calling thread is a worker, and one without a block isn't needed.
+    let others = workers.min(formatting.blocks()).saturating_sub(1);
+    put_with(rt, others, &formatting, out)
 }
 
-/// Puts the lines of all events, with at most so many blocks in memory at a time.
-fn put_blocks<S: Sink, R: Threads + Sync>(
+/// Puts the lines of all events, by so many workers, with at most two blocks for each of them in memory at a time.
+fn put_blocks<S: Sink, R: Threads + Wait + Sync>(
     rt: &R,
     workers: usize,
     alloc: Global,
@@ -105,18 +92,11 @@ fn put_blocks<S: Sink, R: Threads + Sync>(
     ensures { Wrote (events_text trace.now.events) (way (S.took out.old) (S.failures out.old) [])
         result (way (S.took out.new) (S.failures out.new) []) }
 {
-    let mut left = trace.len();
-    while left > 0 {
-        let start = trace.len() - left;
-        let blocks = left.div_ceil(BLOCK).min(workers);
-        put_group(rt, alloc, out, trace, start, blocks)?;
-        left = left.saturating_sub(BLOCK * blocks);
-    }
-    Ok(())
+    put_events_of::<Brand, S, R>(rt, workers, alloc, out, trace)
 }
 
 /// Puts the line of how many events there are, and those of the events, which so many workers format.
-pub(crate) fn put_trace_on<S: Sink, R: Threads + Sync>(
+pub(crate) fn put_trace_on<S: Sink, R: Threads + Wait + Sync>(
     rt: &R,
     workers: usize,
     alloc: Global,

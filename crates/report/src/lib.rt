@@ -1,9 +1,13 @@
 //! The report of a run: the text of harts, memory, output and events, and that of the order of its memory operations.
 #![tactic(auto)]
 
+mod block;
 mod blocks;
+mod desk;
+mod formatting;
 mod line;
 mod order;
+mod putting;
 mod rows;
 mod run_state;
 mod shown;

@@ -19,6 +19,7 @@ use host_io::{RunError, Sink};
 use pages::Pages;
 use round_schedule::Event;
 use std::alloc::Global;
+use std::sync::Wait;
 use std::thread::Threads;
 use trace::Trace;
 
@@ -225,13 +226,13 @@ const MOST_WORKERS: u32 = 16;
 /// Writes what `write_state` writes, with the lines of the events formatted by so many workers, though by no more than 16.
 ///
 /// Each worker formats a block of events at a time, and the blocks are put in order. The calling thread is a worker, and
-/// formats the blocks of which no thread could be started.
+/// formats all blocks where no thread could be started. It may wait.
 ///
 /// # Errors
 ///
 /// `OutOfMemory` where a line or a block found no memory, and `SinkFailed` where the sink failed. A beginning of the
 /// report is out then.
-pub fn write_state_on<S: Sink, R: Threads + Sync>(
+pub fn write_state_on<S: Sink, R: Threads + Wait + Sync>(
     rt: &R,
     workers: u32,
     alloc: Global,

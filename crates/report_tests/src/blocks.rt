@@ -5,6 +5,8 @@ use pages::{Pages, Width};
 use report::{RunState, write_event, write_state, write_state_on};
 use round_schedule::{Access, Event, Phase};
 use std::alloc::Global;
+use std::process::Abort;
+use std::sync::Wait;
 use std::test::Fail;
 use std::thread::Threads;
 use trace::Trace;
@@ -73,7 +75,7 @@ fn by_one_thread(alloc: Global, end: u64) -> Result<Vec<u8>, Fail> {
 }
 
 /// The report of that trace by so many workers.
-fn by_workers<R: Threads + Sync>(
+fn by_workers<R: Threads + Wait + Sync>(
     rt: &R,
     workers: u32,
     alloc: Global,
@@ -109,16 +111,44 @@ fn blocks_may_be_full_or_have_one_event(rt: HostRuntime) -> Result<(), Fail> {
 }
 
 #[test]
-fn a_sink_that_is_full_amid_the_blocks_keeps_a_beginning(rt: HostRuntime) -> Result<(), Fail> {
+fn a_report_may_have_more_blocks_than_are_in_memory(rt: HostRuntime) -> Result<(), Fail> {
     let alloc = rt.alloc();
-    let end = 2 * BLOCK + 5;
+    // Two blocks for each worker are in memory at a time.
+    for workers in [2, 3, 16] {
+        let end = (2 * workers as u64 + 3) * BLOCK + 5;
+        assert!(rt; by_workers(&rt, workers, alloc, end)? == by_one_thread(alloc, end)?);
+    }
+    Ok(())
+}
+
+/// A sink of so many bytes takes a beginning of the report by so many workers, and fails.
+fn fails_amid<R: Abort + Threads + Wait + Sync>(
+    rt: &R,
+    workers: u32,
+    alloc: Global,
+    end: u64,
+    bytes: usize,
+) -> Result<(), Fail> {
     let pages = Pages::new(alloc, 1, &[], &[])?;
     let trace = trace_of(alloc, end)?;
-    let report = expected(alloc, end)?;
-    let mut room = vec![in alloc; 0u8; 1_000_000]?;
+    let report = by_one_thread(alloc, end)?;
+    let mut room = vec![in alloc; 0u8; bytes]?;
     let mut sink = WriteSink::new(room.as_mut_slice());
-    let answer = write_state_on(&rt, 4, alloc, &state_of(&pages), &trace, &mut sink);
+    let answer = write_state_on(rt, workers, alloc, &state_of(&pages), &trace, &mut sink);
     assert!(rt; answer == Err(RunError::SinkFailed));
     assert!(rt; report.starts_with(&room));
+    Ok(())
+}
+
+#[test]
+fn a_sink_that_is_full_amid_the_blocks_keeps_a_beginning(rt: HostRuntime) -> Result<(), Fail> {
+    fails_amid(&rt, 4, rt.alloc(), 2 * BLOCK + 5, 1_000_000)
+}
+
+#[test]
+fn a_sink_that_is_full_amid_many_blocks_ends_all_workers(rt: HostRuntime) -> Result<(), Fail> {
+    for workers in [2, 3] {
+        fails_amid(&rt, workers, rt.alloc(), 12 * BLOCK, 5_000_000)?;
+    }
     Ok(())
 }

@@ -4,11 +4,11 @@ use Rattle.round_schedule.specs.declared.event.Event.{Event}
 use Rattle.report.specs.Report.{events_text}
 use Rattle.report.specs.Text.{event_text}
 use Rattle.report.proofs.RowsMore.{events-append}
-use Rattle.report.proofs.blocks.block_line.Goals as goal
+use Rattle.report.proofs.block.put_lines.Goals as goal
 
 pub loop-event-init : goal.loop-event-init
 loop-event-init c = record {
-  line = c.in_ok-line.ensures;
+  line = c.requires;
   left =
       ap (λ (t : Take (List Event)). take t.n t.iter) c.into_iter-event-iterator.ensures.into_iter_gives
       ∙ ap (λ (n : ℕ). take n c.take-event-items.result.iter) c.take-event-items.ensures.count
