@@ -36,6 +36,29 @@ pub fn round_from(
     Ok((view.into_buffer(), accesses, waits))
 }
 
+/// The same with the accesses as a log, which is put in brief where it is long and the start says so.
+///
+/// # Errors
+///
+/// The start is only read. The hart is as some of its instructions left it.
+pub fn logged_round(
+    number: usize,
+    start: &RoundStart<'_>,
+    hart: &mut Hart,
+) -> Result<(StoreBuffer, Log, bool), OutOfMemory>
+    requires number { number < length start.now.harts }
+    requires hart { slice_get start.now.harts number ≡ Some hart.old }
+    ensures { IfOk result (λ r. round_at start.now number ≡
+        Some (content_from hart.new r.0 r.1 r.2)) }
+{
+    let (buffer, accesses, waits) = round_from(number, start, hart)?;
+    let mut log = Log::of(accesses);
+    if start.shares_logs() && log.len() >= LONG {
+        log.share()?;
+    }
+    Ok((buffer, log, waits))
+}
+
 /// Does the round of a ticket's hart, on the memory of the start that its book was opened with.
 ///
 /// # Errors
@@ -51,10 +74,6 @@ pub fn hart_round<B: BookStart>(
 {
     let number = ticket.hart() as usize;
     let mut hart = start.harts()[number];
-    let (buffer, accesses, waits) = round_from(number, start, &mut hart)?;
-    let mut log = Log::of(accesses);
-    if start.shares_logs() && log.len() >= LONG {
-        log.share()?;
-    }
+    let (buffer, log, waits) = logged_round(number, start, &mut hart)?;
     Ok(HartRound::new(ticket, hart, buffer, log, waits))
 }
