@@ -18,3 +18,5 @@ pub mod Ordered
 pub mod AskedTurns
 pub mod Asked
 pub mod Tallied
+pub mod GuestRounds
+pub mod KeptStarts

@@ -1,4 +1,5 @@
 pub mod Outcomes
+pub mod Kept
 pub mod Machine
 pub mod Guests
 pub mod Held

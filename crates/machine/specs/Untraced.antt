@@ -1,5 +1,5 @@
 -- A machine that keeps no trace, as callers see it, and what ties it to a run.
-use Rattle.std.specs.Prelude.{◌≡◌, ℕ, zero, suc, ◌+◌, ◌*◌, ◌≤◌, true, List, [], ◌++◌, length, All, Option}
+use Rattle.std.specs.Prelude.{◌≡◌, ℕ, zero, suc, ◌+◌, ◌*◌, ◌<◌, ◌≤◌, true, List, [], ◌++◌, length, All, Option, Result, MatchResult}
 use Rattle.pages.specs.Memory.{IsBytes}
 use Rattle.pages.specs.declared.access.Range.{Range}
 use Rattle.elf_loader.specs.Image.{Loaded}
@@ -101,6 +101,10 @@ pub record HasRun (k : ℕ) (u v : Untraced) (before after : List Event → Type
   pub rounds : v.rounds ≡ u.rounds + k
   pub run : IsAfter k u v
   pub events : (m : Running) (es : List Event) → IsUntraced m u → before es → (more : List Event) × ((after_rounds k m).state.trace ≡ m.state.trace ++ more) × after (es ++ more)
+
+-- so many rounds were done, or fewer where the call was refused
+abbrev pub RanFor : {A E : Type 0} → Result A E → ℕ → Untraced → Untraced → (List Event → Type 0) → (List Event → Type 0) → Type 0
+RanFor r n u v before after = MatchResult r (λ _. HasRun n u v before after) (λ _. (k : ℕ) × (k < n) × HasRun k u v before after)
 
 -- these are the last events of a run of which it is the machine, all of them, none or some
 abbrev pub AreLast : Untraced → List Event → Type 0

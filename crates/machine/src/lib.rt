@@ -12,6 +12,8 @@ mod events;
 mod guest;
 mod guest_files;
 mod keeper;
+mod kept_crew;
+mod kept_running;
 mod machine;
 mod observing;
 mod opening;

@@ -133,7 +133,7 @@ fn outcomes_alone<G: Gate>(
 }
 
 /// Does the round of a hart in its outcome, in which the hart is as it starts.
-fn round_in_place(
+pub(crate) fn round_in_place(
     number: usize,
     start: &RoundStart<'_>,
     outcome: &mut Outcome,
@@ -161,7 +161,7 @@ pub fn give_harts(outcomes: &[Outcome], harts: &mut [Hart])
 }
 
 /// Sets how many instructions each hart may do in a round.
-fn set_quotas(plan: &Plan, round: u32, quotas: &mut [u32])
+pub(crate) fn set_quotas(plan: &Plan, round: u32, quotas: &mut [u32])
     requires round { 1 ≤ round }
     requires sized { length quotas.old ≡ plan.now.harts }
     ensures { (h : ℕ) → h < plan.now.harts →

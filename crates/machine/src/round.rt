@@ -8,6 +8,7 @@ ghost use Rattle.hart_step.specs.CodeTables.{Shows};
 ghost use Rattle.hart_step.specs.Words.{words_of};
 ghost use Rattle.machine.specs.Guests.{guest_events, guest_of, next_guest, shared_of};
 ghost use Rattle.machine.specs.Held.{most_of_round};
+ghost use Rattle.machine.specs.Kept.{AreOfGuest};
 ghost use Rattle.machine.specs.Machine.{count_waiting};
 ghost use Rattle.machine.specs.Outcomes.{AreFit, AreOutcomes, count_accesses, count_true, mask_of, waits_of};
 ghost use Rattle.machine.specs.Rounds.{IsFinished, MayFinish};
@@ -39,17 +40,46 @@ pub struct RoundCounts {
 }
 
 impl GuestState {
-    /// Does the round after `done` rounds: the rounds of the harts, the commit, the serial turns. The keeper gets its events.
+    /// Does the rounds of all harts after `done` rounds, by the workers of a crew. Refused or not, the guest is as it was.
+    pub(crate) fn outcomes<G: Gate + Sync, R: Threads + Wait + Sync>(
+        &mut self,
+        crew: &Crew<'_, G, R>,
+        plan: &Plan,
+        done: u32,
+    ) -> Result<Vec<Outcome>, OutOfMemory>
+        requires workers { (1 ≤ crew.now.workers) × (crew.now.workers ≤ 16) }
+        requires harts { length self.old.harts ≡ plan.now.harts }
+        requires done { done + 1 < 2 ^ 32 }
+        ensures stays { self.new ≡ self.old }
+        ensures outcomes { IfOk result (λ os. AreOfGuest plan.now done self.old os.items) }
+    {
+        let shared = &self.shared;
+        let alloc = shared.pages.allocator();
+        let room = mem::replace(&mut self.outcomes, Vec::new(alloc));
+        outcomes_of(
+            crew,
+            &shared.pages,
+            &shared.code,
+            &self.harts,
+            plan,
+            done + 1,
+            room,
+        )
+    }
+
+    /// Does the round after `done` rounds from what its harts left on: the commit, the serial turns. The keeper gets its events.
     ///
     /// All that can be refused is asked for before the commit, so that a refusal leaves all as it was.
-    pub(crate) fn do_round<E: EventKeeper, G: Gate + Sync, R: Threads + Wait + Sync>(
+    pub(crate) fn do_round<E: EventKeeper, G, R: Threads + Sync>(
         &mut self,
         crew: &Crew<'_, G, R>,
         keeper: &mut E,
         plan: &Plan,
         done: u32,
+        mut outcomes: Vec<Outcome>,
     ) -> Result<RoundCounts, OutOfMemory>
-        requires workers { (1 ≤ crew.now.workers) × (crew.now.workers ≤ 16) }
+        requires workers { 1 ≤ crew.now.workers }
+        requires outcomes { AreOfGuest plan.now done self.old outcomes.items }
         requires harts { length self.old.harts ≡ plan.now.harts }
         requires done { done + 1 < 2 ^ 32 }
         requires sound { (es : List Event) × E.keeps keeper.old es ×
@@ -69,30 +99,17 @@ impl GuestState {
         ensures untold { OnErr result ((es : List Event) → E.keeps keeper.old es →
             E.keeps keeper.new es) }
     {
-        let shared = &mut self.shared;
-        let alloc = shared.pages.allocator();
-        let round = done + 1;
         // At most 64.
         let _harts = plan.harts();
-        let room = mem::replace(&mut self.outcomes, Vec::new(alloc));
-        let mut outcomes = outcomes_of(
-            crew,
-            &shared.pages,
-            &shared.code,
-            &self.harts,
-            plan,
-            round,
-            room,
-        )?;
         let tally = Tally::of(&outcomes);
         let phase = SerialRound {
-            round,
+            round: done + 1,
             waiting: tally.waiting,
             budget: plan.budget(),
         };
         let counts = finish(
             crew,
-            shared,
+            &mut self.shared,
             keeper,
             &mut outcomes,
             &mut self.harts,

@@ -79,7 +79,8 @@ impl Machine {
             least_lines: 0,
             shares_logs: true,
         };
-        Ok(self.bare.round_by(crew, &mut self.trace)?)
+        let outcomes = self.bare.outcomes(&crew)?;
+        Ok(self.bare.end_round(&crew, &mut self.trace, outcomes)?)
     }
 
     /// Does so many rounds, on 1 to 16 workers. It may wait.

@@ -6,11 +6,13 @@ ghost use Rattle.round_planner.specs.Quotas.{quotas_of};
 ghost use Rattle.hart_step.specs.Words.{words_of};
 ghost use Rattle.trace.specs.Traced.{IsTrace};
 ghost use Rattle.machine.specs.Machine.{count_stopped, count_waiting};
+ghost use Rattle.machine.specs.Kept.{AreOfNext};
 ghost use Rattle.machine.specs.Untraced.{AreAdded, AreLast, HasRun, IsAfter, MayGoOn, next_events, untraced_round};
 
 use crate::crew::Crew;
 use crate::keeper::{EventKeeper, NoTrace};
 use crate::observing::{Observer, Unobserved};
+use crate::outcome::Outcome;
 use crate::running::{MANY_LINES, MOST_WORKERS, RoundNote, stopped_count, workers_for};
 use crate::untraced::UntracedMachine;
 use host_io::RunError;
@@ -198,45 +200,30 @@ impl UntracedMachine {
                 self.pass(rounds - done);
                 return Ok(());
             }
-            self.round_of_run(rt, workers, keeper)?;
+            if self.worth_workers(workers) > 1 {
+                return self.run_kept(rt, rounds - done, workers, keeper, observer);
+            }
+            let crew = Crew {
+                rt,
+                workers: 1,
+                gate: &Open,
+                least_lines: MANY_LINES,
+                shares_logs: keeper.shares_logs(),
+            };
+            let outcomes = self.outcomes(&crew)?;
+            self.end_round(&crew, keeper, outcomes)?;
             observer.after_round(self);
         }
         Ok(())
     }
 
-    /// Does one round, on as many workers as it is worth.
-    fn round_of_run<E: EventKeeper, R: Threads + Wait + Sync>(
-        &mut self,
-        rt: &R,
-        workers: u32,
-        keeper: &mut E,
-    ) -> Result<(), OutOfMemory>
-        requires workers { (1 ≤ workers) × (workers ≤ 16) }
-        requires rounds { self.old.rounds + 1 < 2 ^ 32 }
-        requires sound { (es : List Event) × E.keeps keeper.old es ×
-            E.may_keep (es ++ next_events self.old) }
-        ensures ok { OnOk result (self.new ≡ untraced_round self.old) }
-        ensures run { OnOk result (HasRun 1 self.old self.new (E.keeps keeper.old)
-            (E.keeps keeper.new)) }
-        ensures kept { OnOk result ((es : List Event) → E.keeps keeper.old es →
-            E.keeps keeper.new (es ++ next_events self.old)) }
-        ensures opening { E.opens_with keeper.new ≡ E.opens_with keeper.old }
-        ensures err { OnErr result (self.new ≡ self.old) }
-        ensures untold { OnErr result ((es : List Event) → E.keeps keeper.old es →
-            E.keeps keeper.new es) }
+    /// How many workers the next round is worth, of these at most.
+    pub(crate) fn worth_workers(&self, workers: u32) -> u32
+        requires { 1 ≤ workers }
+        ensures some { 1 ≤ result }
+        ensures most { result ≤ workers }
     {
-        let before = self.instructions_done();
-        let workers = workers_for(self.expected_work(), self.running_harts(), workers);
-        let crew = Crew {
-            rt,
-            workers,
-            gate: &Open,
-            least_lines: MANY_LINES,
-            shares_logs: keeper.shares_logs(),
-        };
-        self.round_by(crew, keeper)?;
-        self.note_work(before);
-        Ok(())
+        workers_for(self.expected_work(), self.running_harts(), workers)
     }
 
     /// Notes how many instructions the last round did, where so many were done before it.
@@ -247,7 +234,7 @@ impl UntracedMachine {
     }
 
     /// Does so many rounds of a machine whose harts have all stopped.
-    fn pass(&mut self, rounds: u32)
+    pub(crate) fn pass(&mut self, rounds: u32)
         requires stopped { count_stopped self.old.harts ≡ length self.old.harts }
         requires rounds { self.old.rounds + rounds < 2 ^ 32 }
         ensures { self.new ≡ record self.old { rounds = self.old.rounds + rounds } }
@@ -255,13 +242,28 @@ impl UntracedMachine {
         self.rounds += rounds;
     }
 
-    /// Does one round by a crew, and has its events kept.
-    pub(crate) fn round_by<E: EventKeeper, G: Gate + Sync, R: Threads + Wait + Sync>(
+    /// Does the rounds of all harts by a crew. Refused or not, the machine is as it was.
+    pub(crate) fn outcomes<G: Gate + Sync, R: Threads + Wait + Sync>(
         &mut self,
-        crew: Crew<'_, G, R>,
+        crew: &Crew<'_, G, R>,
+    ) -> Result<Vec<Outcome>, OutOfMemory>
+        requires workers { (1 ≤ crew.now.workers) × (crew.now.workers ≤ 16) }
+        requires rounds { self.old.rounds + 1 < 2 ^ 32 }
+        ensures stays { self.new ≡ self.old }
+        ensures outcomes { IfOk result (λ os. AreOfNext self.old os.items) }
+    {
+        self.guest.outcomes(crew, &self.plan, self.rounds)
+    }
+
+    /// Does the rest of a round after the rounds of its harts, has its events kept, and notes how much work it was.
+    pub(crate) fn end_round<E: EventKeeper, G, R: Threads + Sync>(
+        &mut self,
+        crew: &Crew<'_, G, R>,
         keeper: &mut E,
+        outcomes: Vec<Outcome>,
     ) -> Result<RoundNote, OutOfMemory>
-        requires workers { (1 ≤ crew.workers) × (crew.workers ≤ 16) }
+        requires workers { 1 ≤ crew.now.workers }
+        requires outcomes { AreOfNext self.old outcomes.items }
         requires rounds { self.old.rounds + 1 < 2 ^ 32 }
         requires sound { (es : List Event) × E.keeps keeper.old es ×
             E.may_keep (es ++ next_events self.old) }
@@ -280,6 +282,7 @@ impl UntracedMachine {
         ensures untold { OnErr result ((es : List Event) → E.keeps keeper.old es →
             E.keeps keeper.new es) }
     {
+        let before = self.instructions_done();
         let pages = self.guest.pages();
         pages.bytes_fit();
         self.guest.sizes_agree();
@@ -287,9 +290,12 @@ impl UntracedMachine {
         let _harts = self.plan.harts();
         let _budget = self.plan.budget();
         let _pages = pages.count();
-        let counts = self.guest.do_round(&crew, keeper, &self.plan, self.rounds)?;
+        let counts = self
+            .guest
+            .do_round(crew, keeper, &self.plan, self.rounds, outcomes)?;
         self.rounds += 1;
         self.events += counts.events;
+        self.note_work(before);
         Ok(RoundNote {
             round: self.rounds,
             waited: counts.waited,
@@ -307,7 +313,7 @@ impl UntracedMachine {
     }
 
     /// How many harts have not stopped.
-    fn running_harts(&self) -> u32
+    pub(crate) fn running_harts(&self) -> u32
         ensures { result + count_stopped self.now.harts ≡ length self.now.harts }
     {
         // At most 64.

@@ -1,4 +1,4 @@
-use Rattle.std.proofs.Common.{◌≡◌, ◌++◌, List, length, take, drop, sym, ap, ◌∙◌, subst, arith, rules, refl}
+use Rattle.std.proofs.Common.{◌≡◌, ◌++◌, List, length, take, drop, sym, ap, ◌∙◌, subst, arith, refl}
 use Rattle.std.proofs.lemmas.List.{take_at}
 use Rattle.round_schedule.specs.declared.event.Event.{Event}
 use Rattle.round_schedule.specs.Schedule.{hart_rounds}
@@ -9,16 +9,16 @@ use Rattle.machine.specs.declared.outcome.Outcome.{Outcome}
 use Rattle.machine.specs.Guests.{Guest, guest_events, guest_of, next_guest}
 use Rattle.machine.specs.Machine.{count_waiting}
 use Rattle.machine.specs.Outcomes.{AreFit, AreOutcomes, count_accesses, count_true, mask_of, waits_of}
-use Rattle.machine.proofs.Asked.{how_many, outcomes_are}
 use Rattle.machine.proofs.CodeKept.{rounds_touch}
 use Rattle.machine.proofs.Counted.{few_accesses}
+use Rattle.machine.proofs.GuestRounds.{here_are, many_here, many_of}
 use Rattle.machine.proofs.Listed.{are_fit}
 use Rattle.machine.proofs.RoundDone.{finished_done, waited_is}
 use Rattle.machine.proofs.TraceKept.{low_quotas}
 use Rattle.machine.proofs.guest.GuestState.do_round.Goals as goal
 
 pub finish-requires-clause-workers : goal.finish-requires-clause-workers
-finish-requires-clause-workers g c = λ lifetimes within. c.requires.workers.0
+finish-requires-clause-workers g c = λ lifetimes within. c.requires.workers
 
 pub finish-requires-clause-shows : goal.finish-requires-clause-shows
 finish-requires-clause-shows g c = λ lifetimes within. c.self.invariant.shows
@@ -29,42 +29,44 @@ finish-requires-clause-rounds g c = λ lifetimes within.
     let m = i.shared.pages.memory in
     let qs = quotas_of c.args.plan.now c.args.done in
     let rs = hart_rounds (words_of m.code) m.bytes qs i.harts.items in
-    let a = outcomes_are c.args.plan.now c.args.done i.harts.items c.deref.result.now i.shared.pages c.in_ok-outcomes.outcomes.items c.deref.ensures.value c.in_ok-outcomes.ensures in
+    let a = here_are c.args.plan.now c.args.done i.harts.items i.shared _ c.args.outcomes.items c.self.view_is c.requires.outcomes in
     (rs, subst (λ (x : List Outcome). AreOutcomes m rs x) (sym c.deref_mut.ensures.value) a, rounds_touch m qs i.harts.items)
 
 pub finish-requires-clause-few : goal.finish-requires-clause-few
 finish-requires-clause-few g c = λ lifetimes within.
     let i = c.self.inside in
-    let many = how_many c.args.plan.now c.args.done i.harts.items c.deref.result.now i.shared.pages c.in_ok-outcomes.outcomes.items c.deref.ensures.value c.in_ok-outcomes.ensures in
+    let many = many_here c.args.plan.now c.args.done i.harts.items i.shared _ c.args.outcomes.items c.self.view_is c.requires.outcomes in
     omega (arith, many, ap length c.deref_mut.ensures.value, c.requires.harts, ap (λ (x : Guest). length x.harts) c.self.view_is, c.harts-harts.ensures.harts, c.harts-harts.ensures.few_harts)
 
 pub finish-requires-clause-fits : goal.finish-requires-clause-fits
 finish-requires-clause-fits g c = λ lifetimes within.
-    let m = c.self.inside.shared.pages.memory in
-    subst (λ (x : List Outcome). AreFit m x) (sym c.deref_mut.ensures.value) (are_fit m _ c.in_ok-outcomes.outcomes.items c.in_ok-outcomes.ensures)
+    let i = c.self.inside in
+    let m = i.shared.pages.memory in
+    let a = here_are c.args.plan.now c.args.done i.harts.items i.shared _ c.args.outcomes.items c.self.view_is c.requires.outcomes in
+    subst (λ (x : List Outcome). AreFit m x) (sym c.deref_mut.ensures.value) (are_fit m _ c.args.outcomes.items a)
 
 pub finish-requires-clause-harts : goal.finish-requires-clause-harts
 finish-requires-clause-harts g c = λ lifetimes within.
     let i = c.self.inside in
-    let many = how_many c.args.plan.now c.args.done i.harts.items c.deref.result.now i.shared.pages c.in_ok-outcomes.outcomes.items c.deref.ensures.value c.in_ok-outcomes.ensures in
+    let many = many_here c.args.plan.now c.args.done i.harts.items i.shared _ c.args.outcomes.items c.self.view_is c.requires.outcomes in
     ap length c.deref_mut-2.ensures.value ∙ sym many ∙ sym (ap length c.deref_mut.ensures.value)
 
 pub finish-requires-clause-size : goal.finish-requires-clause-size
 finish-requires-clause-size g c = λ lifetimes within.
     let i = c.self.inside in
-    let many = how_many c.args.plan.now c.args.done i.harts.items c.deref.result.now i.shared.pages c.in_ok-outcomes.outcomes.items c.deref.ensures.value c.in_ok-outcomes.ensures in
+    let many = many_here c.args.plan.now c.args.done i.harts.items i.shared _ c.args.outcomes.items c.self.view_is c.requires.outcomes in
     c.self.invariant.size ∙ sym many ∙ sym (ap length c.deref_mut.ensures.value)
 
 pub finish-requires-clause-waiting : goal.finish-requires-clause-waiting
 finish-requires-clause-waiting g c = λ lifetimes within.
-    c.of-tally.ensures.waiting ∙ ap (λ (os : List Outcome). mask_of (waits_of os)) (c.deref-2.ensures.value ∙ sym c.deref_mut.ensures.value)
+    c.of-tally.ensures.waiting ∙ ap (λ (os : List Outcome). mask_of (waits_of os)) (c.deref.ensures.value ∙ sym c.deref_mut.ensures.value)
 
 pub finish-requires-clause-waited : goal.finish-requires-clause-waited
 finish-requires-clause-waited g c = λ lifetimes within.
-    c.of-tally.ensures.waited ∙ ap (λ (os : List Outcome). count_true (waits_of os)) (c.deref-2.ensures.value ∙ sym c.deref_mut.ensures.value)
+    c.of-tally.ensures.waited ∙ ap (λ (os : List Outcome). count_true (waits_of os)) (c.deref.ensures.value ∙ sym c.deref_mut.ensures.value)
 
 pub finish-requires-clause-counted : goal.finish-requires-clause-counted
-finish-requires-clause-counted g c = λ lifetimes within. c.of-tally.ensures.accesses ∙ ap count_accesses (c.deref-2.ensures.value ∙ sym c.deref_mut.ensures.value)
+finish-requires-clause-counted g c = λ lifetimes within. c.of-tally.ensures.accesses ∙ ap count_accesses (c.deref.ensures.value ∙ sym c.deref_mut.ensures.value)
 
 pub finish-requires-clause-budget : goal.finish-requires-clause-budget
 finish-requires-clause-budget g c = λ lifetimes within. c.budget.ensures.few_budget
@@ -73,10 +75,9 @@ pub finish-requires-clause-accesses : goal.finish-requires-clause-accesses
 finish-requires-clause-accesses g c = λ lifetimes within.
     let i = c.self.inside in
     let m = i.shared.pages.memory in
-    let os = c.in_ok-outcomes.outcomes.items in
-    let many = how_many c.args.plan.now c.args.done i.harts.items c.deref.result.now i.shared.pages os c.deref.ensures.value c.in_ok-outcomes.ensures in
-    let a = outcomes_are c.args.plan.now c.args.done i.harts.items c.deref.result.now i.shared.pages os c.deref.ensures.value c.in_ok-outcomes.ensures in
-    let few = few_accesses m (words_of m.code) m.bytes (quotas_of c.args.plan.now c.args.done) i.harts.items os (low_quotas c.args.plan.now c.harts-harts.ensures.in_range c.args.done) a in
+    let many = many_here c.args.plan.now c.args.done i.harts.items i.shared _ c.args.outcomes.items c.self.view_is c.requires.outcomes in
+    let a = here_are c.args.plan.now c.args.done i.harts.items i.shared _ c.args.outcomes.items c.self.view_is c.requires.outcomes in
+    let few = few_accesses m (words_of m.code) m.bytes (quotas_of c.args.plan.now c.args.done) i.harts.items c.args.outcomes.items (low_quotas c.args.plan.now c.harts-harts.ensures.in_range c.args.done) a in
     omega (arith, few, ap count_accesses c.deref_mut.ensures.value, many, c.requires.harts, ap (λ (x : Guest). length x.harts) c.self.view_is, c.harts-harts.ensures.harts, c.harts-harts.ensures.few_harts)
 
 pub finish-requires-clause-sound : goal.finish-requires-clause-sound
@@ -84,9 +85,9 @@ finish-requires-clause-sound g c = λ lifetimes within.
     let i = c.self.inside in
     let m = i.shared.pages.memory in
     let rs = hart_rounds (words_of m.code) m.bytes (quotas_of c.args.plan.now c.args.done) i.harts.items in
-    let a = outcomes_are c.args.plan.now c.args.done i.harts.items c.deref.result.now i.shared.pages c.in_ok-outcomes.outcomes.items c.deref.ensures.value c.in_ok-outcomes.ensures in
+    let a = here_are c.args.plan.now c.args.done i.harts.items i.shared _ c.args.outcomes.items c.self.view_is c.requires.outcomes in
     let here = subst (λ (x : List Outcome). AreOutcomes m rs x) (sym c.deref_mut.ensures.value) a in
-    let waits = c.of-tally.ensures.waiting ∙ ap (λ (os : List Outcome). mask_of (waits_of os)) (c.deref-2.ensures.value ∙ sym c.deref_mut.ensures.value) in
+    let waits = c.of-tally.ensures.waiting ∙ ap (λ (os : List Outcome). mask_of (waits_of os)) (c.deref.ensures.value ∙ sym c.deref_mut.ensures.value) in
     let sound = subst (λ (x : Guest). g.E.EventKeeper.may_keep (c.requires.sound.0 ++ guest_events c.args.plan.now c.args.done x)) (sym c.self.view_is) c.requires.sound.2 in (
       c.requires.sound.0,
       c.requires.sound.1,
@@ -99,9 +100,9 @@ returns-clause-ok g c =
     let i = c.self.inside in
     let m = i.shared.pages.memory in
     let rs = hart_rounds (words_of m.code) m.bytes (quotas_of c.args.plan.now c.args.done) i.harts.items in
-    let a = outcomes_are c.args.plan.now c.args.done i.harts.items c.deref.result.now i.shared.pages c.in_ok-outcomes.outcomes.items c.deref.ensures.value c.in_ok-outcomes.ensures in
+    let a = here_are c.args.plan.now c.args.done i.harts.items i.shared _ c.args.outcomes.items c.self.view_is c.requires.outcomes in
     let here = subst (λ (x : List Outcome). AreOutcomes m rs x) (sym c.deref_mut.ensures.value) a in
-    let waits = c.of-tally.ensures.waiting ∙ ap (λ (os : List Outcome). mask_of (waits_of os)) (c.deref-2.ensures.value ∙ sym c.deref_mut.ensures.value) in
+    let waits = c.of-tally.ensures.waiting ∙ ap (λ (os : List Outcome). mask_of (waits_of os)) (c.deref.ensures.value ∙ sym c.deref_mut.ensures.value) in
     let ok = c.in_ok-counts.ensures.ok in
     let done = finished_done c.args.plan.now _ c.args.done (guest_of i.harts.items i.shared) _ ok.0 c.deref_mut.result.now here c.budget.ensures.budget refl waits ok.1 in
     let whole : take i.harts.len (c.finish.new.harts ++ drop (length c.finish.new.harts) i.harts.items) ≡ c.finish.new.harts = take_at c.finish.new.harts _ i.harts.len (omega (arith, c.finish.auto.harts, c.deref_mut-2.ensures.len, ap length c.deref_mut-2.ensures.value)) in
@@ -112,9 +113,9 @@ returns-clause-kept g c = λ es kept.
     let i = c.self.inside in
     let m = i.shared.pages.memory in
     let rs = hart_rounds (words_of m.code) m.bytes (quotas_of c.args.plan.now c.args.done) i.harts.items in
-    let a = outcomes_are c.args.plan.now c.args.done i.harts.items c.deref.result.now i.shared.pages c.in_ok-outcomes.outcomes.items c.deref.ensures.value c.in_ok-outcomes.ensures in
+    let a = here_are c.args.plan.now c.args.done i.harts.items i.shared _ c.args.outcomes.items c.self.view_is c.requires.outcomes in
     let here = subst (λ (x : List Outcome). AreOutcomes m rs x) (sym c.deref_mut.ensures.value) a in
-    let waits = c.of-tally.ensures.waiting ∙ ap (λ (os : List Outcome). mask_of (waits_of os)) (c.deref-2.ensures.value ∙ sym c.deref_mut.ensures.value) in
+    let waits = c.of-tally.ensures.waiting ∙ ap (λ (os : List Outcome). mask_of (waits_of os)) (c.deref.ensures.value ∙ sym c.deref_mut.ensures.value) in
     let ok = c.in_ok-counts.ensures.ok in
     let done = finished_done c.args.plan.now _ c.args.done (guest_of i.harts.items i.shared) _ ok.0 c.deref_mut.result.now here c.budget.ensures.budget refl waits ok.1 in
     subst (λ (x : List Event). g.E.EventKeeper.keeps c.finish.new.keeper (es ++ x)) (done.events ∙ ap (λ (x : Guest). guest_events c.args.plan.now c.args.done x) c.self.view_is) (ok.3 es kept)
@@ -124,9 +125,9 @@ returns-clause-events g c =
     let i = c.self.inside in
     let m = i.shared.pages.memory in
     let rs = hart_rounds (words_of m.code) m.bytes (quotas_of c.args.plan.now c.args.done) i.harts.items in
-    let a = outcomes_are c.args.plan.now c.args.done i.harts.items c.deref.result.now i.shared.pages c.in_ok-outcomes.outcomes.items c.deref.ensures.value c.in_ok-outcomes.ensures in
+    let a = here_are c.args.plan.now c.args.done i.harts.items i.shared _ c.args.outcomes.items c.self.view_is c.requires.outcomes in
     let here = subst (λ (x : List Outcome). AreOutcomes m rs x) (sym c.deref_mut.ensures.value) a in
-    let waits = c.of-tally.ensures.waiting ∙ ap (λ (os : List Outcome). mask_of (waits_of os)) (c.deref-2.ensures.value ∙ sym c.deref_mut.ensures.value) in
+    let waits = c.of-tally.ensures.waiting ∙ ap (λ (os : List Outcome). mask_of (waits_of os)) (c.deref.ensures.value ∙ sym c.deref_mut.ensures.value) in
     let ok = c.in_ok-counts.ensures.ok in
     let done = finished_done c.args.plan.now _ c.args.done (guest_of i.harts.items i.shared) _ ok.0 c.deref_mut.result.now here c.budget.ensures.budget refl waits ok.1 in
     ok.2 ∙ ap length (done.events ∙ ap (λ (x : Guest). guest_events c.args.plan.now c.args.done x) c.self.view_is)
@@ -139,47 +140,29 @@ returns-clause-waited g c =
     let i = c.self.inside in
     let m = i.shared.pages.memory in
     let rs = hart_rounds (words_of m.code) m.bytes (quotas_of c.args.plan.now c.args.done) i.harts.items in
-    let a = outcomes_are c.args.plan.now c.args.done i.harts.items c.deref.result.now i.shared.pages c.in_ok-outcomes.outcomes.items c.deref.ensures.value c.in_ok-outcomes.ensures in
+    let a = here_are c.args.plan.now c.args.done i.harts.items i.shared _ c.args.outcomes.items c.self.view_is c.requires.outcomes in
     let here = subst (λ (x : List Outcome). AreOutcomes m rs x) (sym c.deref_mut.ensures.value) a in
     c.in_ok-counts.ensures.waited ∙ waited_is m rs c.deref_mut.result.now here
     ∙ ap (λ (x : Guest). count_waiting (hart_rounds (words_of x.shared.memory.code) x.shared.memory.bytes (quotas_of c.args.plan.now c.args.done) x.harts)) c.self.view_is
 
-pub overflow_add-round : goal.overflow_add-round
-overflow_add-round g c = search rules
-
-pub outcomes_of-requires-clause-workers : goal.outcomes_of-requires-clause-workers
-outcomes_of-requires-clause-workers g c = λ lifetimes within. c.requires.workers
-
-pub outcomes_of-requires-clause-shows : goal.outcomes_of-requires-clause-shows
-outcomes_of-requires-clause-shows g c = λ lifetimes within. c.self.invariant.shows
-
-pub outcomes_of-requires-clause-harts : goal.outcomes_of-requires-clause-harts
-outcomes_of-requires-clause-harts g c = λ lifetimes within. ap length c.deref.ensures.value ∙ ap (λ (x : Guest). length x.harts) c.self.view_is ∙ c.requires.harts
-
-pub outcomes_of-requires-clause-round : goal.outcomes_of-requires-clause-round
-outcomes_of-requires-clause-round g c = λ lifetimes within. omega arith
-
 pub of-tally-requires-clause-few : goal.of-tally-requires-clause-few
 of-tally-requires-clause-few g c =
-    let i = c.self.inside in
-    let many = how_many c.args.plan.now c.args.done i.harts.items c.deref.result.now i.shared.pages c.in_ok-outcomes.outcomes.items c.deref.ensures.value c.in_ok-outcomes.ensures in
-    omega (arith, ap length c.deref-2.ensures.value, many, c.requires.harts, ap (λ (x : Guest). length x.harts) c.self.view_is, c.harts-harts.ensures.harts, c.harts-harts.ensures.few_harts)
+    let many = many_of c.args.plan.now c.args.done c.args.self.now c.args.outcomes.items c.requires.outcomes in
+    omega (arith, ap length c.deref.ensures.value, many, c.requires.harts, c.harts-harts.ensures.harts, c.harts-harts.ensures.few_harts)
 
 pub of-tally-requires-clause-accesses : goal.of-tally-requires-clause-accesses
 of-tally-requires-clause-accesses g c =
-    let i = c.self.inside in
-    let m = i.shared.pages.memory in
-    let os = c.in_ok-outcomes.outcomes.items in
-    let many = how_many c.args.plan.now c.args.done i.harts.items c.deref.result.now i.shared.pages os c.deref.ensures.value c.in_ok-outcomes.ensures in
-    let a = outcomes_are c.args.plan.now c.args.done i.harts.items c.deref.result.now i.shared.pages os c.deref.ensures.value c.in_ok-outcomes.ensures in
-    let few = few_accesses m (words_of m.code) m.bytes (quotas_of c.args.plan.now c.args.done) i.harts.items os (low_quotas c.args.plan.now c.harts-harts.ensures.in_range c.args.done) a in
-    omega (arith, few, ap count_accesses c.deref-2.ensures.value, many, c.requires.harts, ap (λ (x : Guest). length x.harts) c.self.view_is, c.harts-harts.ensures.harts, c.harts-harts.ensures.few_harts)
+    let h = c.args.self.now in
+    let m = h.shared.memory in
+    let os = c.args.outcomes.items in
+    let many = many_of c.args.plan.now c.args.done h os c.requires.outcomes in
+    let few = few_accesses m (words_of m.code) m.bytes (quotas_of c.args.plan.now c.args.done) h.harts os (low_quotas c.args.plan.now c.harts-harts.ensures.in_range c.args.done) c.requires.outcomes in
+    omega (arith, few, ap count_accesses c.deref.ensures.value, many, c.requires.harts, c.harts-harts.ensures.harts, c.harts-harts.ensures.few_harts)
 
 pub invariant_of-self-2 : goal.invariant_of-self-2
 invariant_of-self-2 g c =
     let i = c.self.inside in
-    let os = c.in_ok-outcomes.outcomes.items in
-    let many = how_many c.args.plan.now c.args.done i.harts.items c.deref.result.now i.shared.pages os c.deref.ensures.value c.in_ok-outcomes.ensures in
+    let many = many_here c.args.plan.now c.args.done i.harts.items i.shared _ c.args.outcomes.items c.self.view_is c.requires.outcomes in
     let whole : take i.harts.len (c.finish.new.harts ++ drop (length c.finish.new.harts) i.harts.items) ≡ c.finish.new.harts = take_at c.finish.new.harts _ i.harts.len (omega (arith, c.finish.auto.harts, c.deref_mut-2.ensures.len, ap length c.deref_mut-2.ensures.value)) in
     record {
       size = c.finish.ensures.size ∙ c.self.invariant.size ∙ sym (ap length whole ∙ omega (arith, c.finish.auto.harts, ap length c.deref_mut-2.ensures.value));
@@ -189,7 +172,6 @@ invariant_of-self-2 g c =
 pub returns-clause-count : goal.returns-clause-count
 returns-clause-count g c =
     let i = c.self.inside in
-    let os = c.in_ok-outcomes.outcomes.items in
-    let many = how_many c.args.plan.now c.args.done i.harts.items c.deref.result.now i.shared.pages os c.deref.ensures.value c.in_ok-outcomes.ensures in
+    let many = many_here c.args.plan.now c.args.done i.harts.items i.shared _ c.args.outcomes.items c.self.view_is c.requires.outcomes in
     let whole : take i.harts.len (c.finish.new.harts ++ drop (length c.finish.new.harts) i.harts.items) ≡ c.finish.new.harts = take_at c.finish.new.harts _ i.harts.len (omega (arith, c.finish.auto.harts, c.deref_mut-2.ensures.len, ap length c.deref_mut-2.ensures.value)) in
     ap length whole ∙ omega (arith, c.finish.auto.harts, ap length c.deref_mut-2.ensures.value, ap (λ (x : Guest). length x.harts) c.self.view_is)

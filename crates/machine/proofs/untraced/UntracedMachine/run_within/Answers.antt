@@ -1,7 +1,9 @@
-use Rattle.std.proofs.Common.{◌≡◌, ◌+◌, ◌-◌, ◌++◌, ℕ, length, refl, sym, ap, ◌∙◌, subst, arith, rules, Err}
+use Rattle.std.proofs.Common.{◌≡◌, ◌+◌, ◌-◌, ◌++◌, ℕ, List, length, refl, sym, ap, ◌∙◌, subst, arith, rules, Err}
+use Rattle.round_schedule.specs.declared.event.Event.{Event}
+use Rattle.machine.specs.Kept.{AreOfNext}
 use Rattle.machine.specs.Machine.{after_rounds, count_stopped}
-use Rattle.machine.specs.Untraced.{HasRun, IsUntraced, MayGoOn, Untraced, next_events}
-use Rattle.machine.proofs.UntracedRounds.{kept_on, may_next, none_run, passed_by, rounds_pass, then_run}
+use Rattle.machine.specs.Untraced.{HasRun, IsUntraced, MayGoOn, Untraced, next_events, untraced_round}
+use Rattle.machine.proofs.UntracedRounds.{kept_on, may_next, none_run, passed_by, ran_fewer, ran_ok, rounds_pass, then_run}
 use Rattle.machine.proofs.untraced.UntracedMachine.run_within.Goals as goal
 
 pub loop-done-init : goal.loop-done-init
@@ -11,27 +13,37 @@ loop-done-init g c = (
   (c.requires.sound.0, c.requires.sound.1, subst (λ (k : ℕ). MayGoOn g.E.EventKeeper.may_keep k c.requires.sound.0 c.args.self.now) (omega arith) c.requires.sound.2),
 )
 
-pub round_of_run-requires-clause-sound : goal.round_of_run-requires-clause-sound
-round_of_run-requires-clause-sound g c = λ lifetimes within.
-    let i = c.loop-done.invariant in
-    (i.2.0, i.2.1, (may_next g.E.EventKeeper.may_keep c.loop-done.done c.args.rounds i.2.0 c.loop-done.self c.loop-done-test.true i.2.2).0)
+pub outcomes-requires-clause-rounds : goal.outcomes-requires-clause-rounds
+outcomes-requires-clause-rounds g c = λ lifetimes within. omega (arith, c.loop-done.invariant.0.rounds, c.requires.rounds, c.loop-done-test.true)
 
-pub round_of_run-requires-clause-rounds : goal.round_of_run-requires-clause-rounds
-round_of_run-requires-clause-rounds g c = λ lifetimes within. omega (arith, c.loop-done.invariant.0.rounds, c.requires.rounds, c.loop-done-test.true)
+pub end_round-requires-clause-outcomes : goal.end_round-requires-clause-outcomes
+end_round-requires-clause-outcomes g c = λ lifetimes within.
+    subst (λ (u : Untraced). AreOfNext u c.in_ok-outcomes.outcomes.items) (sym c.outcomes.ensures.stays) c.in_ok-outcomes.ensures.outcomes
+
+pub end_round-requires-clause-rounds : goal.end_round-requires-clause-rounds
+end_round-requires-clause-rounds g c = λ lifetimes within.
+    omega (arith, c.loop-done.invariant.0.rounds, c.requires.rounds, c.loop-done-test.true, ap (λ (u : Untraced). u.rounds) c.outcomes.ensures.stays)
+
+pub end_round-requires-clause-sound : goal.end_round-requires-clause-sound
+end_round-requires-clause-sound g c = λ lifetimes within.
+    let i = c.loop-done.invariant in
+    let may = (may_next g.E.EventKeeper.may_keep c.loop-done.done c.args.rounds i.2.0 c.loop-done.self c.loop-done-test.true i.2.2).0 in
+    (i.2.0, i.2.1, subst (λ (u : Untraced). g.E.EventKeeper.may_keep (i.2.0 ++ next_events u)) (sym c.outcomes.ensures.stays) may)
 
 pub loop-done-preserved : goal.loop-done-preserved
 loop-done-preserved g c =
     let i = c.loop-done.invariant in
-    let one = c.in_ok-round_of_run.ensures in
-    let next = may_next g.E.EventKeeper.may_keep c.loop-done.done c.args.rounds i.2.0 c.loop-done.self c.loop-done-test.true i.2.2 in (
-      then_run c.loop-done.done 1 c.args.self.now c.loop-done.self c.round_of_run.new.self (g.E.EventKeeper.keeps c.args.keeper.now) (g.E.EventKeeper.keeps c.loop-done.keeper) (g.E.EventKeeper.keeps c.round_of_run.new.keeper) i.0 one.run,
-      one.opening ∙ i.1,
-      (
-        i.2.0 ++ next_events c.loop-done.self,
-        one.kept i.2.0 i.2.1,
-        subst (λ (u : Untraced). MayGoOn g.E.EventKeeper.may_keep (c.args.rounds - (c.loop-done.done + 1)) (i.2.0 ++ next_events c.loop-done.self) u) (sym one.ok) next.1,
-      ),
-    )
+    let u = c.loop-done.self in
+    let same = c.outcomes.ensures.stays in
+    let one = c.in_ok-end_round.ensures in
+    let after = g.E.EventKeeper.keeps c.end_round.new.keeper in
+    let ok : c.end_round.new.self ≡ untraced_round u = one.ok ∙ ap untraced_round same in
+    let run = subst (λ (w : Untraced). HasRun 1 w c.end_round.new.self (g.E.EventKeeper.keeps c.loop-done.keeper) after) same one.run in
+    let kept = subst (λ (w : Untraced). (es : List Event) → g.E.EventKeeper.keeps c.loop-done.keeper es → after (es ++ next_events w)) same one.kept in
+    let next = may_next g.E.EventKeeper.may_keep c.loop-done.done c.args.rounds i.2.0 u c.loop-done-test.true i.2.2 in
+    let all = then_run c.loop-done.done 1 c.args.self.now u c.end_round.new.self (g.E.EventKeeper.keeps c.args.keeper.now) (g.E.EventKeeper.keeps c.loop-done.keeper) after i.0 run in
+    let sound = subst (λ (w : Untraced). MayGoOn g.E.EventKeeper.may_keep (c.args.rounds - (c.loop-done.done + 1)) (i.2.0 ++ next_events u) w) (sym ok) next.1 in
+    (all, one.opening ∙ i.1, (i.2.0 ++ next_events u, kept i.2.0 i.2.1, sound))
 
 pub returns-then-running_harts-eq0-clause-ok : goal.returns-then-running_harts-eq0-clause-ok
 returns-then-running_harts-eq0-clause-ok g c =
@@ -46,14 +58,44 @@ returns-then-running_harts-eq0-clause-ok g c =
     subst (λ (n : ℕ). HasRun n c.args.self.now c.pass.new.self (g.E.EventKeeper.keeps c.args.keeper.now) keeps) all
     (then_run c.loop-done.done k c.args.self.now u c.pass.new.self (g.E.EventKeeper.keeps c.args.keeper.now) keeps keeps i.0 passed)
 
-pub returns-in_err-round_of_run-clause-fewer : goal.returns-in_err-round_of_run-clause-fewer
-returns-in_err-round_of_run-clause-fewer g c =
+pub returns-in_err-outcomes-clause-fewer : goal.returns-in_err-outcomes-clause-fewer
+returns-in_err-outcomes-clause-fewer g c =
     let i = c.loop-done.invariant in
-    let none = c.in_err-round_of_run.ensures in
-    let r : c.from_residual.result ≡ Err c.in_err-round_of_run.field-0.0 = search rules in
+    let r : c.from_residual.result ≡ Err c.in_err-outcomes.field-0.0 = search rules in
     rw r (
       c.loop-done.done,
       c.loop-done-test.true,
-      subst (λ (w : Untraced). HasRun c.loop-done.done c.args.self.now w (g.E.EventKeeper.keeps c.args.keeper.now) (g.E.EventKeeper.keeps c.round_of_run.new.keeper)) (sym none.err)
-          (kept_on c.loop-done.done c.args.self.now c.loop-done.self (g.E.EventKeeper.keeps c.args.keeper.now) (g.E.EventKeeper.keeps c.loop-done.keeper) (g.E.EventKeeper.keeps c.round_of_run.new.keeper) i.0 none.untold),
+      subst (λ (w : Untraced). HasRun c.loop-done.done c.args.self.now w (g.E.EventKeeper.keeps c.args.keeper.now) (g.E.EventKeeper.keeps c.loop-done.keeper)) (sym c.outcomes.ensures.stays) i.0,
     )
+
+pub returns-in_err-end_round-clause-fewer : goal.returns-in_err-end_round-clause-fewer
+returns-in_err-end_round-clause-fewer g c =
+    let i = c.loop-done.invariant in
+    let none = c.in_err-end_round.ensures in
+    let keeps = g.E.EventKeeper.keeps c.end_round.new.keeper in
+    let same = none.err ∙ c.outcomes.ensures.stays in
+    let r : c.from_residual-in_err-end_round.result ≡ Err c.in_err-end_round.field-0.0 = search rules in
+    rw r (
+      c.loop-done.done,
+      c.loop-done-test.true,
+      subst (λ (w : Untraced). HasRun c.loop-done.done c.args.self.now w (g.E.EventKeeper.keeps c.args.keeper.now) keeps) (sym same)
+          (kept_on c.loop-done.done c.args.self.now c.loop-done.self (g.E.EventKeeper.keeps c.args.keeper.now) (g.E.EventKeeper.keeps c.loop-done.keeper) keeps i.0 none.untold),
+    )
+
+pub run_kept-requires-clause-rounds : goal.run_kept-requires-clause-rounds
+run_kept-requires-clause-rounds g c = λ lifetimes within. omega (arith, c.loop-done.invariant.0.rounds, c.requires.rounds, c.loop-done-test.true)
+
+pub run_kept-requires-clause-sound : goal.run_kept-requires-clause-sound
+run_kept-requires-clause-sound g c = λ lifetimes within. c.loop-done.invariant.2
+
+pub returns-then-worth_workers-gt1-clause-ok : goal.returns-then-worth_workers-gt1-clause-ok
+returns-then-worth_workers-gt1-clause-ok g c =
+    let all : c.loop-done.done + (c.args.rounds - c.loop-done.done) ≡ c.args.rounds = omega (arith, c.loop-done-test.true) in
+    ran_ok c.run_kept.result c.loop-done.done (c.args.rounds - c.loop-done.done) c.args.rounds c.args.self.now c.loop-done.self c.run_kept.new.self (g.E.EventKeeper.keeps c.args.keeper.now)
+    (g.E.EventKeeper.keeps c.loop-done.keeper) (g.E.EventKeeper.keeps c.run_kept.new.keeper) c.loop-done.invariant.0 c.run_kept.ensures.ran all
+
+pub returns-then-worth_workers-gt1-clause-fewer : goal.returns-then-worth_workers-gt1-clause-fewer
+returns-then-worth_workers-gt1-clause-fewer g c =
+    let all : c.loop-done.done + (c.args.rounds - c.loop-done.done) ≡ c.args.rounds = omega (arith, c.loop-done-test.true) in
+    ran_fewer c.run_kept.result c.loop-done.done (c.args.rounds - c.loop-done.done) c.args.rounds c.args.self.now c.loop-done.self c.run_kept.new.self (g.E.EventKeeper.keeps c.args.keeper.now)
+    (g.E.EventKeeper.keeps c.loop-done.keeper) (g.E.EventKeeper.keeps c.run_kept.new.keeper) c.loop-done.invariant.0 c.run_kept.ensures.ran all

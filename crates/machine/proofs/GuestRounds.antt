@@ -1,0 +1,27 @@
+-- The rounds of a guest's harts, as the guest shows them and as it keeps them.
+use Rattle.std.proofs.Common.{◌≡◌, ℕ, List, length, sym, ◌∙◌, subst}
+use Rattle.round_schedule.specs.Schedule.{hart_rounds}
+use Rattle.round_planner.specs.Quotas.{Planned, quotas_of}
+use Rattle.hart_step.specs.declared.hart.Hart.{Hart}
+use Rattle.hart_step.specs.Words.{words_of}
+use Rattle.serial_phase.specs.declared.shared.SharedState.{SharedState}
+use Rattle.machine.specs.declared.outcome.Outcome.{Outcome}
+use Rattle.machine.specs.Guests.{Guest, guest_of}
+use Rattle.machine.specs.Kept.{AreOfGuest}
+use Rattle.machine.specs.Outcomes.{AreOutcomes}
+use Rattle.machine.proofs.Listed.{same_length}
+use Rattle.machine.proofs.RoundDone.{length-rounds}
+
+pub here_are : (plan : Planned) (n : ℕ) (hs : List Hart) (s : SharedState) (g : Guest) (os : List Outcome) → guest_of hs s ≡ g → AreOfGuest plan n g os →
+    AreOutcomes s.pages.memory (hart_rounds (words_of s.pages.memory.code) s.pages.memory.bytes (quotas_of plan n) hs) os
+here_are plan n hs s g os is a = subst (λ (x : Guest). AreOfGuest plan n x os) (sym is) a
+
+pub many_here : (plan : Planned) (n : ℕ) (hs : List Hart) (s : SharedState) (g : Guest) (os : List Outcome) → guest_of hs s ≡ g → AreOfGuest plan n g os → length os ≡ length hs
+many_here plan n hs s g os is a =
+    let m = s.pages.memory in
+    sym (same_length m _ os (here_are plan n hs s g os is a)) ∙ length-rounds (words_of m.code) m.bytes (quotas_of plan n) hs
+
+pub many_of : (plan : Planned) (n : ℕ) (g : Guest) (os : List Outcome) → AreOfGuest plan n g os → length os ≡ length g.harts
+many_of plan n g os a =
+    let m = g.shared.memory in
+    sym (same_length m _ os a) ∙ length-rounds (words_of m.code) m.bytes (quotas_of plan n) g.harts

@@ -1,0 +1,48 @@
+-- What the rounds of a run start from, by their numbers, and what they leave.
+use Rattle.std.specs.Prelude.{ℕ, zero, suc, ◌+◌, ◌-◌, List, [], ◌∷◌, length}
+use Rattle.round_schedule.specs.Schedule.{hart_rounds}
+use Rattle.round_planner.specs.Quotas.{Planned, quota_of, quotas_of}
+use Rattle.hart_step.specs.Words.{words_of}
+use Rattle.round_lock.specs.Starts.{Start}
+use Rattle.machine.specs.declared.outcome.Outcome.{Outcome}
+use Rattle.machine.specs.Guests.{Guest}
+use Rattle.machine.specs.Outcomes.{AreOutcomes}
+use Rattle.machine.specs.Untraced.{Untraced, untraced_round}
+
+-- the quotas of harts k, k + 1, .., n of them, in a round
+abbrev pub quotas_from : Planned → ℕ → ℕ → ℕ → List ℕ
+quotas_from plan round k zero = []
+quotas_from plan round k (suc n) = quota_of plan round k ∷ quotas_from plan round (suc k) n
+
+-- the guest of a machine that keeps no trace
+abbrev pub guest_in : Untraced → Guest
+guest_in u = record { harts = u.harts; shared = record { memory = record { bytes = u.bytes; code = u.code }; table = u.table; console = u.console } }
+
+-- what the round of a guest after n rounds starts from
+abbrev pub next_start : Planned → ℕ → Guest → Start
+next_start plan n g = record {
+  memory = g.shared.memory;
+  quotas = quotas_from plan (n + 1) 0 (length g.harts);
+  harts = g.harts;
+}
+
+-- the machine after n more rounds
+abbrev pub untraced_rounds : ℕ → Untraced → Untraced
+untraced_rounds zero u = u
+untraced_rounds (suc n) u = untraced_round (untraced_rounds n u)
+
+-- the same of a machine that keeps no trace
+abbrev pub next_start_of : Untraced → Start
+next_start_of u = next_start u.plan u.rounds (guest_in u)
+
+-- the start of each of the next rounds, by the round's number
+abbrev pub start_at : Untraced → ℕ → Start
+start_at u round = next_start_of (untraced_rounds (round - (u.rounds + 1)) u)
+
+-- these are what the rounds of a guest after n rounds left
+abbrev pub AreOfGuest : Planned → ℕ → Guest → List Outcome → Type 0
+AreOfGuest plan n g os = AreOutcomes g.shared.memory (hart_rounds (words_of g.shared.memory.code) g.shared.memory.bytes (quotas_of plan n) g.harts) os
+
+-- the same of a machine's next round
+abbrev pub AreOfNext : Untraced → List Outcome → Type 0
+AreOfNext u os = AreOfGuest u.plan u.rounds (guest_in u) os

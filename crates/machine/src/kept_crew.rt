@@ -1,0 +1,225 @@
+ghost use Rattle.std.specs.Prelude.{◌≡◌, ◌<◌, ◌≤◌, ◌+◌, ◌^◌, ℕ, length, IfOk, IfSome, OnOk, [], Some};
+ghost use Rattle.round_lock.specs.Starts.{content_from, round_at, rounds_of};
+ghost use Rattle.kept_workers.specs.Kept.{Fits, start_of};
+ghost use Rattle.machine.specs.Kept.{AreOfGuest, AreOfNext, next_start, next_start_of};
+ghost use Rattle.machine.specs.Outcomes.{AreOutcomes};
+
+use crate::crew::Crew;
+use crate::guest::GuestState;
+use crate::outcome::{Outcome, round_in_place, set_quotas};
+use crate::running::MANY_LINES;
+use crate::untraced::UntracedMachine;
+use hart_step::{CodeTable, Hart};
+use kept_workers::{Board, KeptRound, KeptStart, RunStarts, StartParts};
+use pages::{OutOfMemory, Pages};
+use parallel_phase::Open;
+use round_lock::RoundStart;
+use round_planner::Plan;
+use serial_phase::SharedState;
+use std::alloc::Global;
+use std::mem;
+use std::sync::Wait;
+use store_buffer::StoreBuffer;
+use trace::Log;
+
+/// Workers that are kept for a run, with what the calling thread needs to share rounds with them.
+#[derive(Drop)]
+pub(crate) struct KeptCrew<'a, S: RunStarts, R> {
+    /// Who commits: threads are started for a commit of many lines.
+    pub(crate) crew: Crew<'a, Open, R>,
+    /// Where the starts of rounds are posted.
+    board: &'a Board<S>,
+    /// What stands in the guest while the workers hold its parts.
+    stand_in: Option<StartParts>,
+    ghost within: { (1 ≤ crew.workers) × (crew.workers ≤ 16) },
+}
+
+impl<'a, S: RunStarts, R> KeptCrew<'a, S, R> {
+    /// A crew that shares rounds by this board.
+    pub(crate) fn new(rt: &'a R, board: &'a Board<S>, shares_logs: bool) -> KeptCrew<'a, S, R> {
+        KeptCrew {
+            crew: Crew {
+                rt,
+                workers: board.workers(),
+                gate: &Open,
+                least_lines: MANY_LINES,
+                shares_logs,
+            },
+            board,
+            stand_in: None,
+        }
+    }
+
+    /// Parts that may stand in a guest for a while, with room for the quotas of so many harts.
+    fn take_stand_in(&mut self, alloc: Global, harts: usize) -> Result<StartParts, OutOfMemory>
+        ensures sized { IfOk result (λ p. length p.quotas.items ≡ harts) }
+    {
+        if let Some(parts) = self.stand_in.take() {
+            if parts.quotas.len() == harts {
+                return Ok(parts);
+            }
+        }
+        stand_in(alloc, harts, self.crew.shares_logs)
+    }
+}
+
+/// A page of memory, and no hart.
+fn stand_in(alloc: Global, harts: usize, shares_logs: bool) -> Result<StartParts, OutOfMemory>
+    ensures { IfOk result (λ p. length p.quotas.items ≡ harts) }
+{
+    let pages = Pages::new(alloc, 1, &[], &[])?;
+    let table = CodeTable::new(alloc, &pages, 0, 0)?;
+    Ok(StartParts {
+        pages,
+        table,
+        harts: Vec::new(alloc),
+        quotas: Vec::from_elem(alloc, 0, harts)?,
+        shares_logs,
+    })
+}
+
+/// Has the parts change places with those of a guest.
+fn swap_parts(harts: &mut Vec<Hart>, shared: &mut SharedState, parts: &mut StartParts)
+    ensures harts { harts.new ≡ parts.old.harts }
+    ensures shared { shared.new ≡
+        record shared.old { pages = parts.old.pages; code = parts.old.table } }
+    ensures parts { parts.new ≡ record parts.old {
+      pages = shared.old.pages;
+      table = shared.old.code;
+      harts = harts.old;
+    } }
+{
+    mem::swap(harts, &mut parts.harts);
+    mem::swap(&mut shared.pages, &mut parts.pages);
+    mem::swap(&mut shared.code, &mut parts.table);
+}
+
+impl<S: RunStarts, R: Wait> KeptCrew<'_, S, R> {
+    /// Does the rounds of all harts of a machine, whose next round starts as the run says. Refused or not, the machine is as it
+    /// was.
+    pub(crate) fn outcomes(
+        &mut self,
+        machine: &mut UntracedMachine,
+    ) -> Result<Vec<Outcome>, OutOfMemory>
+        requires start { S.starts (machine.old.rounds + 1) ≡ next_start_of machine.old }
+        requires rounds { machine.old.rounds + 1 < 2 ^ 32 }
+        ensures stays { machine.new ≡ machine.old }
+        ensures outcomes { IfOk result (λ os. AreOfNext machine.old os.items) }
+    {
+        self.outcomes_of_guest(&mut machine.guest, &machine.plan, machine.rounds)
+    }
+
+    /// The same of a guest after so many rounds.
+    fn outcomes_of_guest(
+        &mut self,
+        guest: &mut GuestState,
+        plan: &Plan,
+        done: u32,
+    ) -> Result<Vec<Outcome>, OutOfMemory>
+        requires start { S.starts (done + 1) ≡ next_start plan.now done guest.old }
+        requires harts { length guest.old.harts ≡ plan.now.harts }
+        requires done { done + 1 < 2 ^ 32 }
+        ensures guest { guest.new ≡ guest.old }
+        ensures outcomes { IfOk result (λ os. AreOfGuest plan.now done guest.old os.items) }
+    {
+        let alloc = guest.shared.pages.allocator();
+        let room = mem::replace(&mut guest.outcomes, Vec::new(alloc));
+        // At most 64.
+        let _harts = plan.harts();
+        let mut parts = self.take_stand_in(alloc, guest.harts.len())?;
+        let round = done + 1;
+        set_quotas(plan, round, parts.quotas.as_mut_slice());
+        swap_parts(&mut guest.harts, &mut guest.shared, &mut parts);
+        let start = KeptStart::new(round, parts);
+        let (start, rounds) = self.board.share(self.crew.rt, start);
+        let outcomes = in_order(&start, rounds, room);
+        let mut parts = start.into_parts();
+        swap_parts(&mut guest.harts, &mut guest.shared, &mut parts);
+        self.stand_in = Some(parts);
+        outcomes
+    }
+}
+
+/// The rounds of all harts in hart order, in a list that is taken for its room.
+fn in_order<S: RunStarts>(
+    start: &KeptStart<S>,
+    mut rounds: Vec<KeptRound<S>>,
+    mut room: Vec<Outcome>,
+) -> Result<Vec<Outcome>, OutOfMemory>
+    requires { Fits start.now.parts }
+    ensures { IfOk result (λ os.
+        AreOutcomes start.now.parts.pages.memory (rounds_of (start_of start.now.parts)) os.items) }
+{
+    let count = start.parts.harts.len();
+    room.clear();
+    room.reserve(count)?;
+    for number in 0..count {
+        let outcome = outcome_of_hart(start, &mut rounds, number)?;
+        room.push_reserved(outcome);
+    }
+    Ok(room)
+}
+
+/// What the round of a hart left. Where it is missing among those that were done, it is done here and now.
+fn outcome_of_hart<S: RunStarts>(
+    start: &KeptStart<S>,
+    rounds: &mut Vec<KeptRound<S>>,
+    number: usize,
+) -> Result<Outcome, OutOfMemory>
+    requires { number < length start.now.parts.harts.items }
+    ensures { IfOk result (λ o. round_at (start_of start.now.parts) number ≡
+        Some (content_from o.hart o.buffer o.log o.waits)) }
+{
+    match take_round(rounds, start.round, number) {
+        Some(round) => Ok(outcome_of(round)),
+        None => outcome_alone(number, &start.lent()),
+    }
+}
+
+/// The round of a hart, if it is among these.
+fn take_round<S: RunStarts>(
+    rounds: &mut Vec<KeptRound<S>>,
+    round: u32,
+    number: usize,
+) -> Option<KeptRound<S>>
+    ensures { IfSome result (λ r. (r.round ≡ round) × (r.number ≡ number)) }
+{
+    let place = rounds.iter().position(|done| done.is_of(round, number))?;
+    let found = rounds.swap_remove(place);
+    if found.is_of(round, number) {
+        Some(found)
+    } else {
+        None
+    }
+}
+
+/// What a round left.
+fn outcome_of<S: RunStarts>(round: KeptRound<S>) -> Outcome
+    ensures { round_at (S.starts round.round) round.number ≡
+        Some (content_from result.hart result.buffer result.log result.waits) }
+{
+    let (hart, buffer, log, waits) = round.into_parts();
+    Outcome {
+        hart,
+        buffer,
+        log,
+        waits,
+    }
+}
+
+/// What the round of a hart leaves, done here and now.
+fn outcome_alone(number: usize, start: &RoundStart<'_>) -> Result<Outcome, OutOfMemory>
+    requires { number < length start.now.harts }
+    ensures { IfOk result (λ o. round_at start.now number ≡
+        Some (content_from o.hart o.buffer o.log o.waits)) }
+{
+    let alloc = start.pages().allocator();
+    let mut outcome = Outcome {
+        hart: start.harts()[number],
+        buffer: StoreBuffer::new(alloc),
+        log: Log::of(Vec::new(alloc)),
+        waits: false,
+    };
+    round_in_place(number, start, &mut outcome)?;
+    Ok(outcome)
+}
