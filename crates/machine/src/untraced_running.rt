@@ -201,6 +201,7 @@ impl UntracedMachine {
                 return Ok(());
             }
             if self.worth_workers(workers) > 1 {
+                let workers = workers.min(self.running_harts());
                 return self.run_kept(rt, rounds - done, workers, keeper, observer);
             }
             let crew = Crew {
