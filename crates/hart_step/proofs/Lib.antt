@@ -1,5 +1,6 @@
 pub mod Products
 pub mod Room
+pub mod RunTurns
 pub mod Shown
 pub mod Spares
 pub mod Turns
@@ -12,4 +13,6 @@ pub mod Formation
 pub mod Stopping
 pub mod Listed
 pub mod Paused
+pub mod Ran
+pub mod SimpleRuns
 pub mod Zeroed

@@ -12,6 +12,7 @@ pub mod Registers
 pub mod Room
 pub mod Rounds
 pub mod SerialStep
+pub mod Simple
 pub mod Step
 pub mod Stops
 pub mod Waiting

@@ -1,4 +1,4 @@
-ghost use Rattle.std.specs.Prelude.{◌≡◌, true, Some};
+ghost use Rattle.std.specs.Prelude.{◌≡◌, ◌≢◌, true, Some};
 ghost use Rattle.round_schedule.specs.declared.access.Stepped.TheVariants.{Done};
 ghost use Rattle.hart_step.specs.Registers.{HoldsZero, reg, set_reg};
 ghost use Rattle.hart_step.specs.Step.{fenced, next_pc, stopped_with, went_on};
@@ -59,6 +59,15 @@ impl Hart {
         if r.index() != 0 {
             self.x[r.index()] = value;
         }
+    }
+
+    /// Sets a register other than x0, with no look whether it is x0.
+    #[inline(always)]
+    pub(crate) fn set_other_reg(&mut self, r: Reg, value: u64)
+        requires { r ≢ 0 }
+        ensures { self.new ≡ record self.old { x = set_reg self.old.x r value } }
+    {
+        self.x[r.index()] = value;
     }
 
     /// Counts the instruction as done, and goes on at an address.

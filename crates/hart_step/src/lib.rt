@@ -14,6 +14,8 @@ mod listing;
 mod numbers;
 mod performing;
 mod rounds;
+mod runs;
+mod simple;
 mod stepping;
 
 pub use amo::amo_value;
