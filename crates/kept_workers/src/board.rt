@@ -13,7 +13,8 @@ use std::sync::{Arc, Condvar, Mutex, Wait};
 #[derive(Drop)]
 pub struct Board<S: RunStarts> {
     alloc: Global,
-    workers: u32,
+    /// How many workers it is for.
+    pub workers: u32,
     posted: Mutex<Posted<S>>,
     // Told to those who serve: a start was posted, or the board is closed.
     news: Condvar,
@@ -26,6 +27,7 @@ impl<S: RunStarts> Board<S> {
     /// A board with no start, for so many workers, of which the one who posts is one. This takes no memory.
     pub fn new(alloc: Global, workers: u32) -> Board<S>
         requires { (1 ≤ workers) × (workers ≤ 16) }
+        ensures { result.workers ≡ workers }
     {
         Board {
             alloc,
@@ -40,13 +42,6 @@ impl<S: RunStarts> Board<S> {
             news: Condvar::new(),
             leaving: Condvar::new(),
         }
-    }
-
-    /// How many workers it is for.
-    pub fn workers(&self) -> u32
-        ensures { (1 ≤ result) × (result ≤ 16) }
-    {
-        self.workers
     }
 
     /// Works on each start that is posted, until the board is closed. Threads do so at once.

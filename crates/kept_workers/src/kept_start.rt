@@ -5,7 +5,6 @@ ghost use Rattle.kept_workers.specs.Kept.{Fits, start_of};
 use hart_step::{CodeTable, Hart};
 use pages::Pages;
 use round_lock::RoundStart;
-use std::alloc::Global;
 use std::marker::{Brand, PhantomData};
 use std::sync::atomic::{AtomicU64, Ordering};
 
@@ -94,10 +93,5 @@ impl<S: RunStarts> KeptStart<S> {
         } else {
             None
         }
-    }
-
-    /// Where its memory comes from.
-    pub(crate) fn allocator(&self) -> Global {
-        self.parts.pages.allocator()
     }
 }

@@ -40,7 +40,7 @@ impl<'a, S: RunStarts, R> KeptCrew<'a, S, R> {
         KeptCrew {
             crew: Crew {
                 rt,
-                workers: board.workers(),
+                workers: board.workers,
                 gate: &Open,
                 least_lines: MANY_LINES,
                 shares_logs,
