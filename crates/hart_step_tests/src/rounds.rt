@@ -1,6 +1,6 @@
 use crate::harness::{hart, memory};
 use hart_step::{Buffered, CodeTable, Hart, hart_round, step};
-use pages::Width;
+use pages::{Pages, Piece, Range, Width};
 use round_schedule::Access;
 use std::alloc::Global;
 use std::test::Fail;
@@ -60,6 +60,51 @@ fn x0_reads_0_in_a_round(rt: HostRuntime) -> Result<(), Fail> {
         let (h, waits) = after_x0(rt.alloc(), held)?;
         assert!(rt; waits);
         assert_eq!(rt; (h.done, h.x[3], h.x[2], h.x[0]), (3, 3, 7, held));
+    }
+    Ok(())
+}
+
+/// The hart after a round over 300 words that each add 1 to x1, and an ECALL, and whether it waits.
+fn after_adding(alloc: Global, quota: u32) -> Result<(Hart, bool), Fail> {
+    let mut code = [0u8; 1204];
+    for i in 0..300 {
+        // ADDI x1,x1,1
+        code[4 * i..4 * i + 4].copy_from_slice(&0x0010_8093u32.to_le_bytes());
+    }
+    code[1200] = 0x73;
+    let piece = Piece {
+        start: 0,
+        bytes: code.to_vec(alloc)?,
+    };
+    let range = Range {
+        start: 0,
+        len: 1204,
+    };
+    let mut pages = Pages::new(alloc, 1, &[piece], &[range])?;
+    let table = CodeTable::new(alloc, &pages, 0, 301)?;
+    let mut h = hart(0, 0);
+    let mut log = Vec::new(alloc);
+    let waits = hart_round(&mut h, &mut pages, &table, quota, &mut log)?;
+    Ok((h, waits))
+}
+
+// Words that only compute are done many at a time: the quota ends them as it ends one after another.
+#[test]
+fn a_quota_ends_among_words_that_compute(rt: HostRuntime) -> Result<(), Fail> {
+    for (quota, done, waits) in [
+        (1, 1, false),
+        (254, 254, false),
+        (255, 255, false),
+        (256, 256, false),
+        (257, 257, false),
+        (300, 300, false),
+        (301, 300, true),
+    ] {
+        let (h, waited) = after_adding(rt.alloc(), quota)?;
+        assert_eq!(rt;
+            (h.pc, h.done, h.x[1], waited),
+            (4 * done, done, done, waits)
+        );
     }
     Ok(())
 }
