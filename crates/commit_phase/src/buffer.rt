@@ -23,7 +23,9 @@ pub fn commit_buffer(pages: &mut Pages, table: &mut Reservations, hart: u32, buf
     ensures table { (h : ℕ) → h < length table.old → entry table.new h ≡ (if hart == h then entry
         table.old h else unless (covered (stores_of buffer.now)) (entry table.old h)) }
 {
+    let unready = pages.unready();
     write_shard(pages.parts(), 0, buffer);
+    pages.keep_unready(unready);
     break_others(table, hart, buffer);
 }
 

@@ -23,7 +23,9 @@ pub fn commit<B: Buffered>(pages: &mut Pages, table: &mut Reservations, rounds: 
     ensures table { (h : ℕ) → h < length table.old →
         entry table.new h ≡ unless (covered_from 0 h (map B.bytes rounds.now)) (entry table.old h) }
 {
+    let unready = pages.unready();
     write_all(pages.parts(), 0, rounds);
+    pages.keep_unready(unready);
     break_all(table, rounds);
 }
 

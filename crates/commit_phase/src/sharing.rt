@@ -43,7 +43,9 @@ pub fn commit_on<R: Threads + Sync, B: Buffered + Sync, G: ShardGate + Sync>(
 {
     let count = pages.count();
     let size = count.div_ceil(workers).max(1);
+    let unready = pages.unready();
     write_beside(rt, pages.parts(), size as usize, rounds, workers, gate);
+    pages.keep_unready(unready);
     break_all(table, rounds);
 }
 

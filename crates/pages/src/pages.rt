@@ -11,7 +11,7 @@ ghost use Rattle.pages.specs.Paged.{all_ready, applied, count_unready, is_page_r
 
 use crate::code::{all_code_at, has_word_at, touches_code};
 use crate::making::{bounds_of, copies_of, parts_of, share_all};
-use crate::prepare::{add_spares, make_all_ready, put_into, ready_page};
+use crate::prepare::{add_spares, count_all, count_kept, make_all_ready, put_into, ready_page};
 use crate::spare::Spare;
 use crate::{Fault, OutOfMemory, Part, Piece, Range, Store, Width};
 use std::alloc::Global;
@@ -22,6 +22,8 @@ use std::marker::Model;
 pub struct Pages {
     parts: Vec<Part>,
     spares: Vec<Spare>,
+    // How many pages are not ready, where that is known.
+    unready: Option<u32>,
     code: Vec<Range>,
     code_start: u64,
     code_end: u64,
@@ -46,7 +48,7 @@ impl Model for Pages {
     } };
 
     ghost invariant = { λ p.
-        Kept p.parts.items (length p.spares.items) p.code.items p.code_start p.code_end };
+        Kept p.parts.items (length p.spares.items) p.unready p.code.items p.code_start p.code_end };
 }
 
 impl Pages {
@@ -66,9 +68,12 @@ impl Pages {
         ensures { IfOk result (λ p. p ≡ initial count pieces.now code.now) }
     {
         let (code_start, code_end) = bounds_of(code);
+        let parts = parts_of(alloc, count, pieces)?;
+        let unready = Some(count_all(&parts));
         Ok(Pages {
-            parts: parts_of(alloc, count, pieces)?,
+            parts,
             spares: Vec::new(alloc),
+            unready,
             code: Vec::from_slice(alloc, code)?,
             code_start,
             code_end,
@@ -84,6 +89,7 @@ impl Pages {
         Ok(Pages {
             parts: copies_of(alloc, &self.parts)?,
             spares: Vec::new(alloc),
+            unready: self.unready,
             code: Vec::from_slice(alloc, &self.code)?,
             code_start: self.code_start,
             code_end: self.code_end,
@@ -107,7 +113,10 @@ impl Pages {
         ensures spare { self.new.spare ≡ self.old.spare }
         ensures count { length self.new.ready ≡ length self.old.ready }
     {
+        // Refused, it is not known how many share what they hold.
+        self.unready = None;
         share_all(alloc, self.parts.as_mut_slice())?;
+        self.unready = Some(self.count());
         self.copy(alloc)
     }
 
@@ -127,6 +136,23 @@ impl Pages {
         ensures { result ≡ self.now.spare }
     {
         self.spares.len() as u32
+    }
+
+    /// How many pages are not ready. The number is kept, so that each page is looked at only where `parts` lent them since.
+    pub fn unready(&self) -> u32
+        ensures { result ≡ count_unready self.now.ready }
+    {
+        count_kept(&self.parts, self.unready)
+    }
+
+    /// Keeps how many pages are not ready. A caller that did no more than stores on pages that `parts` lent knows it, and so
+    /// spares the next count the look at each page.
+    #[inline]
+    pub fn keep_unready(&mut self, unready: u32)
+        requires { unready ≡ count_unready self.old.ready }
+        ensures { self.new ≡ self.old }
+    {
+        self.unready = Some(unready);
     }
 
     /// Whether a page is ready. None is past the last.
@@ -264,8 +290,13 @@ impl Pages {
             is_page_ready self.new p ≡ true }
     {
         let parts = self.parts.as_mut_slice();
-        make_all_ready(alloc, parts, &mut self.spares, pages)?;
-        add_spares(alloc, parts, &mut self.spares, spare as usize)
+        make_all_ready(alloc, parts, &mut self.spares, &mut self.unready, pages)?;
+        if self.spares.len() >= spare as usize {
+            return Ok(());
+        }
+        let unready = count_kept(parts, self.unready);
+        self.unready = Some(unready);
+        add_spares(alloc, &mut self.spares, unready as usize, spare as usize)
     }
 
     /// Does a store that has no fault, on a page that is ready or with a spare page left. It takes no memory.
@@ -276,17 +307,24 @@ impl Pages {
         ensures { self.new ≡ applied self.old s }
     {
         let parts = self.parts.as_mut_slice();
-        ready_page(parts, &mut self.spares, (s.address / 4096) as usize);
+        ready_page(
+            parts,
+            &mut self.spares,
+            &mut self.unready,
+            (s.address / 4096) as usize,
+        );
         put_into(parts, s);
     }
 
-    /// The pages, one part each, in rising order.
+    /// The pages, one part each, in rising order. How many are not ready has to be counted again, or told by `keep_unready`.
     #[inline]
     pub fn parts(&mut self) -> &mut [Part]
         ensures* writes_back { sem 𝓛 (LendsParts self.entry result) }
         ensures bytes { flat result.now ≡ self.old.memory.bytes }
         ensures ready { map is_ready result.now ≡ self.old.ready }
     {
+        // Other pages may come back.
+        self.unready = None;
         self.parts.as_mut_slice()
     }
 }

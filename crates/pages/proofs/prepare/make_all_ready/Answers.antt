@@ -13,4 +13,5 @@ loop-page-preserved c =
       ready = made ∙ ap (λ rs. slice_set rs page true) c.loop-page.invariant.ready ∙ sym (ready_next (map is_ready c.args.parts.now) c.args.pages.now c.loop-page.page-index (search rules));
       stays = λ p h. subst (λ (rs : List Bool). get_or rs p false ≡ true) (sym made) (stays_ready (map is_ready c.loop-page.parts) page p (c.loop-page.invariant.stays p h));
       spares = search rules;
+      counted = search rules;
     }

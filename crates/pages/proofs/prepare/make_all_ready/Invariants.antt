@@ -1,5 +1,6 @@
 use Rattle.std.proofs.Common.{◌≡◌, ◌≤◌, ℕ, vec_len, map, take, true, false, get_or}
 use Rattle.pages.specs.Flat.{flat, is_ready}
+use Rattle.pages.specs.Kept.{IsCounted}
 use Rattle.pages.specs.Paged.{all_ready}
 use Rattle.pages.proofs.prepare.make_all_ready.Given as goal
 
@@ -9,4 +10,5 @@ invariant-loop-page l = record {
   ready : map is_ready l.parts ≡ all_ready (map is_ready l.initial.parts) (take l.page-index l.pages);
   stays : (p : ℕ) → get_or (map is_ready l.initial.parts) p false ≡ true → get_or (map is_ready l.parts) p false ≡ true;
   spares : vec_len l.spares ≤ vec_len l.initial.spares;
+  counted : IsCounted l.unready (map is_ready l.parts);
 }
