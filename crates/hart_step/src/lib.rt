@@ -1,6 +1,7 @@
 //! One instruction of one hart, over any memory bus.
 #![tactic(auto)]
 
+mod access_log;
 mod amo;
 mod answer;
 mod buffered;
@@ -18,6 +19,7 @@ mod runs;
 mod simple;
 mod stepping;
 
+pub use access_log::{AccessCount, AccessLog};
 pub use amo::amo_value;
 pub use answer::Answer;
 pub use buffered::Buffered;

@@ -1,6 +1,6 @@
 use crate::harness::{hart, memory};
-use hart_step::{Buffered, CodeTable, Hart, hart_round, step};
-use pages::{Pages, Piece, Range, Width};
+use hart_step::{AccessCount, AccessLog, Buffered, CodeTable, Hart, hart_round, step};
+use pages::{Pages, Piece, Range, Store, Width};
 use round_schedule::Access;
 use std::alloc::Global;
 use std::test::Fail;
@@ -21,6 +21,40 @@ fn a_round(rt: HostRuntime) -> Result<(), Fail> {
     assert_eq!(rt; (h.pc, h.done, h.x[1]), (12, 9, 0));
     assert_eq!(rt; log.len(), 3);
     assert_eq!(rt; size_of::<Access>(), 40);
+    Ok(())
+}
+
+/// The hart after a round of up to so many instructions, whether it waits, and the stores in its buffer.
+fn buffered_round<L: AccessLog>(
+    alloc: Global,
+    quota: u32,
+    log: &mut L,
+) -> Result<(Hart, bool, Vec<Store>), Fail> {
+    // ADDI x1,x1,-1; SD x1,256(x0); BNE x1,x0,-8; ECALL
+    let pages = memory(alloc, [0xfff0_8093, 0x1010_3023, 0xfe00_9ce3, 0x0000_0073])?;
+    let table = CodeTable::new(alloc, &pages, 0, 4)?;
+    let mut h = hart(3, 0);
+    let mut bus = Buffered::new(alloc, &pages);
+    let waits = hart_round(&mut h, &mut bus, &table, quota, log)?;
+    let mut stores = Vec::new(alloc);
+    for store in bus.into_buffer().stores() {
+        stores.push(store)?;
+    }
+    Ok((h, waits, stores))
+}
+
+#[test]
+fn a_count_is_as_good_as_a_list(rt: HostRuntime) -> Result<(), Fail> {
+    for (quota, accesses) in [(1, 0), (4, 1), (100, 3)] {
+        let mut list: Vec<Access> = Vec::new(rt.alloc());
+        let mut count = AccessCount { count: 0 };
+        let (h, waits, stores) = buffered_round(rt.alloc(), quota, &mut list)?;
+        let (other, ends, bytes) = buffered_round(rt.alloc(), quota, &mut count)?;
+        assert!(rt; h == other);
+        assert_eq!(rt; waits, ends);
+        assert_eq!(rt; stores.as_slice(), bytes.as_slice());
+        assert_eq!(rt; (list.len(), count.count), (accesses, accesses as u64));
+    }
     Ok(())
 }
 

@@ -1,12 +1,12 @@
 -- What kept workers take and leave.
 use Rattle.std.specs.Prelude.{◌≡◌, ◌≤◌, length}
 use Rattle.hart_step.specs.CodeTables.{Shows}
-use Rattle.round_lock.specs.Starts.{Start}
+use Rattle.round_lock.specs.Starts.{Start, keeps_log}
 use Rattle.kept_workers.specs.declared.kept_start.StartParts.{StartParts}
 
 -- what a round starts from that has these parts
 abbrev pub start_of : StartParts → Start
-start_of p = record { memory = p.pages.memory; quotas = p.quotas.items; harts = p.harts.items }
+start_of p = record { memory = p.pages.memory; quotas = p.quotas.items; harts = p.harts.items; logs = keeps_log p.form }
 
 -- the parts fit one another: a quota for each of at most 64 harts, and a table that shows memory
 pub record Fits (p : StartParts) : Type 0 where

@@ -4,6 +4,7 @@ ghost use Rattle.std.specs.Arc.{arc_value};
 use crate::kept_round::KeptRound;
 use crate::kept_start::{KeptStart, RunStarts};
 use crate::posted::Posted;
+use hart_step::Access;
 use pages::OutOfMemory;
 use std::alloc::Global;
 use std::mem;
@@ -47,11 +48,12 @@ impl<S: RunStarts> Board<S> {
     /// Works on each start that is posted, until the board is closed. Threads do so at once.
     pub fn serve<R: Wait>(&self, rt: &R) {
         let mut seen = 0;
+        let mut room = Vec::new(self.alloc);
         for _ in rt.forever() {
             let Some(start) = self.next_start(rt, &mut seen) else {
                 return;
             };
-            let rounds = rounds_of(self.alloc, &start);
+            let rounds = rounds_of(self.alloc, &start, &mut room);
             drop(start);
             self.posted.lock(rt).leave(rounds);
             self.leaving.notify_one();
@@ -83,7 +85,8 @@ impl<S: RunStarts> Board<S> {
             Err(refused) => return (refused.value, Vec::new(self.alloc)),
         };
         self.post(rt, &shared);
-        let mut rounds = rounds_of(self.alloc, &shared);
+        let mut room = Vec::new(self.alloc);
+        let mut rounds = rounds_of(self.alloc, &shared, &mut room);
         let mut others = self.recall(rt);
         let _ = rounds.append(&mut others);
         (sole(rt, shared), rounds)
@@ -118,14 +121,19 @@ impl<S: RunStarts> Board<S> {
     }
 }
 
-/// Claims harts of a start and does their rounds until all are claimed, or memory is refused.
-fn rounds_of<S: RunStarts>(alloc: Global, start: &KeptStart<S>) -> Vec<KeptRound<S>> {
+/// Claims harts of a start and does their rounds until all are claimed, or memory is refused. `room` is taken for the accesses of a
+/// round while it goes on.
+fn rounds_of<S: RunStarts>(
+    alloc: Global,
+    start: &KeptStart<S>,
+    room: &mut Vec<Access>,
+) -> Vec<KeptRound<S>> {
     let mut rounds = Vec::new(alloc);
     for _ in 0..start.parts.harts.len() {
         let Some(number) = start.claim() else {
             break;
         };
-        let Ok(round) = KeptRound::of(start, number) else {
+        let Ok(round) = KeptRound::of(start, number, room) else {
             break;
         };
         if rounds.push(round).is_err() {

@@ -2,12 +2,11 @@ ghost use Rattle.std.specs.Prelude.{◌≡◌, ◌<◌, ◌↔◌, true, length,
 ghost use Rattle.round_lock.specs.Starts.{content_from, round_at};
 
 use crate::kept_start::{KeptStart, RunStarts};
-use hart_step::Hart;
+use hart_step::{Access, Hart};
 use pages::OutOfMemory;
-use parallel_phase::logged_round;
+use parallel_phase::round_from;
+use round_lock::RoundLeft;
 use std::marker::PhantomData;
-use store_buffer::StoreBuffer;
-use trace::Log;
 
 /// The round of one hart: what the hart comes to from the start of a round of the run. Its type keeps that it is that.
 #[derive(Drop)]
@@ -18,32 +17,30 @@ pub struct KeptRound<S: RunStarts> {
     pub number: u32,
     /// The hart after its round.
     pub hart: Hart,
-    /// The stores that it did.
-    pub buffer: StoreBuffer,
-    /// Its accesses, in program order.
-    pub log: Log,
-    /// Whether its next instruction is for the serial phase.
-    pub waits: bool,
+    /// What the round left beside it.
+    pub left: RoundLeft,
     of: PhantomData<S>,
     ghost content: { round_at (S.starts round) number ≡
-        Some (content_from hart buffer log waits) },
+        Some (content_from hart left.buffer left.log left.accesses left.waits) },
 }
 
 impl<S: RunStarts> KeptRound<S> {
-    /// Does the round of a hart.
-    pub(crate) fn of(start: &KeptStart<S>, number: usize) -> Result<KeptRound<S>, OutOfMemory>
+    /// Does the round of a hart. `room` is taken for its accesses while the round goes on: what it holds is let go.
+    pub(crate) fn of(
+        start: &KeptStart<S>,
+        number: usize,
+        room: &mut Vec<Access>,
+    ) -> Result<KeptRound<S>, OutOfMemory>
         requires { number < length start.now.parts.harts.items }
     {
         let lent = start.lent();
         let mut hart = lent.harts()[number];
-        let (buffer, log, waits) = logged_round(number, &lent, &mut hart)?;
+        let left = round_from(number, &lent, &mut hart, room)?;
         Ok(KeptRound {
             round: start.round,
             number: number as u32,
             hart,
-            buffer,
-            log,
-            waits,
+            left,
             of: PhantomData,
         })
     }
@@ -55,18 +52,12 @@ impl<S: RunStarts> KeptRound<S> {
         self.round == round && self.number as usize == number
     }
 
-    /// The hart, its stores, its accesses, and whether it waits.
-    pub fn into_parts(self) -> (Hart, StoreBuffer, Log, bool)
-        ensures { round_at (S.starts self.round) self.number ≡
-            Some (content_from result.0 result.1 result.2 result.3) }
+    /// The hart, and what the round left beside it.
+    pub fn into_parts(self) -> (Hart, RoundLeft)
+        ensures { round_at (S.starts self.round) self.number ≡ Some (content_from result.0
+            result.1.buffer result.1.log result.1.accesses result.1.waits) }
     {
-        let KeptRound {
-            hart,
-            buffer,
-            log,
-            waits,
-            ..
-        } = self;
-        (hart, buffer, log, waits)
+        let KeptRound { hart, left, .. } = self;
+        (hart, left)
     }
 }

@@ -4,7 +4,7 @@ ghost use Rattle.kept_workers.specs.Kept.{Fits, start_of};
 
 use hart_step::{CodeTable, Hart};
 use pages::Pages;
-use round_lock::RoundStart;
+use round_lock::{LogForm, RoundStart};
 use std::marker::{Brand, PhantomData};
 use std::sync::atomic::{AtomicU64, Ordering};
 
@@ -28,8 +28,8 @@ pub struct StartParts {
     pub harts: Vec<Hart>,
     /// The quota of each hart.
     pub quotas: Vec<u32>,
-    /// Whether long logs are put in brief, for a trace to take over.
-    pub shares_logs: bool,
+    /// What becomes of the harts' accesses.
+    pub form: LogForm,
 }
 
 /// The start of a round of a run, which several workers read at once. Its type keeps that it is that.
@@ -68,11 +68,7 @@ impl<S: RunStarts> KeptStart<S> {
     {
         let parts = &self.parts;
         let start = RoundStart::new(&parts.pages, &parts.table, &parts.harts, &parts.quotas);
-        if parts.shares_logs {
-            start.sharing_logs()
-        } else {
-            start
-        }
+        start.with_form(parts.form)
     }
 
     /// What it starts from, handed back.

@@ -42,8 +42,8 @@ same_bytes : (p q r : Paged) (bs cs : List ℕ) → HasBytes p bs q → HasBytes
 same_bytes p q r bs cs a b = record { bytes = b.bytes; code = b.code ∙ a.code; count = b.count ∙ a.count; stays = λ page h. b.stays page (a.stays page h) }
 
 no_turns : (turn : Turn) (s : SharedState) → HadTurns turn [] s s
-no_turns turn s m [] c a eb ec et = record { pages = record { bytes = sym eb; code = refl; count = refl; stays = λ page h. h }; table = sym et; console = sym ec }
-no_turns turn s m (r ∷ rs) c a eb ec et = absurd a
+no_turns turn s logs m [] c a eb ec et = record { pages = record { bytes = sym eb; code = refl; count = refl; stays = λ page h. h }; table = sym et; console = sym ec }
+no_turns turn s logs m (r ∷ rs) c a eb ec et = absurd a
 
 -- the turn of a hart with this outcome, and the one of the next hart
 abbrev pub turn_for : Turn → Outcome → Turn
@@ -54,8 +54,8 @@ next_turn turn = record turn { hart = turn.hart + 1 }
 
 turns_more : (turn : Turn) (o : Outcome) (os : List Outcome) (s s' u : SharedState) (k : Turns) (h : Hart) →
     TakesTurn (turn_done (turn_for turn o) o.hart s) h s s' → HadTurns (next_turn turn) os (record s' { log = k }) u → HadTurns turn (o ∷ os) s u
-turns_more turn o os s s' u k h x y m [] c a eb ec et = absurd a
-turns_more turn o os s s' u k h x y m (r ∷ rs) c a eb ec et =
+turns_more turn o os s s' u k h x y logs m [] c a eb ec et = absurd a
+turns_more turn o os s s' u k h x y logs m (r ∷ rs) c a eb ec et =
     let n = turn.round in
     let first = turn.hart in
     let budget = turn.budget in
@@ -69,7 +69,7 @@ turns_more turn o os s s' u k h x y m (r ∷ rs) c a eb ec et =
     ∙ ap (λ (e : ConsoleState). tabled_turn r.waits r.last.hart c.bytes e s.reservations) (sym ec)
     ∙ ap (λ (table : List (Option Span)). tabled_turn r.waits r.last.hart c.bytes c.console table) (sym et) in
     let x' = subst (λ (z : TabledTurn Hart ConsoleState). TakesTurn z h s s') same x in
-    let z = y m rs (tabled_phase_joined c D) a.1 (sym x'.pages.bytes) (sym x'.console) (sym x'.table) in
+    let z = y logs m rs (tabled_phase_joined c D) a.1 (sym x'.pages.bytes) (sym x'.console) (sym x'.table) in
     let next : first + 1 ≡ suc first = omega arith in
     let w = subst (λ (j : ℕ). LeftBy (tabled_phase_from W budget n j rs (tabled_phase_joined c D)) (record s' { log = k }) u) next
     (subst (λ (code : List Range). LeftBy (tabled_phase_from (words_of code) budget n (first + 1) rs (tabled_phase_joined c D)) (record s' { log = k }) u) x'.pages.code z) in
@@ -111,12 +111,12 @@ sums_0 budget k o os some is e = omega (arith, sums budget 0 k o os some is e)
 
 -- ---- the first outcomes are those of the first rounds
 
-pub first_outcomes : (m : Memory) (i : ℕ) (rs : List (HartRound Hart)) (os : List Outcome) → AreOutcomes m rs os → AreOutcomes m (take i rs) (take i os)
-first_outcomes m zero rs os a = tt
-first_outcomes m (suc i) [] [] a = tt
-first_outcomes m (suc i) (r ∷ rs) [] a = absurd a
-first_outcomes m (suc i) [] (o ∷ os) a = absurd a
-first_outcomes m (suc i) (r ∷ rs) (o ∷ os) a = (a.0, first_outcomes m i rs os a.1)
+pub first_outcomes : (logs : Bool) (m : Memory) (i : ℕ) (rs : List (HartRound Hart)) (os : List Outcome) → AreOutcomes logs m rs os → AreOutcomes logs m (take i rs) (take i os)
+first_outcomes logs m zero rs os a = tt
+first_outcomes logs m (suc i) [] [] a = tt
+first_outcomes logs m (suc i) (r ∷ rs) [] a = absurd a
+first_outcomes logs m (suc i) [] (o ∷ os) a = absurd a
+first_outcomes logs m (suc i) (r ∷ rs) (o ∷ os) a = (a.0, first_outcomes logs m i rs os a.1)
 
 -- ---- a hart in its own turn
 
@@ -145,17 +145,17 @@ found_further budget count h d e le less differ =
 
 -- ---- after a commit and the turns before it
 
-pub begun_there : (turn : Turn) (place : TurnPlace) (h : Hart) (old : Shared) (rs : List (HartRound Hart)) (os : List Outcome) (ready : Paged) (start end : SharedState) →
-    turn ≡ record { hart = 0; round = place.round; budget = place.budget } → AreOutcomes old.memory rs os → ready.memory ≡ old.memory → Committed rs ready start.pages old.table start.reservations →
+pub begun_there : (logs : Bool) (turn : Turn) (place : TurnPlace) (h : Hart) (old : Shared) (rs : List (HartRound Hart)) (os : List Outcome) (ready : Paged) (start end : SharedState) →
+    turn ≡ record { hart = 0; round = place.round; budget = place.budget } → AreOutcomes logs old.memory rs os → ready.memory ≡ old.memory → Committed rs ready start.pages old.table start.reservations →
     start.console.console ≡ old.console → HadTurns turn (take place.hart os) start end →
     found_at end.pages.memory.code place (tabled_turn_begun h end.pages.memory.bytes end.console.console end.reservations) ≡ found_in old place h rs
-begun_there turn place h old rs os ready start end first a same committed console had =
+begun_there logs turn place h old rs os ready start end first a same committed console had =
     let m = old.memory in
     let i = place.hart in
     let memory : start.pages.memory ≡ stored m (all_stores rs) = committed.memory ∙ ap (λ (x : Memory). stored x (all_stores rs)) same in
     let c : TabledPhase Hart ConsoleState = ready_for_turns old rs in
     let had' = subst (λ (t : Turn). HadTurns t (take i os) start end) first had in
-    let left = had' m (take i rs) c (first_outcomes m i rs os a) (sym (ap (λ (x : Memory). x.bytes) memory)) (sym console) (sym committed.table) in
+    let left = had' logs m (take i rs) c (first_outcomes logs m i rs os a) (sym (ap (λ (x : Memory). x.bytes) memory)) (sym console) (sym committed.table) in
     let code : start.pages.memory.code ≡ m.code = ap (λ (x : Memory). x.code) memory in
     let there = subst (λ (z : List Range). LeftBy (tabled_phase_from (words_of z) place.budget place.round 0 (take i rs) c) start end) code left in
     let s : TabledPhase Hart ConsoleState = tabled_phase_from (words_of m.code) place.budget place.round 0 (take i rs) c in

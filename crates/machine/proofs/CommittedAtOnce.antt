@@ -26,24 +26,24 @@ pub all_writable : (p : Paged) (os : List Outcome) → AreFit p.memory os → Ar
 all_writable p [] f r = λ k d low. absurd (omega arith)
 all_writable p (o ∷ os) f r = All-cons (IsWritable p) o.buffer (buffers os) (record { fits = f.0; ready = r.0 }) (all_writable p os f.1 r.1)
 
-same_bytes : (m : Memory) (bs : List ℕ) (rs : List (HartRound Hart)) (os : List Outcome) → AreOutcomes m rs os → after bs (all_buffered (buffers os)) ≡ after bs (all_stores rs)
-same_bytes m bs [] [] a = refl
-same_bytes m bs (r ∷ rs) [] a = absurd a
-same_bytes m bs [] (o ∷ os) a = absurd a
-same_bytes m bs (r ∷ rs) (o ∷ os) a =
+same_bytes : (logs : Bool) (m : Memory) (bs : List ℕ) (rs : List (HartRound Hart)) (os : List Outcome) → AreOutcomes logs m rs os → after bs (all_buffered (buffers os)) ≡ after bs (all_stores rs)
+same_bytes logs m bs [] [] a = refl
+same_bytes logs m bs (r ∷ rs) [] a = absurd a
+same_bytes logs m bs [] (o ∷ os) a = absurd a
+same_bytes logs m bs (r ∷ rs) (o ∷ os) a =
     after-append bs (stores_of o.buffer) (all_buffered (buffers os))
     ∙ ap (λ (es : List (ℕ × ℕ)). after (after bs (stores_of es)) (all_buffered (buffers os))) a.0.buffer
     ∙ ap (λ (cs : List ℕ). after cs (all_buffered (buffers os))) (after_with_stores [] bs r.last.stores tt)
-    ∙ same_bytes m (after bs r.last.stores) rs os a.1
+    ∙ same_bytes logs m (after bs r.last.stores) rs os a.1
     ∙ sym (after-append bs r.last.stores (all_stores rs))
 
-same_cover : (m : Memory) (i h x : ℕ) (rs : List (HartRound Hart)) (os : List Outcome) → AreOutcomes m rs os → covered_from i h (buffers os) x ≡ covered_by_others h i rs x
-same_cover m i h x [] [] a = refl
-same_cover m i h x (r ∷ rs) [] a = absurd a
-same_cover m i h x [] (o ∷ os) a = absurd a
-same_cover m i h x (r ∷ rs) (o ∷ os) a =
+same_cover : (logs : Bool) (m : Memory) (i h x : ℕ) (rs : List (HartRound Hart)) (os : List Outcome) → AreOutcomes logs m rs os → covered_from i h (buffers os) x ≡ covered_by_others h i rs x
+same_cover logs m i h x [] [] a = refl
+same_cover logs m i h x (r ∷ rs) [] a = absurd a
+same_cover logs m i h x [] (o ∷ os) a = absurd a
+same_cover logs m i h x (r ∷ rs) (o ∷ os) a =
     ap₂ (λ (c d : Bool). cond (i == h) false c || d) (ap (λ (es : List (ℕ × ℕ)). covered (stores_of es) x) a.0.buffer ∙ covered-with_stores [] r.last.stores x)
-    (same_cover m (suc i) h x rs os a.1)
+    (same_cover logs m (suc i) h x rs os a.1)
 
 -- what a commit of all buffers leaves
 pub record WrittenOver (os : List Outcome) (p q : Paged) (old new : List (Option Span)) : Type 0 where
@@ -53,9 +53,9 @@ pub record WrittenOver (os : List Outcome) (p q : Paged) (old new : List (Option
   pub size : length new ≡ length old
   pub table : (h : ℕ) → h < length old → entry new h ≡ unless (covered_from 0 h (buffers os)) (entry old h)
 
-pub committed_at_once : (os : List Outcome) (p q : Paged) (old new : List (Option Span)) → WrittenOver os p q old new → (rs : List (HartRound Hart)) → AreOutcomes p.memory rs os → Committed rs p q old new
-committed_at_once os p q old new w rs a =
+pub committed_at_once : (os : List Outcome) (p q : Paged) (old new : List (Option Span)) → WrittenOver os p q old new → (logs : Bool) (rs : List (HartRound Hart)) → AreOutcomes logs p.memory rs os → Committed rs p q old new
+committed_at_once os p q old new w logs rs a =
     all_committed rs p q old new
-    (w.memory ∙ ap (λ (bs : List ℕ). record p.memory { bytes = bs }) (same_bytes p.memory p.memory.bytes rs os a))
+    (w.memory ∙ ap (λ (bs : List ℕ). record p.memory { bytes = bs }) (same_bytes logs p.memory p.memory.bytes rs os a))
     w.ready w.spare w.size
-    (λ h low. w.table h low ∙ unless_same _ _ (entry old h) (λ x. same_cover p.memory 0 h x rs os a))
+    (λ h low. w.table h low ∙ unless_same _ _ (entry old h) (λ x. same_cover logs p.memory 0 h x rs os a))

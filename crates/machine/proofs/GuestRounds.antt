@@ -1,5 +1,5 @@
 -- The rounds of a guest's harts, as the guest shows them and as it keeps them.
-use Rattle.std.proofs.Common.{◌≡◌, ℕ, List, length, sym, ◌∙◌, subst}
+use Rattle.std.proofs.Common.{◌≡◌, Bool, ℕ, List, length, sym, ◌∙◌, subst}
 use Rattle.round_schedule.specs.Schedule.{hart_rounds}
 use Rattle.round_planner.specs.Quotas.{Planned, quotas_of}
 use Rattle.hart_step.specs.declared.hart.Hart.{Hart}
@@ -12,16 +12,16 @@ use Rattle.machine.specs.Outcomes.{AreOutcomes}
 use Rattle.machine.proofs.Listed.{same_length}
 use Rattle.machine.proofs.RoundDone.{length-rounds}
 
-pub here_are : (plan : Planned) (n : ℕ) (hs : List Hart) (s : SharedState) (g : Guest) (os : List Outcome) → guest_of hs s ≡ g → AreOfGuest plan n g os →
-    AreOutcomes s.pages.memory (hart_rounds (words_of s.pages.memory.code) s.pages.memory.bytes (quotas_of plan n) hs) os
-here_are plan n hs s g os is a = subst (λ (x : Guest). AreOfGuest plan n x os) (sym is) a
+pub here_are : (logs : Bool) (plan : Planned) (n : ℕ) (hs : List Hart) (s : SharedState) (g : Guest) (os : List Outcome) → guest_of hs s ≡ g → AreOfGuest logs plan n g os →
+    AreOutcomes logs s.pages.memory (hart_rounds (words_of s.pages.memory.code) s.pages.memory.bytes (quotas_of plan n) hs) os
+here_are logs plan n hs s g os is a = subst (λ (x : Guest). AreOfGuest logs plan n x os) (sym is) a
 
-pub many_here : (plan : Planned) (n : ℕ) (hs : List Hart) (s : SharedState) (g : Guest) (os : List Outcome) → guest_of hs s ≡ g → AreOfGuest plan n g os → length os ≡ length hs
-many_here plan n hs s g os is a =
+pub many_here : (logs : Bool) (plan : Planned) (n : ℕ) (hs : List Hart) (s : SharedState) (g : Guest) (os : List Outcome) → guest_of hs s ≡ g → AreOfGuest logs plan n g os → length os ≡ length hs
+many_here logs plan n hs s g os is a =
     let m = s.pages.memory in
-    sym (same_length m _ os (here_are plan n hs s g os is a)) ∙ length-rounds (words_of m.code) m.bytes (quotas_of plan n) hs
+    sym (same_length logs m _ os (here_are logs plan n hs s g os is a)) ∙ length-rounds (words_of m.code) m.bytes (quotas_of plan n) hs
 
-pub many_of : (plan : Planned) (n : ℕ) (g : Guest) (os : List Outcome) → AreOfGuest plan n g os → length os ≡ length g.harts
-many_of plan n g os a =
+pub many_of : (logs : Bool) (plan : Planned) (n : ℕ) (g : Guest) (os : List Outcome) → AreOfGuest logs plan n g os → length os ≡ length g.harts
+many_of logs plan n g os a =
     let m = g.shared.memory in
-    sym (same_length m _ os a) ∙ length-rounds (words_of m.code) m.bytes (quotas_of plan n) g.harts
+    sym (same_length logs m _ os a) ∙ length-rounds (words_of m.code) m.bytes (quotas_of plan n) g.harts

@@ -1,5 +1,5 @@
 -- What the rounds of a run start from that are shared with kept workers.
-use Rattle.std.proofs.Common.{◌≡◌, ℕ, suc, ◌+◌, ◌-◌, ◌<◌, List, [], ◌∷◌, length, get_or, refl, sym, ap, ap₂, ◌∙◌, subst, arith, add-one}
+use Rattle.std.proofs.Common.{◌≡◌, Bool, ℕ, suc, ◌+◌, ◌-◌, ◌<◌, List, [], ◌∷◌, length, get_or, refl, sym, ap, ap₂, ◌∙◌, subst, arith, add-one}
 use Rattle.pages.specs.Memory.{Memory}
 use Rattle.round_schedule.specs.Schedule.{HartRound, hart_rounds}
 use Rattle.round_planner.specs.Quotas.{Planned, quota_of, quotas_of}
@@ -25,29 +25,29 @@ pub quotas_set : (plan : Planned) (round n : ℕ) (qs : List ℕ) → n ≡ leng
 quotas_set plan round n qs many f = subst (λ (k : ℕ). qs ≡ quotas_from plan round 0 k) (sym many) (shifted plan round 0 qs (λ h low. let none : h ≡ 0 + h = omega arith in f h (omega (arith, low, many)) ∙ ap (quota_of plan round) none))
 
 -- the machine that has done k of the rounds starts its next one as it was said
-pub starts_there : (starts : ℕ → Start) (k : ℕ) (u v : Untraced) → ((n : ℕ) → starts n ≡ start_at u n) → v ≡ untraced_rounds k u → v.rounds ≡ u.rounds + k → starts (v.rounds + 1) ≡ next_start_of v
-starts_there starts k u v f is at =
+pub starts_there : (logs : Bool) (starts : ℕ → Start) (k : ℕ) (u v : Untraced) → ((n : ℕ) → starts n ≡ start_at logs u n) → v ≡ untraced_rounds k u → v.rounds ≡ u.rounds + k → starts (v.rounds + 1) ≡ next_start_of logs v
+starts_there logs starts k u v f is at =
     let less : (v.rounds + 1) - (u.rounds + 1) ≡ k = omega (arith, at) in
-    f (v.rounds + 1) ∙ ap (λ (n : ℕ). next_start_of (untraced_rounds n u)) less ∙ ap next_start_of (sym is)
+    f (v.rounds + 1) ∙ ap (λ (n : ℕ). next_start_of logs (untraced_rounds n u)) less ∙ ap (next_start_of logs) (sym is)
 
-abbrev starting : Memory → List ℕ → List Hart → Start
-starting m qs hs = record { memory = m; quotas = qs; harts = hs }
+abbrev starting : Memory → List ℕ → List Hart → Bool → Start
+starting m qs hs b = record { memory = m; quotas = qs; harts = hs; logs = b }
 
 -- two starts of the same parts
-pub same_start : (m w : Memory) (qs ps : List ℕ) (hs gs : List Hart) → m ≡ w → qs ≡ ps → hs ≡ gs →
-    ◌≡◌ {A = Start} (record { memory = m; quotas = qs; harts = hs }) (record { memory = w; quotas = ps; harts = gs })
-same_start m w qs ps hs gs em eq eh =
-    ap (λ (x : Memory). starting x qs hs) em ∙ ap (λ (x : List ℕ). starting w x hs) eq ∙ ap (λ (x : List Hart). starting w ps x) eh
+pub same_start : (m w : Memory) (qs ps : List ℕ) (hs gs : List Hart) (a b : Bool) → m ≡ w → qs ≡ ps → hs ≡ gs → a ≡ b →
+    ◌≡◌ {A = Start} (record { memory = m; quotas = qs; harts = hs; logs = a }) (record { memory = w; quotas = ps; harts = gs; logs = b })
+same_start m w qs ps hs gs a b em eq eh el =
+    ap (λ (x : Memory). starting x qs hs a) em ∙ ap (λ (x : List ℕ). starting w x hs a) eq ∙ ap (λ (x : List Hart). starting w ps x a) eh ∙ ap (λ (x : Bool). starting w ps gs x) el
 
 -- outcomes of rounds with quotas that were set one by one
-pub of_guest : (plan : Planned) (n : ℕ) (m : Memory) (qs : List ℕ) (hs : List Hart) (g : Guest) (os : List Outcome) → ((h : ℕ) → h < length hs → get_or qs h 0 ≡ quota_of plan (n + 1) h) →
-    m ≡ g.shared.memory → hs ≡ g.harts → AreOutcomes m (hart_rounds (words_of m.code) m.bytes qs hs) os → AreOfGuest plan n g os
-of_guest plan n m qs hs g os f em eh a =
+pub of_guest : (logs : Bool) (plan : Planned) (n : ℕ) (m : Memory) (qs : List ℕ) (hs : List Hart) (g : Guest) (os : List Outcome) → ((h : ℕ) → h < length hs → get_or qs h 0 ≡ quota_of plan (n + 1) h) →
+    m ≡ g.shared.memory → hs ≡ g.harts → AreOutcomes logs m (hart_rounds (words_of m.code) m.bytes qs hs) os → AreOfGuest logs plan n g os
+of_guest logs plan n m qs hs g os f em eh a =
     let less : (n + 1) - 1 ≡ n = omega arith in
     let rounds = same_rounds (words_of m.code) m.bytes qs (quotas_of plan n) hs (λ k low. f k low ∙ ap (λ (x : ℕ). get_or (quotas_of plan x) k 0) less) in
-    subst (λ (x : Memory). AreOutcomes x (hart_rounds (words_of x.code) x.bytes (quotas_of plan n) g.harts) os) em
-    (subst (λ (xs : List Hart). AreOutcomes m (hart_rounds (words_of m.code) m.bytes (quotas_of plan n) xs) os) eh
-    (subst (λ (rs : List (HartRound Hart)). AreOutcomes m rs os) rounds a))
+    subst (λ (x : Memory). AreOutcomes logs x (hart_rounds (words_of x.code) x.bytes (quotas_of plan n) g.harts) os) em
+    (subst (λ (xs : List Hart). AreOutcomes logs m (hart_rounds (words_of m.code) m.bytes (quotas_of plan n) xs) os) eh
+    (subst (λ (rs : List (HartRound Hart)). AreOutcomes logs m rs os) rounds a))
 
 pub one_more : (k : ℕ) (u : Untraced) → untraced_round (untraced_rounds k u) ≡ untraced_rounds (k + 1) u
 one_more k u = ap (λ (n : ℕ). untraced_rounds n u) (sym (add-one k))

@@ -1,5 +1,5 @@
 -- Facts of the outcomes, by their places.
-use Rattle.std.proofs.Common.{◌≡◌, ℕ, zero, suc, ◌+◌, ◌/◌, ◌<◌, List, [], ◌∷◌, ◌++◌, length, take, get_or, refl, sym, ap, ◌∙◌, subst, arith, below_more}
+use Rattle.std.proofs.Common.{◌≡◌, Bool, ℕ, zero, suc, ◌+◌, ◌/◌, ◌<◌, List, [], ◌∷◌, ◌++◌, length, take, get_or, refl, sym, ap, ◌∙◌, subst, arith, below_more}
 use Rattle.std.proofs.lemmas.List.{take_more, get_or_default}
 use Rattle.pages.specs.Memory.{Memory}
 use Rattle.pages.specs.Paged.{Paged}
@@ -13,11 +13,11 @@ fit_at m [] i d low f = absurd (omega arith)
 fit_at m (o ∷ os) zero d low f = f.0
 fit_at m (o ∷ os) (suc i) d low f = fit_at m os i d (omega arith) f.1
 
-pub same_length : (m : Memory) (rs : List (HartRound Hart)) (os : List Outcome) → AreOutcomes m rs os → length rs ≡ length os
-same_length m [] [] a = refl
-same_length m (r ∷ rs) [] a = absurd a
-same_length m [] (o ∷ os) a = absurd a
-same_length m (r ∷ rs) (o ∷ os) a = ap suc (same_length m rs os a.1)
+pub same_length : (logs : Bool) (m : Memory) (rs : List (HartRound Hart)) (os : List Outcome) → AreOutcomes logs m rs os → length rs ≡ length os
+same_length logs m [] [] a = refl
+same_length logs m (r ∷ rs) [] a = absurd a
+same_length logs m [] (o ∷ os) a = absurd a
+same_length logs m (r ∷ rs) (o ∷ os) a = ap suc (same_length logs m rs os a.1)
 
 -- ---- pages that are made ready
 
@@ -60,8 +60,8 @@ pub ready_kept : (p q : Paged) (os : List Outcome) → KeepsPages p q → AreRea
 ready_kept p q [] k f = tt
 ready_kept p q (o ∷ os) k f = (still_on p q o.buffer k f.0, ready_kept p q os k f.1)
 
-pub are_fit : (m : Memory) (rs : List (HartRound Hart)) (os : List Outcome) → AreOutcomes m rs os → AreFit m os
-are_fit m [] [] a = tt
-are_fit m (r ∷ rs) [] a = absurd a
-are_fit m [] (o ∷ os) a = absurd a
-are_fit m (r ∷ rs) (o ∷ os) a = (a.0.fits, are_fit m rs os a.1)
+pub are_fit : (logs : Bool) (m : Memory) (rs : List (HartRound Hart)) (os : List Outcome) → AreOutcomes logs m rs os → AreFit m os
+are_fit logs m [] [] a = tt
+are_fit logs m (r ∷ rs) [] a = absurd a
+are_fit logs m [] (o ∷ os) a = absurd a
+are_fit logs m (r ∷ rs) (o ∷ os) a = (a.0.fits, are_fit logs m rs os a.1)

@@ -26,7 +26,7 @@ use Rattle.serial_phase.specs.declared.shared.SerialRound.{SerialRound}
 use Rattle.serial_phase.specs.declared.shared.SharedState.{SharedState}
 use Rattle.serial_phase.specs.Turns.{Turns}
 use Rattle.machine.specs.declared.outcome.Outcome.{Outcome}
-use Rattle.machine.specs.Outcomes.{AreOutcomes, mask_of, waits_of, harts_of, outcome_events, round_events, turns_of, count_log, count_true}
+use Rattle.machine.specs.Outcomes.{AreOutcomes, mask_of, waits_of, harts_of, events_of_rounds, outcome_events, round_events, turns_of, count_log, count_true}
 use Rattle.machine.specs.Machine.{count_waiting}
 use Rattle.machine.specs.Guests.{Guest, Shared, guest_after, guest_of, guest_round, shared_of}
 use Rattle.machine.specs.Rounds.{IsFinished}
@@ -75,31 +75,44 @@ length-harts (o ∷ os) = ap suc (length-harts os)
 
 -- ---- the serial phase from the outcomes
 
-tabled_phase_same : (W : Words Hart ConsoleState) (budget n i w : ℕ) (m : Memory) (rs : List (HartRound Hart)) (os : List Outcome) (s : TabledPhase Hart ConsoleState) → AreOutcomes m rs os →
+tabled_phase_same : (W : Words Hart ConsoleState) (budget n i w : ℕ) (logs : Bool) (m : Memory) (rs : List (HartRound Hart)) (os : List Outcome) (s : TabledPhase Hart ConsoleState) → AreOutcomes logs m rs os →
     ((k : ℕ) → k < length os → is_waiting w (i + k) ≡ get_or (waits_of os) k false) → tabled_phase_from W budget n i (waiting_rounds w i (harts_of os)) s ≡ tabled_phase_from W budget n i rs s
-tabled_phase_same W budget n i w m [] [] s a f = refl
-tabled_phase_same W budget n i w m (r ∷ rs) [] s a f = absurd a
-tabled_phase_same W budget n i w m [] (o ∷ os) s a f = absurd a
-tabled_phase_same W budget n i w m (r ∷ rs) (o ∷ os) s a f =
+tabled_phase_same W budget n i w logs m [] [] s a f = refl
+tabled_phase_same W budget n i w logs m (r ∷ rs) [] s a f = absurd a
+tabled_phase_same W budget n i w logs m [] (o ∷ os) s a f = absurd a
+tabled_phase_same W budget n i w logs m (r ∷ rs) (o ∷ os) s a f =
     let waits : is_waiting w i ≡ r.waits = ap (is_waiting w) (omega arith) ∙ f 0 (omega arith) ∙ a.0.waits in
-    tabled_phase_same W budget n (suc i) w m rs os (tabled_phase_joined s (tabled_turn_of W budget n s i o.hart (is_waiting w i))) a.1 (λ k low. ap (is_waiting w) (omega arith) ∙ f (suc k) (omega arith))
+    tabled_phase_same W budget n (suc i) w logs m rs os (tabled_phase_joined s (tabled_turn_of W budget n s i o.hart (is_waiting w i))) a.1 (λ k low. ap (is_waiting w) (omega arith) ∙ f (suc k) (omega arith))
     ∙ ap (λ (h : Hart). tabled_phase_from W budget n (suc i) rs (tabled_phase_joined s (tabled_turn_of W budget n s i h (is_waiting w i)))) a.0.hart
     ∙ ap (λ (b : Bool). tabled_phase_from W budget n (suc i) rs (tabled_phase_joined s (tabled_turn_of W budget n s i r.last.hart b))) waits
 
-pub serial_is : (phase : SerialRound) (m : Memory) (rs : List (HartRound Hart)) (os : List Outcome) (start : SharedState) → AreOutcomes m rs os → phase.waiting ≡ mask_of (waits_of os) →
+pub serial_is : (phase : SerialRound) (logs : Bool) (m : Memory) (rs : List (HartRound Hart)) (os : List Outcome) (start : SharedState) → AreOutcomes logs m rs os → phase.waiting ≡ mask_of (waits_of os) →
     serial_done phase (harts_of os) start
     ≡ tabled_phase_from (words_of start.pages.memory.code) phase.budget phase.round 0 rs (record { harts = []; bytes = start.pages.memory.bytes; console = start.console.console; table = start.reservations; log = [] })
-serial_is phase m rs os start a w =
-    tabled_phase_same (words_of start.pages.memory.code) phase.budget phase.round 0 phase.waiting m rs os _ a
+serial_is phase logs m rs os start a w =
+    tabled_phase_same (words_of start.pages.memory.code) phase.budget phase.round 0 phase.waiting logs m rs os _ a
     (λ k low. ap (λ (x : ℕ). is_waiting x (0 + k)) w ∙ ap (is_waiting (mask_of (waits_of os))) (omega arith) ∙ waiting_bit (waits_of os) k)
 
-pub events_are : (m : Memory) (n i : ℕ) (rs : List (HartRound Hart)) (os : List Outcome) → AreOutcomes m rs os → outcome_events n i os ≡ events_from n i rs
+-- where the outcomes have the accesses, their events are those of the rounds
+events_are : (m : Memory) (n i : ℕ) (rs : List (HartRound Hart)) (os : List Outcome) → AreOutcomes true m rs os → outcome_events n i os ≡ events_from n i rs
 events_are m n i [] [] a = refl
 events_are m n i (r ∷ rs) [] a = absurd a
 events_are m n i [] (o ∷ os) a = absurd a
 events_are m n i (r ∷ rs) (o ∷ os) a =
-    ap (λ (as' : List Access). events_of n i Parallel as' ++ outcome_events n (suc i) os) a.0.accesses
+    ap (λ (as' : List Access). events_of n i Parallel as' ++ outcome_events n (suc i) os) a.0.log
     ∙ ap (λ (es : List Event). events_of n i Parallel r.last.accesses ++ es) (events_are m n (suc i) rs os a.1)
+
+-- what holds of the events of rounds holds of those of their outcomes, where these have the accesses, or else of any events
+pub by_outcomes : (P : List Event → Type 0) (logs : Bool) → (logs ≡ false → (es fs : List Event) → P es → P fs) → (m : Memory) (n : ℕ) (rs : List (HartRound Hart)) (os : List Outcome) (closed : List (List Access)) (es : List Event) →
+    AreOutcomes logs m rs os → P (es ++ events_of_rounds n rs closed) → P (es ++ round_events n os closed)
+by_outcomes P true any m n rs os closed es a p = subst (λ (fs : List Event). P (es ++ (fs ++ log_events n 0 closed))) (sym (events_are m n 0 rs os a)) p
+by_outcomes P false any m n rs os closed es a p = any refl (es ++ events_of_rounds n rs closed) (es ++ round_events n os closed) p
+
+-- and the other way round
+pub by_rounds : (P : List Event → Type 0) (logs : Bool) → (logs ≡ false → (es fs : List Event) → P es → P fs) → (m : Memory) (n : ℕ) (rs : List (HartRound Hart)) (os : List Outcome) (closed : List (List Access)) (es : List Event) →
+    AreOutcomes logs m rs os → P (es ++ round_events n os closed) → P (es ++ events_of_rounds n rs closed)
+by_rounds P true any m n rs os closed es a p = subst (λ (fs : List Event). P (es ++ (fs ++ log_events n 0 closed))) (events_are m n 0 rs os a) p
+by_rounds P false any m n rs os closed es a p = any refl (es ++ round_events n os closed) (es ++ events_of_rounds n rs closed) p
 
 -- ---- how long the log gets
 
@@ -186,21 +199,25 @@ pub length-rounds : (W : Words Hart ConsoleState) (bs qs : List ℕ) (hs : List 
 length-rounds W bs qs [] = refl
 length-rounds W bs qs (h ∷ hs) = ap suc (length-rounds W bs (rest_of qs) hs)
 
-pub finished_done : (plan : Planned) (phase : SerialRound) (n : ℕ) (old new : Guest) (more : List Event) (os : List Outcome) →
-    AreOutcomes old.shared.memory (hart_rounds (words_of old.shared.memory.code) old.shared.memory.bytes (quotas_of plan n) old.harts) os →
-    phase.budget ≡ plan.budget → phase.round ≡ n + 1 → phase.waiting ≡ mask_of (waits_of os) → IsFinished phase os old.shared new more →
+-- the rounds of a guest's harts after n rounds
+abbrev pub next_rounds : Planned → ℕ → Guest → List (HartRound Hart)
+next_rounds plan n g = hart_rounds (words_of g.shared.memory.code) g.shared.memory.bytes (quotas_of plan n) g.harts
+
+pub finished_done : (logs : Bool) (plan : Planned) (phase : SerialRound) (n : ℕ) (old new : Guest) (more : List Event) (os : List Outcome) →
+    AreOutcomes logs old.shared.memory (next_rounds plan n old) os →
+    phase.budget ≡ plan.budget → phase.round ≡ n + 1 → phase.waiting ≡ mask_of (waits_of os) → IsFinished phase (next_rounds plan n old) os old.shared new more →
     DoneWith (guest_round plan n old) old new more
 unfolding tabled_round
-finished_done plan phase n old new more os a budget round waiting x =
+finished_done logs plan phase n old new more os a budget round waiting x =
     let m = old.shared.memory in
     let W = words_of m.code in
     let rs = hart_rounds W m.bytes (quotas_of plan n) old.harts in
-    let committed = x.committed rs a in
+    let committed = x.committed in
     let memory : x.start.pages.memory ≡ stored m (all_stores rs) = committed.memory ∙ ap (λ (y : Memory). stored y (all_stores rs)) x.kept in
     let from : ℕ → ℕ → List Range → List ℕ → ConsoleState → List (Option Span) → TabledPhase Hart ConsoleState =
     λ b k code bs c t. tabled_phase_from (words_of code) b k 0 rs (record { harts = []; bytes = bs; console = c; table = t; log = [] }) in
     let done : serial_done phase (harts_of os) x.start ≡ from plan.budget (n + 1) m.code (after m.bytes (all_stores rs)) old.shared.console (committed_table 0 rs old.shared.table) =
-    serial_is phase m rs os x.start a waiting
+    serial_is phase logs m rs os x.start a waiting
     ∙ ap (λ (b : ℕ). from b phase.round x.start.pages.memory.code x.start.pages.memory.bytes x.start.console.console x.start.reservations) budget
     ∙ ap (λ (k : ℕ). from plan.budget k x.start.pages.memory.code x.start.pages.memory.bytes x.start.console.console x.start.reservations) round
     ∙ ap (λ (y : Memory). from plan.budget (n + 1) y.code y.bytes x.start.console.console x.start.reservations) memory
@@ -216,16 +233,15 @@ finished_done plan phase n old new more os a budget round waiting x =
           (ap (λ (y : Shared). y.table) left ∙ served.table ∙ ap (λ (y : TabledPhase Hart ConsoleState). y.table) done)
           (ap (λ (y : Shared). y.console) left ∙ served.console ∙ ap (λ (y : TabledPhase Hart ConsoleState). y.console) done);
       events = x.events
-          ∙ ap (λ (k : ℕ). round_events k os x.end.log.closed) round
-          ∙ ap (λ (y : List Event). y ++ log_events (n + 1) 0 x.end.log.closed) (events_are m (n + 1) 0 rs os a)
+          ∙ ap (λ (k : ℕ). events_of_rounds k rs x.end.log.closed) round
           ∙ ap (λ (y : List (List Access)). events_from (n + 1) 0 rs ++ log_events (n + 1) 0 y) (served.log ∙ ap (λ (y : TabledPhase Hart ConsoleState). y.log) done);
     }
 
-pub waited_is : (m : Memory) (rs : List (HartRound Hart)) (os : List Outcome) → AreOutcomes m rs os → count_true (waits_of os) ≡ count_waiting rs
-waited_is m [] [] a = refl
-waited_is m (r ∷ rs) [] a = absurd a
-waited_is m [] (o ∷ os) a = absurd a
-waited_is m (r ∷ rs) (o ∷ os) a = ap (λ (b : Bool). cond b 1 0 + count_true (waits_of os)) a.0.waits ∙ ap (λ (n : ℕ). cond r.waits 1 0 + n) (waited_is m rs os a.1)
+pub waited_is : (logs : Bool) (m : Memory) (rs : List (HartRound Hart)) (os : List Outcome) → AreOutcomes logs m rs os → count_true (waits_of os) ≡ count_waiting rs
+waited_is logs m [] [] a = refl
+waited_is logs m (r ∷ rs) [] a = absurd a
+waited_is logs m [] (o ∷ os) a = absurd a
+waited_is logs m (r ∷ rs) (o ∷ os) a = ap (λ (b : Bool). cond b 1 0 + count_true (waits_of os)) a.0.waits ∙ ap (λ (n : ℕ). cond r.waits 1 0 + n) (waited_is logs m rs os a.1)
 
 abbrev pub whole : List Hart → List ℕ → ConsoleState → List Event → ℕ → State Hart ConsoleState
 whole hs bs c es k = record { harts = hs; bytes = bs; console = c; trace = es; rounds = k }
@@ -251,11 +267,11 @@ unfolding tabled_round
 rounds_next W budget quotas m = refl
 
 -- a round that goes on so is finished
-pub finished_from : (phase : SerialRound) (os : List Outcome) (gs : List Hart) (old ready start end : SharedState) → ready.pages.memory ≡ old.pages.memory →
-    ((rs : List (HartRound Hart)) → AreOutcomes old.pages.memory rs os → Committed rs ready.pages start.pages old.reservations start.reservations) →
+pub finished_from : (phase : SerialRound) (rs : List (HartRound Hart)) (os : List Outcome) (gs : List Hart) (old ready start end : SharedState) → ready.pages.memory ≡ old.pages.memory →
+    Committed rs ready.pages start.pages old.reservations start.reservations →
     start.console.console ≡ old.console.console → TakesTurns (serial_done phase (harts_of os) start) gs start end →
-    IsFinished phase os (shared_of old) (guest_of gs end) (round_events phase.round os end.log.closed)
-finished_from phase os gs old ready start end kept committed console served = record {
+    IsFinished phase rs os (shared_of old) (guest_of gs end) (events_of_rounds phase.round rs end.log.closed)
+finished_from phase rs os gs old ready start end kept committed console served = record {
   ready = ready.pages;
   start = start;
   end = end;

@@ -1,5 +1,5 @@
 -- The rounds of the harts, gathered and put in hart order.
-use Rattle.std.proofs.Common.{◌≡◌, ℕ, zero, suc, ◌+◌, ◌<◌, List, [], ◌∷◌, ◌++◌, length, take, get_or, Some, refl, sym, ap, ap₂, ◌∙◌, subst, arith, add-one}
+use Rattle.std.proofs.Common.{◌≡◌, ℕ, zero, suc, ◌+◌, ◌<◌, List, [], ◌∷◌, ◌++◌, Bool, length, take, get_or, Some, refl, sym, ap, ap₂, ◌∙◌, subst, arith, add-one}
 use Rattle.pages.specs.Memory.{Memory}
 use Rattle.round_schedule.specs.Schedule.{Words, HartRound, hart_rounds, hart_round_of, first_or_zero, rest_of}
 use Rattle.hart_step.specs.declared.hart.Hart.{Hart}
@@ -28,20 +28,20 @@ rounds_next w bs qs (h ∷ hs) (suc i) d low =
     ap (λ (rs : List (HartRound Hart)). hart_round_of w bs (first_or_zero qs) h ∷ rs) (rounds_next w bs (rest_of qs) hs i d (omega arith))
     ∙ ap (λ (q : ℕ). hart_round_of w bs (first_or_zero qs) h ∷ (hart_rounds w bs (rest_of qs) (take i hs) ++ hart_round_of w bs q (get_or hs i d) ∷ [])) (rest_is qs i)
 
-outcomes-push : (m : Memory) (rs : List (HartRound Hart)) (os : List Outcome) (r : HartRound Hart) (o : Outcome) → AreOutcomes m rs os → IsOutcome m r o → AreOutcomes m (rs ++ r ∷ []) (os ++ o ∷ [])
-outcomes-push m [] [] r o a b = (b, tt)
-outcomes-push m (x ∷ rs) [] r o a b = absurd a
-outcomes-push m [] (x ∷ os) r o a b = absurd a
-outcomes-push m (x ∷ rs) (y ∷ os) r o a b = (a.0, outcomes-push m rs os r o a.1 b)
+outcomes-push : (logs : Bool) (m : Memory) (rs : List (HartRound Hart)) (os : List Outcome) (r : HartRound Hart) (o : Outcome) → AreOutcomes logs m rs os → IsOutcome logs m r o → AreOutcomes logs m (rs ++ r ∷ []) (os ++ o ∷ [])
+outcomes-push logs m [] [] r o a b = (b, tt)
+outcomes-push logs m (x ∷ rs) [] r o a b = absurd a
+outcomes-push logs m [] (x ∷ os) r o a b = absurd a
+outcomes-push logs m (x ∷ rs) (y ∷ os) r o a b = (a.0, outcomes-push logs m rs os r o a.1 b)
 
-pub outcomes_more : (m : Memory) (qs : List ℕ) (hs : List Hart) (i : ℕ) (d : Hart) (q : ℕ) (os ps : List Outcome) (o : Outcome) → i < length hs → q ≡ get_or qs i 0 → ps ≡ os ++ o ∷ [] →
-    AreOutcomes m (hart_rounds (words_of m.code) m.bytes qs (take i hs)) os → IsOutcome m (hart_round_of (words_of m.code) m.bytes q (get_or hs i d)) o →
-    AreOutcomes m (hart_rounds (words_of m.code) m.bytes qs (take (i + 1) hs)) ps
-outcomes_more m qs hs i d q os ps o low e more a b =
-    subst (AreOutcomes m (hart_rounds (words_of m.code) m.bytes qs (take (i + 1) hs))) (sym more)
-    (subst (λ (rs : List (HartRound Hart)). AreOutcomes m rs (os ++ o ∷ []))
+pub outcomes_more : (logs : Bool) (m : Memory) (qs : List ℕ) (hs : List Hart) (i : ℕ) (d : Hart) (q : ℕ) (os ps : List Outcome) (o : Outcome) → i < length hs → q ≡ get_or qs i 0 → ps ≡ os ++ o ∷ [] →
+    AreOutcomes logs m (hart_rounds (words_of m.code) m.bytes qs (take i hs)) os → IsOutcome logs m (hart_round_of (words_of m.code) m.bytes q (get_or hs i d)) o →
+    AreOutcomes logs m (hart_rounds (words_of m.code) m.bytes qs (take (i + 1) hs)) ps
+outcomes_more logs m qs hs i d q os ps o low e more a b =
+    subst (AreOutcomes logs m (hart_rounds (words_of m.code) m.bytes qs (take (i + 1) hs))) (sym more)
+    (subst (λ (rs : List (HartRound Hart)). AreOutcomes logs m rs (os ++ o ∷ []))
     (sym (ap (λ (k : ℕ). hart_rounds (words_of m.code) m.bytes qs (take k hs)) (add-one i) ∙ rounds_next (words_of m.code) m.bytes qs hs i d low))
-    (outcomes-push m _ os _ o a (subst (λ (x : ℕ). IsOutcome m (hart_round_of (words_of m.code) m.bytes x (get_or hs i d)) o) e b)))
+    (outcomes-push logs m _ os _ o a (subst (λ (x : ℕ). IsOutcome logs m (hart_round_of (words_of m.code) m.bytes x (get_or hs i d)) o) e b)))
 
 -- the rounds of all harts depend on the quota of each
 pub same_rounds : (w : Words Hart ConsoleState) (bs qs ps : List ℕ) (hs : List Hart) → ((k : ℕ) → k < length hs → get_or qs k 0 ≡ get_or ps k 0) → hart_rounds w bs qs hs ≡ hart_rounds w bs ps hs
@@ -52,19 +52,20 @@ same_rounds w bs qs ps (h ∷ hs) f =
 
 -- the round of a hart, as it was gathered
 pub is_outcome : (s : Start) (n : ℕ) (d : Hart) (c : Content) (o : Outcome) → n < length s.harts → length s.quotas ≡ length s.harts → round_at s n ≡ Some c →
-    c ≡ content_from o.hart o.buffer o.log o.waits →
-    IsOutcome s.memory (hart_round_of (words_of s.memory.code) s.memory.bytes (get_or s.quotas n 0) (get_or s.harts n d)) o
+    c ≡ content_from o.hart o.buffer o.log o.accesses o.waits →
+    IsOutcome s.logs s.memory (hart_round_of (words_of s.memory.code) s.memory.bytes (get_or s.quotas n 0) (get_or s.harts n d)) o
 is_outcome s n d c o low sized at parts =
     let q = get_or s.quotas n 0 in
     let h = get_or s.harts n d in
     let r = hart_round_of (words_of s.memory.code) s.memory.bytes q h in
-    let both : Some (content_of r) ≡ Some c = sym (round_at_is s n q h (indexed s.harts n d low) (indexed s.quotas n 0 (omega (arith, sized, low)))) ∙ at in
-    let here : content_of r ≡ c = cc in
-    let same : content_of r ≡ content_from o.hart o.buffer o.log o.waits = here ∙ parts in
+    let both : Some (content_of s.logs r) ≡ Some c = sym (round_at_is s n q h (indexed s.harts n d low) (indexed s.quotas n 0 (omega (arith, sized, low)))) ∙ at in
+    let here : content_of s.logs r ≡ c = cc in
+    let same : content_of s.logs r ≡ content_from o.hart o.buffer o.log o.accesses o.waits = here ∙ parts in
     record {
       hart = sym (ap (λ (x : Content). x.hart) same);
       buffer = sym (ap (λ (x : Content). x.buffer) same);
-      accesses = sym (ap (λ (x : Content). x.accesses) same);
+      log = sym (ap (λ (x : Content). x.accesses) same);
+      accesses = sym (ap (λ (x : Content). x.count) same);
       waits = sym (ap (λ (x : Content). x.waits) same);
       fits = subst (λ (es : List (ℕ × ℕ)). AllFit s.memory es) (ap (λ (x : Content). x.buffer) same) (buffer_fits s.memory q h);
     }

@@ -26,13 +26,13 @@ pub tally_none : (t : Tally) → t.waiting ≡ 0 → t.waited ≡ 0 → t.access
 tally_none t e f g h = record { waiting = e; below = omega (arith, e); waited = f; most = omega (arith, f); accesses = g; logs = omega (arith, h) }
 
 pub tally_more : (o : Outcome) (os : List Outcome) (t u : Tally) → u.waiting ≡ 2 * t.waiting + cond o.waits 1 0 → u.waited ≡ t.waited + cond o.waits 1 0 →
-    u.accesses ≡ t.accesses + length o.log → u.logs ≤ t.logs + 1 → IsTally os t → IsTally (o ∷ os) u
+    u.accesses ≡ t.accesses + o.accesses → u.logs ≤ t.logs + 1 → IsTally os t → IsTally (o ∷ os) u
 tally_more o os t u e f g h k = record {
   waiting = e ∙ ap (λ (n : ℕ). 2 * n + cond o.waits 1 0) k.waiting;
   below = omega (arith, e, k.below, bit_most o.waits, next_power (length os));
   waited = f ∙ ap (λ (n : ℕ). n + cond o.waits 1 0) k.waited ∙ omega arith;
   most = omega (arith, f, k.most, bit_most o.waits);
-  accesses = g ∙ ap (λ (n : ℕ). n + length o.log) k.accesses ∙ omega arith;
+  accesses = g ∙ ap (λ (n : ℕ). n + o.accesses) k.accesses ∙ omega arith;
   logs = omega (arith, h, k.logs);
 }
 
@@ -53,7 +53,7 @@ accesses_from os zero = omega arith
 accesses_from [] (suc i) = omega arith
 accesses_from (o ∷ os) (suc i) = omega (arith, accesses_from os i)
 
-pub accesses_at : (os : List Outcome) (i j : ℕ) (o : Outcome) → i < length os → j ≡ i + 1 → o ≡ get_or os i o → length o.log + count_accesses (drop j os) ≤ count_accesses os
+pub accesses_at : (os : List Outcome) (i j : ℕ) (o : Outcome) → i < length os → j ≡ i + 1 → o ≡ get_or os i o → o.accesses + count_accesses (drop j os) ≤ count_accesses os
 accesses_at os i j o low next here =
     let first : drop i os ≡ o ∷ drop (i + 1) os = drop_more os i o low ∙ ap (λ (x : Outcome). x ∷ drop (i + 1) os) (sym here) in
     omega (arith, accesses_from os i, ap count_accesses first, ap (λ (k : ℕ). count_accesses (drop k os)) next)

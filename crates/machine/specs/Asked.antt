@@ -1,5 +1,5 @@
 -- A hart within the next round, as it is found: from a shorter round of it, or from two short turns.
-use Rattle.std.specs.Prelude.{◌≡◌, ℕ, ◌==◌, nat_lt, if◌then◌else◌, List, [], take, Option, Some, None}
+use Rattle.std.specs.Prelude.{◌≡◌, ℕ, ◌==◌, nat_lt, Bool, if◌then◌else◌, List, [], take, Option, Some, None}
 use Rattle.pages.specs.declared.access.Range.{Range}
 use Rattle.pages.specs.Memory.{Memory, after}
 use Rattle.round_schedule.specs.declared.span.Span.{Span}
@@ -73,6 +73,6 @@ pub record LeftBy (c : TabledPhase Hart ConsoleState) (old new : SharedState) : 
 -- harts with these outcomes had their turns, of which the first one's would be this
 abbrev pub HadTurns : Turn → List Outcome → SharedState → SharedState → Type 0
 HadTurns turn os old new =
-    (m : Memory) (rs : List (HartRound Hart)) (c : TabledPhase Hart ConsoleState) → AreOutcomes m rs os →
+    (logs : Bool) (m : Memory) (rs : List (HartRound Hart)) (c : TabledPhase Hart ConsoleState) → AreOutcomes logs m rs os →
     c.bytes ≡ old.pages.memory.bytes → c.console ≡ old.console.console → c.table ≡ old.reservations →
     LeftBy (tabled_phase_from (words_of old.pages.memory.code) turn.budget turn.round turn.hart rs c) old new

@@ -1,5 +1,5 @@
 -- What the rounds of a run start from, by their numbers, and what they leave.
-use Rattle.std.specs.Prelude.{ℕ, zero, suc, ◌+◌, ◌-◌, List, [], ◌∷◌, length}
+use Rattle.std.specs.Prelude.{Bool, ℕ, zero, suc, ◌+◌, ◌-◌, List, [], ◌∷◌, length}
 use Rattle.round_schedule.specs.Schedule.{hart_rounds}
 use Rattle.round_planner.specs.Quotas.{Planned, quota_of, quotas_of}
 use Rattle.hart_step.specs.Words.{words_of}
@@ -18,12 +18,13 @@ quotas_from plan round k (suc n) = quota_of plan round k ∷ quotas_from plan ro
 abbrev pub guest_in : Untraced → Guest
 guest_in u = record { harts = u.harts; shared = record { memory = record { bytes = u.bytes; code = u.code }; table = u.table; console = u.console } }
 
--- what the round of a guest after n rounds starts from
-abbrev pub next_start : Planned → ℕ → Guest → Start
-next_start plan n g = record {
+-- what the round of a guest after n rounds starts from, with the harts' accesses kept or just counted
+abbrev pub next_start : Bool → Planned → ℕ → Guest → Start
+next_start logs plan n g = record {
   memory = g.shared.memory;
   quotas = quotas_from plan (n + 1) 0 (length g.harts);
   harts = g.harts;
+  logs = logs;
 }
 
 -- the machine after n more rounds
@@ -32,17 +33,17 @@ untraced_rounds zero u = u
 untraced_rounds (suc n) u = untraced_round (untraced_rounds n u)
 
 -- the same of a machine that keeps no trace
-abbrev pub next_start_of : Untraced → Start
-next_start_of u = next_start u.plan u.rounds (guest_in u)
+abbrev pub next_start_of : Bool → Untraced → Start
+next_start_of logs u = next_start logs u.plan u.rounds (guest_in u)
 
 -- the start of each of the next rounds, by the round's number
-abbrev pub start_at : Untraced → ℕ → Start
-start_at u round = next_start_of (untraced_rounds (round - (u.rounds + 1)) u)
+abbrev pub start_at : Bool → Untraced → ℕ → Start
+start_at logs u round = next_start_of logs (untraced_rounds (round - (u.rounds + 1)) u)
 
 -- these are what the rounds of a guest after n rounds left
-abbrev pub AreOfGuest : Planned → ℕ → Guest → List Outcome → Type 0
-AreOfGuest plan n g os = AreOutcomes g.shared.memory (hart_rounds (words_of g.shared.memory.code) g.shared.memory.bytes (quotas_of plan n) g.harts) os
+abbrev pub AreOfGuest : Bool → Planned → ℕ → Guest → List Outcome → Type 0
+AreOfGuest logs plan n g os = AreOutcomes logs g.shared.memory (hart_rounds (words_of g.shared.memory.code) g.shared.memory.bytes (quotas_of plan n) g.harts) os
 
 -- the same of a machine's next round
-abbrev pub AreOfNext : Untraced → List Outcome → Type 0
-AreOfNext u os = AreOfGuest u.plan u.rounds (guest_in u) os
+abbrev pub AreOfNext : Bool → Untraced → List Outcome → Type 0
+AreOfNext logs u os = AreOfGuest logs u.plan u.rounds (guest_in u) os

@@ -1,5 +1,6 @@
 pub mod Outcomes
 pub mod Kept
+pub mod Keepers
 pub mod Machine
 pub mod Guests
 pub mod Held

@@ -9,8 +9,9 @@ use Rattle.round_schedule.specs.declared.event.Event.{Event}
 use Rattle.round_schedule.specs.declared.event.Phase.TheVariants.{Parallel}
 use Rattle.round_schedule.specs.TabledTurn.{log_events}
 use Rattle.round_schedule.specs.Events.{events_of}
-use Rattle.round_schedule.specs.Schedule.{HartRound}
+use Rattle.round_schedule.specs.Schedule.{HartRound, events_from}
 use Rattle.hart_step.specs.declared.hart.Hart.{Hart}
+use Rattle.round_lock.specs.Starts.{logged}
 use Rattle.trace.specs.Traced.{Traced}
 use Rattle.machine.specs.declared.outcome.Outcome.{Outcome}
 
@@ -18,20 +19,21 @@ use Rattle.machine.specs.declared.outcome.Outcome.{Outcome}
 abbrev pub AllFit : Memory → List (ℕ × ℕ) → Type 0
 AllFit m es = All (λ (e : ℕ × ℕ). store_fault m e.0 W1 ≡ None) es
 
--- it is this round, on this memory
-pub record IsOutcome (m : Memory) (r : HartRound Hart) (o : Outcome) : Type 0 where
+-- it is this round, on this memory, with its accesses or just their number
+pub record IsOutcome (logs : Bool) (m : Memory) (r : HartRound Hart) (o : Outcome) : Type 0 where
   pub hart : o.hart ≡ r.last.hart
   pub buffer : o.buffer ≡ with_stores [] r.last.stores
-  pub accesses : o.log ≡ r.last.accesses
+  pub log : o.log ≡ logged logs r.last.accesses
+  pub accesses : o.accesses ≡ length r.last.accesses
   pub waits : o.waits ≡ r.waits
   pub fits : AllFit m o.buffer
 
 -- they are these rounds
-abbrev pub AreOutcomes : Memory → List (HartRound Hart) → List Outcome → Type 0
-AreOutcomes m [] [] = Unit {0}
-AreOutcomes m (r ∷ rs) [] = ⊥
-AreOutcomes m [] (o ∷ os) = ⊥
-AreOutcomes m (r ∷ rs) (o ∷ os) = IsOutcome m r o × AreOutcomes m rs os
+abbrev pub AreOutcomes : Bool → Memory → List (HartRound Hart) → List Outcome → Type 0
+AreOutcomes logs m [] [] = Unit {0}
+AreOutcomes logs m (r ∷ rs) [] = ⊥
+AreOutcomes logs m [] (o ∷ os) = ⊥
+AreOutcomes logs m (r ∷ rs) (o ∷ os) = IsOutcome logs m r o × AreOutcomes logs m rs os
 
 -- each byte of a buffer lies on a page that is ready
 abbrev pub AllOnReady : Paged → List (ℕ × ℕ) → Type 0
@@ -74,19 +76,29 @@ outcome_events n i (o ∷ os) = events_of n i Parallel o.log ++ outcome_events n
 abbrev pub round_events : ℕ → List Outcome → List (List Access) → List Event
 round_events n os closed = outcome_events n 0 os ++ log_events n 0 closed
 
+-- the same of the harts' rounds, whatever their outcomes have of them
+abbrev pub events_of_rounds : ℕ → List (HartRound Hart) → List (List Access) → List Event
+events_of_rounds n rs closed = events_from n 0 rs ++ log_events n 0 closed
+
+-- how many accesses the harts made
 abbrev pub count_accesses : List Outcome → ℕ
 count_accesses [] = 0
-count_accesses (o ∷ os) = length o.log + count_accesses os
+count_accesses (o ∷ os) = o.accesses + count_accesses os
+
+-- how many accesses stand in the harts' logs
+abbrev pub count_logged : List Outcome → ℕ
+count_logged [] = 0
+count_logged (o ∷ os) = length o.log + count_logged os
 
 -- how many of the accesses take room as events: none where the trace adopts the harts' logs
 abbrev pub count_copied : Bool → List Outcome → ℕ
-count_copied adopts os = if adopts then 0 else count_accesses os
+count_copied adopts os = if adopts then 0 else count_logged os
 
 -- where the trace adopts the logs, it has room for as many, and stays short enough
 pub record HasPlaces (adopts : Bool) (os : List Outcome) (t : Traced) : Type 0 where
   pub room : count_copied adopts os ≤ t.room
   pub logs : adopts ≡ true → length os ≤ t.logs
-  pub few : adopts ≡ true → length t.events + count_accesses os ≤ 2 ^ 62
+  pub few : adopts ≡ true → length t.events + count_logged os ≤ 2 ^ 62
 
 -- how many instructions the serial turns may do together
 abbrev pub turns_of : ℕ → List Bool → ℕ

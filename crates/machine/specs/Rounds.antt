@@ -10,20 +10,20 @@ use Rattle.serial_phase.specs.declared.shared.SharedState.{SharedState}
 use Rattle.serial_phase.specs.Phase.{TakesTurns, serial_done}
 use Rattle.machine.specs.declared.outcome.Outcome.{Outcome}
 use Rattle.machine.specs.Guests.{Guest, Shared, shared_of}
-use Rattle.machine.specs.Outcomes.{AreOutcomes, harts_of, round_events}
+use Rattle.machine.specs.Outcomes.{harts_of, events_of_rounds}
 
--- the commit of these outcomes in a round, their serial turns from there to an end, and the events of both
-pub record IsFinished (phase : SerialRound) (os : List Outcome) (old : Shared) (new : Guest) (more : List Event) : Type 0 where
+-- the commit of the rounds with these outcomes, their serial turns from there to an end, and the events of both
+pub record IsFinished (phase : SerialRound) (rs : List (HartRound Hart)) (os : List Outcome) (old : Shared) (new : Guest) (more : List Event) : Type 0 where
   pub ready : Paged
   pub start : SharedState
   pub end : SharedState
   pub kept : ready.memory ≡ old.memory
-  pub committed : (rs : List (HartRound Hart)) → AreOutcomes old.memory rs os → Committed rs ready start.pages old.table start.reservations
+  pub committed : Committed rs ready start.pages old.table start.reservations
   pub console : start.console.console ≡ old.console
   pub served : TakesTurns (serial_done phase (harts_of os) start) new.harts start end
   pub left : new.shared ≡ shared_of end
-  pub events : more ≡ round_events phase.round os end.log.closed
+  pub events : more ≡ events_of_rounds phase.round rs end.log.closed
 
--- whatever events the round has that goes on from these outcomes, they may be kept after those that there are
-abbrev pub MayFinish : (List Event → Type 0) → SerialRound → List Outcome → Shared → List Event → Type 0
-MayFinish may_keep phase os old es = (new : Guest) (more : List Event) → IsFinished phase os old new more → may_keep (es ++ more)
+-- whatever events the round has that goes on from these rounds of the harts, they may be kept after those that there are
+abbrev pub MayFinish : (List Event → Type 0) → SerialRound → List (HartRound Hart) → List Outcome → Shared → List Event → Type 0
+MayFinish may_keep phase rs os old es = (new : Guest) (more : List Event) → IsFinished phase rs os old new more → may_keep (es ++ more)

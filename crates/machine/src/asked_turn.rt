@@ -1,4 +1,4 @@
-ghost use Rattle.std.specs.Prelude.{◌≡◌, ℕ, ◌<◌, ◌≤◌, ◌+◌, List, [], length, IfOk, if◌then◌else◌};
+ghost use Rattle.std.specs.Prelude.{◌≡◌, ℕ, ◌<◌, ◌≤◌, ◌+◌, Bool, List, [], length, IfOk, if◌then◌else◌};
 ghost use Rattle.pages.specs.StoreLaws.{TouchesNoCode};
 ghost use Rattle.round_schedule.specs.Schedule.{HartRound, all_stores};
 ghost use Rattle.hart_step.specs.declared.hart.Hart.{Hart};
@@ -44,16 +44,18 @@ pub fn ask_turn<G, R: Threads + Sync>(
     requires workers { 1 ≤ crew.now.workers }
     requires shows { Shows shared.old.pages.memory shared.old.code.first
         shared.old.code.instructions }
-    requires rounds { (rs : List (HartRound Hart)) × AreOutcomes shared.old.pages.memory rs
-        outcomes.now × TouchesNoCode shared.old.pages.memory.code (all_stores rs) }
+    requires rounds { (logs : Bool) × (rs : List (HartRound Hart)) ×
+        AreOutcomes logs shared.old.pages.memory rs outcomes.now ×
+        TouchesNoCode shared.old.pages.memory.code (all_stores rs) }
     requires few { length outcomes.now ≤ 64 }
     requires fits { AreFit shared.old.pages.memory outcomes.now }
     requires size { length shared.old.reservations ≡ length outcomes.now }
     requires hart { place.hart < length outcomes.now }
     requires budget { place.budget ≤ 1000 }
     requires count { place.count ≤ place.budget }
-    ensures { IfOk result (λ h. (rs : List (HartRound Hart)) → AreOutcomes shared.old.pages.memory
-        rs outcomes.now → h ≡ found_in (shared_of shared.old) place start rs) }
+    ensures { IfOk result (λ h. (logs : Bool) (rs : List (HartRound Hart)) →
+        AreOutcomes logs shared.old.pages.memory rs outcomes.now →
+        h ≡ found_in (shared_of shared.old) place start rs) }
 {
     let earlier = &outcomes[..place.hart as usize];
     let turns = turns_needed(earlier, place.budget) + place.budget;

@@ -16,10 +16,11 @@ use crate::machine::Machine;
 use crate::outcome::outcomes_of;
 use crate::running::{MANY_LINES, MOST_WORKERS};
 use crate::untraced::UntracedMachine;
-use hart_step::{Buffered, Hart, hart_round};
+use hart_step::{AccessCount, Buffered, Hart, hart_round};
 use host_io::RunError;
 use pages::OutOfMemory;
 use parallel_phase::Open;
+use round_lock::LogForm;
 use serial_phase::SharedState;
 use std::sync::Wait;
 use std::thread::Threads;
@@ -87,7 +88,7 @@ impl UntracedMachine {
             workers,
             gate: &Open,
             least_lines: MANY_LINES,
-            shares_logs: false,
+            form: LogForm::Counted,
         };
         Ok(self.ask(&crew, hart, count)?)
     }
@@ -174,7 +175,7 @@ fn shorter_round(shared: &SharedState, hart: Hart, quota: u32) -> Result<Hart, O
     let alloc = shared.pages.allocator();
     let mut turned = hart;
     let mut view = Buffered::new(alloc, &shared.pages);
-    let mut accesses = Vec::new(alloc);
-    let _waits = hart_round(&mut turned, &mut view, &shared.code, quota, &mut accesses)?;
+    let mut count = AccessCount { count: 0 };
+    let _waits = hart_round(&mut turned, &mut view, &shared.code, quota, &mut count)?;
     Ok(turned)
 }

@@ -1,4 +1,4 @@
-ghost use Rattle.std.specs.Prelude.{◌≡◌, ◌≤◌, length, List};
+ghost use Rattle.std.specs.Prelude.{◌≡◌, ◌≤◌, Bool, length, List};
 ghost use Rattle.round_schedule.specs.Schedule.{HartRound};
 ghost use Rattle.commit_phase.specs.Commit.{Committed};
 ghost use Rattle.hart_step.specs.declared.hart.Hart.{Hart};
@@ -27,8 +27,9 @@ pub fn commit<G, R: Threads + Sync>(
     ensures ready { pages.new.ready ≡ pages.old.ready }
     ensures spare { pages.new.spare ≡ pages.old.spare }
     ensures size { length table.new ≡ length table.old }
-    ensures committed { (rs : List (HartRound Hart)) → AreOutcomes pages.old.memory rs
-        outcomes.now → Committed rs pages.old pages.new table.old table.new }
+    ensures committed { (logs : Bool) (rs : List (HartRound Hart)) →
+        AreOutcomes logs pages.old.memory rs outcomes.now →
+        Committed rs pages.old pages.new table.old table.new }
 {
     if crew.workers > 1 && stores_lines(outcomes, crew.least_lines) {
         commit_on(crew.rt, pages, table, outcomes, crew.workers, &OpenShards);

@@ -1,3 +1,5 @@
+use round_lock::LogForm;
+
 /// Who does the rounds of the harts and commits their stores: so many workers, and what is told of each hart.
 #[derive(Drop)]
 pub struct Crew<'a, G, R> {
@@ -9,6 +11,6 @@ pub struct Crew<'a, G, R> {
     pub gate: &'a G,
     /// The workers share a commit in which the harts stored to at least so many lines of 64 bytes: with 0, each commit.
     pub least_lines: usize,
-    /// Whether the workers put long logs in brief, for a trace to take over.
-    pub shares_logs: bool,
+    /// What becomes of the harts' accesses.
+    pub form: LogForm,
 }

@@ -1,19 +1,25 @@
-ghost use Rattle.std.specs.Prelude.{◌≡◌, ℕ, ◌+◌, ◌≤◌, ◌++◌, Bool, List, [], length, IfOk};
+ghost use Rattle.std.specs.Prelude.{◌≡◌, ℕ, ◌+◌, ◌≤◌, ◌++◌, Bool, true, false, List, [], length, IfOk};
 ghost use Rattle.round_schedule.specs.declared.event.Event.{Event as Happened};
 ghost use Rattle.trace.specs.Traced.{IsTrace, Laid};
+ghost use Rattle.round_lock.specs.Starts.{keeps_log};
 ghost use Rattle.machine.specs.declared.outcome.Outcome.{Outcome as Left};
-ghost use Rattle.machine.specs.Outcomes.{HasPlaces, count_accesses, count_copied, count_log, round_events};
+ghost use Rattle.machine.specs.Keepers.{never};
+ghost use Rattle.machine.specs.Outcomes.{HasPlaces, count_copied, count_log, count_logged, round_events};
 
 use crate::events::{add_parallel, add_serial};
 use crate::outcome::Outcome;
 use crate::room::make_places;
 use crate::tally::Tally;
 use pages::OutOfMemory;
+use round_lock::LogForm;
 use serial_phase::SerialLog;
 use trace::Trace;
 
 /// What becomes of the events of rounds: a trace keeps them, and `NoTrace` lets them go.
 pub trait EventKeeper {
+    // Whether it takes the accesses of the harts, and not just their number.
+    ghost logs: { Bool };
+
     // Its events are these, where it keeps any.
     ghost keeps: { Self → List Happened → Type 0 };
 
@@ -26,8 +32,9 @@ pub trait EventKeeper {
     // It has room for the events of these outcomes, handed over or copied, and of turns of so many instructions.
     ghost has_room: { Self → Bool → List Left → ℕ → Type 0 };
 
-    /// Whether the logs of harts are wanted in the form that copies of a trace share.
-    fn shares_logs(&self) -> bool;
+    /// What is to become of the accesses of a round's harts.
+    fn log_form(&self) -> LogForm
+        ensures { keeps_log result ≡ logs };
 
     /// Asks for the room that the events of a round may need. Answers whether the logs of the harts are to be handed over.
     fn make_room(
@@ -36,7 +43,7 @@ pub trait EventKeeper {
         tally: Tally,
         turns: u32,
     ) -> Result<bool, OutOfMemory>
-        requires { tally.accesses ≡ count_accesses outcomes.old }
+        requires { logs ≡ true → tally.accesses ≡ count_logged outcomes.old }
         ensures kept { (es : List Happened) → keeps self.old es → keeps self.new es }
         ensures opening { opens_with self.new ≡ opens_with self.old }
         ensures outcomes { outcomes.new ≡ outcomes.old }
@@ -53,9 +60,16 @@ pub trait EventKeeper {
         ensures kept { (es : List Happened) → keeps self.old es →
             keeps self.new (es ++ round_events round outcomes.old log.now.closed) }
         ensures opening { opens_with self.new ≡ opens_with self.old };
+
+    // Who takes no accesses keeps any events as well as any others.
+    ghost keeps_any: { logs ≡ false → (k : Self) (es fs : List Happened) → keeps k es → keeps k fs };
+
+    ghost may_keep_any: { logs ≡ false → (es fs : List Happened) → may_keep es → may_keep fs };
 }
 
 impl EventKeeper for Trace {
+    ghost logs = { true };
+
     ghost keeps = { λ t es. t.events ≡ es };
 
     ghost opens_with = { λ t. t.opening };
@@ -64,8 +78,8 @@ impl EventKeeper for Trace {
 
     ghost has_room = { λ t adopts os turns. HasPlaces adopts os t × (count_copied adopts os + turns ≤ t.room) };
 
-    fn shares_logs(&self) -> bool {
-        true
+    fn log_form(&self) -> LogForm {
+        LogForm::InBrief
     }
 
     fn make_room(
@@ -88,6 +102,10 @@ impl EventKeeper for Trace {
         add_parallel(self, round, 0, outcomes, adopts);
         add_serial(self, round, 0, count, log);
     }
+
+    ghost keeps_any = { λ e k es fs kept. never e };
+
+    ghost may_keep_any = { λ e es fs may. never e };
 }
 
 /// Puts the logs of a long round into the form that copies of a trace share.
@@ -105,6 +123,8 @@ fn share_logs(outcomes: &mut [Outcome]) -> Result<(), OutOfMemory>
 pub struct NoTrace;
 
 impl EventKeeper for NoTrace {
+    ghost logs = { false };
+
     ghost keeps = { λ _ _. Unit {0} };
 
     ghost opens_with = { λ _. [] };
@@ -113,8 +133,8 @@ impl EventKeeper for NoTrace {
 
     ghost has_room = { λ _ _ _ _. Unit {0} };
 
-    fn shares_logs(&self) -> bool {
-        false
+    fn log_form(&self) -> LogForm {
+        LogForm::Counted
     }
 
     fn make_room(
@@ -127,4 +147,8 @@ impl EventKeeper for NoTrace {
     }
 
     fn add(&mut self, _round: u32, _outcomes: &mut [Outcome], _log: &SerialLog, _adopts: bool) {}
+
+    ghost keeps_any = { λ e k es fs kept. kept };
+
+    ghost may_keep_any = { λ e es fs may. may };
 }

@@ -1,5 +1,5 @@
 ghost use Rattle.std.specs.Prelude.{◌≡◌, ◌<◌, ◌≤◌, ◌+◌, ◌^◌, ℕ, length, IfOk, IfSome, OnOk, [], Some};
-ghost use Rattle.round_lock.specs.Starts.{content_from, round_at, rounds_of};
+ghost use Rattle.round_lock.specs.Starts.{content_from, keeps_log, round_at, rounds_of};
 ghost use Rattle.kept_workers.specs.Kept.{Fits, start_of};
 ghost use Rattle.machine.specs.Kept.{AreOfGuest, AreOfNext, next_start, next_start_of};
 ghost use Rattle.machine.specs.Outcomes.{AreOutcomes};
@@ -13,14 +13,12 @@ use hart_step::{CodeTable, Hart};
 use kept_workers::{Board, KeptRound, KeptStart, RunStarts, StartParts};
 use pages::{OutOfMemory, Pages};
 use parallel_phase::Open;
-use round_lock::RoundStart;
+use round_lock::{LogForm, RoundStart};
 use round_planner::Plan;
 use serial_phase::SharedState;
 use std::alloc::Global;
 use std::mem;
 use std::sync::Wait;
-use store_buffer::StoreBuffer;
-use trace::Log;
 
 /// Workers that are kept for a run, with what the calling thread needs to share rounds with them.
 #[derive(Drop)]
@@ -36,14 +34,16 @@ pub(crate) struct KeptCrew<'a, S: RunStarts, R> {
 
 impl<'a, S: RunStarts, R> KeptCrew<'a, S, R> {
     /// A crew that shares rounds by this board.
-    pub(crate) fn new(rt: &'a R, board: &'a Board<S>, shares_logs: bool) -> KeptCrew<'a, S, R> {
+    pub(crate) fn new(rt: &'a R, board: &'a Board<S>, form: LogForm) -> KeptCrew<'a, S, R>
+        ensures { result.crew.form ≡ form }
+    {
         KeptCrew {
             crew: Crew {
                 rt,
                 workers: board.workers,
                 gate: &Open,
                 least_lines: MANY_LINES,
-                shares_logs,
+                form,
             },
             board,
             stand_in: None,
@@ -53,19 +53,23 @@ impl<'a, S: RunStarts, R> KeptCrew<'a, S, R> {
     /// Parts that may stand in a guest for a while, with room for the quotas of so many harts.
     fn take_stand_in(&mut self, alloc: Global, harts: usize) -> Result<StartParts, OutOfMemory>
         ensures sized { IfOk result (λ p. length p.quotas.items ≡ harts) }
+        ensures form { IfOk result (λ p. p.form ≡ self.old.crew.form) }
+        ensures crew { self.new.crew.form ≡ self.old.crew.form }
     {
+        let form = self.crew.form;
         if let Some(parts) = self.stand_in.take() {
             if parts.quotas.len() == harts {
-                return Ok(parts);
+                return Ok(StartParts { form, ..parts });
             }
         }
-        stand_in(alloc, harts, self.crew.shares_logs)
+        stand_in(alloc, harts, form)
     }
 }
 
 /// A page of memory, and no hart.
-fn stand_in(alloc: Global, harts: usize, shares_logs: bool) -> Result<StartParts, OutOfMemory>
-    ensures { IfOk result (λ p. length p.quotas.items ≡ harts) }
+fn stand_in(alloc: Global, harts: usize, form: LogForm) -> Result<StartParts, OutOfMemory>
+    ensures sized { IfOk result (λ p. length p.quotas.items ≡ harts) }
+    ensures form { IfOk result (λ p. p.form ≡ form) }
 {
     let pages = Pages::new(alloc, 1, &[], &[])?;
     let table = CodeTable::new(alloc, &pages, 0, 0)?;
@@ -74,7 +78,7 @@ fn stand_in(alloc: Global, harts: usize, shares_logs: bool) -> Result<StartParts
         table,
         harts: Vec::new(alloc),
         quotas: Vec::from_elem(alloc, 0, harts)?,
-        shares_logs,
+        form,
     })
 }
 
@@ -101,10 +105,13 @@ impl<S: RunStarts, R: Wait> KeptCrew<'_, S, R> {
         &mut self,
         machine: &mut UntracedMachine,
     ) -> Result<Vec<Outcome>, OutOfMemory>
-        requires start { S.starts (machine.old.rounds + 1) ≡ next_start_of machine.old }
+        requires start { S.starts (machine.old.rounds + 1) ≡
+            next_start_of (keeps_log self.old.crew.form) machine.old }
         requires rounds { machine.old.rounds + 1 < 2 ^ 32 }
         ensures stays { machine.new ≡ machine.old }
-        ensures outcomes { IfOk result (λ os. AreOfNext machine.old os.items) }
+        ensures form { self.new.crew.form ≡ self.old.crew.form }
+        ensures outcomes { IfOk result (λ os.
+            AreOfNext (keeps_log self.old.crew.form) machine.old os.items) }
     {
         self.outcomes_of_guest(&mut machine.guest, &machine.plan, machine.rounds)
     }
@@ -116,11 +123,14 @@ impl<S: RunStarts, R: Wait> KeptCrew<'_, S, R> {
         plan: &Plan,
         done: u32,
     ) -> Result<Vec<Outcome>, OutOfMemory>
-        requires start { S.starts (done + 1) ≡ next_start plan.now done guest.old }
+        requires start { S.starts (done + 1) ≡
+            next_start (keeps_log self.old.crew.form) plan.now done guest.old }
         requires harts { length guest.old.harts ≡ plan.now.harts }
         requires done { done + 1 < 2 ^ 32 }
         ensures guest { guest.new ≡ guest.old }
-        ensures outcomes { IfOk result (λ os. AreOfGuest plan.now done guest.old os.items) }
+        ensures form { self.new.crew.form ≡ self.old.crew.form }
+        ensures outcomes { IfOk result (λ os.
+            AreOfGuest (keeps_log self.old.crew.form) plan.now done guest.old os.items) }
     {
         let alloc = guest.shared.pages.allocator();
         let room = mem::replace(&mut guest.outcomes, Vec::new(alloc));
@@ -147,8 +157,8 @@ fn in_order<S: RunStarts>(
     mut room: Vec<Outcome>,
 ) -> Result<Vec<Outcome>, OutOfMemory>
     requires { Fits start.now.parts }
-    ensures { IfOk result (λ os.
-        AreOutcomes start.now.parts.pages.memory (rounds_of (start_of start.now.parts)) os.items) }
+    ensures { IfOk result (λ os. AreOutcomes (keeps_log start.now.parts.form)
+        start.now.parts.pages.memory (rounds_of (start_of start.now.parts)) os.items) }
 {
     let count = start.parts.harts.len();
     room.clear();
@@ -168,7 +178,7 @@ fn outcome_of_hart<S: RunStarts>(
 ) -> Result<Outcome, OutOfMemory>
     requires { number < length start.now.parts.harts.items }
     ensures { IfOk result (λ o. round_at (start_of start.now.parts) number ≡
-        Some (content_from o.hart o.buffer o.log o.waits)) }
+        Some (content_from o.hart o.buffer o.log o.accesses o.waits)) }
 {
     match take_round(rounds, start.round, number) {
         Some(round) => Ok(outcome_of(round)),
@@ -185,41 +195,26 @@ fn take_round<S: RunStarts>(
     ensures { IfSome result (λ r. (r.round ≡ round) × (r.number ≡ number)) }
 {
     let place = rounds.iter().position(|done| done.is_of(round, number))?;
-    let found = rounds.swap_remove(place);
-    if found.is_of(round, number) {
-        Some(found)
-    } else {
-        None
-    }
+    Some(rounds.swap_remove(place))
 }
 
 /// What a round left.
 fn outcome_of<S: RunStarts>(round: KeptRound<S>) -> Outcome
-    ensures { round_at (S.starts round.round) round.number ≡
-        Some (content_from result.hart result.buffer result.log result.waits) }
+    ensures { round_at (S.starts round.round) round.number ≡ Some (content_from result.hart
+        result.buffer result.log result.accesses result.waits) }
 {
-    let (hart, buffer, log, waits) = round.into_parts();
-    Outcome {
-        hart,
-        buffer,
-        log,
-        waits,
-    }
+    let (hart, left) = round.into_parts();
+    Outcome::of(hart, left)
 }
 
 /// What the round of a hart leaves, done here and now.
 fn outcome_alone(number: usize, start: &RoundStart<'_>) -> Result<Outcome, OutOfMemory>
     requires { number < length start.now.harts }
     ensures { IfOk result (λ o. round_at start.now number ≡
-        Some (content_from o.hart o.buffer o.log o.waits)) }
+        Some (content_from o.hart o.buffer o.log o.accesses o.waits)) }
 {
     let alloc = start.pages().allocator();
-    let mut outcome = Outcome {
-        hart: start.harts()[number],
-        buffer: StoreBuffer::new(alloc),
-        log: Log::of(Vec::new(alloc)),
-        waits: false,
-    };
-    round_in_place(number, start, &mut outcome)?;
+    let mut outcome = Outcome::begun(alloc, start.harts()[number]);
+    round_in_place(number, start, &mut outcome, &mut Vec::new(alloc))?;
     Ok(outcome)
 }

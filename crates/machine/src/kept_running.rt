@@ -2,6 +2,7 @@
 ghost use Rattle.std.specs.Prelude.{◌≡◌, ◌<◌, ◌≤◌, ◌+◌, ◌-◌, ◌^◌, ℕ, List, IfOk};
 ghost use denote.Param.Send.{IsSync};
 ghost use Rattle.round_schedule.specs.declared.event.Event.{Event};
+ghost use Rattle.round_lock.specs.Starts.{keeps_log};
 ghost use Rattle.machine.specs.Kept.{AreOfNext, next_start_of, start_at};
 ghost use Rattle.machine.specs.Untraced.{MayGoOn, RanFor};
 
@@ -53,7 +54,7 @@ impl UntracedMachine {
         observer: &mut O,
     ) -> Result<(), OutOfMemory>
         requires workers { (1 ≤ workers) × (workers ≤ 16) }
-        requires starts { (n : ℕ) → S.starts n ≡ start_at self.old n }
+        requires starts { (n : ℕ) → S.starts n ≡ start_at E.logs self.old n }
         requires rounds { self.old.rounds + rounds < 2 ^ 32 }
         requires sound { (es : List Event) × E.keeps keeper.old es ×
             MayGoOn E.may_keep rounds es self.old }
@@ -81,7 +82,7 @@ impl UntracedMachine {
         keeper: &mut E,
         observer: &mut O,
     ) -> Result<(), OutOfMemory>
-        requires starts { (n : ℕ) → S.starts n ≡ start_at self.old n }
+        requires starts { (n : ℕ) → S.starts n ≡ start_at E.logs self.old n }
         requires rounds { self.old.rounds + rounds < 2 ^ 32 }
         requires sound { (es : List Event) × E.keeps keeper.old es ×
             MayGoOn E.may_keep rounds es self.old }
@@ -97,7 +98,8 @@ impl UntracedMachine {
         let fewer = others - 1;
         let mut theirs = || { board.serve(rt) };
         let mut ours = || -> Result<(), OutOfMemory>
-            requires { IsSync R.row × IsSync S.row × ((n : ℕ) → S.starts n ≡ start_at self.now n) ×
+            requires { IsSync R.row × IsSync S.row ×
+                ((n : ℕ) → S.starts n ≡ start_at E.logs self.now n) ×
                 (self.now.rounds + rounds < 2 ^ 32) × ((es : List Event) × E.keeps keeper.now es ×
                 MayGoOn E.may_keep rounds es self.now) }
             ensures ran { RanFor result rounds self.entry.now self.exit.now
@@ -117,7 +119,7 @@ impl UntracedMachine {
         keeper: &mut E,
         observer: &mut O,
     ) -> Result<(), OutOfMemory>
-        requires starts { (n : ℕ) → S.starts n ≡ start_at self.old n }
+        requires starts { (n : ℕ) → S.starts n ≡ start_at E.logs self.old n }
         requires rounds { self.old.rounds + rounds < 2 ^ 32 }
         requires sound { (es : List Event) × E.keeps keeper.old es ×
             MayGoOn E.may_keep rounds es self.old }
@@ -125,7 +127,7 @@ impl UntracedMachine {
             (E.keeps keeper.new) }
         ensures opening { E.opens_with keeper.new ≡ E.opens_with keeper.old }
     {
-        let mut crew = KeptCrew::new(rt, board, keeper.shares_logs());
+        let mut crew = KeptCrew::new(rt, board, keeper.log_form());
         for done in 0..rounds {
             if self.running_harts() == 0 {
                 self.pass(rounds - done);
@@ -144,10 +146,13 @@ impl UntracedMachine {
         &mut self,
         crew: &mut KeptCrew<'_, S, R>,
     ) -> Result<Vec<Outcome>, OutOfMemory>
-        requires start { S.starts (self.old.rounds + 1) ≡ next_start_of self.old }
+        requires start { S.starts (self.old.rounds + 1) ≡
+            next_start_of (keeps_log crew.old.crew.form) self.old }
         requires rounds { self.old.rounds + 1 < 2 ^ 32 }
         ensures stays { self.new ≡ self.old }
-        ensures outcomes { IfOk result (λ os. AreOfNext self.old os.items) }
+        ensures form { crew.new.crew.form ≡ crew.old.crew.form }
+        ensures outcomes { IfOk result (λ os.
+            AreOfNext (keeps_log crew.old.crew.form) self.old os.items) }
     {
         if self.worth_workers(crew.crew.workers) > 1 {
             crew.outcomes(self)

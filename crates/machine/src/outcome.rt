@@ -3,16 +3,17 @@ ghost use Rattle.round_schedule.specs.Schedule.{hart_rounds};
 ghost use Rattle.round_planner.specs.Quotas.{quota_of, quotas_of};
 ghost use Rattle.hart_step.specs.CodeTables.{Shows};
 ghost use Rattle.hart_step.specs.Words.{words_of};
-ghost use Rattle.round_lock.specs.Starts.{content_from, round_at, rounds_of};
+ghost use Rattle.round_lock.specs.Starts.{content_from, keeps_log, round_at, rounds_of};
 ghost use Rattle.machine.specs.Outcomes.{AreOutcomes, harts_of};
 
 use crate::crew::Crew;
 use commit_phase::Buffered;
-use hart_step::{CodeTable, Hart};
+use hart_step::{Access, CodeTable, Hart};
 use pages::{OutOfMemory, Pages};
 use parallel_phase::{Gate, gather, round_from};
-use round_lock::{BookStart, RoundStart};
+use round_lock::{BookStart, RoundLeft, RoundStart};
 use round_planner::Plan;
+use std::alloc::Global;
 use std::marker::Brand;
 use std::sync::Wait;
 use std::thread::Threads;
@@ -22,7 +23,7 @@ use trace::Log;
 /// How many harts a plan has at most.
 const MOST_HARTS: usize = 64;
 
-/// What the round of one hart left: the hart, its stores, its accesses in program order, and whether it waits
+/// What the round of one hart left: the hart, its stores, its accesses in program order or just their number, and whether it waits
 /// for the serial phase.
 #[derive(Drop)]
 pub struct Outcome {
@@ -30,10 +31,46 @@ pub struct Outcome {
     pub hart: Hart,
     /// The stores that it did.
     pub buffer: StoreBuffer,
-    /// Its accesses, in program order.
+    /// Its accesses in program order, or none where they were only counted.
     pub log: Log,
+    /// How many accesses there were.
+    pub accesses: u64,
     /// Whether its next instruction is for the serial phase.
     pub waits: bool,
+}
+
+impl Outcome {
+    /// The outcome of a hart whose round is still to be done.
+    pub(crate) fn begun(alloc: Global, hart: Hart) -> Outcome
+        ensures { result.hart ≡ hart }
+    {
+        Outcome {
+            hart,
+            buffer: StoreBuffer::new(alloc),
+            log: Log::of(Vec::new(alloc)),
+            accesses: 0,
+            waits: false,
+        }
+    }
+
+    /// A hart after its round, with what the round left beside it.
+    pub(crate) fn of(hart: Hart, left: RoundLeft) -> Outcome
+        ensures { result ≡ record {
+          hart = hart;
+          buffer = left.buffer;
+          log = left.log;
+          accesses = left.accesses;
+          waits = left.waits;
+        } }
+    {
+        Outcome {
+            hart,
+            buffer: left.buffer,
+            log: left.log,
+            accesses: left.accesses,
+            waits: left.waits,
+        }
+    }
 }
 
 impl Buffered for Outcome {
@@ -59,31 +96,17 @@ pub fn outcomes_of<G: Gate + Sync, R: Threads + Wait + Sync>(
     requires shows { Shows pages.now.memory table.now.first table.now.instructions }
     requires harts { length harts.now ≡ plan.now.harts }
     requires round { 1 ≤ round }
-    ensures { IfOk result (λ os.
-        AreOutcomes pages.now.memory (hart_rounds (words_of pages.now.memory.code)
-        pages.now.memory.bytes (quotas_of plan.now (round - 1)) harts.now) os.items) }
+    ensures { IfOk result (λ os. AreOutcomes (keeps_log crew.now.form) pages.now.memory
+        (hart_rounds (words_of pages.now.memory.code) pages.now.memory.bytes (quotas_of plan.now
+        (round - 1)) harts.now) os.items) }
 {
     // At most 64.
     let _harts = plan.harts();
     let mut all = [0; MOST_HARTS];
     let quotas = &mut all[..harts.len()];
     set_quotas(plan, round, quotas);
-    let start = sharing(
-        RoundStart::new(pages, table, harts, quotas),
-        crew.shares_logs,
-    );
+    let start = RoundStart::new(pages, table, harts, quotas).with_form(crew.form);
     outcomes_by::<Brand, G, R>(crew, &start, room)
-}
-
-/// The same start, of a round whose workers put long logs in brief, if they are to.
-fn sharing(start: RoundStart<'_>, shares_logs: bool) -> RoundStart<'_>
-    ensures { result ≡ start.entry }
-{
-    if shares_logs {
-        start.sharing_logs()
-    } else {
-        start
-    }
 }
 
 /// Does the rounds of all harts, in a list that is taken for its room: a lone worker without a book.
@@ -95,7 +118,8 @@ fn outcomes_by<B: BookStart + Send + Sync, G: Gate + Sync, R: Threads + Wait + S
     requires workers { (1 ≤ crew.now.workers) × (crew.now.workers ≤ 16) }
     requires start { start.now ≡ B.start }
     requires sized { length start.now.quotas ≡ length start.now.harts }
-    ensures { IfOk result (λ os. AreOutcomes start.now.memory (rounds_of start.now) os.items) }
+    ensures { IfOk result (λ os.
+        AreOutcomes start.now.logs start.now.memory (rounds_of start.now) os.items) }
 {
     room.clear();
     room.reserve(start.harts().len())?;
@@ -115,38 +139,39 @@ fn outcomes_alone<G: Gate>(
     requires sized { length start.now.quotas ≡ length start.now.harts }
     requires empty { outcomes.items ≡ [] }
     requires room { length start.now.harts ≤ vec_capacity outcomes }
-    ensures { IfOk result (λ os. AreOutcomes start.now.memory (rounds_of start.now) os.items) }
+    ensures { IfOk result (λ os.
+        AreOutcomes start.now.logs start.now.memory (rounds_of start.now) os.items) }
 {
     let alloc = start.pages().allocator();
+    // For the accesses of one round at a time.
+    let mut accesses = Vec::new(alloc);
     for number in 0..start.harts().len() {
         gate.pass(number as u32);
-        outcomes.push_reserved(Outcome {
-            hart: start.harts()[number],
-            buffer: StoreBuffer::new(alloc),
-            log: Log::of(Vec::new(alloc)),
-            waits: false,
-        });
-        round_in_place(number, start, &mut outcomes[number])?;
+        outcomes.push_reserved(Outcome::begun(alloc, start.harts()[number]));
+        round_in_place(number, start, &mut outcomes[number], &mut accesses)?;
         gate.done(number as u32);
     }
     Ok(outcomes)
 }
 
-/// Does the round of a hart in its outcome, in which the hart is as it starts.
+/// Does the round of a hart in its outcome, in which the hart is as it starts. `room` is taken for its accesses while the round goes
+/// on: what it holds is let go.
 pub(crate) fn round_in_place(
     number: usize,
     start: &RoundStart<'_>,
     outcome: &mut Outcome,
+    room: &mut Vec<Access>,
 ) -> Result<(), OutOfMemory>
     requires number { number < length start.now.harts }
     requires hart { slice_get start.now.harts number ≡ Some outcome.old.hart }
     ensures { OnOk result (round_at start.now number ≡ Some (content_from outcome.new.hart
-        outcome.new.buffer outcome.new.log outcome.new.waits)) }
+        outcome.new.buffer outcome.new.log outcome.new.accesses outcome.new.waits)) }
 {
-    let (buffer, accesses, waits) = round_from(number, start, &mut outcome.hart)?;
-    outcome.buffer = buffer;
-    outcome.log = Log::of(accesses);
-    outcome.waits = waits;
+    let left = round_from(number, start, &mut outcome.hart, room)?;
+    outcome.buffer = left.buffer;
+    outcome.log = left.log;
+    outcome.accesses = left.accesses;
+    outcome.waits = left.waits;
     Ok(())
 }
 
@@ -183,7 +208,8 @@ fn gather_outcomes<B: BookStart + Send + Sync, G: Gate + Sync, R: Threads + Wait
     requires sized { length start.now.quotas ≡ length start.now.harts }
     requires empty { outcomes.items ≡ [] }
     requires room { length start.now.harts ≤ vec_capacity outcomes }
-    ensures { IfOk result (λ os. AreOutcomes start.now.memory (rounds_of start.now) os.items) }
+    ensures { IfOk result (λ os.
+        AreOutcomes start.now.logs start.now.memory (rounds_of start.now) os.items) }
 {
     let mut gathered = gather::<B, G, R>(crew.rt, start, crew.workers, crew.gate)?;
     for number in 0..start.harts().len() {
@@ -191,13 +217,8 @@ fn gather_outcomes<B: BookStart + Send + Sync, G: Gate + Sync, R: Threads + Wait
         let Some(round) = gathered.take(number as u32) else {
             unreachable!()
         };
-        let (hart, buffer, log, waits) = round.into_parts();
-        outcomes.push_reserved(Outcome {
-            hart,
-            buffer,
-            log,
-            waits,
-        });
+        let (hart, left) = round.into_parts();
+        outcomes.push_reserved(Outcome::of(hart, left));
     }
     Ok(outcomes)
 }

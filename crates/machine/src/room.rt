@@ -1,7 +1,7 @@
 ghost use Rattle.std.specs.Prelude.{◌≡◌, ◌+◌, ◌≤◌, [], Bool, length, OnOk};
 ghost use Rattle.hart_step.specs.Room.{HasSpares};
 ghost use Rattle.serial_phase.specs.Roomed.{HasRoom};
-ghost use Rattle.machine.specs.Outcomes.{AreFit, AreReady, HasPlaces, KeepsPages, count_accesses, count_copied};
+ghost use Rattle.machine.specs.Outcomes.{AreFit, AreReady, HasPlaces, KeepsPages, count_copied, count_logged};
 
 use crate::outcome::Outcome;
 use crate::ready::make_ready;
@@ -55,7 +55,7 @@ pub fn make_places(
     turns: usize,
     adopts: bool,
 ) -> Result<(), OutOfMemory>
-    requires accesses { accesses ≡ count_accesses outcomes.now }
+    requires accesses { accesses ≡ count_logged outcomes.now }
     ensures trace { trace.new.events ≡ trace.old.events }
     ensures opening { trace.new.opening ≡ trace.old.opening }
     ensures places { OnOk result (HasPlaces adopts outcomes.now trace.new) }

@@ -6,6 +6,7 @@ ghost use Rattle.round_planner.specs.Quotas.{quotas_of};
 ghost use Rattle.hart_step.specs.declared.hart.Hart.{Hart};
 ghost use Rattle.hart_step.specs.CodeTables.{Shows};
 ghost use Rattle.hart_step.specs.Words.{words_of};
+ghost use Rattle.round_lock.specs.Starts.{keeps_log};
 ghost use Rattle.machine.specs.Guests.{guest_events, guest_of, next_guest, shared_of};
 ghost use Rattle.machine.specs.Held.{most_of_round};
 ghost use Rattle.machine.specs.Kept.{AreOfGuest};
@@ -51,7 +52,8 @@ impl GuestState {
         requires harts { length self.old.harts ≡ plan.now.harts }
         requires done { done + 1 < 2 ^ 32 }
         ensures stays { self.new ≡ self.old }
-        ensures outcomes { IfOk result (λ os. AreOfGuest plan.now done self.old os.items) }
+        ensures outcomes { IfOk result (λ os.
+            AreOfGuest (keeps_log crew.now.form) plan.now done self.old os.items) }
     {
         let shared = &self.shared;
         let alloc = shared.pages.allocator();
@@ -79,7 +81,7 @@ impl GuestState {
         mut outcomes: Vec<Outcome>,
     ) -> Result<RoundCounts, OutOfMemory>
         requires workers { 1 ≤ crew.now.workers }
-        requires outcomes { AreOfGuest plan.now done self.old outcomes.items }
+        requires outcomes { AreOfGuest E.logs plan.now done self.old outcomes.items }
         requires harts { length self.old.harts ≡ plan.now.harts }
         requires done { done + 1 < 2 ^ 32 }
         requires sound { (es : List Event) × E.keeps keeper.old es ×
@@ -135,8 +137,10 @@ fn finish<E: EventKeeper, G, R: Threads + Sync>(
     requires workers { 1 ≤ crew.now.workers }
     requires shows { Shows shared.old.pages.memory shared.old.code.first
         shared.old.code.instructions }
-    requires rounds { (rs : List (HartRound Hart)) × AreOutcomes shared.old.pages.memory rs
-        outcomes.old × TouchesNoCode shared.old.pages.memory.code (all_stores rs) }
+    requires rounds { (rs : List (HartRound Hart)) × AreOutcomes E.logs shared.old.pages.memory
+        rs outcomes.old × TouchesNoCode shared.old.pages.memory.code (all_stores rs) ×
+        ((es : List Event) × E.keeps keeper.old es ×
+        MayFinish E.may_keep phase rs outcomes.old (shared_of shared.old) es) }
     requires few { length outcomes.old ≤ 64 }
     requires fits { AreFit shared.old.pages.memory outcomes.old }
     requires harts { length harts.old ≡ length outcomes.old }
@@ -146,10 +150,10 @@ fn finish<E: EventKeeper, G, R: Threads + Sync>(
     requires waited { tally.waited ≡ count_true (waits_of outcomes.old) }
     requires counted { tally.accesses ≡ count_accesses outcomes.old }
     requires accesses { count_accesses outcomes.old ≤ 64000000 }
-    requires sound { (es : List Event) × E.keeps keeper.old es ×
-        MayFinish E.may_keep phase outcomes.old (shared_of shared.old) es }
-    ensures ok { IfOk result (λ n. (more : List Event) × IsFinished phase outcomes.old
-        (shared_of shared.old) (guest_of harts.new shared.new) more × (n.events ≡ length more) ×
+    ensures ok { IfOk result (λ n. (rs : List (HartRound Hart)) →
+        AreOutcomes E.logs shared.old.pages.memory rs outcomes.old → (more : List Event) ×
+        IsFinished phase rs outcomes.old (shared_of shared.old) (guest_of harts.new shared.new)
+        more × (n.events ≡ length more) ×
         ((es : List Event) → E.keeps keeper.old es → E.keeps keeper.new (es ++ more))) }
     ensures few { IfOk result (λ n. n.events ≤ 64 * most_of_round) }
     ensures opening { E.opens_with keeper.new ≡ E.opens_with keeper.old }

@@ -11,6 +11,7 @@ use crate::observing::{Observer, Unobserved};
 use hart_step::Hart;
 use host_io::RunError;
 use parallel_phase::Gate;
+use round_lock::LogForm;
 use std::sync::Wait;
 use std::thread::Threads;
 
@@ -77,7 +78,7 @@ impl Machine {
             workers,
             gate,
             least_lines: 0,
-            shares_logs: true,
+            form: LogForm::InBrief,
         };
         let outcomes = self.bare.outcomes(&crew)?;
         Ok(self.bare.end_round(&crew, &mut self.trace, outcomes)?)

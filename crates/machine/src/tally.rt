@@ -2,9 +2,7 @@ ghost use Rattle.std.specs.Prelude.{◌≡◌, ◌≤◌, ◌<◌, ◌^◌, leng
 ghost use Rattle.machine.specs.Outcomes.{count_accesses, count_true, mask_of, waits_of};
 
 use crate::outcome::Outcome;
-
-/// How many accesses on average make a round's logs long.
-const LONG: u64 = 64;
+use parallel_phase::LONG;
 
 /// What the outcomes of a round come to together.
 #[derive(Clone, Copy)]
@@ -41,7 +39,7 @@ impl Tally {
         let count = outcomes.len();
         for behind in 0..count {
             let outcome = &outcomes[count - 1 - behind];
-            let accesses = outcome.log.len() as u64;
+            let accesses = outcome.accesses;
             tally = Tally {
                 waiting: 2 * tally.waiting + u64::from(outcome.waits),
                 waited: tally.waited + u32::from(outcome.waits),
@@ -52,7 +50,7 @@ impl Tally {
         tally
     }
 
-    /// Whether the harts made many accesses, for their number: then the trace adopts their logs.
+    /// Whether the logs are long on average: then the trace adopts them.
     pub fn is_long(&self) -> bool {
         self.logs > 0 && self.accesses / LONG >= u64::from(self.logs)
     }

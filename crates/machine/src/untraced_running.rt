@@ -4,6 +4,7 @@ ghost use Rattle.round_schedule.specs.declared.event.Event.{Event};
 ghost use Rattle.round_schedule.specs.Schedule.{hart_rounds};
 ghost use Rattle.round_planner.specs.Quotas.{quotas_of};
 ghost use Rattle.hart_step.specs.Words.{words_of};
+ghost use Rattle.round_lock.specs.Starts.{keeps_log};
 ghost use Rattle.trace.specs.Traced.{IsTrace};
 ghost use Rattle.machine.specs.Machine.{count_stopped, count_waiting};
 ghost use Rattle.machine.specs.Kept.{AreOfNext};
@@ -209,7 +210,7 @@ impl UntracedMachine {
                 workers: 1,
                 gate: &Open,
                 least_lines: MANY_LINES,
-                shares_logs: keeper.shares_logs(),
+                form: keeper.log_form(),
             };
             let outcomes = self.outcomes(&crew)?;
             self.end_round(&crew, keeper, outcomes)?;
@@ -251,7 +252,8 @@ impl UntracedMachine {
         requires workers { (1 ≤ crew.now.workers) × (crew.now.workers ≤ 16) }
         requires rounds { self.old.rounds + 1 < 2 ^ 32 }
         ensures stays { self.new ≡ self.old }
-        ensures outcomes { IfOk result (λ os. AreOfNext self.old os.items) }
+        ensures outcomes { IfOk result (λ os.
+            AreOfNext (keeps_log crew.now.form) self.old os.items) }
     {
         self.guest.outcomes(crew, &self.plan, self.rounds)
     }
@@ -264,7 +266,7 @@ impl UntracedMachine {
         outcomes: Vec<Outcome>,
     ) -> Result<RoundNote, OutOfMemory>
         requires workers { 1 ≤ crew.now.workers }
-        requires outcomes { AreOfNext self.old outcomes.items }
+        requires outcomes { AreOfNext E.logs self.old outcomes.items }
         requires rounds { self.old.rounds + 1 < 2 ^ 32 }
         requires sound { (es : List Event) × E.keeps keeper.old es ×
             E.may_keep (es ++ next_events self.old) }

@@ -15,7 +15,7 @@ use trace::Trace;
 /// In one turn after another, a hart loads the doubleword at 0x400 and then stores there its number plus 2, 4, 6 and so on,
 /// so that no two harts store the same number:
 /// ADDI x20,x0,1024; ADDI x10,x10,2; LD x9,0(x20); SD x10,0(x20); BNE x20,x0,-12.
-const TURNS: [u32; 5] = [
+pub(crate) const TURNS: [u32; 5] = [
     0x4000_0A13,
     0x0025_0513,
     0x000A_3483,

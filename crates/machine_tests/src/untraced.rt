@@ -5,8 +5,10 @@ ghost use Rattle.machine.specs.Untraced.{AreLast};
 
 use crate::harness::{flat, settings};
 use crate::images::{CROSSED_AND_FENCED, RESERVED};
+use crate::long_rounds::TURNS;
+use crate::workers::SHARED_COUNTERS;
 use host_io::RunError;
-use machine::{Observer, Trace, UntracedMachine, prepare_untraced};
+use machine::{Observer, Trace, UntracedMachine, prepare, prepare_untraced};
 use std::alloc::Global;
 use std::sync::Wait;
 use std::thread::Threads;
@@ -47,6 +49,40 @@ fn runs<R: Threads + Wait + Sync>(rt: &R, alloc: Global) -> Result<bool, RunErro
 fn a_run_without_a_trace_ends_as_the_run_does(rt: HostRuntime) {
     let ended = runs(&rt, rt.alloc());
     assert!(rt; matches!(&ended, Ok(true)));
+}
+
+/// Whether three rounds of eight harts end alike with a trace and without one, on so many workers: in the number of events, in the
+/// harts, and in each byte.
+fn ends_alike<R: Threads + Wait + Sync>(
+    rt: &R,
+    alloc: Global,
+    words: &[u32],
+    plan: &[u8],
+    workers: u32,
+) -> Result<bool, RunError> {
+    let settings = settings(8, 3, plan);
+    let image = flat(alloc, words)?;
+    let mut traced = prepare(alloc, &image, &[], &settings)?;
+    let mut bare = prepare_untraced(alloc, &image, &[], &settings)?;
+    traced.run(rt, 3, workers)?;
+    bare.run(rt, 3, workers)?;
+    for address in 0..4096 {
+        if traced.byte(address) != bare.byte(address) {
+            return Ok(false);
+        }
+    }
+    let events = traced.trace().len() as u64;
+    Ok(events >= 24 && bare.events() == events && bare.harts() == traced.harts())
+}
+
+#[test]
+fn runs_end_alike_without_a_trace_on_any_workers(rt: HostRuntime) {
+    for workers in [1, 2, 4] {
+        // Rounds with serial turns; rounds that stay on the calling thread; rounds that are worth four workers.
+        assert!(rt; ends_alike(&rt, rt.alloc(), &SHARED_COUNTERS, b"50\n", workers) == Ok(true));
+        assert!(rt; ends_alike(&rt, rt.alloc(), &TURNS, b"41\n", workers) == Ok(true));
+        assert!(rt; ends_alike(&rt, rt.alloc(), &TURNS, b"20001\n", workers) == Ok(true));
+    }
 }
 
 /// Round by round: one event in the first round, and two in the second.

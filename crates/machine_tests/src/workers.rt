@@ -18,7 +18,7 @@ use test_gates::{Behind, Meeting};
 /// SLLI x5,x10,3; ADDI x8,x0,512; ADDI x9,x0,520; ADDI x12,x0,1;
 /// LR.D x6,(x8); ADDI x6,x6,1; SC.D x7,x6,(x8); BNE x7,x0,-12; AMOADD.D x13,x12,(x9);
 /// ADD x14,x14,x12; SD x14,1024(x5); LD x15,1032(x5); ADD x16,x16,x15; JAL x0,-36.
-const SHARED_COUNTERS: [u32; 14] = [
+pub(crate) const SHARED_COUNTERS: [u32; 14] = [
     0x0035_1293,
     0x2000_0413,
     0x2080_0493,

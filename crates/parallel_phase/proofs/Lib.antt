@@ -1,2 +1,3 @@
+pub mod FewAccesses
 pub mod HartRounds
 pub mod Gatherings

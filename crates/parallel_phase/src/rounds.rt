@@ -1,18 +1,20 @@
-ghost use Rattle.std.specs.Prelude.{◌≡◌, ◌<◌, length, slice_get, IfOk, Some};
-ghost use Rattle.round_lock.specs.Starts.{content_from, round_at};
+ghost use Rattle.std.specs.Prelude.{◌≡◌, ◌<◌, ◌^◌, true, false, List, [], length, slice_get, IfOk, Some};
+ghost use Rattle.round_schedule.specs.declared.access.Access.{Access as AccessOf};
+ghost use Rattle.round_lock.specs.Starts.{content_from, logged, round_at};
 ghost use Rattle.round_lock.specs.Rounds.{ticket_of};
 
-use hart_step::{Access, Buffered, Hart};
+use hart_step::{Access, AccessCount, AccessLog, Buffered, Hart};
 use pages::OutOfMemory;
-use round_lock::{BookStart, HartRound, RoundStart, Ticket};
+use round_lock::{BookStart, HartRound, LogForm, RoundLeft, RoundStart, Ticket};
 use store_buffer::StoreBuffer;
 use trace::Log;
 
 /// From so many accesses on a log is long.
-const LONG: usize = 64;
+pub const LONG: u64 = 64;
 
-/// Does the round of a hart in place, on the memory of its start. The hart is as it starts. Answers its stores, its accesses,
-/// and whether it waits.
+/// Does the round of a hart in place, on the memory of its start. The hart is as it starts. Its accesses are counted or kept, as
+/// the start says; a long log is put in brief, if it says so. `room` is taken for the accesses while the round goes on: what it holds
+/// is let go.
 ///
 /// # Errors
 ///
@@ -21,42 +23,90 @@ pub fn round_from(
     number: usize,
     start: &RoundStart<'_>,
     hart: &mut Hart,
-) -> Result<(StoreBuffer, Vec<Access>, bool), OutOfMemory>
+    room: &mut Vec<Access>,
+) -> Result<RoundLeft, OutOfMemory>
     requires number { number < length start.now.harts }
     requires hart { slice_get start.now.harts number ≡ Some hart.old }
     ensures { IfOk result (λ r. round_at start.now number ≡
-        Some (content_from hart.new r.0 r.1.items r.2)) }
+        Some (content_from hart.new r.buffer r.log r.accesses r.waits)) }
 {
-    let quota = start.quotas()[number];
-    let pages = start.pages();
-    let alloc = pages.allocator();
-    let mut view = Buffered::new(alloc, pages);
-    let mut accesses = Vec::new(alloc);
-    let waits = hart_step::hart_round(hart, &mut view, start.table(), quota, &mut accesses)?;
-    Ok((view.into_buffer(), accesses, waits))
+    match start.form() {
+        LogForm::Counted => counted_round(number, start, hart),
+        LogForm::Kept | LogForm::InBrief => kept_round(number, start, hart, room),
+    }
 }
 
-/// The same with the accesses as a log, which is put in brief where it is long and the start says so.
-///
-/// # Errors
-///
-/// The start is only read. The hart is as some of its instructions left it.
-pub fn logged_round(
+/// The same of a start whose harts' accesses are only counted.
+fn counted_round(
     number: usize,
     start: &RoundStart<'_>,
     hart: &mut Hart,
-) -> Result<(StoreBuffer, Log, bool), OutOfMemory>
+) -> Result<RoundLeft, OutOfMemory>
     requires number { number < length start.now.harts }
     requires hart { slice_get start.now.harts number ≡ Some hart.old }
+    requires counted { start.now.logs ≡ false }
     ensures { IfOk result (λ r. round_at start.now number ≡
-        Some (content_from hart.new r.0 r.1 r.2)) }
+        Some (content_from hart.new r.buffer r.log r.accesses r.waits)) }
 {
-    let (buffer, accesses, waits) = round_from(number, start, hart)?;
-    let mut log = Log::of(accesses);
-    if start.shares_logs() && log.len() >= LONG {
-        log.share()?;
-    }
-    Ok((buffer, log, waits))
+    let mut count = AccessCount { count: 0 };
+    let (buffer, waits) = round_into(number, start, hart, &mut count)?;
+    Ok(RoundLeft {
+        buffer,
+        log: Log::of(Vec::new(start.pages().allocator())),
+        accesses: count.count,
+        waits,
+    })
+}
+
+/// The same of a start whose harts' accesses are kept.
+fn kept_round(
+    number: usize,
+    start: &RoundStart<'_>,
+    hart: &mut Hart,
+    room: &mut Vec<Access>,
+) -> Result<RoundLeft, OutOfMemory>
+    requires number { number < length start.now.harts }
+    requires hart { slice_get start.now.harts number ≡ Some hart.old }
+    requires kept { start.now.logs ≡ true }
+    ensures { IfOk result (λ r. round_at start.now number ≡
+        Some (content_from hart.new r.buffer r.log r.accesses r.waits)) }
+{
+    room.clear();
+    let (buffer, waits) = round_into(number, start, hart, room)?;
+    let accesses = room.len() as u64;
+    let alloc = start.pages().allocator();
+    let log = if start.form() == LogForm::InBrief && accesses >= LONG {
+        Log::in_brief(alloc, room)?
+    } else {
+        Log::copied(alloc, room)?
+    };
+    Ok(RoundLeft {
+        buffer,
+        log,
+        accesses,
+        waits,
+    })
+}
+
+/// Does the round of a hart in place, and adds its accesses to a log that holds none. Answers its stores, and whether it waits.
+fn round_into<L: AccessLog>(
+    number: usize,
+    start: &RoundStart<'_>,
+    hart: &mut Hart,
+    log: &mut L,
+) -> Result<(StoreBuffer, bool), OutOfMemory>
+    requires number { number < length start.now.harts }
+    requires hart { slice_get start.now.harts number ≡ Some hart.old }
+    requires empty { L.holds log.old [] }
+    ensures { IfOk result (λ r. (es : List AccessOf) × L.holds log.new es ×
+        (length es < 2 ^ 32) × (round_at start.now number ≡
+        Some (content_from hart.new r.0 (logged start.now.logs es) (length es) r.1))) }
+{
+    let quota = start.quotas()[number];
+    let pages = start.pages();
+    let mut view = Buffered::new(pages.allocator(), pages);
+    let waits = hart_step::hart_round(hart, &mut view, start.table(), quota, log)?;
+    Ok((view.into_buffer(), waits))
 }
 
 /// Does the round of a ticket's hart, on the memory of the start that its book was opened with.
@@ -74,6 +124,7 @@ pub fn hart_round<B: BookStart>(
 {
     let number = ticket.hart() as usize;
     let mut hart = start.harts()[number];
-    let (buffer, log, waits) = logged_round(number, start, &mut hart)?;
-    Ok(HartRound::new(ticket, hart, buffer, log, waits))
+    let mut room = Vec::new(start.pages().allocator());
+    let left = round_from(number, start, &mut hart, &mut room)?;
+    Ok(HartRound::new(ticket, hart, left))
 }

@@ -6,7 +6,7 @@ ghost use Rattle.round_lock.specs.Rounds.{harts_put, ticket_of};
 
 use hart_step::{CodeTable, Hart};
 use pages::Pages;
-use round_lock::{BookStart, Gathered, HartRound, RoundBook, RoundStart, Seat, Ticket};
+use round_lock::{BookStart, Gathered, HartRound, RoundBook, RoundLeft, RoundStart, Seat, Ticket};
 use std::alloc::Global;
 use std::marker::Brand;
 use std::process::Abort;
@@ -40,13 +40,13 @@ fn idle_round<B: BookStart>(
     if *start.quotas().get(number)? != 0 {
         return None;
     }
-    Some(HartRound::new(
-        ticket,
-        hart,
-        StoreBuffer::new(alloc),
-        Log::of(Vec::new(alloc)),
-        false,
-    ))
+    let left = RoundLeft {
+        buffer: StoreBuffer::new(alloc),
+        log: Log::of(Vec::new(alloc)),
+        accesses: 0,
+        waits: false,
+    };
+    Some(HartRound::new(ticket, hart, left))
 }
 
 /// Claims a hart and puts its round, if there is a hart left.
@@ -148,9 +148,10 @@ fn two_meet<B: BookStart, R: Abort + Wait>(rt: &R, alloc: Global, start: &RoundS
     assert!(rt; last.log().len() == 0 && last.buffer().stores().next().is_none());
     assert!(rt; gathered.get(2).is_none());
     let taken = gathered.take(0).expect(rt, "the hart was put");
-    let (hart, buffer, log, waits) = taken.into_parts();
-    assert!(rt; hart.x[5] == 6 && !waits);
-    assert!(rt; log.len() == 0 && buffer.stores().next().is_none());
+    let (hart, left) = taken.into_parts();
+    assert!(rt; hart.x[5] == 6 && !left.waits);
+    assert!(rt; left.log.len() == 0 && left.accesses == 0);
+    assert!(rt; left.buffer.stores().next().is_none());
     assert!(rt; gathered.get(0).is_none() && gathered.get(1).is_some());
     assert!(rt; gathered.take(0).is_none() && !gathered.is_complete());
 }

@@ -9,7 +9,7 @@ mod gates;
 use hart_step::{Access, CodeTable, Hart};
 use pages::{Pages, Piece, Range, Width};
 use parallel_phase::{Gate, Open, gather};
-use round_lock::{BookStart, RoundStart};
+use round_lock::{BookStart, LogForm, RoundStart};
 use std::alloc::Global;
 use std::marker::Brand;
 use std::process::Abort;
@@ -109,7 +109,7 @@ fn gathers_stores<B: BookStart + Send + Sync, R: Abort + Threads + Wait + Sync>(
         let round = gathered.get(h as u32).expect(rt, "the hart was put");
         assert!(rt; round.hart().x[7] == 2 * (h as u64 + 5), "hart {h}");
         assert!(rt; round.hart().done == 5 && round.waits(), "hart {h}");
-        assert!(rt; round.log().len() == 2, "hart {h}");
+        assert!(rt; round.log().len() == 2 && round.accesses() == 2, "hart {h}");
         let first = round.buffer().stores().next().expect(rt, "it stored");
         assert!(rt;
             first.address == 0x100 && first.value == 2 * (h as u64 + 5),
@@ -151,11 +151,45 @@ fn logs_are_the_same_in_brief(rt: HostRuntime) -> Result<(), Fail> {
     let harts = harts();
     let quotas = [300; 64];
     let whole = RoundStart::new(&pages, &table, &harts, &quotas);
-    assert!(rt; !whole.shares_logs());
+    assert!(rt; whole.form() == LogForm::Kept);
     gathers_counts::<Brand, _>(&rt, &whole);
-    let brief = RoundStart::new(&pages, &table, &harts, &quotas).sharing_logs();
-    assert!(rt; brief.shares_logs());
+    let brief = RoundStart::new(&pages, &table, &harts, &quotas).with_form(LogForm::InBrief);
+    assert!(rt; brief.form() == LogForm::InBrief);
     gathers_counts::<Brand, _>(&rt, &brief);
+    Ok(())
+}
+
+/// Gathers harts that count to 100 and whose accesses are only counted, by so many workers.
+fn gathers_numbers<B: BookStart + Send + Sync, R: Abort + Threads + Wait + Sync>(
+    rt: &R,
+    start: &RoundStart<'_>,
+    workers: u32,
+)
+    requires start { start.now ≡ B.start }
+    requires workers { (1 ≤ workers) × (workers ≤ 16) }
+{
+    let gathered = gather::<B, Open, R>(rt, start, workers, &Open).expect(rt, "memory");
+    for h in 0..start.harts().len() {
+        let round = gathered.get(h as u32).expect(rt, "the hart was put");
+        assert!(rt;
+            round.accesses() == 100 && round.log().len() == 0,
+            "hart {h}"
+        );
+        let last = round.buffer().stores().next().expect(rt, "it stored");
+        assert!(rt; last.address == 0x100 && last.value == 100, "hart {h}");
+    }
+}
+
+#[test]
+fn accesses_are_counted_where_no_log_is_kept(rt: HostRuntime) -> Result<(), Fail> {
+    let pages = memory(rt.alloc(), &COUNT)?;
+    let table = CodeTable::new(rt.alloc(), &pages, 0, 3)?;
+    let harts = harts();
+    let quotas = [300; 64];
+    for workers in [1, 2, 4] {
+        let start = RoundStart::new(&pages, &table, &harts, &quotas).with_form(LogForm::Counted);
+        gathers_numbers::<Brand, _>(&rt, &start, workers);
+    }
     Ok(())
 }
 

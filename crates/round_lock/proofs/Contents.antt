@@ -1,10 +1,11 @@
 -- The round of one hart among the rounds of all.
-use Rattle.std.proofs.Common.{◌≡◌, ℕ, zero, suc, false, List, [], ◌∷◌, Some, option_map, slice_get, get_or, length, ◌<◌, sym, ap, ap₂, arith}
+use Rattle.std.proofs.Common.{◌≡◌, ℕ, zero, suc, Bool, true, false, List, [], ◌∷◌, Some, option_map, slice_get, get_or, length, ◌<◌, refl, sym, ap, ap₂, ◌∙◌, arith}
+use Rattle.round_schedule.specs.declared.access.Access.{Access}
 use Rattle.round_schedule.specs.Schedule.{Words, hart_round_of, hart_rounds, round_from}
 use Rattle.hart_step.specs.declared.hart.Hart.{Hart}
 use Rattle.hart_step.specs.Console.{ConsoleState}
 use Rattle.hart_step.specs.Words.{words_of}
-use Rattle.round_lock.specs.Starts.{Start, content_from, content_of, round_at}
+use Rattle.round_lock.specs.Starts.{Start, content_from, content_of, logged, round_at}
 
 rounds_get : (w : Words Hart ConsoleState) (bs qs : List ℕ) (hs : List Hart) (i q : ℕ) (h : Hart) → slice_get hs i ≡ Some h → slice_get qs i ≡ Some q
     → slice_get (hart_rounds w bs qs hs) i ≡ Some (hart_round_of w bs q h)
@@ -14,14 +15,18 @@ rounds_get w bs (p ∷ qs) (x ∷ hs) zero q h at quota = let e : x ≡ h = cc i
 rounds_get w bs (p ∷ qs) (x ∷ hs) (suc i) q h at quota = rounds_get w bs qs hs i q h at quota
 
 pub round_at_is : (s : Start) (n q : ℕ) (h : Hart) → slice_get s.harts n ≡ Some h → slice_get s.quotas n ≡ Some q
-    → round_at s n ≡ Some (content_of (hart_round_of (words_of s.memory.code) s.memory.bytes q h))
+    → round_at s n ≡ Some (content_of s.logs (hart_round_of (words_of s.memory.code) s.memory.bytes q h))
 unfolding round_at
-round_at_is s n q h at quota = ap (option_map content_of) (rounds_get (words_of s.memory.code) s.memory.bytes s.quotas s.harts n q h at quota)
+round_at_is s n q h at quota = ap (option_map (content_of s.logs)) (rounds_get (words_of s.memory.code) s.memory.bytes s.quotas s.harts n q h at quota)
+
+nothing_logged : (logs : Bool) → logged logs [] ≡ []
+nothing_logged true = refl
+nothing_logged false = refl
 
 -- a hart with no quota stays as it is
-pub idle_at : (s : Start) (n : ℕ) (h : Hart) → slice_get s.harts n ≡ Some h → slice_get s.quotas n ≡ Some 0 → round_at s n ≡ Some (content_from h [] [] false)
+pub idle_at : (s : Start) (n : ℕ) (h : Hart) → slice_get s.harts n ≡ Some h → slice_get s.quotas n ≡ Some 0 → round_at s n ≡ Some (content_from h [] [] 0 false)
 unfolding round_from
-idle_at s n h at none = round_at_is s n 0 h at none
+idle_at s n h at none = round_at_is s n 0 h at none ∙ ap (λ (log : List Access). Some (content_from h [] log 0 false)) (nothing_logged s.logs)
 
 pub got : {A : Type 0} (xs : List A) (n : ℕ) (x : A) → n < length xs → x ≡ get_or xs n x → slice_get xs n ≡ Some x
 got [] n x lt e = absurd (omega arith)

@@ -12,7 +12,7 @@ ticket_of r = r.ticket
 
 -- what the round came to
 abbrev pub content_in : {b : _} {g : _} → HartRound b g → Content
-content_in r = content_from r.hart r.buffer r.log r.waits
+content_in r = content_from r.hart r.left.buffer r.left.log r.left.accesses r.left.waits
 
 -- the harts that a seat has put
 abbrev pub harts_put : {b : _} {g : _} → Known (HartRound b g) → List ℕ

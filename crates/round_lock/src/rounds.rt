@@ -6,6 +6,7 @@ ghost use Rattle.round_lock.specs.Starts.{content_from, one_content, round_at};
 
 use crate::entry::Entry;
 use crate::hart_round::HartRound;
+use crate::round_left::RoundLeft;
 use crate::start::BookStart;
 use crate::ticket::Ticket;
 use hart_step::Hart;
@@ -33,24 +34,17 @@ impl<B: BookStart> Entry for HartRound<B> {
 
 impl<B: BookStart> HartRound<B> {
     /// A round for a ticket. What it is made of is the round of the ticket's hart from the book's start.
-    pub fn new(
-        ticket: Ticket,
-        hart: Hart,
-        buffer: StoreBuffer,
-        log: Log,
-        waits: bool,
-    ) -> HartRound<B>
+    pub fn new(ticket: Ticket, hart: Hart, left: RoundLeft) -> HartRound<B>
         requires { round_at B.start ticket.hart ≡
-            Some (content_from hart buffer log waits) }
+            Some (content_from hart left.buffer left.log left.accesses left.waits) }
         ensures ticket { ticket_of result ≡ ticket }
-        ensures content { content_in result ≡ content_from hart buffer log waits }
+        ensures content { content_in result ≡
+            content_from hart left.buffer left.log left.accesses left.waits }
     {
         HartRound {
             ticket,
             hart,
-            buffer,
-            log,
-            waits,
+            left,
             of: PhantomData,
         }
     }
@@ -66,34 +60,36 @@ impl<B: BookStart> HartRound<B> {
     pub fn buffer(&self) -> &StoreBuffer
         ensures { result.now ≡ (content_in self.now).buffer }
     {
-        &self.buffer
+        &self.left.buffer
     }
 
-    /// Its accesses, in program order.
+    /// Its accesses in program order, or none where they were only counted.
     pub fn log(&self) -> &Log
         ensures { result.now ≡ (content_in self.now).accesses }
     {
-        &self.log
+        &self.left.log
+    }
+
+    /// How many accesses there were.
+    pub fn accesses(&self) -> u64
+        ensures { result ≡ (content_in self.now).count }
+    {
+        self.left.accesses
     }
 
     /// Whether it waits for the serial phase.
     pub fn waits(&self) -> bool
         ensures { result ≡ (content_in self.now).waits }
     {
-        self.waits
+        self.left.waits
     }
 
-    /// The hart after its round, the bytes that it stored, its accesses in program order, and whether it waits.
-    pub fn into_parts(self) -> (Hart, StoreBuffer, Log, bool)
-        ensures { content_in self ≡ content_from result.0 result.1 result.2 result.3 }
+    /// The hart after its round, and what the round left beside it.
+    pub fn into_parts(self) -> (Hart, RoundLeft)
+        ensures { content_in self ≡ content_from result.0 result.1.buffer result.1.log
+            result.1.accesses result.1.waits }
     {
-        let HartRound {
-            hart,
-            buffer,
-            log,
-            waits,
-            ..
-        } = self;
-        (hart, buffer, log, waits)
+        let HartRound { hart, left, .. } = self;
+        (hart, left)
     }
 }

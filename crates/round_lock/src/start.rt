@@ -1,7 +1,8 @@
-ghost use Rattle.std.specs.Prelude.{◌≡◌, ◌≤◌, length};
+ghost use Rattle.std.specs.Prelude.{◌≡◌, ◌≤◌, length, true};
 ghost use Rattle.hart_step.specs.CodeTables.{Shows};
-ghost use Rattle.round_lock.specs.Starts.{Start, empty_start};
+ghost use Rattle.round_lock.specs.Starts.{Start, empty_start, keeps_log};
 
+use crate::log_form::LogForm;
 use hart_step::{CodeTable, Hart};
 use pages::Pages;
 use std::marker::{Brand, Model};
@@ -14,22 +15,26 @@ pub struct RoundStart<'a> {
     table: &'a CodeTable,
     harts: &'a [Hart],
     quotas: &'a [u32],
-    // Whether the workers put long logs in brief, for a trace to take over.
-    shares_logs: bool,
+    // What becomes of the harts' accesses.
+    form: LogForm,
 }
 
 impl<'a> Model for RoundStart<'a> {
     ghost Value = { Start };
 
-    ghost view = { λ s.
-        record { memory = s.pages.now.memory; quotas = s.quotas.now; harts = s.harts.now } };
+    ghost view = { λ s. record {
+      memory = s.pages.now.memory;
+      quotas = s.quotas.now;
+      harts = s.harts.now;
+      logs = keeps_log s.form;
+    } };
 
     ghost invariant = { λ s. (length s.quotas.now ≡ length s.harts.now) × (length s.harts.now ≤
         64) × Shows s.pages.now.memory s.table.now.first s.table.now.instructions };
 }
 
 impl<'a> RoundStart<'a> {
-    /// A round of at most 64 harts on this memory, with a quota for each.
+    /// A round of at most 64 harts on this memory, with a quota for each. The harts' accesses are kept.
     pub fn new(
         pages: &'a Pages,
         table: &'a CodeTable,
@@ -39,31 +44,34 @@ impl<'a> RoundStart<'a> {
         requires quotas { length quotas.now ≡ length harts.now }
         requires few { length harts.now ≤ 64 }
         requires shows { Shows pages.now.memory table.now.first table.now.instructions }
-        ensures { result ≡
-            record { memory = pages.now.memory; quotas = quotas.now; harts = harts.now } }
+        ensures { result ≡ record {
+          memory = pages.now.memory;
+          quotas = quotas.now;
+          harts = harts.now;
+          logs = true;
+        } }
     {
         RoundStart {
             pages,
             table,
             harts,
             quotas,
-            shares_logs: false,
+            form: LogForm::Kept,
         }
     }
 
-    /// The same start, of a round whose long logs are put in brief by the workers that made them, for a trace to take over.
-    pub fn sharing_logs(self) -> RoundStart<'a>
-        ensures { result ≡ self.entry }
+    /// The same start, of a round whose harts' accesses are counted or kept in this form.
+    pub fn with_form(self, form: LogForm) -> RoundStart<'a>
+        ensures { result ≡ record self.entry { logs = keeps_log form } }
     {
-        RoundStart {
-            shares_logs: true,
-            ..self
-        }
+        RoundStart { form, ..self }
     }
 
-    /// Whether the workers put long logs in brief.
-    pub fn shares_logs(&self) -> bool {
-        self.shares_logs
+    /// What becomes of the harts' accesses.
+    pub fn form(&self) -> LogForm
+        ensures { keeps_log result ≡ self.now.logs }
+    {
+        self.form
     }
 
     /// Guest memory.

@@ -1,12 +1,14 @@
 //! The accesses of a hart, as a trace takes them over.
 
-ghost use Rattle.std.specs.Prelude.{◌≡◌, ◌<◌, [], length, slice_index_or, IfOk};
+ghost use Rattle.std.specs.Prelude.{◌≡◌, ◌<◌, [], length, slice_index_or, IfOk, IfSome};
 ghost use Rattle.trace.specs.LentLogs.{accesses_lent};
+ghost use Rattle.trace.specs.Logs.{accesses_in};
 
 use crate::accesses::Accesses;
 use crate::stretches::Stretches;
 use pages::OutOfMemory;
 use round_schedule::Access;
+use std::alloc::Global;
 use std::marker::Model;
 use std::mem;
 use std::sync::Arc;
@@ -47,6 +49,31 @@ impl Log {
         }
     }
 
+    /// A log with copies of these accesses.
+    ///
+    /// # Errors
+    ///
+    /// `OutOfMemory`.
+    pub fn copied(alloc: Global, accesses: &[Access]) -> Result<Log, OutOfMemory>
+        ensures { IfOk result (λ l. l ≡ accesses.now) }
+    {
+        Ok(Log::of(Vec::from_slice(alloc, accesses)?))
+    }
+
+    /// A log of these accesses in the form that `share` puts them into, where they have it, and else with copies of them.
+    ///
+    /// # Errors
+    ///
+    /// `OutOfMemory`.
+    pub fn in_brief(alloc: Global, accesses: &[Access]) -> Result<Log, OutOfMemory>
+        ensures { IfOk result (λ l. l ≡ accesses.now) }
+    {
+        match brief_of(alloc, accesses)? {
+            Some(kept) => Ok(Log { kept }),
+            None => Log::copied(alloc, accesses),
+        }
+    }
+
     /// Puts plain loads and stores and fences into a form that takes less memory, and that the copies of a trace share. A log
     /// with another access, or with an address from 2^32 on, stays as it is; so may one whose places do not rise.
     ///
@@ -59,15 +86,9 @@ impl Log {
         let Kept::Own(accesses) = &self.kept else {
             return Ok(());
         };
-        if accesses.is_empty() {
-            return Ok(());
+        if let Some(kept) = brief_of(*accesses.allocator(), accesses)? {
+            self.kept = kept;
         }
-        let alloc = *accesses.allocator();
-        let Some(stretches) = Stretches::of(alloc, accesses)? else {
-            return Ok(());
-        };
-        let stretches = Arc::new(alloc, stretches).map_err(|_| OutOfMemory)?;
-        self.kept = Kept::Brief(stretches);
         Ok(())
     }
 
@@ -127,4 +148,18 @@ impl Log {
         };
         Ok(Log { kept })
     }
+}
+
+/// Accesses in brief, where there are some and each has a form in brief.
+fn brief_of(alloc: Global, accesses: &[Access]) -> Result<Option<Kept>, OutOfMemory>
+    ensures { IfOk result (λ r. IfSome r (λ kept. accesses_in kept ≡ accesses.now)) }
+{
+    if accesses.is_empty() {
+        return Ok(None);
+    }
+    let Some(stretches) = Stretches::of(alloc, accesses)? else {
+        return Ok(None);
+    };
+    let stretches = Arc::new(alloc, stretches).map_err(|_| OutOfMemory)?;
+    Ok(Some(Kept::Brief(stretches)))
 }

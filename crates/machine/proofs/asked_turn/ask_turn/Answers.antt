@@ -15,8 +15,8 @@ take_turns-requires-clause-shows g c =
     let room = c.make_turn_room.new.shared in
     let m = c.args.shared.now.pages.memory in
     let same = c.in_ok-make_turn_room.ensures.keeps.memory in
-    let committed = c.commit.ensures.committed rounds.0 (subst (λ (x : Memory). AreOutcomes x rounds.0 c.args.outcomes.now) (sym same) rounds.1) in
-    shows_committed rounds.0 m room.pages c.commit.new.pages room.reservations c.commit.new.table room.code.first room.code.instructions same committed rounds.2
+    let committed = c.commit.ensures.committed rounds.0 rounds.1 (subst (λ (x : Memory). AreOutcomes rounds.0 x rounds.1 c.args.outcomes.now) (sym same) rounds.2) in
+    shows_committed rounds.1 m room.pages c.commit.new.pages room.reservations c.commit.new.table room.code.first room.code.instructions same committed rounds.3
     (subst (λ x. Shows m x.first x.instructions) (sym c.in_ok-make_turn_room.ensures.code) c.requires.shows)
 
 pub hart_at-requires-clause-pages : goal.hart_at-requires-clause-pages
@@ -30,11 +30,11 @@ hart_at-requires-clause-console g c =
     (same_room (c.turns_needed.result + c.args.place.budget) _ c.make_turn_room.new.shared.console (omega (arith, c.turns_needed.ensures.needed)) c.in_ok-make_turn_room.ensures.output)
 
 pub returns : goal.returns
-returns g c = λ rs a.
+returns g c = λ logs rs a.
     let old = shared_of c.args.shared.now in
     let os = c.args.outcomes.now in
     let same = c.in_ok-make_turn_room.ensures.keeps.memory in
     let committed = subst (λ t. Committed rs c.make_turn_room.new.shared.pages c.commit.new.pages t c.commit.new.table) c.in_ok-make_turn_room.ensures.reservations
-    (c.commit.ensures.committed rs (subst (λ (x : Memory). AreOutcomes x rs os) (sym same) a)) in
+    (c.commit.ensures.committed logs rs (subst (λ (x : Memory). AreOutcomes logs x rs os) (sym same) a)) in
     c.hart_at.ensures
-    ∙ begun_there _ c.args.place c.args.start old rs os c.make_turn_room.new.shared.pages _ c.take_turns.new.shared refl a same committed c.in_ok-make_turn_room.ensures.console c.take_turns.ensures.turns
+    ∙ begun_there logs _ c.args.place c.args.start old rs os c.make_turn_room.new.shared.pages _ c.take_turns.new.shared refl a same committed c.in_ok-make_turn_room.ensures.console c.take_turns.ensures.turns

@@ -1,3 +1,4 @@
+use Rattle.std.proofs.Common.{[], refl}
 use Rattle.parallel_phase.proofs.HartRounds.{shows_through}
 use Rattle.machine.proofs.Asked.{shorter_is}
 use Rattle.machine.proofs.asking.shorter_round.Goals as goal
@@ -7,5 +8,5 @@ hart_round-requires c = shows_through c.args.shared.now.pages.memory c.new-view.
 
 pub returns : goal.returns
 returns c =
-    shorter_is c.args.shared.now.pages.memory c.new-view.result c.hart_round.new.b c.args.quota c.args.hart c.hart_round.new.h c.new-accesses.result.items c.hart_round.new.log.items c.in_ok-_waits._waits
-    c.new-view.ensures c.new-accesses.ensures.items c.in_ok-_waits.ensures.round
+    let left = c.in_ok-_waits.ensures.round [] refl in
+    shorter_is c.args.shared.now.pages.memory c.new-view.result c.hart_round.new.b c.args.quota c.args.hart c.hart_round.new.h [] left.0 c.in_ok-_waits._waits c.new-view.ensures refl left.2

@@ -14,9 +14,9 @@ loop-number-preserved g c =
     let o : Outcome = c.in_ok-outcome.outcome in
     let low : n < length s.harts = omega (arith, c.loop-number-test.true) in
     record {
-      rounds = outcomes_more s.memory s.quotas s.harts n none _ c.loop-number.room.items c.push_reserved.new.self.items o
+      rounds = outcomes_more s.logs s.memory s.quotas s.harts n none _ c.loop-number.room.items c.push_reserved.new.self.items o
           low refl c.push_reserved.ensures.items c.loop-number.invariant.rounds
-          (is_outcome s n none (content_from o.hart o.buffer o.log o.waits) o low c.requires.quotas c.in_ok-outcome.ensures refl);
+          (is_outcome s n none (content_from o.hart o.buffer o.log o.accesses o.waits) o low c.requires.quotas c.in_ok-outcome.ensures refl);
       count = search rules;
       room = search rules;
     }

@@ -1,7 +1,7 @@
 use Rattle.std.proofs.Common.{◌≡◌, ◌<◌, List, length, [], None, Some, refl, sym, ap, ◌∙◌, subst, arith, rules}
 use Rattle.hart_step.specs.declared.hart.Hart.{Hart}
 use Rattle.round_lock.specs.Rounds.{content_in, hart_of}
-use Rattle.round_lock.specs.Starts.{Start, round_at}
+use Rattle.round_lock.specs.Starts.{Start, content_from, round_at}
 use Rattle.round_lock.proofs.Lists.{has_from_times}
 use Rattle.machine.specs.Outcomes.{AreOutcomes}
 use Rattle.machine.specs.declared.outcome.Outcome.{Outcome}
@@ -13,7 +13,7 @@ loop-number-init g c = record {
   left = λ h least most. has_from_times _ h (c.in_ok-gathered.ensures.complete h most);
   count = search rules;
   room = search rules;
-  rounds = subst (λ (os : List Outcome). AreOutcomes c.args.start.now.memory [] os) (sym c.requires.empty) tt;
+  rounds = subst (λ (os : List Outcome). AreOutcomes c.args.start.now.logs c.args.start.now.memory [] os) (sym c.requires.empty) tt;
 }
 
 pub loop-number-preserved : goal.loop-number-preserved
@@ -23,15 +23,14 @@ loop-number-preserved g c =
     let none : Hart = record { x = []; pc = 0; done = 0; stop = None } in
     let e = c.in-Some.round in
     let at : round_at s n ≡ Some (content_in e) = ap (round_at s) (sym c.in-Some.ensures.hart) ∙ (ap (λ (t : Start). round_at t (hart_of e)) c.requires.start ∙ c.in-Some.ensures.right) in
-    let parts = c.into_parts-buffer.result in
-    let o : Outcome = record { hart = parts.0; buffer = parts.1; log = parts.2; waits = parts.3 } in
+    let o : Outcome = c.of.result in
     let low : n < length s.harts = subst (λ (hs : List Hart). n < length hs) c.harts-number-end.ensures.harts c.loop-number-test.true in
     record {
       left = λ h least most. c.take.ensures.others h (λ same. omega (arith, same, least)) ∙ c.loop-number.invariant.left h (omega arith) most;
       count = search rules;
       room = search rules;
-      rounds = outcomes_more s.memory s.quotas s.harts n none _ c.loop-number.outcomes.items c.push_reserved.new.self.items o
+      rounds = outcomes_more s.logs s.memory s.quotas s.harts n none _ c.loop-number.outcomes.items c.push_reserved.new.self.items o
           low refl c.push_reserved.ensures.items c.loop-number.invariant.rounds
           (is_outcome s n none (content_in e) o low c.requires.sized at
-          c.into_parts-buffer.ensures);
+          (c.into_parts-left.ensures ∙ ap (λ (x : Outcome). content_from x.hart x.buffer x.log x.accesses x.waits) (sym c.of.ensures)));
     }

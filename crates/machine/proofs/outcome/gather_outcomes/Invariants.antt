@@ -12,5 +12,5 @@ invariant-loop-number g l = record {
   left : (h : ℕ) → l.number ≤ h → h < length l.start.harts → has (harts_of hart_of seat_of l.gathered.history) h ≡ true;
   count : vec_len l.outcomes ≡ l.number;
   room : length l.start.harts ≤ vec_capacity l.outcomes;
-  rounds : AreOutcomes l.start.memory (hart_rounds (words_of l.start.memory.code) l.start.memory.bytes l.start.quotas (take l.number l.start.harts)) l.outcomes.items;
+  rounds : AreOutcomes l.start.logs l.start.memory (hart_rounds (words_of l.start.memory.code) l.start.memory.bytes l.start.quotas (take l.number l.start.harts)) l.outcomes.items;
 }

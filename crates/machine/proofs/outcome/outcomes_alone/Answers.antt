@@ -11,7 +11,7 @@ use Rattle.machine.proofs.outcome.outcomes_alone.Goals as goal
 
 pub loop-number-init : goal.loop-number-init
 loop-number-init g c = record {
-  rounds = subst (λ (os : List Outcome). AreOutcomes c.args.start.now.memory [] os) (sym c.requires.empty) tt;
+  rounds = subst (λ (os : List Outcome). AreOutcomes c.args.start.now.logs c.args.start.now.memory [] os) (sym c.requires.empty) tt;
   count = search rules;
   room = search rules;
 }
@@ -36,7 +36,7 @@ round_in_place-requires g c =
     let low : n < length s.harts = subst (λ (hs : List Hart). n < length hs) c.harts-number-end.ensures.harts c.loop-number-test.true in
     record {
       number = low;
-      hart = sym (begun s.harts c.harts.result.now n _ c.loop-number.outcomes.items c.push_reserved.new.self.items _ c.index_mut.result.now low (grind (arith, c.loop-number.invariant.count)) c.harts.ensures.harts c.push_reserved.ensures.items c.index_mut.ensures.value refl);
+      hart = sym (begun s.harts c.harts.result.now n _ c.loop-number.outcomes.items c.push_reserved.new.self.items _ c.index_mut.result.now low (grind (arith, c.loop-number.invariant.count)) c.harts.ensures.harts c.push_reserved.ensures.items c.index_mut.ensures.value c.begun.ensures);
     }
 
 -- the outcome that was added is the last
@@ -54,8 +54,8 @@ loop-number-preserved g c =
     let many : n ≡ length os = grind (arith, c.loop-number.invariant.count) in
     let grown : set c.push_reserved.new.self.items n o ≡ os ++ o ∷ [] = replaced os c.push_reserved.new.self.items _ o n many c.push_reserved.ensures.items in
     record {
-      rounds = outcomes_more s.memory s.quotas s.harts n none _ os _ o low refl grown c.loop-number.invariant.rounds
-          (is_outcome s n none (content_from o.hart o.buffer o.log o.waits) o low c.requires.sized c.in_ok-round_in_place.ensures refl);
+      rounds = outcomes_more s.logs s.memory s.quotas s.harts n none _ os _ o low refl grown c.loop-number.invariant.rounds
+          (is_outcome s n none (content_from o.hart o.buffer o.log o.accesses o.waits) o low c.requires.sized c.in_ok-round_in_place.ensures refl);
       count = search rules;
       room = search rules;
     }

@@ -1,4 +1,4 @@
-use Rattle.std.proofs.Common.{◌≡◌, ◌*◌, ◌≤◌, ◌++◌, ℕ, List, length, sym, ap, ◌∙◌, subst, arith}
+use Rattle.std.proofs.Common.{◌≡◌, Bool, ◌*◌, ◌≤◌, ◌++◌, ℕ, List, length, sym, ap, ◌∙◌, subst, arith}
 use Rattle.std.proofs.lemmas.Nat.{mul-le}
 use Rattle.pages.specs.Memory.{Memory}
 use Rattle.commit_phase.specs.Commit.{Committed}
@@ -9,10 +9,10 @@ use Rattle.hart_step.specs.declared.hart.Hart.{Hart}
 use Rattle.serial_phase.specs.Phase.{TakesTurns, serial_done, budget_from}
 use Rattle.serial_phase.specs.Roomed.{HasRoom}
 use Rattle.machine.specs.declared.outcome.Outcome.{Outcome}
-use Rattle.machine.specs.Outcomes.{AreFit, AreOutcomes, AreReady, mask_of, waits_of, harts_of, round_events}
+use Rattle.machine.specs.Outcomes.{AreFit, AreOutcomes, AreReady, mask_of, waits_of, harts_of, events_of_rounds, round_events}
 use Rattle.machine.proofs.CodeKept.{shows_committed}
-use Rattle.machine.proofs.Counted.{count_events, few_turns}
-use Rattle.machine.proofs.RoundDone.{finished_from, needed_is, length-waits, length-harts, spares_left, log_of}
+use Rattle.machine.proofs.Counted.{all_logged, count_events, few_turns}
+use Rattle.machine.proofs.RoundDone.{by_outcomes, by_rounds, finished_from, needed_is, length-waits, length-harts, spares_left, log_of}
 use Rattle.machine.proofs.Tallied.{count_most, turns_by_count}
 use Rattle.machine.proofs.round.finish.Goals as goal
 
@@ -21,6 +21,11 @@ overflow_mul-turns g c =
     let bs = waits_of c.args.outcomes.now in
     let few : c.args.tally.waited ≤ 64 = omega (arith, c.requires.waited, count_most bs, length-waits c.args.outcomes.now, c.requires.few) in
     omega (arith, mul-le c.args.tally.waited c.args.phase.budget 64 1000 few c.requires.budget)
+
+pub make_room-requires : goal.make_room-requires
+make_room-requires g c = λ e.
+    c.requires.counted ∙ all_logged c.args.shared.now.pages.memory c.requires.rounds.0 c.args.outcomes.now
+    (subst (λ (b : Bool). AreOutcomes b c.args.shared.now.pages.memory c.requires.rounds.0 c.args.outcomes.now) e c.requires.rounds.1)
 
 pub commit-requires-clause-few : goal.commit-requires-clause-few
 commit-requires-clause-few g c = λ lifetimes within. omega (arith, c.requires.few, ap length c.in_ok-adopts.ensures.outcomes)
@@ -49,7 +54,8 @@ serial-requires g c =
     let rounds = c.requires.rounds in
     let m = c.args.shared.now.pages.memory in
     let same = c.in_ok-make_turn_room.ensures.keeps.memory in
-    let committed = c.commit.ensures.committed rounds.0 (subst (λ (x : Memory). AreOutcomes x rounds.0 c.make_room.new.outcomes) (sym same) (subst (λ (x : List Outcome). AreOutcomes m rounds.0 x) (sym c.in_ok-adopts.ensures.outcomes) rounds.1)) in
+    let committed = c.commit.ensures.committed g.E.EventKeeper.logs rounds.0 (subst (λ (x : Memory). AreOutcomes g.E.EventKeeper.logs x rounds.0 c.make_room.new.outcomes) (sym same)
+    (subst (λ (x : List Outcome). AreOutcomes g.E.EventKeeper.logs m rounds.0 x) (sym c.in_ok-adopts.ensures.outcomes) rounds.1)) in
     record {
       shows = shows_committed rounds.0 m room.pages c.commit.new.pages room.reservations c.commit.new.table room.code.first room.code.instructions same committed rounds.2
           (subst (λ x. Shows m x.first x.instructions) (sym c.make_turn_room.ensures.code) c.requires.shows);
@@ -78,41 +84,50 @@ serial_count-requires g c =
 pub add-requires : goal.add-requires
 add-requires g c =
     let os = c.args.outcomes.now in
+    let rs = c.requires.rounds.0 in
+    let a = c.requires.rounds.1 in
+    let sound = c.requires.rounds.3 in
     let phase = c.args.phase in
     let start : SharedState = record c.make_turn_room.new.shared { pages = c.commit.new.pages; reservations = c.commit.new.table } in
     let served = subst (λ (hs : List Hart). TakesTurns (serial_done phase hs start) c.serial.new.harts start c.serial.new.state) (c.give_harts.ensures ∙ ap harts_of c.in_ok-adopts.ensures.outcomes) c.serial.ensures.turns in
     let fits = log_of phase (waits_of os) (harts_of os) c.serial.new.harts start c.serial.new.state (length-waits os ∙ sym (length-harts os)) c.requires.waiting served in
     let kept = c.in_ok-make_turn_room.ensures.keeps.memory in
     let same = c.in_ok-adopts.ensures.outcomes in
-    let finished = finished_from phase os c.serial.new.harts c.args.shared.now c.make_turn_room.new.shared start c.serial.new.state kept
-    (λ rs a. subst (λ t. Committed rs c.make_turn_room.new.shared.pages c.commit.new.pages t c.commit.new.table) c.make_turn_room.ensures.reservations (c.commit.ensures.committed rs (subst (λ (m : Memory). AreOutcomes m rs c.make_room.new.outcomes) (sym kept)
-    (subst (λ (x : List Outcome). AreOutcomes c.args.shared.now.pages.memory rs x) (sym same) a)))) c.make_turn_room.ensures.console served in
+    let finished = finished_from phase rs os c.serial.new.harts c.args.shared.now c.make_turn_room.new.shared start c.serial.new.state kept
+    (subst (λ t. Committed rs c.make_turn_room.new.shared.pages c.commit.new.pages t c.commit.new.table) c.make_turn_room.ensures.reservations (c.commit.ensures.committed g.E.EventKeeper.logs rs (subst (λ (m : Memory). AreOutcomes g.E.EventKeeper.logs m rs c.make_room.new.outcomes) (sym kept)
+    (subst (λ (x : List Outcome). AreOutcomes g.E.EventKeeper.logs c.args.shared.now.pages.memory rs x) (sym same) a)))) c.make_turn_room.ensures.console served in
     record {
       harts = fits.length ∙ length-harts os ∙ sym (ap length same);
       few = omega (arith, c.requires.few, ap length same);
       room = (c.args.tally.waited * phase.budget, c.in_ok-adopts.ensures.room, omega (arith, fits.fits, turns_by_count phase.budget (waits_of os), ap (λ (n : ℕ). n * phase.budget) c.requires.waited));
       sound = (
-        c.requires.sound.0,
-        c.in_ok-adopts.ensures.kept c.requires.sound.0 c.requires.sound.1,
-        subst (λ (x : List Outcome). g.E.EventKeeper.may_keep (c.requires.sound.0 ++ round_events phase.round x c.serial.new.state.log.closed)) (sym same)
-            (c.requires.sound.2 _ _ finished),
+        sound.0,
+        c.in_ok-adopts.ensures.kept sound.0 sound.1,
+        subst (λ (x : List Outcome). g.E.EventKeeper.may_keep (sound.0 ++ round_events phase.round x c.serial.new.state.log.closed)) (sym same)
+            (by_outcomes g.E.EventKeeper.may_keep g.E.EventKeeper.logs g.met.E.EventKeeper.may_keep_any c.args.shared.now.pages.memory phase.round rs os c.serial.new.state.log.closed sound.0 a (sound.2 _ _ finished)),
       );
     }
 
 pub returns-clause-ok : goal.returns-clause-ok
-returns-clause-ok g c =
+returns-clause-ok g c = λ rs a.
     let os = c.args.outcomes.now in
     let phase = c.args.phase in
     let start : SharedState = record c.make_turn_room.new.shared { pages = c.commit.new.pages; reservations = c.commit.new.table } in
     let served = subst (λ (hs : List Hart). TakesTurns (serial_done phase hs start) c.serial.new.harts start c.serial.new.state) (c.give_harts.ensures ∙ ap harts_of c.in_ok-adopts.ensures.outcomes) c.serial.ensures.turns in
     let kept = c.in_ok-make_turn_room.ensures.keeps.memory in
     let same = c.in_ok-adopts.ensures.outcomes in
-    let finished = finished_from phase os c.serial.new.harts c.args.shared.now c.make_turn_room.new.shared start c.serial.new.state kept
-    (λ rs a. subst (λ t. Committed rs c.make_turn_room.new.shared.pages c.commit.new.pages t c.commit.new.table) c.make_turn_room.ensures.reservations (c.commit.ensures.committed rs (subst (λ (m : Memory). AreOutcomes m rs c.make_room.new.outcomes) (sym kept)
-    (subst (λ (x : List Outcome). AreOutcomes c.args.shared.now.pages.memory rs x) (sym same) a)))) c.make_turn_room.ensures.console served in
-    let all = round_events phase.round os c.serial.new.state.log.closed in
-    let events = subst (λ (x : List Outcome). (es : List Event) → g.E.EventKeeper.keeps c.make_room.new.self es → g.E.EventKeeper.keeps c.add.new.self (es ++ round_events phase.round x c.serial.new.state.log.closed)) same c.add.ensures.kept in
-    (all, finished, omega (arith, c.requires.counted, c.serial_count.ensures, count_events phase.round os c.serial.new.state.log.closed), λ es k. events es (c.in_ok-adopts.ensures.kept es k))
+    let finished = finished_from phase rs os c.serial.new.harts c.args.shared.now c.make_turn_room.new.shared start c.serial.new.state kept
+    (subst (λ t. Committed rs c.make_turn_room.new.shared.pages c.commit.new.pages t c.commit.new.table) c.make_turn_room.ensures.reservations (c.commit.ensures.committed g.E.EventKeeper.logs rs (subst (λ (m : Memory). AreOutcomes g.E.EventKeeper.logs m rs c.make_room.new.outcomes) (sym kept)
+    (subst (λ (x : List Outcome). AreOutcomes g.E.EventKeeper.logs c.args.shared.now.pages.memory rs x) (sym same) a)))) c.make_turn_room.ensures.console served in
+    let closed = c.serial.new.state.log.closed in
+    let all = events_of_rounds phase.round rs closed in
+    let m = c.args.shared.now.pages.memory in
+    let events = subst (λ (x : List Outcome). (es : List Event) → g.E.EventKeeper.keeps c.make_room.new.self es → g.E.EventKeeper.keeps c.add.new.self (es ++ round_events phase.round x c.serial.new.state.log.closed)) same c.add.ensures.kept in (
+      all,
+      finished,
+      omega (arith, c.requires.counted, c.serial_count.ensures, count_events g.E.EventKeeper.logs m phase.round rs os closed a),
+      λ es k. by_rounds (g.E.EventKeeper.keeps c.add.new.self) g.E.EventKeeper.logs (λ e. g.met.E.EventKeeper.keeps_any e c.add.new.self) m phase.round rs os closed es a (events es (c.in_ok-adopts.ensures.kept es k)),
+    )
 
 pub returns-clause-few : goal.returns-clause-few
 returns-clause-few g c =

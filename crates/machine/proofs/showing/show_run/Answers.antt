@@ -1,4 +1,4 @@
-use Rattle.std.proofs.Common.{◌∙◌, Bool, Err, Ok, OnErr, Result, ap, inr}
+use Rattle.std.proofs.Common.{rules, ◌∙◌, Bool, Err, Ok, OnErr, Result, ap, inr}
 use Rattle.host_io.specs.declared.error.RunError.{RunError}
 use Rattle.machine.specs.Showing.{all_end_well}
 use Rattle.machine.proofs.showing.show_run.Goals as goal
@@ -18,3 +18,10 @@ returns-clause-shows g c =
     let made = c.in_ok-machine.ensures.machine in
     let ran = c.in_ok-run_observed.ensures.ok _ made.2 in
     (made.0, made.1, c.in_ok-write_shown.ensures.ok _ ran, c.all_end_well.ensures ∙ ap all_end_well (c.harts.ensures.harts ∙ ran.harts))
+
+pub returns-in_err-write_shown-clause-errors : goal.returns-in_err-write_shown-clause-errors
+returns-in_err-write_shown-clause-errors g c =
+    let errors = c.in_err-write_shown.ensures.errors in
+    let sink = c.in_err-write_shown.ensures.sink in
+    let moved = c.from_residual-in_err-write_shown.ensures in
+    search rules

@@ -12,4 +12,4 @@ new-requires-3 g c =
     let quota = got c.quotas.result.now n c.in_ok-get.field-0.now c.in_ok-get.ensures.lookup.3.0 c.in_ok-get.ensures.lookup.1 ∙ ap (λ (q : ℕ). Some q) c.if-branch-ne0.false in
     let idle = idle_at s n h (subst (λ hs. slice_get hs n ≡ Some h) c.harts.ensures.harts hart) (subst (λ (qs : List ℕ). slice_get qs n ≡ Some 0) c.quotas.ensures.quotas quota) in
     ap (λ (t : Start). round_at t c.args.ticket.hart) (sym c.requires) ∙ (ap (round_at s) (sym c.hart-number.ensures)
-    ∙ (idle ∙ ap (λ es. Some (content_from h es [] false)) (sym c.new.ensures) ∙ ap (λ log. Some (content_from h c.new.result log false)) (sym (c.of.ensures ∙ c.new-2.ensures.items))))
+    ∙ (idle ∙ ap (λ es. Some (content_from h es [] 0 false)) (sym c.new.ensures) ∙ ap (λ log. Some (content_from h c.new.result log 0 false)) (sym (c.of.ensures ∙ c.new-2.ensures.items))))

@@ -29,32 +29,44 @@ finish-requires-clause-rounds g c = λ lifetimes within.
     let m = i.shared.pages.memory in
     let qs = quotas_of c.args.plan.now c.args.done in
     let rs = hart_rounds (words_of m.code) m.bytes qs i.harts.items in
-    let a = here_are c.args.plan.now c.args.done i.harts.items i.shared _ c.args.outcomes.items c.self.view_is c.requires.outcomes in
-    (rs, subst (λ (x : List Outcome). AreOutcomes m rs x) (sym c.deref_mut.ensures.value) a, rounds_touch m qs i.harts.items)
+    let a = here_are g.E.EventKeeper.logs c.args.plan.now c.args.done i.harts.items i.shared _ c.args.outcomes.items c.self.view_is c.requires.outcomes in
+    let here = subst (λ (x : List Outcome). AreOutcomes g.E.EventKeeper.logs m rs x) (sym c.deref_mut.ensures.value) a in
+    let waits = c.of-tally.ensures.waiting ∙ ap (λ (os : List Outcome). mask_of (waits_of os)) (c.deref.ensures.value ∙ sym c.deref_mut.ensures.value) in
+    let sound = subst (λ (x : Guest). g.E.EventKeeper.may_keep (c.requires.sound.0 ++ guest_events c.args.plan.now c.args.done x)) (sym c.self.view_is) c.requires.sound.2 in (
+      rs,
+      here,
+      rounds_touch m qs i.harts.items,
+      (
+        c.requires.sound.0,
+        c.requires.sound.1,
+        λ new more f. subst (λ (x : List Event). g.E.EventKeeper.may_keep (c.requires.sound.0 ++ x))
+            (sym (finished_done g.E.EventKeeper.logs c.args.plan.now _ c.args.done (guest_of i.harts.items i.shared) new more c.deref_mut.result.now here c.budget.ensures.budget refl waits f).events) sound,
+      ),
+    )
 
 pub finish-requires-clause-few : goal.finish-requires-clause-few
 finish-requires-clause-few g c = λ lifetimes within.
     let i = c.self.inside in
-    let many = many_here c.args.plan.now c.args.done i.harts.items i.shared _ c.args.outcomes.items c.self.view_is c.requires.outcomes in
+    let many = many_here g.E.EventKeeper.logs c.args.plan.now c.args.done i.harts.items i.shared _ c.args.outcomes.items c.self.view_is c.requires.outcomes in
     omega (arith, many, ap length c.deref_mut.ensures.value, c.requires.harts, ap (λ (x : Guest). length x.harts) c.self.view_is, c.harts-harts.ensures.harts, c.harts-harts.ensures.few_harts)
 
 pub finish-requires-clause-fits : goal.finish-requires-clause-fits
 finish-requires-clause-fits g c = λ lifetimes within.
     let i = c.self.inside in
     let m = i.shared.pages.memory in
-    let a = here_are c.args.plan.now c.args.done i.harts.items i.shared _ c.args.outcomes.items c.self.view_is c.requires.outcomes in
-    subst (λ (x : List Outcome). AreFit m x) (sym c.deref_mut.ensures.value) (are_fit m _ c.args.outcomes.items a)
+    let a = here_are g.E.EventKeeper.logs c.args.plan.now c.args.done i.harts.items i.shared _ c.args.outcomes.items c.self.view_is c.requires.outcomes in
+    subst (λ (x : List Outcome). AreFit m x) (sym c.deref_mut.ensures.value) (are_fit g.E.EventKeeper.logs m _ c.args.outcomes.items a)
 
 pub finish-requires-clause-harts : goal.finish-requires-clause-harts
 finish-requires-clause-harts g c = λ lifetimes within.
     let i = c.self.inside in
-    let many = many_here c.args.plan.now c.args.done i.harts.items i.shared _ c.args.outcomes.items c.self.view_is c.requires.outcomes in
+    let many = many_here g.E.EventKeeper.logs c.args.plan.now c.args.done i.harts.items i.shared _ c.args.outcomes.items c.self.view_is c.requires.outcomes in
     ap length c.deref_mut-2.ensures.value ∙ sym many ∙ sym (ap length c.deref_mut.ensures.value)
 
 pub finish-requires-clause-size : goal.finish-requires-clause-size
 finish-requires-clause-size g c = λ lifetimes within.
     let i = c.self.inside in
-    let many = many_here c.args.plan.now c.args.done i.harts.items i.shared _ c.args.outcomes.items c.self.view_is c.requires.outcomes in
+    let many = many_here g.E.EventKeeper.logs c.args.plan.now c.args.done i.harts.items i.shared _ c.args.outcomes.items c.self.view_is c.requires.outcomes in
     c.self.invariant.size ∙ sym many ∙ sym (ap length c.deref_mut.ensures.value)
 
 pub finish-requires-clause-waiting : goal.finish-requires-clause-waiting
@@ -75,36 +87,21 @@ pub finish-requires-clause-accesses : goal.finish-requires-clause-accesses
 finish-requires-clause-accesses g c = λ lifetimes within.
     let i = c.self.inside in
     let m = i.shared.pages.memory in
-    let many = many_here c.args.plan.now c.args.done i.harts.items i.shared _ c.args.outcomes.items c.self.view_is c.requires.outcomes in
-    let a = here_are c.args.plan.now c.args.done i.harts.items i.shared _ c.args.outcomes.items c.self.view_is c.requires.outcomes in
-    let few = few_accesses m (words_of m.code) m.bytes (quotas_of c.args.plan.now c.args.done) i.harts.items c.args.outcomes.items (low_quotas c.args.plan.now c.harts-harts.ensures.in_range c.args.done) a in
+    let many = many_here g.E.EventKeeper.logs c.args.plan.now c.args.done i.harts.items i.shared _ c.args.outcomes.items c.self.view_is c.requires.outcomes in
+    let a = here_are g.E.EventKeeper.logs c.args.plan.now c.args.done i.harts.items i.shared _ c.args.outcomes.items c.self.view_is c.requires.outcomes in
+    let few = few_accesses g.E.EventKeeper.logs m (words_of m.code) m.bytes (quotas_of c.args.plan.now c.args.done) i.harts.items c.args.outcomes.items (low_quotas c.args.plan.now c.harts-harts.ensures.in_range c.args.done) a in
     omega (arith, few, ap count_accesses c.deref_mut.ensures.value, many, c.requires.harts, ap (λ (x : Guest). length x.harts) c.self.view_is, c.harts-harts.ensures.harts, c.harts-harts.ensures.few_harts)
-
-pub finish-requires-clause-sound : goal.finish-requires-clause-sound
-finish-requires-clause-sound g c = λ lifetimes within.
-    let i = c.self.inside in
-    let m = i.shared.pages.memory in
-    let rs = hart_rounds (words_of m.code) m.bytes (quotas_of c.args.plan.now c.args.done) i.harts.items in
-    let a = here_are c.args.plan.now c.args.done i.harts.items i.shared _ c.args.outcomes.items c.self.view_is c.requires.outcomes in
-    let here = subst (λ (x : List Outcome). AreOutcomes m rs x) (sym c.deref_mut.ensures.value) a in
-    let waits = c.of-tally.ensures.waiting ∙ ap (λ (os : List Outcome). mask_of (waits_of os)) (c.deref.ensures.value ∙ sym c.deref_mut.ensures.value) in
-    let sound = subst (λ (x : Guest). g.E.EventKeeper.may_keep (c.requires.sound.0 ++ guest_events c.args.plan.now c.args.done x)) (sym c.self.view_is) c.requires.sound.2 in (
-      c.requires.sound.0,
-      c.requires.sound.1,
-      λ new more f. subst (λ (x : List Event). g.E.EventKeeper.may_keep (c.requires.sound.0 ++ x))
-          (sym (finished_done c.args.plan.now _ c.args.done (guest_of i.harts.items i.shared) new more c.deref_mut.result.now here c.budget.ensures.budget refl waits f).events) sound,
-    )
 
 pub returns-clause-ok : goal.returns-clause-ok
 returns-clause-ok g c =
     let i = c.self.inside in
     let m = i.shared.pages.memory in
     let rs = hart_rounds (words_of m.code) m.bytes (quotas_of c.args.plan.now c.args.done) i.harts.items in
-    let a = here_are c.args.plan.now c.args.done i.harts.items i.shared _ c.args.outcomes.items c.self.view_is c.requires.outcomes in
-    let here = subst (λ (x : List Outcome). AreOutcomes m rs x) (sym c.deref_mut.ensures.value) a in
+    let a = here_are g.E.EventKeeper.logs c.args.plan.now c.args.done i.harts.items i.shared _ c.args.outcomes.items c.self.view_is c.requires.outcomes in
+    let here = subst (λ (x : List Outcome). AreOutcomes g.E.EventKeeper.logs m rs x) (sym c.deref_mut.ensures.value) a in
     let waits = c.of-tally.ensures.waiting ∙ ap (λ (os : List Outcome). mask_of (waits_of os)) (c.deref.ensures.value ∙ sym c.deref_mut.ensures.value) in
-    let ok = c.in_ok-counts.ensures.ok in
-    let done = finished_done c.args.plan.now _ c.args.done (guest_of i.harts.items i.shared) _ ok.0 c.deref_mut.result.now here c.budget.ensures.budget refl waits ok.1 in
+    let ok = c.in_ok-counts.ensures.ok rs here in
+    let done = finished_done g.E.EventKeeper.logs c.args.plan.now _ c.args.done (guest_of i.harts.items i.shared) _ ok.0 c.deref_mut.result.now here c.budget.ensures.budget refl waits ok.1 in
     let whole : take i.harts.len (c.finish.new.harts ++ drop (length c.finish.new.harts) i.harts.items) ≡ c.finish.new.harts = take_at c.finish.new.harts _ i.harts.len (omega (arith, c.finish.auto.harts, c.deref_mut-2.ensures.len, ap length c.deref_mut-2.ensures.value)) in
     ap (λ (hs : List Hart). guest_of hs c.finish.new.shared) whole ∙ done.done ∙ ap (λ (x : Guest). next_guest c.args.plan.now c.args.done x) c.self.view_is
 
@@ -113,11 +110,11 @@ returns-clause-kept g c = λ es kept.
     let i = c.self.inside in
     let m = i.shared.pages.memory in
     let rs = hart_rounds (words_of m.code) m.bytes (quotas_of c.args.plan.now c.args.done) i.harts.items in
-    let a = here_are c.args.plan.now c.args.done i.harts.items i.shared _ c.args.outcomes.items c.self.view_is c.requires.outcomes in
-    let here = subst (λ (x : List Outcome). AreOutcomes m rs x) (sym c.deref_mut.ensures.value) a in
+    let a = here_are g.E.EventKeeper.logs c.args.plan.now c.args.done i.harts.items i.shared _ c.args.outcomes.items c.self.view_is c.requires.outcomes in
+    let here = subst (λ (x : List Outcome). AreOutcomes g.E.EventKeeper.logs m rs x) (sym c.deref_mut.ensures.value) a in
     let waits = c.of-tally.ensures.waiting ∙ ap (λ (os : List Outcome). mask_of (waits_of os)) (c.deref.ensures.value ∙ sym c.deref_mut.ensures.value) in
-    let ok = c.in_ok-counts.ensures.ok in
-    let done = finished_done c.args.plan.now _ c.args.done (guest_of i.harts.items i.shared) _ ok.0 c.deref_mut.result.now here c.budget.ensures.budget refl waits ok.1 in
+    let ok = c.in_ok-counts.ensures.ok rs here in
+    let done = finished_done g.E.EventKeeper.logs c.args.plan.now _ c.args.done (guest_of i.harts.items i.shared) _ ok.0 c.deref_mut.result.now here c.budget.ensures.budget refl waits ok.1 in
     subst (λ (x : List Event). g.E.EventKeeper.keeps c.finish.new.keeper (es ++ x)) (done.events ∙ ap (λ (x : Guest). guest_events c.args.plan.now c.args.done x) c.self.view_is) (ok.3 es kept)
 
 pub returns-clause-events : goal.returns-clause-events
@@ -125,11 +122,11 @@ returns-clause-events g c =
     let i = c.self.inside in
     let m = i.shared.pages.memory in
     let rs = hart_rounds (words_of m.code) m.bytes (quotas_of c.args.plan.now c.args.done) i.harts.items in
-    let a = here_are c.args.plan.now c.args.done i.harts.items i.shared _ c.args.outcomes.items c.self.view_is c.requires.outcomes in
-    let here = subst (λ (x : List Outcome). AreOutcomes m rs x) (sym c.deref_mut.ensures.value) a in
+    let a = here_are g.E.EventKeeper.logs c.args.plan.now c.args.done i.harts.items i.shared _ c.args.outcomes.items c.self.view_is c.requires.outcomes in
+    let here = subst (λ (x : List Outcome). AreOutcomes g.E.EventKeeper.logs m rs x) (sym c.deref_mut.ensures.value) a in
     let waits = c.of-tally.ensures.waiting ∙ ap (λ (os : List Outcome). mask_of (waits_of os)) (c.deref.ensures.value ∙ sym c.deref_mut.ensures.value) in
-    let ok = c.in_ok-counts.ensures.ok in
-    let done = finished_done c.args.plan.now _ c.args.done (guest_of i.harts.items i.shared) _ ok.0 c.deref_mut.result.now here c.budget.ensures.budget refl waits ok.1 in
+    let ok = c.in_ok-counts.ensures.ok rs here in
+    let done = finished_done g.E.EventKeeper.logs c.args.plan.now _ c.args.done (guest_of i.harts.items i.shared) _ ok.0 c.deref_mut.result.now here c.budget.ensures.budget refl waits ok.1 in
     ok.2 ∙ ap length (done.events ∙ ap (λ (x : Guest). guest_events c.args.plan.now c.args.done x) c.self.view_is)
 
 pub returns-clause-few : goal.returns-clause-few
@@ -140,14 +137,14 @@ returns-clause-waited g c =
     let i = c.self.inside in
     let m = i.shared.pages.memory in
     let rs = hart_rounds (words_of m.code) m.bytes (quotas_of c.args.plan.now c.args.done) i.harts.items in
-    let a = here_are c.args.plan.now c.args.done i.harts.items i.shared _ c.args.outcomes.items c.self.view_is c.requires.outcomes in
-    let here = subst (λ (x : List Outcome). AreOutcomes m rs x) (sym c.deref_mut.ensures.value) a in
-    c.in_ok-counts.ensures.waited ∙ waited_is m rs c.deref_mut.result.now here
+    let a = here_are g.E.EventKeeper.logs c.args.plan.now c.args.done i.harts.items i.shared _ c.args.outcomes.items c.self.view_is c.requires.outcomes in
+    let here = subst (λ (x : List Outcome). AreOutcomes g.E.EventKeeper.logs m rs x) (sym c.deref_mut.ensures.value) a in
+    c.in_ok-counts.ensures.waited ∙ waited_is g.E.EventKeeper.logs m rs c.deref_mut.result.now here
     ∙ ap (λ (x : Guest). count_waiting (hart_rounds (words_of x.shared.memory.code) x.shared.memory.bytes (quotas_of c.args.plan.now c.args.done) x.harts)) c.self.view_is
 
 pub of-tally-requires-clause-few : goal.of-tally-requires-clause-few
 of-tally-requires-clause-few g c =
-    let many = many_of c.args.plan.now c.args.done c.args.self.now c.args.outcomes.items c.requires.outcomes in
+    let many = many_of g.E.EventKeeper.logs c.args.plan.now c.args.done c.args.self.now c.args.outcomes.items c.requires.outcomes in
     omega (arith, ap length c.deref.ensures.value, many, c.requires.harts, c.harts-harts.ensures.harts, c.harts-harts.ensures.few_harts)
 
 pub of-tally-requires-clause-accesses : goal.of-tally-requires-clause-accesses
@@ -155,14 +152,14 @@ of-tally-requires-clause-accesses g c =
     let h = c.args.self.now in
     let m = h.shared.memory in
     let os = c.args.outcomes.items in
-    let many = many_of c.args.plan.now c.args.done h os c.requires.outcomes in
-    let few = few_accesses m (words_of m.code) m.bytes (quotas_of c.args.plan.now c.args.done) h.harts os (low_quotas c.args.plan.now c.harts-harts.ensures.in_range c.args.done) c.requires.outcomes in
+    let many = many_of g.E.EventKeeper.logs c.args.plan.now c.args.done h os c.requires.outcomes in
+    let few = few_accesses g.E.EventKeeper.logs m (words_of m.code) m.bytes (quotas_of c.args.plan.now c.args.done) h.harts os (low_quotas c.args.plan.now c.harts-harts.ensures.in_range c.args.done) c.requires.outcomes in
     omega (arith, few, ap count_accesses c.deref.ensures.value, many, c.requires.harts, c.harts-harts.ensures.harts, c.harts-harts.ensures.few_harts)
 
 pub invariant_of-self-2 : goal.invariant_of-self-2
 invariant_of-self-2 g c =
     let i = c.self.inside in
-    let many = many_here c.args.plan.now c.args.done i.harts.items i.shared _ c.args.outcomes.items c.self.view_is c.requires.outcomes in
+    let many = many_here g.E.EventKeeper.logs c.args.plan.now c.args.done i.harts.items i.shared _ c.args.outcomes.items c.self.view_is c.requires.outcomes in
     let whole : take i.harts.len (c.finish.new.harts ++ drop (length c.finish.new.harts) i.harts.items) ≡ c.finish.new.harts = take_at c.finish.new.harts _ i.harts.len (omega (arith, c.finish.auto.harts, c.deref_mut-2.ensures.len, ap length c.deref_mut-2.ensures.value)) in
     record {
       size = c.finish.ensures.size ∙ c.self.invariant.size ∙ sym (ap length whole ∙ omega (arith, c.finish.auto.harts, ap length c.deref_mut-2.ensures.value));
@@ -172,6 +169,6 @@ invariant_of-self-2 g c =
 pub returns-clause-count : goal.returns-clause-count
 returns-clause-count g c =
     let i = c.self.inside in
-    let many = many_here c.args.plan.now c.args.done i.harts.items i.shared _ c.args.outcomes.items c.self.view_is c.requires.outcomes in
+    let many = many_here g.E.EventKeeper.logs c.args.plan.now c.args.done i.harts.items i.shared _ c.args.outcomes.items c.self.view_is c.requires.outcomes in
     let whole : take i.harts.len (c.finish.new.harts ++ drop (length c.finish.new.harts) i.harts.items) ≡ c.finish.new.harts = take_at c.finish.new.harts _ i.harts.len (omega (arith, c.finish.auto.harts, c.deref_mut-2.ensures.len, ap length c.deref_mut-2.ensures.value)) in
     ap length whole ∙ omega (arith, c.finish.auto.harts, ap length c.deref_mut-2.ensures.value, ap (λ (x : Guest). length x.harts) c.self.view_is)

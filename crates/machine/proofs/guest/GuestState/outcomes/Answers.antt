@@ -1,5 +1,6 @@
 use Rattle.std.proofs.Common.{length, ap, ◌∙◌, subst}
 use Rattle.std.proofs.lemmas.Result.{IfOk-weaker}
+use Rattle.round_lock.specs.Starts.{keeps_log}
 use Rattle.machine.specs.Guests.{Guest}
 use Rattle.machine.specs.Kept.{AreOfGuest}
 use Rattle.machine.proofs.Asked.{outcomes_are}
@@ -15,5 +16,5 @@ pub returns-clause-outcomes : goal.returns-clause-outcomes
 returns-clause-outcomes g c =
     let i = c.self.inside in
     IfOk-weaker c.outcomes_of.result _ _ (λ os done.
-    subst (λ (x : Guest). AreOfGuest c.args.plan.now c.args.done x os.items) c.self.view_is
-    (outcomes_are c.args.plan.now c.args.done i.harts.items c.deref.result.now i.shared.pages os.items c.deref.ensures.value done)) c.outcomes_of.ensures
+    subst (λ (x : Guest). AreOfGuest (keeps_log c.args.crew.now.form) c.args.plan.now c.args.done x os.items) c.self.view_is
+    (outcomes_are (keeps_log c.args.crew.now.form) c.args.plan.now c.args.done i.harts.items c.deref.result.now i.shared.pages os.items c.deref.ensures.value done)) c.outcomes_of.ensures

@@ -31,7 +31,7 @@ overflow_add-tally-in-loop-behind-2 c =
     let o : Outcome = c.index-outcomes-count.result in
     let b = c.loop-behind.behind in
     let at = accesses_at os (length os - 1 - b) (length os - b) o (omega (arith, c.loop-behind-test.true)) (omega (arith, c.loop-behind-test.true)) c.index-outcomes-count.is in
-    omega (arith, at, c.loop-behind.invariant.accesses, c.len-accesses.ensures, c.requires.accesses)
+    omega (arith, at, c.loop-behind.invariant.accesses, c.requires.accesses)
 
 pub loop-behind-init : goal.loop-behind-init
 loop-behind-init c =
@@ -49,4 +49,4 @@ loop-behind-preserved c =
     let here : o ≡ get_or os (length os - (b + 1)) o = c.index-outcomes-count.is ∙ ap (λ (k : ℕ). get_or os k o) (omega arith) in
     tally_from os (length os - (b + 1)) (length os - b) o _ (omega (arith, c.loop-behind-test.true)) (omega (arith, c.loop-behind-test.true)) here
     (tally_more o (drop (length os - b) os) t _ (ap (λ (n : ℕ). 2 * t.waiting + n) (c.from.ensures ∙ as_number o.waits)) (ap (λ (n : ℕ). t.waited + n) (c.from-in-loop-behind.ensures ∙ as_number o.waits))
-    (ap (λ (n : ℕ). t.accesses + n) c.len-accesses.ensures) (omega (arith, c.from-in-loop-behind-2.ensures, as_number (nat_lt 0 c.len-accesses.result), bit_most (nat_lt 0 c.len-accesses.result))) c.loop-behind.invariant)
+    refl (omega (arith, c.from-in-loop-behind-2.ensures, as_number (nat_lt 0 o.accesses), bit_most (nat_lt 0 o.accesses))) c.loop-behind.invariant)

@@ -12,7 +12,7 @@ do_round-requires-clause-sound g c = λ lifetimes within.
 
 pub do_round-requires-clause-outcomes : goal.do_round-requires-clause-outcomes
 do_round-requires-clause-outcomes g c = λ lifetimes within.
-    subst (λ (u : Untraced). AreOfNext u c.args.outcomes.items) (sym c.self.view_is) c.requires.outcomes
+    subst (λ (u : Untraced). AreOfNext g.E.EventKeeper.logs u c.args.outcomes.items) (sym c.self.view_is) c.requires.outcomes
 
 pub stopped_count-requires : goal.stopped_count-requires
 stopped_count-requires g c = omega (arith, ap length c.harts.ensures.harts, ap (λ (w : Untraced). length w.harts) c.note_work.ensures, c.in_ok-counts.ensures.count, c.self.invariant.harts, c.harts-harts.ensures.harts, c.harts-harts.ensures.few_harts)

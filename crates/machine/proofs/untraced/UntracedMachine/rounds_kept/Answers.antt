@@ -1,6 +1,7 @@
-use Rattle.std.proofs.Common.{◌≡◌, ◌+◌, ◌-◌, ◌++◌, ℕ, List, length, refl, sym, ap, ◌∙◌, subst, arith, rules, Err}
+use Rattle.std.proofs.Common.{◌≡◌, Bool, ◌+◌, ◌-◌, ◌++◌, ℕ, List, length, refl, sym, ap, ◌∙◌, subst, arith, rules, Err}
 use Rattle.round_schedule.specs.declared.event.Event.{Event}
-use Rattle.machine.specs.Kept.{AreOfNext}
+use Rattle.round_lock.specs.Starts.{keeps_log}
+use Rattle.machine.specs.Kept.{AreOfNext, next_start_of}
 use Rattle.machine.specs.Machine.{after_rounds, count_stopped}
 use Rattle.machine.specs.Untraced.{HasRun, IsUntraced, MayGoOn, Untraced, next_events, untraced_round}
 use Rattle.machine.proofs.KeptStarts.{one_more, starts_there}
@@ -13,6 +14,7 @@ loop-done-init g c = record {
   opening = refl;
   sound = (c.requires.sound.0, c.requires.sound.1, subst (λ (k : ℕ). MayGoOn g.E.EventKeeper.may_keep k c.requires.sound.0 c.args.self.now) (omega arith) c.requires.sound.2);
   same = refl;
+  form = ap keeps_log c.new-crew.ensures ∙ c.log_form.ensures;
 }
 
 pub shared_outcomes-requires-clause-rounds : goal.shared_outcomes-requires-clause-rounds
@@ -21,11 +23,13 @@ shared_outcomes-requires-clause-rounds g c = λ lifetimes within. omega (arith, 
 pub shared_outcomes-requires-clause-start : goal.shared_outcomes-requires-clause-start
 shared_outcomes-requires-clause-start g c = λ lifetimes within.
     let i = c.loop-done.invariant in
-    starts_there g.S.RunStarts.starts c.loop-done.done c.args.self.now c.loop-done.self c.requires.starts i.same i.run.rounds
+    subst (λ (b : Bool). g.S.RunStarts.starts (c.loop-done.self.rounds + 1) ≡ next_start_of b c.loop-done.self) (sym i.form)
+    (starts_there g.E.EventKeeper.logs g.S.RunStarts.starts c.loop-done.done c.args.self.now c.loop-done.self c.requires.starts i.same i.run.rounds)
 
 pub end_round-requires-clause-outcomes : goal.end_round-requires-clause-outcomes
 end_round-requires-clause-outcomes g c = λ lifetimes within.
-    subst (λ (u : Untraced). AreOfNext u c.in_ok-outcomes.outcomes.items) (sym c.shared_outcomes.ensures.stays) c.in_ok-outcomes.ensures.outcomes
+    subst (λ (u : Untraced). AreOfNext g.E.EventKeeper.logs u c.in_ok-outcomes.outcomes.items) (sym c.shared_outcomes.ensures.stays)
+    (subst (λ (b : Bool). AreOfNext b c.loop-done.self c.in_ok-outcomes.outcomes.items) c.loop-done.invariant.form c.in_ok-outcomes.ensures.outcomes)
 
 pub end_round-requires-clause-rounds : goal.end_round-requires-clause-rounds
 end_round-requires-clause-rounds g c = λ lifetimes within.
@@ -55,6 +59,7 @@ loop-done-preserved g c =
       opening = one.opening ∙ i.opening;
       sound = (i.sound.0 ++ next_events u, kept i.sound.0 i.sound.1, sound);
       same = ok ∙ ap untraced_round i.same ∙ one_more c.loop-done.done c.args.self.now;
+      form = ap keeps_log c.shared_outcomes.ensures.form ∙ i.form;
     }
 
 pub returns-then-running_harts-eq0-clause-ran : goal.returns-then-running_harts-eq0-clause-ran

@@ -1,4 +1,4 @@
-use Rattle.std.proofs.Common.{◌≡◌, ◌+◌, ◌-◌, ◌++◌, ℕ, List, length, refl, sym, ap, ◌∙◌, subst, arith, rules, Err}
+use Rattle.std.proofs.Common.{◌≡◌, Bool, ◌+◌, ◌-◌, ◌++◌, ℕ, List, length, refl, sym, ap, ◌∙◌, subst, arith, rules, Err}
 use Rattle.round_schedule.specs.declared.event.Event.{Event}
 use Rattle.machine.specs.Kept.{AreOfNext}
 use Rattle.machine.specs.Machine.{after_rounds, count_stopped}
@@ -18,7 +18,8 @@ outcomes-requires-clause-rounds g c = λ lifetimes within. omega (arith, c.loop-
 
 pub end_round-requires-clause-outcomes : goal.end_round-requires-clause-outcomes
 end_round-requires-clause-outcomes g c = λ lifetimes within.
-    subst (λ (u : Untraced). AreOfNext u c.in_ok-outcomes.outcomes.items) (sym c.outcomes.ensures.stays) c.in_ok-outcomes.ensures.outcomes
+    subst (λ (u : Untraced). AreOfNext g.E.EventKeeper.logs u c.in_ok-outcomes.outcomes.items) (sym c.outcomes.ensures.stays)
+    (subst (λ (b : Bool). AreOfNext b c.loop-done.self c.in_ok-outcomes.outcomes.items) c.log_form.ensures c.in_ok-outcomes.ensures.outcomes)
 
 pub end_round-requires-clause-rounds : goal.end_round-requires-clause-rounds
 end_round-requires-clause-rounds g c = λ lifetimes within.
