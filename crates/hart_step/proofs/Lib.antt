@@ -1,5 +1,4 @@
 pub mod Products
-pub mod Room
 pub mod RunTurns
 pub mod Shown
 pub mod Spares
@@ -10,9 +9,11 @@ pub mod Bytes
 pub mod ByWord
 pub mod Soundness
 pub mod Formation
+pub mod Computed
 pub mod Stopping
 pub mod Listed
 pub mod Paused
+pub mod Performed
 pub mod Ran
 pub mod SimpleRuns
 pub mod Zeroed

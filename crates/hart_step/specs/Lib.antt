@@ -8,6 +8,7 @@ pub mod Effect
 pub mod Forms
 pub mod Laws
 pub mod Numbers
+pub mod Performs
 pub mod Registers
 pub mod Room
 pub mod Rounds

@@ -1,10 +1,9 @@
 //! The effects that instructions have in common, one function for each.
-ghost use Rattle.std.specs.Prelude.{◌≡◌, [], None, IfOk, OnOk, OnErr, IsOk};
-ghost use Rattle.pages.specs.Memory.{loaded, stored, store_fault};
+ghost use Rattle.std.specs.Prelude.{◌≡◌, None};
+ghost use Rattle.pages.specs.Memory.{loaded, store_fault};
 ghost use Rattle.hart_step.specs.declared.answer.Answer.TheVariants.{Halted};
-ghost use Rattle.hart_step.specs.Answers.{with_access};
-ghost use Rattle.hart_step.specs.Buses.{AllHaveRoom};
 ghost use Rattle.hart_step.specs.Numbers.{sx};
+ghost use Rattle.hart_step.specs.Performs.{IsQuiet, Performs};
 ghost use Rattle.hart_step.specs.Step.{cut, extended_to, width_bits, fault_code, went_on, next_pc, stopped_with, put_to, jumped, branched, read_by, written_by, ordered};
 
 use crate::answer::Answer;
@@ -50,42 +49,37 @@ pub fn stop_code(fault: Fault) -> u8
 
 /// A value for rd.
 #[inline(always)]
-pub fn put(h: &mut Hart, rd: Reg, value: u64) -> Answer
-    ensures answer { with_access None result ≡ (put_to h.old rd value (next_pc h.old)).answer }
-    ensures hart { h.new ≡ (put_to h.old rd value (next_pc h.old)).hart }
+pub fn put(h: &mut Hart, rd: Reg, value: u64) -> Result<Answer, OutOfMemory>
+    ensures { IsQuiet (put_to h.old rd value (next_pc h.old)) result None h.new }
 {
     h.go_on(rd, value);
-    Answer::Went
+    Ok(Answer::Went)
 }
 
 /// A taken jump.
 #[inline(always)]
-pub fn jump(h: &mut Hart, rd: Reg, target: u64) -> Answer
-    ensures answer { with_access None result ≡ (jumped h.old rd target).answer }
-    ensures hart { h.new ≡ (jumped h.old rd target).hart }
-    ensures stores { (jumped h.old rd target).stores ≡ [] }
+pub fn jump(h: &mut Hart, rd: Reg, target: u64) -> Result<Answer, OutOfMemory>
+    ensures { IsQuiet (jumped h.old rd target) result None h.new }
 {
     if target % 4 != 0 {
-        return halt(h, 4);
+        return Ok(halt(h, 4));
     }
     let next = h.pc.wrapping_add(4);
     put_and_go(h, rd, next, target);
-    Answer::Went
+    Ok(Answer::Went)
 }
 
 /// A branch.
 #[inline(always)]
-pub fn branch(h: &mut Hart, taken: bool, target: u64) -> Answer
-    ensures answer { with_access None result ≡ (branched h.old taken target).answer }
-    ensures hart { h.new ≡ (branched h.old taken target).hart }
-    ensures stores { (branched h.old taken target).stores ≡ [] }
+pub fn branch(h: &mut Hart, taken: bool, target: u64) -> Result<Answer, OutOfMemory>
+    ensures { IsQuiet (branched h.old taken target) result None h.new }
 {
     if taken {
         return jump(h, Reg::new(0), target);
     }
     let next = h.pc.wrapping_add(4);
     h.go_to(next);
-    Answer::Went
+    Ok(Answer::Went)
 }
 
 /// The register that a loaded number gives.
@@ -136,17 +130,13 @@ pub fn load<B: Bus>(
     address: u64,
     width: Width,
     signed: bool,
-) -> Answer
+) -> Result<Answer, OutOfMemory>
     requires { seen.old ≡ None }
-    ensures answer { with_access seen.new result ≡
-        (read_by h.old rd address width signed (loaded (B.memory b.now) address width)).answer }
-    ensures hart { h.new ≡
-        (read_by h.old rd address width signed (loaded (B.memory b.now) address width)).hart }
-    ensures stores { (read_by h.old rd address width signed
-        (loaded (B.memory b.now) address width)).stores ≡ [] }
+    ensures { IsQuiet (read_by h.old rd address width signed (loaded (B.memory b.now) address width))
+        result seen.new h.new }
 {
     match b.load(address, width) {
-        Err(f) => halt(h, stop_code(f)),
+        Err(f) => Ok(halt(h, stop_code(f))),
         Ok(read) => {
             *seen = Some(Access::Load {
                 width,
@@ -170,18 +160,9 @@ pub fn store<B: Bus>(
     value: u64,
 ) -> Result<Answer, OutOfMemory>
     requires { seen.old ≡ None }
-    ensures answer { IfOk result (λ a. with_access seen.new a ≡ (written_by h.old address width
-        value (store_fault (B.memory b.old) address width)).answer) }
-    ensures hart { OnOk result (h.new ≡
-        (written_by h.old address width value (store_fault (B.memory b.old) address width)).hart) }
-    ensures memory { OnOk result (B.memory b.new ≡ stored (B.memory b.old) (written_by h.old address
-        width value (store_fault (B.memory b.old) address width)).stores) }
-    ensures takes { OnOk result (B.takes b.old (written_by h.old address width value
-        (store_fault (B.memory b.old) address width)).stores b.new) }
-    ensures err_hart { OnErr result (h.new ≡ h.old) }
-    ensures err_bus { OnErr result (B.memory b.new ≡ B.memory b.old) }
-    ensures room { AllHaveRoom (B.has_room b.old) (written_by h.old address width value
-        (store_fault (B.memory b.old) address width)).stores → IsOk result }
+    ensures { Performs (B.has_room b.old) (B.takes b.old) (written_by h.old address width value
+        (store_fault (B.memory b.old) address width)) h.old (B.memory b.old)
+        result seen.new h.new (B.memory b.new) b.new }
 {
     let s = Store {
         address,
@@ -212,17 +193,15 @@ pub fn order(
     before: FenceSet,
     after: FenceSet,
     mode: FenceMode,
-) -> Answer
+) -> Result<Answer, OutOfMemory>
     requires { seen.old ≡ None }
-    ensures answer { with_access seen.new result ≡ (ordered h.old before after mode).answer }
-    ensures hart { h.new ≡ (ordered h.old before after mode).hart }
-    ensures stores { (ordered h.old before after mode).stores ≡ [] }
+    ensures { IsQuiet (ordered h.old before after mode) result seen.new h.new }
 {
     match mode {
-        FenceMode::Normal if before.writes && after.reads => Answer::Waited,
+        FenceMode::Normal if before.writes && after.reads => Ok(Answer::Waited),
         _ => {
             *seen = Some(h.pass_fence(before, after, mode));
-            Answer::Went
+            Ok(Answer::Went)
         }
     }
 }
