@@ -5,11 +5,10 @@ use Rattle.clap.specs.Simple.{Shape, argument_words, built, entered, is_simple, 
 use Rattle.clap.specs.Faults.{check_fault, defaults_fault, entered_fault, fault_of, is_simple_and_free, settle_fault, walk_fault}
 use Rattle.clap.specs.Kinds.{HasKind, Kinds, or_else}
 use Rattle.clap.specs.declared.error.Error.{Error}
-use Rattle.clap.specs.declared.error.kind.ErrorKind.TheVariants.{ValueValidation}
 use Rattle.clap.specs.Walk.{answers_to, finished, nothing_held, rows_after, settled, walk, walk_from}
 use Rattle.clap.specs.Words.{Row, Text, subcommand_of}
 use Rattle.command_line.specs.Options.{dethart_app}
-use Rattle.command_line.specs.Reading.{IsSubcommand, word_fault, has_bad_word, line_fault}
+use Rattle.command_line.specs.Reading.{IsSubcommand, word_fault, line_fault}
 
 pub simple : is_simple dethart_app ≡ true
 simple = refl
@@ -88,12 +87,10 @@ kept_first e (k ∷ ks) b (inl h) = inl h
 kept_first e [] b (inr h) = absurd h
 kept_first e (k ∷ ks) b (inr h) = inr h
 
--- where clap has none, the words that the program reads say which there is
-pub after_clap : (words : List Text) (name : Text) (rows : List Row) (bad : Bool) → fault_of dethart_app words ≡ [] → subcommand_of dethart_app words ≡ Some (name, rows)
-    → has_bad_word name rows ≡ bad → line_fault words ≡ cond bad (ValueValidation ∷ []) []
-after_clap words name rows bad none is e =
-    ap (λ k. or_else k (word_fault (subcommand_of dethart_app words))) none
-    ∙ (ap word_fault is ∙ ap (λ b. cond b (ValueValidation ∷ []) []) e)
+-- where clap has none, those of the line are those of the words that the program reads
+pub after_clap : (words : List Text) (name : Text) (rows : List Row) → fault_of dethart_app words ≡ [] → subcommand_of dethart_app words ≡ Some (name, rows)
+    → line_fault words ≡ word_fault (Some (name, rows))
+after_clap words name rows none is = ap (λ k. or_else k (word_fault (subcommand_of dethart_app words))) none ∙ ap word_fault is
 
 -- the name of the subcommand, by its rows
 pub name_of : {X : Type 0} (f : X → Text × List Row) (o : Option X) → option_map (λ x. (f x).0) o ≡ option_map (λ p. p.0) (option_map f o)

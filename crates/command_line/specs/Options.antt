@@ -12,6 +12,10 @@ narrow = parser.Signed (pos 0) (pos 4294967295)
 abbrev pub wide : ValueParser
 wide = parser.Unsigned 0 18446744073709551615
 
+-- the argument with values of this kind
+abbrev pub with_parser : ValueParser → Rule → Rule
+with_parser parser rule = record rule { parser = Some parser }
+
 -- an argument that must be there
 abbrev pub positional_rule : Text → Rule
 positional_rule id = record (new_rule id) { value_names = 1; required = true }

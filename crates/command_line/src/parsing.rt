@@ -1,8 +1,8 @@
 //! What the words of a command line say.
-ghost use Rattle.std.specs.Prelude.{◌≡◌, IfOk, is_some, map};
+ghost use Rattle.std.specs.Prelude.{◌≡◌, IfOk, Some, is_some, map};
 ghost use Rattle.clap.specs.Words.{FailsBy, found_of, rows_of, subcommand_of};
 ghost use Rattle.command_line.specs.Options.{dethart_app};
-ghost use Rattle.command_line.specs.Reading.{HoldsLine, HoldsMigrate, HoldsNamed, HoldsReplay, HoldsWatch, IsSubcommand, address_given, has_bad_address, has_bad_word, line_fault};
+ghost use Rattle.command_line.specs.Reading.{HoldsLine, HoldsMigrate, HoldsNamed, HoldsReplay, HoldsWatch, IsSubcommand, address_given, has_bad_address, has_bad_word, line_fault, word_fault};
 
 use crate::families::{hunt_of, merge_of, plan_of, shrink_of};
 use crate::numbers::{address_in, number_given, number_of, wide_given, wide_number_of};
@@ -39,10 +39,24 @@ pub fn parse_line<'a>(alloc: Global, words: &'a [&'a str]) -> Result<Command<'a>
     let Some((name, found)) = matches.subcommand() else {
         unreachable!()
     };
-    if let Some(text) = bad_word(name, found) {
+    subcommand_of(alloc, &mut command, name, found)
+}
+
+/// What the matches of the subcommand of this name say, or what is wrong with one of their words.
+fn subcommand_of<'a>(
+    alloc: Global,
+    command: &mut clap::Command<'_>,
+    name: &str,
+    matches: &ArgMatches<'a>,
+) -> Result<Command<'a>, Error>
+    requires known { IsSubcommand name.now }
+    ensures reads { IfOk result (HoldsNamed name.now (rows_of (found_of matches.now))) }
+    ensures fails { FailsBy (word_fault (Some (name.now, rows_of (found_of matches.now)))) result }
+{
+    if let Some(text) = bad_word(name, matches) {
         return Err(command.error(ErrorKind::ValueValidation, text)?);
     }
-    Ok(command_of(alloc, name, found)?)
+    Ok(command_of(alloc, name, matches)?)
 }
 
 /// What the matches of the subcommand of this name say.

@@ -2,9 +2,9 @@
 ghost use Rattle.std.specs.Prelude.{◌≡◌, IfOk, false};
 ghost use Rattle.clap.specs.Words.{app_of, new_app};
 ghost use Rattle.clap.specs.declared.builder.command.Command.TheViews.{out-Command};
-ghost use Rattle.command_line.specs.Options.{guest_app, guest_rules, taking};
+ghost use Rattle.command_line.specs.Options.{guest_rules, taking};
 
-use crate::arguments::{file, flag, number, positional, progress, workers};
+use crate::arguments::{Argument, NARROW, with_arguments};
 use clap::Command;
 use std::alloc::{AllocError, Global};
 
@@ -23,8 +23,26 @@ pub(crate) fn named_command<'a>(
         .after_help(after_help)
 }
 
+/// What the guest reads, an option of each subcommand that runs a program.
+pub(crate) const INPUT: Argument<'static> = Argument::File(
+    "input",
+    "What the guest reads [default: no input]",
+);
+
+/// A guest program, and the size of its machine.
+static GUEST: [Argument<'static>; 4] = [
+    Argument::Positional(
+        "image",
+        "IMAGE",
+        "The file of the guest program: ELF, or any code with --flat",
+    ),
+    Argument::Flag("flat", "IMAGE is flat: bytes from address 0 on, all code"),
+    Argument::Number(NARROW, "harts", "1", "Harts: 1 to 64"),
+    Argument::Number(NARROW, "pages", "256", "Pages of 4096 bytes: 1 to 16384"),
+];
+
 /// A subcommand that runs a guest program: the image, and the size of its machine.
-fn guest_command<'a>(
+pub(crate) fn guest_command<'a>(
     alloc: Global,
     name: &'a str,
     about: &'a str,
@@ -33,37 +51,6 @@ fn guest_command<'a>(
     ensures app { IfOk result (λ command. app_of command ≡ taking name.entry.now guest_rules) }
     ensures local { IfOk result (λ command. (out-Command command).has_globals ≡ false) }
 {
-    named_command(alloc, name, about, after_help)
-        .arg(positional(
-            alloc,
-            "image",
-            "IMAGE",
-            "The file of the guest program: ELF, or any code with --flat",
-        ))?
-        .arg(flag(
-            alloc,
-            "flat",
-            "IMAGE is flat: bytes from address 0 on, all code",
-        ))?
-        .arg(number(alloc, "harts", "1", "Harts: 1 to 64"))?
-        .arg(number(alloc, "pages", "256", "Pages of 4096 bytes: 1 to 16384"))
-}
-
-/// A subcommand that runs a guest program: the image, and what it is run with.
-pub(crate) fn program_command<'a>(
-    alloc: Global,
-    name: &'a str,
-    about: &'a str,
-    after_help: &'a str,
-    rounds: &'a str,
-) -> Result<Command<'a>, AllocError>
-    ensures app { IfOk result (λ command. app_of command ≡
-        guest_app name.entry.now rounds.entry.now) }
-    ensures local { IfOk result (λ command. (out-Command command).has_globals ≡ false) }
-{
-    guest_command(alloc, name, about, after_help)?
-        .arg(number(alloc, "rounds", rounds, "Rounds: 0 to 4294967295"))?
-        .arg(workers(alloc))?
-        .arg(file(alloc, "input", "What the guest reads [default: no input]"))?
-        .arg(progress(alloc))
+    let command = named_command(alloc, name, about, after_help);
+    with_arguments(alloc, command, GUEST.as_slice())
 }

@@ -2,31 +2,74 @@
 ghost use Rattle.std.specs.Prelude.{◌≡◌, IfOk, false};
 ghost use Rattle.clap.specs.Words.{app_of};
 ghost use Rattle.clap.specs.declared.builder.command.Command.TheViews.{out-Command};
-ghost use Rattle.command_line.specs.Options.{draw_app, order_app, plan_rules, record_app, run_app, running, with_rules};
+ghost use Rattle.command_line.specs.Options.{draw_app, order_app, record_app, run_app, running};
 
-use crate::arguments::{
-    file, flag, number, number_given, positional, quota, see, see_object, seed, show,
-};
+use crate::arguments::{Argument, NARROW, PROGRESS, SAME_OF_OBJECT, SEED, WORKERS, with_arguments};
 use crate::family_help::{DRAW_ABOUT, DRAW_AFTER_HELP};
 use crate::help::{ORDER_ABOUT, ORDER_AFTER_HELP, RUN_ABOUT, RUN_AFTER_HELP};
-use crate::program_options::program_command;
+use crate::program_options::{INPUT, guest_command};
 use crate::recording_help::{RECORD_ABOUT, RECORD_AFTER_HELP};
 use clap::Command;
 use std::alloc::{AllocError, Global};
+
+/// What a program is run with by one plan, and which plan that is.
+static RUNNING: [Argument<'static>; 9] = [
+    Argument::Number(NARROW, "rounds", "1000", "Rounds: 0 to 4294967295"),
+    WORKERS,
+    INPUT,
+    PROGRESS,
+    Argument::Defaulted("quota", "PLAN", "1000", "One row of quotas 1 to 1000000"),
+    Argument::File("plan", "The plan from a file, in place of --quota"),
+    Argument::Number(NARROW, "budget", "1", "Length of a serial turn: 1 to 1000"),
+    Argument::NumberGiven(
+        NARROW,
+        "plan-number",
+        "By plan N of the family, not by these three",
+    ),
+    SEED,
+];
+
+/// What of a run is printed.
+static PRINTING: [Argument<'static>; 3] = [
+    Argument::Defaulted(
+        "show",
+        "WHAT",
+        "report",
+        "Print the report, output or harts",
+    ),
+    Argument::Flag("no-trace", "Print the report up to its trace"),
+    Argument::Flag(
+        "strict",
+        "Exit with 4 where a hart doesn't end with value 0",
+    ),
+];
+
+/// Where a recording goes, and which registers it has.
+static RECORDED: [Argument<'static>; 2] = [
+    Argument::Positional("out", "OUT", "The file that the recording is written to"),
+    Argument::Number(
+        NARROW,
+        "every",
+        "0",
+        "Registers after each N-th round; 0 never",
+    ),
+];
+
+/// Which bytes and rounds are drawn.
+static DRAWN: [Argument<'static>; 4] = [
+    Argument::See("Bytes whose accesses are drawn; can be repeated"),
+    SAME_OF_OBJECT,
+    Argument::NumberGiven(NARROW, "from", "First round that is drawn"),
+    Argument::NumberGiven(NARROW, "to", "Last round that is drawn"),
+];
 
 /// The subcommand `run`: how the program is run, and what is printed of that.
 pub(crate) fn run_command<'a>(alloc: Global) -> Result<Command<'a>, AllocError>
     ensures app { IfOk result (λ command. app_of command ≡ run_app) }
     ensures local { IfOk result (λ command. (out-Command command).has_globals ≡ false) }
 {
-    running_command(alloc, "run", RUN_ABOUT, RUN_AFTER_HELP)?
-        .arg(show(alloc))?
-        .arg(flag(alloc, "no-trace", "Print the report up to its trace"))?
-        .arg(flag(
-            alloc,
-            "strict",
-            "Exit with 4 where a hart doesn't end with value 0",
-        ))
+    let command = running_command(alloc, "run", RUN_ABOUT, RUN_AFTER_HELP)?;
+    with_arguments(alloc, command, PRINTING.as_slice())
 }
 
 /// The subcommand `order`: how the program is run.
@@ -42,19 +85,8 @@ pub(crate) fn record_command<'a>(alloc: Global) -> Result<Command<'a>, AllocErro
     ensures app { IfOk result (λ command. app_of command ≡ record_app) }
     ensures local { IfOk result (λ command. (out-Command command).has_globals ≡ false) }
 {
-    running_command(alloc, "record", RECORD_ABOUT, RECORD_AFTER_HELP)?
-        .arg(positional(
-            alloc,
-            "out",
-            "OUT",
-            "The file that the recording is written to",
-        ))?
-        .arg(number(
-            alloc,
-            "every",
-            "0",
-            "Registers after each N-th round; 0 never",
-        ))
+    let command = running_command(alloc, "record", RECORD_ABOUT, RECORD_AFTER_HELP)?;
+    with_arguments(alloc, command, RECORDED.as_slice())
 }
 
 /// The subcommand `draw`: how the program is run, and which bytes and rounds are drawn.
@@ -62,11 +94,8 @@ pub(crate) fn draw_command<'a>(alloc: Global) -> Result<Command<'a>, AllocError>
     ensures app { IfOk result (λ command. app_of command ≡ draw_app) }
     ensures local { IfOk result (λ command. (out-Command command).has_globals ≡ false) }
 {
-    running_command(alloc, "draw", DRAW_ABOUT, DRAW_AFTER_HELP)?
-        .arg(see(alloc, "Bytes whose accesses are drawn; can be repeated"))?
-        .arg(see_object(alloc, "The same, a symbol's bytes; can be repeated"))?
-        .arg(number_given(alloc, "from", "First round that is drawn"))?
-        .arg(number_given(alloc, "to", "Last round that is drawn"))
+    let command = running_command(alloc, "draw", DRAW_ABOUT, DRAW_AFTER_HELP)?;
+    with_arguments(alloc, command, DRAWN.as_slice())
 }
 
 /// A subcommand that runs a guest program by one plan.
@@ -79,14 +108,6 @@ fn running_command<'a>(
     ensures app { IfOk result (λ command. app_of command ≡ running name.entry.now) }
     ensures local { IfOk result (λ command. (out-Command command).has_globals ≡ false) }
 {
-    program_command(alloc, name, about, after_help, "1000")?
-        .arg(quota(alloc))?
-        .arg(file(alloc, "plan", "The plan from a file, in place of --quota"))?
-        .arg(number(alloc, "budget", "1", "Length of a serial turn: 1 to 1000"))?
-        .arg(number_given(
-            alloc,
-            "plan-number",
-            "By plan N of the family, not by these three",
-        ))?
-        .arg(seed(alloc))
+    let command = guest_command(alloc, name, about, after_help)?;
+    with_arguments(alloc, command, RUNNING.as_slice())
 }

@@ -1,5 +1,5 @@
 /// What a command line asks for.
-#[derive(Debug, PartialEq, Eq, Drop)]
+#[derive(PartialEq, Eq, Drop)]
 pub enum Command<'a> {
     /// `run IMAGE`: run a guest program, and print what is asked for.
     Run(Print<'a>),
@@ -26,7 +26,7 @@ pub enum Command<'a> {
 }
 
 /// A guest program, and what it is run with. The numbers are as they were given: their ranges are not tested here.
-#[derive(Clone, Copy, Debug, PartialEq, Eq, Drop)]
+#[derive(Clone, Copy, PartialEq, Eq, Drop)]
 pub struct Program<'a> {
     /// The path of the image.
     pub image: &'a str,
@@ -47,7 +47,7 @@ pub struct Program<'a> {
 }
 
 /// Which plan a run goes by.
-#[derive(Clone, Copy, Debug, PartialEq, Eq, Drop)]
+#[derive(Clone, Copy, PartialEq, Eq, Drop)]
 pub struct PlanChoice<'a> {
     /// The plan's one row, where no file has the plan.
     pub quota: &'a str,
@@ -62,7 +62,7 @@ pub struct PlanChoice<'a> {
 }
 
 /// One run: the words after `order`, and a part of those after `run`, `record` and `draw`.
-#[derive(Clone, Copy, Debug, PartialEq, Eq, Drop)]
+#[derive(Clone, Copy, PartialEq, Eq, Drop)]
 pub struct Run<'a> {
     /// The program that is run.
     pub program: Program<'a>,
@@ -71,7 +71,7 @@ pub struct Run<'a> {
 }
 
 /// What of a run is printed.
-#[derive(Clone, Copy, Debug, PartialEq, Eq, Drop)]
+#[derive(Clone, Copy, PartialEq, Eq, Drop)]
 pub enum Shown {
     /// The report of the state after it.
     Report,
@@ -82,7 +82,7 @@ pub enum Shown {
 }
 
 /// The words after `run`.
-#[derive(Clone, Copy, Debug, PartialEq, Eq, Drop)]
+#[derive(Clone, Copy, PartialEq, Eq, Drop)]
 pub struct Print<'a> {
     /// The run.
     pub run: Run<'a>,
@@ -95,7 +95,7 @@ pub struct Print<'a> {
 }
 
 /// The words after `record`.
-#[derive(Clone, Copy, Debug, PartialEq, Eq, Drop)]
+#[derive(Clone, Copy, PartialEq, Eq, Drop)]
 pub struct Record<'a> {
     /// The run to record.
     pub run: Run<'a>,
@@ -106,7 +106,7 @@ pub struct Record<'a> {
 }
 
 /// The words after `replay`.
-#[derive(Clone, Copy, Debug, PartialEq, Eq, Drop)]
+#[derive(Clone, Copy, PartialEq, Eq, Drop)]
 pub struct Replay<'a> {
     /// The path of the recording.
     pub recording: &'a str,
@@ -129,7 +129,7 @@ pub struct Replay<'a> {
 }
 
 /// The words after `watch`.
-#[derive(Debug, PartialEq, Eq, Drop)]
+#[derive(PartialEq, Eq, Drop)]
 pub struct Watch<'a> {
     /// The path of the recording.
     pub recording: &'a str,
@@ -150,7 +150,7 @@ pub struct Watch<'a> {
 }
 
 /// The words after `migrate`.
-#[derive(Clone, Copy, Debug, PartialEq, Eq, Drop)]
+#[derive(Clone, Copy, PartialEq, Eq, Drop)]
 pub struct Migrate<'a> {
     /// The path of the recording that is read.
     pub recording: &'a str,
@@ -159,7 +159,7 @@ pub struct Migrate<'a> {
 }
 
 /// A range of bytes in guest memory: the two words after `--see`.
-#[derive(Clone, Copy, Debug, PartialEq, Eq, Drop)]
+#[derive(Clone, Copy, PartialEq, Eq, Drop)]
 pub struct Bytes {
     /// The address of the first byte.
     pub address: u64,
@@ -168,7 +168,7 @@ pub struct Bytes {
 }
 
 /// Runs of a program by plans of a family: a part of the words after `hunt` and `shrink`.
-#[derive(Debug, PartialEq, Eq, Drop)]
+#[derive(PartialEq, Eq, Drop)]
 pub struct Search<'a> {
     /// The program that is run.
     pub program: Program<'a>,
@@ -181,7 +181,7 @@ pub struct Search<'a> {
 }
 
 /// The words after `hunt`.
-#[derive(Debug, PartialEq, Eq, Drop)]
+#[derive(PartialEq, Eq, Drop)]
 pub struct Hunt<'a> {
     /// The runs.
     pub search: Search<'a>,
@@ -192,7 +192,7 @@ pub struct Hunt<'a> {
 }
 
 /// The words after `shrink`.
-#[derive(Debug, PartialEq, Eq, Drop)]
+#[derive(PartialEq, Eq, Drop)]
 pub struct Shrink<'a> {
     /// The runs.
     pub search: Search<'a>,
@@ -201,14 +201,14 @@ pub struct Shrink<'a> {
 }
 
 /// The words after `merge`.
-#[derive(Debug, PartialEq, Eq, Drop)]
+#[derive(PartialEq, Eq, Drop)]
 pub struct Merge<'a> {
     /// The paths of the tables, in the order of the line.
     pub tables: Vec<&'a str>,
 }
 
 /// The words after `plan`.
-#[derive(Clone, Copy, Debug, PartialEq, Eq, Drop)]
+#[derive(Clone, Copy, PartialEq, Eq, Drop)]
 pub struct Plan {
     /// The number of the plan.
     pub number: u32,
@@ -219,7 +219,7 @@ pub struct Plan {
 }
 
 /// The words after `draw`.
-#[derive(Debug, PartialEq, Eq, Drop)]
+#[derive(PartialEq, Eq, Drop)]
 pub struct Draw<'a> {
     /// The run to draw.
     pub run: Run<'a>,

@@ -1,10 +1,10 @@
-use Rattle.std.proofs.Common.{rules, true, false, true≢false, is_some, ◌≡◌, ◌∙◌, inl, inr, List, [], ◌∷◌, Some, ap, sym, subst, map, option_map}
+use Rattle.std.proofs.Common.{rules, false, true≢false, is_some, ◌≡◌, ◌∙◌, List, [], Some, ap, sym, subst, map, option_map}
 use Rattle.clap.specs.Simple.{built, is_simple}
 use Rattle.clap.specs.Faults.{is_simple_and_free}
-use Rattle.clap.specs.Words.{App, HasKind, Row, Text, fault_of, found_of, rows_of, subcommand_name_of, subcommand_of, subcommand_rows_of}
-use Rattle.clap.specs.declared.error.kind.ErrorKind.TheVariants.{ValueValidation}
+use Rattle.std.specs.Prelude.{IfOk}
+use Rattle.clap.specs.Words.{App, FailsBy, HasKind, Kinds, Row, Text, fault_of, found_of, rows_of, subcommand_name_of, subcommand_of, subcommand_rows_of}
 use Rattle.command_line.specs.Options.{dethart_app}
-use Rattle.command_line.specs.Reading.{HoldsLine, IsSubcommand, has_bad_word, line_fault}
+use Rattle.command_line.specs.Reading.{HoldsLine, IsSubcommand, line_fault}
 use Rattle.command_line.proofs.Lines.{Met, after_clap, is_known, kept_first, name_of, simple, simple_and_free, some_is, takes_one}
 use Rattle.command_line.proofs.parsing.parse_line.Goals as goal
 use Rattle.command_line.proofs.parsing.parse_line.Goals.{In_ok-matches}
@@ -49,33 +49,23 @@ is_met c name rows n r =
     let rows_is : rows ≡ (one_met c).rows = some_is _ _ (r ∙ ap (option_map (λ p. p.1)) (rows_met c)) in
     (one_met c).is ∙ (ap (λ t. Some (t, (one_met c).rows)) (sym name_is) ∙ ap (λ t. Some (name, t)) (sym rows_is))
 
-pub command_of-requires : goal.command_of-requires
-command_of-requires c =
-    let at = (goal.at.command_of-requires c).In_ok-matches in
+pub subcommand_of-requires : goal.subcommand_of-requires
+subcommand_of-requires c =
+    let at = (goal.at.subcommand_of-requires c).In_ok-matches in
     let name : c.in-Some.name.now ≡ (one_met at).name = some_is _ _ (c.in-Some.ensures.name ∙ (name_of _ _ ∙ ap (option_map (λ p. p.0)) (rows_met at))) in
     record { known = subst IsSubcommand (sym name) (is_known (one_met at).name (one_met at).known) }
-
-pub returns-in-Some-bad_word-clause-fails : goal.returns-in-Some-bad_word-clause-fails
-returns-in-Some-bad_word-clause-fails c =
-    let at = (goal.at.returns-in-Some-bad_word-clause-fails c).In_ok-matches in
-    let name : Text = c.in-Some.name.now in
-    let rows : List Row = rows_of (found_of c.in-Some.found.now) in
-    let bad : has_bad_word name rows ≡ true = sym c.in-Some-bad_word.ensures in
-    let kinds : line_fault (map (λ s. s.now) c.args.words.now) ≡ ValueValidation ∷ [] =
-    after_clap (map (λ s. s.now) c.args.words.now) name rows true (no_fault at) (is_met at name rows c.in-Some.ensures.name c.in-Some.ensures.rows) bad in
-    subst (λ k. HasKind k c.in_ok-error.field-0) (sym kinds) (inr (inl c.in_ok-error.ensures.kind))
 
 pub returns-clause-fails : goal.returns-clause-fails
 returns-clause-fails c =
     let at = (goal.at.returns-clause-fails c).In_ok-matches in
     let name : Text = c.in-Some.name.now in
     let rows : List Row = rows_of (found_of c.in-Some.found.now) in
-    let good : has_bad_word name rows ≡ false = sym c.in_default-bad_word.ensures in
-    after_clap (map (λ s. s.now) c.args.words.now) name rows false (no_fault at) (is_met at name rows c.in-Some.ensures.name c.in-Some.ensures.rows) good
+    let faults = after_clap (map (λ s. s.now) c.args.words.now) name rows (no_fault at) (is_met at name rows c.in-Some.ensures.name c.in-Some.ensures.rows) in
+    subst (λ (k : Kinds). FailsBy k c.subcommand_of.result) (sym faults) c.subcommand_of.ensures.fails
 
 pub returns-clause-reads : goal.returns-clause-reads
 returns-clause-reads c =
     let at = (goal.at.returns-clause-reads c).In_ok-matches in
     let name : Text = c.in-Some.name.now in
     let rows : List Row = rows_of (found_of c.in-Some.found.now) in
-    subst (λ o. HoldsLine o c.in_ok-command_of.field-0) (sym (is_met at name rows c.in-Some.ensures.name c.in-Some.ensures.rows)) c.in_ok-command_of.ensures
+    subst (λ o. IfOk c.subcommand_of.result (HoldsLine o)) (sym (is_met at name rows c.in-Some.ensures.name c.in-Some.ensures.rows)) c.subcommand_of.ensures.reads
