@@ -43,9 +43,9 @@ fn echoes_in_one_turn<R: Threads + Wait + Sync>(
 fn echo_in_one_turn(rt: HostRuntime) {
     // the turn ends by the budget, or by a fetch past the code
     for workers in [1, 4, 16] {
-        assert!(rt; echoes_in_one_turn(&rt, rt.alloc(), 3, workers, "running"));
-        assert!(rt; echoes_in_one_turn(&rt, rt.alloc(), 4, workers, "stop 3"));
-        assert!(rt; echoes_in_one_turn(&rt, rt.alloc(), 1000, workers, "stop 3"));
+        for (budget, state) in [(3, "running"), (4, "stop 3"), (1000, "stop 3")] {
+            assert!(rt; echoes_in_one_turn(&rt, rt.alloc(), budget, workers, state));
+        }
     }
 }
 

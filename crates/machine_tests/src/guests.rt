@@ -14,15 +14,8 @@ use std::sync::Wait;
 use std::test::Fail;
 use std::thread::Threads;
 
-/// The machine after so many rounds of an ELF file, with 256 pages and one worker.
-fn machine_after<R: Threads + Wait + Sync>(
-    rt: &R,
-    alloc: Global,
-    file: &[u8],
-    harts: u32,
-    plan: &[u8],
-    rounds: u32,
-) -> Result<Machine, RunError>
+/// The machine of an ELF file on 256 pages, without input.
+fn machine_of(alloc: Global, file: &[u8], harts: u32, plan: &[u8]) -> Result<Machine, RunError>
     requires some_harts { 1 ≤ harts }
     requires few_harts { harts ≤ 64 }
 {
@@ -30,13 +23,10 @@ fn machine_after<R: Threads + Wait + Sync>(
         Ok(image) => image,
         Err(error) => return Err(RunError::Image(error)),
     };
-    let plan = match Plan::parse(alloc, plan, harts) {
-        Ok(plan) => plan,
-        Err(error) => return Err(RunError::Plan(error)),
-    };
-    let mut machine = Machine::new(alloc, image, Vec::new(alloc), plan)?;
-    machine.run(rt, rounds, 1)?;
-    Ok(machine)
+    match Plan::parse(alloc, plan, harts) {
+        Ok(plan) => Machine::new(alloc, image, Vec::new(alloc), plan),
+        Err(error) => Err(RunError::Plan(error)),
+    }
 }
 
 /// Whether the machine put out this text, and each hart has exited with this value.
@@ -48,6 +38,18 @@ fn has_ended(machine: &Machine, output: &str, value: u64) -> bool {
             .all(|hart| hart.stop == Some(Stop { code: 1, value }))
 }
 
+/// Whether so many rounds on one worker end so.
+fn ends<R: Threads + Wait + Sync>(
+    rt: &R,
+    machine: &mut Machine,
+    rounds: u32,
+    output: &str,
+    value: u64,
+) -> Result<bool, RunError> {
+    machine.run(rt, rounds, 1)?;
+    Ok(has_ended(machine, output, value))
+}
+
 #[test]
 fn each_hart_says_hello(rt: HostRuntime) -> Result<(), Fail> {
     for (harts, output) in [
@@ -55,8 +57,10 @@ fn each_hart_says_hello(rt: HostRuntime) -> Result<(), Fail> {
         (2, "hart 0 of 2\nhart 1 of 2\n"),
         (3, "hart 0 of 3\nhart 1 of 3\nhart 2 of 3\n"),
     ] {
-        let machine = machine_after(&rt, rt.alloc(), HELLO, harts, b"1000\n", 200)?;
-        assert!(rt; has_ended(&machine, output, 0));
+        let mut machine = machine_of(rt.alloc(), HELLO, harts, b"1000\n")?;
+        let ended = ends(&rt, &mut machine, 200, output, 0);
+        drop(machine);
+        assert!(rt; ended?);
     }
     Ok(())
 }
@@ -64,8 +68,10 @@ fn each_hart_says_hello(rt: HostRuntime) -> Result<(), Fail> {
 #[test]
 fn harts_add_up_numbers_between_barriers(rt: HostRuntime) -> Result<(), Fail> {
     for harts in [1, 2, 7] {
-        let machine = machine_after(&rt, rt.alloc(), SUM, harts, b"100\n", 400)?;
-        assert!(rt; has_ended(&machine, "32896\n", 32_896));
+        let mut machine = machine_of(rt.alloc(), SUM, harts, b"100\n")?;
+        let ended = ends(&rt, &mut machine, 400, "32896\n", 32_896);
+        drop(machine);
+        assert!(rt; ended?);
     }
     Ok(())
 }
@@ -77,10 +83,12 @@ fn a_guest_counts_its_lost_updates(rt: HostRuntime) -> Result<(), Fail> {
         (2, "1000\n", "plain 10, atomic 20\n", 10, 20, 10),
         (4, "7\n", "plain 10, atomic 40\n", 10, 40, 30),
     ] {
-        let machine = machine_after(&rt, rt.alloc(), LOST_UPDATE, harts, plan.as_bytes(), 100)?;
-        assert!(rt; has_ended(&machine, output, lost));
-        assert_eq!(rt; machine.byte(0x20000), Some(plain));
-        assert_eq!(rt; machine.byte(0x20008), Some(atomic));
+        let mut machine = machine_of(rt.alloc(), LOST_UPDATE, harts, plan.as_bytes())?;
+        let ended = ends(&rt, &mut machine, 100, output, lost);
+        let counters = (machine.byte(0x20000), machine.byte(0x20008));
+        drop(machine);
+        assert!(rt; ended?);
+        assert_eq!(rt; counters, (Some(plain), Some(atomic)));
     }
     Ok(())
 }

@@ -9,6 +9,7 @@ use pages::Width;
 use round_schedule::{Access, Event, Phase};
 use std::alloc::Global;
 use std::sync::Wait;
+use std::test::Fail;
 use std::thread::Threads;
 use trace::Trace;
 
@@ -23,19 +24,17 @@ pub(crate) const TURNS: [u32; 5] = [
     0xFE0A_1AE3,
 ];
 
-/// The machine of two harts after so many rounds, each on so many workers.
-fn machine_after<R: Threads + Wait + Sync>(
+/// Does so many rounds, each on so many workers.
+fn does_rounds<R: Threads + Wait + Sync>(
     rt: &R,
-    alloc: Global,
-    plan: &[u8],
+    machine: &mut Machine,
     rounds: u32,
     workers: u32,
-) -> Result<Machine, RunError> {
-    let mut machine = machine_of(alloc, &TURNS, 2, plan)?;
+) -> Result<(), RunError> {
     for _ in 0..rounds {
         machine.round(rt, workers, &Open)?;
     }
-    Ok(machine)
+    Ok(())
 }
 
 /// What the load of a turn reads in rounds of 600 turns: what the hart stored in the turn before; in the first of all, 0;
@@ -101,37 +100,51 @@ fn is_wanted(trace: &Trace) -> bool {
     true
 }
 
-/// Whether two rounds of 2,401 instructions, on so many workers, leave the events of 600 turns each.
+/// Whether two rounds on so many workers leave the events of 600 turns each.
 fn leaves_each_event<R: Threads + Wait + Sync>(
     rt: &R,
-    alloc: Global,
+    machine: &mut Machine,
     workers: u32,
 ) -> Result<bool, RunError> {
-    let machine = machine_after(rt, alloc, b"2401\n", 2, workers)?;
+    does_rounds(rt, machine, 2, workers)?;
     Ok(is_wanted(machine.trace()))
 }
 
-/// How many events 60 rounds of 40 instructions leave, on so many workers, and how many of them are those of hart 0.
+/// How many events a trace has, and how many of them are those of hart 0.
+fn counts(trace: &Trace) -> (usize, usize) {
+    let all = trace.len();
+    (all, trace.events().filter(|event| event.hart == 0).count())
+}
+
+/// What 60 rounds on so many workers leave of them.
 fn event_counts<R: Threads + Wait + Sync>(
     rt: &R,
-    alloc: Global,
+    machine: &mut Machine,
     workers: u32,
 ) -> Result<(usize, usize), RunError> {
-    let machine = machine_after(rt, alloc, b"40\n", 60, workers)?;
-    let trace = machine.trace();
-    let first = trace.events().filter(|event| event.hart == 0).count();
-    Ok((trace.len(), first))
+    does_rounds(rt, machine, 60, workers)?;
+    Ok(counts(machine.trace()))
 }
 
 #[test]
-fn long_rounds_leave_each_event(rt: HostRuntime) {
-    assert!(rt; leaves_each_event(&rt, rt.alloc(), 1) == Ok(true));
-    assert!(rt; leaves_each_event(&rt, rt.alloc(), 4) == Ok(true));
+fn long_rounds_leave_each_event(rt: HostRuntime) -> Result<(), Fail> {
+    for workers in [1, 4] {
+        let mut machine = machine_of(rt.alloc(), &TURNS, 2, b"2401\n")?;
+        let left = leaves_each_event(&rt, &mut machine, workers);
+        drop(machine);
+        assert!(rt; left?);
+    }
+    Ok(())
 }
 
 #[test]
-fn short_rounds_leave_as_many_events(rt: HostRuntime) {
+fn short_rounds_leave_as_many_events(rt: HostRuntime) -> Result<(), Fail> {
     // 2,400 instructions a hart end after the store of turn 600: as many accesses as in one long round.
-    assert!(rt; event_counts(&rt, rt.alloc(), 1) == Ok((2400, 1200)));
-    assert!(rt; event_counts(&rt, rt.alloc(), 4) == Ok((2400, 1200)));
+    for workers in [1, 4] {
+        let mut machine = machine_of(rt.alloc(), &TURNS, 2, b"40\n")?;
+        let counts = event_counts(&rt, &mut machine, workers);
+        drop(machine);
+        assert!(rt; counts? == (2400, 1200));
+    }
+    Ok(())
 }

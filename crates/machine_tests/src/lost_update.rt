@@ -1,5 +1,5 @@
-use host_io::WriteSink;
-use machine::{Format, Settings, emulate};
+use crate::harness::{report_of, settings};
+use machine::Settings;
 use std::test::Fail;
 
 /// Each hart adds 1 to address 256 by a load and a store and to address 264 by an AMO, and exits with its number:
@@ -40,24 +40,11 @@ end
 #[test]
 fn an_update_is_lost_without_an_atomic_instruction(rt: HostRuntime) -> Result<(), Fail> {
     for workers in [1, 4] {
-        let settings = Settings {
-            format: Format::Flat,
-            harts: 2,
-            pages: 1,
-            rounds: 2,
+        let asked = Settings {
             workers,
-            budget: 1,
-            plan: b"8\n",
+            ..settings(2, 2, b"8\n")
         };
-        let mut text = Vec::new(rt.alloc());
-        emulate(
-            &rt,
-            rt.alloc(),
-            TWO_COUNTERS,
-            b"",
-            &settings,
-            &mut WriteSink::new(&mut text),
-        )?;
+        let text = report_of(&rt, rt.alloc(), TWO_COUNTERS, b"", &asked)?;
         assert!(rt; text.as_slice() == LOST);
     }
     Ok(())

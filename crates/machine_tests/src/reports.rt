@@ -3,7 +3,8 @@ use crate::images::{
     ADDED, CROSSED, CROSSED_AND_FENCED, ECHO, EXIT, MISALIGNED, OWN_STORE, RESERVED,
     STORE_THEN_LOAD,
 };
-use machine::{Format, Settings};
+use host_io::RunError;
+use machine::{Format, Machine, Settings};
 use std::alloc::Global;
 use std::sync::Wait;
 use std::test::Fail;
@@ -393,13 +394,11 @@ fn elf_files_that_are_refused(rt: HostRuntime) {
     assert!(rt; answer(&rt, rt.alloc(), ELF_EXIT, &elf(1)) == (8, 0));
 }
 
-/// What hart 0 is after one round of these words on one page: its pc, how many instructions it has done, its stop code, and x6.
-fn after_a_round<R: Threads + Wait + Sync>(
+/// What hart 0 is after one round of a machine of one hart: its pc, how many instructions it has done, its stop code, and x6.
+fn stops<R: Threads + Wait + Sync>(
     rt: &R,
-    alloc: Global,
-    words: &[u32],
-) -> Result<Option<(u64, u64, u8, u64)>, Fail> {
-    let mut machine = machine_of(alloc, words, 1, b"9\n")?;
+    machine: &mut Machine,
+) -> Result<Option<(u64, u64, u8, u64)>, RunError> {
     machine.run(rt, 1, 1)?;
     Ok(match machine.harts() {
         [hart] => match hart.stop {
@@ -408,6 +407,18 @@ fn after_a_round<R: Threads + Wait + Sync>(
         },
         _ => None,
     })
+}
+
+/// The same of these words on one page.
+fn after_a_round<R: Threads + Wait + Sync>(
+    rt: &R,
+    alloc: Global,
+    words: &[u32],
+) -> Result<Option<(u64, u64, u8, u64)>, RunError> {
+    let mut machine = machine_of(alloc, words, 1, b"9\n")?;
+    let stopped = stops(rt, &mut machine);
+    drop(machine);
+    stopped
 }
 
 #[test]

@@ -56,15 +56,26 @@ fn noted<R: Threads + Wait + Sync>(
     Ok((note.round, note.waited, note.stopped))
 }
 
+/// Whether the quota ends both harts in the first round, the call makes both wait in the second, and then nothing is left to do.
+fn goes_round_by_round<R: Threads + Wait + Sync>(
+    rt: &R,
+    machine: &mut Machine,
+) -> Result<bool, RunError> {
+    for wanted in [(1, 0, 0), (2, 2, 2), (3, 0, 2)] {
+        if noted(rt, machine, 4)? != wanted || !have_done_one(machine, wanted.0 != 1) {
+            return Ok(false);
+        }
+    }
+    Ok(true)
+}
+
 #[test]
 fn rounds_one_by_one(rt: HostRuntime) -> Result<(), Fail> {
     let mut machine = machine_of(rt.alloc(), &EXIT, 2, b"1\n")?;
-    assert!(rt; are_at_start(&machine));
-    // the quota ends both, the call makes both wait, and then nothing is left to do
-    for asked in [(1, 0, 0), (2, 2, 2), (3, 0, 2)] {
-        assert!(rt; noted(&rt, &mut machine, 4)? == asked);
-        assert!(rt; have_done_one(&machine, asked.0 != 1));
-    }
+    let begins = are_at_start(&machine);
+    let goes_on = goes_round_by_round(&rt, &mut machine);
+    drop(machine);
+    assert!(rt; begins && goes_on?);
     Ok(())
 }
 
@@ -157,16 +168,28 @@ fn run<R: Threads + Wait + Sync>(
     machine.run(rt, rounds, workers)
 }
 
+/// Whether the machine shows no event and no store before a round of the stores that cross, and all of them after it.
+fn shows_a_round<R: Threads + Wait + Sync>(
+    rt: &R,
+    machine: &mut Machine,
+) -> Result<bool, RunError> {
+    let begins = is_untraced(machine) && shows(machine, 0x100, Some(0));
+    run(rt, machine, 1, 16)?;
+    Ok(
+        begins
+            && have_done_five(machine)
+            && shows_its_bytes(machine)
+            && has_crossed(machine)
+            && has_put(machine, b""),
+    )
+}
+
 #[test]
 fn what_a_machine_shows(rt: HostRuntime) -> Result<(), Fail> {
     let mut machine = machine_of(rt.alloc(), &CROSSED, 2, b"5\n")?;
-    assert!(rt; is_untraced(&machine));
-    assert!(rt; shows(&machine, 0x100, Some(0)));
-    run(&rt, &mut machine, 1, 16)?;
-    assert!(rt; have_done_five(&machine));
-    assert!(rt; shows_its_bytes(&machine));
-    assert!(rt; has_crossed(&machine));
-    assert!(rt; has_put(&machine, b""));
+    let shown = shows_a_round(&rt, &mut machine);
+    drop(machine);
+    assert!(rt; shown?);
     Ok(())
 }
 
@@ -182,29 +205,48 @@ fn echo(alloc: Global, input: Vec<u8>) -> Result<Machine, RunError> {
     }
 }
 
+/// Whether the echo puts nothing out in the first round, and its byte and the one for the end of the input in the second.
+fn puts_late<R: Threads + Wait + Sync>(rt: &R, machine: &mut Machine) -> Result<bool, RunError> {
+    run(rt, machine, 1, 1)?;
+    let waits = has_put(machine, b"");
+    run(rt, machine, 1, 1)?;
+    Ok(waits && has_put(machine, b"A\xff"))
+}
+
 #[test]
 fn output_of_a_machine(rt: HostRuntime) -> Result<(), Fail> {
     let mut machine = echo(rt.alloc(), b"A".to_vec(rt.alloc())?)?;
-    run(&rt, &mut machine, 1, 1)?;
-    assert!(rt; has_put(&machine, b""));
-    run(&rt, &mut machine, 1, 1)?;
-    assert!(rt; has_put(&machine, b"A\xff"));
+    let put = puts_late(&rt, &mut machine);
+    drop(machine);
+    assert!(rt; put?);
     Ok(())
+}
+
+/// Whether so many workers are refused, for one round and for as many as can be asked for.
+fn refuses<R: Threads + Wait + Sync>(rt: &R, machine: &mut Machine, workers: u32) -> bool {
+    noted(rt, machine, workers) == Err(RunError::WorkersOutOfRange)
+        && run(rt, machine, 4_294_967_295, workers) == Err(RunError::WorkersOutOfRange)
+}
+
+/// Whether rounds that are refused after the first leave the report as it was.
+fn is_left_by_refusals<R: Threads + Wait + Sync>(
+    rt: &R,
+    alloc: Global,
+    machine: &mut Machine,
+) -> Result<bool, RunError> {
+    run(rt, machine, 1, 1)?;
+    let before = text_of(alloc, machine)?;
+    let refused = refuses(rt, machine, 0) && refuses(rt, machine, 17);
+    let after = text_of(alloc, machine)?;
+    Ok(refused && after.as_slice() == before.as_slice())
 }
 
 #[test]
 fn refused_rounds(rt: HostRuntime) -> Result<(), Fail> {
     let mut machine = machine_of(rt.alloc(), &EXIT, 2, b"1\n")?;
-    run(&rt, &mut machine, 1, 1)?;
-    let before = text_of(rt.alloc(), &machine)?;
-    for workers in [0, 17] {
-        assert!(rt; noted(&rt, &mut machine, workers) == Err(RunError::WorkersOutOfRange));
-        assert!(rt;
-            run(&rt, &mut machine, 4_294_967_295, workers) == Err(RunError::WorkersOutOfRange)
-        );
-    }
-    let after = text_of(rt.alloc(), &machine)?;
-    assert!(rt; after.as_slice() == before.as_slice());
+    let left = is_left_by_refusals(&rt, rt.alloc(), &mut machine);
+    drop(machine);
+    assert!(rt; left?);
     Ok(())
 }
 
@@ -221,17 +263,38 @@ const AFTER_ALL_ROUNDS: &[u8] = b"rounds 4294967295\n\
     trace 0\n\
     end\n";
 
+/// Whether the rounds that fit are done, where one more is asked for.
+fn does_what_fits<R: Threads + Wait + Sync>(
+    rt: &R,
+    alloc: Global,
+    machine: &mut Machine,
+) -> Result<bool, RunError> {
+    run(rt, machine, 1, 1)?;
+    // one round was done before
+    let ends = run(rt, machine, 4_294_967_295, 16) == Err(RunError::RoundsExhausted);
+    Ok(ends && text_of(alloc, machine)?.as_slice() == AFTER_ALL_ROUNDS)
+}
+
+/// Whether no round is done after them, and to ask for none is no error.
+fn does_no_more<R: Threads + Wait + Sync>(
+    rt: &R,
+    alloc: Global,
+    machine: &mut Machine,
+) -> Result<bool, RunError> {
+    let ends = noted(rt, machine, 1) == Err(RunError::RoundsExhausted)
+        && run(rt, machine, 1, 1) == Err(RunError::RoundsExhausted);
+    let text = text_of(alloc, machine)?;
+    Ok(ends && text.as_slice() == AFTER_ALL_ROUNDS && run(rt, machine, 0, 1) == Ok(()))
+}
+
 #[test]
 fn rounds_that_fit_are_done(rt: HostRuntime) -> Result<(), Fail> {
-    let mut machine = machine_of(rt.alloc(), &EXIT, 2, b"1\n")?;
-    run(&rt, &mut machine, 1, 1)?;
-    // one round was done before
-    assert!(rt; run(&rt, &mut machine, 4_294_967_295, 16) == Err(RunError::RoundsExhausted));
     assert_eq!(rt; RunError::RoundsExhausted.number(), 54);
-    assert!(rt; text_of(rt.alloc(), &machine)?.as_slice() == AFTER_ALL_ROUNDS);
-    assert!(rt; noted(&rt, &mut machine, 1) == Err(RunError::RoundsExhausted));
-    assert!(rt; run(&rt, &mut machine, 1, 1) == Err(RunError::RoundsExhausted));
-    assert!(rt; text_of(rt.alloc(), &machine)?.as_slice() == AFTER_ALL_ROUNDS);
-    assert!(rt; run(&rt, &mut machine, 0, 1) == Ok(()));
+    let mut machine = machine_of(rt.alloc(), &EXIT, 2, b"1\n")?;
+    let fitting = does_what_fits(&rt, rt.alloc(), &mut machine);
+    let more = does_no_more(&rt, rt.alloc(), &mut machine);
+    drop(machine);
+    assert!(rt; fitting?);
+    assert!(rt; more?);
     Ok(())
 }

@@ -8,7 +8,7 @@ use crate::images::{CROSSED_AND_FENCED, RESERVED};
 use crate::long_rounds::TURNS;
 use crate::workers::SHARED_COUNTERS;
 use host_io::RunError;
-use machine::{Observer, Trace, UntracedMachine, prepare, prepare_untraced};
+use machine::{Machine, Observer, Settings, Trace, UntracedMachine, prepare, prepare_untraced};
 use std::alloc::Global;
 use std::sync::Wait;
 use std::thread::Threads;
@@ -39,10 +39,17 @@ fn has_ended(machine: &UntracedMachine) -> bool {
         && machine.rounds() == 2
 }
 
+/// Whether two rounds end so.
+fn ends<R: Threads + Wait + Sync>(rt: &R, machine: &mut UntracedMachine) -> Result<bool, RunError> {
+    machine.run(rt, 2, 1)?;
+    Ok(has_ended(machine))
+}
+
 fn runs<R: Threads + Wait + Sync>(rt: &R, alloc: Global) -> Result<bool, RunError> {
     let mut machine = reserved(alloc)?;
-    machine.run(rt, 2, 1)?;
-    Ok(has_ended(&machine))
+    let ended = ends(rt, &mut machine);
+    drop(machine);
+    ended
 }
 
 #[test]
@@ -51,8 +58,45 @@ fn a_run_without_a_trace_ends_as_the_run_does(rt: HostRuntime) {
     assert!(rt; matches!(&ended, Ok(true)));
 }
 
-/// Whether three rounds of eight harts end alike with a trace and without one, on so many workers: in the number of events, in the
-/// harts, and in each byte.
+/// Whether two machines are alike: in the number of events, in the harts, and in each byte.
+fn are_alike(traced: &Machine, bare: &UntracedMachine) -> bool {
+    for address in 0..4096 {
+        if traced.byte(address) != bare.byte(address) {
+            return false;
+        }
+    }
+    let events = traced.trace().len() as u64;
+    events >= 24 && bare.events() == events && bare.harts() == traced.harts()
+}
+
+/// Whether three rounds on so many workers leave two machines alike.
+fn stay_alike<R: Threads + Wait + Sync>(
+    rt: &R,
+    traced: &mut Machine,
+    bare: &mut UntracedMachine,
+    workers: u32,
+) -> Result<bool, RunError> {
+    traced.run(rt, 3, workers)?;
+    bare.run(rt, 3, workers)?;
+    Ok(are_alike(traced, bare))
+}
+
+/// Whether the run of an image without a trace ends as that of this machine of the same image.
+fn ends_as<R: Threads + Wait + Sync>(
+    rt: &R,
+    alloc: Global,
+    image: &[u8],
+    settings: &Settings<'_>,
+    traced: &mut Machine,
+    workers: u32,
+) -> Result<bool, RunError> {
+    let mut bare = prepare_untraced(alloc, image, &[], settings)?;
+    let alike = stay_alike(rt, traced, &mut bare, workers);
+    drop(bare);
+    alike
+}
+
+/// Whether three rounds of eight harts end alike with a trace and without one, on so many workers.
 fn ends_alike<R: Threads + Wait + Sync>(
     rt: &R,
     alloc: Global,
@@ -63,16 +107,9 @@ fn ends_alike<R: Threads + Wait + Sync>(
     let settings = settings(8, 3, plan);
     let image = flat(alloc, words)?;
     let mut traced = prepare(alloc, &image, &[], &settings)?;
-    let mut bare = prepare_untraced(alloc, &image, &[], &settings)?;
-    traced.run(rt, 3, workers)?;
-    bare.run(rt, 3, workers)?;
-    for address in 0..4096 {
-        if traced.byte(address) != bare.byte(address) {
-            return Ok(false);
-        }
-    }
-    let events = traced.trace().len() as u64;
-    Ok(events >= 24 && bare.events() == events && bare.harts() == traced.harts())
+    let alike = ends_as(rt, alloc, &image, &settings, &mut traced, workers);
+    drop(traced);
+    alike
 }
 
 #[test]
@@ -86,13 +123,25 @@ fn runs_end_alike_without_a_trace_on_any_workers(rt: HostRuntime) {
 }
 
 /// Round by round: one event in the first round, and two in the second.
+fn notes_both_rounds<R: Threads + Wait + Sync>(
+    rt: &R,
+    machine: &mut UntracedMachine,
+    trace: &mut Trace,
+) -> Result<bool, RunError>
+    requires { AreLast machine.old trace.old.events }
+{
+    machine.run_noting(rt, 1, 1, trace)?;
+    let first = trace.len();
+    machine.run_noting(rt, 1, 1, trace)?;
+    Ok(first == 1 && trace.len() == 3 && has_ended(machine))
+}
+
 fn notes<R: Threads + Wait + Sync>(rt: &R, alloc: Global) -> Result<bool, RunError> {
     let mut machine = reserved(alloc)?;
     let mut trace = Trace::new(alloc, Vec::new(alloc));
-    machine.run_noting(rt, 1, 1, &mut trace)?;
-    let first = trace.len();
-    machine.run_noting(rt, 1, 1, &mut trace)?;
-    Ok(first == 1 && trace.len() == 3 && has_ended(&machine))
+    let noted = notes_both_rounds(rt, &mut machine, &mut trace);
+    drop(machine);
+    noted
 }
 
 #[test]
@@ -116,13 +165,21 @@ impl Observer for Counter {
 }
 
 /// Both harts stop in the second round, after which no hart runs.
-fn is_observed<R: Threads + Wait + Sync>(rt: &R, alloc: Global) -> Result<bool, RunError> {
-    let settings = settings(2, 5, b"6\n");
-    let image = flat(alloc, &CROSSED_AND_FENCED)?;
-    let mut machine = prepare_untraced(alloc, &image, &[], &settings)?;
+fn counts_looks<R: Threads + Wait + Sync>(
+    rt: &R,
+    machine: &mut UntracedMachine,
+) -> Result<bool, RunError> {
     let mut counter = Counter { looks: 0, last: 0 };
     machine.run_observed(rt, 5, 1, &mut counter)?;
     Ok(counter.looks == 2 && counter.last == 2 && machine.rounds() == 5)
+}
+
+fn is_observed<R: Threads + Wait + Sync>(rt: &R, alloc: Global) -> Result<bool, RunError> {
+    let settings = settings(2, 5, b"6\n");
+    let mut machine = prepare_untraced(alloc, &flat(alloc, &CROSSED_AND_FENCED)?, &[], &settings)?;
+    let observed = counts_looks(rt, &mut machine);
+    drop(machine);
+    observed
 }
 
 #[test]
