@@ -35,26 +35,34 @@ static STORED_A_BYTE: [(u64, Width, Result<u64, Fault>); 6] = [
     (0x1000, W8, Err(Fault::LoadOutside)),
 ];
 
-#[test]
-fn bytes_over_memory(rt: HostRuntime) -> Result<(), Fail> {
-    let p = memory(rt.alloc())?;
-    let mut buffer = StoreBuffer::new(rt.alloc());
-    assert!(rt; are_read_over(&buffer, &p, STORED_NOTHING.as_slice()));
+/// Whether loads give what they are to with nothing stored, after a byte, after a doubleword, from memory itself, and after
+/// a clear.
+fn are_loaded(p: &Pages, buffer: &mut StoreBuffer) -> Result<[bool; 5], OutOfMemory> {
+    let before = are_read_over(buffer, p, STORED_NOTHING.as_slice());
     buffer.put(Store {
         address: 0x103,
         width: W1,
         value: 0xaa,
     })?;
-    assert!(rt; are_read_over(&buffer, &p, STORED_A_BYTE.as_slice()));
+    let byte = are_read_over(buffer, p, STORED_A_BYTE.as_slice());
     buffer.put(Store {
         address: 0x100,
         width: W8,
         value: 0x1020_3040_5060_7080,
     })?;
-    assert!(rt; are_read_over(&buffer, &p, &[(0x100, W8, Ok(0x1020_3040_5060_7080))]));
-    assert!(rt; are_read(&p, STORED_NOTHING.as_slice()));
+    let doubleword = are_read_over(buffer, p, &[(0x100, W8, Ok(0x1020_3040_5060_7080))]);
+    let beneath = are_read(p, STORED_NOTHING.as_slice());
     buffer.clear();
-    assert!(rt; buffer.is_empty() && are_read_over(&buffer, &p, STORED_NOTHING.as_slice()));
+    let after = buffer.is_empty() && are_read_over(buffer, p, STORED_NOTHING.as_slice());
+    Ok([before, byte, doubleword, beneath, after])
+}
+
+#[test]
+fn bytes_over_memory(rt: HostRuntime) -> Result<(), Fail> {
+    let p = memory(rt.alloc())?;
+    let mut buffer = StoreBuffer::new(rt.alloc());
+    let loaded = are_loaded(&p, &mut buffer)?;
+    assert_eq!(rt; loaded, [true; 5]);
     Ok(())
 }
 
@@ -77,11 +85,8 @@ fn two_stores(alloc: Global) -> Result<StoreBuffer, OutOfMemory> {
 /// The bytes from 0x3f on.
 static BYTES: [u64; 9] = [0xaa, 0x88, 0x77, 0x66, 0x55, 0x44, 0x33, 0x22, 0x11];
 
-#[test]
-fn bytes_as_stores(rt: HostRuntime) -> Result<(), Fail> {
-    let none = StoreBuffer::new(rt.alloc());
-    assert!(rt; none.is_empty() && none.stores().next().is_none());
-    let buffer = two_stores(rt.alloc())?;
+/// Whether a buffer gives these bytes and no more.
+fn gives_bytes(buffer: &StoreBuffer) -> bool {
     let mut given = buffer.stores();
     for (k, byte) in BYTES.iter().enumerate() {
         let want = Store {
@@ -89,22 +94,40 @@ fn bytes_as_stores(rt: HostRuntime) -> Result<(), Fail> {
             width: W1,
             value: *byte,
         };
-        assert!(rt; given.next() == Some(want));
+        if given.next() != Some(want) {
+            return false;
+        }
     }
-    assert!(rt; given.next().is_none() && !buffer.is_empty());
+    given.next().is_none()
+}
+
+#[test]
+fn bytes_as_stores(rt: HostRuntime) -> Result<(), Fail> {
+    let none = StoreBuffer::new(rt.alloc());
+    assert!(rt; none.is_empty() && none.stores().next().is_none());
+    let buffer = two_stores(rt.alloc())?;
+    assert!(rt; gives_bytes(&buffer) && !buffer.is_empty());
     Ok(())
+}
+
+/// Whether a buffer gives the two lines of those bytes and no more: by their start, their mask, and a byte of each.
+fn gives_lines(buffer: &StoreBuffer) -> bool {
+    let mut lines = buffer.lines();
+    for (wanted, mask, place, byte) in [(0, 1 << 63, 63, 0xaa), (0x40, 0xff, 0, 0x88)] {
+        let Some((start, line)) = lines.next() else {
+            return false;
+        };
+        if start != wanted || line.mask != mask || line.bytes.get(place).copied() != Some(byte) {
+            return false;
+        }
+    }
+    lines.next().is_none()
 }
 
 #[test]
 fn bytes_as_lines(rt: HostRuntime) -> Result<(), Fail> {
     let buffer = two_stores(rt.alloc())?;
-    let mut lines = buffer.lines();
-    for (wanted, mask, place, byte) in [(0, 1 << 63, 63, 0xaa), (0x40, 0xff, 0, 0x88)] {
-        let (start, line) = lines.next().ok_or("no line")?;
-        assert!(rt; start == wanted && line.mask == mask);
-        assert!(rt; line.bytes.get(place).copied() == Some(byte));
-    }
-    assert!(rt; lines.next().is_none());
+    assert!(rt; gives_lines(&buffer));
     Ok(())
 }
 
@@ -121,21 +144,34 @@ fn byte_of(line: u64, turn: u64) -> Store
     }
 }
 
-#[test]
-fn lines_64_apart_are_told_apart(rt: HostRuntime) -> Result<(), Fail> {
-    let mut buffer = StoreBuffer::new(rt.alloc());
+/// Puts a byte to each line in each turn.
+fn put_in_turns(buffer: &mut StoreBuffer) -> Result<(), OutOfMemory> {
     for turn in 0..3 {
         for line in 0..3 {
             buffer.put(byte_of(line, turn))?;
         }
     }
+    Ok(())
+}
+
+/// Whether a buffer gives these bytes line by line, and no more.
+fn gives_line_by_line(buffer: &StoreBuffer) -> bool {
     let mut given = buffer.stores();
     for line in 0..3 {
         for turn in 0..3 {
-            assert!(rt; given.next() == Some(byte_of(line, turn)));
+            if given.next() != Some(byte_of(line, turn)) {
+                return false;
+            }
         }
     }
-    assert!(rt; given.next().is_none());
+    given.next().is_none()
+}
+
+#[test]
+fn lines_64_apart_are_told_apart(rt: HostRuntime) -> Result<(), Fail> {
+    let mut buffer = StoreBuffer::new(rt.alloc());
+    put_in_turns(&mut buffer)?;
+    assert!(rt; gives_line_by_line(&buffer));
     Ok(())
 }
 
@@ -162,20 +198,37 @@ fn lines_apart(alloc: Global, step: u64) -> Result<StoreBuffer, OutOfMemory>
     Ok(buffer)
 }
 
+/// Whether the doubleword of a line is read, and 0 behind that line where no other follows at once.
+fn is_read(p: &Pages, buffer: &StoreBuffer, line: u64, follows: bool) -> bool
+    requires { line < 1_000_000 }
+{
+    let address = 64 * line;
+    buffer.read_over(p, address, Width::W8) == Ok(line)
+        && (follows || buffer.read_over(p, address + 64, Width::W8) == Ok(0))
+}
+
+/// Whether the 1,500 lines that stand so far apart are read, and are all lines of a buffer.
+fn are_found(p: &Pages, buffer: &StoreBuffer, step: u64) -> bool
+    requires { step ≤ 64 }
+{
+    let mut lines = buffer.lines();
+    for k in 0..1_500 {
+        let Some((start, line)) = lines.next() else {
+            return false;
+        };
+        if start != 64 * step * k || line.mask != 0xff || !is_read(p, buffer, step * k, step == 1) {
+            return false;
+        }
+    }
+    lines.next().is_none()
+}
+
 #[test]
 fn many_lines_are_found(rt: HostRuntime) -> Result<(), Fail> {
     let p = Pages::new(rt.alloc(), 1_600, &[], &[])?;
     for step in [1, 2, 63, 64] {
         let buffer = lines_apart(rt.alloc(), step)?;
-        let mut lines = buffer.lines();
-        for k in 0..1_500 {
-            let address = 64 * step * k;
-            assert!(rt; buffer.read_over(&p, address, Width::W8) == Ok(step * k));
-            assert!(rt; step == 1 || buffer.read_over(&p, address + 64, Width::W8) == Ok(0));
-            let (start, line) = lines.next().ok_or("no line")?;
-            assert!(rt; start == address && line.mask == 0xff);
-        }
-        assert!(rt; lines.next().is_none());
+        assert!(rt; are_found(&p, &buffer, step));
     }
     Ok(())
 }
@@ -228,26 +281,44 @@ fn number_under(p: &Pages, stores: &[Store], address: u64, width: Width) -> u64 
     number
 }
 
-#[test]
-fn lines_are_stores(rt: HostRuntime) -> Result<(), Fail> {
-    let p = memory(rt.alloc())?;
-    let mut buffer = StoreBuffer::new(rt.alloc());
-    let mut stores = Vec::new(rt.alloc());
+/// Puts 10,000 stores, and says whether a load after each gives what the stores so far put there.
+fn loads_agree(
+    p: &Pages,
+    buffer: &mut StoreBuffer,
+    stores: &mut Vec<Store>,
+) -> Result<bool, OutOfMemory> {
     let mut seed = 1;
     for _ in 0..10_000 {
         let s = access(&mut seed);
         buffer.put(s)?;
         stores.push(s)?;
         let load = access(&mut seed);
-        assert!(rt;
-            buffer.read_over(&p, load.address, load.width)
-                == Ok(number_under(&p, &stores, load.address, load.width))
-        );
+        let number = number_under(p, stores, load.address, load.width);
+        if buffer.read_over(p, load.address, load.width) != Ok(number) {
+            return Ok(false);
+        }
     }
+    Ok(true)
+}
+
+/// Whether the bytes of a buffer go up, and each is what the last covering store of a list put there.
+fn bytes_agree(buffer: &StoreBuffer, stores: &[Store]) -> bool {
     let mut address = 0;
     for s in buffer.stores() {
-        assert!(rt; s.address >= address && s.value == u64::from(last_byte(&stores, s.address, 0)));
+        if s.address < address || s.value != u64::from(last_byte(stores, s.address, 0)) {
+            return false;
+        }
         address = s.address.wrapping_add(1);
     }
+    true
+}
+
+#[test]
+fn lines_are_stores(rt: HostRuntime) -> Result<(), Fail> {
+    let p = memory(rt.alloc())?;
+    let mut buffer = StoreBuffer::new(rt.alloc());
+    let mut stores = Vec::new(rt.alloc());
+    assert!(rt; loads_agree(&p, &mut buffer, &mut stores)?);
+    assert!(rt; bytes_agree(&buffer, &stores));
     Ok(())
 }

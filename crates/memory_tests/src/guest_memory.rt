@@ -1,7 +1,7 @@
 //! Guest memory, through the public calls of the crate `pages`.
 
 use crate::loads::are_read;
-use pages::Width::{W1, W2, W8};
+use pages::Width::{W1, W2, W4, W8};
 use pages::{Fault, OutOfMemory, Pages, Piece, Range, Store, Width};
 use std::alloc::Global;
 use std::test::Fail;
@@ -51,24 +51,36 @@ fn apply(p: &mut Pages, s: Store) -> bool {
     false
 }
 
-#[test]
-fn spare_pages(rt: HostRuntime) -> Result<(), Fail> {
-    let mut p = eight_pages(rt.alloc())?;
-    assert_eq!(rt; p.count(), 8);
-    p.prepare(rt.alloc(), &[5], 2)?;
-    assert!(rt; p.ready(5) && p.spare() >= 2);
+/// Stores a doubleword to page 7, and says whether it took one spare page for it.
+fn takes_a_page(p: &mut Pages) -> bool {
     let spare = p.spare();
     let s = Store {
         address: 0x7000,
         width: W8,
         value: 0x1122_3344_5566_7788,
     };
-    assert!(rt; apply(&mut p, s));
-    assert!(rt; p.ready(7) && p.spare() < spare && spare - p.spare() == 1);
-    assert!(rt; are_read(&p, &[(0x5000, W8, Ok(0)), (0x7004, W2, Ok(0x3344))]));
+    apply(p, s) && p.ready(7) && p.spare() < spare && spare - p.spare() == 1
+}
+
+/// Whether eight pages are made ready, by name or as spare ones, and what they read.
+fn are_made(alloc: Global, p: &mut Pages) -> Result<[bool; 4], OutOfMemory> {
+    if p.count() != 8 {
+        return Ok([false; 4]);
+    }
+    p.prepare(alloc, &[5], 2)?;
+    let named = p.ready(5) && p.spare() >= 2;
+    let taken = takes_a_page(p);
+    let read = are_read(p, &[(0x5000, W8, Ok(0)), (0x7004, W2, Ok(0x3344))]);
     // As many spare pages as there are pages that are not ready, and no more.
-    p.prepare(rt.alloc(), &[], 100)?;
-    assert_eq!(rt; p.spare(), 5);
+    p.prepare(alloc, &[], 100)?;
+    Ok([named, taken, read, p.spare() == 5])
+}
+
+#[test]
+fn spare_pages(rt: HostRuntime) -> Result<(), Fail> {
+    let mut p = eight_pages(rt.alloc())?;
+    let made = are_made(rt.alloc(), &mut p)?;
+    assert_eq!(rt; made, [true; 4]);
     Ok(())
 }
 
@@ -140,14 +152,36 @@ static CHECKED: [(u64, Width, Result<(), Fault>); 6] = [
     (0x2004, W8, Err(Fault::StoreMisaligned)),
 ];
 
+/// Whether each store is let through, or refused, as stands beside it.
+fn are_checked(p: &Pages, rows: &[(u64, Width, Result<(), Fault>)]) -> bool {
+    for (address, width, answer) in rows {
+        if p.check_store(*address, *width) != *answer {
+            return false;
+        }
+    }
+    true
+}
+
 #[test]
 fn faults(rt: HostRuntime) -> Result<(), Fail> {
     let p = pages_with_code(rt.alloc())?;
     assert!(rt; are_read(&p, LOADED.as_slice()));
-    for (address, width, answer) in &CHECKED {
-        assert!(rt; p.check_store(*address, *width) == *answer, "{address}");
-    }
+    assert!(rt; are_checked(&p, CHECKED.as_slice()));
     Ok(())
+}
+
+/// Stores to the second of two pages, and says whether it is ready.
+fn apply_to_second(p: &mut Pages) -> bool {
+    let parts = p.parts();
+    if parts.len() != 2 || !parts[1].ready() {
+        return false;
+    }
+    parts[1].apply(Store {
+        address: 0x1010,
+        width: W2,
+        value: 0xabcd_1234,
+    });
+    true
 }
 
 #[test]
@@ -155,17 +189,9 @@ fn a_copy_keeps_its_bytes(rt: HostRuntime) -> Result<(), Fail> {
     let mut p = pages_with_code(rt.alloc())?;
     let copy = p.copy(rt.alloc())?;
     assert!(rt; copy.fetch(0xffe) == Some(0x4433_2211) && copy.count() == 2 && copy.ready(0));
-    assert!(rt; copy.code().len() == 3);
-    let parts = p.parts();
-    assert!(rt; parts.len() == 2);
-    assert!(rt; parts[1].ready());
-    parts[1].apply(Store {
-        address: 0x1010,
-        width: W2,
-        value: 0xabcd_1234,
-    });
-    assert!(rt; p.read(0x1010, Width::W4) == Ok(0x1234));
-    assert!(rt; copy.read(0x1010, Width::W4) == Ok(0));
+    assert!(rt; copy.code().len() == 3 && apply_to_second(&mut p));
+    assert!(rt; are_read(&p, &[(0x1010, W4, Ok(0x1234))]));
+    assert!(rt; are_read(&copy, &[(0x1010, W4, Ok(0))]));
     Ok(())
 }
 
@@ -201,32 +227,56 @@ fn has(p: &Pages, number: u64, ready: bool) -> bool {
     p.read(0x1000, W8) == Ok(number) && p.ready(1) == ready
 }
 
+/// Whether pages and their copy have the same bytes, neither ready to be stored to.
+fn are_shared(p: &Pages, copy: &Pages) -> bool {
+    copy.spare() == 0
+        && has(p, BEFORE, false)
+        && has(copy, BEFORE, false)
+        && has_byte(copy, 1, 8)
+        && copy.page(0).is_none()
+}
+
+/// Whether there are four pages, and a store in them leaves their copy as it was.
+fn stores_apart(alloc: Global, p: &mut Pages, copy: &Pages) -> Result<bool, OutOfMemory> {
+    if p.count() != 4 {
+        return Ok(false);
+    }
+    p.prepare(alloc, &[1], 0)?;
+    let apart = p.ready(1) && !copy.ready(1);
+    let stored = store(alloc, p, STORED)?;
+    Ok(apart && stored && has(p, AFTER, true) && has(copy, BEFORE, false))
+}
+
 #[test]
 fn shared_pages(rt: HostRuntime) -> Result<(), Fail> {
     let mut p = four_pages(rt.alloc())?;
     let copy = p.share(rt.alloc())?;
-    assert_eq!(rt; (p.count(), copy.spare()), (4, 0));
-    assert!(rt; has(&p, BEFORE, false) && has(&copy, BEFORE, false));
-    assert!(rt; has_byte(&copy, 1, 8));
-    assert!(rt; copy.page(0).is_none());
-    // A store in one leaves the other as it was.
-    p.prepare(rt.alloc(), &[1], 0)?;
-    assert!(rt; p.ready(1) && !copy.ready(1));
-    assert!(rt; store(rt.alloc(), &mut p, STORED)?);
-    assert!(rt; has(&p, AFTER, true) && has(&copy, BEFORE, false));
+    assert!(rt; are_shared(&p, &copy) && stores_apart(rt.alloc(), &mut p, &copy)?);
     Ok(())
+}
+
+/// Whether a store leaves two copies as they were.
+fn keeps_both(alloc: Global, p: &mut Pages, copies: (&Pages, &Pages)) -> Result<bool, OutOfMemory> {
+    let stored = store(alloc, p, STORED)?;
+    let kept = has(copies.0, BEFORE, false) && has(copies.1, BEFORE, false);
+    Ok(stored && has(p, AFTER, true) && kept)
+}
+
+/// Whether a store in the pages that a copy is of, and one in the copy, leave copies of the copy as they were.
+fn stores_keep_copies(alloc: Global, p: &mut Pages, copy: &mut Pages) -> Result<bool, OutOfMemory> {
+    if !store(alloc, p, STORED)? {
+        return Ok(false);
+    }
+    let third = copy.share(alloc)?;
+    // So does one that `copy` makes.
+    let fourth = copy.copy(alloc)?;
+    keeps_both(alloc, copy, (&third, &fourth))
 }
 
 #[test]
 fn a_copy_of_a_copy_shares_the_same_bytes(rt: HostRuntime) -> Result<(), Fail> {
     let mut p = four_pages(rt.alloc())?;
     let mut copy = p.share(rt.alloc())?;
-    assert!(rt; store(rt.alloc(), &mut p, STORED)?);
-    let third = copy.share(rt.alloc())?;
-    // So does one that `copy` makes.
-    let fourth = copy.copy(rt.alloc())?;
-    assert!(rt; store(rt.alloc(), &mut copy, STORED)?);
-    assert!(rt; has(&copy, AFTER, true));
-    assert!(rt; has(&third, BEFORE, false) && has(&fourth, BEFORE, false));
+    assert!(rt; stores_keep_copies(rt.alloc(), &mut p, &mut copy)?);
     Ok(())
 }

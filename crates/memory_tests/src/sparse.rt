@@ -1,7 +1,7 @@
 //! Many stores and loads by chance, on guest memory and on plain bytes.
 
 use crate::guest_memory::store;
-use pages::{Pages, Store, Width};
+use pages::{OutOfMemory, Pages, Store, Width};
 use std::alloc::{AllocError, Global};
 use std::test::Fail;
 
@@ -53,22 +53,27 @@ fn number_of(bytes: &[u8], address: u64, width: Width) -> Option<u64> {
     Some(number)
 }
 
-#[test]
-fn sparse_pages_are_bytes(rt: HostRuntime) -> Result<(), Fail> {
-    let mut p = Pages::new(rt.alloc(), 4, &[], &[])?;
-    let mut bytes = zeros(rt.alloc(), 16384)?;
+/// Does 4,000 stores, and says whether pages and bytes took the same ones, and a load after each gave the same.
+fn agree(alloc: Global, p: &mut Pages, bytes: &mut [u8]) -> Result<bool, OutOfMemory> {
     let mut seed = 1;
     for _ in 0..4000 {
         let s = access(&mut seed);
-        assert_eq!(rt;
-            store(rt.alloc(), &mut p, s)?,
-            number_of(&bytes, s.address, s.width).is_some()
-        );
-        write(&mut bytes, s);
+        if store(alloc, p, s)? != number_of(bytes, s.address, s.width).is_some() {
+            return Ok(false);
+        }
+        write(bytes, s);
         let load = access(&mut seed);
-        assert!(rt;
-            p.read(load.address, load.width).ok() == number_of(&bytes, load.address, load.width)
-        );
+        if p.read(load.address, load.width).ok() != number_of(bytes, load.address, load.width) {
+            return Ok(false);
+        }
     }
+    Ok(true)
+}
+
+#[test]
+fn sparse_pages_are_bytes(rt: HostRuntime) -> Result<(), Fail> {
+    let mut bytes = zeros(rt.alloc(), 16384)?;
+    let mut p = Pages::new(rt.alloc(), 4, &[], &[])?;
+    assert!(rt; agree(rt.alloc(), &mut p, &mut bytes)?);
     Ok(())
 }

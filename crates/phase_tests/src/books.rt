@@ -1,11 +1,12 @@
 //! Books, through the public calls of the crate `round_lock`: of harts that may do no instruction, so that each round leaves its hart as it was.
 
-ghost use Rattle.std.specs.Prelude.{◌≡◌, [], ◌∷◌, ◌++◌, IfSome, length};
+ghost use Rattle.std.specs.Prelude.{◌≡◌, [], ◌∷◌, ◌++◌, IfOk, IfSome, length};
+ghost use Rattle.hart_step.specs.CodeTables.{Shows};
 ghost use Rattle.round_lock.specs.Lists.{has};
 ghost use Rattle.round_lock.specs.Rounds.{harts_put, ticket_of};
 
 use hart_step::{CodeTable, Hart};
-use pages::Pages;
+use pages::{OutOfMemory, Pages};
 use round_lock::{BookStart, Gathered, HartRound, RoundBook, RoundLeft, RoundStart, Seat, Ticket};
 use std::alloc::Global;
 use std::marker::Brand;
@@ -15,6 +16,15 @@ use std::test::Fail;
 use std::thread::{Threads, join};
 use store_buffer::StoreBuffer;
 use trace::Log;
+
+/// One page, of which nothing is code.
+fn no_code(alloc: Global) -> Result<(Pages, CodeTable), OutOfMemory>
+    ensures { IfOk result (λ r. Shows r.0.memory r.1.first r.1.instructions) }
+{
+    let pages = Pages::new(alloc, 1, &[], &[])?;
+    let table = CodeTable::new(alloc, &pages, 0, 0)?;
+    Ok((pages, table))
+}
 
 /// A hart whose registers all have one value.
 fn hart(value: u64) -> Hart {
@@ -67,6 +77,23 @@ fn put_one<B: BookStart, R: Wait>(
     let round = idle_round::<B>(alloc, start, ticket)?;
     book.put(rt, seat, round);
     Some(())
+}
+
+/// The same at the first try, if the lock is free.
+fn put_at_once<B: BookStart>(
+    alloc: Global,
+    start: &RoundStart<'_>,
+    book: &RoundBook<HartRound<B>>,
+    seat: &mut Seat<HartRound<B>>,
+) -> Option<()>
+    requires start { start.now ≡ B.start }
+    requires table { seat.old.table ≡ book.now.table }
+    requires own { harts_put seat.old ≡ [] }
+    ensures table { seat.new.table ≡ seat.old.table }
+{
+    let ticket = book.claim(seat)?;
+    let round = idle_round::<B>(alloc, start, ticket)?;
+    book.try_put(seat, round).ok()
 }
 
 /// Claims and puts until every hart is claimed.
@@ -130,30 +157,82 @@ fn close_two<B: BookStart, R: Abort>(
     book.close(seats)
 }
 
+/// Whether a round left nothing.
+fn is_idle(left: &RoundLeft) -> bool {
+    !left.waits
+        && left.accesses == 0
+        && left.log.len() == 0
+        && left.buffer.stores().next().is_none()
+}
+
+/// Whether the round of hart 1 is there, with 7 in its registers and nothing left, and there is no hart 2.
+fn has_last<B: BookStart>(gathered: &Gathered<HartRound<B>>) -> bool {
+    match gathered.get(1) {
+        Some(last) => {
+            last.hart().x[5] == 7
+                && !last.waits()
+                && last.log().len() == 0
+                && last.buffer().stores().next().is_none()
+                && gathered.get(2).is_none()
+        }
+        None => false,
+    }
+}
+
+/// Takes the round of hart 0, and says whether it had 6 in its registers and left nothing.
+fn takes_first<B: BookStart>(gathered: &mut Gathered<HartRound<B>>) -> bool {
+    match gathered.take(0) {
+        Some(taken) => {
+            let (hart, left) = taken.into_parts();
+            hart.x[5] == 6 && is_idle(&left)
+        }
+        None => false,
+    }
+}
+
+/// Whether the rounds of harts 0 and 1 are there, and that of hart 0 is taken once.
+fn are_put<B: BookStart>(gathered: &mut Gathered<HartRound<B>>) -> bool {
+    gathered.is_complete()
+        && has_last(gathered)
+        && takes_first(gathered)
+        && gathered.get(0).is_none()
+        && gathered.get(1).is_some()
+        && gathered.take(0).is_none()
+        && !gathered.is_complete()
+}
+
+/// Two seats put a hart each, and meet. Says whether they had harts, and saw and put as many as they should.
+fn put_and_meet<B: BookStart, R: Wait>(
+    rt: &R,
+    alloc: Global,
+    start: &RoundStart<'_>,
+    book: &RoundBook<HartRound<B>>,
+    first: &mut Seat<HartRound<B>>,
+    second: &mut Seat<HartRound<B>>,
+) -> bool
+    requires start { start.now ≡ B.start }
+    requires tables { (first.old.table ≡ book.now.table) × (second.old.table ≡ book.now.table) }
+    requires first { harts_put first.old ≡ first.old.claims }
+    requires second { harts_put second.old ≡ second.old.claims }
+    ensures tables { (first.new.table ≡ book.now.table) × (second.new.table ≡ book.now.table) }
+{
+    let first_put = put_one(rt, alloc, start, book, first).is_some();
+    let second_put = put_one(rt, alloc, start, book, second).is_some();
+    let before = (first.seen(), second.seen());
+    book.meet(first, second);
+    let after = (first.seen(), second.seen());
+    let own = (first.own(), second.own());
+    first_put && second_put && before == (1, 2) && after == (2, 2) && own == (1, 1)
+}
+
 /// Two seats of one thread put a hart each, and meet.
 fn two_meet<B: BookStart, R: Abort + Wait>(rt: &R, alloc: Global, start: &RoundStart<'_>)
     requires { start.now ≡ B.start }
 {
     let (book, mut first, mut second) = open_two::<B, R>(rt, alloc, start);
-    assert!(rt; put_one(rt, alloc, start, &book, &mut first).is_some());
-    assert!(rt; put_one(rt, alloc, start, &book, &mut second).is_some());
-    assert!(rt; first.seen() == 1 && second.seen() == 2);
-    book.meet(&mut first, &mut second);
-    assert!(rt; first.seen() == 2 && second.seen() == 2);
-    assert!(rt; first.own() == 1 && second.own() == 1);
+    assert!(rt; put_and_meet(rt, alloc, start, &book, &mut first, &mut second));
     let mut gathered = close_two(rt, alloc, book, first, second);
-    assert!(rt; gathered.is_complete());
-    let last = gathered.get(1).expect(rt, "the hart was put");
-    assert!(rt; last.hart().x[5] == 7 && !last.waits());
-    assert!(rt; last.log().len() == 0 && last.buffer().stores().next().is_none());
-    assert!(rt; gathered.get(2).is_none());
-    let taken = gathered.take(0).expect(rt, "the hart was put");
-    let (hart, left) = taken.into_parts();
-    assert!(rt; hart.x[5] == 6 && !left.waits);
-    assert!(rt; left.log.len() == 0 && left.accesses == 0);
-    assert!(rt; left.buffer.stores().next().is_none());
-    assert!(rt; gathered.get(0).is_none() && gathered.get(1).is_some());
-    assert!(rt; gathered.take(0).is_none() && !gathered.is_complete());
+    assert!(rt; are_put(&mut gathered));
 }
 
 /// Two threads put all harts between them.
@@ -190,15 +269,12 @@ fn two_threads<B: BookStart + Send + Sync, R: Abort + Threads + Wait + Sync>(
 fn one_left_out<B: BookStart, R: Abort>(rt: &R, alloc: Global, start: &RoundStart<'_>)
     requires { start.now ≡ B.start }
 {
-    let (book, mut first, second) = open_two::<B, R>(rt, alloc, start);
+    let (book, mut first, mut second) = open_two::<B, R>(rt, alloc, start);
     drop(book.claim(&mut first));
-    let mut second = second;
-    let ticket = book.claim(&mut second).expect(rt, "a hart is left");
-    let round = idle_round::<B>(alloc, start, ticket).expect(rt, "the hart may do nothing");
-    assert!(rt; book.try_put(&mut second, round).is_ok());
-    assert!(rt; second.seen() == 1 && second.own() == 1);
+    let put = put_at_once(alloc, start, &book, &mut second).is_some();
+    let left = (put, second.seen(), second.own());
     let gathered = close_two(rt, alloc, book, first, second);
-    assert!(rt; !gathered.is_complete());
+    assert!(rt; left == (true, 1, 1) && !gathered.is_complete());
     assert!(rt; gathered.get(0).is_none() && gathered.get(1).is_some());
 }
 
@@ -208,19 +284,15 @@ fn one_alone<B: BookStart, R: Abort>(rt: &R, alloc: Global, start: &RoundStart<'
 {
     let (book, mut seats) = RoundBook::<HartRound<B>>::open(start, 1).expect(rt, "memory");
     let mut seat = seats.pop().expect(rt, "one seat");
-    assert!(rt; seat.seen() == 0 && seat.own() == 0);
-    let ticket = book.claim(&mut seat).expect(rt, "a hart is left");
-    let round = idle_round::<B>(alloc, start, ticket).expect(rt, "the hart may do nothing");
-    assert!(rt; book.try_put(&mut seat, round).is_ok());
-    assert!(rt; seat.seen() == 1);
-    assert!(rt; seat.own() == 1);
+    let before = (seat.seen(), seat.own());
+    let put = put_at_once(alloc, start, &book, &mut seat).is_some();
+    assert!(rt; (before, put, seat.seen(), seat.own()) == ((0, 0), true, 1, 1));
 }
 
 #[test]
 fn two_seats_meet(rt: HostRuntime) -> Result<(), Fail> {
     let alloc = rt.alloc();
-    let pages = Pages::new(alloc, 1, &[], &[])?;
-    let table = CodeTable::new(alloc, &pages, 0, 0)?;
+    let (pages, table) = no_code(alloc)?;
     let harts = [hart(6), hart(7)];
     let start = RoundStart::new(&pages, &table, &harts, &[0; 2]);
     two_meet::<Brand, _>(&rt, alloc, &start);
@@ -230,8 +302,7 @@ fn two_seats_meet(rt: HostRuntime) -> Result<(), Fail> {
 #[test]
 fn two_threads_put_all_harts(rt: HostRuntime) -> Result<(), Fail> {
     let alloc = rt.alloc();
-    let pages = Pages::new(alloc, 1, &[], &[])?;
-    let table = CodeTable::new(alloc, &pages, 0, 0)?;
+    let (pages, table) = no_code(alloc)?;
     let harts = [hart(0); 64];
     let start = RoundStart::new(&pages, &table, &harts, &[0; 64]);
     two_threads::<Brand, _>(&rt, alloc, &start);
@@ -241,8 +312,7 @@ fn two_threads_put_all_harts(rt: HostRuntime) -> Result<(), Fail> {
 #[test]
 fn a_dropped_ticket_leaves_its_hart_out(rt: HostRuntime) -> Result<(), Fail> {
     let alloc = rt.alloc();
-    let pages = Pages::new(alloc, 1, &[], &[])?;
-    let table = CodeTable::new(alloc, &pages, 0, 0)?;
+    let (pages, table) = no_code(alloc)?;
     let harts = [hart(0); 2];
     let start = RoundStart::new(&pages, &table, &harts, &[0; 2]);
     one_left_out::<Brand, _>(&rt, alloc, &start);
@@ -252,8 +322,7 @@ fn a_dropped_ticket_leaves_its_hart_out(rt: HostRuntime) -> Result<(), Fail> {
 #[test]
 fn a_seat_alone_puts_at_its_first_try(rt: HostRuntime) -> Result<(), Fail> {
     let alloc = rt.alloc();
-    let pages = Pages::new(alloc, 1, &[], &[])?;
-    let table = CodeTable::new(alloc, &pages, 0, 0)?;
+    let (pages, table) = no_code(alloc)?;
     let harts = [hart(0)];
     let start = RoundStart::new(&pages, &table, &harts, &[0]);
     one_alone::<Brand, _>(&rt, alloc, &start);

@@ -76,35 +76,69 @@ fn commit(pages: &mut Pages, table: &mut Reservations, hart: u32, buffer: &Store
     true
 }
 
+/// The same with a buffer of one store.
+fn commit_one(
+    alloc: Global,
+    pages: &mut Pages,
+    table: &mut Reservations,
+    hart: u32,
+    address: u64,
+    width: Width,
+    value: u64,
+) -> Result<bool, OutOfMemory>
+    requires { address % width_bytes width ≡ 0 }
+    ensures { length table.new ≡ length table.old }
+{
+    let buffer = buffer_of(alloc, address, width, value)?;
+    Ok(commit(pages, table, hart, &buffer))
+}
+
+/// Whether a byte of hart 1 stands over one of hart 0, also after hart 1 commits no store.
+fn hart_1_wins(
+    alloc: Global,
+    pages: &mut Pages,
+    table: &mut Reservations,
+) -> Result<[bool; 5], OutOfMemory> {
+    let first = commit_one(alloc, pages, table, 0, 0, Width::W2, 0xbbaa)?;
+    let second = commit_one(alloc, pages, table, 1, 1, Width::W1, 0xcc)?;
+    let before = pages.read(0, Width::W4) == Ok(0x0033_ccaa);
+    let none = commit(pages, table, 1, &StoreBuffer::new(alloc));
+    let after = pages.read(0, Width::W4) == Ok(0x0033_ccaa);
+    Ok([first, second, before, none, after])
+}
+
 #[test]
 fn later_harts_win(rt: HostRuntime) -> Result<(), Fail> {
     let mut pages = memory(rt.alloc())?;
     let mut table = Reservations::new(2);
-    let first = buffer_of(rt.alloc(), 0, Width::W2, 0xbbaa)?;
-    let second = buffer_of(rt.alloc(), 1, Width::W1, 0xcc)?;
-    assert!(rt; commit(&mut pages, &mut table, 0, &first));
-    assert!(rt; commit(&mut pages, &mut table, 1, &second));
-    assert!(rt; pages.read(0, Width::W4) == Ok(0x0033_ccaa));
-    let none = StoreBuffer::new(rt.alloc());
-    assert!(rt; commit(&mut pages, &mut table, 1, &none));
-    assert!(rt; pages.read(0, Width::W4) == Ok(0x0033_ccaa));
+    let wins = hart_1_wins(rt.alloc(), &mut pages, &mut table)?;
+    assert_eq!(rt; wins, [true; 5]);
     Ok(())
+}
+
+/// Whether hart 0's reservation outlasts its own byte, bytes beside it and no store, and then no byte of hart 1.
+fn hart_1_breaks(
+    alloc: Global,
+    pages: &mut Pages,
+    table: &mut Reservations,
+) -> Result<[bool; 6], OutOfMemory>
+    requires { length table.old ≡ 2 }
+{
+    table.set(0, 0x100, Width::W8);
+    let own = commit_one(alloc, pages, table, 0, 0x107, Width::W1, 0xcc)?;
+    let beside = commit_one(alloc, pages, table, 1, 0x108, Width::W8, 0xcc)?;
+    let none = commit(pages, table, 1, &StoreBuffer::new(alloc));
+    let kept = table.copy().take(0, 0x100, Width::W8);
+    let last = commit_one(alloc, pages, table, 1, 0x107, Width::W1, 0xcc)?;
+    let broken = !table.take(0, 0x100, Width::W8);
+    Ok([own, beside, none, kept, last, broken])
 }
 
 #[test]
 fn bytes_of_others_break(rt: HostRuntime) -> Result<(), Fail> {
     let mut pages = memory(rt.alloc())?;
     let mut table = Reservations::new(2);
-    let last = buffer_of(rt.alloc(), 0x107, Width::W1, 0xcc)?;
-    let beside = buffer_of(rt.alloc(), 0x108, Width::W8, 0xcc)?;
-    let none = StoreBuffer::new(rt.alloc());
-    table.set(0, 0x100, Width::W8);
-    assert!(rt; commit(&mut pages, &mut table, 0, &last));
-    assert!(rt; commit(&mut pages, &mut table, 1, &beside));
-    assert!(rt; commit(&mut pages, &mut table, 1, &none));
-    let mut kept = table.copy();
-    assert!(rt; kept.take(0, 0x100, Width::W8));
-    assert!(rt; commit(&mut pages, &mut table, 1, &last));
-    assert!(rt; !table.take(0, 0x100, Width::W8));
+    let breaks = hart_1_breaks(rt.alloc(), &mut pages, &mut table)?;
+    assert_eq!(rt; breaks, [true; 6]);
     Ok(())
 }

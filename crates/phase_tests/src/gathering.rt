@@ -6,11 +6,11 @@ ghost use Rattle.std.specs.Prelude.{◌≡◌, ◌≤◌, length};
 
 mod gates;
 
-use hart_step::{Access, CodeTable, Hart};
-use pages::{Pages, Piece, Range, Width};
+use crate::code::code_of;
+use hart_step::{Access, Hart};
+use pages::Width;
 use parallel_phase::{Gate, Open, gather};
-use round_lock::{BookStart, LogForm, RoundStart};
-use std::alloc::Global;
+use round_lock::{BookStart, HartRound, LogForm, RoundStart};
 use std::marker::Brand;
 use std::process::Abort;
 use std::sync::Wait;
@@ -33,26 +33,6 @@ const STORE_THEN_LOAD: [u32; 6] = [
 /// ADDI x6,x6,1; SD x6,256(x0); JAL x0,-8
 const COUNT: [u32; 3] = [0x0013_0313, 0x1060_3023, 0xff9f_f06f];
 
-/// One page with these words from address 0 on as its code.
-fn memory(alloc: Global, words: &[u32]) -> Result<Pages, Fail>
-    requires { length words.now ≤ 6 }
-{
-    let mut code = [0u8; 24];
-    for (i, word) in words.iter().enumerate() {
-        code[4 * i..4 * i + 4].copy_from_slice(&word.to_le_bytes());
-    }
-    let len = 4 * words.len();
-    let piece = Piece {
-        start: 0,
-        bytes: code[..len].to_vec(alloc)?,
-    };
-    let code = Range {
-        start: 0,
-        len: len as u64,
-    };
-    Ok(Pages::new(alloc, 1, &[piece], &[code])?)
-}
-
 /// Harts at address 0, each with its number in x10.
 fn harts() -> [Hart; 64] {
     let mut harts = [Hart {
@@ -67,8 +47,16 @@ fn harts() -> [Hart; 64] {
     harts
 }
 
-/// Gathers by so many workers, and looks at what each hart came to: it waits at its call, with its own number, and has
-/// accessed nothing.
+/// Whether a hart waits at its call, with its own number, and has accessed nothing.
+fn has_called<B: BookStart>(round: &HartRound<B>, number: u64) -> bool {
+    let hart = round.hart();
+    (hart.x[10], hart.pc, hart.done) == (number, 4, 1)
+        && round.waits()
+        && round.log().len() == 0
+        && round.buffer().stores().next().is_none()
+}
+
+/// Gathers by so many workers, and looks at what each hart came to.
 fn gathers_exits<B: BookStart + Send + Sync, R: Abort + Threads + Wait + Sync>(
     rt: &R,
     start: &RoundStart<'_>,
@@ -81,20 +69,28 @@ fn gathers_exits<B: BookStart + Send + Sync, R: Abort + Threads + Wait + Sync>(
     assert!(rt; gathered.is_complete());
     for h in 0..start.harts().len() {
         let round = gathered.get(h as u32).expect(rt, "the hart was put");
-        assert!(rt; round.hart().x[10] == h as u64, "hart {h}");
-        assert!(rt;
-            round.hart().pc == 4 && round.hart().done == 1 && round.waits(),
-            "hart {h}"
-        );
-        assert!(rt;
-            round.log().len() == 0 && round.buffer().stores().next().is_none(),
-            "hart {h}"
-        );
+        assert!(rt; has_called(round, h as u64), "hart {h}");
     }
 }
 
-/// Gathers by so many workers, and looks at what each hart came to: it waits at its call, with its own number, and has
-/// made a store and a load.
+/// Whether the first store of a round is of this number to the address that all harts store to.
+fn stores_first<B: BookStart>(round: &HartRound<B>, number: u64) -> bool {
+    match round.buffer().stores().next() {
+        Some(first) => first.address == 0x100 && first.value == number,
+        None => false,
+    }
+}
+
+/// Whether a hart waits at its call, and has stored this number of its own and loaded it.
+fn has_stored<B: BookStart>(round: &HartRound<B>, number: u64) -> bool {
+    let hart = round.hart();
+    (hart.x[7], hart.done) == (number, 5)
+        && round.waits()
+        && (round.log().len(), round.accesses()) == (2, 2)
+        && stores_first(round, number)
+}
+
+/// Gathers by so many workers, and looks at what each hart came to.
 fn gathers_stores<B: BookStart + Send + Sync, R: Abort + Threads + Wait + Sync>(
     rt: &R,
     start: &RoundStart<'_>,
@@ -107,14 +103,7 @@ fn gathers_stores<B: BookStart + Send + Sync, R: Abort + Threads + Wait + Sync>(
     assert!(rt; gathered.is_complete());
     for h in 0..start.harts().len() {
         let round = gathered.get(h as u32).expect(rt, "the hart was put");
-        assert!(rt; round.hart().x[7] == 2 * (h as u64 + 5), "hart {h}");
-        assert!(rt; round.hart().done == 5 && round.waits(), "hart {h}");
-        assert!(rt; round.log().len() == 2 && round.accesses() == 2, "hart {h}");
-        let first = round.buffer().stores().next().expect(rt, "it stored");
-        assert!(rt;
-            first.address == 0x100 && first.value == 2 * (h as u64 + 5),
-            "hart {h}"
-        );
+        assert!(rt; has_stored(round, 2 * (h as u64 + 5)), "hart {h}");
     }
 }
 
@@ -146,8 +135,7 @@ fn gathers_counts<B: BookStart + Send + Sync, R: Abort + Threads + Wait + Sync>(
 
 #[test]
 fn logs_are_the_same_in_brief(rt: HostRuntime) -> Result<(), Fail> {
-    let pages = memory(rt.alloc(), &COUNT)?;
-    let table = CodeTable::new(rt.alloc(), &pages, 0, 3)?;
+    let (pages, table) = code_of(rt.alloc(), &COUNT)?;
     let harts = harts();
     let quotas = [300; 64];
     let whole = RoundStart::new(&pages, &table, &harts, &quotas);
@@ -171,19 +159,14 @@ fn gathers_numbers<B: BookStart + Send + Sync, R: Abort + Threads + Wait + Sync>
     let gathered = gather::<B, Open, R>(rt, start, workers, &Open).expect(rt, "memory");
     for h in 0..start.harts().len() {
         let round = gathered.get(h as u32).expect(rt, "the hart was put");
-        assert!(rt;
-            round.accesses() == 100 && round.log().len() == 0,
-            "hart {h}"
-        );
-        let last = round.buffer().stores().next().expect(rt, "it stored");
-        assert!(rt; last.address == 0x100 && last.value == 100, "hart {h}");
+        let counted = round.accesses() == 100 && round.log().len() == 0;
+        assert!(rt; counted && stores_first(round, 100), "hart {h}");
     }
 }
 
 #[test]
 fn accesses_are_counted_where_no_log_is_kept(rt: HostRuntime) -> Result<(), Fail> {
-    let pages = memory(rt.alloc(), &COUNT)?;
-    let table = CodeTable::new(rt.alloc(), &pages, 0, 3)?;
+    let (pages, table) = code_of(rt.alloc(), &COUNT)?;
     let harts = harts();
     let quotas = [300; 64];
     for workers in [1, 2, 4] {
@@ -196,8 +179,7 @@ fn accesses_are_counted_where_no_log_is_kept(rt: HostRuntime) -> Result<(), Fail
 #[test]
 fn calls_are_gathered_on_any_workers(rt: HostRuntime) -> Result<(), Fail> {
     let alloc = rt.alloc();
-    let pages = memory(alloc, &EXIT)?;
-    let table = CodeTable::new(alloc, &pages, 0, 2)?;
+    let (pages, table) = code_of(alloc, &EXIT)?;
     let harts = harts();
     let quotas = [4; 64];
     for workers in 1..17 {
@@ -212,8 +194,7 @@ fn calls_are_gathered_on_any_workers(rt: HostRuntime) -> Result<(), Fail> {
 #[test]
 fn stores_are_gathered_on_any_workers(rt: HostRuntime) -> Result<(), Fail> {
     let alloc = rt.alloc();
-    let pages = memory(alloc, &STORE_THEN_LOAD)?;
-    let table = CodeTable::new(alloc, &pages, 0, 6)?;
+    let (pages, table) = code_of(alloc, &STORE_THEN_LOAD)?;
     let harts = harts();
     let quotas = [6; 64];
     for workers in 1..17 {

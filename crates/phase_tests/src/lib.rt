@@ -5,6 +5,8 @@
 #[cfg(test)]
 mod books;
 #[cfg(test)]
+mod code;
+#[cfg(test)]
 mod commits;
 #[cfg(test)]
 mod gathering;

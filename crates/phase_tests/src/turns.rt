@@ -7,13 +7,15 @@ ghost use Rattle.serial_phase.specs.Phase.{budget_from, budget_of};
 mod calls;
 mod lr_and_sc;
 
-use hart_step::{CodeTable, Hart};
-use pages::{OutOfMemory, Pages, Piece, Range};
+use crate::code::code_of;
+use hart_step::Hart;
+use pages::OutOfMemory;
 use reservations::Reservations;
 use serial_phase::{Console, SerialLog, SerialRound, SharedState, serial};
 use std::alloc::Global;
 
-/// One page with these words as its code from address 0 on, no reservation of so many harts, and this input.
+/// One page with these words as its code from address 0 on, no reservation of so many harts, and this input. Who has it
+/// lends it at once to a function that runs the turns: there no `?` drops it, which keeps the check short.
 fn begin(
     alloc: Global,
     words: [u32; 4],
@@ -24,22 +26,13 @@ fn begin(
     ensures size { IfOk result (λ s. length s.reservations ≡ harts) }
     ensures shows { IfOk result (λ s. Shows s.pages.memory s.code.first s.code.instructions) }
 {
-    let mut code = [0u8; 16];
-    for (i, word) in words.iter().enumerate() {
-        code[4 * i..4 * i + 4].copy_from_slice(&word.to_le_bytes());
-    }
-    let piece = Piece {
-        start: 0,
-        bytes: code.to_vec(alloc)?,
-    };
-    let range = Range { start: 0, len: 16 };
-    let pages = Pages::new(alloc, 1, &[piece], &[range])?;
-    let code = CodeTable::new(alloc, &pages, 0, 4)?;
+    let input = input.to_vec(alloc)?;
+    let (pages, code) = code_of(alloc, &words)?;
     Ok(SharedState {
         pages,
         code,
         reservations: Reservations::new(harts),
-        console: Console::new(alloc, input.to_vec(alloc)?),
+        console: Console::new(alloc, input),
         log: SerialLog::new(alloc),
     })
 }

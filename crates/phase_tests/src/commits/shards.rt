@@ -1,5 +1,6 @@
-ghost use Rattle.std.specs.Prelude.{◌≡◌, All, IfOk, IsTrue, length};
+ghost use Rattle.std.specs.Prelude.{◌≡◌, ◌%◌, All, IfOk, IsTrue, length};
 ghost use Rattle.commit_phase.specs.Commit.{IsWritable};
+ghost use Rattle.pages.specs.Memory.{width_bytes};
 
 use super::{buffer_of, fits};
 use commit_phase::{OpenShards, ShardGate, commit, commit_on};
@@ -105,27 +106,32 @@ fn commit_all<R: Threads + Sync, G: ShardGate + Sync>(
     true
 }
 
+/// A buffer with one more store.
+fn with(
+    mut buffer: StoreBuffer,
+    address: u64,
+    width: Width,
+    value: u64,
+) -> Result<StoreBuffer, OutOfMemory>
+    requires { address % width_bytes width ≡ 0 }
+{
+    buffer.put(Store {
+        address,
+        width,
+        value,
+    })?;
+    Ok(buffer)
+}
+
 /// Buffers of three harts: the later ones write over bytes of the first, on both sides of the end of a page, and the
 /// last page has a byte of each of two.
 fn three_buffers(alloc: Global) -> Result<Vec<StoreBuffer>, OutOfMemory> {
-    let mut first = buffer_of(alloc, 0xff8, Width::W8, 0x1111_1111_1111_1111)?;
-    first.put(Store {
-        address: 0x9ffe,
-        width: Width::W1,
-        value: 0x44,
-    })?;
-    let mut second = buffer_of(alloc, 0xffc, Width::W4, 0x2222_2222)?;
-    second.put(Store {
-        address: 0x1000,
-        width: Width::W4,
-        value: 0x3333_3333,
-    })?;
+    let first = buffer_of(alloc, 0xff8, Width::W8, 0x1111_1111_1111_1111)?;
+    let first = with(first, 0x9ffe, Width::W1, 0x44)?;
+    let second = buffer_of(alloc, 0xffc, Width::W4, 0x2222_2222)?;
+    let second = with(second, 0x1000, Width::W4, 0x3333_3333)?;
     let third = buffer_of(alloc, 0x9fff, Width::W1, 0x55)?;
-    let mut buffers = Vec::new(alloc);
-    buffers.push(first)?;
-    buffers.push(second)?;
-    buffers.push(third)?;
-    Ok(buffers)
+    Ok(Vec::from_array(alloc, [first, second, third])?)
 }
 
 /// Commits buffers on the calling thread, if their bytes may be written.

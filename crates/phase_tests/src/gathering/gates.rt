@@ -2,8 +2,8 @@
 
 ghost use Rattle.std.specs.Prelude.{◌≡◌};
 
-use super::{EXIT, harts, memory};
-use hart_step::CodeTable;
+use super::{EXIT, harts};
+use crate::code::code_of;
 use parallel_phase::{Gate, gather};
 use round_lock::{BookStart, RoundStart};
 use std::marker::Brand;
@@ -28,8 +28,7 @@ fn gathers<B: BookStart + Send + Sync, G: Gate + Sync, R: Abort + Threads + Wait
 #[test]
 fn two_workers_meet(rt: HostRuntime) -> Result<(), Fail> {
     let alloc = rt.alloc();
-    let pages = memory(alloc, &EXIT)?;
-    let table = CodeTable::new(alloc, &pages, 0, 2)?;
+    let (pages, table) = code_of(alloc, &EXIT)?;
     let harts = harts();
     let start = RoundStart::new(&pages, &table, &harts[..2], &[4; 2]);
     let gate = Meeting::new();
@@ -41,8 +40,7 @@ fn two_workers_meet(rt: HostRuntime) -> Result<(), Fail> {
 #[test]
 fn a_hart_is_done_while_another_waits(rt: HostRuntime) -> Result<(), Fail> {
     let alloc = rt.alloc();
-    let pages = memory(alloc, &EXIT)?;
-    let table = CodeTable::new(alloc, &pages, 0, 2)?;
+    let (pages, table) = code_of(alloc, &EXIT)?;
     let harts = harts();
     let start = RoundStart::new(&pages, &table, &harts[..2], &[4; 2]);
     let gate = Behind::new();

@@ -1,4 +1,4 @@
-ghost use Rattle.std.specs.Prelude.{◌≡◌, length};
+ghost use Rattle.std.specs.Prelude.{◌≡◌, ◌≤◌, length};
 ghost use Rattle.hart_step.specs.CodeTables.{Shows};
 
 use super::{begin, hart, turns};
@@ -21,40 +21,68 @@ fn caller(number: u64, argument: u64) -> Hart {
 
 const ONES: u64 = 0xffff_ffff_ffff_ffff;
 
+/// What a hart has left that made a call: its pc, what it has done, its stop and its answer, and whether it accessed nothing
+/// and put just this output.
+type Left = (u64, u64, Option<Stop>, u64, bool);
+
+/// Gives a hart its turn before a call of a number and an argument.
+fn call(
+    alloc: Global,
+    shared: &mut SharedState,
+    of: (u64, u64),
+    budget: u32,
+    output: &[u8],
+) -> Result<Left, OutOfMemory>
+    requires shows { Shows shared.old.pages.memory shared.old.code.first
+        shared.old.code.instructions }
+    requires size { length shared.old.reservations ≡ 1 }
+    requires budget { budget ≤ 1000 }
+{
+    let mut harts = [caller(of.0, of.1)];
+    turns(alloc, shared, &mut harts, 1, budget)?;
+    let only = shared.log.events(0).is_empty() && shared.console.output() == output;
+    let Hart { pc, done, stop, x } = harts[0];
+    Ok((pc, done, stop, x[10], only))
+}
+
+/// The same in a memory of its own.
+fn left_by_call(
+    alloc: Global,
+    of: (u64, u64),
+    budget: u32,
+    output: &[u8],
+) -> Result<Left, OutOfMemory>
+    requires { budget ≤ 1000 }
+{
+    let mut shared = begin(alloc, [CALL, 0, 0, 0], 1, &[])?;
+    call(alloc, &mut shared, of, budget, output)
+}
+
 #[test]
 fn numbers_of_calls(rt: HostRuntime) -> Result<(), Fail> {
     // the round is 7
-    for (number, argument, answer) in [
-        (1, 0x141, 0),
-        (2, 5, ONES),
-        (3, 5, 7),
-        (4, 5, ONES),
-        (0x1_0000_0001, 5, ONES),
-        (ONES, 5, ONES),
+    for (number, argument, answer, output) in [
+        (1, 0x141, 0, b"A".as_slice()),
+        (2, 5, ONES, b""),
+        (3, 5, 7, b""),
+        (4, 5, ONES, b""),
+        (0x1_0000_0001, 5, ONES, b""),
+        (ONES, 5, ONES, b""),
     ] {
-        let mut shared = begin(rt.alloc(), [CALL, 0, 0, 0], 1, &[])?;
-        let mut harts = [caller(number, argument)];
-        turns(rt.alloc(), &mut shared, &mut harts, 1, 1)?;
-        assert_eq!(rt; (harts[0].pc, harts[0].done, harts[0].stop), (4, 1, None));
-        assert_eq!(rt; harts[0].x[10], answer);
-        assert!(rt; shared.log.events(0).is_empty());
-        let output = if number == 1 { b"A".as_slice() } else { b"" };
-        assert_eq!(rt; shared.console.output(), output);
+        let left = left_by_call(rt.alloc(), (number, argument), 1, output)?;
+        assert_eq!(rt; left, (4, 1, None, answer, true));
     }
     Ok(())
 }
 
 #[test]
 fn the_exit_call(rt: HostRuntime) -> Result<(), Fail> {
-    let mut shared = begin(rt.alloc(), [CALL, 0, 0, 0], 1, &[])?;
-    let mut harts = [caller(0, ONES)];
-    turns(rt.alloc(), &mut shared, &mut harts, 1, 1000)?;
     let exit = Stop {
         code: 1,
         value: ONES,
     };
-    assert_eq!(rt; harts[0].stop, Some(exit));
-    assert_eq!(rt; (harts[0].pc, harts[0].done, harts[0].x[10]), (0, 0, ONES));
+    let left = left_by_call(rt.alloc(), (0, ONES), 1000, b"")?;
+    assert_eq!(rt; left, (0, 0, Some(exit), ONES, true));
     Ok(())
 }
 
@@ -72,34 +100,66 @@ fn answers(alloc: Global, shared: &mut SharedState) -> Result<[u64; 3], OutOfMem
     Ok([harts[0].x[10], harts[1].x[10], harts[2].x[10]])
 }
 
+/// The same in three turns, and whether the output is then this one.
+fn three_answers(
+    alloc: Global,
+    shared: &mut SharedState,
+    output: &[u8],
+) -> Result<([[u64; 3]; 3], bool), OutOfMemory>
+    requires shows { Shows shared.old.pages.memory shared.old.code.first
+        shared.old.code.instructions }
+    requires size { length shared.old.reservations ≡ 3 }
+{
+    let first = answers(alloc, shared)?;
+    let second = answers(alloc, shared)?;
+    let third = answers(alloc, shared)?;
+    Ok(([first, second, third], shared.console.output() == output))
+}
+
+/// The same of this input.
+fn answers_of(
+    alloc: Global,
+    input: &[u8],
+    output: &[u8],
+) -> Result<([[u64; 3]; 3], bool), OutOfMemory> {
+    let mut shared = begin(alloc, [CALL, 0, 0, 0], 3, input)?;
+    three_answers(alloc, &mut shared, output)
+}
+
 #[test]
 fn input_is_taken_byte_by_byte(rt: HostRuntime) -> Result<(), Fail> {
-    let mut shared = begin(rt.alloc(), [CALL, 0, 0, 0], 3, &[0x41, 0xff, 0x43])?;
-    let first = answers(rt.alloc(), &mut shared)?;
-    let second = answers(rt.alloc(), &mut shared)?;
-    let third = answers(rt.alloc(), &mut shared)?;
-    assert_eq!(rt; first, [0x41, 0, 0xff]);
-    assert_eq!(rt; second, [0x43, 0, ONES]);
-    assert_eq!(rt; third, [ONES, 0, ONES]);
-    assert_eq!(rt; shared.console.output(), b"ZZZ".as_slice());
+    let given = answers_of(rt.alloc(), &[0x41, 0xff, 0x43], b"ZZZ")?;
+    let wanted = [[0x41, 0, 0xff], [0x43, 0, ONES], [ONES, 0, ONES]];
+    assert_eq!(rt; given, (wanted, true));
     Ok(())
+}
+
+/// The answers of two harts that each put a byte after 1,048,575 others, how long the output is then, and its last byte.
+fn two_puts(
+    alloc: Global,
+    shared: &mut SharedState,
+) -> Result<([u64; 2], usize, Option<u8>), OutOfMemory>
+    requires shows { Shows shared.old.pages.memory shared.old.code.first
+        shared.old.code.instructions }
+    requires size { length shared.old.reservations ≡ 2 }
+{
+    shared.console.output = Vec::from_elem(alloc, 0u8, 1_048_575)?;
+    let mut harts = [caller(1, 0x41), caller(1, 0x42)];
+    turns(alloc, shared, &mut harts, 0b11, 1)?;
+    let answers = [harts[0].x[10], harts[1].x[10]];
+    let output = shared.console.output();
+    Ok((answers, output.len(), output.get(1_048_575).copied()))
+}
+
+/// The same in a memory of its own.
+fn puts_at_the_end(alloc: Global) -> Result<([u64; 2], usize, Option<u8>), OutOfMemory> {
+    let mut shared = begin(alloc, [CALL, 0, 0, 0], 2, &[])?;
+    two_puts(alloc, &mut shared)
 }
 
 #[test]
 fn output_is_full_after_1_048_576_bytes(rt: HostRuntime) -> Result<(), Fail> {
-    let mut shared = begin(rt.alloc(), [CALL, 0, 0, 0], 2, &[])?;
-    let console = Console {
-        input: Vec::new(rt.alloc()),
-        place: 0,
-        output: Vec::from_elem(rt.alloc(), 0u8, 1_048_575)?,
-    };
-    shared.console = console;
-    let mut harts = [caller(1, 0x41), caller(1, 0x42)];
-    turns(rt.alloc(), &mut shared, &mut harts, 0b11, 1)?;
-    assert_eq!(rt; harts[0].x[10], 0);
-    assert_eq!(rt; harts[1].x[10], ONES);
-    let output = shared.console.output();
-    assert_eq!(rt; output.len(), 1_048_576);
-    assert_eq!(rt; output[1_048_575], 0x41);
+    let given = puts_at_the_end(rt.alloc())?;
+    assert_eq!(rt; given, ([0, ONES], 1_048_576, Some(0x41)));
     Ok(())
 }

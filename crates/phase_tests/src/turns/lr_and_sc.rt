@@ -1,8 +1,13 @@
+ghost use Rattle.std.specs.Prelude.{◌≡◌, ◌<◌, ◌≤◌, length};
+ghost use Rattle.hart_step.specs.CodeTables.{Shows};
+
 use super::{begin, hart, turns};
-use hart_step::Stop;
-use pages::Width;
+use hart_step::{Hart, Stop};
+use pages::{Fault, OutOfMemory, Width};
 use round_schedule::Access;
 use rv64_decode::{AcquireRelease, FenceMode, FenceSet};
+use serial_phase::SharedState;
+use std::alloc::Global;
 use std::test::Fail;
 
 /// LR.D x6,(x5).
@@ -43,6 +48,45 @@ fn conditional(place: u64, written: Option<u64>) -> Access {
     }
 }
 
+/// The access of a turn that made one.
+fn only(events: &[Access]) -> Option<Access> {
+    match events {
+        [access] => Some(*access),
+        _ => None,
+    }
+}
+
+/// Whether a turn made these accesses alone, the number at 0x100 after it, and whether hart 0 keeps its reservation there.
+type Broken = (bool, Result<u64, Fault>, bool);
+
+/// Hart 1 does so much of a fence and a store of 5 to 0x100.
+fn store(
+    alloc: Global,
+    shared: &mut SharedState,
+    budget: u32,
+    events: &[Access],
+) -> Result<Broken, OutOfMemory>
+    requires shows { Shows shared.old.pages.memory shared.old.code.first
+        shared.old.code.instructions }
+    requires size { length shared.old.reservations ≡ 2 }
+    requires budget { budget ≤ 1000 }
+{
+    shared.reservations.set(0, 0x100, Width::W8);
+    let mut harts = [hart(0, 0, 0), hart(0, 0x100, 5)];
+    turns(alloc, shared, &mut harts, 0b10, budget)?;
+    let all = shared.log.events(1) == events && shared.log.events(0).is_empty();
+    let kept = shared.reservations.take(0, 0x100, Width::W8);
+    Ok((all, shared.pages.read(0x100, Width::W8), kept))
+}
+
+/// The same in a memory of its own.
+fn left_by_store(alloc: Global, budget: u32, events: &[Access]) -> Result<Broken, OutOfMemory>
+    requires { budget ≤ 1000 }
+{
+    let mut shared = begin(alloc, [FENCE, STORE, 0, 0], 2, &[])?;
+    store(alloc, &mut shared, budget, events)
+}
+
 #[test]
 fn a_store_of_a_turn_breaks_reservations(rt: HostRuntime) -> Result<(), Fail> {
     let fence = Access::Fence {
@@ -57,31 +101,68 @@ fn a_store_of_a_turn_breaks_reservations(rt: HostRuntime) -> Result<(), Fail> {
         address: 0x100,
         written: 5,
     };
-    for (budget, kept, events) in [
-        (1, true, [fence].as_slice()),
-        (2, false, [fence, store].as_slice()),
+    for (budget, events, number, kept) in [
+        (1, [fence].as_slice(), 0, true),
+        (2, [fence, store].as_slice(), 5, false),
     ] {
-        let mut shared = begin(rt.alloc(), [FENCE, STORE, 0, 0], 2, &[])?;
-        shared.reservations.set(0, 0x100, Width::W8);
-        let mut harts = [hart(0, 0, 0), hart(0, 0x100, 5)];
-        turns(rt.alloc(), &mut shared, &mut harts, 0b10, budget)?;
-        assert_eq!(rt; shared.log.events(1), events);
-        assert!(rt; shared.log.events(0).is_empty());
-        assert_eq!(rt;
-            shared.pages.read(0x100, Width::W8),
-            Ok(if kept { 0 } else { 5 })
-        );
-        assert_eq!(rt; shared.reservations.take(0, 0x100, Width::W8), kept);
+        let left = left_by_store(rt.alloc(), budget, events)?;
+        assert_eq!(rt; left, (true, Ok(number), kept));
     }
     Ok(())
 }
 
+/// An access, the number at 0x100 after it, and its hart's pc, done, x6 and x7.
+type Step = (Option<Access>, Result<u64, Fault>, [u64; 4]);
+
+/// Puts a number in x6 of hart 0 and gives it a turn of one instruction.
+fn step(
+    alloc: Global,
+    shared: &mut SharedState,
+    harts: &mut [Hart],
+    number: u64,
+) -> Result<Step, OutOfMemory>
+    requires shows { Shows shared.old.pages.memory shared.old.code.first
+        shared.old.code.instructions }
+    requires harts { length harts.old ≡ length shared.old.reservations }
+    requires one { 0 < length harts.old }
+    requires few { length harts.old ≤ 64 }
+    ensures shows { Shows shared.new.pages.memory shared.new.code.first
+        shared.new.code.instructions }
+    ensures size { length shared.new.reservations ≡ length shared.old.reservations }
+{
+    harts[0].x[6] = number;
+    turns(alloc, shared, harts, 1, 1)?;
+    let Hart { pc, done, x, .. } = harts[0];
+    let left = [pc, done, x[6], x[7]];
+    Ok((
+        only(shared.log.events(0)),
+        shared.pages.read(0x100, Width::W8),
+        left,
+    ))
+}
+
+/// An LR and two SC after it, each of another number, and whether a reservation is left.
+fn three_steps(alloc: Global, shared: &mut SharedState) -> Result<([Step; 3], bool), OutOfMemory>
+    requires shows { Shows shared.old.pages.memory shared.old.code.first
+        shared.old.code.instructions }
+    requires size { length shared.old.reservations ≡ 1 }
+{
+    let mut harts = [hart(0, 0x100, 0)];
+    let reserved = step(alloc, shared, &mut harts, 9)?;
+    let first = step(alloc, shared, &mut harts, 0x1234)?;
+    let second = step(alloc, shared, &mut harts, 0x5678)?;
+    let kept = shared.reservations.take(0, 0x100, Width::W8);
+    Ok(([reserved, first, second], kept))
+}
+
+/// The same in a memory of its own.
+fn pair_and_one_more(alloc: Global) -> Result<([Step; 3], bool), OutOfMemory> {
+    let mut shared = begin(alloc, [RESERVE, CONDITIONAL, CONDITIONAL, 0], 1, &[])?;
+    three_steps(alloc, &mut shared)
+}
+
 #[test]
 fn a_pair_succeeds_once(rt: HostRuntime) -> Result<(), Fail> {
-    let words = [RESERVE, CONDITIONAL, CONDITIONAL, 0];
-    let mut shared = begin(rt.alloc(), words, 1, &[])?;
-    let mut harts = [hart(0, 0x100, 9)];
-    turns(rt.alloc(), &mut shared, &mut harts, 1, 1)?;
     let reserved = Access::LoadReserved {
         width: Width::W8,
         ordering: PLAIN,
@@ -89,95 +170,154 @@ fn a_pair_succeeds_once(rt: HostRuntime) -> Result<(), Fail> {
         address: 0x100,
         read: 0,
     };
-    assert_eq!(rt; shared.log.events(0), [reserved].as_slice());
-    assert_eq!(rt; (harts[0].pc, harts[0].x[6]), (4, 0));
-    harts[0].x[6] = 0x1234;
-    turns(rt.alloc(), &mut shared, &mut harts, 1, 1)?;
-    assert_eq!(rt;
-        shared.log.events(0),
-        [conditional(1, Some(0x1234))].as_slice()
-    );
-    assert_eq!(rt; shared.pages.read(0x100, Width::W8), Ok(0x1234));
-    assert_eq!(rt; (harts[0].pc, harts[0].x[7]), (8, 0));
     // the second SC finds no reservation
-    harts[0].x[6] = 0x5678;
-    turns(rt.alloc(), &mut shared, &mut harts, 1, 1)?;
-    assert_eq!(rt; shared.log.events(0), [conditional(2, None)].as_slice());
-    assert_eq!(rt; shared.pages.read(0x100, Width::W8), Ok(0x1234));
-    assert_eq!(rt; (harts[0].pc, harts[0].x[7], harts[0].done), (12, 1, 3));
-    assert!(rt; !shared.reservations.take(0, 0x100, Width::W8));
+    let wanted = [
+        (Some(reserved), Ok(0), [4, 1, 0, 0]),
+        (
+            Some(conditional(1, Some(0x1234))),
+            Ok(0x1234),
+            [8, 2, 0x1234, 0],
+        ),
+        (Some(conditional(2, None)), Ok(0x1234), [12, 3, 0x5678, 1]),
+    ];
+    assert_eq!(rt; pair_and_one_more(rt.alloc())?, (wanted, false));
     Ok(())
+}
+
+/// The SC of a pair, between whose parts this hart stores a byte.
+fn pair(
+    alloc: Global,
+    shared: &mut SharedState,
+    writer: u32,
+    address: u64,
+) -> Result<Step, OutOfMemory>
+    requires shows { Shows shared.old.pages.memory shared.old.code.first
+        shared.old.code.instructions }
+    requires size { length shared.old.reservations ≡ 2 }
+{
+    let mut harts = [hart(0, 0x100, 9), hart(0, 0, 0)];
+    turns(alloc, shared, &mut harts, 1, 1)?;
+    shared.reservations.break_by(writer, address, Width::W1);
+    step(alloc, shared, &mut harts, 9)
+}
+
+/// The same in a memory of its own.
+fn pair_around_a_byte(alloc: Global, writer: u32, address: u64) -> Result<Step, OutOfMemory> {
+    let mut shared = begin(alloc, [RESERVE, CONDITIONAL, 0, 0], 2, &[])?;
+    pair(alloc, &mut shared, writer, address)
 }
 
 #[test]
 fn sc_after_a_committed_store_of_another_hart(rt: HostRuntime) -> Result<(), Fail> {
     // hart 1 stored the last byte, the byte behind, or hart 0 itself stored
-    for (writer, address, code) in [(1, 0x107, 1), (1, 0x108, 0), (0, 0x107, 0)] {
-        let mut shared = begin(rt.alloc(), [RESERVE, CONDITIONAL, 0, 0], 2, &[])?;
-        let mut harts = [hart(0, 0x100, 9), hart(0, 0, 0)];
-        turns(rt.alloc(), &mut shared, &mut harts, 1, 1)?;
-        shared.reservations.break_by(writer, address, Width::W1);
-        harts[0].x[6] = 9;
-        turns(rt.alloc(), &mut shared, &mut harts, 1, 1)?;
-        assert_eq!(rt; harts[0].x[7], code);
-        assert_eq!(rt;
-            shared.pages.read(0x100, Width::W8),
-            Ok(if code == 0 { 9 } else { 0 })
-        );
+    for (writer, address, code, number) in [(1, 0x107, 1, 0), (1, 0x108, 0, 9), (0, 0x107, 0, 9)] {
+        let (_, left, [_, _, _, answer]) = pair_around_a_byte(rt.alloc(), writer, address)?;
+        assert_eq!(rt; (answer, left), (code, Ok(number)));
     }
     Ok(())
+}
+
+/// The stop and the answer of an SC of a hart with a reservation of 8 bytes at 0x100, the number there, and whether the
+/// reservation is kept.
+type Conditional = (Option<Stop>, u64, Result<u64, Fault>, bool);
+
+/// Does the SC at an address.
+fn store_conditional(
+    alloc: Global,
+    shared: &mut SharedState,
+    address: u64,
+) -> Result<Conditional, OutOfMemory>
+    requires shows { Shows shared.old.pages.memory shared.old.code.first
+        shared.old.code.instructions }
+    requires size { length shared.old.reservations ≡ 1 }
+{
+    shared.reservations.set(0, 0x100, Width::W8);
+    let mut harts = [hart(0, address, 9)];
+    turns(alloc, shared, &mut harts, 1, 1)?;
+    let kept = shared.reservations.take(0, 0x100, Width::W8);
+    let number = shared.pages.read(0x100, Width::W8);
+    Ok((harts[0].stop, harts[0].x[7], number, kept))
+}
+
+/// The same in a memory of its own, of this word.
+fn left_by_conditional(alloc: Global, word: u32, address: u64) -> Result<Conditional, OutOfMemory> {
+    let mut shared = begin(alloc, [word, 0, 0, 0], 1, &[])?;
+    store_conditional(alloc, &mut shared, address)
 }
 
 #[test]
 fn sc_drops_the_reservation_unless_it_stops(rt: HostRuntime) -> Result<(), Fail> {
     // an SC of another width, and one at another address, fail; one to the code and one that is misaligned stop
-    for (address, word, stop, kept) in [
-        (0x100, CONDITIONAL_WORD, None, false),
-        (0x108, CONDITIONAL, None, false),
-        (0x000, CONDITIONAL, Some(Stop { code: 9, value: 0 }), true),
-        (0x104, CONDITIONAL, Some(Stop { code: 7, value: 0 }), true),
+    for (address, word, stop, answer, kept) in [
+        (0x100, CONDITIONAL_WORD, None, 1, false),
+        (0x108, CONDITIONAL, None, 1, false),
+        (
+            0x000,
+            CONDITIONAL,
+            Some(Stop { code: 9, value: 0 }),
+            0,
+            true,
+        ),
+        (
+            0x104,
+            CONDITIONAL,
+            Some(Stop { code: 7, value: 0 }),
+            0,
+            true,
+        ),
     ] {
-        let mut shared = begin(rt.alloc(), [word, 0, 0, 0], 1, &[])?;
-        shared.reservations.set(0, 0x100, Width::W8);
-        let mut harts = [hart(0, address, 9)];
-        turns(rt.alloc(), &mut shared, &mut harts, 1, 1)?;
-        assert_eq!(rt; harts[0].stop, stop);
-        assert_eq!(rt; harts[0].x[7], if kept { 0 } else { 1 });
-        assert_eq!(rt; shared.pages.read(0x100, Width::W8), Ok(0));
-        assert_eq!(rt; shared.reservations.take(0, 0x100, Width::W8), kept);
+        let left = left_by_conditional(rt.alloc(), word, address)?;
+        assert_eq!(rt; left, (stop, answer, Ok(0), kept));
     }
     Ok(())
 }
 
-#[test]
-fn three_harts_add(rt: HostRuntime) -> Result<(), Fail> {
+/// The pc, done and x7 of three harts, an access, the number at 0x100, and which reservations are kept.
+type Added = ([[u64; 3]; 3], Option<Access>, Result<u64, Fault>, [bool; 2]);
+
+/// Three harts add 1 to the word at 0x100. Hart 0 has a reservation of it, and hart 1 one behind it.
+fn add(alloc: Global, shared: &mut SharedState) -> Result<Added, OutOfMemory>
+    requires shows { Shows shared.old.pages.memory shared.old.code.first
+        shared.old.code.instructions }
+    requires size { length shared.old.reservations ≡ 3 }
+{
     // SD first puts the number there, as hart 0 alone has a turn
-    let mut shared = begin(rt.alloc(), [STORE, ADD_WORD, 0, 0], 3, &[])?;
     let mut first = [hart(0, 0x100, 0x7fff_ffff), hart(4, 0, 0), hart(4, 0, 0)];
-    turns(rt.alloc(), &mut shared, &mut first, 0b001, 1)?;
+    turns(alloc, shared, &mut first, 0b001, 1)?;
     shared.reservations.set(0, 0x100, Width::W4);
     shared.reservations.set(1, 0x104, Width::W4);
-    let mut harts = [hart(4, 0x100, 1), hart(4, 0x100, 1), hart(4, 0x100, 1)];
-    turns(rt.alloc(), &mut shared, &mut harts, 0b111, 1)?;
-    for (hart, before) in harts.iter().zip([
-        0x0000_0000_7fff_ffff,
-        0xffff_ffff_8000_0000,
-        0xffff_ffff_8000_0001,
-    ]) {
-        assert_eq!(rt; (hart.pc, hart.done, hart.x[7]), (8, 1, before));
-    }
-    let added = |read| Access::Atomic {
+    let mut harts = [hart(4, 0x100, 1); 3];
+    turns(alloc, shared, &mut harts, 0b111, 1)?;
+    let left = harts.map(|hart| [hart.pc, hart.done, hart.x[7]]);
+    let at_word = shared.reservations.take(0, 0x100, Width::W4);
+    let behind = shared.reservations.take(1, 0x104, Width::W4);
+    let number = shared.pages.read(0x100, Width::W8);
+    Ok((left, only(shared.log.events(1)), number, [at_word, behind]))
+}
+
+/// The same in a memory of its own.
+fn three_adds(alloc: Global) -> Result<Added, OutOfMemory> {
+    let mut shared = begin(alloc, [STORE, ADD_WORD, 0, 0], 3, &[])?;
+    add(alloc, &mut shared)
+}
+
+#[test]
+fn three_harts_add(rt: HostRuntime) -> Result<(), Fail> {
+    let wanted = [
+        [8, 1, 0x0000_0000_7fff_ffff],
+        [8, 1, 0xffff_ffff_8000_0000],
+        [8, 1, 0xffff_ffff_8000_0001],
+    ];
+    let added = Access::Atomic {
         width: Width::W4,
         ordering: PLAIN,
         place: 0,
         address: 0x100,
-        read,
-        written: read + 1,
+        read: 0x8000_0000,
+        written: 0x8000_0001,
     };
-    assert_eq!(rt; shared.log.events(1), [added(0x8000_0000)].as_slice());
-    assert_eq!(rt; shared.pages.read(0x100, Width::W8), Ok(0x8000_0002));
     // an AMO of another hart breaks, one beside does not
-    assert!(rt; !shared.reservations.take(0, 0x100, Width::W4));
-    assert!(rt; shared.reservations.take(1, 0x104, Width::W4));
+    let left = (wanted, Some(added), Ok(0x8000_0002), [false, true]);
+    assert_eq!(rt; three_adds(rt.alloc())?, left);
     Ok(())
 }

@@ -1,0 +1,38 @@
+//! Code in memory, and decoded.
+
+ghost use Rattle.std.specs.Prelude.{◌≤◌, IfOk, length};
+ghost use Rattle.hart_step.specs.CodeTables.{Shows};
+
+use hart_step::CodeTable;
+use pages::{OutOfMemory, Pages, Piece, Range};
+use std::alloc::Global;
+
+/// One page with these words from address 0 on as its code.
+fn memory(alloc: Global, words: &[u32]) -> Result<Pages, OutOfMemory>
+    requires { length words.now ≤ 6 }
+{
+    let mut code = [0u8; 24];
+    for (i, word) in words.iter().enumerate() {
+        code[4 * i..4 * i + 4].copy_from_slice(&word.to_le_bytes());
+    }
+    let len = 4 * words.len();
+    let piece = Piece {
+        start: 0,
+        bytes: code[..len].to_vec(alloc)?,
+    };
+    let code = Range {
+        start: 0,
+        len: len as u64,
+    };
+    Pages::new(alloc, 1, &[piece], &[code])
+}
+
+/// The same, and these words decoded.
+pub(crate) fn code_of(alloc: Global, words: &[u32]) -> Result<(Pages, CodeTable), OutOfMemory>
+    requires { length words.now ≤ 6 }
+    ensures { IfOk result (λ r. Shows r.0.memory r.1.first r.1.instructions) }
+{
+    let pages = memory(alloc, words)?;
+    let table = CodeTable::new(alloc, &pages, 0, words.len())?;
+    Ok((pages, table))
+}
