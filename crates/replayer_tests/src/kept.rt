@@ -15,8 +15,22 @@ fn is_after_its_sc<R: Threads + Wait + Sync>(rt: &R, replay: &Replay) -> Result<
     })
 }
 
-/// Whether a recording, opened to keep the machines after multiples of `every`, keeps so many, is the recorded run, and has
-/// hart 0 after its failed SC of round 2.
+/// Whether a replay keeps so many machines, is the recorded run, and has hart 0 after its failed SC of round 2.
+fn has_kept<R: Threads + Wait + Sync>(
+    rt: &R,
+    replay: &Replay,
+    kept: usize,
+) -> Result<bool, RunError> {
+    Ok(
+        replay.verdict() == Verdict::Same
+            && replay.checkpoints() == kept
+            && replay.kept(0).is_some()
+            && replay.kept(kept).is_none()
+            && is_after_its_sc(rt, replay)?,
+    )
+}
+
+/// The same, of a recording that is opened to keep the machines after multiples of `every`.
 fn keeps<R: Threads + Wait + Sync>(
     rt: &R,
     alloc: Global,
@@ -25,13 +39,9 @@ fn keeps<R: Threads + Wait + Sync>(
     kept: usize,
 ) -> Result<bool, RunError> {
     let replay = Replay::open(rt, alloc, recording, every, 1)?;
-    Ok(
-        replay.verdict() == Verdict::Same
-            && replay.checkpoints() == kept
-            && replay.kept(0).is_some()
-            && replay.kept(kept).is_none()
-            && is_after_its_sc(rt, &replay)?,
-    )
+    let has_kept = has_kept(rt, &replay, kept);
+    drop(replay);
+    has_kept
 }
 
 #[test]
