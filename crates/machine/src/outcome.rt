@@ -10,7 +10,7 @@ use crate::crew::Crew;
 use commit_phase::Buffered;
 use hart_step::{Access, CodeTable, Hart};
 use pages::{OutOfMemory, Pages};
-use parallel_phase::{Gate, gather, round_from};
+use parallel_phase::{Gate, RoundEnd, gather, round_into};
 use round_lock::{BookStart, RoundLeft, RoundStart};
 use round_planner::Plan;
 use std::alloc::Global;
@@ -167,11 +167,15 @@ pub(crate) fn round_in_place(
     ensures { OnOk result (round_at start.now number ≡ Some (content_from outcome.new.hart
         outcome.new.buffer outcome.new.log outcome.new.accesses outcome.new.waits)) }
 {
-    let left = round_from(number, start, &mut outcome.hart, room)?;
-    outcome.buffer = left.buffer;
-    outcome.log = left.log;
-    outcome.accesses = left.accesses;
-    outcome.waits = left.waits;
+    let Outcome {
+        hart,
+        buffer,
+        log,
+        ..
+    } = outcome;
+    let RoundEnd { accesses, waits } = round_into(number, start, hart, buffer, log, room)?;
+    outcome.accesses = accesses;
+    outcome.waits = waits;
     Ok(())
 }
 

@@ -201,7 +201,8 @@ impl UntracedMachine {
                 self.pass(rounds - done);
                 return Ok(());
             }
-            if self.worth_workers(workers) > 1 {
+            // One worker is never worth two: it is asked first for speed.
+            if workers > 1 && self.worth_workers(workers) > 1 {
                 let workers = workers.min(self.running_harts());
                 return self.run_kept(rt, rounds - done, workers, keeper, observer);
             }

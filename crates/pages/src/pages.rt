@@ -280,6 +280,7 @@ impl Pages {
 
     /// Makes these pages ready, and sees that at least `spare` spare pages are left, or as many as there are
     /// pages that are not ready. Refused, it changes no byte, and pages that were ready stay ready.
+    #[inline]
     pub fn prepare(&mut self, alloc: Global, pages: &[u32], spare: u32) -> Result<(), OutOfMemory>
         requires { All (λ (p : ℕ). p < length self.old.ready) pages.now }
         ensures memory { self.new.memory ≡ self.old.memory }

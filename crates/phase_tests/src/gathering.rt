@@ -31,10 +31,10 @@ const STORE_THEN_LOAD: [u32; 6] = [
 ];
 
 /// ADDI x6,x6,1; SD x6,256(x0); JAL x0,-8
-const COUNT: [u32; 3] = [0x0013_0313, 0x1060_3023, 0xff9f_f06f];
+pub(crate) const COUNT: [u32; 3] = [0x0013_0313, 0x1060_3023, 0xff9f_f06f];
 
 /// Harts at address 0, each with its number in x10.
-fn harts() -> [Hart; 64] {
+pub(crate) fn harts() -> [Hart; 64] {
     let mut harts = [Hart {
         x: [0; 32],
         pc: 0,

@@ -11,4 +11,6 @@ mod commits;
 #[cfg(test)]
 mod gathering;
 #[cfg(test)]
+mod rounds;
+#[cfg(test)]
 mod turns;

@@ -7,7 +7,7 @@ use Rattle.round_schedule.specs.Schedule.{hart_round_of}
 use Rattle.round_lock.specs.Starts.{Start, content_of, logged}
 use Rattle.round_lock.proofs.Contents.{round_at_is}
 use Rattle.parallel_phase.proofs.HartRounds.{content_is, few_left, indexed, shows_through}
-use Rattle.parallel_phase.proofs.rounds.round_into.Goals as goal
+use Rattle.parallel_phase.proofs.rounds.round_logged.Goals as goal
 
 pub hart_round-requires : goal.hart_round-requires
 hart_round-requires g c =
