@@ -160,9 +160,16 @@ pub fn store<B: Bus>(
     value: u64,
 ) -> Result<Answer, OutOfMemory>
     requires { seen.old ≡ None }
-    ensures { Performs (B.has_room b.old) (B.takes b.old) (written_by h.old address width value
-        (store_fault (B.memory b.old) address width)) h.old (B.memory b.old)
-        result seen.new h.new (B.memory b.new) b.new }
+    ensures { Performs (B.has_room b.old) (B.takes b.old)
+        (record { hart = h.old; memory = B.memory b.old })
+        (written_by h.old address width value (store_fault (B.memory b.old) address width))
+        (record {
+          result = result;
+          seen = seen.new;
+          hart = h.new;
+          memory = B.memory b.new;
+          bus = b.new;
+        }) }
 {
     let s = Store {
         address,
