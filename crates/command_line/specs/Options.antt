@@ -22,10 +22,10 @@ positional_rule id = record (new_rule id) { value_names = 1; required = true }
 
 -- the same of a number of 32 bits, or of 64
 abbrev pub number_positional_rule : Text → Rule
-number_positional_rule id = record (positional_rule id) { parser = Some narrow }
+number_positional_rule id = with_parser narrow (positional_rule id)
 
 abbrev pub wide_positional_rule : Text → Rule
-wide_positional_rule id = record (positional_rule id) { parser = Some wide }
+wide_positional_rule id = with_parser wide (positional_rule id)
 
 -- one argument or more of the name, of which one must be there
 abbrev pub several_rule : Text → Rule
@@ -41,10 +41,10 @@ text_rule name = record (new_rule name) { long = Some name; value_names = 1 }
 
 -- the same where the value is a number of 32 bits, or of 64
 abbrev pub number_given_rule : Text → Rule
-number_given_rule name = record (text_rule name) { parser = Some narrow }
+number_given_rule name = with_parser narrow (text_rule name)
 
 abbrev pub wide_number_given_rule : Text → Rule
-wide_number_given_rule name = record (text_rule name) { parser = Some wide }
+wide_number_given_rule name = with_parser wide (text_rule name)
 
 -- and one that must be there
 abbrev pub number_wanted_rule : Text → Rule
@@ -56,10 +56,10 @@ defaulted_rule name default = record (text_rule name) { defaults = default ∷ [
 
 -- the same where the value is a number of 32 bits, or of 64
 abbrev pub number_rule : Text → Text → Rule
-number_rule name default = record (defaulted_rule name default) { parser = Some narrow }
+number_rule name default = with_parser narrow (defaulted_rule name default)
 
 abbrev pub wide_number_rule : Text → Text → Rule
-wide_number_rule name default = record (defaulted_rule name default) { parser = Some wide }
+wide_number_rule name default = with_parser wide (defaulted_rule name default)
 
 -- the option --see, which may be there several times, each time with two values
 abbrev pub see_rule : Rule
