@@ -35,9 +35,9 @@ pub fn emulate<S: Sink, R: Threads + Wait + Sync>(
     ensures begun { OnErr result ((S.took out.new ≡ S.took out.old) ⊎
         ((plan : Planned) × IsPlan settings.now plan × BeganText (S.took out.old) (S.took out.new)
         (report_after settings.now image.now input.now plan))) }
-    // Where anything else than memory or the sink refuses, it took nothing.
+    // Where anything else than memory or the sink refuses, it is as it was.
     ensures untouched { IfErr result (λ e. (e ≡ refusals.OutOfMemory) ⊎ (e ≡ refusals.SinkFailed) ⊎
-        (S.took out.new ≡ S.took out.old)) }
+        (out.new ≡ out.old)) }
     // Numbers out of range are refused first, then an image, and then a plan.
     ensures in_order { RefusedInOrder settings.now image.now result }
     // What is refused then is for a reason that stands.

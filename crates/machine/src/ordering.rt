@@ -39,9 +39,9 @@ pub fn order_run<S: Sink, O: Observer, R: Threads + Wait + Sync>(
         ((plan : Planned) × (places : List ℕ) ×
         IsOrderOfRun settings.now image.now input.now plan places × BeganText (S.took out.old)
         (S.took out.new) (ordered_text settings.now image.now input.now plan places))) }
-    // Where anything else than memory or the sink refuses, it took nothing.
+    // Where anything else than memory or the sink refuses, it is as it was.
     ensures untouched { IfErr result (λ e. (e ≡ refusals.OutOfMemory) ⊎ (e ≡ refusals.SinkFailed) ⊎
-        (S.took out.new ≡ S.took out.old)) }
+        (out.new ≡ out.old)) }
     // Numbers out of range are refused first, then an image, and then a plan.
     ensures in_order { RefusedInOrder settings.now image.now result }
     // What is refused then is for a reason that stands.

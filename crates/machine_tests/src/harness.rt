@@ -137,6 +137,32 @@ pub(crate) fn machine_on(
     }
 }
 
+/// The machine of these words on one page, without input, with a serial budget.
+pub(crate) fn machine_by_budget(
+    alloc: Global,
+    words: &[u32],
+    harts: u32,
+    plan: &[u8],
+    budget: u32,
+) -> Result<Machine, RunError>
+    requires some_harts { 1 ≤ harts }
+    requires few_harts { harts ≤ 64 }
+    requires some_budget { 1 ≤ budget }
+    requires few_budget { budget ≤ 1000 }
+{
+    let image = match load_flat(alloc, &flat(alloc, words)?, 1) {
+        Ok(image) => image,
+        Err(error) => return Err(RunError::Image(error)),
+    };
+    match Plan::parse(alloc, plan, harts) {
+        Ok(mut plan) => {
+            plan.set_budget(budget);
+            Machine::new(alloc, image, Vec::new(alloc), plan)
+        }
+        Err(error) => Err(RunError::Plan(error)),
+    }
+}
+
 /// The report of a machine.
 pub(crate) fn text_of(alloc: Global, machine: &Machine) -> Result<Vec<u8>, RunError> {
     let mut text = Vec::new(alloc);

@@ -2,7 +2,7 @@
 
 ghost use Rattle.std.specs.Prelude.{◌≤◌};
 
-use crate::harness::{machine_of, machine_on, text_of};
+use crate::harness::{machine_by_budget, machine_of, machine_on, text_of};
 use crate::images::{EXIT, OWN_STORE, STORE_THEN_LOAD};
 use crate::reports::OWN_STORES;
 use host_io::RunError;
@@ -177,6 +177,35 @@ fn long_runs_are_the_same_on_any_workers(rt: HostRuntime) -> Result<(), Fail> {
     for workers in [2, 4, 16] {
         let shared = report_on(&rt, rt.alloc(), &SHARED_COUNTERS, 8, b"50\n", 200, workers)?;
         assert!(rt; shared.as_slice() == alone.as_slice());
+    }
+    Ok(())
+}
+
+/// The report after so many rounds of the counters by 8 harts, each round on so many workers, and with this serial budget.
+fn report_by_budget<R: Threads + Wait + Sync>(
+    rt: &R,
+    alloc: Global,
+    budget: u32,
+    rounds: u32,
+    workers: u32,
+) -> Result<Vec<u8>, RunError>
+    requires some_budget { 1 ≤ budget }
+    requires few_budget { budget ≤ 1000 }
+{
+    let mut machine = machine_by_budget(alloc, &SHARED_COUNTERS, 8, b"50\n", budget)?;
+    let text = report_after(rt, alloc, &mut machine, rounds, workers);
+    drop(machine);
+    text
+}
+
+#[test]
+fn long_serial_turns_are_the_same_on_any_workers(rt: HostRuntime) -> Result<(), Fail> {
+    for budget in [2, 3, 1000] {
+        let alone = report_by_budget(&rt, rt.alloc(), budget, 50, 1)?;
+        for workers in [4, 16] {
+            let shared = report_by_budget(&rt, rt.alloc(), budget, 50, workers)?;
+            assert!(rt; shared.as_slice() == alone.as_slice(), "budget {budget}");
+        }
     }
     Ok(())
 }
