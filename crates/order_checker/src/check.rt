@@ -13,7 +13,8 @@ use round_schedule::Event;
 use std::alloc::Global;
 use trace::Trace;
 
-/// Whether an order of a trace's memory operations meets RVWMO over the bytes that memory opened with.
+/// Whether an order of a trace's memory operations meets RVWMO over the bytes that memory opened with, with one wider rule in place
+/// of the manual's rules 9 to 13, on dependencies (section 14.1): a yes stands for the manual's rules too.
 ///
 /// The order may have any places at all: it meets the memory model only if it has that of each memory operation once,
 /// and no other. The steps are as many as the bytes of the trace's accesses, each with a look into a map.
