@@ -3,6 +3,7 @@ pub mod CodeKept
 pub mod RoundsOfHarts
 pub mod LinesReady
 pub mod Listed
+pub mod AtRest
 pub mod CommittedAtOnce
 pub mod Opened
 pub mod RoundDone

@@ -1,5 +1,5 @@
 -- What the rounds of the harts left, as the code keeps it.
-use Rattle.std.specs.Prelude.{◌≡◌, ℕ, suc, ◌+◌, ◌*◌, ◌/◌, ◌≤◌, ◌^◌, Bool, true, if◌then◌else◌, List, [], ◌∷◌, ◌++◌, length, None, All}
+use Rattle.std.specs.Prelude.{◌≡◌, ℕ, suc, ◌+◌, ◌*◌, ◌/◌, ◌<◌, ◌≤◌, ◌^◌, Bool, true, false, if◌then◌else◌, List, [], ◌∷◌, ◌++◌, length, get_or, is_some, None, All}
 use Rattle.pages.specs.declared.access.Width.TheVariants.{W1}
 use Rattle.pages.specs.Memory.{Memory, store_fault}
 use Rattle.pages.specs.Paged.{Paged, is_page_ready}
@@ -14,6 +14,14 @@ use Rattle.hart_step.specs.declared.hart.Hart.{Hart}
 use Rattle.round_lock.specs.Starts.{logged}
 use Rattle.trace.specs.Traced.{Traced}
 use Rattle.machine.specs.declared.outcome.Outcome.{Outcome}
+
+-- the outcome of a hart whose round does nothing
+abbrev pub outcome_begun : Hart → Outcome
+outcome_begun h = record { hart = h; buffer = []; log = []; accesses = 0; waits = false }
+
+-- each hart that has stopped is as its outcome has it
+abbrev pub AreAtRest : List Hart → List Outcome → Type 0
+AreAtRest hs os = (i : ℕ) (h : Hart) (o : Outcome) → i < length hs → is_some (get_or hs i h).stop ≡ true → (get_or os i o).hart ≡ get_or hs i h
 
 -- each byte of a buffer is a byte of memory that is not code
 abbrev pub AllFit : Memory → List (ℕ × ℕ) → Type 0

@@ -4,7 +4,7 @@ ghost use Rattle.round_planner.specs.Quotas.{quota_of, quotas_of};
 ghost use Rattle.hart_step.specs.CodeTables.{Shows};
 ghost use Rattle.hart_step.specs.Words.{words_of};
 ghost use Rattle.round_lock.specs.Starts.{content_from, keeps_log, round_at, rounds_of};
-ghost use Rattle.machine.specs.Outcomes.{AreOutcomes, harts_of};
+ghost use Rattle.machine.specs.Outcomes.{AreAtRest, AreOutcomes, harts_of, outcome_begun};
 
 use crate::crew::Crew;
 use commit_phase::Buffered;
@@ -40,9 +40,9 @@ pub struct Outcome {
 }
 
 impl Outcome {
-    /// The outcome of a hart whose round is still to be done.
+    /// The outcome of a hart whose round is still to be done, and of one that has stopped, whose round does nothing.
     pub(crate) fn begun(alloc: Global, hart: Hart) -> Outcome
-        ensures { result.hart ≡ hart }
+        ensures { result ≡ outcome_begun hart }
     {
         Outcome {
             hart,
@@ -164,9 +164,13 @@ pub(crate) fn round_in_place(
 ) -> Result<(), OutOfMemory>
     requires number { number < length start.now.harts }
     requires hart { slice_get start.now.harts number ≡ Some outcome.old.hart }
+    requires begun { outcome.old ≡ outcome_begun outcome.old.hart }
     ensures { OnOk result (round_at start.now number ≡ Some (content_from outcome.new.hart
         outcome.new.buffer outcome.new.log outcome.new.accesses outcome.new.waits)) }
 {
+    if outcome.hart.stop.is_some() {
+        return Ok(());
+    }
     let Outcome {
         hart,
         buffer,
@@ -179,13 +183,16 @@ pub(crate) fn round_in_place(
     Ok(())
 }
 
-/// Gives each hart the state that its round left.
+/// Gives each hart the state that its round left. One that had stopped has it already.
 pub fn give_harts(outcomes: &[Outcome], harts: &mut [Hart])
-    requires { length harts.old ≡ length outcomes.now }
+    requires count { length harts.old ≡ length outcomes.now }
+    requires at_rest { AreAtRest harts.old outcomes.now }
     ensures { harts.new ≡ harts_of outcomes.now }
 {
     for number in 0..outcomes.len() {
-        harts[number] = outcomes[number].hart;
+        if harts[number].stop.is_none() {
+            harts[number] = outcomes[number].hart;
+        }
     }
 }
 

@@ -11,7 +11,7 @@ ghost use Rattle.machine.specs.Guests.{guest_events, guest_of, next_guest, share
 ghost use Rattle.machine.specs.Held.{most_of_round};
 ghost use Rattle.machine.specs.Kept.{AreOfGuest};
 ghost use Rattle.machine.specs.Machine.{count_waiting};
-ghost use Rattle.machine.specs.Outcomes.{AreFit, AreOutcomes, count_accesses, count_true, mask_of, waits_of};
+ghost use Rattle.machine.specs.Outcomes.{AreAtRest, AreFit, AreOutcomes, count_accesses, count_true, mask_of, waits_of};
 ghost use Rattle.machine.specs.Rounds.{IsFinished, MayFinish};
 
 use crate::commit::commit;
@@ -144,6 +144,7 @@ fn finish<E: EventKeeper, G, R: Threads + Sync>(
     requires few { length outcomes.old ≤ 64 }
     requires fits { AreFit shared.old.pages.memory outcomes.old }
     requires harts { length harts.old ≡ length outcomes.old }
+    requires at_rest { AreAtRest harts.old outcomes.old }
     requires size { length shared.old.reservations ≡ length outcomes.old }
     requires waiting { phase.waiting ≡ mask_of (waits_of outcomes.old) }
     requires budget { phase.budget ≤ 1000 }

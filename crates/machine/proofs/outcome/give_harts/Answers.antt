@@ -1,20 +1,27 @@
-use Rattle.std.proofs.Common.{◌≡◌, ◌+◌, ◌<◌, ◌++◌, ◌∷◌, [], get_or, length, take, sym, ap, ◌∙◌, arith}
-use Rattle.std.proofs.lemmas.List.{take_all, take_more_set}
-use Rattle.machine.specs.declared.outcome.Outcome.{Outcome}
+use Rattle.std.proofs.Common.{◌<◌, Bool, not, None, [], length, sym, ap, ◌∙◌, arith, refl}
+use Rattle.std.proofs.lemmas.List.{take_all}
+use Rattle.hart_step.specs.declared.hart.Hart.{Hart}
 use Rattle.machine.specs.Outcomes.{harts_of}
-use Rattle.machine.proofs.Listed.{harts_more}
+use Rattle.machine.proofs.AtRest.{given_more, given_on}
 use Rattle.machine.proofs.outcome.give_harts.Goals as goal
+use Rattle.machine.proofs.outcome.give_harts.Goals.{then-is_none, else-is_none}
+
+pub loop-number-init : goal.loop-number-init
+loop-number-init c = record { given = refl; rest = λ k h low. refl }
 
 pub loop-number-preserved : goal.loop-number-preserved
 loop-number-preserved c =
     let n = c.loop-number.number in
     let low : n < length c.args.outcomes.now = c.loop-number-test.true in
-    let less : n < length c.loop-number.harts = omega (arith, low, c.requires, c.loop-number.auto.harts) in
-    let r : Outcome = c.index-outcomes-number.result in
-    let set : take (n + 1) _ ≡ take n c.loop-number.harts ++ (get_or c.args.outcomes.now n r).hart ∷ [] = take_more_set c.loop-number.harts n (get_or c.args.outcomes.now n r).hart less in
-    harts_more c.args.outcomes.now n r (take n c.loop-number.harts) _ low c.index-outcomes-number.is (set ∙ ap (λ (o : Outcome). take n c.loop-number.harts ++ o.hart ∷ []) (sym c.index-outcomes-number.is)) c.loop-number.invariant
+    let within : n < length c.args.harts.now = omega (arith, low, c.requires.count) in
+    let less : n < length c.loop-number.harts = omega (arith, within, c.loop-number.auto.harts) in
+    let none : Hart = record { x = []; pc = 0; done = 0; stop = None } in
+    elim c.if-is_none.branch [
+      | then-is_none w ↦ given_more c.args.outcomes.now c.args.harts.now c.loop-number.harts c.if-is_none.harts n w.index-outcomes-number.result low less w.harts-is c.loop-number.invariant
+      | else-is_none w ↦ given_on c.args.outcomes.now c.args.harts.now c.loop-number.harts c.if-is_none.harts n none low less within w.harts-is (c.is_none.ensures ∙ ap (λ (b : Bool). not b) w.if-is_none.false) c.requires.at_rest c.loop-number.invariant
+    ]
 
 pub returns : goal.returns
 returns c =
     let n = c.loop-number.number in
-    sym (take_all n c.loop-number.harts (omega (arith, c.loop-number-test.false, c.requires, c.loop-number.auto.harts))) ∙ c.loop-number.invariant ∙ ap harts_of (take_all n c.args.outcomes.now (omega (arith, c.loop-number-test.false)))
+    sym (take_all n c.loop-number.harts (omega (arith, c.loop-number-test.false, c.requires.count, c.loop-number.auto.harts))) ∙ c.loop-number.invariant.given ∙ ap harts_of (take_all n c.args.outcomes.now (omega (arith, c.loop-number-test.false)))

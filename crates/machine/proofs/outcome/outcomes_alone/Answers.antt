@@ -4,7 +4,7 @@ use Rattle.std.proofs.Math.Seq.{set-append_seam}
 use Rattle.hart_step.specs.declared.hart.Hart.{Hart}
 use Rattle.round_lock.specs.Starts.{Start, content_from}
 use Rattle.parallel_phase.proofs.HartRounds.{indexed}
-use Rattle.machine.specs.Outcomes.{AreOutcomes}
+use Rattle.machine.specs.Outcomes.{AreOutcomes, outcome_begun}
 use Rattle.machine.specs.declared.outcome.Outcome.{Outcome}
 use Rattle.machine.proofs.RoundsOfHarts.{is_outcome, outcomes_more}
 use Rattle.machine.proofs.outcome.outcomes_alone.Goals as goal
@@ -22,21 +22,27 @@ last_at [] x (suc n) d e = absurd (omega (arith, e))
 last_at (y ∷ os) x zero d e = absurd (omega (arith, e))
 last_at (y ∷ os) x (suc n) d e = last_at os x n d (omega (arith, e))
 
--- the hart of the outcome that was added is as it starts
-begun : (hs gs : List Hart) (n : ℕ) (d : Hart) (os ms : List Outcome) (x o : Outcome) → n < length hs → n ≡ length os → gs ≡ hs → ms ≡ os ++ x ∷ [] → o ≡ get_or ms n o → x.hart ≡ get_or gs n d →
-    Some o.hart ≡ slice_get hs n
-begun hs gs n d os ms x o low many same more at first =
-    let is : o ≡ x = at ∙ ap (λ (xs : List Outcome). get_or xs n o) more ∙ last_at os x n o many in
-    ap (λ (y : Outcome). Some y.hart) is ∙ ap (λ (h : Hart). Some h) first ∙ ap (λ (xs : List Hart). Some (get_or xs n d)) same ∙ sym (indexed hs n d low)
+-- what stands where an outcome was added
+added : (os ms : List Outcome) (n : ℕ) (x o : Outcome) → n ≡ length os → ms ≡ os ++ x ∷ [] → o ≡ get_or ms n o → o ≡ x
+added os ms n x o many more at = at ∙ ap (λ (xs : List Outcome). get_or xs n o) more ∙ last_at os x n o many
+
+-- its hart is as it starts
+hart_begun : (hs gs : List Hart) (n : ℕ) (d : Hart) (o : Outcome) → n < length hs → gs ≡ hs → o ≡ outcome_begun (get_or gs n d) → Some o.hart ≡ slice_get hs n
+hart_begun hs gs n d o low same is = ap (λ (y : Outcome). Some y.hart) is ∙ ap (λ (xs : List Hart). Some (get_or xs n d)) same ∙ sym (indexed hs n d low)
+
+still_begun : (o : Outcome) (h : Hart) → o ≡ outcome_begun h → o ≡ outcome_begun o.hart
+still_begun o h is = is ∙ ap outcome_begun (sym (ap (λ (y : Outcome). y.hart) is))
 
 pub round_in_place-requires : goal.round_in_place-requires
 round_in_place-requires g c =
     let s : Start = c.args.start.now in
     let n = c.loop-number.number in
     let low : n < length s.harts = subst (λ (hs : List Hart). n < length hs) c.harts-number-end.ensures.harts c.loop-number-test.true in
+    let is = added c.loop-number.outcomes.items c.push_reserved.new.self.items n _ c.index_mut.result.now (grind (arith, c.loop-number.invariant.count)) c.push_reserved.ensures.items c.index_mut.ensures.value ∙ c.begun.ensures in
     record {
       number = low;
-      hart = sym (begun s.harts c.harts.result.now n _ c.loop-number.outcomes.items c.push_reserved.new.self.items _ c.index_mut.result.now low (grind (arith, c.loop-number.invariant.count)) c.harts.ensures.harts c.push_reserved.ensures.items c.index_mut.ensures.value c.begun.ensures);
+      hart = sym (hart_begun s.harts c.harts.result.now n _ c.index_mut.result.now low c.harts.ensures.harts is);
+      begun = still_begun c.index_mut.result.now _ is;
     }
 
 -- the outcome that was added is the last

@@ -8,7 +8,8 @@ use Rattle.hart_step.specs.Words.{words_of}
 use Rattle.machine.specs.declared.outcome.Outcome.{Outcome}
 use Rattle.machine.specs.Guests.{Guest, guest_events, guest_of, next_guest}
 use Rattle.machine.specs.Machine.{count_waiting}
-use Rattle.machine.specs.Outcomes.{AreFit, AreOutcomes, count_accesses, count_true, mask_of, waits_of}
+use Rattle.machine.specs.Outcomes.{AreAtRest, AreFit, AreOutcomes, count_accesses, count_true, mask_of, waits_of}
+use Rattle.machine.proofs.AtRest.{at_rest}
 use Rattle.machine.proofs.CodeKept.{rounds_touch}
 use Rattle.machine.proofs.Counted.{few_accesses}
 use Rattle.machine.proofs.GuestRounds.{here_are, many_here, many_of}
@@ -62,6 +63,15 @@ finish-requires-clause-harts g c = λ lifetimes within.
     let i = c.self.inside in
     let many = many_here g.E.EventKeeper.logs c.args.plan.now c.args.done i.harts.items i.shared _ c.args.outcomes.items c.self.view_is c.requires.outcomes in
     ap length c.deref_mut-2.ensures.value ∙ sym many ∙ sym (ap length c.deref_mut.ensures.value)
+
+pub finish-requires-clause-at_rest : goal.finish-requires-clause-at_rest
+finish-requires-clause-at_rest g c = λ lifetimes within.
+    let i = c.self.inside in
+    let m = i.shared.pages.memory in
+    let qs = quotas_of c.args.plan.now c.args.done in
+    let a = here_are g.E.EventKeeper.logs c.args.plan.now c.args.done i.harts.items i.shared _ c.args.outcomes.items c.self.view_is c.requires.outcomes in
+    subst (λ (hs : List Hart). AreAtRest hs c.deref_mut.result.now) (sym c.deref_mut-2.ensures.value)
+    (subst (λ (os : List Outcome). AreAtRest i.harts.items os) (sym c.deref_mut.ensures.value) (at_rest g.E.EventKeeper.logs m qs i.harts.items c.args.outcomes.items a))
 
 pub finish-requires-clause-size : goal.finish-requires-clause-size
 finish-requires-clause-size g c = λ lifetimes within.

@@ -1,0 +1,10 @@
+use Rattle.std.proofs.Common.{Some, ap, sym, ◌∙◌}
+use Rattle.round_lock.specs.Starts.{content_from}
+use Rattle.machine.specs.declared.outcome.Outcome.{Outcome}
+use Rattle.machine.proofs.AtRest.{round_at_rest}
+use Rattle.machine.proofs.outcome.round_in_place.Goals as goal
+
+pub returns-then-is_some : goal.returns-then-is_some
+returns-then-is_some c =
+    round_at_rest c.args.start.now c.args.number c.args.outcome.now.hart c.requires.hart (sym c.is_some.ensures ∙ c.if-is_some.true)
+    ∙ ap (λ (o : Outcome). Some (content_from c.args.outcome.now.hart o.buffer o.log o.accesses o.waits)) (sym c.requires.begun)
