@@ -40,7 +40,21 @@ pub struct Outcome {
 }
 
 impl Outcome {
-    /// The outcome of a hart whose round is still to be done, and of one that has stopped, whose round does nothing.
+    /// Lets go of all but the hart: what is left is the outcome of a round that does nothing.
+    fn rest(&mut self, alloc: Global)
+        ensures { self.new ≡ outcome_begun self.old.hart }
+    {
+        if !self.buffer.is_empty() {
+            self.buffer = StoreBuffer::new(alloc);
+        }
+        if self.log.len() > 0 {
+            self.log = Log::of(Vec::new(alloc));
+        }
+        self.accesses = 0;
+        self.waits = false;
+    }
+
+    /// The outcome of a hart whose round is still to be done.
     pub(crate) fn begun(alloc: Global, hart: Hart) -> Outcome
         ensures { result ≡ outcome_begun hart }
     {
@@ -121,41 +135,66 @@ fn outcomes_by<B: BookStart + Send + Sync, G: Gate + Sync, R: Threads + Wait + S
     ensures { IfOk result (λ os.
         AreOutcomes start.now.logs start.now.memory (rounds_of start.now) os.items) }
 {
+    if crew.workers == 1 {
+        return outcomes_alone(crew.gate, start, room);
+    }
     room.clear();
     room.reserve(start.harts().len())?;
-    if crew.workers == 1 {
-        outcomes_alone(crew.gate, start, room)
-    } else {
-        gather_outcomes::<B, G, R>(crew, start, room)
-    }
+    gather_outcomes::<B, G, R>(crew, start, room)
 }
 
-/// Does the rounds of all harts on the calling thread, in hart order, each in the place of its outcome.
+/// Does the rounds of all harts on the calling thread, in hart order, each in the place of its outcome. The outcomes that are
+/// there, as those of the round before, are gone over.
 fn outcomes_alone<G: Gate>(
     gate: &G,
     start: &RoundStart<'_>,
     mut outcomes: Vec<Outcome>,
 ) -> Result<Vec<Outcome>, OutOfMemory>
     requires sized { length start.now.quotas ≡ length start.now.harts }
-    requires empty { outcomes.items ≡ [] }
-    requires room { length start.now.harts ≤ vec_capacity outcomes }
     ensures { IfOk result (λ os.
         AreOutcomes start.now.logs start.now.memory (rounds_of start.now) os.items) }
 {
-    let alloc = start.pages().allocator();
-    // For the accesses of one round at a time.
-    let mut accesses = Vec::new(alloc);
-    for number in 0..start.harts().len() {
-        gate.pass(number as u32);
-        outcomes.push_reserved(Outcome::begun(alloc, start.harts()[number]));
-        round_in_place(number, start, &mut outcomes[number], &mut accesses)?;
-        gate.done(number as u32);
-    }
+    make_as_many(start, &mut outcomes)?;
+    rounds_in_place(gate, start, outcomes.as_mut_slice())?;
     Ok(outcomes)
 }
 
-/// Does the round of a hart in its outcome, in which the hart is as it starts. `room` is taken for its accesses while the round goes
-/// on: what it holds is let go.
+/// Sees that there are as many outcomes as harts, whatever they are.
+fn make_as_many(start: &RoundStart<'_>, outcomes: &mut Vec<Outcome>) -> Result<(), OutOfMemory>
+    ensures { OnOk result (length outcomes.new.items ≡ length start.now.harts) }
+{
+    let alloc = start.pages().allocator();
+    let harts = start.harts();
+    outcomes.truncate(harts.len());
+    for number in outcomes.len()..harts.len() {
+        outcomes.push(Outcome::begun(alloc, harts[number]))?;
+    }
+    Ok(())
+}
+
+/// Does the rounds of all harts, each in the place of its outcome.
+fn rounds_in_place<G: Gate>(
+    gate: &G,
+    start: &RoundStart<'_>,
+    outcomes: &mut [Outcome],
+) -> Result<(), OutOfMemory>
+    requires sized { length start.now.quotas ≡ length start.now.harts }
+    requires many { length outcomes.old ≡ length start.now.harts }
+    ensures { OnOk result (AreOutcomes start.now.logs start.now.memory
+        (rounds_of start.now) outcomes.new) }
+{
+    // For the accesses of one round at a time.
+    let mut accesses = Vec::new(start.pages().allocator());
+    for number in 0..start.harts().len() {
+        gate.pass(number as u32);
+        round_in_place(number, start, &mut outcomes[number], &mut accesses)?;
+        gate.done(number as u32);
+    }
+    Ok(())
+}
+
+/// Does the round of a hart in the place of its outcome. `room` is taken for its accesses while the round goes on. What the two hold
+/// is let go.
 pub(crate) fn round_in_place(
     number: usize,
     start: &RoundStart<'_>,
@@ -163,12 +202,12 @@ pub(crate) fn round_in_place(
     room: &mut Vec<Access>,
 ) -> Result<(), OutOfMemory>
     requires number { number < length start.now.harts }
-    requires hart { slice_get start.now.harts number ≡ Some outcome.old.hart }
-    requires begun { outcome.old ≡ outcome_begun outcome.old.hart }
     ensures { OnOk result (round_at start.now number ≡ Some (content_from outcome.new.hart
         outcome.new.buffer outcome.new.log outcome.new.accesses outcome.new.waits)) }
 {
+    outcome.hart = start.harts()[number];
     if outcome.hart.stop.is_some() {
+        outcome.rest(start.pages().allocator());
         return Ok(());
     }
     let Outcome {

@@ -118,7 +118,6 @@ impl GuestState {
             phase,
             tally,
         )?;
-        outcomes.clear();
         self.outcomes = outcomes;
         Ok(counts)
     }

@@ -1,0 +1,30 @@
+use Rattle.std.proofs.Common.{◌≡◌, ◌<◌, ◌≤◌, ◌++◌, ◌∷◌, [], List, None, length, take, sym, ap, subst, ◌∙◌, refl, arith}
+use Rattle.std.proofs.lemmas.List.{take_all, take_more_set}
+use Rattle.round_schedule.specs.Schedule.{HartRound, hart_rounds}
+use Rattle.hart_step.specs.declared.hart.Hart.{Hart}
+use Rattle.hart_step.specs.Words.{words_of}
+use Rattle.round_lock.specs.Starts.{Start, content_from}
+use Rattle.machine.specs.Outcomes.{AreOutcomes}
+use Rattle.machine.specs.declared.outcome.Outcome.{Outcome}
+use Rattle.machine.proofs.RoundsOfHarts.{is_outcome, outcomes_more}
+use Rattle.machine.proofs.outcome.rounds_in_place.Goals as goal
+
+pub loop-number-preserved : goal.loop-number-preserved
+loop-number-preserved g c =
+    let s : Start = c.args.start.now in
+    let n = c.loop-number.number in
+    let none : Hart = record { x = []; pc = 0; done = 0; stop = None } in
+    let o : Outcome = c.round_in_place.new.outcome in
+    let low : n < length s.harts = subst (λ (hs : List Hart). n < length hs) c.harts-number-end.ensures.harts c.loop-number-test.true in
+    let less : n < length c.loop-number.outcomes = omega (arith, low, c.requires.many, c.loop-number.auto.outcomes) in
+    outcomes_more s.logs s.memory s.quotas s.harts n none _ (take n c.loop-number.outcomes) _ o low refl (take_more_set c.loop-number.outcomes n o less) c.loop-number.invariant
+    (is_outcome s n none (content_from o.hart o.buffer o.log o.accesses o.waits) o low c.requires.sized c.in_ok-round_in_place.ensures refl)
+
+pub returns : goal.returns
+returns g c =
+    let s : Start = c.args.start.now in
+    let n = c.loop-number.number in
+    let many : length s.harts ≤ n = subst (λ (hs : List Hart). length hs ≤ n) c.harts-number-end.ensures.harts c.loop-number-test.false in
+    let rounds = λ (hs : List Hart). hart_rounds (words_of s.memory.code) s.memory.bytes s.quotas hs in
+    subst (AreOutcomes s.logs s.memory (rounds s.harts)) (take_all n c.loop-number.outcomes (omega (arith, many, c.requires.many, c.loop-number.auto.outcomes)))
+    (subst (λ (hs : List Hart). AreOutcomes s.logs s.memory (rounds hs) (take n c.loop-number.outcomes)) (take_all n s.harts many) c.loop-number.invariant)
