@@ -133,7 +133,9 @@ impl<S: RunStarts, R: Wait> KeptCrew<'_, S, R> {
             AreOfGuest (keeps_log self.old.crew.form) plan.now done guest.old os.items) }
     {
         let alloc = guest.shared.pages.allocator();
-        let room = mem::replace(&mut guest.outcomes, Vec::new(alloc));
+        let mut room = mem::replace(&mut guest.outcomes, Vec::new(alloc));
+        // The round before has what it left until here: two rounds' stores would be in memory at once.
+        room.clear();
         // At most 64.
         let _harts = plan.harts();
         let mut parts = self.take_stand_in(alloc, guest.harts.len())?;
@@ -150,18 +152,18 @@ impl<S: RunStarts, R: Wait> KeptCrew<'_, S, R> {
     }
 }
 
-/// The rounds of all harts in hart order, in a list that is taken for its room.
+/// The rounds of all harts in hart order, in an empty list that is taken for its room.
 fn in_order<S: RunStarts>(
     start: &KeptStart<S>,
     mut rounds: Vec<KeptRound<S>>,
     mut room: Vec<Outcome>,
 ) -> Result<Vec<Outcome>, OutOfMemory>
-    requires { Fits start.now.parts }
+    requires fits { Fits start.now.parts }
+    requires empty { room.items ≡ [] }
     ensures { IfOk result (λ os. AreOutcomes (keeps_log start.now.parts.form)
         start.now.parts.pages.memory (rounds_of (start_of start.now.parts)) os.items) }
 {
     let count = start.parts.harts.len();
-    room.clear();
     room.reserve(count)?;
     for number in 0..count {
         let outcome = outcome_of_hart(start, &mut rounds, number)?;

@@ -16,7 +16,7 @@ loop-number-preserved g c =
     record {
       rounds = outcomes_more s.logs s.memory s.quotas s.harts n none _ c.loop-number.room.items c.push_reserved.new.self.items o
           low refl c.push_reserved.ensures.items c.loop-number.invariant.rounds
-          (is_outcome s n none (content_from o.hart o.buffer o.log o.accesses o.waits) o low c.requires.quotas c.in_ok-outcome.ensures refl);
+          (is_outcome s n none (content_from o.hart o.buffer o.log o.accesses o.waits) o low c.requires.fits.quotas c.in_ok-outcome.ensures refl);
       count = search rules;
       room = search rules;
     }
