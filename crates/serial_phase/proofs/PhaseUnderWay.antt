@@ -14,7 +14,7 @@ use Rattle.hart_step.specs.Words.{words_of}
 use Rattle.serial_phase.specs.declared.shared.SerialRound.{SerialRound}
 use Rattle.serial_phase.specs.declared.shared.SharedState.{SharedState}
 use Rattle.serial_phase.specs.declared.shared.Turn.{Turn}
-use Rattle.serial_phase.specs.Phase.{TakesTurns, turn_done, serial_done, waiting_rounds, is_waiting, budget_of, budget_from, budget_of_all}
+use Rattle.serial_phase.specs.Phase.{TakesTurns, turn_done, turn_of, serial_done, waiting_rounds, is_waiting, budget_of, budget_from, budget_of_all}
 use Rattle.serial_phase.specs.Roomed.{Roomed, HasRoom}
 use Rattle.serial_phase.specs.Turns.{Turns}
 use Rattle.serial_phase.proofs.CodeKept.{ShowsCode}
@@ -84,10 +84,6 @@ serving_first phase x b =
       shows = b.shows;
     }
 
--- the turn of hart i
-abbrev pub turn_of : SerialRound → ℕ → Turn
-turn_of phase i = record { hart = i; round = phase.round; budget = budget_of phase.waiting i phase.budget }
-
 need_split : (phase : SerialRound) (i count : ℕ) → i < count → to_come phase i count ≡ budget_of phase.waiting i phase.budget + to_come phase (i + 1) count
 need_split phase i count low =
     let less : count - i ≡ suc (count - (i + 1)) = omega arith in
@@ -107,10 +103,11 @@ pub record Needs (budget : ℕ) (s : SharedState) : Type 0 where
   pub console : HasRoom budget s.console
   pub log : budget ≤ s.log.room
 
-pub needs : (phase : SerialRound) (i budget : ℕ) (x y : Group) → budget ≡ budget_of phase.waiting i phase.budget → i < length x.harts → Serving phase i x y → Needs budget y.state
-needs phase i budget x y is low s =
+pub needs : (phase : SerialRound) (i : ℕ) (x y : Group) → i < length x.harts → Serving phase i x y → Needs (budget_of phase.waiting i phase.budget) y.state
+needs phase i x y low s =
     let need = need_split phase i (length x.harts) low in
     let all = to_come phase i (length x.harts) in
+    let budget = budget_of phase.waiting i phase.budget in
     record {
       pages = fewer all budget y.state.pages (omega (arith, need)) s.spares;
       console = fewer_room all budget y.state.console (omega (arith, need)) s.room;
@@ -178,13 +175,6 @@ serving_more phase i x y h z l low same_length here e closes s =
       decoded = e.code ∙ s.decoded;
       shows = e.shows;
     }
-
--- the same, where the turn has its budget from the code
-pub serving_next : (phase : SerialRound) (i budget : ℕ) (x y : Group) (h : Hart) (z : At) (l : Turns) → budget ≡ budget_of phase.waiting i phase.budget →
-    i < length x.harts → length y.harts ≡ length x.harts → h ≡ get_or y.harts i h →
-    Ends (record { hart = i; round = phase.round; budget = budget }) (record { hart = h; state = y.state }) z → Closes z.state.log l → Serving phase i x y → Serving phase (i + 1) x (turned i y z l)
-serving_next phase i budget x y h z l is low same here e closes s =
-    serving_more phase i x y h z l low same here (subst (λ (b : ℕ). Ends (record { hart = i; round = phase.round; budget = b }) (record { hart = h; state = y.state }) z) is e) closes s
 
 pub serving_over : (phase : SerialRound) (i : ℕ) (x y : Group) → length y.harts ≡ length x.harts → length x.harts ≤ i → Serving phase i x y → TakesTurns (serial_done phase x.harts x.state) y.harts x.state y.state
 serving_over phase i x y same_length over s =

@@ -1,9 +1,9 @@
 -- The turns of a log while it grows, and where each one lies.
 use Rattle.std.proofs.Common.{◌≡◌, ℕ, zero, suc, ◌+◌, ◌-◌, ◌≤◌, ◌<◌, List, [], ◌∷◌, ◌++◌, length, take, drop, set, get_or, refl, ap, ◌∙◌, arith, length-drop, add-one}
 use Rattle.std.proofs.Math.Seq.{drop-length, take-suc-set}
-use Rattle.std.proofs.lemmas.List.{take_rest, take-append-le, drop-append-le, get_or-take}
+use Rattle.std.proofs.lemmas.List.{length-take-le, take_rest, take-append-le, drop-append-le, get_or-take}
 use Rattle.round_schedule.specs.declared.access.Access.{Access}
-use Rattle.serial_phase.specs.Turns.{turns_at, open_turn, AreEnds, start_of}
+use Rattle.serial_phase.specs.Turns.{turns_at, open_turn, AreEnds, count_log, start_of}
 
 pub ends_more : (s : ℕ) (es : List ℕ) (n m : ℕ) → n ≤ m → AreEnds s es n → AreEnds s es m
 ends_more s [] n m le ends = omega arith
@@ -84,3 +84,11 @@ lies xs ends n h low size are =
       rises = omega (arith, p.rises);
       within = omega (arith, p.within);
     }
+
+-- each access is in one of the turns, or in the one that is under way
+pub count_all : (xs : List Access) (s : ℕ) (es : List ℕ) → AreEnds s es (length xs) → s + (count_log (turns_at xs s es) + length (open_turn xs s es)) ≡ length xs
+count_all xs s [] ends = omega (arith, ends, length-drop s xs)
+count_all xs s (e ∷ es) ends =
+    let high : e ≤ length xs = ends_first e es (length xs) ends.1 in
+    let piece_length : length (take (e - s) (drop s xs)) ≡ e - s = length-take-le (e - s) (drop s xs) (omega (arith, length-drop s xs, high)) in
+    omega (arith, ends.0, high, piece_length, count_all xs e es ends.1)

@@ -72,6 +72,11 @@ pub record TakesTurns (d : TabledPhase Hart ConsoleState) (hs : List Hart) (s t 
 abbrev pub budget_of : ℕ → ℕ → ℕ → ℕ
 budget_of waiting i budget = if is_waiting waiting i then budget else 0
 
+-- the turn of hart i
+abbrev pub turn_of : SerialRound → ℕ → Turn
+turn_of phase i =
+    record { hart = i; round = phase.round; budget = budget_of phase.waiting i phase.budget }
+
 -- how many instructions harts i, i + 1, .., n of them, may do together
 abbrev pub budget_from : ℕ → ℕ → ℕ → ℕ → ℕ
 budget_from waiting budget i zero = 0

@@ -1,5 +1,5 @@
 -- The accesses of serial turns, one after another in a list, with the place where each turn ends.
-use Rattle.std.specs.Prelude.{ℕ, zero, suc, ◌-◌, ◌≤◌, List, [], ◌∷◌, drop, take, slice_index}
+use Rattle.std.specs.Prelude.{ℕ, zero, suc, ◌+◌, ◌-◌, ◌≤◌, List, [], ◌∷◌, drop, length, take, slice_index}
 use Rattle.round_schedule.specs.declared.access.Access.{Access}
 
 -- the turns that have ended, the one that is under way, and the room for further accesses
@@ -27,3 +27,8 @@ AreEnds start (e ∷ es) end = (start ≤ e) × AreEnds e es end
 abbrev pub start_of : ℕ → List ℕ → ℕ → ℕ
 start_of s es zero = s
 start_of s es (suc h) = slice_index es h
+
+-- how many accesses turns have together
+abbrev pub count_log : List (List Access) → ℕ
+count_log [] = 0
+count_log (l ∷ ls) = length l + count_log ls

@@ -1,5 +1,5 @@
 ghost use Rattle.std.specs.Prelude.{◌≡◌, ℕ, ◌+◌, ◌-◌, ◌≤◌, ◌<◌, [], ◌∷◌, ◌++◌, List, option_to_list, length, take, drop, OnOk, slice_index_or};
-ghost use Rattle.serial_phase.specs.Turns.{start_of};
+ghost use Rattle.serial_phase.specs.Turns.{count_log, start_of};
 
 use pages::OutOfMemory;
 use round_schedule::Access;
@@ -88,6 +88,14 @@ impl SerialLog {
     {
         self.ends[self.turns] = self.accesses.len();
         self.turns += 1;
+    }
+
+    /// How many accesses the turns have that ended, while none is under way.
+    pub fn len(&self) -> usize
+        requires { self.now.current ≡ [] }
+        ensures { result ≡ count_log self.now.closed }
+    {
+        self.accesses.len()
     }
 
     /// The accesses of a hart's turn, in program order; none where it had no turn.

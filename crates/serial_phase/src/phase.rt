@@ -1,7 +1,7 @@
 ghost use Rattle.std.specs.Prelude.{◌≡◌, ℕ, ◌<◌, ◌≤◌, ◌+◌, [], length};
 ghost use Rattle.hart_step.specs.CodeTables.{Shows};
 ghost use Rattle.hart_step.specs.Room.{HasSpares};
-ghost use Rattle.serial_phase.specs.Phase.{TakesTurn, TakesTurns, turn_done, serial_done, budget_of, budget_of_all};
+ghost use Rattle.serial_phase.specs.Phase.{TakesTurn, TakesTurns, budget_of, budget_of_all, is_waiting, serial_done, turn_done, turn_of};
 ghost use Rattle.serial_phase.specs.Roomed.{HasRoom};
 
 use crate::instruction::serve;
@@ -35,22 +35,51 @@ pub fn serial(state: &mut SharedState, harts: &mut [Hart], phase: SerialRound)
     ensures code { state.new.code ≡ state.old.code }
 {
     for i in 0..harts.len() {
-        let turn = Turn {
-            hart: i as u32,
-            round: phase.round,
-            budget: turn_budget(phase.waiting, i, phase.budget),
-        };
-        take_turn(&mut harts[i], state, turn);
+        take_turn_of_waiting(&mut harts[i], state, i as u32, phase);
         state.log.end_turn();
     }
 }
 
-/// How many instructions hart `i` may do: none where it does not wait.
-fn turn_budget(waiting: u64, i: usize, budget: u32) -> u32
-    requires { i < 64 }
-    ensures { result ≡ budget_of waiting i budget }
+/// Whether hart `hart` waits.
+fn waits(waiting: u64, hart: u32) -> bool
+    requires { hart < 64 }
+    ensures { result ≡ is_waiting waiting hart }
 {
-    if (waiting >> i) % 2 == 1 { budget } else { 0 }
+    (waiting >> hart) % 2 == 1
+}
+
+/// Does the turn of a hart, where it waits.
+// Inlined, since most harts of a round have no turn.
+#[inline(always)]
+fn take_turn_of_waiting(h: &mut Hart, state: &mut SharedState, hart: u32, phase: SerialRound)
+    requires shows { Shows state.old.pages.memory state.old.code.first state.old.code.instructions }
+    requires few { hart < 64 }
+    requires hart { hart < length state.old.reservations }
+    requires pages { HasSpares (budget_of phase.waiting hart phase.budget) state.old.pages }
+    requires console { HasRoom (budget_of phase.waiting hart phase.budget) state.old.console }
+    requires log { budget_of phase.waiting hart phase.budget ≤ state.old.log.room }
+    requires began { state.old.log.current ≡ [] }
+    ensures turn { TakesTurn (turn_done (turn_of phase hart) h.old state.old)
+        h.new state.old state.new }
+    ensures pages { (n : ℕ) → HasSpares (n + budget_of phase.waiting hart phase.budget)
+        state.old.pages → HasSpares n state.new.pages }
+    ensures console { (n : ℕ) → HasRoom (n + budget_of phase.waiting hart phase.budget)
+        state.old.console → HasRoom n state.new.console }
+    ensures log { state.old.log.room ≤
+        state.new.log.room + budget_of phase.waiting hart phase.budget }
+    ensures table { length state.new.reservations ≡ length state.old.reservations }
+    ensures shows { Shows state.new.pages.memory state.new.code.first state.new.code.instructions }
+    ensures code { state.new.code ≡ state.old.code }
+{
+    if !waits(phase.waiting, hart) {
+        return;
+    }
+    let turn = Turn {
+        hart,
+        round: phase.round,
+        budget: phase.budget,
+    };
+    take_turn(h, state, turn);
 }
 
 /// Does the serial turn of one hart: up to `budget` instructions, or to a stop.

@@ -1,28 +1,28 @@
 use Rattle.std.proofs.Common.{arith}
 use Rattle.std.proofs.lemmas.List.{get_or_default}
-use Rattle.serial_phase.proofs.PhaseUnderWay.{Group, serving_first, needs, serving_next, serving_over}
+use Rattle.serial_phase.proofs.PhaseUnderWay.{Group, serving_first, needs, serving_more, serving_over}
 use Rattle.serial_phase.specs.UnderWay.{At}
 use Rattle.serial_phase.proofs.phase.serial.Goals as goal
 
-pub take_turn-requires-clause-pages : goal.take_turn-requires-clause-pages
-take_turn-requires-clause-pages c =
+pub take_turn_of_waiting-requires-clause-pages : goal.take_turn_of_waiting-requires-clause-pages
+take_turn_of_waiting-requires-clause-pages c =
     let x : Group = record { harts = c.args.harts.now; state = c.args.state.now } in
     let y : Group = record { harts = c.loop-i.harts; state = c.loop-i.state } in
-    let n = needs c.args.phase c.loop-i.i c.turn_budget.result x y c.turn_budget.ensures c.loop-i-test.true c.loop-i.invariant in
+    let n = needs c.args.phase c.loop-i.i x y c.loop-i-test.true c.loop-i.invariant in
     n.pages
 
-pub take_turn-requires-clause-console : goal.take_turn-requires-clause-console
-take_turn-requires-clause-console c =
+pub take_turn_of_waiting-requires-clause-console : goal.take_turn_of_waiting-requires-clause-console
+take_turn_of_waiting-requires-clause-console c =
     let x : Group = record { harts = c.args.harts.now; state = c.args.state.now } in
     let y : Group = record { harts = c.loop-i.harts; state = c.loop-i.state } in
-    let n = needs c.args.phase c.loop-i.i c.turn_budget.result x y c.turn_budget.ensures c.loop-i-test.true c.loop-i.invariant in
+    let n = needs c.args.phase c.loop-i.i x y c.loop-i-test.true c.loop-i.invariant in
     n.console
 
-pub take_turn-requires-clause-log : goal.take_turn-requires-clause-log
-take_turn-requires-clause-log c =
+pub take_turn_of_waiting-requires-clause-log : goal.take_turn_of_waiting-requires-clause-log
+take_turn_of_waiting-requires-clause-log c =
     let x : Group = record { harts = c.args.harts.now; state = c.args.state.now } in
     let y : Group = record { harts = c.loop-i.harts; state = c.loop-i.state } in
-    let n = needs c.args.phase c.loop-i.i c.turn_budget.result x y c.turn_budget.ensures c.loop-i-test.true c.loop-i.invariant in
+    let n = needs c.args.phase c.loop-i.i x y c.loop-i-test.true c.loop-i.invariant in
     n.log
 
 pub loop-i-init : goal.loop-i-init
@@ -39,10 +39,10 @@ pub loop-i-preserved : goal.loop-i-preserved
 loop-i-preserved c =
     let x : Group = record { harts = c.args.harts.now; state = c.args.state.now } in
     let y : Group = record { harts = c.loop-i.harts; state = c.loop-i.state } in
-    let z : At = record { hart = c.take_turn.new.h; state = c.take_turn.new.state } in
-    let e = c.take_turn.ensures in
+    let z : At = record { hart = c.take_turn_of_waiting.new.h; state = c.take_turn_of_waiting.new.state } in
+    let e = c.take_turn_of_waiting.ensures in
     let same = c.loop-i.auto.harts in
-    serving_next c.args.phase c.loop-i.i c.turn_budget.result x y _ z c.end_turn.new.self c.turn_budget.ensures c.loop-i-test.true same
+    serving_more c.args.phase c.loop-i.i x y _ z c.end_turn.new.self c.loop-i-test.true same
     (get_or_default c.loop-i.harts c.loop-i.i _ _ (omega (arith, same)))
     (record { taken = e.turn; pages = e.pages; console = e.console; log = e.log; table = e.table; shows = e.shows; code = e.code })
     (record { closed = c.end_turn.ensures.closed; current = c.end_turn.ensures.current; room = c.end_turn.ensures.room })
