@@ -14,7 +14,7 @@ use Rattle.machine.specs.declared.outcome.Outcome.{Outcome}
 use Rattle.machine.specs.Outcomes.{AreAtRest, AreOutcomes, harts_of, outcome_begun}
 use Rattle.machine.proofs.Listed.{harts_more}
 
-picked : {A : Type 0} (b : Bool) (x y : A) → b ≡ true → (if b then x else y) ≡ x
+pub picked : {A : Type 0} (b : Bool) (x y : A) → b ≡ true → (if b then x else y) ≡ x
 picked true x y e = refl
 picked false x y e = absurd (false≢true e)
 

@@ -11,7 +11,8 @@ use Rattle.hart_step.specs.declared.hart.Hart.{Hart}
 use Rattle.hart_step.specs.Console.{ConsoleState}
 use Rattle.parallel_phase.proofs.FewAccesses.{few_of_round}
 use Rattle.machine.specs.declared.outcome.Outcome.{Outcome}
-use Rattle.machine.specs.Outcomes.{AreOutcomes, count_accesses, count_log, count_logged, events_of_rounds, turns_of}
+use Rattle.serial_phase.specs.Turns.{count_log}
+use Rattle.machine.specs.Outcomes.{AreOutcomes, count_accesses, count_logged, events_of_rounds, turns_of}
 
 -- ---- the parallel phase
 

@@ -4,12 +4,14 @@ pub mod RoundsOfHarts
 pub mod LinesReady
 pub mod Listed
 pub mod AtRest
+pub mod KeptHarts
 pub mod CommittedAtOnce
 pub mod Opened
 pub mod RoundDone
 pub mod Repeated
 pub mod SizeKept
 pub mod TraceKept
+pub mod Adding
 pub mod Good
 pub mod Counted
 pub mod UntracedRounds

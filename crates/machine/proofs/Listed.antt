@@ -48,7 +48,7 @@ keeps_all_more p q r os i e low k f a = record {
       (subst (λ (o : Outcome). AllOnReady r o.buffer) (get_or_default os i e d low) f) j less;
 }
 
-harts-push : (os : List Outcome) (o : Outcome) → harts_of (os ++ o ∷ []) ≡ harts_of os ++ o.hart ∷ []
+pub harts-push : (os : List Outcome) (o : Outcome) → harts_of (os ++ o ∷ []) ≡ harts_of os ++ o.hart ∷ []
 harts-push [] o = refl
 harts-push (x ∷ os) o = ap (λ (hs : List Hart). x.hart ∷ hs) (harts-push os o)
 

@@ -24,9 +24,9 @@ use Rattle.hart_step.specs.Words.{words_of}
 use Rattle.serial_phase.specs.Phase.{TakesTurns, serial_done, waiting_rounds, is_waiting, budget_of, budget_from}
 use Rattle.serial_phase.specs.declared.shared.SerialRound.{SerialRound}
 use Rattle.serial_phase.specs.declared.shared.SharedState.{SharedState}
-use Rattle.serial_phase.specs.Turns.{Turns}
+use Rattle.serial_phase.specs.Turns.{Turns, count_log}
 use Rattle.machine.specs.declared.outcome.Outcome.{Outcome}
-use Rattle.machine.specs.Outcomes.{AreOutcomes, mask_of, waits_of, harts_of, events_of_rounds, outcome_events, round_events, turns_of, count_log, count_true}
+use Rattle.machine.specs.Outcomes.{AreOutcomes, mask_of, waits_of, harts_of, events_of_rounds, outcome_events, round_events, turns_of, count_true}
 use Rattle.machine.specs.Machine.{count_waiting}
 use Rattle.machine.specs.Guests.{Guest, Shared, guest_after, guest_of, guest_round, shared_of}
 use Rattle.machine.specs.Rounds.{IsFinished}

@@ -59,26 +59,6 @@ turn_first es n i closed as' l e h = split_first es (events_of n i Serial as') (
         joined : events_of n i Serial as' ++ log_events n (suc i) (drop (suc i) closed) ≡ events_of n i Serial as' ++ log_events n (i + 1) (drop (i + 1) closed)
         joined = let k : suc i ≡ i + 1 = omega arith in ap (λ (j : ℕ). events_of n i Serial as' ++ log_events n (suc i) (drop j closed)) k ∙ ap (λ (j : ℕ). events_of n i Serial as' ++ log_events n j (drop (i + 1) closed)) k
 
-take_whole : (xs : List Outcome) (m : ℕ) → m ≡ length xs → take m xs ≡ xs
-take_whole xs m e = ap (λ (k : ℕ). take k xs) e ∙ take_all (length xs) xs (omega arith)
-
-pub outcome_first : (es : List Event) (n i : ℕ) (os : List Outcome) (o : Outcome) (as' : List Access) → 0 < length os → o ≡ get_or os 0 o → as' ≡ o.log →
-    IsTrace (es ++ outcome_events n i os) → IsTrace ((es ++ events_of n i Parallel as') ++ outcome_events n (i + 1) (take (length os - 1) (drop 1 os)))
-outcome_first es n i [] o as' l e a h = absurd (omega (arith, l))
-outcome_first es n i (p ∷ os) o as' l e a h = split_first es (events_of n i Parallel as') _ (outcome_events n i (p ∷ os)) parts h
-  where
-    rest : take (length (p ∷ os) - 1) (drop 1 (p ∷ os)) ≡ os
-    rest = take_whole os (suc (length os) - 1) (omega arith)
-
-    next : suc i ≡ i + 1
-    next = omega arith
-
-    parts : outcome_events n i (p ∷ os) ≡ events_of n i Parallel as' ++ outcome_events n (i + 1) (take (length (p ∷ os) - 1) (drop 1 (p ∷ os)))
-    parts =
-        ap (λ (bs : List Access). events_of n i Parallel bs ++ outcome_events n (suc i) os) (sym (a ∙ ap (λ (q : Outcome). q.log) e))
-        ∙ ap (λ (k : ℕ). events_of n i Parallel as' ++ outcome_events n k os) next
-        ∙ ap (λ (qs : List Outcome). events_of n i Parallel as' ++ outcome_events n (i + 1) qs) (sym rest)
-
 -- ---- the places for their events
 
 adopted_on : (n i : ℕ) (p : Outcome) (os : List Outcome) (t u : Traced) → HasPlaces true (p ∷ os) t → t.logs ≤ u.logs + 1 → u.events ≡ t.events ++ events_of n i Parallel p.log → HasPlaces true os u
@@ -92,17 +72,7 @@ copied_on : (p : Outcome) (os : List Outcome) (t u : Traced) → HasPlaces false
 copied_on p os t u h r = record { room = omega (arith, h.room, r); logs = λ w. absurd (false≢true w); few = λ w. absurd (false≢true w) }
 
 -- after the events of the first hart
-places_on : (adopts : Bool) (n i : ℕ) (p : Outcome) (os : List Outcome) (t u : Traced) → HasPlaces adopts (p ∷ os) t → t.room ≤ u.room + (if adopts then 0 else length p.log) →
+pub places_on : (adopts : Bool) (n i : ℕ) (p : Outcome) (os : List Outcome) (t u : Traced) → HasPlaces adopts (p ∷ os) t → t.room ≤ u.room + (if adopts then 0 else length p.log) →
     (adopts ≡ true → t.logs ≤ u.logs + 1) → u.events ≡ t.events ++ events_of n i Parallel p.log → HasPlaces adopts os u
 places_on true n i p os t u h r g e = adopted_on n i p os t u h (g refl) e
 places_on false n i p os t u h r g e = copied_on p os t u h r
-
-pub places_next : (adopts : Bool) (n i : ℕ) (os : List Outcome) (o : Outcome) (t u : Traced) → 0 < length os → o ≡ get_or os 0 o → HasPlaces adopts os t →
-    t.room ≤ u.room + (if adopts then 0 else length o.log) → (adopts ≡ true → t.logs ≤ u.logs + 1) → u.events ≡ t.events ++ events_of n i Parallel o.log →
-    HasPlaces adopts (take (length os - 1) (drop 1 os)) u
-places_next adopts n i [] o t u l e h r g v = absurd (omega (arith, l))
-places_next adopts n i (p ∷ os) o t u l e h r g v =
-    let rest : take (length (p ∷ os) - 1) (drop 1 (p ∷ os)) ≡ os = take_whole os (suc (length os) - 1) (omega arith) in
-    subst (λ (qs : List Outcome). HasPlaces adopts qs u) (sym rest)
-    (places_on adopts n i p os t u h
-    (subst (λ (q : Outcome). t.room ≤ u.room + (if adopts then 0 else length q.log)) e r) g (subst (λ (q : Outcome). u.events ≡ t.events ++ events_of n i Parallel q.log) e v))

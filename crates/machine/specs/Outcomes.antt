@@ -19,9 +19,17 @@ use Rattle.machine.specs.declared.outcome.Outcome.{Outcome}
 abbrev pub outcome_begun : Hart → Outcome
 outcome_begun h = record { hart = h; buffer = []; log = []; accesses = 0; waits = false }
 
+abbrev pub harts_of : List Outcome → List Hart
+harts_of [] = []
+harts_of (o ∷ os) = o.hart ∷ harts_of os
+
 -- each hart that has stopped is as its outcome has it
 abbrev pub AreAtRest : List Hart → List Outcome → Type 0
 AreAtRest hs os = (i : ℕ) (h : Hart) (o : Outcome) → i < length hs → is_some (get_or hs i h).stop ≡ true → (get_or os i o).hart ≡ get_or hs i h
+
+-- where the second list has a hart that has stopped, the first has the same hart
+abbrev pub AreKept : List Hart → List Hart → Type 0
+AreKept hs gs = (i : ℕ) (h : Hart) → i < length hs → i < length gs → is_some (get_or gs i h).stop ≡ true → get_or gs i h ≡ get_or hs i h
 
 -- each byte of a buffer is a byte of memory that is not code
 abbrev pub AllFit : Memory → List (ℕ × ℕ) → Type 0
@@ -71,10 +79,6 @@ abbrev pub waits_of : List Outcome → List Bool
 waits_of [] = []
 waits_of (o ∷ os) = o.waits ∷ waits_of os
 
-abbrev pub harts_of : List Outcome → List Hart
-harts_of [] = []
-harts_of (o ∷ os) = o.hart ∷ harts_of os
-
 -- the events of outcomes in round n, hart by hart from hart i on
 abbrev pub outcome_events : ℕ → ℕ → List Outcome → List Event
 outcome_events n i [] = []
@@ -112,10 +116,6 @@ pub record HasPlaces (adopts : Bool) (os : List Outcome) (t : Traced) : Type 0 w
 abbrev pub turns_of : ℕ → List Bool → ℕ
 turns_of budget [] = 0
 turns_of budget (b ∷ bs) = (if b then budget else 0) + turns_of budget bs
-
-abbrev pub count_log : List (List Access) → ℕ
-count_log [] = 0
-count_log (l ∷ ls) = length l + count_log ls
 
 abbrev pub count_true : List Bool → ℕ
 count_true [] = 0

@@ -1,27 +1,16 @@
 ghost use Rattle.std.specs.Prelude.{◌≡◌, ◌+◌, ◌*◌, ◌^◌, ◌<◌, ◌≤◌, ◌++◌, length, drop, true, if◌then◌else◌};
-ghost use Rattle.round_schedule.specs.declared.event.Phase.TheVariants.{Parallel};
+ghost use Rattle.round_schedule.specs.declared.event.Phase.TheVariants.{Parallel, Serial};
 ghost use Rattle.round_schedule.specs.TabledTurn.{log_events};
 ghost use Rattle.round_schedule.specs.Events.{events_of};
 ghost use Rattle.trace.specs.Traced.{IsTrace};
-ghost use Rattle.machine.specs.Outcomes.{HasPlaces, count_copied, count_log, outcome_events, turns_of, waits_of};
+ghost use Rattle.machine.specs.Outcomes.{HasPlaces, count_copied, harts_of, outcome_events, turns_of, waits_of};
+ghost use Rattle.serial_phase.specs.Turns.{count_log};
 
 use crate::outcome::Outcome;
+use hart_step::Access;
 use round_schedule::Phase;
 use serial_phase::SerialLog;
 use trace::{Log, Trace};
-
-/// How many accesses there are in the serial turns of harts `first`, `first` + 1, .., `left` of them.
-pub fn serial_count(log: &SerialLog, first: u32, left: u32) -> u64
-    requires harts { first + left ≡ length log.now.closed }
-    requires few { length log.now.closed ≤ 64 }
-    requires fits { count_log (drop first log.now.closed) < 2 ^ 32 }
-    ensures { result ≡ count_log (drop first log.now.closed) }
-{
-    if left == 0 {
-        return 0;
-    }
-    log.events(first).len() as u64 + serial_count(log, first + 1, left - 1)
-}
 
 /// How many instructions the serial turns may do together.
 pub fn turns_needed(outcomes: &[Outcome], budget: u32) -> u32
@@ -36,29 +25,24 @@ pub fn turns_needed(outcomes: &[Outcome], budget: u32) -> u32
     }
 }
 
-/// Adds the events of the parallel phase, hart by hart from hart `first` on. Where the trace adopts the harts' logs, they are
-/// handed over as they are.
-pub fn add_parallel(
-    trace: &mut Trace,
-    round: u32,
-    first: u32,
-    outcomes: &mut [Outcome],
-    adopts: bool,
-)
-    requires harts { first + length outcomes.old ≤ 64 }
+/// Adds the events of the parallel phase, hart by hart. Where the trace adopts the harts' logs, they are handed over as they are.
+pub fn add_parallel(trace: &mut Trace, round: u32, outcomes: &mut [Outcome], adopts: bool)
+    requires few { length outcomes.old ≤ 64 }
     requires places { HasPlaces adopts outcomes.old trace.old }
-    requires sound { IsTrace (trace.old.events ++ outcome_events round first outcomes.old) }
-    ensures events { trace.new.events ≡
-        trace.old.events ++ outcome_events round first outcomes.old }
+    requires sound { IsTrace (trace.old.events ++ outcome_events round 0 outcomes.old) }
+    ensures events { trace.new.events ≡ trace.old.events ++ outcome_events round 0 outcomes.old }
     ensures opening { trace.new.opening ≡ trace.old.opening }
     ensures room { trace.old.room ≤ trace.new.room + count_copied adopts outcomes.old }
+    ensures harts { harts_of outcomes.new ≡ harts_of outcomes.old }
 {
-    match outcomes {
-        [] => {}
-        [outcome, rest @ ..] => {
-            add_log(trace, round, first, &mut outcome.log, adopts);
-            add_parallel(trace, round, first + 1, rest, adopts);
-        }
+    for number in 0..outcomes.len() {
+        add_log(
+            trace,
+            round,
+            number as u32,
+            &mut outcomes[number].log,
+            adopts,
+        );
     }
 }
 
@@ -98,6 +82,23 @@ pub fn add_serial(trace: &mut Trace, round: u32, first: u32, left: u32, log: &Se
     if left == 0 {
         return;
     }
-    trace.extend(round, first as u8, Phase::Serial, log.events(first));
+    add_turn(trace, round, first, log.events(first));
     add_serial(trace, round, first + 1, left - 1, log);
+}
+
+/// Adds the events of one hart's turn.
+fn add_turn(trace: &mut Trace, round: u32, hart: u32, accesses: &[Access])
+    requires hart { hart < 64 }
+    requires room { length accesses.now ≤ trace.old.room }
+    requires sound { IsTrace (trace.old.events ++ events_of round hart Serial accesses.now) }
+    ensures events { trace.new.events ≡
+        trace.old.events ++ events_of round hart Serial accesses.now }
+    ensures opening { trace.new.opening ≡ trace.old.opening }
+    ensures room { trace.old.room ≤ trace.new.room + length accesses.now }
+{
+    // Most harts have no turn.
+    if accesses.is_empty() {
+        return;
+    }
+    trace.extend(round, hart as u8, Phase::Serial, accesses);
 }

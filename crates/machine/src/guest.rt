@@ -16,7 +16,7 @@ use std::marker::Model;
 #[derive(Drop)]
 pub(crate) struct GuestState {
     pub(crate) harts: Vec<Hart>,
-    /// Room for what the harts of a round leave. It is empty between two rounds, and kept for the next.
+    /// What the harts of an earlier round left, for its room. A hart that had stopped then isn't copied once more.
     pub(crate) outcomes: Vec<Outcome>,
     pub(crate) shared: SharedState,
 }
@@ -29,7 +29,7 @@ impl Model for GuestState {
 
     ghost view = { λ g. guest_of g.harts.items g.shared };
 
-    ghost invariant = { λ g. Agrees g.harts.items g.shared };
+    ghost invariant = { λ g. Agrees g.harts.items g.outcomes.items g.shared };
 }
 
 impl GuestState {

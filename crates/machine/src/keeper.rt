@@ -4,7 +4,8 @@ ghost use Rattle.trace.specs.Traced.{IsTrace, Laid};
 ghost use Rattle.round_lock.specs.Starts.{keeps_log};
 ghost use Rattle.machine.specs.declared.outcome.Outcome.{Outcome as Left};
 ghost use Rattle.machine.specs.Keepers.{never};
-ghost use Rattle.machine.specs.Outcomes.{HasPlaces, count_copied, count_log, count_logged, round_events};
+ghost use Rattle.machine.specs.Outcomes.{HasPlaces, count_copied, count_logged, harts_of, round_events};
+ghost use Rattle.serial_phase.specs.Turns.{count_log};
 
 use crate::events::{add_parallel, add_serial};
 use crate::outcome::Outcome;
@@ -59,7 +60,8 @@ pub trait EventKeeper {
             may_keep (es ++ round_events round outcomes.old log.now.closed) }
         ensures kept { (es : List Happened) → keeps self.old es →
             keeps self.new (es ++ round_events round outcomes.old log.now.closed) }
-        ensures opening { opens_with self.new ≡ opens_with self.old };
+        ensures opening { opens_with self.new ≡ opens_with self.old }
+        ensures harts { harts_of outcomes.new ≡ harts_of outcomes.old };
 
     // Who takes no accesses keeps any events as well as any others.
     ghost keeps_any: { logs ≡ false → (k : Self) (es fs : List Happened) → keeps k es → keeps k fs };
@@ -99,7 +101,7 @@ impl EventKeeper for Trace {
 
     fn add(&mut self, round: u32, outcomes: &mut [Outcome], log: &SerialLog, adopts: bool) {
         let count = outcomes.len() as u32;
-        add_parallel(self, round, 0, outcomes, adopts);
+        add_parallel(self, round, outcomes, adopts);
         add_serial(self, round, 0, count, log);
     }
 

@@ -1,10 +1,10 @@
-ghost use Rattle.std.specs.Prelude.{◌≡◌, ◌<◌, ◌≤◌, ◌+◌, ◌-◌, ℕ, [], IfOk, OnOk, Some, length, slice_get, slice_index, vec_capacity};
+ghost use Rattle.std.specs.Prelude.{◌≡◌, ◌<◌, ◌≤◌, ◌+◌, ◌-◌, ℕ, [], IfOk, OnOk, Some, is_some, length, slice_get, slice_index, true, vec_capacity};
 ghost use Rattle.round_schedule.specs.Schedule.{hart_rounds};
 ghost use Rattle.round_planner.specs.Quotas.{quota_of, quotas_of};
 ghost use Rattle.hart_step.specs.CodeTables.{Shows};
 ghost use Rattle.hart_step.specs.Words.{words_of};
 ghost use Rattle.round_lock.specs.Starts.{content_from, keeps_log, round_at, rounds_of};
-ghost use Rattle.machine.specs.Outcomes.{AreAtRest, AreOutcomes, harts_of, outcome_begun};
+ghost use Rattle.machine.specs.Outcomes.{AreAtRest, AreKept, AreOutcomes, harts_of, outcome_begun};
 
 use crate::crew::Crew;
 use commit_phase::Buffered;
@@ -40,6 +40,32 @@ pub struct Outcome {
 }
 
 impl Outcome {
+    /// Whether it is the outcome of a hart that has stopped, and whose round does nothing.
+    #[inline(always)]
+    fn is_at_rest(&self) -> bool
+        ensures stopped { result ≡ true → is_some self.now.hart.stop ≡ true }
+        ensures rests { result ≡ true → self.now ≡ outcome_begun self.now.hart }
+    {
+        self.hart.stop.is_some()
+            && self.accesses == 0
+            && !self.waits
+            && self.log.len() == 0
+            && self.buffer.is_empty()
+    }
+
+    /// Takes the hart that a round begins with. One that has stopped is here already.
+    #[inline(always)]
+    fn begin(&mut self, number: usize, start: &RoundStart<'_>)
+        requires number { number < length start.now.harts }
+        requires kept { is_some self.old.hart.stop ≡ true →
+            slice_get start.now.harts number ≡ Some self.old.hart }
+        ensures { slice_get start.now.harts number ≡ Some self.new.hart }
+    {
+        if self.hart.stop.is_none() {
+            self.hart = start.harts()[number];
+        }
+    }
+
     /// Lets go of all but the hart: what is left is the outcome of a round that does nothing.
     fn rest(&mut self, alloc: Global)
         ensures { self.new ≡ outcome_begun self.old.hart }
@@ -95,8 +121,8 @@ impl Buffered for Outcome {
     }
 }
 
-/// Does the rounds of all harts, each on memory as it is, by the workers of a crew. The list is taken for its room: what it holds
-/// is let go.
+/// Does the rounds of all harts, each on memory as it is, by the workers of a crew. The list is taken for its room, and for the
+/// harts in it that have stopped, which are those of the machine: the rest of what it holds is let go.
 pub fn outcomes_of<G: Gate + Sync, R: Threads + Wait + Sync>(
     crew: &Crew<'_, G, R>,
     pages: &Pages,
@@ -110,6 +136,7 @@ pub fn outcomes_of<G: Gate + Sync, R: Threads + Wait + Sync>(
     requires shows { Shows pages.now.memory table.now.first table.now.instructions }
     requires harts { length harts.now ≡ plan.now.harts }
     requires round { 1 ≤ round }
+    requires kept { AreKept harts.now (harts_of room.items) }
     ensures { IfOk result (λ os. AreOutcomes (keeps_log crew.now.form) pages.now.memory
         (hart_rounds (words_of pages.now.memory.code) pages.now.memory.bytes (quotas_of plan.now
         (round - 1)) harts.now) os.items) }
@@ -132,6 +159,7 @@ fn outcomes_by<B: BookStart + Send + Sync, G: Gate + Sync, R: Threads + Wait + S
     requires workers { (1 ≤ crew.now.workers) × (crew.now.workers ≤ 16) }
     requires start { start.now ≡ B.start }
     requires sized { length start.now.quotas ≡ length start.now.harts }
+    requires kept { AreKept start.now.harts (harts_of room.items) }
     ensures { IfOk result (λ os.
         AreOutcomes start.now.logs start.now.memory (rounds_of start.now) os.items) }
 {
@@ -151,6 +179,7 @@ fn outcomes_alone<G: Gate>(
     mut outcomes: Vec<Outcome>,
 ) -> Result<Vec<Outcome>, OutOfMemory>
     requires sized { length start.now.quotas ≡ length start.now.harts }
+    requires kept { AreKept start.now.harts (harts_of outcomes.items) }
     ensures { IfOk result (λ os.
         AreOutcomes start.now.logs start.now.memory (rounds_of start.now) os.items) }
 {
@@ -159,9 +188,11 @@ fn outcomes_alone<G: Gate>(
     Ok(outcomes)
 }
 
-/// Sees that there are as many outcomes as harts, whatever they are.
+/// Sees that there are as many outcomes as harts, those that are missing as of rounds still to be done.
 fn make_as_many(start: &RoundStart<'_>, outcomes: &mut Vec<Outcome>) -> Result<(), OutOfMemory>
-    ensures { OnOk result (length outcomes.new.items ≡ length start.now.harts) }
+    requires { AreKept start.now.harts (harts_of outcomes.old.items) }
+    ensures many { OnOk result (length outcomes.new.items ≡ length start.now.harts) }
+    ensures kept { OnOk result (AreKept start.now.harts (harts_of outcomes.new.items)) }
 {
     let alloc = start.pages().allocator();
     let harts = start.harts();
@@ -180,6 +211,7 @@ fn rounds_in_place<G: Gate>(
 ) -> Result<(), OutOfMemory>
     requires sized { length start.now.quotas ≡ length start.now.harts }
     requires many { length outcomes.old ≡ length start.now.harts }
+    requires kept { AreKept start.now.harts (harts_of outcomes.old) }
     ensures { OnOk result (AreOutcomes start.now.logs start.now.memory
         (rounds_of start.now) outcomes.new) }
 {
@@ -194,7 +226,8 @@ fn rounds_in_place<G: Gate>(
 }
 
 /// Does the round of a hart in the place of its outcome. `room` is taken for its accesses while the round goes on. What the two hold
-/// is let go.
+/// is let go, but for a hart that has stopped: it is the hart, and isn't copied again.
+#[inline(always)]
 pub(crate) fn round_in_place(
     number: usize,
     start: &RoundStart<'_>,
@@ -202,14 +235,34 @@ pub(crate) fn round_in_place(
     room: &mut Vec<Access>,
 ) -> Result<(), OutOfMemory>
     requires number { number < length start.now.harts }
+    requires kept { is_some outcome.old.hart.stop ≡ true →
+        slice_get start.now.harts number ≡ Some outcome.old.hart }
     ensures { OnOk result (round_at start.now number ≡ Some (content_from outcome.new.hart
         outcome.new.buffer outcome.new.log outcome.new.accesses outcome.new.waits)) }
 {
-    outcome.hart = start.harts()[number];
+    if outcome.is_at_rest() {
+        return Ok(());
+    }
+    outcome.begin(number, start);
     if outcome.hart.stop.is_some() {
         outcome.rest(start.pages().allocator());
         return Ok(());
     }
+    round_of_running(number, start, outcome, room)
+}
+
+/// The same of a hart that its outcome has as the round begins with it.
+fn round_of_running(
+    number: usize,
+    start: &RoundStart<'_>,
+    outcome: &mut Outcome,
+    room: &mut Vec<Access>,
+) -> Result<(), OutOfMemory>
+    requires number { number < length start.now.harts }
+    requires hart { slice_get start.now.harts number ≡ Some outcome.old.hart }
+    ensures { OnOk result (round_at start.now number ≡ Some (content_from outcome.new.hart
+        outcome.new.buffer outcome.new.log outcome.new.accesses outcome.new.waits)) }
+{
     let Outcome {
         hart,
         buffer,

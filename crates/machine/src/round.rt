@@ -11,12 +11,11 @@ ghost use Rattle.machine.specs.Guests.{guest_events, guest_of, next_guest, share
 ghost use Rattle.machine.specs.Held.{most_of_round};
 ghost use Rattle.machine.specs.Kept.{AreOfGuest};
 ghost use Rattle.machine.specs.Machine.{count_waiting};
-ghost use Rattle.machine.specs.Outcomes.{AreAtRest, AreFit, AreOutcomes, count_accesses, count_true, mask_of, waits_of};
+ghost use Rattle.machine.specs.Outcomes.{AreAtRest, AreFit, AreKept, AreOutcomes, count_accesses, count_true, harts_of, mask_of, waits_of};
 ghost use Rattle.machine.specs.Rounds.{IsFinished, MayFinish};
 
 use crate::commit::commit;
 use crate::crew::Crew;
-use crate::events::serial_count;
 use crate::guest::GuestState;
 use crate::keeper::EventKeeper;
 use crate::outcome::{Outcome, give_harts, outcomes_of};
@@ -167,6 +166,7 @@ fn finish<E: EventKeeper, G, R: Threads + Sync>(
     ensures console { OnErr result (shared.new.console.console ≡ shared.old.console.console) }
     ensures untold { OnErr result ((es : List Event) → E.keeps keeper.old es →
         E.keeps keeper.new es) }
+    ensures kept { OnOk result (AreKept harts.new (harts_of outcomes.new)) }
 {
     let turns = tally.waited * phase.budget;
     make_turn_room(shared, outcomes, turns)?;
@@ -175,7 +175,7 @@ fn finish<E: EventKeeper, G, R: Threads + Sync>(
     commit(crew, &mut shared.pages, &mut shared.reservations, outcomes);
     give_harts(outcomes, harts);
     serial(shared, harts, phase);
-    let events = tally.accesses + serial_count(&shared.log, 0, outcomes.len() as u32);
+    let events = tally.accesses + shared.log.len() as u64;
     keeper.add(phase.round, outcomes, &shared.log, adopts);
     Ok(RoundCounts {
         waited: tally.waited,

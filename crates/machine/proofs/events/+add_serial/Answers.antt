@@ -7,8 +7,8 @@ use Rattle.trace.proofs.Growing.{beginning}
 use Rattle.machine.proofs.TraceKept.{turn_first}
 use Rattle.machine.proofs.events.+add_serial.Goals as goal
 
-pub extend-requires-clause-sound : goal.extend-requires-clause-sound
-extend-requires-clause-sound t c =
+pub add_turn-requires-clause-sound : goal.add_turn-requires-clause-sound
+add_turn-requires-clause-sound t c =
     beginning _ _ (turn_first c.args.trace.now.events c.args.round c.args.first c.args.log.now.closed c.events.result.now (omega (arith, c.requires.harts)) c.events.ensures c.requires.sound)
 
 pub add_serial-requires : goal.add_serial-requires
@@ -20,7 +20,7 @@ add_serial-requires t c = (
       omega arith,
       (
         grind (arith, common_steps, drop-cons),
-        subst (λ (x : List Event). IsTrace (x ++ log_events c.args.round (c.args.first + 1) (drop (c.args.first + 1) c.args.log.now.closed))) (sym c.extend.ensures.events)
+        subst (λ (x : List Event). IsTrace (x ++ log_events c.args.round (c.args.first + 1) (drop (c.args.first + 1) c.args.log.now.closed))) (sym c.add_turn.ensures.events)
             (turn_first c.args.trace.now.events c.args.round c.args.first c.args.log.now.closed c.events.result.now (omega (arith, c.requires.harts)) c.events.ensures c.requires.sound),
       ),
     ),

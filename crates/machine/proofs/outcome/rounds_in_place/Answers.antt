@@ -1,13 +1,28 @@
-use Rattle.std.proofs.Common.{◌≡◌, ◌<◌, ◌≤◌, ◌++◌, ◌∷◌, [], List, None, length, take, sym, ap, subst, ◌∙◌, refl, arith}
-use Rattle.std.proofs.lemmas.List.{take_all, take_more_set}
+use Rattle.std.proofs.Common.{get_or, is_some, Some, slice_get, ◌≡◌, ◌<◌, ◌≤◌, ◌++◌, ◌∷◌, [], List, None, length, take, sym, ap, subst, ◌∙◌, refl, arith}
+use Rattle.std.proofs.lemmas.List.{get_or-set_other, take_all, take_more_set}
 use Rattle.round_schedule.specs.Schedule.{HartRound, hart_rounds}
 use Rattle.hart_step.specs.declared.hart.Hart.{Hart}
 use Rattle.hart_step.specs.Words.{words_of}
 use Rattle.round_lock.specs.Starts.{Start, content_from}
 use Rattle.machine.specs.Outcomes.{AreOutcomes}
 use Rattle.machine.specs.declared.outcome.Outcome.{Outcome}
+use Rattle.parallel_phase.proofs.HartRounds.{indexed}
+use Rattle.machine.proofs.KeptHarts.{kept_at}
 use Rattle.machine.proofs.RoundsOfHarts.{is_outcome, outcomes_more}
 use Rattle.machine.proofs.outcome.rounds_in_place.Goals as goal
+
+pub loop-number-init : goal.loop-number-init
+loop-number-init g c = record { done = tt; rest = λ k o low. refl }
+
+pub round_in_place-requires-clause-kept : goal.round_in_place-requires-clause-kept
+round_in_place-requires-clause-kept g c = λ stopped.
+    let hs : List Hart = c.args.start.now.harts in
+    let n = c.loop-number.number in
+    let o : Outcome = c.index-outcomes-number.result in
+    let low : n < length hs = subst (λ (xs : List Hart). n < length xs) c.harts-number-end.ensures.harts c.loop-number-test.true in
+    let same : get_or c.loop-number.outcomes n o ≡ get_or c.args.outcomes.now n o = c.loop-number.invariant.rest n o (omega arith) in
+    let here : get_or hs n o.hart ≡ (get_or c.args.outcomes.now n o).hart = kept_at hs c.args.outcomes.now n o low (omega (arith, low, c.requires.many)) c.requires.kept (ap (λ (x : Outcome). is_some x.hart.stop) (sym same) ∙ stopped) in
+    indexed hs n o.hart low ∙ ap Some (here ∙ ap (λ (x : Outcome). x.hart) (sym same))
 
 pub loop-number-preserved : goal.loop-number-preserved
 loop-number-preserved g c =
@@ -17,8 +32,11 @@ loop-number-preserved g c =
     let o : Outcome = c.round_in_place.new.outcome in
     let low : n < length s.harts = subst (λ (hs : List Hart). n < length hs) c.harts-number-end.ensures.harts c.loop-number-test.true in
     let less : n < length c.loop-number.outcomes = omega (arith, low, c.requires.many, c.loop-number.auto.outcomes) in
-    outcomes_more s.logs s.memory s.quotas s.harts n none _ (take n c.loop-number.outcomes) _ o low refl (take_more_set c.loop-number.outcomes n o less) c.loop-number.invariant
-    (is_outcome s n none (content_from o.hart o.buffer o.log o.accesses o.waits) o low c.requires.sized c.in_ok-round_in_place.ensures refl)
+    record {
+      done = outcomes_more s.logs s.memory s.quotas s.harts n none _ (take n c.loop-number.outcomes) _ o low refl (take_more_set c.loop-number.outcomes n o less) c.loop-number.invariant.done
+          (is_outcome s n none (content_from o.hart o.buffer o.log o.accesses o.waits) o low c.requires.sized c.in_ok-round_in_place.ensures refl);
+      rest = λ k d more. get_or-set_other c.loop-number.outcomes n k o d (λ same. omega (arith, same, more)) ∙ c.loop-number.invariant.rest k d (omega (arith, more));
+    }
 
 pub returns : goal.returns
 returns g c =
@@ -27,4 +45,4 @@ returns g c =
     let many : length s.harts ≤ n = subst (λ (hs : List Hart). length hs ≤ n) c.harts-number-end.ensures.harts c.loop-number-test.false in
     let rounds = λ (hs : List Hart). hart_rounds (words_of s.memory.code) s.memory.bytes s.quotas hs in
     subst (AreOutcomes s.logs s.memory (rounds s.harts)) (take_all n c.loop-number.outcomes (omega (arith, many, c.requires.many, c.loop-number.auto.outcomes)))
-    (subst (λ (hs : List Hart). AreOutcomes s.logs s.memory (rounds hs) (take n c.loop-number.outcomes)) (take_all n s.harts many) c.loop-number.invariant)
+    (subst (λ (hs : List Hart). AreOutcomes s.logs s.memory (rounds hs) (take n c.loop-number.outcomes)) (take_all n s.harts many) c.loop-number.invariant.done)

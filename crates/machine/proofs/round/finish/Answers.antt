@@ -9,9 +9,10 @@ use Rattle.hart_step.specs.declared.hart.Hart.{Hart}
 use Rattle.serial_phase.specs.Phase.{TakesTurns, serial_done, budget_from}
 use Rattle.serial_phase.specs.Roomed.{HasRoom}
 use Rattle.machine.specs.declared.outcome.Outcome.{Outcome}
-use Rattle.machine.specs.Outcomes.{AreFit, AreOutcomes, AreReady, mask_of, waits_of, harts_of, events_of_rounds, round_events}
+use Rattle.machine.specs.Outcomes.{AreFit, AreKept, AreOutcomes, AreReady, mask_of, waits_of, harts_of, events_of_rounds, round_events}
 use Rattle.machine.proofs.CodeKept.{shows_committed}
 use Rattle.machine.proofs.Counted.{all_logged, count_events, few_turns}
+use Rattle.machine.proofs.KeptHarts.{kept_by_turns}
 use Rattle.machine.proofs.RoundDone.{by_outcomes, by_rounds, finished_from, needed_is, length-waits, length-harts, spares_left, log_of}
 use Rattle.machine.proofs.Tallied.{count_most, turns_by_count}
 use Rattle.machine.proofs.round.finish.Goals as goal
@@ -68,18 +69,13 @@ serial-requires g c =
       current = c.in_ok-make_turn_room.ensures.current;
     }
 
-pub serial_count-requires : goal.serial_count-requires
-serial_count-requires g c =
-    let os = c.args.outcomes.now in
-    let phase = c.args.phase in
-    let start : SharedState = record c.make_turn_room.new.shared { pages = c.commit.new.pages; reservations = c.commit.new.table } in
-    let served = subst (λ (hs : List Hart). TakesTurns (serial_done phase hs start) c.serial.new.harts start c.serial.new.state) (c.give_harts.ensures ∙ ap harts_of c.in_ok-adopts.ensures.outcomes) c.serial.ensures.turns in
-    let fits = log_of phase (waits_of os) (harts_of os) c.serial.new.harts start c.serial.new.state (length-waits os ∙ sym (length-harts os)) c.requires.waiting served in
-    record {
-      harts = omega (arith, fits.length, length-harts os, ap length c.in_ok-adopts.ensures.outcomes);
-      few = omega (arith, fits.length, length-harts os, c.requires.few);
-      fits = omega (arith, fits.fits, few_turns phase.budget (waits_of os) c.requires.budget, length-waits os, c.requires.few);
-    }
+pub len-requires : goal.len-requires
+len-requires g c = c.serial.ensures.current
+
+pub returns-clause-kept : goal.returns-clause-kept
+returns-clause-kept g c =
+    subst (AreKept c.serial.new.harts) (c.give_harts.ensures ∙ sym c.add.ensures.harts)
+    (kept_by_turns c.args.phase c.give_harts.new.harts c.serial.new.harts _ c.serial.new.state c.serial.ensures.turns)
 
 pub add-requires : goal.add-requires
 add-requires g c =
@@ -125,7 +121,7 @@ returns-clause-ok g c = λ rs a.
     let events = subst (λ (x : List Outcome). (es : List Event) → g.E.EventKeeper.keeps c.make_room.new.self es → g.E.EventKeeper.keeps c.add.new.self (es ++ round_events phase.round x c.serial.new.state.log.closed)) same c.add.ensures.kept in (
       all,
       finished,
-      omega (arith, c.requires.counted, c.serial_count.ensures, count_events g.E.EventKeeper.logs m phase.round rs os closed a),
+      omega (arith, c.requires.counted, c.len.ensures, count_events g.E.EventKeeper.logs m phase.round rs os closed a),
       λ es k. by_rounds (g.E.EventKeeper.keeps c.add.new.self) g.E.EventKeeper.logs (λ e. g.met.E.EventKeeper.keeps_any e c.add.new.self) m phase.round rs os closed es a (events es (c.in_ok-adopts.ensures.kept es k)),
     )
 
@@ -136,7 +132,7 @@ returns-clause-few g c =
     let start : SharedState = record c.make_turn_room.new.shared { pages = c.commit.new.pages; reservations = c.commit.new.table } in
     let served = subst (λ (hs : List Hart). TakesTurns (serial_done phase hs start) c.serial.new.harts start c.serial.new.state) (c.give_harts.ensures ∙ ap harts_of c.in_ok-adopts.ensures.outcomes) c.serial.ensures.turns in
     let fits = log_of phase (waits_of os) (harts_of os) c.serial.new.harts start c.serial.new.state (length-waits os ∙ sym (length-harts os)) c.requires.waiting served in
-    omega (arith, c.requires.accesses, c.requires.counted, c.serial_count.ensures, fits.fits, few_turns phase.budget (waits_of os) c.requires.budget, length-waits os, c.requires.few)
+    omega (arith, c.requires.accesses, c.requires.counted, c.len.ensures, fits.fits, few_turns phase.budget (waits_of os) c.requires.budget, length-waits os, c.requires.few)
 
 pub overflow_add-events : goal.overflow_add-events
 overflow_add-events g c =
@@ -145,4 +141,4 @@ overflow_add-events g c =
     let start : SharedState = record c.make_turn_room.new.shared { pages = c.commit.new.pages; reservations = c.commit.new.table } in
     let served = subst (λ (hs : List Hart). TakesTurns (serial_done phase hs start) c.serial.new.harts start c.serial.new.state) (c.give_harts.ensures ∙ ap harts_of c.in_ok-adopts.ensures.outcomes) c.serial.ensures.turns in
     let fits = log_of phase (waits_of os) (harts_of os) c.serial.new.harts start c.serial.new.state (length-waits os ∙ sym (length-harts os)) c.requires.waiting served in
-    omega (arith, c.requires.accesses, c.requires.counted, c.serial_count.ensures, fits.fits, few_turns phase.budget (waits_of os) c.requires.budget, length-waits os, c.requires.few)
+    omega (arith, c.requires.accesses, c.requires.counted, c.len.ensures, fits.fits, few_turns phase.budget (waits_of os) c.requires.budget, length-waits os, c.requires.few)

@@ -8,7 +8,7 @@ use Rattle.hart_step.specs.Words.{words_of}
 use Rattle.machine.specs.declared.outcome.Outcome.{Outcome}
 use Rattle.machine.specs.Guests.{Guest, guest_events, guest_of, next_guest}
 use Rattle.machine.specs.Machine.{count_waiting}
-use Rattle.machine.specs.Outcomes.{AreAtRest, AreFit, AreOutcomes, count_accesses, count_true, mask_of, waits_of}
+use Rattle.machine.specs.Outcomes.{AreAtRest, AreFit, AreKept, AreOutcomes, count_accesses, count_true, harts_of, mask_of, waits_of}
 use Rattle.machine.proofs.AtRest.{at_rest}
 use Rattle.machine.proofs.CodeKept.{rounds_touch}
 use Rattle.machine.proofs.Counted.{few_accesses}
@@ -171,9 +171,12 @@ invariant_of-self-2 g c =
     let i = c.self.inside in
     let many = many_here g.E.EventKeeper.logs c.args.plan.now c.args.done i.harts.items i.shared _ c.args.outcomes.items c.self.view_is c.requires.outcomes in
     let whole : take i.harts.len (c.finish.new.harts ++ drop (length c.finish.new.harts) i.harts.items) ≡ c.finish.new.harts = take_at c.finish.new.harts _ i.harts.len (omega (arith, c.finish.auto.harts, c.deref_mut-2.ensures.len, ap length c.deref_mut-2.ensures.value)) in
+    let all : take c.args.outcomes.len (c.finish.new.outcomes ++ drop (length c.finish.new.outcomes) c.args.outcomes.items) ≡ c.finish.new.outcomes =
+    take_at c.finish.new.outcomes _ c.args.outcomes.len (omega (arith, c.finish.auto.outcomes, c.deref_mut.ensures.len, ap length c.deref_mut.ensures.value)) in
     record {
       size = c.finish.ensures.size ∙ c.self.invariant.size ∙ sym (ap length whole ∙ omega (arith, c.finish.auto.harts, ap length c.deref_mut-2.ensures.value));
       shows = c.finish.ensures.shows;
+      kept = subst (λ (hs : List Hart). AreKept hs (harts_of (take c.args.outcomes.len (c.finish.new.outcomes ++ drop (length c.finish.new.outcomes) c.args.outcomes.items)))) (sym whole) (subst (λ (os : List Outcome). AreKept c.finish.new.harts (harts_of os)) (sym all) c.in_ok-counts.ensures.kept);
     }
 
 pub returns-clause-count : goal.returns-clause-count
