@@ -127,30 +127,26 @@ pub(crate) fn machine_on(
     requires some_harts { 1 ≤ harts }
     requires few_harts { harts ≤ 64 }
 {
-    let image = match load_flat(alloc, &flat(alloc, words)?, pages) {
-        Ok(image) => image,
-        Err(error) => return Err(RunError::Image(error)),
-    };
-    match Plan::parse(alloc, plan, harts) {
-        Ok(plan) => Machine::new(alloc, image, Vec::new(alloc), plan),
-        Err(error) => Err(RunError::Plan(error)),
-    }
+    machine_by_budget(alloc, words, pages, harts, plan, 1)
 }
 
-/// The machine of these words on one page, without input, with a serial budget.
+/// The same with a serial budget.
 pub(crate) fn machine_by_budget(
     alloc: Global,
     words: &[u32],
+    pages: u32,
     harts: u32,
     plan: &[u8],
     budget: u32,
 ) -> Result<Machine, RunError>
+    requires some_pages { 1 ≤ pages }
+    requires few_pages { pages ≤ 16384 }
     requires some_harts { 1 ≤ harts }
     requires few_harts { harts ≤ 64 }
     requires some_budget { 1 ≤ budget }
     requires few_budget { budget ≤ 1000 }
 {
-    let image = match load_flat(alloc, &flat(alloc, words)?, 1) {
+    let image = match load_flat(alloc, &flat(alloc, words)?, pages) {
         Ok(image) => image,
         Err(error) => return Err(RunError::Image(error)),
     };

@@ -61,5 +61,16 @@ pub(crate) const ADDED: [u32; 6] = [
 /// ADDI x5,x0,7; SD x5,256(x0); LD x6,257(x0).
 pub(crate) const MISALIGNED: [u32; 3] = [0x0070_0293, 0x1050_3023, 0x1010_3303];
 
+/// ADDI x5,x0,7; BNE x10,x0,12; SD x5,256(x0); LD x6,257(x0), which stops hart 0. Other harts: ADDI x5,x0,9; SD x5,256(x0); JAL x0,0.
+pub(crate) const STORED_BEFORE_A_STOP: [u32; 7] = [
+    0x0070_0293,
+    0x0005_1663,
+    0x1050_3023,
+    0x1010_3303,
+    0x0090_0293,
+    0x1050_3023,
+    0x0000_006F,
+];
+
 /// ADDI x17,x0,2; ECALL; ADDI x17,x0,1; ECALL: the next input byte is put to the output.
 pub(crate) const ECHO: [u32; 4] = [0x0020_0893, 0x0000_0073, 0x0010_0893, 0x0000_0073];

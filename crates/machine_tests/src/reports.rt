@@ -1,7 +1,7 @@
 use crate::harness::{answer, machine_of, report, report_is, report_of, settings};
 use crate::images::{
     ADDED, CROSSED, CROSSED_AND_FENCED, ECHO, EXIT, MISALIGNED, OWN_STORE, RESERVED,
-    STORE_THEN_LOAD,
+    STORE_THEN_LOAD, STORED_BEFORE_A_STOP,
 };
 use host_io::RunError;
 use machine::{Format, Machine, Settings};
@@ -321,6 +321,38 @@ fn a_stop_keeps_what_was_stored(rt: HostRuntime) {
             &MISALIGNED,
             &[],
             &settings(1, 1, b"9\n"),
+            wanted
+        )
+    );
+}
+
+#[test]
+fn stores_before_a_stop_are_put_once(rt: HostRuntime) {
+    // Hart 0 stores 7 and stops in round 1, hart 1 stores 9 to the same place in round 2, and two more rounds leave it there.
+    let wanted = "rounds 4\n\
+                  hart 0 pc 000000000000000c done 3 stop 5\n\
+                  x5 0000000000000007\n\
+                  x11 0000000000000002\n\
+                  hart 1 pc 0000000000000018 done 8 running\n\
+                  x5 0000000000000009\n\
+                  x10 0000000000000001\n\
+                  x11 0000000000000002\n\
+                  memory 1\n\
+                  00000000 93027000631605002330501003331010\n\
+                  00000010 93029000233050106f00000000000000\n\
+                  00000100 09000000000000000000000000000000\n\
+                  output 0\n\
+                  trace 2\n\
+                  1 0 2 p store - 00000100 8 - 0000000000000007\n\
+                  2 1 3 p store - 00000100 8 - 0000000000000009\n\
+                  end\n";
+    assert!(rt;
+        report_is(
+            &rt,
+            rt.alloc(),
+            &STORED_BEFORE_A_STOP,
+            &[],
+            &settings(2, 4, b"4 2\n"),
             wanted
         )
     );

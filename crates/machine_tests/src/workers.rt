@@ -192,7 +192,7 @@ fn report_by_budget<R: Threads + Wait + Sync>(
     requires some_budget { 1 ≤ budget }
     requires few_budget { budget ≤ 1000 }
 {
-    let mut machine = machine_by_budget(alloc, &SHARED_COUNTERS, 8, b"50\n", budget)?;
+    let mut machine = machine_by_budget(alloc, &SHARED_COUNTERS, 1, 8, b"50\n", budget)?;
     let text = report_after(rt, alloc, &mut machine, rounds, workers);
     drop(machine);
     text
