@@ -3,5 +3,7 @@ pub mod Digits
 pub mod Tails
 pub mod Writing
 pub mod RowsMore
+pub mod Zeros
+pub mod Pairs
 pub mod Orders
 mod InBlocks

@@ -1,11 +1,15 @@
-ghost use Rattle.std.specs.Prelude.{◌≡◌, ℕ, ◌+◌, ◌/◌, ◌%◌, ◌≤◌, ◌<◌, List, [], ◌∷◌, ◌++◌, IfOk, OnOk, length, take};
+ghost use Rattle.std.specs.Prelude.{◌≡◌, ℕ, ◌+◌, ◌*◌, ◌/◌, ◌%◌, ◌≤◌, ◌<◌, List, [], ◌∷◌, ◌++◌, IfOk, OnOk, codes, length, take};
 ghost use Rattle.std.specs.Fmt.{decimal};
+ghost use Rattle.report.specs.Report.{bytes_text};
 ghost use Rattle.report.specs.Text.{hex, hex_digit};
 
 use itoa::write_digits;
 use pages::OutOfMemory;
 use std::alloc::Global;
 use std::marker::Model;
+
+/// How many bytes the line of 16 bytes of memory has: 8 digits, a blank, 32 digits and its end.
+const ROW_BYTES: usize = 42;
 
 /// Text on its way to a sink: bytes that are kept until they are taken out.
 #[derive(Drop)]
@@ -76,6 +80,19 @@ impl Line {
         Ok(())
     }
 
+    /// Adds the line of the 16 bytes from an address on. Room for it all is made at once.
+    #[inline(always)]
+    pub(crate) fn row(&mut self, address: u64, row: &[u8]) -> Result<(), OutOfMemory>
+        requires { length row.now ≡ 16 }
+        ensures { OnOk result (self.new ≡
+            self.old ++ (hex 8 address ++ codes " " ++ bytes_text row.now ++ codes "\n")) }
+    {
+        let start = self.bytes.len();
+        self.bytes(&[b' '; ROW_BYTES])?;
+        write_row(&mut self.bytes[start..], address, row);
+        Ok(())
+    }
+
     /// Adds text.
     pub fn text(&mut self, text: &str) -> Result<(), OutOfMemory>
         ensures { OnOk result (self.new ≡ self.old ++ text.now) }
@@ -121,6 +138,32 @@ pub(crate) fn write_hex(room: &mut [u8], number: u64)
     if place == 1 {
         let (_, low) = digits_of((rest % 256) as u8);
         room[0] = low;
+    }
+}
+
+/// Fills the room with the line of the 16 bytes from an address on.
+#[inline(always)]
+fn write_row(room: &mut [u8], address: u64, row: &[u8])
+    requires room { length room.old ≡ 42 }
+    requires row { length row.now ≡ 16 }
+    ensures { room.new ≡ hex 8 address ++ codes " " ++ bytes_text row.now ++ codes "\n" }
+{
+    write_hex(&mut room[..8], address);
+    room[8] = b' ';
+    write_bytes(&mut room[9..41], row);
+    room[41] = b'\n';
+}
+
+/// Fills the room with bytes, two digits each.
+#[inline(always)]
+pub(crate) fn write_bytes(room: &mut [u8], bytes: &[u8])
+    requires { length room.old ≡ 2 * length bytes.now }
+    ensures { room.new ≡ bytes_text bytes.now }
+{
+    for (place, byte) in bytes.iter().enumerate() {
+        let (high, low) = digits_of(*byte);
+        room[2 * place] = high;
+        room[2 * place + 1] = low;
     }
 }
 

@@ -2,37 +2,32 @@ ghost use Rattle.std.specs.Prelude.{◌≡◌, ◌+◌, ◌*◌, ◌<◌, ◌≤
 ghost use Rattle.std.specs.Fmt.{decimal};
 ghost use Rattle.report.specs.Report.{all_zero, bytes_text, memory_row, memory_rows};
 
-use crate::line::Line;
+use crate::line::{Line, write_bytes};
 use pages::OutOfMemory;
 
-/// Adds bytes, two digits each.
-fn bytes(line: &mut Line, bytes: &[u8]) -> Result<(), OutOfMemory>
-    ensures { OnOk result (line.new ≡ line.old ++ bytes_text bytes.now) }
-{
-    for byte in bytes {
-        line.hex(*byte as u64, 2)?;
-    }
-    Ok(())
-}
-
+/// Whether bytes are all 0. They are joined, so that no branch is taken for each of them.
+#[inline(always)]
 fn is_zero(bytes: &[u8]) -> bool
     ensures { result ≡ all_zero bytes.now }
 {
-    bytes.iter().all(|byte| *byte == 0)
+    let mut joined = 0;
+    for byte in bytes {
+        joined |= *byte;
+    }
+    joined == 0
 }
 
 /// Adds the line of the 16 bytes from an address on, where they are not all 0.
+#[inline(always)]
 #[tactic(auto, unfolding(crate::specs::Report::memory_row))]
 fn memory_row(line: &mut Line, address: u64, row: &[u8]) -> Result<(), OutOfMemory>
+    requires { length row.now ≡ 16 }
     ensures { OnOk result (line.new ≡ line.old ++ memory_row address row.now) }
 {
     if is_zero(row) {
         return Ok(());
     }
-    line.hex(address, 8)?;
-    line.text(" ")?;
-    bytes(line, row)?;
-    line.text("\n")
+    line.row(address, row)
 }
 
 /// Adds the lines of a page's bytes.
@@ -48,8 +43,20 @@ pub(crate) fn page_rows(line: &mut Line, address: u64, page: &[u8]) -> Result<()
     Ok(())
 }
 
+/// Adds bytes, two digits each.
+fn bytes(line: &mut Line, bytes: &[u8]) -> Result<(), OutOfMemory>
+    requires { length bytes.now ≤ 32 }
+    ensures { OnOk result (line.new ≡ line.old ++ bytes_text bytes.now) }
+{
+    let mut room = [0; 64];
+    let text = &mut room[..2 * bytes.len()];
+    write_bytes(text, bytes);
+    line.bytes(text)
+}
+
 fn first_32(bytes: &[u8]) -> &[u8]
-    ensures { result.now ≡ take 32 bytes.now }
+    ensures text { result.now ≡ take 32 bytes.now }
+    ensures length { length result.now ≤ 32 }
 {
     if bytes.len() < 32 {
         return bytes;
