@@ -17,7 +17,7 @@ bytes_more xs i b l e =
     ap bytes_text (take_more xs i 0 l) ∙ bytes-append (take i xs) (get_or xs i 0 ∷ []) ∙ ap (λ (z : List ℕ). bytes_text (take i xs) ++ z) (append-nil (hex 2 (get_or xs i 0)))
     ∙ ap (λ (z : ℕ). bytes_text (take i xs) ++ hex 2 z) (sym e)
 
-rows-add : (m n a : ℕ) (bs : List ℕ) → memory_rows a bs (m + n) ≡ memory_rows a bs m ++ memory_rows (a + 16 * m) (drop (16 * m) bs) n
+pub rows-add : (m n a : ℕ) (bs : List ℕ) → memory_rows a bs (m + n) ≡ memory_rows a bs m ++ memory_rows (a + 16 * m) (drop (16 * m) bs) n
 unfolding memory_rows
 rows-add zero n a bs =
     let none : zero + n ≡ n = omega arith in
@@ -47,7 +47,7 @@ pub no_rows : (a : ℕ) (bs : List ℕ) → memory_rows a bs 0 ≡ []
 unfolding memory_rows
 no_rows a bs = refl
 
-rows-take : (n a : ℕ) (bs : List ℕ) → memory_rows a (take (16 * n) bs) n ≡ memory_rows a bs n
+pub rows-take : (n a : ℕ) (bs : List ℕ) → memory_rows a (take (16 * n) bs) n ≡ memory_rows a bs n
 unfolding memory_rows
 rows-take zero a bs = refl
 rows-take (suc n) a bs =

@@ -158,3 +158,17 @@ put_by text bytes s (Err x) n e l m ok begun failed only counts = (
     },
   ),
 )
+
+-- a text that goes by a line of its own, which is empty before and after
+pub by_own_line : (text line : List ℕ) (s n : Way) (r : Answer) → line ≡ [] → OnOk r (n.line ≡ []) → Wrote text (record s { line = line }) r n → Wrote text (record s { line = [] }) r (record n { line = [] })
+unfolding Wrote
+by_own_line text line s n (Ok v) none empty h =
+    let p = h.1 in
+    (h.0, record { gone = p.gone; out = p.out; text_is = ap (λ (z : List ℕ). z ++ text) (sym none) ∙ p.text_is ∙ ap (λ (z : List ℕ). p.gone ++ z) empty })
+by_own_line text line s n (Err e) none empty h =
+    let p = h.1.1 in
+    (h.0, (h.1.0, record { gone = p.gone; out = p.out; text_is = ap (λ (z : List ℕ). z ++ text) (sym none) ∙ p.text_is }))
+
+-- what was put is put with no more after it
+pub put_now : (text : List ℕ) (s m : Way) (r : Answer) (n : Way) → Wrote text s (Ok tt) m → Wrote [] m r n → Wrote text s r n
+put_now text s m r n h k = subst (λ (z : List ℕ). Wrote z s r n) (append-nil text) (wrote_then text [] s m r n h k)

@@ -1,79 +1,84 @@
-//! The lines of a block of events, whose type keeps that they are right.
+//! The lines of a piece, whose type keeps that they are right.
 
-ghost use Rattle.std.specs.Prelude.{◌≡◌, ◌*◌, ◌<◌, ◌^◌, List, [], IfOk, OnOk};
+ghost use Rattle.std.specs.Prelude.{◌≡◌, ℕ, List, [], IfOk};
 ghost use Rattle.round_schedule.specs.declared.event.Event.{Event};
-ghost use Rattle.report.specs.Blocks.{block_text};
+ghost use Rattle.report.specs.Blocks.{piece_text};
 
 use crate::line::Line;
-use crate::tail::Tail;
-use crate::text::event_line;
-use pages::OutOfMemory;
+use crate::piece::{EVENTS, Piece};
+use pages::{OutOfMemory, Pages};
 use std::alloc::Global;
 use std::marker::{Brand, PhantomData};
 use trace::Trace;
 
-/// How many events a block has.
-pub(crate) const BLOCK: usize = 16_384;
+/// How many bytes a block's text has room for at once: most lines of events have at most 72.
+const BLOCK_BYTES: usize = 72 * EVENTS;
 
-/// How many bytes a block's text has room for at once: most lines have at most 72.
-const BLOCK_BYTES: usize = 72 * BLOCK;
+/// What is put, in proofs alone: memory, the output and the events. Each call that puts some picks them.
+pub(crate) trait PutBody {
+    ghost bytes: { List ℕ };
 
-/// Which events are put, in proofs alone. Each call that puts some picks them.
-pub(crate) trait PutEvents {
+    ghost output: { List ℕ };
+
     ghost events: { List Event };
 }
 
-impl PutEvents for Brand {
+impl PutBody for Brand {
+    ghost bytes = { [] };
+
+    ghost output = { [] };
+
     ghost events = { [] };
 }
 
-/// The lines of one block of the events. A worker knows no more of what another one made than what this type says.
+/// The lines of one piece. A worker knows no more of what another one made than what this type says.
 #[derive(Drop)]
-pub(crate) struct Block<B: PutEvents> {
-    number: usize,
+pub(crate) struct Block<B: PutBody> {
+    piece: Piece,
     text: Line,
     of: PhantomData<B>,
-    ghost right: { text ≡ block_text B.events (16384 * number) },
+    ghost right: { text ≡ piece_text B.bytes B.events piece },
 }
 
-impl<B: PutEvents> Block<B> {
-    fn new(number: usize, text: Line) -> Block<B>
-        requires { text ≡ block_text B.events (16384 * number) }
-        ensures { result.number ≡ number }
+impl<B: PutBody> Block<B> {
+    fn new(piece: Piece, text: Line) -> Block<B>
+        requires { text ≡ piece_text B.bytes B.events piece }
+        ensures { result.piece ≡ piece }
     {
         Block {
-            number,
+            piece,
             text,
             of: PhantomData,
         }
     }
 
-    /// Formats a block, in a line that is taken for its room if there is one.
+    /// Formats a piece, in a line that is taken for its room if there is one.
     pub(crate) fn format(
         alloc: Global,
+        pages: &Pages,
         trace: &Trace,
-        number: usize,
+        piece: Piece,
         room: Option<Line>,
     ) -> Result<Block<B>, OutOfMemory>
+        requires bytes { pages.now.memory.bytes ≡ B.bytes }
         requires events { trace.now.events ≡ B.events }
-        requires bounded { 16384 * number < 2 ^ 64 }
-        ensures { IfOk result (λ b. b.number ≡ number) }
+        ensures { IfOk result (λ b. b.piece ≡ piece) }
     {
         let mut text = emptied(alloc, room)?;
-        put_lines(&mut text, trace, BLOCK * number)?;
-        Ok(Block::new(number, text))
+        piece.add_to(&mut text, pages, trace)?;
+        Ok(Block::new(piece, text))
     }
 
-    /// Which block it is.
-    pub(crate) fn number(&self) -> usize
-        ensures { result ≡ self.now.number }
+    /// Which piece it is.
+    pub(crate) fn piece(&self) -> Piece
+        ensures { result ≡ self.now.piece }
     {
-        self.number
+        self.piece
     }
 
     /// Its lines.
     pub(crate) fn into_text(self) -> Line
-        ensures { result ≡ block_text B.events (16384 * self.number) }
+        ensures { result ≡ piece_text B.bytes B.events self.piece }
     {
         self.text
     }
@@ -90,16 +95,4 @@ fn emptied(alloc: Global, room: Option<Line>) -> Result<Line, OutOfMemory>
         }
         None => Line::with_capacity(alloc, BLOCK_BYTES),
     }
-}
-
-/// Adds the lines of the block that begins with the event at a place.
-fn put_lines(line: &mut Line, trace: &Trace, start: usize) -> Result<(), OutOfMemory>
-    requires { line.old ≡ [] }
-    ensures { OnOk result (line.new ≡ block_text trace.now.events start) }
-{
-    let mut tail = Tail::new();
-    for event in trace.events_from(start).take(BLOCK) {
-        event_line(line, &mut tail, &event)?;
-    }
-    Ok(())
 }

@@ -1,16 +1,16 @@
-//! The lines of events in blocks, which several workers format beside each other.
+//! The lines of memory and of the events in blocks, which several workers format beside each other.
 
-ghost use Rattle.std.specs.Prelude.{◌≡◌, ◌-◌, ◌<◌, ◌≤◌, []};
+ghost use Rattle.std.specs.Prelude.{◌≡◌, ◌<◌, ◌≤◌, []};
 ghost use denote.Param.Send.{IsSync};
+ghost use Rattle.report.specs.Blocks.{body_text};
 ghost use Rattle.report.specs.Pending.{Wrote, way};
-ghost use Rattle.report.specs.Report.{events_text, trace_text};
+ghost use Rattle.report.specs.RunStates.{body_of};
 
-use crate::block::{BLOCK, PutEvents};
+use crate::block::PutBody;
+use crate::cut::Cut;
 use crate::formatting::Formatting;
-use crate::line::Line;
 use crate::putting::put_all_blocks;
-use crate::state::{put_count, put_trace};
-use crate::writer::put_line;
+use crate::run_state::RunState;
 use host_io::{RunError, Sink};
 use std::alloc::Global;
 use std::marker::Brand;
@@ -20,14 +20,14 @@ use trace::Trace;
 
 /// Puts the blocks on the calling thread, with so many other threads that format them.
 #[cycle(workers)]
-fn put_with<B: PutEvents + Send + Sync, S: Sink, R: Threads + Wait + Sync>(
+fn put_with<B: PutBody + Send + Sync, S: Sink, R: Threads + Wait + Sync>(
     rt: &R,
     others: usize,
     formatting: &Formatting<'_, B>,
     out: &mut S,
 ) -> Result<(), RunError>
-    ensures { Wrote (events_text B.events) (way (S.took out.old) (S.failures out.old) []) result
-        (way (S.took out.new) (S.failures out.new) []) }
+    ensures { Wrote (body_text B.bytes B.output B.events) (way (S.took out.old) (S.failures out.old)
+        []) result (way (S.took out.new) (S.failures out.new) []) }
 {
     if others == 0 {
         put_all_blocks::<B, S, R>(rt, formatting, out)
@@ -39,79 +39,65 @@ fn put_with<B: PutEvents + Send + Sync, S: Sink, R: Threads + Wait + Sync>(
 /// Starts one thread that formats blocks, and puts them with so many further ones. Where the thread can't be started, its work
 /// comes last, and finds none left.
 #[cycle(workers)]
-fn put_beside<B: PutEvents + Send + Sync, S: Sink, R: Threads + Wait + Sync>(
+fn put_beside<B: PutBody + Send + Sync, S: Sink, R: Threads + Wait + Sync>(
     rt: &R,
     others: usize,
     formatting: &Formatting<'_, B>,
     out: &mut S,
 ) -> Result<(), RunError>
-    ensures { Wrote (events_text B.events) (way (S.took out.old) (S.failures out.old) []) result
-        (way (S.took out.new) (S.failures out.new) []) }
+    ensures { Wrote (body_text B.bytes B.output B.events) (way (S.took out.old) (S.failures out.old)
+        []) result (way (S.took out.new) (S.failures out.new) []) }
 {
     let mut theirs = || formatting.work(rt);
     let mut ours = || -> Result<(), RunError>
         requires { IsSync R.row × IsSync B.row }
-        ensures { Wrote (events_text B.events) (way (S.took out.entry.now)
+        ensures { Wrote (body_text B.bytes B.output B.events) (way (S.took out.entry.now)
             (S.failures out.entry.now) []) result
             (way (S.took out.exit.now) (S.failures out.exit.now) []) }
     { put_with(rt, others, formatting, out) };
     thread::join_mut(rt, &mut theirs, &mut ours).1
 }
 
-/// Puts the lines of the events that the brand names. The threads are started once for all blocks: on a busy machine a new thread
-/// may wait longer for a processor than a block takes.
-fn put_events_of<B: PutEvents + Send + Sync, S: Sink, R: Threads + Wait + Sync>(
+/// Puts what the brand names. The threads are started once for all blocks: on a busy machine a new thread may wait longer for a
+/// processor than a block takes.
+fn put_body_of<B: PutBody + Send + Sync, S: Sink, R: Threads + Wait + Sync>(
     rt: &R,
     workers: usize,
     alloc: Global,
     out: &mut S,
+    cut: Cut,
+    state: &RunState<'_>,
     trace: &Trace,
 ) -> Result<(), RunError>
+    requires bytes { state.now.pages.now.memory.bytes ≡ B.bytes }
+    requires output { state.now.output.now ≡ B.output }
     requires events { trace.now.events ≡ B.events }
     requires some { 0 < workers }
     requires few { workers ≤ 16 }
-    ensures { Wrote (events_text trace.now.events) (way (S.took out.old) (S.failures out.old) [])
-        result (way (S.took out.new) (S.failures out.new) []) }
+    ensures { Wrote (body_of state.now trace.now.events) (way (S.took out.old) (S.failures out.old)
+        []) result (way (S.took out.new) (S.failures out.new) []) }
 {
-    let formatting = Formatting::<B>::new(alloc, trace, workers);
+    let formatting = Formatting::<B>::new(alloc, cut, state, trace, workers);
     // The calling thread is a worker, and one without a block isn't needed.
     let others = workers.min(formatting.blocks()).saturating_sub(1);
     put_with(rt, others, &formatting, out)
 }
 
-/// Puts the lines of all events, by so many workers, with at most two blocks for each of them in memory at a time.
-fn put_blocks<S: Sink, R: Threads + Wait + Sync>(
+/// Puts the lines of memory, the output and the events, by so many workers, with at most two blocks for each of them in memory at
+/// a time.
+pub(crate) fn put_body<S: Sink, R: Threads + Wait + Sync>(
     rt: &R,
     workers: usize,
     alloc: Global,
     out: &mut S,
+    cut: Cut,
+    state: &RunState<'_>,
     trace: &Trace,
 ) -> Result<(), RunError>
     requires some { 0 < workers }
     requires few { workers ≤ 16 }
-    ensures { Wrote (events_text trace.now.events) (way (S.took out.old) (S.failures out.old) [])
-        result (way (S.took out.new) (S.failures out.new) []) }
+    ensures { Wrote (body_of state.now trace.now.events) (way (S.took out.old) (S.failures out.old)
+        []) result (way (S.took out.new) (S.failures out.new) []) }
 {
-    put_events_of::<Brand, S, R>(rt, workers, alloc, out, trace)
-}
-
-/// Puts the line of how many events there are, and those of the events, which so many workers format.
-pub(crate) fn put_trace_on<S: Sink, R: Threads + Wait + Sync>(
-    rt: &R,
-    workers: usize,
-    alloc: Global,
-    out: &mut S,
-    line: &mut Line,
-    trace: &Trace,
-) -> Result<(), RunError>
-    requires { workers ≤ 16 }
-    ensures { Wrote (trace_text trace.now.events) (way (S.took out.old) (S.failures out.old)
-        line.old) result (way (S.took out.new) (S.failures out.new) line.new) }
-{
-    if workers <= 1 || trace.len() <= BLOCK {
-        return put_trace(out, line, trace);
-    }
-    put_count(out, line, "trace ", trace.len() as u64)?;
-    put_line(out, line)?;
-    put_blocks(rt, workers, alloc, out, trace)
+    put_body_of::<Brand, S, R>(rt, workers, alloc, out, cut, state, trace)
 }

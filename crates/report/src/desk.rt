@@ -1,8 +1,8 @@
 //! The desk of a report's workers: which blocks are claimed, and those that are formatted and not yet put.
 
-ghost use Rattle.std.specs.Prelude.{◌≡◌, ◌+◌, ◌*◌, ◌<◌, ◌≤◌, ◌^◌};
+ghost use Rattle.std.specs.Prelude.{◌<◌, ◌≤◌};
 
-use crate::block::{Block, PutEvents};
+use crate::block::{Block, PutBody};
 use crate::line::Line;
 use pages::OutOfMemory;
 use std::{array, mem};
@@ -12,7 +12,7 @@ const SLOTS: usize = 32;
 
 /// What lies in a slot.
 #[derive(Drop)]
-enum Slot<B: PutEvents> {
+enum Slot<B: PutBody> {
     /// Nothing.
     Empty,
     /// A line that was put, for its room.
@@ -26,14 +26,11 @@ enum Slot<B: PutEvents> {
 pub(crate) struct Claim {
     number: usize,
     room: Option<Line>,
-    ghost bounded: { 16384 * number < 2 ^ 64 },
 }
 
 impl Claim {
     /// Which block it is, and the room.
-    pub(crate) fn into_parts(self) -> (usize, Option<Line>)
-        ensures { 16384 * result.0 < 2 ^ 64 }
-    {
+    pub(crate) fn into_parts(self) -> (usize, Option<Line>) {
         (self.number, self.room)
     }
 }
@@ -41,22 +38,20 @@ impl Claim {
 /// Which blocks are claimed, formatted and put. The slot of a block is that of the one a whole window before it, so no block is
 /// claimed until that one was put, and no more than a window of them is in memory.
 #[derive(Drop)]
-pub(crate) struct Desk<B: PutEvents> {
+pub(crate) struct Desk<B: PutBody> {
     blocks: usize,
     window: usize,
     claimed: usize,
     put: usize,
     over: bool,
     slots: [Slot<B>; SLOTS],
-    ghost bounded: { 16384 * blocks < 2 ^ 64 + 16384 },
     ghost some: { 0 < window },
     ghost few: { window ≤ 32 },
 }
 
-impl<B: PutEvents> Desk<B> {
+impl<B: PutBody> Desk<B> {
     /// A desk for so many blocks, of which none is claimed.
     pub(crate) fn new(blocks: usize, window: usize) -> Desk<B>
-        requires bounded { 16384 * blocks < 2 ^ 64 + 16384 }
         requires some { 0 < window }
         requires few { window ≤ 32 }
     {

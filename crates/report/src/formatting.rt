@@ -1,30 +1,38 @@
-//! How workers format blocks of events beside each other.
+//! How workers format the blocks of a report beside each other.
 
-ghost use Rattle.std.specs.Prelude.{◌≡◌, ◌+◌, ◌*◌, ◌<◌, ◌≤◌, ◌^◌, IfOk, length};
-ghost use Rattle.report.specs.Blocks.{block_text};
+ghost use Rattle.std.specs.Prelude.{◌≡◌, ◌*◌, ◌<◌, ◌≤◌, ◌^◌, IfOk, length};
+ghost use Rattle.report.specs.Blocks.{piece_text};
 
-use crate::block::{BLOCK, Block, PutEvents};
+use crate::block::{Block, PutBody};
+use crate::cut::Cut;
 use crate::desk::{Claim, Desk};
 use crate::line::Line;
-use pages::OutOfMemory;
+use crate::piece::Piece;
+use crate::run_state::RunState;
+use pages::{OutOfMemory, Pages};
 use std::alloc::Global;
 use std::sync::{Condvar, Mutex, Wait};
 use trace::Trace;
 
 /// What the workers of a report share.
 #[derive(Drop)]
-pub(crate) struct Formatting<'a, B: PutEvents> {
+pub(crate) struct Formatting<'a, B: PutBody> {
     alloc: Global,
+    pages: &'a Pages,
+    output: &'a [u8],
     trace: &'a Trace,
+    cut: Cut,
     desk: Mutex<Desk<B>>,
     // Told of each block that is formatted or put.
     moved: Condvar,
+    ghost bytes: { pages.now.memory.bytes ≡ B.bytes },
+    ghost shown: { output.now ≡ B.output },
     ghost events: { trace.now.events ≡ B.events },
 }
 
 /// What the worker that puts the blocks does next.
 #[derive(Drop)]
-pub(crate) enum Turn<B: PutEvents> {
+pub(crate) enum Turn<B: PutBody> {
     /// The next block is formatted, or memory for it was refused.
     Put(Result<Block<B>, OutOfMemory>),
     /// It isn't, and a block is to be formatted meanwhile.
@@ -33,28 +41,71 @@ pub(crate) enum Turn<B: PutEvents> {
     Nothing,
 }
 
-impl<'a, B: PutEvents> Formatting<'a, B> {
-    /// The work on these events, of which no block is claimed.
-    pub(crate) fn new(alloc: Global, trace: &'a Trace, workers: usize) -> Formatting<'a, B>
+impl<'a, B: PutBody> Formatting<'a, B> {
+    /// The work on a state and these events, of which no block is claimed.
+    pub(crate) fn new(
+        alloc: Global,
+        cut: Cut,
+        state: &RunState<'a>,
+        trace: &'a Trace,
+        workers: usize,
+    ) -> Formatting<'a, B>
+        requires bytes { state.now.pages.now.memory.bytes ≡ B.bytes }
+        requires output { state.now.output.now ≡ B.output }
         requires events { trace.now.events ≡ B.events }
         requires some { 0 < workers }
         requires few { workers ≤ 16 }
     {
-        let desk = Desk::new(trace.len().div_ceil(BLOCK), 2 * workers);
+        let desk = Desk::new(cut.pieces(), 2 * workers);
         Formatting {
             alloc,
+            pages: state.pages,
+            output: state.output,
             trace,
+            cut,
             desk: Mutex::new(desk),
             moved: Condvar::new(),
         }
     }
 
-    /// How many blocks there are, the last of which may be short.
-    pub(crate) fn blocks(&self) -> usize
-        ensures enough { length B.events ≤ 16384 * result }
-        ensures bounded { 16384 * result < 2 ^ 64 + 16384 }
+    /// The allocator of all texts.
+    pub(crate) fn allocator(&self) -> Global {
+        self.alloc
+    }
+
+    /// How many blocks there are.
+    pub(crate) fn blocks(&self) -> usize {
+        self.cut.pieces()
+    }
+
+    /// How many pages there are.
+    pub(crate) fn page_count(&self) -> u32
+        ensures bytes { 4096 * result ≡ length B.bytes }
+        ensures most { result ≤ 16384 }
     {
-        self.trace.len().div_ceil(BLOCK)
+        self.pages.count()
+    }
+
+    /// How many pages a block has, if so many are left.
+    pub(crate) fn page_step(&self) -> u32
+        ensures some { 0 < result }
+        ensures most { result ≤ 16384 }
+    {
+        self.cut.step()
+    }
+
+    /// The output.
+    pub(crate) fn output(&self) -> &[u8]
+        ensures { result.now ≡ B.output }
+    {
+        self.output
+    }
+
+    /// How many events there are.
+    pub(crate) fn event_count(&self) -> usize
+        ensures { result ≡ length B.events }
+    {
+        self.trace.len()
     }
 
     /// Formats blocks until all are claimed, or all is over.
@@ -78,7 +129,8 @@ impl<'a, B: PutEvents> Formatting<'a, B> {
     /// Formats a block, and lays it into its slot.
     pub(crate) fn format_and_lay<R: Wait>(&self, rt: &R, claim: Claim) {
         let (number, room) = claim.into_parts();
-        let block = Block::format(self.alloc, self.trace, number, room);
+        let piece = self.cut.piece(number);
+        let block = Block::format(self.alloc, self.pages, self.trace, piece, room);
         self.desk.lock(rt).lay(number, block);
         self.moved.notify_all();
     }
@@ -97,15 +149,14 @@ impl<'a, B: PutEvents> Formatting<'a, B> {
         }
     }
 
-    /// The lines of a block. Which block was laid into its slot is seen here: another one is not put in its place.
-    pub(crate) fn lines_of(&self, number: usize, block: Block<B>) -> Result<Line, OutOfMemory>
-        requires { 16384 * number < 2 ^ 64 }
-        ensures { IfOk result (λ l. l ≡ block_text B.events (16384 * number)) }
+    /// The lines of a piece. Which block was laid into its slot is seen here: another one is not put in its place.
+    pub(crate) fn lines_of(&self, piece: Piece, block: Block<B>) -> Result<Line, OutOfMemory>
+        ensures { IfOk result (λ l. l ≡ piece_text B.bytes B.events piece) }
     {
-        if block.number() == number {
+        if block.piece() == piece {
             return Ok(block.into_text());
         }
-        let own = Block::<B>::format(self.alloc, self.trace, number, None)?;
+        let own = Block::<B>::format(self.alloc, self.pages, self.trace, piece, None)?;
         Ok(own.into_text())
     }
 

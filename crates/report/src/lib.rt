@@ -3,10 +3,12 @@
 
 mod block;
 mod blocks;
+mod cut;
 mod desk;
 mod formatting;
 mod line;
 mod order;
+mod piece;
 mod putting;
 mod rows;
 mod run_state;

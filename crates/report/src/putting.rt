@@ -1,29 +1,32 @@
 //! How one worker puts the blocks in order, and formats some while the next one isn't done.
 
-ghost use Rattle.std.specs.Prelude.{◌≡◌, ◌*◌, ◌<◌, ◌^◌, [], IfOk};
-ghost use Rattle.report.specs.Blocks.{block_text};
+ghost use Rattle.std.specs.Prelude.{◌≡◌, ◌/◌, [], IfOk, OnOk, length};
+ghost use Rattle.report.specs.Blocks.{body_text, middle_text, piece_text};
 ghost use Rattle.report.specs.Pending.{Wrote, way};
-ghost use Rattle.report.specs.Report.{events_text};
+ghost use Rattle.report.specs.Report.{events_text, memory_rows};
 
-use crate::block::PutEvents;
+use crate::block::PutBody;
 use crate::formatting::{Formatting, Turn};
 use crate::line::Line;
+use crate::piece::{EVENTS, Piece};
+use crate::state::{put_count, put_output};
+use crate::writer::put_line;
 use host_io::{RunError, Sink, put_all};
 use pages::OutOfMemory;
+use std::alloc::Global;
 use std::sync::Wait;
 
 /// The lines of the next block to be put. Until another worker has formatted it, the calling thread formats blocks too.
-fn next_lines<B: PutEvents, R: Wait>(
+fn next_lines<B: PutBody, R: Wait>(
     rt: &R,
     formatting: &Formatting<'_, B>,
-    number: usize,
+    piece: Piece,
 ) -> Result<Line, OutOfMemory>
-    requires { 16384 * number < 2 ^ 64 }
-    ensures { IfOk result (λ l. l ≡ block_text B.events (16384 * number)) }
+    ensures { IfOk result (λ l. l ≡ piece_text B.bytes B.events piece) }
 {
     for _ in rt.forever() {
         match formatting.turn(rt) {
-            Turn::Put(block) => return formatting.lines_of(number, block?),
+            Turn::Put(block) => return formatting.lines_of(piece, block?),
             Turn::Format(claim) => formatting.format_and_lay(rt, claim),
             Turn::Nothing => {}
         }
@@ -39,25 +42,42 @@ fn put_lines<S: Sink>(out: &mut S, lines: &Line) -> Result<(), RunError>
     put_all(out, lines.as_bytes())
 }
 
-/// Puts the next block.
-fn put_block<B: PutEvents, S: Sink, R: Wait>(
+/// Puts the next block, which is to be that of a piece.
+fn put_block<B: PutBody, S: Sink, R: Wait>(
     rt: &R,
     formatting: &Formatting<'_, B>,
     out: &mut S,
-    number: usize,
+    piece: Piece,
 ) -> Result<(), RunError>
-    requires { 16384 * number < 2 ^ 64 }
-    ensures { Wrote (block_text B.events (16384 * number)) (way (S.took out.old)
-        (S.failures out.old) []) result (way (S.took out.new) (S.failures out.new) []) }
+    ensures { Wrote (piece_text B.bytes B.events piece) (way (S.took out.old) (S.failures out.old)
+        []) result (way (S.took out.new) (S.failures out.new) []) }
 {
-    let lines = next_lines::<B, R>(rt, formatting, number)?;
+    let lines = next_lines::<B, R>(rt, formatting, piece)?;
     put_lines(out, &lines)?;
     formatting.count(rt, lines);
     Ok(())
 }
 
-/// Puts all blocks in order.
-fn put_in_order<B: PutEvents, S: Sink, R: Wait>(
+/// Puts the lines of memory.
+fn put_memory_blocks<B: PutBody, S: Sink, R: Wait>(
+    rt: &R,
+    formatting: &Formatting<'_, B>,
+    out: &mut S,
+) -> Result<(), RunError>
+    ensures { Wrote (memory_rows 0 B.bytes (length B.bytes / 16)) (way (S.took out.old)
+        (S.failures out.old) []) result (way (S.took out.new) (S.failures out.new) []) }
+{
+    let count = formatting.page_step();
+    let mut first = 0;
+    while first < formatting.page_count() {
+        put_block::<B, S, R>(rt, formatting, out, Piece::Pages { first, count })?;
+        first += count;
+    }
+    Ok(())
+}
+
+/// Puts the lines of the events.
+fn put_event_blocks<B: PutBody, S: Sink, R: Wait>(
     rt: &R,
     formatting: &Formatting<'_, B>,
     out: &mut S,
@@ -65,20 +85,70 @@ fn put_in_order<B: PutEvents, S: Sink, R: Wait>(
     ensures { Wrote (events_text B.events) (way (S.took out.old) (S.failures out.old) []) result
         (way (S.took out.new) (S.failures out.new) []) }
 {
-    for number in 0..formatting.blocks() {
-        put_block::<B, S, R>(rt, formatting, out, number)?;
+    for number in 0..formatting.event_count().div_ceil(EVENTS) {
+        let start = EVENTS * number;
+        put_block::<B, S, R>(rt, formatting, out, Piece::Events { start })?;
     }
     Ok(())
 }
 
-/// Puts all blocks in order, and ends the work of all workers, also where memory or the sink refuses.
-pub(crate) fn put_all_blocks<B: PutEvents, S: Sink, R: Wait>(
+/// Puts the output, and how many events there are.
+fn put_between<S: Sink>(
+    out: &mut S,
+    line: &mut Line,
+    output: &[u8],
+    events: usize,
+) -> Result<(), RunError>
+    ensures wrote { Wrote (middle_text output.now events) (way (S.took out.old)
+        (S.failures out.old) line.old) result (way (S.took out.new) (S.failures out.new) line.new) }
+    ensures empty { OnOk result (line.new ≡ []) }
+{
+    put_output(out, line, output)?;
+    put_count(out, line, "trace ", events as u64)?;
+    put_line(out, line)
+}
+
+/// Puts what stands between the lines of memory and those of the events. Other workers format events meanwhile.
+fn put_middle<S: Sink>(
+    alloc: Global,
+    out: &mut S,
+    output: &[u8],
+    events: usize,
+) -> Result<(), RunError>
+    ensures { Wrote (middle_text output.now events) (way (S.took out.old) (S.failures out.old) [])
+        result (way (S.took out.new) (S.failures out.new) []) }
+{
+    let mut line = Line::new(alloc);
+    put_between(out, &mut line, output, events)
+}
+
+/// Puts all blocks in order.
+fn put_in_order<B: PutBody, S: Sink, R: Wait>(
     rt: &R,
     formatting: &Formatting<'_, B>,
     out: &mut S,
 ) -> Result<(), RunError>
-    ensures { Wrote (events_text B.events) (way (S.took out.old) (S.failures out.old) []) result
-        (way (S.took out.new) (S.failures out.new) []) }
+    ensures { Wrote (body_text B.bytes B.output B.events) (way (S.took out.old) (S.failures out.old)
+        []) result (way (S.took out.new) (S.failures out.new) []) }
+{
+    put_memory_blocks::<B, S, R>(rt, formatting, out)?;
+    put_middle(
+        formatting.allocator(),
+        out,
+        formatting.output(),
+        formatting.event_count(),
+    )?;
+    put_event_blocks::<B, S, R>(rt, formatting, out)
+}
+
+/// Puts all blocks in order, and ends the work of all workers, also where memory or the sink refuses.
+pub(crate) fn put_all_blocks<B: PutBody, S: Sink, R: Wait>(
+    rt: &R,
+    formatting: &Formatting<'_, B>,
+    out: &mut S,
+) -> Result<(), RunError>
+    ensures { Wrote (body_text B.bytes B.output B.events) (way (S.took out.old) (S.failures out.old)
+        []) result (way (S.took out.new) (S.failures out.new) []) }
 {
     let result = put_in_order::<B, S, R>(rt, formatting, out);
     formatting.end(rt);

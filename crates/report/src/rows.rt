@@ -1,9 +1,10 @@
 ghost use Rattle.std.specs.Prelude.{◌≡◌, ◌+◌, ◌*◌, ◌<◌, ◌≤◌, ◌^◌, ◌++◌, OnOk, length, take, codes};
 ghost use Rattle.std.specs.Fmt.{decimal};
+ghost use Rattle.pages.specs.Flat.{page_bytes};
 ghost use Rattle.report.specs.Report.{all_zero, bytes_text, memory_row, memory_rows};
 
 use crate::line::{Line, write_bytes};
-use pages::OutOfMemory;
+use pages::{OutOfMemory, Pages};
 
 /// Whether bytes are all 0. They are joined, so that no branch is taken for each of them.
 #[inline(always)]
@@ -31,7 +32,7 @@ fn memory_row(line: &mut Line, address: u64, row: &[u8]) -> Result<(), OutOfMemo
 }
 
 /// Adds the lines of a page's bytes.
-pub(crate) fn page_rows(line: &mut Line, address: u64, page: &[u8]) -> Result<(), OutOfMemory>
+fn page_rows(line: &mut Line, address: u64, page: &[u8]) -> Result<(), OutOfMemory>
     requires length { length page.now ≡ 4096 }
     requires address { address + 4096 < 2 ^ 64 }
     ensures { OnOk result (line.new ≡ line.old ++ memory_rows address page.now 256) }
@@ -52,6 +53,19 @@ fn bytes(line: &mut Line, bytes: &[u8]) -> Result<(), OutOfMemory>
     let text = &mut room[..2 * bytes.len()];
     write_bytes(text, bytes);
     line.bytes(text)
+}
+
+/// Adds the lines of a page. One that holds no bytes has none.
+pub(crate) fn page_lines(line: &mut Line, pages: &Pages, page: u32) -> Result<(), OutOfMemory>
+    requires page { page < length pages.now.ready }
+    requires bytes { 4096 * page + 4096 ≤ length pages.now.memory.bytes }
+    ensures { OnOk result (line.new ≡
+        line.old ++ memory_rows (4096 * page) (page_bytes pages.now.memory.bytes page) 256) }
+{
+    match pages.page(page) {
+        Some(bytes) => page_rows(line, 4096 * page as u64, bytes),
+        None => Ok(()),
+    }
 }
 
 fn first_32(bytes: &[u8]) -> &[u8]

@@ -3,13 +3,14 @@ ghost use Rattle.std.specs.Fmt.{decimal};
 ghost use Rattle.host_io.specs.Taken.{BeganText};
 ghost use Rattle.pages.specs.Flat.{page_bytes};
 ghost use Rattle.report.specs.Pending.{Wrote, way};
-ghost use Rattle.report.specs.Report.{bytes_text, events_text, harts_text, memory_text, output_rows, output_text, trace_text, memory_rows};
-ghost use Rattle.report.specs.RunStates.{head_of, report_with};
+ghost use Rattle.report.specs.Report.{bytes_text, events_text, harts_text, output_rows, output_text, trace_text, memory_rows};
+ghost use Rattle.report.specs.RunStates.{head_of, report_with, start_of};
 ghost use Rattle.report.specs.Text.{event_text, hart_text};
 
-use crate::blocks::put_trace_on;
+use crate::blocks::put_body;
+use crate::cut::Cut;
 use crate::line::Line;
-use crate::rows::{count_line, output_row, page_rows};
+use crate::rows::{count_line, output_row, page_lines};
 use crate::run_state::RunState;
 use crate::tail::Tail;
 use crate::text::{event_line, hart_lines};
@@ -70,11 +71,7 @@ fn put_events<S: Sink>(out: &mut S, line: &mut Line, trace: &Trace) -> Result<()
     Ok(())
 }
 
-pub(crate) fn put_trace<S: Sink>(
-    out: &mut S,
-    line: &mut Line,
-    trace: &Trace,
-) -> Result<(), RunError>
+fn put_trace<S: Sink>(out: &mut S, line: &mut Line, trace: &Trace) -> Result<(), RunError>
     ensures { Wrote (trace_text trace.now.events) (way (S.took out.old) (S.failures out.old)
         line.old) result (way (S.took out.new) (S.failures out.new) line.new) }
 {
@@ -103,13 +100,8 @@ fn put_page<S: Sink>(out: &mut S, line: &mut Line, pages: &Pages, page: u32) -> 
         page) (page_bytes pages.now.memory.bytes page) 256) (way (S.took out.old)
         (S.failures out.old) line.old) result (way (S.took out.new) (S.failures out.new) line.new) }
 {
-    match pages.page(page) {
-        Some(bytes) => {
-            page_rows(line, 4096 * page as u64, bytes)?;
-            put_long(out, line)
-        }
-        None => Ok(()),
-    }
+    page_lines(line, pages, page)?;
+    put_long(out, line)
 }
 
 fn put_pages<S: Sink>(out: &mut S, line: &mut Line, pages: &Pages) -> Result<(), RunError>
@@ -121,14 +113,6 @@ fn put_pages<S: Sink>(out: &mut S, line: &mut Line, pages: &Pages) -> Result<(),
         put_page(out, line, pages, page)?;
     }
     Ok(())
-}
-
-fn put_memory<S: Sink>(out: &mut S, line: &mut Line, pages: &Pages) -> Result<(), RunError>
-    ensures { Wrote (memory_text pages.now.memory.bytes) (way (S.took out.old) (S.failures out.old)
-        line.old) result (way (S.took out.new) (S.failures out.new) line.new) }
-{
-    put_count(out, line, "memory ", pages.count() as u64)?;
-    put_pages(out, line, pages)
 }
 
 fn put_row<S: Sink>(out: &mut S, line: &mut Line, output: &[u8]) -> Result<(), RunError>
@@ -149,7 +133,11 @@ fn put_rows<S: Sink>(out: &mut S, line: &mut Line, output: &[u8]) -> Result<(), 
     Ok(())
 }
 
-fn put_output<S: Sink>(out: &mut S, line: &mut Line, output: &[u8]) -> Result<(), RunError>
+pub(crate) fn put_output<S: Sink>(
+    out: &mut S,
+    line: &mut Line,
+    output: &[u8],
+) -> Result<(), RunError>
     ensures { Wrote (output_text output.now) (way (S.took out.old) (S.failures out.old) line.old)
         result (way (S.took out.new) (S.failures out.new) line.new) }
 {
@@ -166,6 +154,16 @@ pub(crate) fn put_end<S: Sink>(out: &mut S, line: &mut Line) -> Result<(), RunEr
     put_line(out, line)
 }
 
+/// Puts what stands before the lines of memory.
+fn put_start<S: Sink>(out: &mut S, line: &mut Line, state: &RunState<'_>) -> Result<(), RunError>
+    ensures { Wrote (start_of state.now) (way (S.took out.old) (S.failures out.old) line.old) result
+        (way (S.took out.new) (S.failures out.new) line.new) }
+{
+    put_count(out, line, "rounds ", state.rounds as u64)?;
+    put_harts(out, line, state.harts)?;
+    put_count(out, line, "memory ", state.pages.count() as u64)
+}
+
 /// Puts all that stands before the events.
 pub(crate) fn put_head<S: Sink>(
     out: &mut S,
@@ -175,9 +173,8 @@ pub(crate) fn put_head<S: Sink>(
     ensures { Wrote (head_of state.now) (way (S.took out.old) (S.failures out.old) line.old) result
         (way (S.took out.new) (S.failures out.new) line.new) }
 {
-    put_count(out, line, "rounds ", state.rounds as u64)?;
-    put_harts(out, line, state.harts)?;
-    put_memory(out, line, state.pages)?;
+    put_start(out, line, state)?;
+    put_pages(out, line, state.pages)?;
     put_output(out, line, state.output)
 }
 
@@ -220,12 +217,41 @@ pub fn write_state<S: Sink>(
     put_state(out, &mut line, state, trace)
 }
 
+/// Puts all that `put_state` puts, by so many workers where there is enough for them to do.
+fn put_state_on<S: Sink, R: Threads + Wait + Sync>(
+    rt: &R,
+    workers: usize,
+    alloc: Global,
+    out: &mut S,
+    line: &mut Line,
+    state: &RunState<'_>,
+    trace: &Trace,
+) -> Result<(), RunError>
+    requires { workers ≤ 16 }
+    ensures wrote { Wrote (report_with state.now trace.now.events) (way (S.took out.old)
+        (S.failures out.old) line.old) result (way (S.took out.new) (S.failures out.new) line.new) }
+    ensures empty { OnOk result (line.new ≡ []) }
+{
+    if workers <= 1 {
+        return put_state(out, line, state, trace);
+    }
+    let cut = Cut::of(state.pages, trace);
+    if cut.is_short() {
+        return put_state(out, line, state, trace);
+    }
+    put_start(out, line, state)?;
+    put_line(out, line)?;
+    put_body(rt, workers, alloc, out, cut, state, trace)?;
+    put_end(out, line)
+}
+
 /// The most workers that format a report.
 const MOST_WORKERS: u32 = 16;
 
-/// Writes what `write_state` writes, with the lines of the events formatted by so many workers, though by no more than 16.
+/// Writes what `write_state` writes, with the lines of memory and of the events formatted by so many workers, though by no more
+/// than 16.
 ///
-/// Each worker formats a block of events at a time, and the blocks are put in order. The calling thread is a worker, and
+/// Each worker formats a block of lines at a time, and the blocks are put in order. The calling thread is a worker, and
 /// formats all blocks where no thread could be started. It may wait.
 ///
 /// # Errors
@@ -249,7 +275,5 @@ pub fn write_state_on<S: Sink, R: Threads + Wait + Sync>(
 {
     let mut line = Line::new(alloc);
     let workers = workers.min(MOST_WORKERS) as usize;
-    put_head(out, &mut line, state)?;
-    put_trace_on(rt, workers, alloc, out, &mut line, trace)?;
-    put_end(out, &mut line)
+    put_state_on(rt, workers, alloc, out, &mut line, state, trace)
 }

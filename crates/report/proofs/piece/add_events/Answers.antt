@@ -4,7 +4,7 @@ use Rattle.round_schedule.specs.declared.event.Event.{Event}
 use Rattle.report.specs.Report.{events_text}
 use Rattle.report.specs.Text.{event_text}
 use Rattle.report.proofs.RowsMore.{events-append}
-use Rattle.report.proofs.block.put_lines.Goals as goal
+use Rattle.report.proofs.piece.add_events.Goals as goal
 
 pub loop-event-init : goal.loop-event-init
 loop-event-init c = record {

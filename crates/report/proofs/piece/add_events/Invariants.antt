@@ -1,6 +1,6 @@
 use Rattle.std.proofs.Common.{◌≡◌, ◌++◌, take, drop}
 use Rattle.report.specs.Report.{events_text}
-use Rattle.report.proofs.block.put_lines.Given as goal
+use Rattle.report.proofs.piece.add_events.Given as goal
 
 abbrev pub invariant-loop-event : goal.invariant-loop-event
 invariant-loop-event l = record {

@@ -1,0 +1,23 @@
+use Rattle.std.proofs.Common.{◌≡◌, Err, rules}
+use Rattle.report.specs.Blocks.{middle_text}
+use Rattle.report.specs.Pending.{way}
+use Rattle.report.proofs.Writing.{passed_on, put_now, wrote_part, wrote_then}
+use Rattle.report.proofs.putting.put_between.Goals as goal
+
+pub returns-in_err-put_output-clause-wrote : goal.returns-in_err-put_output-clause-wrote
+unfolding middle_text
+returns-in_err-put_output-clause-wrote g c =
+    let r : c.from_residual.result ≡ Err c.in_err-put_output.field-0.0 = search rules in
+    passed_on _ (way (g.S.Sink.took c.args.out.now) (g.S.Sink.failures c.args.out.now) c.args.line.now) _ _ _ r (wrote_part _ _ (way (g.S.Sink.took c.args.out.now) (g.S.Sink.failures c.args.out.now) c.args.line.now) _ _ c.in_err-put_output.ensures)
+
+pub returns-in_err-put_count-clause-wrote : goal.returns-in_err-put_count-clause-wrote
+unfolding middle_text
+returns-in_err-put_count-clause-wrote g c =
+    let r : c.from_residual-in_err-put_count.result ≡ Err c.in_err-put_count.field-0.0 = search rules in
+    passed_on _ (way (g.S.Sink.took c.args.out.now) (g.S.Sink.failures c.args.out.now) c.args.line.now) _ _ _ r (wrote_then _ _ (way (g.S.Sink.took c.args.out.now) (g.S.Sink.failures c.args.out.now) c.args.line.now) _ _ _ c.in_ok-put_output.ensures c.in_err-put_count.ensures)
+
+pub returns-clause-wrote : goal.returns-clause-wrote
+unfolding middle_text
+returns-clause-wrote g c =
+    put_now _ (way (g.S.Sink.took c.args.out.now) (g.S.Sink.failures c.args.out.now) c.args.line.now) _ _ _
+    (wrote_then _ _ (way (g.S.Sink.took c.args.out.now) (g.S.Sink.failures c.args.out.now) c.args.line.now) _ _ _ c.in_ok-put_output.ensures c.in_ok-put_count.ensures) c.put_line.ensures.wrote
