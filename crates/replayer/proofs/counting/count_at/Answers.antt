@@ -1,9 +1,10 @@
-use Rattle.std.proofs.Common.{◌+◌, ◌-◌, arith, subst, sym}
+use Rattle.std.proofs.Common.{◌≡◌, ◌+◌, ◌-◌, ◌∙◌, Err, ap, arith, rules, subst, sym}
 use Rattle.machine.specs.Machine.{Running, after_rounds}
 use Rattle.machine.specs.Untraced.{IsUntraced}
 use Rattle.machine.proofs.Repeated.{more_rounds}
 use Rattle.replayer.specs.Replayed.{start_of}
 use Rattle.replayer.proofs.Begun.{begins, harts_of}
+use Rattle.replayer.proofs.Refused.{out_of_memory}
 use Rattle.replayer.proofs.PastAt.{after_last, first_is_1}
 use Rattle.replayer.proofs.RoundCount.{count_is, never_less, no_hart, one_round, reads_after, reads_before}
 use Rattle.replayer.proofs.counting.count_at.Goals as goal
@@ -49,3 +50,19 @@ returns-clause-count g c =
           (reads_before m (c.args.round - 1) c.args.hart c.run.new.self o c.done_by-before.result first c.done_by-before.ensures)
           (reads_after m (c.args.round - 1) c.args.hart c.run-2.new.self o c.done_by.result second c.done_by.ensures),
     )
+
+pub returns-in_err-run-clause-in_order : goal.returns-in_err-run-clause-in_order
+returns-in_err-run-clause-in_order g c =
+    let made = c.in_ok-machine.ensures.machine in
+    let range = c.in_ok-machine.ensures.in_range in
+    let r : c.from_residual-in_err-run.result ≡ Err c.in_err-run.field-0.0 = search rules in
+    out_of_memory c.args.workers c.args.recording.now c.in_ok-machine.machine _ c.in_ok-machine.ensures.in_order range
+    (r ∙ ap Err (c.in_err-run.ensures.refused range.0 range.1 (omega (arith, made.2.rounds, c.ranges.round.fits))))
+
+pub returns-in_err-run-2-clause-in_order : goal.returns-in_err-run-2-clause-in_order
+returns-in_err-run-2-clause-in_order g c =
+    let made = c.in_ok-machine.ensures.machine in
+    let range = c.in_ok-machine.ensures.in_range in
+    let r : c.from_residual-in_err-run-2.result ≡ Err c.in_err-run-2.field-0.0 = search rules in
+    out_of_memory c.args.workers c.args.recording.now c.in_ok-machine.machine _ c.in_ok-machine.ensures.in_order range
+    (r ∙ ap Err (c.in_err-run-2.ensures.refused range.0 range.1 (omega (arith, made.2.rounds, c.in_ok-run.ensures.counted, c.if-round-eq0.false, c.ranges.round.fits))))
