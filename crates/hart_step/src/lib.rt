@@ -35,4 +35,5 @@ pub use laws::{
 pub use listing::{count_of, place_of, step_listed};
 pub use round_schedule::{Access, Span, Stepped};
 pub use rounds::hart_round;
+pub use runs::do_run_at;
 pub use stepping::{step, step_decoded};

@@ -1,6 +1,7 @@
 //! What the tests have in common.
 
 ghost use Rattle.std.specs.Prelude.{◌≡◌, None};
+ghost use Rattle.hart_step.specs.Registers.{HoldsZero};
 
 use hart_step::{Hart, Stepped, step};
 use pages::{Pages, Piece, Range};
@@ -23,7 +24,8 @@ pub(crate) fn memory(alloc: Global, words: [u32; 4]) -> Result<Pages, Fail> {
 
 /// A hart at address 0, with these values in x1 and x2.
 pub(crate) fn hart(a: u64, b: u64) -> Hart
-    ensures { result.stop ≡ None }
+    ensures running { result.stop ≡ None }
+    ensures zeroed { HoldsZero result.x }
 {
     let mut x = [0; 32];
     x[1] = a;

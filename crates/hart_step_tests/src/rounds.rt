@@ -1,5 +1,5 @@
 use crate::harness::{hart, memory};
-use hart_step::{AccessCount, AccessLog, Buffered, CodeTable, Hart, hart_round, step};
+use hart_step::{AccessCount, AccessLog, Buffered, CodeTable, Hart, do_run_at, hart_round, step};
 use pages::{Pages, Piece, Range, Store, Width};
 use round_schedule::Access;
 use std::alloc::Global;
@@ -139,6 +139,22 @@ fn a_quota_ends_among_words_that_compute(rt: HostRuntime) -> Result<(), Fail> {
             (h.pc, h.done, h.x[1], waited),
             (4 * done, done, done, waits)
         );
+    }
+    Ok(())
+}
+
+#[test]
+fn a_run_ends_before_a_store_or_at_the_quota(rt: HostRuntime) -> Result<(), Fail> {
+    let alloc = rt.alloc();
+    // ADDI x1,x1,-1; ADDI x1,x1,-1; SD x1,256(x0); ECALL
+    let pages = memory(alloc, [0xfff0_8093, 0xfff0_8093, 0x1010_3023, 0x0000_0073])?;
+    let table = CodeTable::new(alloc, &pages, 0, 4)?;
+    for (left, ran, left_in_x1) in [(0, 0, 3), (1, 1, 2), (2, 2, 1), (100, 2, 1)] {
+        let mut h = hart(3, 0);
+        let words = do_run_at::<()>(&mut h, table.words(), table.runs(), 0, left);
+        assert_eq!(rt; words, ran);
+        let done = u64::from(ran);
+        assert_eq!(rt; (h.pc, h.done, h.x[1]), (4 * done, done, left_in_x1));
     }
     Ok(())
 }
