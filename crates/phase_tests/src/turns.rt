@@ -4,6 +4,7 @@ ghost use Rattle.std.specs.Prelude.{◌≡◌, ◌*◌, ◌+◌, ◌≤◌, ◌<
 ghost use Rattle.hart_step.specs.CodeTables.{Shows};
 ghost use Rattle.serial_phase.specs.Phase.{budget_from, budget_of};
 
+mod budgets;
 mod calls;
 mod lr_and_sc;
 

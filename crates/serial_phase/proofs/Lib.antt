@@ -7,6 +7,7 @@ pub mod Effects
 pub mod Served
 pub mod Settled
 pub mod TurnUnderWay
+pub mod TurnRuns
 pub mod PhaseUnderWay
 pub mod CodeKept
 pub mod PlainRun
