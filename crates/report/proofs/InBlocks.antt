@@ -12,20 +12,20 @@ use Rattle.report.specs.Report.{events_text, harts_text, head_text, memory_row, 
 use Rattle.report.proofs.RowsMore.{events-append, rows-add, rows-take}
 
 -- one block more
-pub blocks_more : (es : List Event) (i : ℕ) → events_text (take (16384 * (i + 1)) es) ≡ events_text (take (16384 * i) es) ++ block_text es (16384 * i)
+pub blocks_more : (es : List Event) (i : ℕ) → events_text (take (1024 * (i + 1)) es) ≡ events_text (take (1024 * i) es) ++ block_text es (1024 * i)
 blocks_more es i =
-    let far : 16384 * (i + 1) ≡ 16384 * i + 16384 = omega arith in
-    ap (λ (k : ℕ). events_text (take k es)) far ∙ ap events_text (take-add (16384 * i) 16384 es) ∙ events-append (take (16384 * i) es) (take 16384 (drop (16384 * i) es))
+    let far : 1024 * (i + 1) ≡ 1024 * i + 1024 = omega arith in
+    ap (λ (k : ℕ). events_text (take k es)) far ∙ ap events_text (take-add (1024 * i) 1024 es) ∙ events-append (take (1024 * i) es) (take 1024 (drop (1024 * i) es))
 
 -- one block, with those before it and those after it
-pub blocks_left : (es : List Event) (i : ℕ) → events_text es ≡ (events_text (take (16384 * i) es) ++ block_text es (16384 * i)) ++ events_text (drop (16384 * (i + 1)) es)
+pub blocks_left : (es : List Event) (i : ℕ) → events_text es ≡ (events_text (take (1024 * i) es) ++ block_text es (1024 * i)) ++ events_text (drop (1024 * (i + 1)) es)
 blocks_left es i =
-    let k = 16384 * (i + 1) in
+    let k = 1024 * (i + 1) in
     ap events_text (sym (take-append-drop k es)) ∙ events-append (take k es) (drop k es) ∙ ap (λ (z : List ℕ). z ++ events_text (drop k es)) (blocks_more es i)
 
 -- so many blocks have all events
-pub all_blocks : (es : List Event) (n : ℕ) → length es ≤ 16384 * n → events_text (take (16384 * n) es) ≡ events_text es
-all_blocks es n l = ap events_text (take_all (16384 * n) es l)
+pub all_blocks : (es : List Event) (n : ℕ) → length es ≤ 1024 * n → events_text (take (1024 * n) es) ≡ events_text es
+all_blocks es n l = ap events_text (take_all (1024 * n) es l)
 
 no_bytes : (n a : ℕ) → memory_rows a [] n ≡ []
 unfolding memory_rows memory_row

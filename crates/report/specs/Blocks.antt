@@ -13,7 +13,7 @@ pages_text bytes first count = memory_rows (4096 * first) (drop (4096 * first) b
 
 -- the lines of the block that begins with the event at a place
 abbrev pub block_text : List Event → ℕ → List ℕ
-block_text es start = events_text (take 16384 (drop start es))
+block_text es start = events_text (take 1024 (drop start es))
 
 -- the lines of a piece of memory or of the events
 abbrev pub piece_text : List ℕ → List Event → Piece → List ℕ

@@ -6,11 +6,14 @@ use crate::piece::{EVENTS, Piece};
 use pages::Pages;
 use trace::Trace;
 
-/// How many pages that hold bytes a piece of memory is to have.
-const PAGES: u32 = 16;
+/// How many pages that hold bytes a piece of memory is to have: their lines fit the room of a block.
+const PAGES: u32 = 6;
 
-/// The most of them that one piece may have: their lines fit the room of a block.
+/// The most pages that one piece may have, where few of them hold bytes.
 const MOST_PAGES: u32 = 96;
+
+/// So many pieces one worker has done before a thread is started.
+const FEW: usize = 16;
 
 /// Into which pieces a report is cut: first those of memory, then those of the events.
 #[derive(Drop)]
@@ -20,7 +23,7 @@ pub(crate) struct Cut {
     events: usize,
     ghost some: { 0 < step },
     ghost most: { step ≤ 16384 },
-    ghost bounded: { 16384 * events < 2 ^ 64 + 16384 },
+    ghost bounded: { 1024 * events < 2 ^ 64 + 1024 },
 }
 
 impl Cut {
@@ -50,7 +53,7 @@ impl Cut {
 
     /// Whether there is so little that one worker has it done before a thread is started.
     pub(crate) fn is_short(&self) -> bool {
-        self.memory <= 1 && self.events <= 1
+        self.pieces() <= FEW
     }
 
     /// A piece by its number. Each block's piece is compared with the one that is to be put, so nothing rests on this.
@@ -80,13 +83,13 @@ fn held(pages: &Pages) -> u32 {
     held
 }
 
-/// How many pages a piece has, where so many of all of them hold bytes: all, or so many that about 16 of them hold some.
+/// How many pages a piece has, where so many of all of them hold bytes: all, or so many that about 6 of them hold some.
 fn pages_a_piece(count: u32, held: u32) -> u32
     requires { count ≤ 16384 }
     ensures some { 0 < result }
     ensures most { result ≤ 16384 }
 {
-    if held <= MOST_PAGES {
+    if held <= PAGES {
         return count.max(1);
     }
     (PAGES * count / held).clamp(PAGES, MOST_PAGES)

@@ -11,14 +11,14 @@ use pages::{OutOfMemory, Pages};
 use trace::Trace;
 
 /// How many events a piece has, if so many are left.
-pub(crate) const EVENTS: usize = 16_384;
+pub(crate) const EVENTS: usize = 1_024;
 
 /// Which lines one worker formats at a time.
 #[derive(Clone, Copy, PartialEq)]
 pub(crate) enum Piece {
     /// Those of so many pages from one on, or of those that are left.
     Pages { first: u32, count: u32 },
-    /// Those of 16,384 events from a place on, or of those that are left.
+    /// Those of 1,024 events from a place on, or of those that are left.
     Events { start: usize },
 }
 

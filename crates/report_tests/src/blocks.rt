@@ -12,7 +12,7 @@ use std::thread::Threads;
 use trace::Trace;
 
 /// How many events of a trace one worker formats at a time.
-const BLOCK: u64 = 16_384;
+const BLOCK: u64 = 1_024;
 
 /// A store of hart 0 that tells its place.
 fn store_at(place: u64) -> Event {
@@ -92,7 +92,7 @@ fn by_workers<R: Threads + Wait + Sync>(
 #[test]
 fn a_long_report_is_the_same_by_any_number_of_workers(rt: HostRuntime) -> Result<(), Fail> {
     let alloc = rt.alloc();
-    let end = 3 * BLOCK + 5;
+    let end = 19 * BLOCK + 5;
     let report = expected(alloc, end)?;
     assert!(rt; by_one_thread(alloc, end)? == report);
     for workers in [0, 1, 2, 3, 4, 16, 1000] {
@@ -104,7 +104,16 @@ fn a_long_report_is_the_same_by_any_number_of_workers(rt: HostRuntime) -> Result
 #[test]
 fn blocks_may_be_full_or_have_one_event(rt: HostRuntime) -> Result<(), Fail> {
     let alloc = rt.alloc();
-    for end in [0, 1, BLOCK, BLOCK + 1, 2 * BLOCK, 4 * BLOCK, 4 * BLOCK + 1] {
+    // One thread formats 16 blocks, of which one is memory's, as they are put.
+    for end in [
+        0,
+        1,
+        15 * BLOCK,
+        15 * BLOCK + 1,
+        16 * BLOCK,
+        16 * BLOCK + 1,
+        19 * BLOCK,
+    ] {
         assert!(rt; by_workers(&rt, 2, alloc, end)? == expected(alloc, end)?);
     }
     Ok(())
@@ -115,7 +124,7 @@ fn a_report_may_have_more_blocks_than_are_in_memory(rt: HostRuntime) -> Result<(
     let alloc = rt.alloc();
     // Two blocks for each worker are in memory at a time.
     for workers in [2, 3, 16] {
-        let end = (2 * workers as u64 + 3) * BLOCK + 5;
+        let end = (2 * workers as u64 + 17) * BLOCK + 5;
         assert!(rt; by_workers(&rt, workers, alloc, end)? == by_one_thread(alloc, end)?);
     }
     Ok(())
@@ -142,13 +151,13 @@ fn fails_amid<R: Abort + Threads + Wait + Sync>(
 
 #[test]
 fn a_sink_that_is_full_amid_the_blocks_keeps_a_beginning(rt: HostRuntime) -> Result<(), Fail> {
-    fails_amid(&rt, 4, rt.alloc(), 2 * BLOCK + 5, 1_000_000)
+    fails_amid(&rt, 4, rt.alloc(), 32 * BLOCK + 5, 1_000_000)
 }
 
 #[test]
 fn a_sink_that_is_full_amid_many_blocks_ends_all_workers(rt: HostRuntime) -> Result<(), Fail> {
     for workers in [2, 3] {
-        fails_amid(&rt, workers, rt.alloc(), 12 * BLOCK, 5_000_000)?;
+        fails_amid(&rt, workers, rt.alloc(), 192 * BLOCK, 5_000_000)?;
     }
     Ok(())
 }

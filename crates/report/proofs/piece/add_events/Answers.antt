@@ -12,7 +12,7 @@ loop-event-init c = record {
   left =
       ap (λ (t : Take (List Event)). take t.n t.iter) c.into_iter-event-iterator.ensures.into_iter_gives
       ∙ ap (λ (n : ℕ). take n c.take-event-items.result.iter) c.take-event-items.ensures.count
-      ∙ ap (take 16384) (c.take-event-items.ensures.source ∙ c.events_from.ensures);
+      ∙ ap (take 1024) (c.take-event-items.ensures.source ∙ c.events_from.ensures);
 }
 
 pub loop-event-preserved : goal.loop-event-preserved
