@@ -120,19 +120,12 @@ impl UntracedMachine {
         let GuestState {
             harts,
             outcomes: room,
+            mut accesses,
             mut shared,
         } = guest;
         let before = harts[hart as usize];
         let round = rounds + 1;
-        let outcomes = outcomes_of(
-            crew,
-            &shared.pages,
-            &shared.code,
-            &harts,
-            &plan,
-            round,
-            room,
-        )?;
+        let outcomes = outcomes_of(crew, &shared, &harts, &plan, round, room, &mut accesses)?;
         let parts = outcomes.as_slice();
         let part = &parts[hart as usize];
         let done = done_since(before, part.hart);

@@ -5,7 +5,7 @@ use crate::decoding::decode_code;
 use crate::opening::opening_harts;
 use crate::outcome::Outcome;
 use elf_loader::Image;
-use hart_step::{CodeTable, Hart};
+use hart_step::{Access, CodeTable, Hart};
 use pages::{OutOfMemory, Pages};
 use reservations::Reservations;
 use serial_phase::{Console, SerialLog, SharedState};
@@ -18,6 +18,8 @@ pub(crate) struct GuestState {
     pub(crate) harts: Vec<Hart>,
     /// What the harts of an earlier round left, for its room. A hart that had stopped then isn't copied once more.
     pub(crate) outcomes: Vec<Outcome>,
+    /// Room for the accesses of one hart's round at a time.
+    pub(crate) accesses: Vec<Access>,
     pub(crate) shared: SharedState,
 }
 
@@ -57,6 +59,7 @@ impl GuestState {
         Ok(GuestState {
             harts,
             outcomes: Vec::new(alloc),
+            accesses: Vec::new(alloc),
             shared,
         })
     }
@@ -119,6 +122,7 @@ impl GuestState {
         Ok(GuestState {
             harts: copied(alloc, &self.harts)?,
             outcomes: Vec::new(alloc),
+            accesses: Vec::new(alloc),
             shared: SharedState {
                 pages,
                 code,

@@ -8,11 +8,12 @@ ghost use Rattle.machine.specs.Outcomes.{AreAtRest, AreKept, AreOutcomes, harts_
 
 use crate::crew::Crew;
 use commit_phase::Buffered;
-use hart_step::{Access, CodeTable, Hart};
-use pages::{OutOfMemory, Pages};
+use hart_step::{Access, Hart};
+use pages::OutOfMemory;
 use parallel_phase::{Gate, RoundEnd, gather, round_into};
 use round_lock::{BookStart, RoundLeft, RoundStart};
 use round_planner::Plan;
+use serial_phase::SharedState;
 use std::alloc::Global;
 use std::marker::Brand;
 use std::sync::Wait;
@@ -122,32 +123,34 @@ impl Buffered for Outcome {
 }
 
 /// Does the rounds of all harts, each on memory as it is, by the workers of a crew. The list is taken for its room, and for the
-/// harts in it that have stopped, which are those of the machine: the rest of what it holds is let go.
+/// harts in it that have stopped, which are those of the machine: the rest of what it holds is let go. So is what `accesses` holds,
+/// whose room serves the accesses of one hart's round at a time.
 pub fn outcomes_of<G: Gate + Sync, R: Threads + Wait + Sync>(
     crew: &Crew<'_, G, R>,
-    pages: &Pages,
-    table: &CodeTable,
+    shared: &SharedState,
     harts: &[Hart],
     plan: &Plan,
     round: u32,
     room: Vec<Outcome>,
+    accesses: &mut Vec<Access>,
 ) -> Result<Vec<Outcome>, OutOfMemory>
     requires workers { (1 ≤ crew.now.workers) × (crew.now.workers ≤ 16) }
-    requires shows { Shows pages.now.memory table.now.first table.now.instructions }
+    requires shows { Shows shared.now.pages.memory shared.now.code.first
+        shared.now.code.instructions }
     requires harts { length harts.now ≡ plan.now.harts }
     requires round { 1 ≤ round }
     requires kept { AreKept harts.now (harts_of room.items) }
-    ensures { IfOk result (λ os. AreOutcomes (keeps_log crew.now.form) pages.now.memory
-        (hart_rounds (words_of pages.now.memory.code) pages.now.memory.bytes (quotas_of plan.now
-        (round - 1)) harts.now) os.items) }
+    ensures { IfOk result (λ os. AreOutcomes (keeps_log crew.now.form) shared.now.pages.memory
+        (hart_rounds (words_of shared.now.pages.memory.code) shared.now.pages.memory.bytes
+        (quotas_of plan.now (round - 1)) harts.now) os.items) }
 {
     // At most 64.
     let _harts = plan.harts();
     let mut all = [0; MOST_HARTS];
     let quotas = &mut all[..harts.len()];
     set_quotas(plan, round, quotas);
-    let start = RoundStart::new(pages, table, harts, quotas).with_form(crew.form);
-    outcomes_by::<Brand, G, R>(crew, &start, room)
+    let start = RoundStart::new(&shared.pages, &shared.code, harts, quotas).with_form(crew.form);
+    outcomes_by::<Brand, G, R>(crew, &start, room, accesses)
 }
 
 /// Does the rounds of all harts, in a list that is taken for its room: a lone worker without a book.
@@ -155,6 +158,7 @@ fn outcomes_by<B: BookStart + Send + Sync, G: Gate + Sync, R: Threads + Wait + S
     crew: &Crew<'_, G, R>,
     start: &RoundStart<'_>,
     mut room: Vec<Outcome>,
+    accesses: &mut Vec<Access>,
 ) -> Result<Vec<Outcome>, OutOfMemory>
     requires workers { (1 ≤ crew.now.workers) × (crew.now.workers ≤ 16) }
     requires start { start.now ≡ B.start }
@@ -164,7 +168,7 @@ fn outcomes_by<B: BookStart + Send + Sync, G: Gate + Sync, R: Threads + Wait + S
         AreOutcomes start.now.logs start.now.memory (rounds_of start.now) os.items) }
 {
     if crew.workers == 1 {
-        return outcomes_alone(crew.gate, start, room);
+        return outcomes_alone(crew.gate, start, room, accesses);
     }
     room.clear();
     room.reserve(start.harts().len())?;
@@ -177,6 +181,7 @@ fn outcomes_alone<G: Gate>(
     gate: &G,
     start: &RoundStart<'_>,
     mut outcomes: Vec<Outcome>,
+    accesses: &mut Vec<Access>,
 ) -> Result<Vec<Outcome>, OutOfMemory>
     requires sized { length start.now.quotas ≡ length start.now.harts }
     requires kept { AreKept start.now.harts (harts_of outcomes.items) }
@@ -184,7 +189,7 @@ fn outcomes_alone<G: Gate>(
         AreOutcomes start.now.logs start.now.memory (rounds_of start.now) os.items) }
 {
     make_as_many(start, &mut outcomes)?;
-    rounds_in_place(gate, start, outcomes.as_mut_slice())?;
+    rounds_in_place(gate, start, outcomes.as_mut_slice(), accesses)?;
     Ok(outcomes)
 }
 
@@ -208,6 +213,7 @@ fn rounds_in_place<G: Gate>(
     gate: &G,
     start: &RoundStart<'_>,
     outcomes: &mut [Outcome],
+    accesses: &mut Vec<Access>,
 ) -> Result<(), OutOfMemory>
     requires sized { length start.now.quotas ≡ length start.now.harts }
     requires many { length outcomes.old ≡ length start.now.harts }
@@ -215,11 +221,9 @@ fn rounds_in_place<G: Gate>(
     ensures { OnOk result (AreOutcomes start.now.logs start.now.memory
         (rounds_of start.now) outcomes.new) }
 {
-    // For the accesses of one round at a time.
-    let mut accesses = Vec::new(start.pages().allocator());
     for number in 0..start.harts().len() {
         gate.pass(number as u32);
-        round_in_place(number, start, &mut outcomes[number], &mut accesses)?;
+        round_in_place(number, start, &mut outcomes[number], accesses)?;
         gate.done(number as u32);
     }
     Ok(())

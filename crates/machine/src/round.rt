@@ -54,18 +54,20 @@ impl GuestState {
         ensures outcomes { IfOk result (λ os.
             AreOfGuest (keeps_log crew.now.form) plan.now done self.old os.items) }
     {
-        let shared = &self.shared;
-        let alloc = shared.pages.allocator();
+        let alloc = self.shared.pages.allocator();
         let room = mem::replace(&mut self.outcomes, Vec::new(alloc));
-        outcomes_of(
+        let mut accesses = mem::replace(&mut self.accesses, Vec::new(alloc));
+        let outcomes = outcomes_of(
             crew,
-            &shared.pages,
-            &shared.code,
+            &self.shared,
             &self.harts,
             plan,
             done + 1,
             room,
-        )
+            &mut accesses,
+        );
+        self.accesses = accesses;
+        outcomes
     }
 
     /// Does the round after `done` rounds from what its harts left on: the commit, the serial turns. The keeper gets its events.

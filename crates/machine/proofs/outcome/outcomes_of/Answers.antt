@@ -11,7 +11,7 @@ use Rattle.machine.proofs.outcome.outcomes_of.Goals as goal
 
 pub returns : goal.returns
 returns g c =
-    let m = c.args.pages.now.memory in
+    let m = c.args.shared.now.pages.memory in
     let plan = c.args.plan.now in
     let rs = hart_rounds (words_of m.code) m.bytes (quotas_of plan (c.args.round - 1)) c.args.harts.now in
     IfOk-weaker c.outcomes_by.result _ _ (λ os done.
