@@ -13,7 +13,7 @@ use clap::Command;
 use std::alloc::{AllocError, Global};
 
 /// The version of `dethart`, and of the toolchain that proved it.
-const VERSION: &str = "1.0.0 (rattle-kit-13b logic dac8208d650f15bf)";
+const VERSION: &str = "1.0.0 (rattle-kit-13f logic dac8208d650f15bf)";
 
 /// The command `dethart` with its subcommands.
 pub(crate) fn dethart_command<'a>(alloc: Global) -> Result<Command<'a>, AllocError>
