@@ -10,7 +10,7 @@ use Rattle.pages.specs.declared.access.Store.{Store}
 use Rattle.pages.specs.Flat.{Page, absent, flat, full, is_ready, laid}
 use Rattle.pages.specs.Memory.{after, byte_put, covered, covers, in_range, last_byte}
 use Rattle.pages.specs.Paged.{Paged, is_page_ready}
-use Rattle.pages.specs.StoreLaws.{byte_after, last_byte-append, last_byte-uncovered, length-after}
+use Rattle.pages.proofs.StoreLaws.{byte_after, last_byte-append, last_byte-uncovered, length-after}
 use Rattle.pages.proofs.FlatPages.{flat_at, length-flat}
 use Rattle.pages.proofs.Page.{length-full}
 use Rattle.store_buffer.specs.declared.line.Line.{Line}

@@ -4,7 +4,7 @@ use Rattle.std.proofs.lemmas.List.{map-append}
 use Rattle.std.proofs.lemmas.List.Elements.{All-cons, All-head, All-nil, All-tail, All-weaker}
 use Rattle.pages.specs.Flat.{Page, full, is_ready}
 use Rattle.pages.specs.Memory.{after}
-use Rattle.pages.specs.StoreLaws.{after-append}
+use Rattle.pages.proofs.StoreLaws.{after-append}
 use Rattle.store_buffer.specs.Covered.{one_byte, stores_of}
 use Rattle.commit_phase.specs.Writing.{Writable, Written}
 

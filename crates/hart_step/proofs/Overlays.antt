@@ -5,11 +5,11 @@ use Rattle.pages.specs.declared.access.Fault.{Fault}
 use Rattle.pages.specs.declared.access.Range.{Range}
 use Rattle.pages.specs.declared.access.Store.{Store}
 use Rattle.pages.specs.declared.access.Width.{Width}
-use Rattle.pages.specs.Memory.{Memory, stored, is_code, any_code, width_bytes, store_fault, fetched}
-use Rattle.pages.specs.StoreLaws.{TouchesNoCode, length-after, fetched_stays}
+use Rattle.pages.specs.Memory.{Memory, stored, is_code, any_code, width_bytes, store_fault, fetched, TouchesNoCode}
+use Rattle.pages.proofs.StoreLaws.{length-after, fetched_stays}
 use Rattle.pages.proofs.Accesses.{store_accepted}
 use Rattle.store_buffer.specs.Covered.{Rising, with_byte, with_bytes, with_store, stores_of}
-use Rattle.store_buffer.specs.CoveredLaws.{after_with_store}
+use Rattle.store_buffer.proofs.CoveredLaws.{after_with_store}
 use Rattle.hart_step.specs.Buffered.{Overlay, Clear, HasLine, seen_through}
 
 or_false : (a b : Bool) → (a || b) ≡ false → (a ≡ false) × (b ≡ false)

@@ -4,7 +4,7 @@ use Rattle.pages.specs.declared.access.Range.{Range}
 use Rattle.pages.specs.declared.access.Store.{Store}
 use Rattle.pages.specs.Memory.{Memory, is_code, stored}
 use Rattle.store_buffer.specs.Covered.{byte_at, stores_of, with_stores}
-use Rattle.store_buffer.specs.CoveredLaws.{with_stores-append}
+use Rattle.store_buffer.proofs.CoveredLaws.{with_stores-append}
 
 -- guest memory, and the bytes that are put over it, each with its address
 pub record Overlay : Type 0 where

@@ -3,13 +3,13 @@ use Rattle.std.proofs.Common.{◌≡◌, ℕ, suc, ◌<◌, ◌==◌, ◌||◌, 
 use Rattle.std.proofs.lemmas.List.Elements.{All-cons}
 use Rattle.pages.specs.Memory.{Memory, after, covered, stored}
 use Rattle.pages.specs.Paged.{Paged}
-use Rattle.pages.specs.StoreLaws.{after-append}
+use Rattle.pages.proofs.StoreLaws.{after-append}
 use Rattle.round_schedule.specs.declared.span.Span.{Span}
 use Rattle.round_schedule.specs.Held.{unless}
 use Rattle.round_schedule.specs.Schedule.{HartRound, all_stores}
 use Rattle.round_schedule.specs.Tables.{covered_by_others, entry}
 use Rattle.store_buffer.specs.Covered.{stores_of}
-use Rattle.store_buffer.specs.CoveredLaws.{after_with_stores, covered-with_stores}
+use Rattle.store_buffer.proofs.CoveredLaws.{after_with_stores, covered-with_stores}
 use Rattle.commit_phase.specs.Commit.{Committed, IsWritable, all_buffered, covered_from}
 use Rattle.commit_phase.proofs.Breaking.{unless_same}
 use Rattle.commit_phase.proofs.HartOrder.{all_committed}

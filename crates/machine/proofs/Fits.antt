@@ -8,7 +8,7 @@ use Rattle.pages.specs.declared.access.Store.{Store}
 use Rattle.pages.specs.declared.access.Width.{Width}
 use Rattle.pages.specs.declared.access.Width.TheVariants.{W1}
 use Rattle.pages.specs.Memory.{Memory, store_fault, stored, after, is_code, any_code, width_bytes}
-use Rattle.pages.specs.StoreLaws.{length-after}
+use Rattle.pages.proofs.StoreLaws.{length-after}
 use Rattle.round_schedule.specs.declared.access.Stepped.{Stepped}
 use Rattle.round_schedule.specs.declared.access.Stepped.TheVariants.{Done, Waits, Stopped}
 use Rattle.round_schedule.specs.Schedule.{Outcome, Progress, HartRound, round_from, by_answer, next_of, went, began}

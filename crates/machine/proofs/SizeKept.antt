@@ -1,6 +1,6 @@
 -- A round leaves as many bytes as there were.
 use Rattle.std.proofs.Common.{◌≡◌, ℕ, zero, suc, Bool, true, false, if◌then◌else◌, List, [], ◌∷◌, length, refl, ◌∙◌}
-use Rattle.pages.specs.StoreLaws.{length-after}
+use Rattle.pages.proofs.StoreLaws.{length-after}
 use Rattle.round_schedule.specs.declared.access.Stepped.{Stepped}
 use Rattle.round_schedule.specs.declared.access.Stepped.TheVariants.{Done, Waits, Stopped}
 use Rattle.round_schedule.specs.Schedule.{HartRound, State, Turn, Words, all_stores, committed, hart_rounds, joined, round_of, serial_from, serial_next, turn_from, turn_of, turned}

@@ -1,5 +1,5 @@
 ghost use Rattle.std.specs.Prelude.{◌≡◌, ◌<◌, ◌≤◌, ◌+◌, ◌*◌, ◌^◌, ◌++◌, List, length, IfOk, OnOk, OnErr};
-ghost use Rattle.pages.specs.StoreLaws.{TouchesNoCode};
+ghost use Rattle.pages.specs.Memory.{TouchesNoCode};
 ghost use Rattle.round_schedule.specs.declared.event.Event.{Event};
 ghost use Rattle.round_schedule.specs.Schedule.{HartRound, all_stores, hart_rounds};
 ghost use Rattle.round_planner.specs.Quotas.{quotas_of};

@@ -8,3 +8,4 @@ pub mod Numbers
 pub mod Page
 pub mod PageBytes
 pub mod Readied
+pub mod StoreLaws

@@ -1,8 +1,7 @@
 -- The laws of stores that functions of this crate carry.
 use Rattle.std.specs.Prelude.{◌≡◌, ℕ, ◌<◌, List, length, slice_index}
 use Rattle.pages.specs.declared.access.Store.{Store}
-use Rattle.pages.specs.Memory.{Memory, after, fetched, last_byte, stored}
-use Rattle.pages.specs.StoreLaws.{TouchesNoCode}
+use Rattle.pages.specs.Memory.{Memory, TouchesNoCode, after, fetched, last_byte, stored}
 
 -- each byte is that of the last store that covers it, else what it was
 abbrev pub LastStoreWins : Type 0

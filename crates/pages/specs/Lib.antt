@@ -6,4 +6,3 @@ pub mod Laws
 pub mod Lending
 pub mod Memory
 pub mod Paged
-pub mod StoreLaws

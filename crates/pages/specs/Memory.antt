@@ -1,5 +1,5 @@
 -- Guest memory as a list of bytes: reading and writing numbers, faults, and what a list of stores leaves.
-use Rattle.std.specs.Prelude.{ℕ, zero, suc, ◌+◌, ◌-◌, ◌*◌, ◌/◌, ◌%◌, ◌^◌, ◌<◌, ◌==◌, ◌&&◌, ◌||◌, Bool, true, false, if◌then◌else◌, nat_lt, nat_le, List, [], ◌∷◌, length, All, slice_index, slice_set, Option, Some, None, Result, Ok, Err}
+use Rattle.std.specs.Prelude.{◌≡◌, ℕ, zero, suc, ◌+◌, ◌-◌, ◌*◌, ◌/◌, ◌%◌, ◌^◌, ◌<◌, ◌==◌, ◌&&◌, ◌||◌, Bool, true, false, if◌then◌else◌, nat_lt, nat_le, List, [], ◌∷◌, length, All, slice_index, slice_set, Option, Some, None, Result, Ok, Err}
 use Rattle.pages.specs.declared.access.Fault.{Fault}
 use Rattle.pages.specs.declared.access.Fault.TheVariants.{LoadMisaligned, LoadOutside, StoreMisaligned, StoreOutside, StoreToCode}
 use Rattle.pages.specs.declared.access.Range.{Range}
@@ -88,6 +88,10 @@ any_code rs a (suc n) = is_code rs a || any_code rs (a + 1) n
 abbrev pub all_code : List Range → ℕ → ℕ → Bool
 all_code rs a zero = true
 all_code rs a (suc n) = is_code rs a && all_code rs (a + 1) n
+
+-- no store of the list touches code
+abbrev pub TouchesNoCode : List Range → List Store → Type 0
+TouchesNoCode code ss = All (λ (s : Store). any_code code s.address (width_bytes s.width) ≡ false) ss
 
 -- a load: the number there, or its fault; alignment is tested before memory
 unfoldable pub loaded : Memory → ℕ → Width → Result ℕ Fault

@@ -29,11 +29,6 @@ applied p s = record {
   spare = spare_after (is_page_ready p (s.address / 4096)) p.spare;
 }
 
--- after a list of stores, the first of them first
-abbrev pub all_applied : Paged → List Store → Paged
-all_applied p [] = p
-all_applied p (s ∷ ss) = all_applied (applied p s) ss
-
 -- the pages of a list made ready
 abbrev pub all_ready : List Bool → List ℕ → List Bool
 all_ready ready [] = ready

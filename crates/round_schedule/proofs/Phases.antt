@@ -6,7 +6,7 @@ use Rattle.std.proofs.lemmas.List.Recursion.{is_count_by}
 use Rattle.std.specs.List.{slice_index}
 use Rattle.pages.specs.declared.access.Store.{Store}
 use Rattle.pages.specs.Memory.{IsBytes, after, last_byte}
-use Rattle.pages.specs.StoreLaws.{byte_after as byte_stored, bytes_after, last_byte-append, length-after}
+use Rattle.pages.proofs.StoreLaws.{byte_after as byte_stored, bytes_after, last_byte-append, length-after}
 use Rattle.round_schedule.specs.declared.access.Access.{Access}
 use Rattle.round_schedule.specs.declared.access.Access.TheVariants.{Load, Store as StoreAccess, LoadReserved, StoreConditional, Atomic, Fence}
 use Rattle.round_schedule.specs.declared.event.Event.{Event}

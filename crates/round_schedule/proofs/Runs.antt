@@ -4,7 +4,7 @@ use Rattle.std.specs.List.{slice_index}
 use Rattle.std.proofs.lemmas.List.{map-append}
 use Rattle.pages.specs.declared.access.Store.{Store}
 use Rattle.pages.specs.Memory.{IsBytes, after}
-use Rattle.pages.specs.StoreLaws.{bytes_after}
+use Rattle.pages.proofs.StoreLaws.{bytes_after}
 use Rattle.round_schedule.specs.declared.access.Access.{Access}
 use Rattle.round_schedule.specs.declared.access.Stepped.{Stepped}
 use Rattle.round_schedule.specs.declared.access.Stepped.TheVariants.{Done, Waits, Stopped}

@@ -2,7 +2,7 @@
 use Rattle.std.proofs.Common.{◌≡◌, ℕ, zero, suc, ◌+◌, ◌<◌, ◌==◌, ◌||◌, Bool, true, false, if◌then◌else◌, List, [], ◌∷◌, ◌++◌, length, Option, Some, None, option_to_list, refl, sym, ◌∙◌, ap, arith}
 use Rattle.pages.specs.declared.access.Store.{Store}
 use Rattle.pages.specs.Memory.{IsBytes, after, covered, width_bytes}
-use Rattle.pages.specs.StoreLaws.{bytes_after, covered-append}
+use Rattle.pages.proofs.StoreLaws.{bytes_after, covered-append}
 use Rattle.round_schedule.specs.declared.access.Access.{Access}
 use Rattle.round_schedule.specs.declared.access.Access.TheVariants.{Load, Store as StoreAccess, LoadReserved, StoreConditional, Atomic, Fence}
 use Rattle.round_schedule.specs.declared.access.Stepped.{Stepped}

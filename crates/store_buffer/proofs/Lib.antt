@@ -1,3 +1,4 @@
+pub mod CoveredLaws
 pub mod LineBits
 pub mod LineChains
 pub mod LineFirst

@@ -8,7 +8,7 @@ use Rattle.std.proofs.Math.Nat.{mod-eq_of_lt, pow-le-pow_right}
 use Rattle.pages.specs.declared.access.Width.{Width}
 use Rattle.pages.specs.declared.access.Width.TheVariants.{W1, W2, W4, W8}
 use Rattle.pages.specs.Memory.{byte_of, in_range, width_bytes, written}
-use Rattle.pages.specs.StoreLaws.{written_at}
+use Rattle.pages.proofs.StoreLaws.{written_at}
 use Rattle.store_buffer.specs.declared.line.Line.{Line}
 use Rattle.store_buffer.specs.Lines.{byte_if, line_at}
 

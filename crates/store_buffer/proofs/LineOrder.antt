@@ -12,7 +12,7 @@ use Rattle.pages.specs.declared.access.Store.{Store}
 use Rattle.pages.specs.Memory.{byte_of, byte_put, covers, in_range, width_bytes}
 use Rattle.store_buffer.specs.declared.line.Line.{Line}
 use Rattle.store_buffer.specs.Covered.{Rising, byte_at, with_store}
-use Rattle.store_buffer.specs.CoveredLaws.{byte_at-with_store, rising_from, rising_with_store, same_bytes}
+use Rattle.store_buffer.proofs.CoveredLaws.{byte_at-with_store, rising_from, rising_with_store, same_bytes}
 use Rattle.store_buffer.specs.Held.{RisingLines}
 use Rattle.store_buffer.specs.Lines.{byte_if, line_at, line_bytes, line_of, lines_bytes, place_of, put_first, whole_line}
 

@@ -8,9 +8,9 @@ use Rattle.pages.specs.declared.access.Fault.TheVariants.{LoadMisaligned, LoadOu
 use Rattle.pages.specs.declared.access.Store.{Store}
 use Rattle.pages.specs.declared.access.Width.{Width}
 use Rattle.pages.specs.Memory.{IsBytes, Memory, after, loaded, number_at, stored, value_at, width_bytes}
-use Rattle.pages.specs.StoreLaws.{byte_after, length-after}
+use Rattle.pages.proofs.StoreLaws.{byte_after, length-after}
 use Rattle.store_buffer.specs.Covered.{Rising, byte_at, stores_of}
-use Rattle.store_buffer.specs.CoveredLaws.{last_byte_at}
+use Rattle.store_buffer.proofs.CoveredLaws.{last_byte_at}
 use Rattle.store_buffer.specs.declared.line.Line.{Line}
 use Rattle.store_buffer.specs.Lines.{line_at, number_over}
 use Rattle.store_buffer.proofs.LineNumbers.{over_value, value_is}

@@ -1,5 +1,4 @@
 pub mod Covered
-pub mod CoveredLaws
 pub mod Held
 pub mod Laws
 pub mod LineMaps

@@ -3,7 +3,7 @@ use Rattle.std.proofs.Common.{◌<◌, ◌^◌, ◌*◌, ◌≡◌, ℕ, zero, s
 use Rattle.std.proofs.lemmas.List.Elements.{All-append, All-cons, All-head, All-push}
 use Rattle.pages.specs.declared.access.Store.{Store}
 use Rattle.pages.specs.Memory.{IsBytes, after}
-use Rattle.pages.specs.StoreLaws.{bytes_after, length-after}
+use Rattle.pages.proofs.StoreLaws.{bytes_after, length-after}
 use Rattle.round_schedule.specs.declared.access.Access.{Access}
 use Rattle.round_schedule.specs.declared.access.Access.TheVariants.{Load, Store as StoreAccess, LoadReserved, StoreConditional, Atomic, Fence}
 use Rattle.round_schedule.specs.declared.access.Stepped.{Stepped}

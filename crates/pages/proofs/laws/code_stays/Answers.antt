@@ -1,4 +1,4 @@
-use Rattle.pages.specs.StoreLaws.{fetched_stays}
+use Rattle.pages.proofs.StoreLaws.{fetched_stays}
 use Rattle.pages.proofs.laws.code_stays.Goals as goal
 
 pub returns : goal.returns

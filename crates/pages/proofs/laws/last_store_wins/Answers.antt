@@ -1,4 +1,4 @@
-use Rattle.pages.specs.StoreLaws.{byte_after}
+use Rattle.pages.proofs.StoreLaws.{byte_after}
 use Rattle.pages.proofs.laws.last_store_wins.Goals as goal
 
 pub returns : goal.returns

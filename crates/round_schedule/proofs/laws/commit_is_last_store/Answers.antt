@@ -1,4 +1,4 @@
-use Rattle.pages.specs.StoreLaws.{byte_after}
+use Rattle.pages.proofs.StoreLaws.{byte_after}
 use Rattle.round_schedule.specs.Schedule.{all_stores}
 use Rattle.round_schedule.proofs.laws.commit_is_last_store.Goals as goal
 

@@ -1,5 +1,5 @@
 use Rattle.std.proofs.Common.{[]}
-use Rattle.store_buffer.specs.CoveredLaws.{after_with_stores, covered-with_stores, last_byte-with_stores}
+use Rattle.store_buffer.proofs.CoveredLaws.{after_with_stores, covered-with_stores, last_byte-with_stores}
 use Rattle.store_buffer.proofs.laws.bytes_keep_history.Goals as goal
 
 pub returns : goal.returns

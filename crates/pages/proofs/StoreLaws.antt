@@ -8,11 +8,7 @@ use Rattle.std.proofs.lemmas.List.Elements.{All-set, All-head, All-tail}
 use Rattle.std.proofs.lemmas.Nat.{pow-add}
 use Rattle.pages.specs.declared.access.Range.{Range}
 use Rattle.pages.specs.declared.access.Store.{Store}
-use Rattle.pages.specs.Memory.{IsBytes, Memory, after, all_code, any_code, byte_of, byte_put, covered, covers, fetched, in_range, is_code, last_byte, number_at, put, stored, width_bytes, written}
-
--- no store of the list touches code
-abbrev pub TouchesNoCode : List Range → List Store → Type 0
-TouchesNoCode code ss = All (λ (s : Store). any_code code s.address (width_bytes s.width) ≡ false) ss
+use Rattle.pages.specs.Memory.{IsBytes, Memory, TouchesNoCode, after, all_code, any_code, byte_of, byte_put, covered, covers, fetched, in_range, is_code, last_byte, number_at, put, stored, width_bytes, written}
 
 length-written : (n : ℕ) (bs : List ℕ) (a v : ℕ) → length (written bs a v n) ≡ length bs
 length-written zero bs a v = refl

@@ -6,7 +6,7 @@ use Rattle.std.proofs.lemmas.Nat.{pow-add}
 use Rattle.std.proofs.Math.Nat.{div-div-eq-div-mul, div-one, mod-eq_of_lt}
 use Rattle.pages.specs.declared.access.Store.{Store}
 use Rattle.pages.specs.Memory.{after, byte_of, byte_put, covered, covers, in_range, last_byte, put, width_bytes}
-use Rattle.pages.specs.StoreLaws.{after-append, last_byte-append, same_after}
+use Rattle.pages.proofs.StoreLaws.{after-append, last_byte-append, same_after}
 use Rattle.store_buffer.specs.Covered.{Rising, byte_at, stores_of, with_byte, with_bytes, with_store, with_stores}
 
 -- what a test decides, as cases
