@@ -1,6 +1,7 @@
 -- What guest memory keeps true of its own parts.
 use Rattle.std.specs.Prelude.{◌≡◌, ◌≤◌, ◌+◌, ◌^◌, ℕ, Bool, List, length, map, All, Option, IfSome}
 use Rattle.pages.specs.declared.access.Range.{Range}
+use Rattle.pages.specs.declared.pages.TheConstants.{MOST_PAGES}
 use Rattle.pages.specs.Flat.{Page, is_ready}
 use Rattle.pages.specs.Paged.{count_unready}
 
@@ -14,7 +15,7 @@ IsCounted unready ready = IfSome unready (λ n. n ≡ count_unready ready)
 
 -- at most 64 MiB, no more spare pages than pages, a true count, and code between two addresses
 pub record Kept (parts : List Page) (spare : ℕ) (unready : Option ℕ) (code : List Range) (from to : ℕ) : Type 0 where
-  pub count : length parts ≤ 16384
+  pub count : length parts ≤ MOST_PAGES
   pub few : spare ≤ length parts
   pub counted : IsCounted unready (map is_ready parts)
   pub code_within : All (λ (r : Range). LiesWithin from to r) code

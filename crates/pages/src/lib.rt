@@ -16,5 +16,5 @@ pub use access::{Fault, Piece, Range, Store, Width};
 pub use laws::{code_stays, last_store_wins};
 pub use number::{number_in, write_number};
 pub use out_of_memory::OutOfMemory;
-pub use pages::Pages;
+pub use pages::{MOST_PAGES, Pages};
 pub use part::Part;

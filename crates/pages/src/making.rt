@@ -8,6 +8,7 @@ ghost use Rattle.pages.specs.Initial.{bytes_from, is_touched};
 ghost use Rattle.pages.specs.Kept.{LiesWithin};
 ghost use Rattle.pages.specs.Memory.{in_range};
 
+use crate::pages::MOST_PAGES;
 use crate::{OutOfMemory, Part, Piece, Range};
 use std::alloc::Global;
 
@@ -17,7 +18,7 @@ pub(crate) fn parts_of(
     count: u32,
     pieces: &[Piece],
 ) -> Result<Vec<Part>, OutOfMemory>
-    requires most { count ≤ 16384 }
+    requires most { count ≤ MOST_PAGES }
     requires pieces { All (λ (p : PieceOf). p.start + length p.bytes.items ≤ 2 ^ 26) pieces.now }
     ensures bytes { IfOk result (λ v. flat v.items ≡ bytes_from pieces.now 0 (4096 * count)) }
     ensures ready { IfOk result (λ v. map is_ready v.items ≡
@@ -54,7 +55,7 @@ pub(crate) fn share_all(alloc: Global, parts: &mut [Part]) -> Result<(), OutOfMe
 
 // The page of this number. The first piece wins, so it is laid last.
 fn part_of(alloc: Global, page: u32, pieces: &[Piece]) -> Result<Part, OutOfMemory>
-    requires page { page < 16384 }
+    requires page { page < MOST_PAGES }
     requires pieces { All (λ (p : PieceOf). p.start + length p.bytes.items ≤ 2 ^ 26) pieces.now }
     ensures bytes { IfOk result (λ p. full p ≡ bytes_from pieces.now (4096 * page) 4096) }
     ensures ready { IfOk result (λ p. is_ready p ≡ is_touched pieces.now page) }

@@ -17,6 +17,9 @@ use crate::{Fault, OutOfMemory, Part, Piece, Range, Store, Width};
 use std::alloc::Global;
 use std::marker::Model;
 
+/// The most pages that guest memory has: 64 MiB.
+pub const MOST_PAGES: u32 = 16_384;
+
 /// Guest memory from address 0 on, in pages of 4096 bytes. A page takes memory once it is ready, and copies may share it.
 #[derive(Drop)]
 pub struct Pages {
@@ -61,7 +64,7 @@ impl Pages {
         code: &[Range],
     ) -> Result<Pages, OutOfMemory>
         requires least { 1 ≤ count }
-        requires most { count ≤ 16384 }
+        requires most { count ≤ MOST_PAGES }
         requires pieces { All (λ (p : PieceOf). p.start + length p.bytes.items ≤
             4096 * count) pieces.now }
         requires code { All (λ (r : RangeOf). r.start + r.len ≤ 4096 * count) code.now }
@@ -125,7 +128,7 @@ impl Pages {
     pub fn count(&self) -> u32
         ensures pages { result ≡ length self.now.ready }
         ensures bytes { 4096 * result ≡ length self.now.memory.bytes }
-        ensures most { result ≤ 16384 }
+        ensures most { result ≤ MOST_PAGES }
     {
         self.parts.len() as u32
     }

@@ -4,6 +4,7 @@ ghost use Rattle.pages.specs.Kept.{IsCounted};
 ghost use Rattle.pages.specs.Paged.{all_ready, count_unready, spare_after};
 ghost use Rattle.pages.specs.Memory.{put, width_bytes};
 
+use crate::pages::MOST_PAGES;
 use crate::spare::Spare;
 use crate::{OutOfMemory, Part, Store};
 use std::alloc::Global;
@@ -130,7 +131,7 @@ pub(crate) fn make_all_ready(
 
 /// How many pages are not ready: the number that is kept, and where none is, all pages are counted.
 pub(crate) fn count_kept(parts: &[Part], unready: Option<u32>) -> u32
-    requires most { length parts.now ≤ 16384 }
+    requires most { length parts.now ≤ MOST_PAGES }
     requires counted { IsCounted unready (map is_ready parts.now) }
     ensures { result ≡ count_unready (map is_ready parts.now) }
 {
@@ -142,7 +143,7 @@ pub(crate) fn count_kept(parts: &[Part], unready: Option<u32>) -> u32
 
 /// Counts the pages that are not ready.
 pub(crate) fn count_all(parts: &[Part]) -> u32
-    requires { length parts.now ≤ 16384 }
+    requires { length parts.now ≤ MOST_PAGES }
     ensures { result ≡ count_unready (map is_ready parts.now) }
 {
     parts.iter().filter(|part| !part.ready()).count() as u32
