@@ -6,28 +6,28 @@ use crate::ordering::{AcquireRelease, FenceMode, FenceSet};
 use crate::register::Reg;
 
 #[inline(always)]
-pub fn rd(word: u32) -> Reg
+pub(crate) fn rd(word: u32) -> Reg
     ensures { result ≡ rd_of word }
 {
     Reg::new(((word >> 7) & 0x1f) as u8)
 }
 
 #[inline(always)]
-pub fn rs1(word: u32) -> Reg
+pub(crate) fn rs1(word: u32) -> Reg
     ensures { result ≡ rs1_of word }
 {
     Reg::new(((word >> 15) & 0x1f) as u8)
 }
 
 #[inline(always)]
-pub fn rs2(word: u32) -> Reg
+pub(crate) fn rs2(word: u32) -> Reg
     ensures { result ≡ rs2_of word }
 {
     Reg::new(((word >> 20) & 0x1f) as u8)
 }
 
 #[inline(always)]
-pub fn i_immediate(word: u32) -> u64
+pub(crate) fn i_immediate(word: u32) -> u64
     ensures { result ≡ imm_i word }
 {
     let bits = (word >> 20) as u64;
@@ -39,7 +39,7 @@ pub fn i_immediate(word: u32) -> u64
 }
 
 #[inline(always)]
-pub fn s_immediate(word: u32) -> u64
+pub(crate) fn s_immediate(word: u32) -> u64
     ensures { result ≡ imm_s word }
 {
     let bits = ((word >> 25) * 0x20 + ((word >> 7) & 0x1f)) as u64;
@@ -51,7 +51,7 @@ pub fn s_immediate(word: u32) -> u64
 }
 
 #[inline(always)]
-pub fn b_immediate(word: u32) -> u64
+pub(crate) fn b_immediate(word: u32) -> u64
     ensures { result ≡ imm_b word }
 {
     let high = (word >> 31) * 0x1000 + ((word >> 7) & 1) * 0x800;
@@ -65,7 +65,7 @@ pub fn b_immediate(word: u32) -> u64
 }
 
 #[inline(always)]
-pub fn u_immediate(word: u32) -> u64
+pub(crate) fn u_immediate(word: u32) -> u64
     ensures { result ≡ imm_u word }
 {
     let bits = (word >> 12) as u64 * 0x1000;
@@ -77,7 +77,7 @@ pub fn u_immediate(word: u32) -> u64
 }
 
 #[inline(always)]
-pub fn j_immediate(word: u32) -> u64
+pub(crate) fn j_immediate(word: u32) -> u64
     ensures { result ≡ imm_j word }
 {
     let high = (word >> 31) * 0x10_0000 + ((word >> 12) & 0xff) * 0x1000;
@@ -92,7 +92,7 @@ pub fn j_immediate(word: u32) -> u64
 
 /// The amount of a shift of 64 bits.
 #[inline(always)]
-pub fn shift_6(word: u32) -> u8
+pub(crate) fn shift_6(word: u32) -> u8
     ensures { result ≡ shift_6_of word }
 {
     ((word >> 20) & 0x3f) as u8
@@ -100,14 +100,14 @@ pub fn shift_6(word: u32) -> u8
 
 /// The amount of a shift of a word.
 #[inline(always)]
-pub fn shift_5(word: u32) -> u8
+pub(crate) fn shift_5(word: u32) -> u8
     ensures { result ≡ shift_5_of word }
 {
     ((word >> 20) & 0x1f) as u8
 }
 
 #[inline(always)]
-pub fn ordering(word: u32) -> AcquireRelease
+pub(crate) fn ordering(word: u32) -> AcquireRelease
     ensures { result ≡ ordering_of word }
 {
     AcquireRelease {
@@ -117,7 +117,7 @@ pub fn ordering(word: u32) -> AcquireRelease
 }
 
 #[inline(always)]
-pub fn fence_before(word: u32) -> FenceSet
+pub(crate) fn fence_before(word: u32) -> FenceSet
     ensures { result ≡ before_of word }
 {
     FenceSet {
@@ -127,7 +127,7 @@ pub fn fence_before(word: u32) -> FenceSet
 }
 
 #[inline(always)]
-pub fn fence_after(word: u32) -> FenceSet
+pub(crate) fn fence_after(word: u32) -> FenceSet
     ensures { result ≡ after_of word }
 {
     FenceSet {
@@ -137,7 +137,7 @@ pub fn fence_after(word: u32) -> FenceSet
 }
 
 #[inline(always)]
-pub fn fence_mode(word: u32) -> FenceMode
+pub(crate) fn fence_mode(word: u32) -> FenceMode
     ensures { result ≡ mode_of word }
 {
     if word >> 28 == 0b1000 && (word >> 20) & 0xff == 0b0011_0011 {

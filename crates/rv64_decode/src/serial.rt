@@ -15,30 +15,8 @@ pub fn is_serial(i: &Instr) -> bool
         Instr::Fence {
             before,
             after,
-            mode: FenceMode::Normal,
-        } => before.writes && after.reads,
-        Instr::LrW { .. }
-        | Instr::ScW { .. }
-        | Instr::AmoswapW { .. }
-        | Instr::AmoaddW { .. }
-        | Instr::AmoxorW { .. }
-        | Instr::AmoandW { .. }
-        | Instr::AmoorW { .. }
-        | Instr::AmominW { .. }
-        | Instr::AmomaxW { .. }
-        | Instr::AmominuW { .. }
-        | Instr::AmomaxuW { .. }
-        | Instr::LrD { .. }
-        | Instr::ScD { .. }
-        | Instr::AmoswapD { .. }
-        | Instr::AmoaddD { .. }
-        | Instr::AmoxorD { .. }
-        | Instr::AmoandD { .. }
-        | Instr::AmoorD { .. }
-        | Instr::AmominD { .. }
-        | Instr::AmomaxD { .. }
-        | Instr::AmominuD { .. }
-        | Instr::AmomaxuD { .. } => true,
-        _ => false,
+            mode,
+        } => before.writes && after.reads && *mode == FenceMode::Normal,
+        _ => i.atomic().is_some(),
     }
 }

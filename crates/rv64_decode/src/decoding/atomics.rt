@@ -8,7 +8,7 @@ use crate::operands::{ordering, rd, rs1, rs2};
 
 /// SC, the AMOs and, by a finer mask, LR.
 #[inline]
-pub fn atomic(word: u32) -> Option<Instr>
+pub(crate) fn atomic(word: u32) -> Option<Instr>
     requires { bit_and word 0x0000007f ≡ 0x0000002f }
     ensures { result ≡ instr_of word }
 {

@@ -8,7 +8,7 @@ use crate::operands::{fence_after, fence_before, fence_mode};
 
 /// FENCE, FENCE.TSO among its settings. The fields rd and rs1 are reserved, and not looked at.
 #[inline]
-pub fn fence(word: u32) -> Option<Instr>
+pub(crate) fn fence(word: u32) -> Option<Instr>
     requires { bit_and word 0x0000007f ≡ 0x0000000f }
     ensures { result ≡ instr_of word }
 {

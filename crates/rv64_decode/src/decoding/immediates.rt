@@ -8,7 +8,7 @@ use crate::operands::{i_immediate, rd, rs1, shift_5, shift_6};
 
 /// The operations on 64 bits.
 #[inline]
-pub fn immediate_operation(word: u32) -> Option<Instr>
+pub(crate) fn immediate_operation(word: u32) -> Option<Instr>
     requires { bit_and word 0x0000007f ≡ 0x00000013 }
     ensures { result ≡ instr_of word }
 {
@@ -61,7 +61,7 @@ fn right_shift(word: u32) -> Option<Instr>
 
 /// The operations on words.
 #[inline]
-pub fn immediate_word_operation(word: u32) -> Option<Instr>
+pub(crate) fn immediate_word_operation(word: u32) -> Option<Instr>
     requires { bit_and word 0x0000007f ≡ 0x0000001b }
     ensures { result ≡ instr_of word }
 {

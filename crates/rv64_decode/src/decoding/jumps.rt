@@ -8,7 +8,7 @@ use crate::operands::{b_immediate, i_immediate, rd, rs1, rs2};
 
 /// JALR.
 #[inline]
-pub fn jump_register(word: u32) -> Option<Instr>
+pub(crate) fn jump_register(word: u32) -> Option<Instr>
     requires { bit_and word 0x0000007f ≡ 0x00000067 }
     ensures { result ≡ instr_of word }
 {
@@ -23,7 +23,7 @@ pub fn jump_register(word: u32) -> Option<Instr>
 
 /// The conditional branches.
 #[inline]
-pub fn branch(word: u32) -> Option<Instr>
+pub(crate) fn branch(word: u32) -> Option<Instr>
     requires { bit_and word 0x0000007f ≡ 0x00000063 }
     ensures { result ≡ instr_of word }
 {

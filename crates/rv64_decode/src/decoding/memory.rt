@@ -8,7 +8,7 @@ use crate::operands::{i_immediate, rd, rs1, rs2, s_immediate};
 
 /// The loads.
 #[inline]
-pub fn load(word: u32) -> Option<Instr>
+pub(crate) fn load(word: u32) -> Option<Instr>
     requires { bit_and word 0x0000007f ≡ 0x00000003 }
     ensures { result ≡ instr_of word }
 {
@@ -29,7 +29,7 @@ pub fn load(word: u32) -> Option<Instr>
 
 /// The stores.
 #[inline]
-pub fn store(word: u32) -> Option<Instr>
+pub(crate) fn store(word: u32) -> Option<Instr>
     requires { bit_and word 0x0000007f ≡ 0x00000023 }
     ensures { result ≡ instr_of word }
 {

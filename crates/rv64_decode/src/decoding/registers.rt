@@ -8,7 +8,7 @@ use crate::operands::{rd, rs1, rs2};
 
 /// The operations on 64 bits.
 #[inline]
-pub fn register_operation(word: u32) -> Option<Instr>
+pub(crate) fn register_operation(word: u32) -> Option<Instr>
     requires { bit_and word 0x0000007f ≡ 0x00000033 }
     ensures { result ≡ instr_of word }
 {
@@ -40,7 +40,7 @@ pub fn register_operation(word: u32) -> Option<Instr>
 
 /// The operations on words.
 #[inline]
-pub fn register_word_operation(word: u32) -> Option<Instr>
+pub(crate) fn register_word_operation(word: u32) -> Option<Instr>
     requires { bit_and word 0x0000007f ≡ 0x0000003b }
     ensures { result ≡ instr_of word }
 {

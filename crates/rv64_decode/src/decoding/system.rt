@@ -7,7 +7,7 @@ use crate::instruction::Instr;
 
 /// The two words of this opcode.
 #[inline]
-pub fn system(word: u32) -> Option<Instr>
+pub(crate) fn system(word: u32) -> Option<Instr>
     requires { bit_and word 0x0000007f ≡ 0x00000073 }
     ensures { result ≡ instr_of word }
 {
