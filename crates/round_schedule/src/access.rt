@@ -1,5 +1,5 @@
-ghost use Rattle.std.specs.Prelude.{◌≡◌};
-ghost use Rattle.round_schedule.specs.Accesses.{place_of};
+ghost use Rattle.std.specs.Prelude.{◌≡◌, ◌≤◌};
+ghost use Rattle.round_schedule.specs.Accesses.{address_of, bytes_of, loads, place_of, stores};
 
 use pages::Width;
 use rv64_decode::{AcquireRelease, FenceMode, FenceSet};
@@ -81,6 +81,60 @@ impl Access {
             | Access::StoreConditional { place, .. }
             | Access::Atomic { place, .. }
             | Access::Fence { place, .. } => place,
+        }
+    }
+
+    /// The address of its first byte; 0 for a fence.
+    #[inline]
+    pub fn address(&self) -> u64
+        ensures { result ≡ address_of self.now }
+    {
+        match *self {
+            Access::Load { address, .. }
+            | Access::Store { address, .. }
+            | Access::LoadReserved { address, .. }
+            | Access::StoreConditional { address, .. }
+            | Access::Atomic { address, .. } => address,
+            Access::Fence { .. } => 0,
+        }
+    }
+
+    /// How many bytes it is of, 1 to 8; 0 for a fence.
+    #[inline]
+    pub fn byte_count(&self) -> u64
+        ensures count { result ≡ bytes_of self.now }
+        ensures few { result ≤ 8 }
+    {
+        match *self {
+            Access::Load { width, .. }
+            | Access::Store { width, .. }
+            | Access::LoadReserved { width, .. }
+            | Access::StoreConditional { width, .. }
+            | Access::Atomic { width, .. } => width.bytes(),
+            Access::Fence { .. } => 0,
+        }
+    }
+
+    /// Whether it is a load of the memory model: a load, an LR or an AMO (manual, section 17.1).
+    #[inline]
+    pub fn loads(&self) -> bool
+        ensures { result ≡ loads self.now }
+    {
+        matches!(
+            self,
+            Access::Load { .. } | Access::LoadReserved { .. } | Access::Atomic { .. }
+        )
+    }
+
+    /// Whether it is a store of the memory model: a store, an SC that wrote or an AMO (manual, section 17.1).
+    #[inline]
+    pub fn stores(&self) -> bool
+        ensures { result ≡ stores self.now }
+    {
+        match *self {
+            Access::Store { .. } | Access::Atomic { .. } => true,
+            Access::StoreConditional { written, .. } => written.is_some(),
+            Access::Load { .. } | Access::LoadReserved { .. } | Access::Fence { .. } => false,
         }
     }
 }

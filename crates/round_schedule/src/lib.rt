@@ -1,14 +1,16 @@
-//! What a run is: accesses and events, reservations, and the schedule of a round over any set of instructions.
+//! What a run is: accesses and events, reservations, its bounds, and the schedule of a round over any set of instructions.
 //!
 //! The definitions stand in `specs/`, and speak of any set of instructions; the laws on them are the contracts of `laws`.
 #![tactic(auto)]
 
 mod access;
+mod bounds;
 mod event;
 mod laws;
 mod span;
 
 pub use access::{Access, Stepped};
+pub use bounds::{MOST_HARTS, MOST_WORKERS};
 pub use event::{Event, Phase};
 pub use laws::{
     commit_is_last_store, commits_by_table, events_pass, hart_round_is_longest,
