@@ -9,7 +9,7 @@ use std::marker::Model;
 /// Room for the bytes of a page. Nothing is written to it before a page takes it, so that one that is kept ready and never
 /// taken costs a request for memory alone.
 #[derive(Drop)]
-pub struct Spare {
+pub(crate) struct Spare {
     room: Vec<u8>,
 }
 

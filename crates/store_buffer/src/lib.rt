@@ -10,7 +10,7 @@ mod store_buffer;
 mod stores;
 
 pub use laws::bytes_keep_history;
-pub use line::{LINE_BYTES, Line};
+pub use line::Line;
 pub use lines::Lines;
 pub use store_buffer::StoreBuffer;
 pub use stores::Stores;

@@ -5,7 +5,7 @@ ghost use Rattle.store_buffer.specs.Lines.{line_at, number_over};
 use pages::{Width, number_in, write_number};
 
 /// How many bytes a line has.
-pub const LINE_BYTES: u64 = 64;
+pub(crate) const LINE_BYTES: u64 = 64;
 
 /// 64 bytes from a multiple of 64 on, of which only the covered ones mean something.
 #[derive(Clone, Copy, Debug)]

@@ -3,8 +3,8 @@ ghost use Rattle.std.specs.Iterator.{YieldsFirstBy, item_count};
 ghost use Rattle.store_buffer.specs.Held.{AllNear};
 ghost use Rattle.store_buffer.specs.Lines.{addressed};
 
+use crate::line::{LINE_BYTES, Line};
 use crate::line_map::InOrder;
-use crate::{LINE_BYTES, Line};
 use std::marker::Model;
 
 /// The lines of a store buffer that are left to give, each with the address of its first byte.

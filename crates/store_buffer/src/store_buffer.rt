@@ -4,8 +4,9 @@ ghost use Rattle.store_buffer.specs.declared.line.Line.{Line as LineOf};
 ghost use Rattle.store_buffer.specs.Lines.{lent_bytes};
 ghost use Rattle.store_buffer.specs.Covered.{Rising, byte_at, stores_of, with_store};
 
+use crate::line::LINE_BYTES;
 use crate::line_map::LineMap;
-use crate::{LINE_BYTES, Lines, Stores};
+use crate::{Lines, Stores};
 use pages::{Fault, OutOfMemory, Pages, Store, Width};
 use std::alloc::Global;
 use std::marker::Model;

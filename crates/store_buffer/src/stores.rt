@@ -4,8 +4,8 @@ ghost use Rattle.store_buffer.specs.Covered.{stores_of};
 ghost use Rattle.store_buffer.specs.Held.{AllNear};
 ghost use Rattle.store_buffer.specs.Lines.{lines_bytes};
 
+use crate::line::{LINE_BYTES, Line};
 use crate::line_map::InOrder;
-use crate::{LINE_BYTES, Line};
 use pages::{Store, Width};
 use std::marker::Model;
 
