@@ -5,7 +5,7 @@ ghost use Rattle.round_schedule.specs.Held.{any_byte, unless};
 use round_schedule::Span;
 
 /// Whether the two share a byte. Sums of addresses are not formed, so none wraps.
-pub fn shares_byte(held: Span, span: Span) -> bool
+fn shares_byte(held: Span, span: Span) -> bool
     ensures { result ≡ any_byte (in_range span.address (width_bytes span.width)) held.address
         (width_bytes held.width) }
 {
@@ -17,7 +17,7 @@ pub fn shares_byte(held: Span, span: Span) -> bool
 }
 
 /// The reservation that is left of one, after a write to these bytes.
-pub fn unless_broken(entry: Option<Span>, span: Span) -> Option<Span>
+pub(crate) fn unless_broken(entry: Option<Span>, span: Span) -> Option<Span>
     ensures { result ≡ unless (in_range span.address (width_bytes span.width)) entry }
 {
     match entry {

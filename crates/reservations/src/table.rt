@@ -7,16 +7,16 @@ ghost use Rattle.reservations.specs.Broken.{is_span};
 
 use crate::overlap::unless_broken;
 use pages::Width;
-use round_schedule::Span;
+use round_schedule::{MOST_HARTS, Span};
 use std::marker::Model;
 
-/// How many harts a table has at most.
-const MOST: usize = 64;
+/// How many entries there is room for.
+const ROOM: usize = MOST_HARTS as usize;
 
 /// The reservation of each hart (manual, section 8.2): the bytes of its last LR, or none.
 #[derive(Drop)]
 pub struct Reservations {
-    entries: [Option<Span>; MOST],
+    entries: [Option<Span>; ROOM],
     harts: usize,
     /// Whether a hart may have a reservation. Where not, no entry is looked at.
     any: bool,
@@ -24,6 +24,7 @@ pub struct Reservations {
 
 impl Model for Reservations {
     ghost use Rattle.std.specs.Prelude.{◌≡◌, ◌<◌, ◌≤◌, ℕ, List, Option, None, false, take};
+    ghost use Rattle.round_schedule.specs.declared.bounds.TheConstants.{MOST_HARTS};
     ghost use Rattle.round_schedule.specs.declared.span.Span.{Span};
     ghost use Rattle.round_schedule.specs.Tables.{entry};
 
@@ -31,18 +32,18 @@ impl Model for Reservations {
 
     ghost view = { λ r. take r.harts r.entries };
 
-    ghost invariant = { λ r. (r.harts ≤ 64) ×
+    ghost invariant = { λ r. (r.harts ≤ MOST_HARTS) ×
         (r.any ≡ false → (h : ℕ) → h < r.harts → entry r.entries h ≡ None) };
 }
 
 impl Reservations {
-    /// No hart of `harts`, 1 to 64, has a reservation.
+    /// No hart of `harts`, at most 64, has a reservation.
     pub fn new(harts: u32) -> Self
-        requires { harts ≤ 64 }
+        requires { harts ≤ MOST_HARTS }
         ensures { result ≡ replicate harts None }
     {
         Reservations {
-            entries: [None; MOST],
+            entries: [None; ROOM],
             harts: harts as usize,
             any: false,
         }
