@@ -4,3 +4,4 @@ pub mod Meeting
 pub mod Placing
 pub mod Sorting
 pub mod Sources
+pub mod Fewer

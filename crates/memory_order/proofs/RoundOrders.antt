@@ -12,7 +12,7 @@ use Rattle.round_schedule.specs.RoundTrace.{Follows, IsRoundTrace, Reservation, 
 use Rattle.memory_order.specs.Operations.{covers, fence_orders, is_acquire, is_load, is_operation, is_plain_store, is_release, is_store}
 use Rattle.memory_order.specs.ProgramOrder.{KeepsProgramOrder, is_plain_load}
 use Rattle.memory_order.specs.RoundOrder.{RanksBefore, part, rank}
-use Rattle.memory_order.specs.Rvwmo.{AtomicityAxiom, IsPaired, IsSource, KeepsByte, LoadValueAxiom, MaySee, PreservedOrder, Rule, acquired, both-annotated, different-writes, fenced, not-plain-store, overlapping-store, paired, released, returns-atomic}
+use Rattle.memory_order.specs.Rvwmo.{AtomicityAxiom, IsPaired, IsSource, KeepsByte, LoadValueAxiom, MaySee, NotPlainStore, PreservedOrder, Rule, acquired, both-annotated, different-writes, dependent, fenced, overlapping-store, paired, released, returns-atomic}
 use Rattle.memory_order.proofs.Facts.{acquire_is_other, and_left, and_right, atomic_is_serial, fence_is_serial, load_cases, load_is_operation, load_is_other, lr_is_serial, or_cases, or_left, release_is_serial, serial_is_other, store_cases, store_does_not_load, store_is_operation, within}
 
 -- ---- what holds of each of two latest ones
@@ -306,7 +306,7 @@ data ShortRule (t : List Event) (a b : ℕ) : Type 0 where
   short-fence : (f : ℕ) → ProgramBefore t a f → ProgramBefore t f b → fence_orders (event t f).access (event t a).access (event t b).access ≡ true → ShortRule t a b
   short-release : is_release (event t b).access ≡ true → ShortRule t a b
 
-short : (t : List Event) (pos : ℕ → ℕ) (a b : ℕ) → Rule t pos a b → ShortRule t a b
+short : (t : List Event) (pos : ℕ → ℕ) (a b : ℕ) → Rule (NotPlainStore t) t pos a b → ShortRule t a b
 short t pos a b (overlapping-store x s ca cb) = short-store s
 short t pos a b (different-writes x s u ra rb none sa sb d) = short-other (load_is_other (event t a).access (loads_at t a x ra))
 short t pos a b (returns-atomic x h rb s) = short-other (serial_is_other (event t a).access (atomic_is_serial (event t a).access h))
@@ -318,7 +318,7 @@ short t pos a b (both-annotated ha hb) = short-other (elim (or_cases (is_acquire
   | inr l ↦ serial_is_other (event t a).access (release_is_serial (event t a).access l)
 ])
 short t pos a b (paired h) = short-other (serial_is_other (event t a).access (lr_is_serial (event t a).access h.reserved))
-short t pos a b (not-plain-store h) = short-other h
+short t pos a b (dependent h) = short-other h
 
 -- the later one of the two is no store
 no_store : (t : List Event) → IsPhased t → (a b : ℕ) → Exchanged (event t a) (event t b) → is_store (event t b) ≡ true → ⊥

@@ -1,3 +1,4 @@
+pub mod Fewer
 pub mod Operations
 pub mod Orders
 pub mod ProgramOrder

@@ -45,31 +45,41 @@ AtomicityAxiom t pos =
 
 -- ---- preserved program order
 
--- The manual's rules 1 to 8, in their order. The last one stands for the rules 9 to 13, on dependencies: it is wider,
--- since the first access of each of them is a load, an LR, an SC or an AMO.
-pub data Rule (t : List Event) (pos : ℕ → ℕ) (a b : ℕ) : Type 0 where
-  overlapping-store : (x : ℕ) → is_store (event t b) ≡ true → covers (event t a).access x ≡ true → covers (event t b).access x ≡ true → Rule t pos a b
+-- The manual's rules 1 to 8, in their order. The last one stands for the rules 9 to 13, on dependencies: what they order is D.
+pub data Rule (D : ℕ → ℕ → Type 0) (t : List Event) (pos : ℕ → ℕ) (a b : ℕ) : Type 0 where
+  overlapping-store : (x : ℕ) → is_store (event t b) ≡ true → covers (event t a).access x ≡ true → covers (event t b).access x ≡ true → Rule D t pos a b
   different-writes : (x : ℕ) (s u : Option ℕ) → reads_at t a x ≡ true → reads_at t b x ≡ true →
       ((k : ℕ) → a < k → k < b → (event t k).hart ≡ (event t b).hart → writes_at t k x ≡ true → ⊥) →
-      IsSource t pos a x s → IsSource t pos b x u → s ≢ u → Rule t pos a b
+      IsSource t pos a x s → IsSource t pos b x u → s ≢ u → Rule D t pos a b
   returns-atomic : (x : ℕ) → (is_amo (event t a).access || is_sc (event t a).access) ≡ true → reads_at t b x ≡ true →
-      IsSource t pos b x (Some a) → Rule t pos a b
-  fenced : (f : ℕ) → ProgramBefore t a f → ProgramBefore t f b → fence_orders (event t f).access (event t a).access (event t b).access ≡ true → Rule t pos a b
-  acquired : is_acquire (event t a).access ≡ true → Rule t pos a b
-  released : is_release (event t b).access ≡ true → Rule t pos a b
+      IsSource t pos b x (Some a) → Rule D t pos a b
+  fenced : (f : ℕ) → ProgramBefore t a f → ProgramBefore t f b → fence_orders (event t f).access (event t a).access (event t b).access ≡ true → Rule D t pos a b
+  acquired : is_acquire (event t a).access ≡ true → Rule D t pos a b
+  released : is_release (event t b).access ≡ true → Rule D t pos a b
   both-annotated : (is_acquire (event t a).access || is_release (event t a).access) ≡ true →
-      (is_acquire (event t b).access || is_release (event t b).access) ≡ true → Rule t pos a b
-  paired : IsPaired t a b → Rule t pos a b
-  not-plain-store : is_plain_store (event t a).access ≡ false → Rule t pos a b
+      (is_acquire (event t b).access || is_release (event t b).access) ≡ true → Rule D t pos a b
+  paired : IsPaired t a b → Rule D t pos a b
+  dependent : D a b → Rule D t pos a b
+
+abbrev pub PreservedOrderBy : (ℕ → ℕ → Type 0) → List Event → (ℕ → ℕ) → Type 0
+PreservedOrderBy D t pos =
+    (a b : ℕ) → is_operation (event t a) ≡ true → is_operation (event t b) ≡ true → ProgramBefore t a b →
+    Rule D t pos a b → pos a < pos b
+
+-- a wider rule than the rules 9 to 13, for traces that say nothing of registers: the first access of each of them is a load, an LR, an SC or an AMO
+abbrev pub NotPlainStore : List Event → ℕ → ℕ → Type 0
+NotPlainStore t a b = is_plain_store (event t a).access ≡ false
 
 abbrev pub PreservedOrder : List Event → (ℕ → ℕ) → Type 0
-PreservedOrder t pos =
-    (a b : ℕ) → is_operation (event t a) ≡ true → is_operation (event t b) ≡ true → ProgramBefore t a b →
-    Rule t pos a b → pos a < pos b
+PreservedOrder t pos = PreservedOrderBy (NotPlainStore t) t pos
 
--- the order of the trace's memory operations meets RVWMO over these opening bytes
-pub record MeetsRvwmo (t : List Event) (opening : ℕ → ℕ) (g : List ℕ) : Type 0 where
+-- the order of the trace's memory operations meets RVWMO over these opening bytes, where by the rules 9 to 13 the dependencies D are kept
+pub record MeetsRvwmoBy (D : (ℕ → ℕ) → ℕ → ℕ → Type 0) (t : List Event) (opening : ℕ → ℕ) (g : List ℕ) : Type 0 where
   pub lists : ListsOperations t g
   pub load_value : LoadValueAxiom t opening (place g)
   pub atomicity : AtomicityAxiom t (place g)
-  pub preserved : PreservedOrder t (place g)
+  pub preserved : PreservedOrderBy (D (place g)) t (place g)
+
+-- the same with the wider rule
+abbrev pub MeetsRvwmo : List Event → (ℕ → ℕ) → List ℕ → Type 0
+MeetsRvwmo t opening g = MeetsRvwmoBy (λ pos. NotPlainStore t) t opening g

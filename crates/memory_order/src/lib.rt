@@ -5,6 +5,6 @@ mod laws;
 mod operation;
 mod order;
 
-pub use laws::orders_of_runs_meet_rvwmo;
+pub use laws::{fewer_dependencies_are_met, orders_of_runs_meet_rvwmo};
 pub use operation::{is_operation, is_operation_at};
 pub use order::{Order, memory_order};

@@ -5,14 +5,14 @@ use Rattle.round_schedule.specs.declared.event.Event.{Event}
 use Rattle.round_schedule.specs.Accesses.{loads, stores}
 use Rattle.round_schedule.specs.Positions.{event}
 use Rattle.memory_order.specs.Operations.{covers, is_acquire, is_plain_store, is_release}
-use Rattle.memory_order.specs.Rvwmo.{PreservedOrder, Rule, acquired, both-annotated, different-writes, fenced, not-plain-store, overlapping-store, paired, released, returns-atomic}
+use Rattle.memory_order.specs.Rvwmo.{NotPlainStore, PreservedOrder, Rule, acquired, both-annotated, dependent, different-writes, fenced, overlapping-store, paired, released, returns-atomic}
 use Rattle.memory_order.proofs.Facts.{acquire_is_other, atomic_is_serial, load_is_other, lr_is_serial, or_cases, release_is_serial, serial_is_other}
 use Rattle.memory_order.proofs.Sources.{store_at}
 use Rattle.order_checker.specs.CheckingProgram.{KeptButOverlap, KeptOverlap, RuleButOverlap, by-fence, by-other, by-release}
 use Rattle.order_checker.proofs.ProgramBounds.{plain_kinds}
 
-rule_from_but : (t : List Event) (pos : ℕ → ℕ) (a b : ℕ) → RuleButOverlap t a b → Rule t pos a b
-rule_from_but t pos a b (by-other n) = not-plain-store n
+rule_from_but : (t : List Event) (pos : ℕ → ℕ) (a b : ℕ) → RuleButOverlap t a b → Rule (NotPlainStore t) t pos a b
+rule_from_but t pos a b (by-other n) = dependent n
 rule_from_but t pos a b (by-fence f af fb o) = fenced f af fb o
 rule_from_but t pos a b (by-release r) = released r
 
@@ -35,7 +35,7 @@ preserved_from t pos kept overlap a b oa ob before rule = by_rule rule
     annotated (inl h) = other (acquire_is_other (event t a).access h)
     annotated (inr h) = other (serial_is_other (event t a).access (release_is_serial (event t a).access h))
 
-    by_rule : Rule t pos a b → pos a < pos b
+    by_rule : Rule (NotPlainStore t) t pos a b → pos a < pos b
     by_rule (overlapping-store x sb ca cb) = elim (cases_Bool (is_plain_store (event t a).access)) [
       | inl h ↦ overlap a b x before
           (and_from (stores (event t a).access) (covers (event t a).access x) (plain_kinds (event t a).access h).1 ca)
@@ -49,4 +49,4 @@ preserved_from t pos kept overlap a b oa ob before rule = by_rule rule
     by_rule (released h) = kept b ob a oa before (by-release h)
     by_rule (both-annotated h k) = annotated (or_cases (is_acquire (event t a).access) (is_release (event t a).access) h)
     by_rule (paired p) = other (serial_is_other (event t a).access (lr_is_serial (event t a).access p.reserved))
-    by_rule (not-plain-store n) = other n
+    by_rule (dependent n) = other n
