@@ -1,10 +1,12 @@
-mod Ranking
 mod Atomicity
-mod Bounding
-mod Composing
 mod Forms
 mod Pairing
 mod Preserving
 mod ProgramBounds
-mod Sourcing
-mod Valuing
+mod Raising
+mod Ranking
+mod WordRaising
+pub mod Bounding
+pub mod Composing
+pub mod Sourcing
+pub mod Valuing

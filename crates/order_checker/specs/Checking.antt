@@ -1,5 +1,5 @@
 -- What the checker of orders keeps: bounds of positions, in maps from pairs of numbers.
-use Rattle.std.specs.Prelude.{◌≡◌, ℕ, ◌+◌, ◌-◌, ◌<◌, ◌⊎◌, ◌==◌, ◌&&◌, Bool, true, max, if◌then◌else◌, List, length, slice_index, unwrap_or}
+use Rattle.std.specs.Prelude.{◌≡◌, ℕ, ◌+◌, ◌-◌, ◌/◌, ◌%◌, ◌<◌, ◌⊎◌, ◌==◌, ◌&&◌, Bool, true, max, if◌then◌else◌, List, length, replicate, slice_index, unwrap_or}
 use Rattle.std.specs.Ordering.{nat_cmp, ordering_then}
 use Rattle.std.specs.declared.cmp.Ordering.{Ordering}
 use Rattle.std.specs.BTreeMap.{BTreeMap, get}
@@ -46,15 +46,19 @@ IsLeft t opening g r x v = byte_read (event t r).access x ≡ left_by t opening 
 abbrev pub pair_cmp : ℕ × ℕ → ℕ × ℕ → Ordering
 pair_cmp x y = ordering_then (nat_cmp x.0 y.0) (nat_cmp x.1 y.1)
 
+-- the eight numbers of a word; all 0 where nothing stands
+abbrev pub word_of : BTreeMap (ℕ × ℕ) (List ℕ) → ℕ → ℕ → List ℕ
+word_of m h w = unwrap_or (get pair_cmp m (h, w)) (replicate 8 0)
+
 -- what the map holds at a pair; 0 where nothing
-abbrev pub bound : BTreeMap (ℕ × ℕ) ℕ → ℕ → ℕ → ℕ
-bound m h x = unwrap_or (get pair_cmp m (h, x)) 0
+abbrev pub bound : BTreeMap (ℕ × ℕ) (List ℕ) → ℕ → ℕ → ℕ
+bound m h x = slice_index (word_of m h (x / 8)) (x % 8)
 
 -- the number at one pair is raised to v
-abbrev pub Raises : BTreeMap (ℕ × ℕ) ℕ → BTreeMap (ℕ × ℕ) ℕ → ℕ → ℕ → ℕ → Type 0
+abbrev pub Raises : BTreeMap (ℕ × ℕ) (List ℕ) → BTreeMap (ℕ × ℕ) (List ℕ) → ℕ → ℕ → ℕ → Type 0
 Raises old new a y v = (h x : ℕ) → bound new h x ≡ (if h == a && x == y then max (bound old h x) v else bound old h x)
 
 -- the numbers at a and each byte of a range are raised to those of a function
-abbrev pub RaisesBytes : BTreeMap (ℕ × ℕ) ℕ → BTreeMap (ℕ × ℕ) ℕ → ℕ → ℕ → ℕ → (ℕ → ℕ) → Type 0
+abbrev pub RaisesBytes : BTreeMap (ℕ × ℕ) (List ℕ) → BTreeMap (ℕ × ℕ) (List ℕ) → ℕ → ℕ → ℕ → (ℕ → ℕ) → Type 0
 RaisesBytes old new a address n f =
     (h x : ℕ) → bound new h x ≡ (if h == a && in_range address n x then max (bound old h x) (f x) else bound old h x)

@@ -18,7 +18,7 @@ use std::alloc::Global;
 use std::collections::BTreeMap;
 
 /// Whether the atomicity axiom holds of an order; `sources` has the bounds of the sources of loads.
-pub(crate) fn pairs_are_atomic(
+pub fn pairs_are_atomic(
     alloc: Global,
     events: &[Event],
     order: &[usize],

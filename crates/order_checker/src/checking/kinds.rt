@@ -13,7 +13,7 @@ use round_schedule::{Access, Event};
 use rv64_decode::FenceMode;
 
 /// The event at a place of the trace.
-pub(crate) fn event_at(events: &[Event], place: usize) -> Event
+pub fn event_at(events: &[Event], place: usize) -> Event
     requires within { place < length events.now }
     requires formed { All HasForm events.now }
     ensures at { result ≡ event events.now place }
@@ -23,7 +23,7 @@ pub(crate) fn event_at(events: &[Event], place: usize) -> Event
 }
 
 /// Where the event at a place of the trace stands in the order.
-pub(crate) fn position_of(events: &[Event], order: &[usize], ranks: &[usize], i: usize) -> usize
+pub fn position_of(events: &[Event], order: &[usize], ranks: &[usize], i: usize) -> usize
     requires within { i < length events.now }
     requires ranked { IsRanking events.now order.now ranks.now }
     ensures at { result ≡ place order.now i }
@@ -34,7 +34,7 @@ pub(crate) fn position_of(events: &[Event], order: &[usize], ranks: &[usize], i:
 }
 
 /// The place of the trace that stands at a position of the order.
-pub(crate) fn listed(events: &[Event], order: &[usize], p: usize) -> usize
+pub fn listed(events: &[Event], order: &[usize], p: usize) -> usize
     requires within { p < length order.now }
     requires lists { ListsOperations events.now order.now }
     ensures at { result ≡ slice_index order.now p }
@@ -47,7 +47,7 @@ pub(crate) fn listed(events: &[Event], order: &[usize], p: usize) -> usize
 }
 
 /// The first byte's address; 0 for a fence.
-pub(crate) fn address(access: &Access) -> u64
+pub fn address(access: &Access) -> u64
     ensures { result ≡ address_of access.now }
 {
     match *access {
@@ -61,7 +61,7 @@ pub(crate) fn address(access: &Access) -> u64
 }
 
 /// How many bytes there are; none for a fence.
-pub(crate) fn width(access: &Access) -> u64
+pub fn width(access: &Access) -> u64
     ensures { result ≡ bytes_of access.now }
 {
     match *access {
@@ -74,7 +74,7 @@ pub(crate) fn width(access: &Access) -> u64
     }
 }
 
-pub(crate) fn loads(access: &Access) -> bool
+pub fn loads(access: &Access) -> bool
     ensures { result ≡ loads access.now }
 {
     matches!(
@@ -83,7 +83,7 @@ pub(crate) fn loads(access: &Access) -> bool
     )
 }
 
-pub(crate) fn stores(access: &Access) -> bool
+pub fn stores(access: &Access) -> bool
     ensures { result ≡ stores access.now }
 {
     match *access {
@@ -94,13 +94,13 @@ pub(crate) fn stores(access: &Access) -> bool
 }
 
 /// Whether it is a store that is neither an SC nor an AMO.
-pub(crate) fn is_plain_store(access: &Access) -> bool
+pub fn is_plain_store(access: &Access) -> bool
     ensures { result ≡ is_plain_store access.now }
 {
     matches!(access, Access::Store { .. })
 }
 
-pub(crate) fn is_release(access: &Access) -> bool
+pub fn is_release(access: &Access) -> bool
     ensures { result ≡ is_release access.now }
 {
     match *access {
@@ -128,7 +128,7 @@ pub(crate) fn is_lr_or_sc(access: &Access) -> bool
 }
 
 /// Whether it is a fence that orders stores before loads.
-pub(crate) fn orders_loads(access: &Access) -> bool
+pub fn orders_loads(access: &Access) -> bool
     ensures { result ≡ orders_loads access.now }
 {
     match *access {
@@ -143,7 +143,7 @@ pub(crate) fn orders_loads(access: &Access) -> bool
 }
 
 /// Whether it is a fence that orders stores before stores.
-pub(crate) fn orders_stores(access: &Access) -> bool
+pub fn orders_stores(access: &Access) -> bool
     ensures { result ≡ orders_stores access.now }
 {
     match *access {

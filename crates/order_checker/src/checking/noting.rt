@@ -10,7 +10,7 @@ use pages::OutOfMemory;
 use round_schedule::Access;
 
 /// Raises the bound of each byte that a load at `reader` reads to what `from` has at `owner`.
-pub(crate) fn note_load(
+pub fn note_load(
     sources: &mut Bounds,
     reader: u64,
     access: &Access,
@@ -45,7 +45,7 @@ pub(crate) fn note_store(
 }
 
 /// Whether the owner's bounds of the bytes that a store writes are at most `position`.
-pub(crate) fn may_store(bounds: &Bounds, owner: u64, access: &Access, position: usize) -> bool
+pub fn may_store(bounds: &Bounds, owner: u64, access: &Access, position: usize) -> bool
     requires { address_of access.now + bytes_of access.now < 2 ^ 64 }
     ensures { IsTrue result ↔
         ((x : ℕ) → writes access.now x ≡ true → bound bounds.now owner x ≤ position) }

@@ -16,7 +16,7 @@ use std::collections::BTreeMap;
 /// For each load and each of its bytes, the bound of the hart's stores to the byte before the load in the program.
 ///
 /// `None` where two stores of a hart to one byte do not stand in the order as in the program.
-pub(crate) fn own_stores(
+pub fn own_stores(
     alloc: Global,
     events: &[Event],
     order: &[usize],

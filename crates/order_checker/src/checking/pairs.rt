@@ -13,7 +13,7 @@ use std::alloc::Global;
 use std::collections::BTreeMap;
 
 /// For each event, one more than the place of the last LR or SC of its hart before it; 0 where there is none.
-pub(crate) fn last_reserved(alloc: Global, events: &[Event]) -> Result<Vec<usize>, OutOfMemory>
+pub fn last_reserved(alloc: Global, events: &[Event]) -> Result<Vec<usize>, OutOfMemory>
     requires { All HasForm events.now }
     ensures { IfOk result (λ v. AreReserved events.now (length events.now) v.items) }
 {
@@ -31,7 +31,7 @@ pub(crate) fn last_reserved(alloc: Global, events: &[Event]) -> Result<Vec<usize
 }
 
 /// The place of the LR that the event at a place is paired with, if it is an SC that has one.
-pub(crate) fn paired(events: &[Event], reserved: &[usize], i: usize) -> Option<usize>
+pub fn paired(events: &[Event], reserved: &[usize], i: usize) -> Option<usize>
     requires within { i < length events.now }
     requires formed { All HasForm events.now }
     requires reserved { AreReserved events.now (length events.now) reserved.now }

@@ -10,7 +10,7 @@ use std::alloc::Global;
 /// Where each event stands in an order, if the order lists each memory operation once and nothing else.
 ///
 /// An event that is no operation stands at the order's length.
-pub(crate) fn positions(
+pub fn positions(
     alloc: Global,
     events: &[Event],
     order: &[usize],

@@ -16,7 +16,7 @@ use std::collections::BTreeMap;
 /// For each load and each of its bytes, the bound of the stores that the byte may be from: so that of its source.
 ///
 /// `sources` are the bounds of the stores of the load's hart before it in the program.
-pub(crate) fn all_sources(
+pub fn all_sources(
     alloc: Global,
     events: &[Event],
     order: &[usize],

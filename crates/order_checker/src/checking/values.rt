@@ -12,12 +12,7 @@ use round_schedule::{Access, Event};
 use trace::Trace;
 
 /// Whether each byte of each load is the one that its source left; `sources` has the bounds of the sources.
-pub(crate) fn loads_are_right(
-    trace: &Trace,
-    events: &[Event],
-    order: &[usize],
-    sources: &Bounds,
-) -> bool
+pub fn loads_are_right(trace: &Trace, events: &[Event], order: &[usize], sources: &Bounds) -> bool
     requires formed { All HasForm events.now }
     requires lists { ListsOperations events.now order.now }
     requires listed { (r x : ℕ) → reads_at events.now r x ≡ true →
