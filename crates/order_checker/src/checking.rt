@@ -12,9 +12,16 @@ mod ranks;
 mod sources;
 mod values;
 
-pub(crate) use atomic::pairs_are_atomic;
-pub(crate) use own::own_stores;
+pub use atomic::pairs_are_atomic;
+pub use bounds::{Bounds, bound, raise_bytes};
+pub use kinds::{
+    address, event_at, is_plain_store, is_release, listed, loads, orders_loads, orders_stores,
+    position_of, stores, width,
+};
+pub use noting::{may_store, note_load};
+pub use own::own_stores;
+pub use pairs::{last_reserved, paired};
 pub(crate) use program::keeps_but_overlap;
-pub(crate) use ranks::positions;
-pub(crate) use sources::all_sources;
-pub(crate) use values::loads_are_right;
+pub use ranks::positions;
+pub use sources::all_sources;
+pub use values::loads_are_right;

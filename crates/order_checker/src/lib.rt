@@ -1,7 +1,12 @@
-//! A checker of orders: whether an order of a trace's memory operations meets RVWMO.
+//! A checker of orders of a trace's memory operations, and what it keeps on its way, for checkers of narrower rules.
 #![tactic(auto)]
 
 mod check;
 mod checking;
 
 pub use check::check_order;
+pub use checking::{
+    Bounds, address, all_sources, bound, event_at, is_plain_store, is_release, last_reserved,
+    listed, loads, loads_are_right, may_store, note_load, orders_loads, orders_stores, own_stores,
+    paired, pairs_are_atomic, position_of, positions, raise_bytes, stores, width,
+};
