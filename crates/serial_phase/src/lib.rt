@@ -12,6 +12,7 @@ mod shared;
 mod target;
 
 pub use console::Console;
+pub use instruction::serve;
 pub use log::SerialLog;
 pub use phase::{serial, take_turn};
 pub use shared::{SerialRound, SharedState, Turn};
