@@ -6,8 +6,9 @@ use crate::files::{ProgramFiles, read_program};
 use crate::plans::{AskedPlan, plan_of};
 use crate::progress::Progress;
 use command_line::{Print, Program, Run, Shown};
+use emulation::{order_run, report_run, show_run};
 use host_io::WriteSink;
-use machine::{Format, GuestFiles, Settings, order_run, report_run, show_run};
+use machine::{Format, GuestFiles, Settings};
 use std::io::Write;
 use std::sync::Wait;
 use std::thread::Threads;
@@ -83,12 +84,12 @@ pub(crate) fn write_order_of<R: Threads + Wait + Sync, W: Write>(
 }
 
 /// What of a run the line asks for, where it isn't the whole report.
-fn shown_of(asked: &Print<'_>) -> Option<machine::Shown> {
+fn shown_of(asked: &Print<'_>) -> Option<emulation::Shown> {
     match asked.show {
-        Shown::Report if asked.no_trace => Some(machine::Shown::State),
+        Shown::Report if asked.no_trace => Some(emulation::Shown::State),
         Shown::Report => None,
-        Shown::Harts => Some(machine::Shown::Harts),
-        Shown::Output => Some(machine::Shown::Output),
+        Shown::Harts => Some(emulation::Shown::Harts),
+        Shown::Output => Some(emulation::Shown::Output),
     }
 }
 

@@ -1,7 +1,8 @@
 //! What the tests have in common.
 
+use emulation::emulate;
 use host_io::{RunError, WriteSink};
-use machine::{Format, Settings, emulate};
+use machine::{Format, Settings};
 use std::alloc::{AllocError, Global};
 use std::sync::Wait;
 use std::thread::Threads;

@@ -2,8 +2,9 @@
 
 use crate::devices::{Stride, writes};
 use crate::harness::settings;
+use emulation::{Shown, show_run};
 use host_io::WriteSink;
-use machine::{Format, GuestFiles, Settings, Shown, Unobserved, show_run};
+use machine::{Format, GuestFiles, Settings, Unobserved};
 use std::alloc::Global;
 use std::sync::Wait;
 use std::thread::Threads;

@@ -2,10 +2,11 @@
 
 use crate::devices::{Stride, Tray, calls_to_write, writes};
 use crate::harness::settings;
+use emulation::emulate;
 use hart_step::{Hart, Stop};
 use host_io::{RunError, WriteSink};
 use hunt_table::{Header, SeenRange, write_table};
-use machine::{Format, Trace, emulate};
+use machine::{Format, Trace};
 use pages::Width;
 use picture::{View, write_picture};
 use plan_hunt::{Ending, Row};

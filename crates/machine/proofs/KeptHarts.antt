@@ -1,10 +1,9 @@
 -- Harts that have stopped stay as they are from round to round.
-use Rattle.std.proofs.Common.{◌≡◌, ◌<◌, ◌≤◌, ℕ, zero, suc, ◌+◌, Bool, true, false, List, [], ◌∷◌, ◌++◌, Some, get_or, is_some, length, slice_get, take, refl, sym, ap, ◌∙◌, subst, arith, below_more, length-append, min, drop}
+use Rattle.std.proofs.Common.{◌≡◌, ◌<◌, ℕ, zero, suc, ◌+◌, true, List, [], ◌∷◌, ◌++◌, get_or, is_some, length, take, refl, sym, ap, ◌∙◌, subst, arith, below_more, length-append, min}
 use Rattle.std.proofs.Math.Seq.{get_or-append_seam}
-use Rattle.std.proofs.lemmas.Bool.{false≢true}
 use Rattle.std.proofs.lemmas.List.{get_or_append_left, get_or_default, get_or-take, length-take}
 use Rattle.pages.specs.declared.access.Range.{Range}
-use Rattle.round_schedule.specs.TabledTurn.{TabledPhase, TabledTurn, tabled_phase_from, tabled_phase_joined, tabled_turn_from, tabled_turn_next, tabled_turn_of, tabled_turn_taken}
+use Rattle.round_schedule.specs.TabledTurn.{TabledPhase, TabledTurn, tabled_phase_from, tabled_phase_joined, tabled_turn_from, tabled_turn_of}
 use Rattle.hart_step.specs.declared.hart.Hart.{Hart}
 use Rattle.hart_step.specs.Console.{ConsoleState}
 use Rattle.hart_step.specs.Words.{words_of}

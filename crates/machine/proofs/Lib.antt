@@ -17,7 +17,6 @@ pub mod Counted
 pub mod UntracedRounds
 pub mod TracedMachine
 pub mod TracedRun
-pub mod Ordered
 pub mod AskedTurns
 pub mod Asked
 pub mod Tallied

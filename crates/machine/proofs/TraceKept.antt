@@ -1,5 +1,5 @@
 -- The events of a machine stay a trace over a round.
-use Rattle.std.proofs.Common.{◌≡◌, ℕ, if◌then◌else◌, zero, suc, ◌+◌, ◌-◌, ◌<◌, ◌≤◌, Bool, true, false, List, [], ◌∷◌, ◌++◌, length, get_or, take, drop, All, refl, sym, ap, ◌∙◌, subst, arith, append_assoc, drop-cons, length-append, take_all}
+use Rattle.std.proofs.Common.{◌≡◌, ℕ, if◌then◌else◌, zero, suc, ◌+◌, ◌<◌, ◌≤◌, Bool, true, false, List, [], ◌∷◌, ◌++◌, length, get_or, drop, All, refl, sym, ap, ◌∙◌, subst, arith, append_assoc, drop-cons, length-append}
 use Rattle.std.proofs.lemmas.Bool.{false≢true}
 use Rattle.std.proofs.lemmas.List.{length-map}
 use Rattle.std.proofs.lemmas.List.Elements.{All-cons}
@@ -15,7 +15,7 @@ use Rattle.hart_step.specs.declared.hart.Hart.{Hart}
 use Rattle.trace.specs.Traced.{IsTrace, Traced}
 use Rattle.machine.specs.Machine.{opening_hart, opening_harts}
 use Rattle.machine.specs.declared.outcome.Outcome.{Outcome}
-use Rattle.machine.specs.Outcomes.{HasPlaces, outcome_events}
+use Rattle.machine.specs.Outcomes.{HasPlaces}
 
 -- no hart has done anything before the first round
 pub placed_first : (entry n i k : ℕ) → Placed (λ (h : Hart). h.done) 0 (opening_harts entry n i k) []

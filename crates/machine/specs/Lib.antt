@@ -6,7 +6,5 @@ pub mod Guests
 pub mod Held
 pub mod Rounds
 pub mod Settings
-pub mod OrderedRun
 pub mod Asked
 pub mod Untraced
-pub mod Showing

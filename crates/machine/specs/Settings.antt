@@ -12,7 +12,6 @@ use Rattle.round_planner.specs.Grammar.{IsPlanText, numbers_of}
 use Rattle.round_planner.specs.Quotas.{Planned}
 use Rattle.round_planner.specs.declared.plan_error.PlanError.{PlanError as PlanCause}
 use Rattle.round_schedule.specs.declared.event.Event.{Event}
-use Rattle.report.specs.Report.{report_of}
 use Rattle.machine.specs.Machine.{Running, opening, after_rounds}
 use Rattle.machine.specs.declared.settings.Format.{Format}
 use Rattle.machine.specs.declared.settings.Format.TheVariants.{Elf, Flat}
@@ -99,10 +98,6 @@ IsPlan s plan = IsPlanOf s.harts s.plan.now s.budget plan
 -- the machine after the rounds of a run, from a file, an input and a plan
 abbrev pub after_run : Settings → List ℕ → List ℕ → Planned → Running
 after_run s file input plan = after_rounds s.rounds (opening (image_for s file) input plan)
-
--- the report of such a run
-abbrev pub report_after : Settings → List ℕ → List ℕ → Planned → List ℕ
-report_after s file input plan = report_of (after_run s file input plan).state
 
 -- the events of such a run
 abbrev pub trace_after : Settings → List ℕ → List ℕ → Planned → List Event

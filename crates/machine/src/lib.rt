@@ -1,4 +1,4 @@
-//! The machine: a run of a guest program, round by round, and its report.
+//! The machine: a run of a guest program, round by round.
 #![tactic(auto)]
 
 mod asked_turn;
@@ -7,7 +7,6 @@ mod commit;
 mod copying;
 mod crew;
 mod decoding;
-mod emulation;
 mod events;
 mod guest;
 mod guest_files;
@@ -17,7 +16,6 @@ mod kept_running;
 mod machine;
 mod observing;
 mod opening;
-mod ordering;
 mod outcome;
 mod preparing;
 mod preparing_untraced;
@@ -26,24 +24,17 @@ mod room;
 mod round;
 mod running;
 mod settings;
-mod showing;
 mod tally;
-mod tracing;
 mod untraced;
 mod untraced_running;
 
-pub use emulation::emulate;
 pub use guest_files::GuestFiles;
 pub use machine::Machine;
 pub use observing::{Observer, Unobserved};
-pub use ordering::order_run;
-pub use outcome::Outcome;
 pub use parallel_phase::{Gate, Open};
 pub use preparing::{load, prepare};
 pub use preparing_untraced::prepare_untraced;
 pub use running::RoundNote;
 pub use settings::{Format, Settings};
-pub use showing::{Shown, report_run, show_run};
 pub use trace::Trace;
-pub use tracing::trace_run;
 pub use untraced::UntracedMachine;

@@ -9,6 +9,7 @@ use crate::untraced::UntracedMachine;
 use elf_loader::Image;
 use hart_step::Hart;
 use host_io::RunError;
+use pages::Pages;
 use round_planner::Plan;
 use std::alloc::Global;
 use std::marker::Model;
@@ -66,6 +67,20 @@ impl Machine {
         ensures outside { length self.now.state.bytes ≤ address → result ≡ None }
     {
         self.bare.byte(address)
+    }
+
+    /// How many rounds were done.
+    pub fn rounds(&self) -> u32
+        ensures { result ≡ self.now.state.rounds }
+    {
+        self.bare.rounds()
+    }
+
+    /// Memory.
+    pub fn pages(&self) -> &Pages
+        ensures { result.now.memory.bytes ≡ self.now.state.bytes }
+    {
+        self.bare.pages()
     }
 
     /// The output so far.

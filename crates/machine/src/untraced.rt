@@ -9,7 +9,7 @@ use crate::guest::GuestState;
 use elf_loader::Image;
 use hart_step::Hart;
 use host_io::RunError;
-use report::RunState;
+use pages::Pages;
 use round_planner::Plan;
 use std::alloc::Global;
 use std::marker::Model;
@@ -123,19 +123,11 @@ impl UntracedMachine {
         self.rounds
     }
 
-    /// What the run has come to, for its report.
-    pub(crate) fn state(&self) -> RunState<'_>
-        ensures rounds { result.rounds ≡ self.now.rounds }
-        ensures harts { result.harts.now ≡ self.now.harts }
-        ensures bytes { result.pages.now.memory.bytes ≡ self.now.bytes }
-        ensures output { result.output.now ≡ self.now.console.output }
+    /// Memory.
+    pub fn pages(&self) -> &Pages
+        ensures { result.now.memory.bytes ≡ self.now.bytes }
     {
-        RunState {
-            rounds: self.rounds,
-            harts: self.guest.harts(),
-            pages: self.guest.pages(),
-            output: self.guest.output(),
-        }
+        self.guest.pages()
     }
 
     /// Where its memory comes from.

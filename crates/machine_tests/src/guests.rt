@@ -4,10 +4,11 @@ ghost use Rattle.std.specs.Prelude.{◌≤◌};
 
 use crate::harness::settings;
 use elf_loader::load_elf;
+use emulation::{Shown, show_run};
 use example_files::{HELLO, LOST_UPDATE, SUM};
 use hart_step::Stop;
 use host_io::{RunError, WriteSink};
-use machine::{Format, GuestFiles, Machine, Settings, Shown, Unobserved, show_run};
+use machine::{Format, GuestFiles, Machine, Settings, Unobserved};
 use round_planner::Plan;
 use std::alloc::Global;
 use std::sync::Wait;

@@ -3,8 +3,9 @@
 ghost use Rattle.std.specs.Prelude.{◌≤◌};
 
 use elf_loader::load_flat;
+use emulation::{Report, emulate};
 use host_io::{RunError, WriteSink};
-use machine::{Format, Machine, Settings, emulate};
+use machine::{Format, Machine, Settings};
 use pages::OutOfMemory;
 use round_planner::Plan;
 use std::alloc::Global;

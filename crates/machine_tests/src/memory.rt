@@ -3,8 +3,9 @@
 
 use crate::harness::{flat, machine_of, settings, text_of};
 use crate::images::CROSSED_AND_FENCED;
+use emulation::emulate;
 use host_io::{RunError, WriteSink};
-use machine::{Machine, Open, Settings, emulate};
+use machine::{Machine, Open, Settings};
 use pages::OutOfMemory;
 use std::alloc::Global;
 use std::sync::Wait;

@@ -1,5 +1,6 @@
+use emulation::{order_run, trace_run};
 use host_io::WriteSink;
-use machine::{Format, Settings, Unobserved, order_run, trace_run};
+use machine::{Format, Settings, Unobserved};
 use memory_order::{Order, memory_order};
 use std::alloc::Global;
 use std::sync::Wait;

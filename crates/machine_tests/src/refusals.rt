@@ -1,7 +1,8 @@
 use crate::harness::{answer, flat, report, settings};
 use crate::images::EXIT;
+use emulation::emulate;
 use host_io::{RunError, WriteSink};
-use machine::{Format, Settings, emulate};
+use machine::{Format, Settings};
 use std::alloc::Global;
 use std::sync::Wait;
 use std::test::Fail;

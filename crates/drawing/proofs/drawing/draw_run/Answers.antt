@@ -2,23 +2,14 @@ use Rattle.std.proofs.Common.{◌≡◌, ◌∙◌, ◌⊎◌, ◌++◌, ℕ, Er
 use Rattle.host_io.specs.declared.error.RunError.{RunError}
 use Rattle.host_io.specs.declared.error.RunError.TheVariants.{OutOfMemory, SinkFailed}
 use Rattle.host_io.specs.Taken.{BeganText}
+use Rattle.host_io.proofs.Refused.{refused, where_done, where_refused}
 use Rattle.round_schedule.specs.declared.event.Event.{Event}
 use Rattle.round_planner.specs.Quotas.{Planned}
 use Rattle.hart_step.specs.declared.hart.Hart.{Hart}
 use Rattle.picture.specs.Picture.{picture_text}
 use Rattle.picture.specs.declared.view.View.{View}
 use Rattle.machine.specs.Machine.{Running, after_rounds}
-use Rattle.machine.proofs.Ordered.{where_done, where_refused}
 use Rattle.drawing.proofs.drawing.draw_run.Goals as goal
-
--- a sink that refused has failed
-refused : (r : Result (Unit {0}) RunError) (Failed : Type 0) (A : RunError → Type 0) → (r ≡ Err SinkFailed → Failed) → IfErr r (λ e. (e ≡ OutOfMemory) ⊎ (e ≡ SinkFailed)) →
-    IfErr r (λ e. ((e ≡ OutOfMemory) ⊎ A e) ⊎ ((e ≡ SinkFailed) × Failed))
-refused (Ok v) Failed A failed h = tt
-refused (Err e) Failed A failed h = elim h [
-  | inl memory ↦ inl (inl memory)
-  | inr sink ↦ inr (sink, failed (ap Err sink))
-]
 
 -- want of memory leaves the sink as it was
 untouched : (r : Result (Unit {0}) RunError) (Same : Type 0) → (r ≡ Err OutOfMemory → Same) → IfErr r (λ e. (e ≡ OutOfMemory) ⊎ (e ≡ SinkFailed)) →

@@ -1,4 +1,4 @@
-use Rattle.std.proofs.Common.{◌≡◌, ◌≤◌, ◌+◌, ◌++◌, if◌then◌else◌, length, set, refl, subst, sym, arith}
+use Rattle.std.proofs.Common.{◌≡◌, ◌≤◌, ◌+◌, ◌++◌, if◌then◌else◌, length, set, refl, subst, sym}
 use Rattle.round_schedule.specs.declared.event.Phase.TheVariants.{Parallel}
 use Rattle.round_schedule.specs.Events.{events_of}
 use Rattle.trace.specs.Traced.{IsTrace}

@@ -1,5 +1,4 @@
-use Rattle.std.proofs.Common.{◌≡◌, Some, is_some, sym, ap, ◌∙◌, true}
-use Rattle.hart_step.specs.declared.hart.Hart.{Hart}
+use Rattle.std.proofs.Common.{Some, sym, ap, ◌∙◌}
 use Rattle.round_lock.specs.Starts.{content_from}
 use Rattle.machine.specs.declared.outcome.Outcome.{Outcome}
 use Rattle.machine.proofs.AtRest.{round_at_rest}

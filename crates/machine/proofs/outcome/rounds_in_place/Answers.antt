@@ -1,6 +1,6 @@
-use Rattle.std.proofs.Common.{get_or, is_some, Some, slice_get, ◌≡◌, ◌<◌, ◌≤◌, ◌++◌, ◌∷◌, [], List, None, length, take, sym, ap, subst, ◌∙◌, refl, arith}
+use Rattle.std.proofs.Common.{get_or, is_some, Some, ◌≡◌, ◌<◌, ◌≤◌, [], List, None, length, take, sym, ap, subst, ◌∙◌, refl, arith}
 use Rattle.std.proofs.lemmas.List.{get_or-set_other, take_all, take_more_set}
-use Rattle.round_schedule.specs.Schedule.{HartRound, hart_rounds}
+use Rattle.round_schedule.specs.Schedule.{hart_rounds}
 use Rattle.hart_step.specs.declared.hart.Hart.{Hart}
 use Rattle.hart_step.specs.Words.{words_of}
 use Rattle.round_lock.specs.Starts.{Start, content_from}

@@ -7,10 +7,8 @@ ghost use Rattle.memory_order.specs.Rvwmo.{MeetsRvwmo};
 ghost use Rattle.trace.specs.Traced.{opening_at};
 ghost use Rattle.machine.specs.Settings.{IsPlan, IsReason, RefusedInOrder, image_for, settings_fault, trace_after};
 
-use crate::observing::Observer;
-use crate::preparing::prepare;
-use crate::settings::Settings;
 use host_io::RunError;
+use machine::{Observer, Settings, prepare};
 use std::alloc::Global;
 use std::sync::Wait;
 use std::thread::Threads;

@@ -4,7 +4,7 @@ use Rattle.round_schedule.specs.RoundTrace.{IsRoundTrace}
 use Rattle.trace.specs.Traced.{opening_at}
 use Rattle.memory_order.proofs.Meeting.{meets_rvwmo}
 use Rattle.machine.specs.Machine.{Running}
-use Rattle.machine.proofs.tracing.trace_run.Goals as goal
+use Rattle.emulation.proofs.tracing.trace_run.Goals as goal
 
 -- the budget is that of the plan that the machine was opened with
 pub returns-clause-rounds : goal.returns-clause-rounds

@@ -1,12 +1,13 @@
 use Rattle.std.proofs.Common.{◌∙◌, ⊎_elim, inl, inr, ℕ, ◌++◌, Bool, List, ap, slice_index, subst, true}
 use Rattle.round_schedule.specs.declared.event.Event.{Event}
 use Rattle.host_io.specs.Taken.{BeganText}
+use Rattle.host_io.proofs.Refused.{where_done, where_refused}
 use Rattle.memory_order.proofs.Meeting.{meets_rvwmo}
 use Rattle.trace.specs.Traced.{opening_at}
 use Rattle.report.specs.Order.{order_text}
 use Rattle.machine.specs.Settings.{image_for}
-use Rattle.machine.proofs.Ordered.{order_of, same_opening, where_done, where_refused}
-use Rattle.machine.proofs.ordering.order_run.Goals as goal
+use Rattle.emulation.proofs.Ordered.{order_of, same_opening}
+use Rattle.emulation.proofs.ordering.order_run.Goals as goal
 
 pub returns-clause-orders : goal.returns-clause-orders
 returns-clause-orders g c =

@@ -1,7 +1,7 @@
 use Rattle.std.proofs.Common.{rules, ◌∙◌, Bool, Err, Ok, OnErr, Result, ap, inr}
 use Rattle.host_io.specs.declared.error.RunError.{RunError}
-use Rattle.machine.specs.Showing.{all_end_well}
-use Rattle.machine.proofs.showing.show_run.Goals as goal
+use Rattle.emulation.specs.Showing.{all_end_well}
+use Rattle.emulation.proofs.showing.show_run.Goals as goal
 
 on_err : (r : Result Bool RunError) (A : Type 0) → A → OnErr r A
 on_err (Ok v) A a = tt

@@ -3,18 +3,15 @@ ghost use Rattle.round_planner.specs.Quotas.{Planned};
 ghost use Rattle.host_io.specs.Taken.{BeganText};
 ghost use Rattle.host_io.specs.declared.error.RunError.TheVariants as refusals;
 ghost use Rattle.machine.specs.Machine.{Running};
-ghost use Rattle.machine.specs.Settings.{IsPlan, IsReason, RefusedInOrder, after_run, report_after, settings_fault};
-ghost use Rattle.machine.specs.Showing.{all_end_well, ends_well, shown_text};
+ghost use Rattle.machine.specs.Settings.{IsPlan, IsReason, RefusedInOrder, after_run, settings_fault};
+ghost use Rattle.emulation.specs.Reports.{report_after};
+ghost use Rattle.emulation.specs.Showing.{all_end_well, ends_well, shown_text};
 ghost use Rattle.machine.specs.Untraced.{IsUntraced};
 
-use crate::guest_files::GuestFiles;
-use crate::observing::Observer;
-use crate::preparing::prepare;
-use crate::preparing_untraced::prepare_untraced;
-use crate::settings::Settings;
-use crate::untraced::UntracedMachine;
+use crate::reporting::{Report, untraced_state_of};
 use hart_step::{Hart, Stop};
 use host_io::{RunError, Sink, put_all};
+use machine::{GuestFiles, Observer, Settings, UntracedMachine, prepare, prepare_untraced};
 use report::{write_summary, write_untraced};
 use std::alloc::Global;
 use std::sync::Wait;
@@ -126,8 +123,8 @@ fn write_shown<S: Sink>(
     ensures errors { IfErr result (λ e. (e ≡ RunError.OutOfMemory) ⊎ (e ≡ RunError.SinkFailed)) }
 {
     match shown {
-        Shown::State => write_untraced(alloc, &machine.state(), out),
-        Shown::Harts => write_summary(alloc, &machine.state(), out),
+        Shown::State => write_untraced(alloc, &untraced_state_of(machine), out),
+        Shown::Harts => write_summary(alloc, &untraced_state_of(machine), out),
         Shown::Output => put_all(out, machine.output()),
     }
 }

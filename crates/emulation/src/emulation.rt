@@ -2,14 +2,12 @@ ghost use Rattle.std.specs.Prelude.{◌≡◌, ◌⊎◌, ◌<◌, ◌++◌, Non
 ghost use Rattle.round_planner.specs.Quotas.{Planned};
 ghost use Rattle.host_io.specs.Taken.{BeganText};
 ghost use Rattle.host_io.specs.declared.error.RunError.TheVariants as refusals;
-ghost use Rattle.report.specs.Report.{report_of};
-ghost use Rattle.machine.specs.Settings.{IsPlan, IsReason, RefusedInOrder, report_after, settings_fault};
+ghost use Rattle.machine.specs.Settings.{IsPlan, IsReason, RefusedInOrder, settings_fault};
+ghost use Rattle.emulation.specs.Reports.{report_after};
 
-use crate::machine::Machine;
-use crate::preparing::prepare;
-use crate::settings::Settings;
+use crate::reporting::Report;
 use host_io::{RunError, Sink};
-use report::{write_state, write_state_on};
+use machine::{Settings, prepare};
 use std::alloc::Global;
 use std::sync::Wait;
 use std::thread::Threads;
@@ -48,44 +46,4 @@ pub fn emulate<S: Sink, R: Threads + Wait + Sync>(
     let mut machine = prepare(alloc, image, input, settings)?;
     machine.run(rt, settings.rounds, settings.workers)?;
     machine.report_on(rt, settings.workers, alloc, out)
-}
-
-impl Machine {
-    /// Writes the report of the state.
-    ///
-    /// # Errors
-    ///
-    /// `OutOfMemory` and `SinkFailed`; a beginning of the report is written then.
-    pub fn report<S: Sink>(&self, alloc: Global, out: &mut S) -> Result<(), RunError>
-        ensures ok { OnOk result (S.took out.new ≡ S.took out.old ++ report_of self.now.state) }
-        ensures begun { OnErr result
-            (BeganText (S.took out.old) (S.took out.new) (report_of self.now.state)) }
-        ensures sink { result ≡ Err RunError.SinkFailed → S.failures out.old < S.failures out.new }
-        ensures errors { IfErr result (λ e. (e ≡ RunError.OutOfMemory) ⊎
-            (e ≡ RunError.SinkFailed)) }
-    {
-        write_state(alloc, &self.bare.state(), &self.trace, out)
-    }
-
-    /// Writes the report of the state, with the lines of its events formatted by so many workers, though by no more than 16.
-    ///
-    /// # Errors
-    ///
-    /// `OutOfMemory` and `SinkFailed`; a beginning of the report is written then.
-    pub fn report_on<S: Sink, R: Threads + Wait + Sync>(
-        &self,
-        rt: &R,
-        workers: u32,
-        alloc: Global,
-        out: &mut S,
-    ) -> Result<(), RunError>
-        ensures ok { OnOk result (S.took out.new ≡ S.took out.old ++ report_of self.now.state) }
-        ensures begun { OnErr result
-            (BeganText (S.took out.old) (S.took out.new) (report_of self.now.state)) }
-        ensures sink { result ≡ Err RunError.SinkFailed → S.failures out.old < S.failures out.new }
-        ensures errors { IfErr result (λ e. (e ≡ RunError.OutOfMemory) ⊎
-            (e ≡ RunError.SinkFailed)) }
-    {
-        write_state_on(rt, workers, alloc, &self.bare.state(), &self.trace, out)
-    }
 }

@@ -1,20 +1,9 @@
-use Rattle.std.proofs.Common.{◌≡◌, ◌∙◌, ◌⊎◌, ◌++◌, ℕ, Err, IfErr, List, Ok, Result, ap, inl, inr, subst}
-use Rattle.host_io.specs.declared.error.RunError.{RunError}
-use Rattle.host_io.specs.declared.error.RunError.TheVariants.{OutOfMemory, SinkFailed}
+use Rattle.std.proofs.Common.{◌∙◌, ◌++◌, ℕ, List, ap, inr, subst}
 use Rattle.host_io.specs.Taken.{BeganText}
+use Rattle.host_io.proofs.Refused.{refused, where_done, where_refused}
 use Rattle.report.specs.Report.{report_of}
 use Rattle.machine.specs.Machine.{Running, after_rounds}
-use Rattle.machine.proofs.Ordered.{where_done, where_refused}
-use Rattle.machine.proofs.emulation.emulate.Goals as goal
-
--- a sink that refused has failed
-refused : (r : Result (Unit {0}) RunError) (Failed : Type 0) (A : RunError → Type 0) → (r ≡ Err SinkFailed → Failed) → IfErr r (λ e. (e ≡ OutOfMemory) ⊎ (e ≡ SinkFailed)) →
-    IfErr r (λ e. ((e ≡ OutOfMemory) ⊎ A e) ⊎ ((e ≡ SinkFailed) × Failed))
-refused (Ok v) Failed A failed h = tt
-refused (Err e) Failed A failed h = elim h [
-  | inl memory ↦ inl (inl memory)
-  | inr sink ↦ inr (sink, failed (ap Err sink))
-]
+use Rattle.emulation.proofs.emulation.emulate.Goals as goal
 
 pub returns-clause-errors : goal.returns-clause-errors
 returns-clause-errors g c = λ none. refused c.report_on.result _ _ c.report_on.ensures.sink c.report_on.ensures.errors

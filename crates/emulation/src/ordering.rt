@@ -2,13 +2,12 @@ ghost use Rattle.std.specs.Prelude.{◌≡◌, ℕ, ◌⊎◌, ◌<◌, ◌++◌
 ghost use Rattle.round_planner.specs.Quotas.{Planned};
 ghost use Rattle.host_io.specs.Taken.{BeganText};
 ghost use Rattle.host_io.specs.declared.error.RunError.TheVariants as refusals;
-ghost use Rattle.machine.specs.OrderedRun.{IsOrderOfRun, ordered_text};
+ghost use Rattle.emulation.specs.OrderedRun.{IsOrderOfRun, ordered_text};
 ghost use Rattle.machine.specs.Settings.{IsReason, RefusedInOrder, settings_fault};
 
-use crate::observing::Observer;
-use crate::settings::Settings;
 use crate::tracing::trace_run;
 use host_io::{RunError, Sink};
+use machine::{Observer, Settings};
 use report::write_order;
 use std::alloc::Global;
 use std::sync::Wait;

@@ -3,8 +3,8 @@ use Rattle.host_io.specs.declared.error.RunError.{RunError}
 use Rattle.host_io.specs.Taken.{BeganText}
 use Rattle.report.specs.Report.{report_of}
 use Rattle.machine.specs.Machine.{Running, after_rounds}
-use Rattle.machine.specs.Showing.{all_end_well}
-use Rattle.machine.proofs.showing.report_run.Goals as goal
+use Rattle.emulation.specs.Showing.{all_end_well}
+use Rattle.emulation.proofs.showing.report_run.Goals as goal
 
 on_err : (r : Result Bool RunError) (A : Type 0) → A → OnErr r A
 on_err (Ok v) A a = tt

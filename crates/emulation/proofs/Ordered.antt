@@ -1,6 +1,5 @@
 -- Round traces over opening bytes that are the same at each address, and the orders of a run.
-use Rattle.std.proofs.Common.{◌≡◌, ℕ, ◌∙◌, List, Option, Some, None, Result, Ok, Err, OnErr, OnOk, refl, slice_index, subst}
-use Rattle.host_io.specs.declared.error.RunError.{RunError}
+use Rattle.std.proofs.Common.{◌≡◌, ℕ, ◌∙◌, List, Option, Some, None, refl, slice_index, subst}
 use Rattle.round_schedule.specs.declared.event.Event.{Event}
 use Rattle.round_schedule.specs.Positions.{source_byte}
 use Rattle.round_schedule.specs.RoundTrace.{IsRoundTrace}
@@ -8,7 +7,7 @@ use Rattle.round_planner.specs.Quotas.{Planned}
 use Rattle.memory_order.specs.RoundOrder.{IsRoundOrder}
 use Rattle.memory_order.specs.Rvwmo.{MeetsRvwmo}
 use Rattle.memory_order.proofs.Meeting.{meets_rvwmo}
-use Rattle.machine.specs.OrderedRun.{IsOrderOfRun}
+use Rattle.emulation.specs.OrderedRun.{IsOrderOfRun}
 use Rattle.machine.specs.Settings.{IsPlan, image_for, trace_after}
 use Rattle.machine.specs.declared.settings.Settings.{Settings}
 
@@ -33,11 +32,3 @@ order_of s file input plan places t planned run by_rounds rounds = record {
   by_rounds = subst (λ (events : List Event). IsRoundOrder events places) run by_rounds;
   rvwmo = subst (λ (events : List Event). MeetsRvwmo events (λ x. slice_index (image_for s file).bytes x) places) run (meets_rvwmo t places by_rounds (λ x. slice_index (image_for s file).bytes x) s.budget rounds);
 }
-
-pub where_done : (r : Result (Unit {0}) RunError) (P Q : Type 0) → (P → Q) → OnOk r P → OnOk r Q
-where_done (Ok v) P Q f h = f h
-where_done (Err e) P Q f h = tt
-
-pub where_refused : (r : Result (Unit {0}) RunError) (P Q : Type 0) → (P → Q) → OnErr r P → OnErr r Q
-where_refused (Ok v) P Q f h = tt
-where_refused (Err e) P Q f h = f h

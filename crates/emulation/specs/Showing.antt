@@ -6,8 +6,8 @@ use Rattle.hart_step.specs.declared.hart.Hart.{Hart}
 use Rattle.hart_step.specs.declared.hart.Stop.{Stop}
 use Rattle.hart_step.specs.Console.{ConsoleState}
 use Rattle.report.specs.Shown.{state_text, summary_text}
-use Rattle.machine.specs.declared.showing.Shown.{Shown}
-use Rattle.machine.specs.declared.showing.Shown.TheVariants.{State as Whole, Harts, Output}
+use Rattle.emulation.specs.declared.showing.Shown.{Shown}
+use Rattle.emulation.specs.declared.showing.Shown.TheVariants.{State as Whole, Harts, Output}
 
 -- the text of it
 abbrev pub shown_text : Shown → State Hart ConsoleState → List ℕ

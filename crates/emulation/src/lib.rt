@@ -1,0 +1,14 @@
+//! Runs of guest programs that are asked for by settings, and what is written of them.
+#![tactic(auto)]
+
+mod emulation;
+mod ordering;
+mod reporting;
+mod showing;
+mod tracing;
+
+pub use emulation::emulate;
+pub use ordering::order_run;
+pub use reporting::Report;
+pub use showing::{Shown, report_run, show_run};
+pub use tracing::trace_run;
