@@ -115,7 +115,7 @@ impl Access {
         }
     }
 
-    /// Whether it is a load of the memory model: a load, an LR or an AMO (manual, section 17.1).
+    /// Whether it is a load of the memory model: a load, an LR or an AMO (manual, section 14.1).
     #[inline]
     pub fn loads(&self) -> bool
         ensures { result ≡ loads self.now }
@@ -126,7 +126,7 @@ impl Access {
         )
     }
 
-    /// Whether it is a store of the memory model: a store, an SC that wrote or an AMO (manual, section 17.1).
+    /// Whether it is a store of the memory model: a store, an SC that wrote or an AMO (manual, section 14.1).
     #[inline]
     pub fn stores(&self) -> bool
         ensures { result ≡ stores self.now }
