@@ -16,8 +16,6 @@ mod ranges;
 mod recordings;
 mod run;
 mod saving;
-#[cfg(test)]
-mod tests;
 
 use command_line::{Command, parse_line};
 use failure::Failure;
