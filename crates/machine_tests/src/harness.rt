@@ -3,14 +3,12 @@
 ghost use Rattle.std.specs.Prelude.{◌≤◌};
 
 use elf_loader::load_flat;
-use emulation::{Report, emulate};
+use emulation::Report;
 use host_io::{RunError, WriteSink};
 use machine::{Format, Machine, Settings};
 use pages::OutOfMemory;
 use round_planner::Plan;
 use std::alloc::Global;
-use std::sync::Wait;
-use std::thread::Threads;
 
 /// The flat image of these words.
 pub(crate) fn flat(alloc: Global, words: &[u32]) -> Result<Vec<u8>, OutOfMemory> {
@@ -31,74 +29,6 @@ pub(crate) fn settings(harts: u32, rounds: u32, plan: &[u8]) -> Settings<'_> {
         workers: 1,
         budget: 1,
         plan,
-    }
-}
-
-/// The report of a run of an image.
-pub(crate) fn report_of<R: Threads + Wait + Sync>(
-    rt: &R,
-    alloc: Global,
-    image: &[u8],
-    input: &[u8],
-    settings: &Settings<'_>,
-) -> Result<Vec<u8>, RunError> {
-    let mut text = Vec::new(alloc);
-    emulate(
-        rt,
-        alloc,
-        image,
-        input,
-        settings,
-        &mut WriteSink::new(&mut text),
-    )?;
-    Ok(text)
-}
-
-/// The report of a run of these words.
-pub(crate) fn report<R: Threads + Wait + Sync>(
-    rt: &R,
-    alloc: Global,
-    words: &[u32],
-    input: &[u8],
-    settings: &Settings<'_>,
-) -> Result<Vec<u8>, RunError> {
-    report_of(rt, alloc, &flat(alloc, words)?, input, settings)
-}
-
-/// Whether the report of a run of these words is this one.
-pub(crate) fn report_is<R: Threads + Wait + Sync>(
-    rt: &R,
-    alloc: Global,
-    words: &[u32],
-    input: &[u8],
-    settings: &Settings<'_>,
-    wanted: &str,
-) -> bool {
-    match report(rt, alloc, words, input, settings) {
-        Ok(text) => text.as_slice() == wanted.as_bytes(),
-        Err(_) => false,
-    }
-}
-
-/// The number of the refusal of a run, or 0, and how many bytes the sink took.
-pub(crate) fn answer<R: Threads + Wait + Sync>(
-    rt: &R,
-    alloc: Global,
-    image: &[u8],
-    settings: &Settings<'_>,
-) -> (u32, usize) {
-    let mut text = Vec::new(alloc);
-    let answer = emulate(
-        rt,
-        alloc,
-        image,
-        &[],
-        settings,
-        &mut WriteSink::new(&mut text),
-    );
-    match answer {
-        Ok(()) => (0, text.len()),
-        Err(error) => (error.number(), text.len()),
     }
 }
 

@@ -48,29 +48,5 @@ pub(crate) const RESERVED: [u32; 7] = [
     0x0000_006F,
 ];
 
-/// ADDI x5,x0,256; ADDI x6,x0,1; LUI x7,0x80000; ADDIW x7,x7,-1; SW x7,256(x0); AMOADD.W x7,x6,(x5).
-pub(crate) const ADDED: [u32; 6] = [
-    0x1000_0293,
-    0x0010_0313,
-    0x8000_03B7,
-    0xFFF3_839B,
-    0x1070_2023,
-    0x0062_A3AF,
-];
-
-/// ADDI x5,x0,7; SD x5,256(x0); LD x6,257(x0).
-pub(crate) const MISALIGNED: [u32; 3] = [0x0070_0293, 0x1050_3023, 0x1010_3303];
-
-/// ADDI x5,x0,7; BNE x10,x0,12; SD x5,256(x0); LD x6,257(x0), which stops hart 0. Other harts: ADDI x5,x0,9; SD x5,256(x0); JAL x0,0.
-pub(crate) const STORED_BEFORE_A_STOP: [u32; 7] = [
-    0x0070_0293,
-    0x0005_1663,
-    0x1050_3023,
-    0x1010_3303,
-    0x0090_0293,
-    0x1050_3023,
-    0x0000_006F,
-];
-
 /// ADDI x17,x0,2; ECALL; ADDI x17,x0,1; ECALL: the next input byte is put to the output.
 pub(crate) const ECHO: [u32; 4] = [0x0020_0893, 0x0000_0073, 0x0010_0893, 0x0000_0073];

@@ -2,27 +2,17 @@
 #![tactic(auto)]
 
 #[cfg(test)]
-mod budgets;
-#[cfg(test)]
-mod guests;
-#[cfg(test)]
 mod harness;
 #[cfg(test)]
 mod images;
 #[cfg(test)]
 mod long_rounds;
 #[cfg(test)]
-mod lost_update;
-#[cfg(test)]
 mod memory;
 #[cfg(test)]
-mod orders;
-#[cfg(test)]
-mod refusals;
-#[cfg(test)]
-mod reports;
-#[cfg(test)]
 mod rounds;
+#[cfg(test)]
+mod sinks;
 #[cfg(test)]
 mod untraced;
 #[cfg(test)]

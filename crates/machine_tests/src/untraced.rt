@@ -39,25 +39,6 @@ fn has_ended(machine: &UntracedMachine) -> bool {
         && machine.rounds() == 2
 }
 
-/// Whether two rounds end so.
-fn ends<R: Threads + Wait + Sync>(rt: &R, machine: &mut UntracedMachine) -> Result<bool, RunError> {
-    machine.run(rt, 2, 1)?;
-    Ok(has_ended(machine))
-}
-
-fn runs<R: Threads + Wait + Sync>(rt: &R, alloc: Global) -> Result<bool, RunError> {
-    let mut machine = reserved(alloc)?;
-    let ended = ends(rt, &mut machine);
-    drop(machine);
-    ended
-}
-
-#[test]
-fn a_run_without_a_trace_ends_as_the_run_does(rt: HostRuntime) {
-    let ended = runs(&rt, rt.alloc());
-    assert!(rt; matches!(&ended, Ok(true)));
-}
-
 /// Whether two machines are alike: in the number of events, in the harts, and in each byte.
 fn are_alike(traced: &Machine, bare: &UntracedMachine) -> bool {
     for address in 0..4096 {

@@ -4,7 +4,6 @@ ghost use Rattle.std.specs.Prelude.{◌≤◌};
 
 use crate::harness::{machine_by_budget, machine_of, machine_on, text_of};
 use crate::images::{EXIT, OWN_STORE, STORE_THEN_LOAD};
-use crate::reports::OWN_STORES;
 use host_io::RunError;
 use machine::{Gate, Machine, Open};
 use std::alloc::Global;
@@ -130,6 +129,28 @@ fn three_harts_exit_on_any_workers(rt: HostRuntime) -> Result<(), Fail> {
     assert_eq!(rt; unlike, None);
     Ok(())
 }
+
+/// Both harts have loaded the number that each stored itself, and memory has the one of hart 1.
+const OWN_STORES: &str = "rounds 1\n\
+                                     hart 0 pc 000000000000000c done 3 running\n\
+                                     x5 0000000000000005\n\
+                                     x6 0000000000000005\n\
+                                     x11 0000000000000002\n\
+                                     hart 1 pc 000000000000000c done 3 running\n\
+                                     x5 0000000000000006\n\
+                                     x6 0000000000000006\n\
+                                     x10 0000000000000001\n\
+                                     x11 0000000000000002\n\
+                                     memory 1\n\
+                                     00000000 93025500233050100333001000000000\n\
+                                     00000100 06000000000000000000000000000000\n\
+                                     output 0\n\
+                                     trace 4\n\
+                                     1 0 1 p store - 00000100 8 - 0000000000000005\n\
+                                     1 0 2 p load - 00000100 8 0000000000000005 -\n\
+                                     1 1 1 p store - 00000100 8 - 0000000000000006\n\
+                                     1 1 2 p load - 00000100 8 0000000000000006 -\n\
+                                     end\n";
 
 #[test]
 fn own_stores_are_committed_on_any_workers(rt: HostRuntime) -> Result<(), Fail> {
