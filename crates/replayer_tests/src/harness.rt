@@ -1,14 +1,10 @@
-//! The guests of the tests, what they are run with, and texts of recordings.
+//! The guest of the tests, what it is run with, and the text of a recording.
 use host_io::RunError;
 use machine::{Format, Settings};
 use replayer::{Recording, record};
 use std::alloc::Global;
 use std::sync::Wait;
-use std::test::Fail;
 use std::thread::Threads;
-
-/// ADDI x17,x0,0; ECALL: the exit call with the hart's number.
-pub(crate) static EXIT: [u8; 8] = [0x93, 8, 0, 0, 0x73, 0, 0, 0];
 
 /// ADDI x5,x0,256; BNE x10,x0,+16; LR.D x6,(x5); SC.D x7,x6,(x5); JAL x0,0; SD x5,0(x5); JAL x0,0: hart 0 goes to the
 /// LR and the SC, the others to the store.
@@ -30,7 +26,7 @@ pub(crate) fn settings(rounds: u32, plan: &[u8]) -> Settings<'_> {
     }
 }
 
-/// The exits recorded after one round of quota 4, in version 1.
+/// Two harts that exit after one instruction each, recorded after one round, in version 1.
 pub(crate) static VERSION_1: [u8; 125] = [
     82, 86, 68, 69, 84, 82, 69, 67, 1, 0, 0, 0, 1, 2, 0, 0, 0, 1, 0, 0, 0, 1, 0, 0, 0, 8, 0, 0, 0,
     0, 0, 0, 0, 147, 8, 0, 0, 115, 0, 0, 0, 0, 0, 0, 0, 0, 0, 0, 0, 2, 0, 0, 0, 0, 0, 0, 0, 52, 10,
@@ -38,21 +34,6 @@ pub(crate) static VERSION_1: [u8; 125] = [
     1, 0, 0, 0, 0, 0, 0, 0, 0, 4, 0, 0, 0, 0, 0, 0, 0, 1, 0, 0, 0, 0, 0, 0, 0, 1, 1, 0, 0, 0, 0, 0,
     0, 0,
 ];
-
-/// A text with these bytes, each after its place, in place of its own.
-pub(crate) fn with_bytes(
-    alloc: Global,
-    text: &[u8],
-    bytes: &[(usize, u8)],
-) -> Result<Vec<u8>, Fail> {
-    let mut changed = text.to_vec(alloc)?;
-    for (place, byte) in bytes {
-        if let Some(at) = changed.get_mut(*place) {
-            *at = *byte;
-        }
-    }
-    Ok(changed)
-}
 
 /// The plan of the runs of `RESERVED`: in each round hart 0 may do 3 instructions, and hart 1 may do 2 in round 1 and then 3.
 pub(crate) const PLAN: &[u8] = b"3 2\n3 3\n";

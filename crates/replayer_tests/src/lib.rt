@@ -1,4 +1,5 @@
-//! Tests of recordings of runs, through the public calls of the crate `replayer`.
+//! Tests of recordings, as texts and of runs, and of what is copied and kept of a run, through the public calls of the crates `recording`,
+//! `replayer` and `machine`.
 #![tactic(auto)]
 
 #[cfg(test)]
@@ -8,10 +9,4 @@ mod harness;
 #[cfg(test)]
 mod kept;
 #[cfg(test)]
-mod past;
-#[cfg(test)]
-mod recordings;
-#[cfg(test)]
-mod refusals;
-#[cfg(test)]
-mod watched;
+mod texts;
