@@ -1,16 +1,12 @@
-//! Tests of hunts, of smaller plans and of tables, through the public calls of the crates `plan_hunt`, `plan_shrink`, `hunt_table`,
-//! `table_reader`, `table_merge` and `hunter`.
+//! Tests of the endings of many plans, of smaller plans and of tables, through the public calls of the crates `plan_hunt`, `plan_shrink`,
+//! `table_reader` and `table_merge`.
 #![tactic(auto)]
 
 #[cfg(test)]
 mod endings;
-#[cfg(test)]
-mod hunts;
 #[cfg(test)]
 mod merged_tables;
 #[cfg(test)]
 mod read_tables;
 #[cfg(test)]
 mod smaller_plans;
-#[cfg(test)]
-mod written_tables;

@@ -46,37 +46,3 @@ fn a_table_is_read(rt: HostRuntime) -> Result<(), Fail> {
     assert!(rt; stops[0].is_some_and(|stop| stop.code == 1 && stop.value == 255));
     Ok(())
 }
-
-/// The number of the refusal of a text, and 0 where it is read.
-fn answer(alloc: Global, text: &[u8]) -> u32 {
-    match read_table(alloc, text) {
-        Ok(_) => 0,
-        Err(error) => error.number(),
-    }
-}
-
-#[test]
-fn other_texts_are_refused(rt: HostRuntime) -> Result<(), Fail> {
-    let alloc = rt.alloc();
-    assert_eq!(rt; answer(alloc, b"plans 0 1 seed 1\nendings 0\nend\n"), 0);
-    for text in [
-        b"".as_slice(),
-        b"plans 0 1 seed 01\nendings 0\nend\n",
-        b"plans 0 1 seed 1\nendings 1\nend\n",
-        b"plans 0 1 seed 1\nendings 0\nend",
-        b"plans 0 1 seed 1\nendings 0\nend\n\n",
-        b"plans 0 4294967296 seed 1\nendings 0\nend\n",
-    ] {
-        assert_eq!(rt; answer(alloc, text), 71);
-    }
-    // One character of the table changed: a range of the second ending, an ending's number, a digit in upper case.
-    for (old, new) in [
-        ("see 00000010 2 0000", "see 00000020 2 0000"),
-        ("ending 2", "ending 3"),
-        ("ab00", "AB00"),
-    ] {
-        let changed = TABLE.replace(alloc, old, new)?;
-        assert_eq!(rt; answer(alloc, changed.as_bytes()), 71);
-    }
-    Ok(())
-}
