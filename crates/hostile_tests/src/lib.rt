@@ -1,14 +1,10 @@
-//! Tests of what comes from outside and means no good: damaged files, numbers out of all range, and devices that fail.
+//! Tests of devices that fail: sinks and sources of whole calls.
 #![tactic(auto)]
 
 #[cfg(test)]
 mod devices;
 #[cfg(test)]
 mod harness;
-#[cfg(test)]
-mod images;
-#[cfg(test)]
-mod plans;
 #[cfg(test)]
 mod shown;
 #[cfg(test)]

@@ -3,8 +3,7 @@
 use crate::devices::{Stride, writes};
 use crate::harness::settings;
 use emulation::{Shown, show_run};
-use host_io::WriteSink;
-use machine::{Format, GuestFiles, Settings, Unobserved};
+use machine::{GuestFiles, Settings, Unobserved};
 use std::alloc::Global;
 use std::sync::Wait;
 use std::thread::Threads;
@@ -16,7 +15,7 @@ const ECHO: &[u8] = b"\x93\x08\x20\0\x73\0\0\0\x93\x08\x10\0\x73\0\0\0";
 fn echoes() -> Settings<'static> {
     Settings {
         rounds: 2,
-        ..settings(Format::Flat, 2, 1, b"4\n")
+        ..settings(b"4\n")
     }
 }
 
@@ -73,38 +72,4 @@ fn harts_come_with_the_length_of_the_output(rt: HostRuntime) {
 #[test]
 fn output_is_shown_as_it_is(rt: HostRuntime) {
     assert!(rt; shows(&rt, rt.alloc(), Shown::Output, b"A\xff"));
-}
-
-/// ADDI x17,x0,0; ECALL: the exit call with the hart's number.
-const EXIT: &[u8] = b"\x93\x08\0\0\x73\0\0\0";
-
-#[test]
-fn harts_end_well_where_each_exits_with_0(rt: HostRuntime) {
-    let mut text = Vec::new(rt.alloc());
-    for (harts, well) in [(1, true), (2, false)] {
-        let asked = settings(Format::Flat, harts, 1, b"4\n");
-        text.clear();
-        let mut sink = WriteSink::new(&mut text);
-        let answer = show_run(
-            &rt,
-            rt.alloc(),
-            &GuestFiles {
-                image: EXIT,
-                input: b"",
-            },
-            &asked,
-            Shown::Harts,
-            &mut Unobserved,
-            &mut sink,
-        );
-        assert_eq!(rt; answer, Ok(well));
-    }
-    let wanted = "rounds 1\n\
-        hart 0 pc 0000000000000004 done 1 exit 0000000000000000\n\
-        x11 0000000000000002\n\
-        hart 1 pc 0000000000000004 done 1 exit 0000000000000001\n\
-        x10 0000000000000001\n\
-        x11 0000000000000002\n\
-        output 0\n";
-    assert!(rt; text.as_slice() == wanted.as_bytes());
 }

@@ -6,7 +6,7 @@ use emulation::emulate;
 use hart_step::{Hart, Stop};
 use host_io::{RunError, WriteSink};
 use hunt_table::{Header, SeenRange, write_table};
-use machine::{Format, Trace};
+use machine::Trace;
 use pages::Width;
 use picture::{View, write_picture};
 use plan_hunt::{Ending, Row};
@@ -49,7 +49,7 @@ const REPORT: &str = "rounds 1\n\
 #[test]
 fn reports(rt: HostRuntime) {
     let alloc = rt.alloc();
-    let asked = settings(Format::Flat, 2, 1, b"6\n");
+    let asked = settings(b"6\n");
     assert!(rt;
         writes(
             alloc,
