@@ -4,11 +4,12 @@ use Rattle.std.proofs.Math.Nat.{div-div-eq-div-mul, div-one}
 use Rattle.std.proofs.lemmas.Bool.{and_parts, cases_order, false≢true, leb-true, or_parts}
 use Rattle.std.proofs.lemmas.Bool.Decides.{nat_tests}
 use Rattle.std.proofs.lemmas.List.{ext_get_or, get_or-set_same, get_or-set_other, length-set}
-use Rattle.std.proofs.lemmas.List.Elements.{All-set, All-head, All-tail}
+use Rattle.std.proofs.lemmas.List.Elements.{All-cons, All-set, All-head, All-tail}
 use Rattle.std.proofs.lemmas.Nat.{pow-add}
 use Rattle.pages.specs.declared.access.Range.{Range}
 use Rattle.pages.specs.declared.access.Store.{Store}
-use Rattle.pages.specs.Memory.{IsBytes, Memory, TouchesNoCode, after, all_code, any_code, byte_of, byte_put, covered, covers, fetched, in_range, is_code, last_byte, number_at, put, stored, width_bytes, written}
+use Rattle.pages.specs.declared.access.Width.{Width}
+use Rattle.pages.specs.Memory.{IsBytes, Memory, TouchesNoCode, after, all_code, any_code, byte_of, byte_put, covered, covers, fetched, in_range, is_code, last_byte, number_at, put, store_fault, stored, width_bytes, written}
 
 length-written : (n : ℕ) (bs : List ℕ) (a v : ℕ) → length (written bs a v n) ≡ length bs
 length-written zero bs a v = refl
@@ -140,6 +141,17 @@ last_byte-uncovered b [] x h = refl
 last_byte-uncovered b (s ∷ ss) x h =
     let parts = or_parts (covers s x) (covered ss x) h in
     ap (λ t. last_byte (if t then byte_put s x else b) ss x) parts.0 ∙ last_byte-uncovered b ss x parts.1
+
+-- a store that has no fault touches no code
+pub no_code : (m : Memory) (a : ℕ) (w : Width) → store_fault m a w ≡ None → any_code m.code a (width_bytes w) ≡ false
+unfolding store_fault
+no_code m a w e = grind (arith, nat_tests)
+
+pub touches_none : (code : List Range) → TouchesNoCode code []
+touches_none code = λ k d h. absurd (omega arith)
+
+pub touches_more : (m : Memory) (s : Store) (ss : List Store) → store_fault m s.address s.width ≡ None → TouchesNoCode m.code ss → TouchesNoCode m.code (s ∷ ss)
+touches_more m s ss e t = All-cons (λ (x : Store). any_code m.code x.address (width_bytes x.width) ≡ false) s ss (no_code m s.address s.width e) t
 
 apart_at : (code : List Range) (n a x : ℕ) → any_code code a n ≡ false → is_code code x ≡ true → in_range a n x ≡ false
 apart_at code zero a x h e = none a x
