@@ -8,8 +8,6 @@ use pages::{Fault, OutOfMemory, Pages, Store, Width};
 /// Guest memory itself as a bus: the direct view.
 ///
 /// A store has room where its page is ready or a spare page is left. Elsewhere a spare page is asked for.
-pub type Direct = Pages;
-
 impl Bus for Pages {
     ghost use Rattle.hart_step.specs.Room.{CanTake, TakesDirectly, takes_directly_none, takes_directly_more};
 

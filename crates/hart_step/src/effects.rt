@@ -2,6 +2,7 @@
 ghost use Rattle.std.specs.Prelude.{◌≡◌, None};
 ghost use Rattle.pages.specs.Memory.{loaded, store_fault};
 ghost use Rattle.hart_step.specs.declared.answer.Answer.TheVariants.{Halted};
+ghost use Rattle.hart_step.specs.Answers.{with_access};
 ghost use Rattle.hart_step.specs.Numbers.{sx};
 ghost use Rattle.hart_step.specs.Performs.{IsQuiet, Performs};
 ghost use Rattle.hart_step.specs.Step.{cut, extended_to, width_bits, fault_code, went_on, next_pc, stopped_with, put_to, jumped, branched, read_by, written_by, ordered};
@@ -25,7 +26,7 @@ fn put_and_go(h: &mut Hart, rd: Reg, value: u64, pc: u64)
 
 /// Stops the hart, and changes nothing else.
 #[inline(always)]
-pub fn halt(h: &mut Hart, code: u8) -> Answer
+pub(crate) fn halt(h: &mut Hart, code: u8) -> Answer
     ensures answer { result ≡ Halted code }
     ensures hart { h.new ≡ stopped_with h.old code 0 }
 {
@@ -49,7 +50,7 @@ pub fn stop_code(fault: Fault) -> u8
 
 /// A value for rd.
 #[inline(always)]
-pub fn put(h: &mut Hart, rd: Reg, value: u64) -> Result<Answer, OutOfMemory>
+pub(crate) fn put(h: &mut Hart, rd: Reg, value: u64) -> Result<Answer, OutOfMemory>
     ensures { IsQuiet (put_to h.old rd value (next_pc h.old)) result None h.new }
 {
     h.go_on(rd, value);
@@ -58,7 +59,7 @@ pub fn put(h: &mut Hart, rd: Reg, value: u64) -> Result<Answer, OutOfMemory>
 
 /// A taken jump.
 #[inline(always)]
-pub fn jump(h: &mut Hart, rd: Reg, target: u64) -> Result<Answer, OutOfMemory>
+pub(crate) fn jump(h: &mut Hart, rd: Reg, target: u64) -> Result<Answer, OutOfMemory>
     ensures { IsQuiet (jumped h.old rd target) result None h.new }
 {
     if target % 4 != 0 {
@@ -71,7 +72,7 @@ pub fn jump(h: &mut Hart, rd: Reg, target: u64) -> Result<Answer, OutOfMemory>
 
 /// A branch.
 #[inline(always)]
-pub fn branch(h: &mut Hart, taken: bool, target: u64) -> Result<Answer, OutOfMemory>
+pub(crate) fn branch(h: &mut Hart, taken: bool, target: u64) -> Result<Answer, OutOfMemory>
     ensures { IsQuiet (branched h.old taken target) result None h.new }
 {
     if taken {
@@ -122,7 +123,7 @@ pub fn cut_to(width: Width, value: u64) -> u64
 
 /// A load.
 #[inline(always)]
-pub fn load<B: Bus>(
+pub(crate) fn load<B: Bus>(
     h: &mut Hart,
     b: &B,
     seen: &mut Option<Access>,
@@ -151,7 +152,7 @@ pub fn load<B: Bus>(
 
 /// A store.
 #[inline(always)]
-pub fn store<B: Bus>(
+pub(crate) fn store<B: Bus>(
     h: &mut Hart,
     b: &mut B,
     seen: &mut Option<Access>,
@@ -160,12 +161,11 @@ pub fn store<B: Bus>(
     value: u64,
 ) -> Result<Answer, OutOfMemory>
     requires { seen.old ≡ None }
-    ensures { Performs (B.has_room b.old) (B.takes b.old)
+    ensures { Performs (with_access seen.new) (B.has_room b.old) (B.takes b.old)
         (record { hart = h.old; memory = B.memory b.old })
         (written_by h.old address width value (store_fault (B.memory b.old) address width))
         (record {
           result = result;
-          seen = seen.new;
           hart = h.new;
           memory = B.memory b.new;
           bus = b.new;
@@ -194,7 +194,7 @@ pub fn store<B: Bus>(
 
 /// A fence: a full one has to wait.
 #[inline(always)]
-pub fn order(
+pub(crate) fn order(
     h: &mut Hart,
     seen: &mut Option<Access>,
     before: FenceSet,

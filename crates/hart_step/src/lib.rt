@@ -25,7 +25,6 @@ pub use answer::Answer;
 pub use buffered::Buffered;
 pub use bus::Bus;
 pub use code_table::CodeTable;
-pub use direct::Direct;
 pub use effects::{cut_to, sign_extended, stop_code};
 pub use hart::{Hart, Stop};
 pub use laws::{

@@ -4,7 +4,7 @@ ghost use Rattle.hart_step.specs.Numbers.{low, sx, sx32, flag, below_signed, sra
 
 /// The low 32 bits.
 #[inline(always)]
-pub fn low_word(v: u64) -> u64
+pub(crate) fn low_word(v: u64) -> u64
     ensures value { result ≡ low 32 v }
     ensures below { result < 2 ^ 32 }
 {
@@ -13,7 +13,7 @@ pub fn low_word(v: u64) -> u64
 
 /// The low 8 bits, sign-extended.
 #[inline(always)]
-pub fn extend_byte(v: u64) -> u64
+pub(crate) fn extend_byte(v: u64) -> u64
     ensures { result ≡ sx 8 v }
 {
     let bits = v & 0xff;
@@ -26,7 +26,7 @@ pub fn extend_byte(v: u64) -> u64
 
 /// The low 16 bits, sign-extended.
 #[inline(always)]
-pub fn extend_halfword(v: u64) -> u64
+pub(crate) fn extend_halfword(v: u64) -> u64
     ensures { result ≡ sx 16 v }
 {
     let bits = v & 0xffff;
@@ -39,7 +39,7 @@ pub fn extend_halfword(v: u64) -> u64
 
 /// The low 32 bits, sign-extended.
 #[inline(always)]
-pub fn extend_word(v: u64) -> u64
+pub(crate) fn extend_word(v: u64) -> u64
     ensures { result ≡ sx32 v }
 {
     let bits = v & 0xffff_ffff;
@@ -52,7 +52,7 @@ pub fn extend_word(v: u64) -> u64
 
 /// Whether `a` is below `b`, both signed.
 #[inline(always)]
-pub fn is_below_signed(a: u64, b: u64) -> bool
+pub(crate) fn is_below_signed(a: u64, b: u64) -> bool
     ensures { result ≡ below_signed a b }
 {
     a.cast_signed() < b.cast_signed()
@@ -60,7 +60,7 @@ pub fn is_below_signed(a: u64, b: u64) -> bool
 
 /// 1 or 0.
 #[inline(always)]
-pub fn flag_of(test: bool) -> u64
+pub(crate) fn flag_of(test: bool) -> u64
     ensures { result ≡ flag test }
 {
     test as u64
@@ -68,7 +68,7 @@ pub fn flag_of(test: bool) -> u64
 
 /// A shift to the right with the sign shifted in.
 #[inline(always)]
-pub fn shift_right_signed(a: u64, amount: u64) -> u64
+pub(crate) fn shift_right_signed(a: u64, amount: u64) -> u64
     requires { amount < 64 }
     ensures { result ≡ sra a amount }
 {
@@ -77,7 +77,7 @@ pub fn shift_right_signed(a: u64, amount: u64) -> u64
 
 /// The high 64 bits of the product, both factors unsigned.
 #[inline(always)]
-pub fn multiply_high_unsigned(a: u64, b: u64) -> u64
+pub(crate) fn multiply_high_unsigned(a: u64, b: u64) -> u64
     ensures { result ≡ mulhu_of a b }
 {
     a.carrying_mul(b, 0).1
@@ -85,7 +85,7 @@ pub fn multiply_high_unsigned(a: u64, b: u64) -> u64
 
 /// The high 64 bits of the product, the first factor signed.
 #[inline(always)]
-pub fn multiply_high_mixed(a: u64, b: u64) -> u64
+pub(crate) fn multiply_high_mixed(a: u64, b: u64) -> u64
     ensures { result ≡ mulhsu_of a b }
 {
     let high = multiply_high_unsigned(a, b);
@@ -98,7 +98,7 @@ pub fn multiply_high_mixed(a: u64, b: u64) -> u64
 
 /// The high 64 bits of the product, both factors signed.
 #[inline(always)]
-pub fn multiply_high_signed(a: u64, b: u64) -> u64
+pub(crate) fn multiply_high_signed(a: u64, b: u64) -> u64
     ensures { result ≡ mulh_of a b }
 {
     let high = multiply_high_mixed(a, b);
@@ -111,7 +111,7 @@ pub fn multiply_high_signed(a: u64, b: u64) -> u64
 
 /// The unsigned quotient, all ones by 0.
 #[inline(always)]
-pub fn divide_unsigned(a: u64, b: u64) -> u64
+pub(crate) fn divide_unsigned(a: u64, b: u64) -> u64
     ensures { result ≡ divu_of a b }
 {
     if b == 0 { u64::MAX } else { a / b }
@@ -119,7 +119,7 @@ pub fn divide_unsigned(a: u64, b: u64) -> u64
 
 /// The unsigned remainder, the dividend by 0.
 #[inline(always)]
-pub fn remainder_unsigned(a: u64, b: u64) -> u64
+pub(crate) fn remainder_unsigned(a: u64, b: u64) -> u64
     ensures { result ≡ remu_of a b }
 {
     if b == 0 { a } else { a % b }
@@ -127,7 +127,7 @@ pub fn remainder_unsigned(a: u64, b: u64) -> u64
 
 /// The signed quotient, all ones by 0.
 #[inline(always)]
-pub fn divide_signed(a: u64, b: u64) -> u64
+pub(crate) fn divide_signed(a: u64, b: u64) -> u64
     ensures { result ≡ div_of a b }
 {
     if b == 0 {
@@ -141,7 +141,7 @@ pub fn divide_signed(a: u64, b: u64) -> u64
 
 /// The signed remainder, the dividend by 0.
 #[inline(always)]
-pub fn remainder_signed(a: u64, b: u64) -> u64
+pub(crate) fn remainder_signed(a: u64, b: u64) -> u64
     ensures { result ≡ rem_of a b }
 {
     if b == 0 {
