@@ -1,13 +1,14 @@
 -- What the commit of a round does to memory and the reservations.
-use Rattle.std.specs.Prelude.{◌≡◌, ℕ, suc, ◌/◌, ◌==◌, ◌||◌, Bool, true, false, if◌then◌else◌, List, [], ◌∷◌, ◌++◌, Option, None, All}
+use Rattle.std.specs.Prelude.{◌≡◌, ℕ, suc, ◌<◌, ◌/◌, length, ◌==◌, ◌||◌, Bool, true, false, if◌then◌else◌, List, [], ◌∷◌, ◌++◌, Option, None, All}
 use Rattle.pages.specs.declared.access.Store.{Store}
 use Rattle.pages.specs.declared.access.Width.TheVariants.{W1}
 use Rattle.pages.specs.Memory.{covered, store_fault, stored}
 use Rattle.pages.specs.Paged.{Paged, is_page_ready}
 use Rattle.round_schedule.specs.declared.span.Span.{Span}
 use Rattle.round_schedule.specs.ByTable.{committed_table}
+use Rattle.round_schedule.specs.Held.{unless}
 use Rattle.round_schedule.specs.Schedule.{HartRound, all_stores}
-use Rattle.round_schedule.specs.Tables.{Commits}
+use Rattle.round_schedule.specs.Tables.{Commits, entry}
 use Rattle.store_buffer.specs.Covered.{stores_of}
 
 -- these are bytes of guest memory that are not code, on pages that are ready
@@ -24,6 +25,14 @@ all_buffered (es ∷ bs) = stores_of es ++ all_buffered bs
 abbrev pub covered_from : ℕ → ℕ → List (List (ℕ × ℕ)) → ℕ → Bool
 covered_from i h [] x = false
 covered_from i h (es ∷ bs) x = (if i == h then false else covered (stores_of es) x) || covered_from (suc i) h bs x
+
+-- the buffers of all harts are committed: their bytes are in memory, and the reservations are gone of which another hart's buffer has a byte
+pub record CommitsBuffers (bs : List (List (ℕ × ℕ))) (p q : Paged) (old new : List (Option Span)) : Type 0 where
+  pub memory : q.memory ≡ stored p.memory (all_buffered bs)
+  pub ready : q.ready ≡ p.ready
+  pub spare : q.spare ≡ p.spare
+  pub size : length new ≡ length old
+  pub table : (h : ℕ) → h < length old → entry new h ≡ unless (covered_from 0 h bs) (entry old h)
 
 -- the stores of all harts are committed
 pub record Committed {H : Type 0} (rs : List (HartRound H)) (p q : Paged) (old new : List (Option Span)) : Type 0 where

@@ -1,20 +1,15 @@
-ghost use Rattle.std.specs.Prelude.{◌≡◌, ℕ, ◌<◌, ◌≤◌, ◌+◌, length, map, All};
-ghost use Rattle.pages.specs.Memory.{stored};
-ghost use Rattle.round_schedule.specs.Held.{unless};
-ghost use Rattle.round_schedule.specs.Tables.{entry};
-ghost use Rattle.commit_phase.specs.Commit.{IsWritable, all_buffered, covered_from};
+ghost use Rattle.std.specs.Prelude.{◌<◌, ◌≤◌, ◌+◌, length, map, All};
+ghost use Rattle.commit_phase.specs.Commit.{CommitsBuffers, IsWritable, all_buffered};
 ghost use Rattle.commit_phase.specs.Shards.{IsShardReady, ShardWritten};
 
 use crate::buffered::Buffered;
 use crate::gate::ShardGate;
 use crate::in_turn::break_all;
 use crate::shard::write_all;
-use pages::{Pages, Part};
+use pages::{MOST_PAGES, Pages, Part};
 use reservations::Reservations;
+use round_schedule::{MOST_HARTS, MOST_WORKERS};
 use std::thread::{Threads, for_each_chunk_mut, for_each_mut, join_mut};
-
-/// The most workers of a commit.
-const MOST_WORKERS: usize = 16;
 
 /// Does what `commit` does, with so many workers.
 ///
@@ -31,15 +26,9 @@ pub fn commit_on<R: Threads + Sync, B: Buffered + Sync, G: ShardGate + Sync>(
     gate: &G,
 )
     requires some_workers { 1 ≤ workers }
-    requires few { length rounds.now ≤ 64 }
+    requires few { length rounds.now ≤ MOST_HARTS }
     requires writable { All (IsWritable pages.old) (map B.bytes rounds.now) }
-    ensures memory { pages.new.memory ≡
-        stored pages.old.memory (all_buffered (map B.bytes rounds.now)) }
-    ensures ready { pages.new.ready ≡ pages.old.ready }
-    ensures spare { pages.new.spare ≡ pages.old.spare }
-    ensures size { length table.new ≡ length table.old }
-    ensures table { (h : ℕ) → h < length table.old →
-        entry table.new h ≡ unless (covered_from 0 h (map B.bytes rounds.now)) (entry table.old h) }
+    ensures { CommitsBuffers (map B.bytes rounds.now) pages.old pages.new table.old table.new }
 {
     let count = pages.count();
     let size = count.div_ceil(workers).max(1);
@@ -60,7 +49,7 @@ fn write_beside<R: Threads + Sync, B: Buffered + Sync, G: ShardGate + Sync>(
     gate: &G,
 )
     requires size { 0 < size }
-    requires few { length parts.old ≤ 16384 }
+    requires few { length parts.old ≤ MOST_PAGES }
     requires ready { All (IsShardReady 0 parts.old) (map B.bytes rounds.now) }
     ensures { ShardWritten 0 (all_buffered (map B.bytes rounds.now)) parts.old parts.new }
 {
@@ -74,7 +63,7 @@ fn write_beside<R: Threads + Sync, B: Buffered + Sync, G: ShardGate + Sync>(
         &mut || pass_empty(rt, empty, workers, gate),
         &mut ||
             requires size { 0 < size }
-            requires few { length parts.now ≤ 16384 }
+            requires few { length parts.now ≤ MOST_PAGES }
             requires ready { All (IsShardReady 0 parts.now) (map B.bytes rounds.now) }
         { write_shards(rt, parts, size, rounds, gate) },
     );
@@ -89,7 +78,7 @@ fn write_shards<R: Threads + Sync, B: Buffered + Sync, G: ShardGate + Sync>(
     gate: &G,
 )
     requires size { 0 < size }
-    requires few { length parts.old ≤ 16384 }
+    requires few { length parts.old ≤ MOST_PAGES }
     requires ready { All (IsShardReady 0 parts.old) (map B.bytes rounds.now) }
     ensures { ShardWritten 0 (all_buffered (map B.bytes rounds.now)) parts.old parts.new }
 {
@@ -110,7 +99,7 @@ fn write_one<B: Buffered, G: ShardGate>(
     gate: &G,
 )
     requires size { 0 < size }
-    requires few { start + length shard.old ≤ 16384 }
+    requires few { start + length shard.old ≤ MOST_PAGES }
     requires ready { All (IsShardReady start shard.old) (map B.bytes rounds.now) }
     ensures { ShardWritten start (all_buffered (map B.bytes rounds.now)) shard.old shard.new }
 {
@@ -122,15 +111,15 @@ fn write_one<B: Buffered, G: ShardGate>(
 
 /// Tells the gate of the shards that have no page, each on a thread of its own where one can be started.
 fn pass_empty<R: Threads + Sync, G: ShardGate + Sync>(rt: &R, first: u32, workers: u32, gate: &G) {
-    let mut numbers = [0; MOST_WORKERS];
-    let count = workers.saturating_sub(first).min(MOST_WORKERS as u32);
+    let mut numbers = [0; MOST_WORKERS as usize];
+    let count = workers.saturating_sub(first).min(MOST_WORKERS);
     for (place, number) in numbers.iter_mut().enumerate() {
         *number = first.saturating_add(place as u32);
     }
     for_each_mut(
         rt,
         &mut numbers[..count as usize],
-        MOST_WORKERS,
+        MOST_WORKERS as usize,
         &|_, number| pass_one(*number, gate),
     );
 }
