@@ -1,9 +1,10 @@
 -- The least cause is one.
 use Rattle.std.proofs.Common.{◌≡◌, ◌≢◌, ℕ, ◌<◌, ◌==◌, if◌then◌else◌, Result, Err, refl, sym, ◌∙◌, ap, inl, inr, ◌⊎◌, arith}
 use Rattle.std.proofs.lemmas.Bool.{cases_lt}
-use Rattle.elf_loader.specs.Causes.{IsLeast, error_number}
-use Rattle.elf_loader.specs.declared.load_error.LoadError.{LoadError}
-use Rattle.elf_loader.specs.declared.load_error.LoadError.TheVariants as causes
+use Rattle.elf_loader.specs.Causes.{IsLeast}
+use Rattle.host_io.specs.RunErrors.{image_number}
+use Rattle.host_io.specs.declared.load_error.LoadError.{LoadError}
+use Rattle.host_io.specs.declared.load_error.LoadError.TheVariants as causes
 
 cause_of : ℕ → LoadError
 cause_of n =
@@ -12,7 +13,7 @@ cause_of n =
     else (if n == 9 then causes.SharedAddress else (if n == 10 then causes.WritableCode else (if n == 11 then causes.Entry else (if n == 12 then causes.FlatLength
     else causes.OutOfMemory)))))))))))
 
-cause_back : (a : LoadError) → cause_of (error_number a) ≡ a
+cause_back : (a : LoadError) → cause_of (image_number a) ≡ a
 unfolding cause_of
 cause_back causes.TooShort = refl
 cause_back causes.Magic = refl
@@ -28,16 +29,16 @@ cause_back causes.Entry = refl
 cause_back causes.FlatLength = refl
 cause_back causes.OutOfMemory = refl
 
-pub same_number : (a b : LoadError) → error_number a ≡ error_number b → a ≡ b
+pub same_number : (a b : LoadError) → image_number a ≡ image_number b → a ≡ b
 same_number a b e = sym (cause_back a) ∙ ap cause_of e ∙ cause_back b
 
 pub least_is_one : {Stands : LoadError → Type 0} (a b : LoadError) → IsLeast Stands a → IsLeast Stands b → a ≡ b
 least_is_one a b g h =
-    let below : error_number a < error_number b → ⊥ = λ l. h.least a l g.stands in
-    let above : error_number b < error_number a → ⊥ = λ l. g.least b l h.stands in
-    let same : error_number a ≡ error_number b = elim (cases_lt (error_number a) (error_number b)) [
+    let below : image_number a < image_number b → ⊥ = λ l. h.least a l g.stands in
+    let above : image_number b < image_number a → ⊥ = λ l. g.least b l h.stands in
+    let same : image_number a ≡ image_number b = elim (cases_lt (image_number a) (image_number b)) [
       | inl l ↦ absurd (below l)
-      | inr l ↦ elim (cases_lt (error_number b) (error_number a)) [ inl m ↦ absurd (above m) | inr m ↦ omega (arith, l, m) ]
+      | inr l ↦ elim (cases_lt (image_number b) (image_number a)) [ inl m ↦ absurd (above m) | inr m ↦ omega (arith, l, m) ]
     ] in
     same_number a b same
 

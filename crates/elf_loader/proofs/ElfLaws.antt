@@ -6,12 +6,13 @@ use Rattle.std.proofs.lemmas.List.Folds.{Any-from_list_any, list_any-from_Any}
 use Rattle.std.specs.List.{list_any}
 use Rattle.pages.specs.Memory.{in_range}
 use Rattle.pages.specs.declared.access.Range.{Range}
-use Rattle.elf_loader.specs.Causes.{IsLeast, error_number}
+use Rattle.elf_loader.specs.Causes.{IsLeast}
 use Rattle.elf_loader.specs.ElfCauses.{StandsInElf, has_magic, has_table, is_entry, is_little_64, is_past_file, is_past_memory, is_writable_code}
 use Rattle.elf_loader.specs.ElfTests.{first_true, has_overlap, header_tests, segment_tests, shares}
 use Rattle.elf_loader.specs.Segments.{SomeShare, code_of, entry_of, machine_of, segments_of, type_of}
-use Rattle.elf_loader.specs.declared.load_error.LoadError.{LoadError}
-use Rattle.elf_loader.specs.declared.load_error.LoadError.TheVariants as causes
+use Rattle.host_io.specs.RunErrors.{image_number}
+use Rattle.host_io.specs.declared.load_error.LoadError.{LoadError}
+use Rattle.host_io.specs.declared.load_error.LoadError.TheVariants as causes
 use Rattle.elf_loader.specs.declared.segment.Segment.{Segment}
 use Rattle.elf_loader.proofs.Causes.{same_number}
 
@@ -19,15 +20,15 @@ use Rattle.elf_loader.proofs.Causes.{same_number}
 
 -- no cause of a number below this one stands
 abbrev pub NoneBelow : (LoadError → Type 0) → ℕ → Type 0
-NoneBelow Stands n = (o : LoadError) → error_number o < n → Stands o → ⊥
+NoneBelow Stands n = (o : LoadError) → image_number o < n → Stands o → ⊥
 
 -- the tests are those of the causes from one number to another
 abbrev pub AreTests : (LoadError → Type 0) → ℕ → List (Bool × LoadError) → ℕ → Type 0
 AreTests Stands lo [] hi = lo ≡ hi
-AreTests Stands lo (t ∷ ts) hi = (error_number t.1 ≡ lo) × (t.0 ≡ true → Stands t.1) × (Stands t.1 → t.0 ≡ true) × AreTests Stands (lo + 1) ts hi
+AreTests Stands lo (t ∷ ts) hi = (image_number t.1 ≡ lo) × (t.0 ≡ true → Stands t.1) × (Stands t.1 → t.0 ≡ true) × AreTests Stands (lo + 1) ts hi
 
-passed_one : (Stands : LoadError → Type 0) (lo : ℕ) (b : Bool) (e : LoadError) → b ≡ false → error_number e ≡ lo → (Stands e → b ≡ true) → NoneBelow Stands lo → NoneBelow Stands (lo + 1)
-passed_one Stands lo b e is n from below o l s = elim (cases_lt (error_number o) lo) [
+passed_one : (Stands : LoadError → Type 0) (lo : ℕ) (b : Bool) (e : LoadError) → b ≡ false → image_number e ≡ lo → (Stands e → b ≡ true) → NoneBelow Stands lo → NoneBelow Stands (lo + 1)
+passed_one Stands lo b e is n from below o l s = elim (cases_lt (image_number o) lo) [
   | inl m ↦ below o m s
   | inr m ↦ cc (sym is ∙ from (subst Stands (same_number o e (omega (arith, l, m, n))) s))
 ]
@@ -154,7 +155,7 @@ pub segments_in_order : (file : List ℕ) (pages : ℕ) → AreTests (StandsInEl
 segments_in_order file pages =
     (refl, (λ e. e), (λ e. e), (refl, (λ e. e), (λ e. e), (refl, to_share (segments_of file), from_share (segments_of file), (refl, (λ e. e), (λ e. e), refl))))
 
-some_number : (o : LoadError) → 1 ≤ error_number o
+some_number : (o : LoadError) → 1 ≤ image_number o
 some_number causes.TooShort = omega arith
 some_number causes.Magic = omega arith
 some_number causes.Class = omega arith
@@ -172,7 +173,7 @@ some_number causes.OutOfMemory = omega arith
 pub none_below_one : (Stands : LoadError → Type 0) → NoneBelow Stands 1
 none_below_one Stands o l s = omega (arith, l, some_number o)
 
-none_from_twelve : (file : List ℕ) (pages : ℕ) (o : LoadError) → 12 ≤ error_number o → StandsInElf file pages o → ⊥
+none_from_twelve : (file : List ℕ) (pages : ℕ) (o : LoadError) → 12 ≤ image_number o → StandsInElf file pages o → ⊥
 none_from_twelve file pages causes.TooShort l s = omega (arith, l)
 none_from_twelve file pages causes.Magic l s = omega (arith, l)
 none_from_twelve file pages causes.Class l s = omega (arith, l)
@@ -224,9 +225,9 @@ entry_refused file pages below is = record { stands = is; least = below }
 
 pub none_stands : (file : List ℕ) (pages : ℕ) → NoneBelow (StandsInElf file pages) 11 → is_entry (code_of (segments_of file)) (entry_of file) ≡ true →
     (o : LoadError) → StandsInElf file pages o → ⊥
-none_stands file pages below is o s = elim (cases_lt (error_number o) 11) [
+none_stands file pages below is o s = elim (cases_lt (image_number o) 11) [
   | inl l ↦ below o l s
-  | inr l ↦ elim (cases_lt (error_number o) 12) [
+  | inr l ↦ elim (cases_lt (image_number o) 12) [
     | inl m ↦ entry_stands (subst (StandsInElf file pages) (same_number o causes.Entry (omega (arith, l, m))) s)
     | inr m ↦ none_from_twelve file pages o m s
   ]

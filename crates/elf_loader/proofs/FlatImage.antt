@@ -9,10 +9,11 @@ use Rattle.pages.specs.Initial.{bytes_from, piece_byte}
 use Rattle.pages.specs.Memory.{IsBytes, all_code, in_range}
 use Rattle.pages.specs.declared.access.Piece.{Piece}
 use Rattle.pages.specs.declared.access.Range.{Range}
-use Rattle.elf_loader.specs.Causes.{IsLeast, StandsInFlat, error_number}
+use Rattle.elf_loader.specs.Causes.{IsLeast, StandsInFlat}
 use Rattle.elf_loader.specs.Image.{IsImage, flat_image}
-use Rattle.elf_loader.specs.declared.load_error.LoadError.{LoadError}
-use Rattle.elf_loader.specs.declared.load_error.LoadError.TheVariants as causes
+use Rattle.host_io.specs.RunErrors.{image_number}
+use Rattle.host_io.specs.declared.load_error.LoadError.{LoadError}
+use Rattle.host_io.specs.declared.load_error.LoadError.TheVariants as causes
 
 pub map_same : {X : Type 0} (f g : ℕ → X) (xs : List ℕ) → ((x : ℕ) → f x ≡ g x) → map f xs ≡ map g xs
 map_same f g [] h = refl
@@ -87,7 +88,7 @@ flat_kept ps p code file pages one z same ranges some few small fits long =
 pub past_memory : (file : List ℕ) (pages : ℕ) → 4096 * pages < length file → IsLeast (StandsInFlat file pages) causes.PastMemory
 past_memory file pages h = record { stands = h; least = below }
   where
-    below : (other : LoadError) → error_number other < 8 → StandsInFlat file pages other → ⊥
+    below : (other : LoadError) → image_number other < 8 → StandsInFlat file pages other → ⊥
     below causes.PastMemory l s = omega (arith, l)
     below causes.FlatLength l s = omega (arith, l)
     below causes.TooShort l s = s

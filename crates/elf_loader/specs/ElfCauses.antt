@@ -4,8 +4,8 @@ use Rattle.std.specs.List.{list_any}
 use Rattle.pages.specs.Memory.{all_code}
 use Rattle.pages.specs.declared.access.Range.{Range}
 use Rattle.elf_loader.specs.Segments.{SomeShare, code_of, entry_of, header_count_of, header_size_of, is_executable, is_writable, machine_of, segments_of, table_of, type_of}
-use Rattle.elf_loader.specs.declared.load_error.LoadError.{LoadError}
-use Rattle.elf_loader.specs.declared.load_error.LoadError.TheVariants as causes
+use Rattle.host_io.specs.declared.load_error.LoadError.{LoadError}
+use Rattle.host_io.specs.declared.load_error.LoadError.TheVariants as causes
 use Rattle.elf_loader.specs.declared.segment.Segment.{Segment}
 
 -- the magic bytes

@@ -4,8 +4,8 @@ use Rattle.std.specs.List.{list_any}
 use Rattle.elf_loader.specs.ElfCauses.{has_magic, has_table, is_little_64, is_past_file, is_past_memory, is_writable_code}
 use Rattle.pages.specs.declared.access.Piece.{Piece}
 use Rattle.elf_loader.specs.Segments.{machine_of, type_of}
-use Rattle.elf_loader.specs.declared.load_error.LoadError.{LoadError}
-use Rattle.elf_loader.specs.declared.load_error.LoadError.TheVariants as causes
+use Rattle.host_io.specs.declared.load_error.LoadError.{LoadError}
+use Rattle.host_io.specs.declared.load_error.LoadError.TheVariants as causes
 use Rattle.elf_loader.specs.declared.segment.Segment.{Segment}
 
 -- the first test that is true tells the cause

@@ -5,16 +5,16 @@ ghost use Rattle.elf_loader.specs.Elf.{elf_image};
 ghost use Rattle.elf_loader.specs.ElfCauses.{StandsInElf, has_magic, has_table, is_entry, is_little_64, is_past_file};
 ghost use Rattle.elf_loader.specs.ElfTests.{ArePieces, first_true, header_tests, segment_tests};
 ghost use Rattle.elf_loader.specs.Segments.{code_of, segments_of};
-ghost use Rattle.elf_loader.specs.declared.load_error.LoadError.{LoadError as Cause};
-ghost use Rattle.elf_loader.specs.declared.load_error.LoadError.TheVariants as causes;
+ghost use Rattle.host_io.specs.declared.load_error.LoadError.{LoadError as Cause};
+ghost use Rattle.host_io.specs.declared.load_error.LoadError.TheVariants as causes;
 ghost use Rattle.pages.specs.Memory.{is_code};
 
 use crate::field::{double_at, half_at, word_at};
 use crate::image::Image;
-use crate::load_error::LoadError;
 use crate::segment::{
     Segment, has_overlap, passes, some_past_file, some_past_memory, some_writable_code,
 };
+use host_io::LoadError;
 use pages::{Piece, Range};
 use std::alloc::{AllocError, Global};
 

@@ -1,11 +1,11 @@
 ghost use Rattle.std.specs.Prelude.{◌≡◌, ◌≢◌, ◌≤◌, ◌⊎◌, IfErr, IfOk, Err};
 ghost use Rattle.elf_loader.specs.Causes.{IsLeast, StandsInFlat};
 ghost use Rattle.elf_loader.specs.Image.{flat_image};
-ghost use Rattle.elf_loader.specs.declared.load_error.LoadError.{LoadError as Cause};
-ghost use Rattle.elf_loader.specs.declared.load_error.LoadError.TheVariants as causes;
+ghost use Rattle.host_io.specs.declared.load_error.LoadError.{LoadError as Cause};
+ghost use Rattle.host_io.specs.declared.load_error.LoadError.TheVariants as causes;
 
 use crate::image::Image;
-use crate::load_error::LoadError;
+use host_io::LoadError;
 use pages::{Piece, Range};
 use std::alloc::Global;
 

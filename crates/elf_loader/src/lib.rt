@@ -5,10 +5,9 @@ mod elf;
 mod field;
 mod flat;
 mod image;
-mod load_error;
 mod segment;
 
 pub use elf::load_elf;
 pub use flat::load_flat;
+pub use host_io::LoadError;
 pub use image::Image;
-pub use load_error::LoadError;

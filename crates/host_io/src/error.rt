@@ -2,8 +2,8 @@ ghost use Rattle.std.specs.Prelude.{◌≡◌};
 ghost use Rattle.host_io.specs.RunErrors.{number_of};
 ghost use Rattle.host_io.specs.declared.error.RunError.TheVariants as refusals;
 
-use elf_loader::LoadError;
-use round_planner::PlanError;
+use crate::load_error::LoadError;
+use crate::plan_error::PlanError;
 use thiserror::Error;
 
 /// Why a call was refused.

@@ -3,7 +3,7 @@ use Rattle.std.specs.Prelude.{◌≡◌, ◌⊎◌, ℕ, ◌+◌, ◌*◌, ◌-�
 use Rattle.std.specs.List.{list_all, list_any}
 use Rattle.elf_loader.specs.Causes.{IsLeast as IsLeastOfImage}
 use Rattle.elf_loader.specs.Image.{Loaded}
-use Rattle.elf_loader.specs.declared.load_error.LoadError.{LoadError as ImageCause}
+use Rattle.host_io.specs.declared.load_error.LoadError.{LoadError as ImageCause}
 use Rattle.hart_step.specs.declared.hart.Hart.{Hart}
 use Rattle.hart_step.specs.declared.hart.Stop.{Stop}
 use Rattle.host_io.specs.declared.error.RunError.TheVariants as refusals

@@ -1,6 +1,6 @@
 ghost use Rattle.std.specs.Prelude.{◌≡◌, ◌⊎◌, ◌<◌, ◌++◌, Err, IfErr, IfOk, None, OnErr, OnOk, Some, List};
 ghost use Rattle.std.specs.List.{list_all};
-ghost use Rattle.elf_loader.specs.declared.load_error.LoadError.{LoadError as ImageCause};
+ghost use Rattle.host_io.specs.declared.load_error.LoadError.{LoadError as ImageCause};
 ghost use Rattle.host_io.specs.Taken.{BeganText};
 ghost use Rattle.host_io.specs.declared.error.RunError.TheVariants as refusals;
 ghost use Rattle.hunt_table.specs.Text.{table_text};

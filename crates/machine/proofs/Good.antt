@@ -1,7 +1,7 @@
 -- A good image is refused for want of memory alone.
 use Rattle.std.proofs.Common.{◌≡◌, ◌⊎◌, inl, inr, Ok, Err, Result, IfErr}
 use Rattle.elf_loader.specs.Causes.{IsGood, IsLeast}
-use Rattle.elf_loader.specs.declared.load_error.LoadError.{LoadError}
+use Rattle.host_io.specs.declared.load_error.LoadError.{LoadError}
 use Rattle.host_io.specs.declared.error.RunError.{RunError}
 use Rattle.host_io.specs.declared.error.RunError.TheVariants as refusals
 

@@ -6,11 +6,11 @@ use Rattle.elf_loader.specs.Causes.{IsGood, IsLeast as IsLeastOfImage, StandsInF
 use Rattle.elf_loader.specs.Elf.{elf_image}
 use Rattle.elf_loader.specs.ElfCauses.{StandsInElf}
 use Rattle.elf_loader.specs.Image.{Loaded, flat_image}
-use Rattle.elf_loader.specs.declared.load_error.LoadError.{LoadError as ImageCause}
+use Rattle.host_io.specs.declared.load_error.LoadError.{LoadError as ImageCause}
 use Rattle.round_planner.specs.Causes.{IsLeast as IsLeastOfPlan}
 use Rattle.round_planner.specs.Grammar.{IsPlanText, numbers_of}
 use Rattle.round_planner.specs.Quotas.{Planned}
-use Rattle.round_planner.specs.declared.plan_error.PlanError.{PlanError as PlanCause}
+use Rattle.host_io.specs.declared.plan_error.PlanError.{PlanError as PlanCause}
 use Rattle.round_schedule.specs.declared.event.Event.{Event}
 use Rattle.machine.specs.Machine.{Running, opening, after_rounds}
 use Rattle.machine.specs.declared.settings.Format.{Format}

@@ -8,8 +8,8 @@ use Rattle.std.specs.List.{list_any}
 use Rattle.round_planner.specs.Causes.{checked}
 use Rattle.round_planner.specs.Quotas.{planned}
 use Rattle.round_planner.specs.Rows.{has_odd_row, has_out_of_range, is_odd_row, is_out_of_range}
-use Rattle.round_planner.specs.declared.plan_error.PlanError.{PlanError}
-use Rattle.round_planner.specs.declared.plan_error.PlanError.TheVariants.{QuotaOutOfRange, RowLength, TooManyRows}
+use Rattle.host_io.specs.declared.plan_error.PlanError.{PlanError}
+use Rattle.host_io.specs.declared.plan_error.PlanError.TheVariants.{QuotaOutOfRange, RowLength, TooManyRows}
 use Rattle.plan_family.specs.declared.family.Family.{Family}
 use Rattle.plan_family.specs.Families.{PlansAreAccepted, drawn, family_plan, pace, plan_rows, quota, quotas, row_count, serial_budget}
 

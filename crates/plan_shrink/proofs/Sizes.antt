@@ -4,8 +4,8 @@ use Rattle.std.proofs.lemmas.Bool.Decides.{nat_tests}
 use Rattle.std.specs.List.{fold, list_any, sum}
 use Rattle.round_planner.specs.Causes.{checked}
 use Rattle.round_planner.specs.Rows.{has_odd_row, has_out_of_range, is_odd_row, is_out_of_range}
-use Rattle.round_planner.specs.declared.plan_error.PlanError.{PlanError}
-use Rattle.round_planner.specs.declared.plan_error.PlanError.TheVariants.{QuotaOutOfRange, RowLength, TooManyRows}
+use Rattle.host_io.specs.declared.plan_error.PlanError.{PlanError}
+use Rattle.host_io.specs.declared.plan_error.PlanError.TheVariants.{QuotaOutOfRange, RowLength, TooManyRows}
 use Rattle.plan_shrink.specs.Steps.{size}
 
 pub neither : (a b : Bool) → (a || b) ≡ false → (a ≡ false) × (b ≡ false)

@@ -1,9 +1,9 @@
 -- What a recording's run begins with, once it is accepted.
 use Rattle.std.proofs.Common.{◌≡◌, inl, inr, ℕ, ◌<◌, ◌≤◌, List, length, Result, Ok, ap, refl, sym, ◌∙◌, arith}
-use Rattle.elf_loader.specs.declared.load_error.LoadError.{LoadError as ImageCause}
+use Rattle.host_io.specs.declared.load_error.LoadError.{LoadError as ImageCause}
 use Rattle.round_planner.specs.Quotas.{Planned}
-use Rattle.round_planner.specs.declared.plan_error.PlanError.{PlanError as PlanCause}
-use Rattle.round_planner.specs.declared.plan_error.PlanError.TheVariants as causes
+use Rattle.host_io.specs.declared.plan_error.PlanError.{PlanError as PlanCause}
+use Rattle.host_io.specs.declared.plan_error.PlanError.TheVariants as causes
 use Rattle.round_planner.proofs.Unique.{unique}
 use Rattle.host_io.specs.declared.error.RunError.{RunError}
 use Rattle.host_io.specs.declared.error.RunError.TheVariants as refusals

@@ -3,14 +3,15 @@ use Rattle.std.proofs.Common.{◌≡◌, ℕ, zero, suc, ◌<◌, ◌≤◌, ◌
 use Rattle.std.specs.Prelude.{◌==◌, ◌||◌, if◌then◌else◌, replicate, slice_index, slice_index_or}
 use Rattle.std.specs.List.{list_any}
 use Rattle.std.proofs.lemmas.Bool.Decides.{nat_tests}
-use Rattle.elf_loader.specs.Causes.{IsGood, IsLeast as IsLeastOfImage, error_number as image_number}
-use Rattle.elf_loader.specs.declared.load_error.LoadError.{LoadError}
-use Rattle.round_planner.specs.Causes.{IsLeast, Stands, error_number}
+use Rattle.elf_loader.specs.Causes.{IsGood, IsLeast as IsLeastOfImage}
+use Rattle.host_io.specs.RunErrors.{image_number, plan_number}
+use Rattle.host_io.specs.declared.load_error.LoadError.{LoadError}
+use Rattle.round_planner.specs.Causes.{IsLeast, Stands}
 use Rattle.round_planner.specs.Grammar.{IsPlanText, numbers_of}
 use Rattle.round_planner.specs.Quotas.{Planned, quotas_of}
 use Rattle.round_planner.specs.Rows.{has_out_of_range, is_out_of_range}
-use Rattle.round_planner.specs.declared.plan_error.PlanError.{PlanError}
-use Rattle.round_planner.specs.declared.plan_error.PlanError.TheVariants.{NotAPlan, QuotaOutOfRange, RowLength, TooManyRows, OutOfMemory}
+use Rattle.host_io.specs.declared.plan_error.PlanError.{PlanError}
+use Rattle.host_io.specs.declared.plan_error.PlanError.TheVariants.{NotAPlan, QuotaOutOfRange, RowLength, TooManyRows, OutOfMemory}
 
 -- ---- where no cause is the least, none stands
 
@@ -21,7 +22,7 @@ lower Faults none (suc n) cause lt s = none cause (record { stands = s; least = 
 pub is_good : (Faults : LoadError → Type 0) → ((cause : LoadError) → IsLeastOfImage Faults cause → ⊥) → IsGood Faults
 is_good Faults none cause = lower Faults none (suc (image_number cause)) cause (omega arith)
 
-least_by : (harts : ℕ) (text : List ℕ) (rows : List (List (List ℕ))) → IsPlanText text rows → (other : PlanError) → error_number other < 32 → Stands harts text other → ⊥
+least_by : (harts : ℕ) (text : List ℕ) (rows : List (List (List ℕ))) → IsPlanText text rows → (other : PlanError) → plan_number other < 32 → Stands harts text other → ⊥
 least_by harts text rows is NotAPlan lt s = s rows is
 least_by harts text rows is QuotaOutOfRange lt s = absurd (omega (arith, lt))
 least_by harts text rows is RowLength lt s = absurd (omega (arith, lt))

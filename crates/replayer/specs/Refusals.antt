@@ -1,9 +1,9 @@
 -- Why a recording is refused by those who run it: the workers, then the image, then the plan, or want of memory.
 use Rattle.std.specs.Prelude.{◌≡◌, ◌⊎◌, ℕ, ◌<◌, ◌≤◌, Result, Err, IfErr}
 use Rattle.round_planner.specs.Causes.{IsLeast as IsLeastOfPlan}
-use Rattle.round_planner.specs.declared.plan_error.PlanError.{PlanError as PlanCause}
+use Rattle.host_io.specs.declared.plan_error.PlanError.{PlanError as PlanCause}
 use Rattle.elf_loader.specs.Causes.{IsGood, IsLeast as IsLeastOfImage}
-use Rattle.elf_loader.specs.declared.load_error.LoadError.{LoadError as ImageCause}
+use Rattle.host_io.specs.declared.load_error.LoadError.{LoadError as ImageCause}
 use Rattle.host_io.specs.declared.error.RunError.{RunError}
 use Rattle.host_io.specs.declared.error.RunError.TheVariants as refusals
 use Rattle.machine.specs.Settings.{RefusedAs, StandsIn}

@@ -4,13 +4,14 @@ use Rattle.std.proofs.lemmas.List.{get_or-map, length-map, map-append, take_more
 use Rattle.std.proofs.lemmas.Bool.{cases_lt}
 use Rattle.std.proofs.lemmas.Bool.Decides.{nat_tests}
 use Rattle.std.specs.List.{list_any}
-use Rattle.round_planner.specs.Causes.{IsLeast, Stands, checked, error_number}
+use Rattle.round_planner.specs.Causes.{IsLeast, Stands, checked}
 use Rattle.round_planner.specs.Grammar.{IsPlanText, numbers_of, value_of}
 use Rattle.round_planner.specs.Quotas.{IsQuota}
 use Rattle.round_planner.specs.Reading.{Refuses, read_from, start}
 use Rattle.round_planner.specs.Rows.{has_odd_row, has_out_of_range, is_odd_row, is_out_of_range}
-use Rattle.round_planner.specs.declared.plan_error.PlanError.{PlanError}
-use Rattle.round_planner.specs.declared.plan_error.PlanError.TheVariants.{NotAPlan, QuotaOutOfRange, RowLength, TooManyRows, OutOfMemory}
+use Rattle.host_io.specs.RunErrors.{plan_number}
+use Rattle.host_io.specs.declared.plan_error.PlanError.{PlanError}
+use Rattle.host_io.specs.declared.plan_error.PlanError.TheVariants.{NotAPlan, QuotaOutOfRange, RowLength, TooManyRows, OutOfMemory}
 use Rattle.round_planner.proofs.Found.{Found, found, given}
 use Rattle.round_planner.proofs.Told.{told}
 use Rattle.round_planner.proofs.Unique.{unique}
@@ -24,7 +25,7 @@ list_any_map p f (x ∷ xs) = ap (λ (b : Bool). p (f x) || b) (list_any_map p f
 cause_of : ℕ → PlanError
 cause_of n = if n == 31 then NotAPlan else (if n == 32 then QuotaOutOfRange else (if n == 33 then RowLength else (if n == 34 then TooManyRows else OutOfMemory)))
 
-cause_back : (a : PlanError) → cause_of (error_number a) ≡ a
+cause_back : (a : PlanError) → cause_of (plan_number a) ≡ a
 unfolding cause_of
 cause_back NotAPlan = refl
 cause_back QuotaOutOfRange = refl
@@ -34,11 +35,11 @@ cause_back OutOfMemory = refl
 
 least_is_one : (harts : ℕ) (text : List ℕ) (a b : PlanError) → IsLeast harts text a → IsLeast harts text b → a ≡ b
 least_is_one harts text a b g h =
-    let below : error_number a < error_number b → ⊥ = λ l. h.least a l g.stands in
-    let above : error_number b < error_number a → ⊥ = λ l. g.least b l h.stands in
-    let same : error_number a ≡ error_number b = elim (cases_lt (error_number a) (error_number b)) [
+    let below : plan_number a < plan_number b → ⊥ = λ l. h.least a l g.stands in
+    let above : plan_number b < plan_number a → ⊥ = λ l. g.least b l h.stands in
+    let same : plan_number a ≡ plan_number b = elim (cases_lt (plan_number a) (plan_number b)) [
       | inl l ↦ absurd (below l)
-      | inr l ↦ elim (cases_lt (error_number b) (error_number a)) [ inl m ↦ absurd (above m) | inr m ↦ omega (arith, l, m) ]
+      | inr l ↦ elim (cases_lt (plan_number b) (plan_number a)) [ inl m ↦ absurd (above m) | inr m ↦ omega (arith, l, m) ]
     ] in
     sym (cause_back a) ∙ ap cause_of same ∙ cause_back b
 
@@ -65,7 +66,7 @@ not_read harts text NotAPlan r n = record { stands = λ rows h. none (sym (given
     none : {X : Type 0} {x : X} → Some x ≡ None → ⊥
     none e = cc
 
-    below : (other : PlanError) → error_number other < 31 → Stands harts text other → ⊥
+    below : (other : PlanError) → plan_number other < 31 → Stands harts text other → ⊥
     below NotAPlan l s = omega (arith, l)
     below QuotaOutOfRange l s = omega (arith, l)
     below RowLength l s = omega (arith, l)
@@ -126,15 +127,15 @@ to_stands harts text out TooManyRows f s =
     (f.0, f.1, omega (arith, same, s))
 to_stands harts text out OutOfMemory f s = s
 
-number_small : (e : PlanError) → error_number e ≤ 34
+number_small : (e : PlanError) → plan_number e ≤ 34
 number_small NotAPlan = omega arith
 number_small QuotaOutOfRange = omega arith
 number_small RowLength = omega arith
 number_small TooManyRows = omega arith
 number_small OutOfMemory = omega arith
 
-none_below : (harts : ℕ) (out : List (List ℕ)) (e other : PlanError) → (32 < error_number e → has_out_of_range out ≡ false) →
-    (33 < error_number e → has_odd_row harts out ≡ false) → error_number other < error_number e → Holds harts out other → ⊥
+none_below : (harts : ℕ) (out : List (List ℕ)) (e other : PlanError) → (32 < plan_number e → has_out_of_range out ≡ false) →
+    (33 < plan_number e → has_odd_row harts out ≡ false) → plan_number other < plan_number e → Holds harts out other → ⊥
 none_below harts out e NotAPlan q r l s = s
 none_below harts out e QuotaOutOfRange q r l s = cc (sym (q l) ∙ s)
 none_below harts out e RowLength q r l s = cc (sym (r l) ∙ s)
@@ -143,7 +144,7 @@ none_below harts out e OutOfMemory q r l s = s
 
 record Least (harts : ℕ) (out : List (List ℕ)) (e : PlanError) : Type 0 where
   stands : Holds harts out e
-  least : (other : PlanError) → error_number other < error_number e → Holds harts out other → ⊥
+  least : (other : PlanError) → plan_number other < plan_number e → Holds harts out other → ⊥
 
 many : (n : ℕ) → nat_lt 256 n ≡ true → 256 < n
 many n e = grind (arith, nat_tests)

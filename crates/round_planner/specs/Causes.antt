@@ -1,16 +1,10 @@
 -- Why a text is refused as a plan for a number of harts: a table of causes by number, the least of which is answered.
 use Rattle.std.specs.Prelude.{◌≡◌, ℕ, ◌<◌, true, nat_lt, if◌then◌else◌, List, length, Result, Ok, Err}
-use Rattle.round_planner.specs.declared.plan_error.PlanError.{PlanError}
-use Rattle.round_planner.specs.declared.plan_error.PlanError.TheVariants.{NotAPlan, QuotaOutOfRange, RowLength, TooManyRows, OutOfMemory}
+use Rattle.host_io.specs.RunErrors.{plan_number}
+use Rattle.host_io.specs.declared.plan_error.PlanError.{PlanError}
+use Rattle.host_io.specs.declared.plan_error.PlanError.TheVariants.{NotAPlan, QuotaOutOfRange, RowLength, TooManyRows, OutOfMemory}
 use Rattle.round_planner.specs.Grammar.{IsPlanText, numbers_of}
 use Rattle.round_planner.specs.Rows.{has_out_of_range, has_odd_row}
-
-abbrev pub error_number : PlanError → ℕ
-error_number NotAPlan = 31
-error_number QuotaOutOfRange = 32
-error_number RowLength = 33
-error_number TooManyRows = 34
-error_number OutOfMemory = 20
 
 -- the cause stands in the text
 abbrev pub Stands : ℕ → List ℕ → PlanError → Type 0
@@ -23,7 +17,7 @@ Stands harts text OutOfMemory = ⊥
 -- it stands in the text, and none of a lesser number does
 pub record IsLeast (harts : ℕ) (text : List ℕ) (cause : PlanError) : Type 0 where
   pub stands : Stands harts text cause
-  pub least : (other : PlanError) → error_number other < error_number cause → Stands harts text other → ⊥
+  pub least : (other : PlanError) → plan_number other < plan_number cause → Stands harts text other → ⊥
 
 -- the least cause in the numbers of a plan, where there is one
 abbrev pub checked : ℕ → List (List ℕ) → Result (Unit {0}) PlanError

@@ -1,7 +1,7 @@
 -- Reading a plan byte by byte: how far it is, what each byte does to it, and the rows in the end.
 use Rattle.std.specs.Prelude.{◌≡◌, ℕ, ◌+◌, ◌-◌, ◌*◌, ◌==◌, ◌&&◌, min, nat_eq, nat_le, nat_lt, is_none, length, if◌then◌else◌, List, [], ◌∷◌, ◌++◌, Option, Some, None}
-use Rattle.round_planner.specs.declared.plan_error.PlanError.{PlanError}
-use Rattle.round_planner.specs.declared.plan_error.PlanError.TheVariants.{NotAPlan, OutOfMemory}
+use Rattle.host_io.specs.declared.plan_error.PlanError.{PlanError}
+use Rattle.host_io.specs.declared.plan_error.PlanError.TheVariants.{NotAPlan, OutOfMemory}
 
 -- the whole rows, the whole numbers of the row that has begun, and the number that has begun
 pub record Reading : Type 0 where

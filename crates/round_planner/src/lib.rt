@@ -2,9 +2,8 @@
 #![tactic(auto)]
 
 mod plan;
-mod plan_error;
 mod reader;
 mod text;
 
+pub use host_io::PlanError;
 pub use plan::{Plan, reading_is_unique, text_is_the_plans};
-pub use plan_error::PlanError;

@@ -5,12 +5,12 @@ ghost use Rattle.round_planner.specs.Grammar.{IsPlanText, ReadingIsUnique, numbe
 ghost use Rattle.round_planner.specs.PlanText.{ReadsAs, TextIsThePlans, plan_text};
 ghost use Rattle.round_planner.specs.Quotas.{IsQuota, planned, quota_of, quotas_of};
 ghost use Rattle.round_planner.specs.Rows.{has_odd_row, has_out_of_range, is_out_of_range};
-ghost use Rattle.round_planner.specs.declared.plan_error.PlanError.{PlanError as Cause};
-ghost use Rattle.round_planner.specs.declared.plan_error.PlanError.TheVariants as causes;
+ghost use Rattle.host_io.specs.declared.plan_error.PlanError.{PlanError as Cause};
+ghost use Rattle.host_io.specs.declared.plan_error.PlanError.TheVariants as causes;
 
-use crate::plan_error::PlanError;
 use crate::reader::read_rows;
 use crate::text::write_rows;
+use host_io::PlanError;
 use pages::OutOfMemory;
 use std::alloc::{AllocError, Global};
 use std::marker::Model;

@@ -1,7 +1,7 @@
 ghost use Rattle.std.specs.Prelude.{◌≡◌, ◌<◌, ◌⊎◌, Some, None, MatchResult, OnOk, IfErr, map};
 ghost use Rattle.round_planner.specs.Reading.{Refuses, number_with, after_number, after_row, step, rows_at_end, read_from, start};
 
-use crate::plan_error::PlanError;
+use host_io::PlanError;
 use std::alloc::Global;
 use std::marker::Model;
 use std::mem;

@@ -7,7 +7,7 @@ use Rattle.elf_loader.proofs.Pieces.{elf_is, elf_kept}
 use Rattle.elf_loader.specs.ElfCauses.{is_entry}
 use Rattle.elf_loader.specs.ElfTests.{ArePieces}
 use Rattle.elf_loader.specs.Segments.{code_of}
-use Rattle.elf_loader.specs.declared.load_error.LoadError.TheVariants as causes
+use Rattle.host_io.specs.declared.load_error.LoadError.TheVariants as causes
 use Rattle.elf_loader.proofs.elf.load_elf.Goals as goal
 
 pub returns-in_err-check_header-clause-refused : goal.returns-in_err-check_header-clause-refused

@@ -2,7 +2,7 @@ use Rattle.std.proofs.Common.{length, refl, arith}
 use Rattle.elf_loader.proofs.Bytes.{file_bytes}
 use Rattle.elf_loader.proofs.Causes.{exact}
 use Rattle.elf_loader.proofs.FlatImage.{flat_is, flat_kept, only_item, past_memory, whole_words}
-use Rattle.elf_loader.specs.declared.load_error.LoadError.TheVariants as causes
+use Rattle.host_io.specs.declared.load_error.LoadError.TheVariants as causes
 use Rattle.elf_loader.proofs.flat.load_flat.Goals as goal
 
 pub returns-then-file-pages-clause-exact : goal.returns-then-file-pages-clause-exact

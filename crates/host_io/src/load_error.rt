@@ -1,6 +1,6 @@
 ghost use Rattle.std.specs.Prelude.{◌≡◌};
-ghost use Rattle.elf_loader.specs.Causes.{error_number};
-ghost use Rattle.elf_loader.specs.declared.load_error.LoadError.TheVariants.{OutOfMemory};
+ghost use Rattle.host_io.specs.RunErrors.{image_number};
+ghost use Rattle.host_io.specs.declared.load_error.LoadError.TheVariants.{OutOfMemory};
 
 use std::alloc::{AllocError, AllocFailed};
 use thiserror::Error;
@@ -52,7 +52,7 @@ pub enum LoadError {
 impl LoadError {
     /// The number of the error: 1 to 12 for what is wrong with the file, in the order above, and 20 for memory.
     pub fn number(self) -> u32
-        ensures { result ≡ error_number self }
+        ensures { result ≡ image_number self }
     {
         match self {
             LoadError::TooShort => 1,

@@ -1,6 +1,6 @@
 ghost use Rattle.std.specs.Prelude.{◌≡◌};
-ghost use Rattle.round_planner.specs.Causes.{error_number};
-ghost use Rattle.round_planner.specs.declared.plan_error.PlanError.TheVariants.{OutOfMemory};
+ghost use Rattle.host_io.specs.RunErrors.{plan_number};
+ghost use Rattle.host_io.specs.declared.plan_error.PlanError.TheVariants.{OutOfMemory};
 
 use std::alloc::{AllocError, AllocFailed};
 use thiserror::Error;
@@ -28,7 +28,7 @@ pub enum PlanError {
 impl PlanError {
     /// The number of the error: 31 to 34 for what is wrong with the text, in the order above, and 20 for memory.
     pub fn number(self) -> u32
-        ensures { result ≡ error_number self }
+        ensures { result ≡ plan_number self }
     {
         match self {
             PlanError::NotAPlan => 31,
