@@ -15,8 +15,7 @@ mod values;
 pub use atomic::pairs_are_atomic;
 pub use bounds::{Bounds, bound, raise_bytes};
 pub use kinds::{
-    address, event_at, is_plain_store, is_release, listed, loads, orders_loads, orders_stores,
-    position_of, stores, width,
+    event_at, is_plain_store, is_release, listed, orders_loads, orders_stores, position_of,
 };
 pub use noting::{may_store, note_load};
 pub use own::own_stores;

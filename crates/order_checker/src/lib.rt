@@ -6,7 +6,7 @@ mod checking;
 
 pub use check::check_order;
 pub use checking::{
-    Bounds, address, all_sources, bound, event_at, is_plain_store, is_release, last_reserved,
-    listed, loads, loads_are_right, may_store, note_load, orders_loads, orders_stores, own_stores,
-    paired, pairs_are_atomic, position_of, positions, raise_bytes, stores, width,
+    Bounds, all_sources, bound, event_at, is_plain_store, is_release, last_reserved, listed,
+    loads_are_right, may_store, note_load, orders_loads, orders_stores, own_stores, paired,
+    pairs_are_atomic, position_of, positions, raise_bytes,
 };

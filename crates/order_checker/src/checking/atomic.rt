@@ -9,7 +9,7 @@ ghost use Rattle.order_checker.specs.Checking.{AreReserved, IsMax, bound};
 ghost use Rattle.order_checker.specs.CheckingAtomic.{AtomicAt, IsLatestStore, latest_of, others_of};
 
 use crate::checking::bounds::{Bounds, bound};
-use crate::checking::kinds::{address, event_at, listed, width};
+use crate::checking::kinds::{event_at, listed};
 use crate::checking::latest::{Latest, latest_of, note_latest, others_of};
 use crate::checking::pairs::{last_reserved, paired};
 use pages::OutOfMemory;
@@ -88,8 +88,8 @@ fn keeps_bytes(
         true → (others_of (latest_of latest.now x) hart ≤ bound sources.now reader x) ×
         (bound sources.now reader x ≤ p)) }
 {
-    let start = address(access);
-    for k in 0..width(access) {
+    let start = access.address();
+    for k in 0..access.byte_count() {
         let source = bound(sources, reader, start + k);
         let found = latest_of(latest, start + k);
         if others_of(&found, hart) > source || source > p {

@@ -1,7 +1,7 @@
 //! What the checker asks of one event.
 
 ghost use Rattle.std.specs.Prelude.{◌≡◌, ◌+◌, ◌^◌, ◌<◌, All, length, slice_index, true};
-ghost use Rattle.round_schedule.specs.Accesses.{address_of, bytes_of, is_sc, loads, stores};
+ghost use Rattle.round_schedule.specs.Accesses.{address_of, bytes_of, is_sc};
 ghost use Rattle.round_schedule.specs.Positions.{event};
 ghost use Rattle.trace.specs.Traced.{HasForm};
 ghost use Rattle.memory_order.specs.Operations.{is_lr_or_sc, is_normal, is_operation, is_plain_store, is_release};
@@ -44,53 +44,6 @@ pub fn listed(events: &[Event], order: &[usize], p: usize) -> usize
 {
     let _events = events;
     order[p]
-}
-
-/// The first byte's address; 0 for a fence.
-pub fn address(access: &Access) -> u64
-    ensures { result ≡ address_of access.now }
-{
-    match *access {
-        Access::Load { address, .. }
-        | Access::Store { address, .. }
-        | Access::LoadReserved { address, .. }
-        | Access::StoreConditional { address, .. }
-        | Access::Atomic { address, .. } => address,
-        Access::Fence { .. } => 0,
-    }
-}
-
-/// How many bytes there are; none for a fence.
-pub fn width(access: &Access) -> u64
-    ensures { result ≡ bytes_of access.now }
-{
-    match *access {
-        Access::Load { width, .. }
-        | Access::Store { width, .. }
-        | Access::LoadReserved { width, .. }
-        | Access::StoreConditional { width, .. }
-        | Access::Atomic { width, .. } => width.bytes(),
-        Access::Fence { .. } => 0,
-    }
-}
-
-pub fn loads(access: &Access) -> bool
-    ensures { result ≡ loads access.now }
-{
-    matches!(
-        access,
-        Access::Load { .. } | Access::LoadReserved { .. } | Access::Atomic { .. }
-    )
-}
-
-pub fn stores(access: &Access) -> bool
-    ensures { result ≡ stores access.now }
-{
-    match *access {
-        Access::Store { .. } | Access::Atomic { .. } => true,
-        Access::StoreConditional { written, .. } => written.is_some(),
-        _ => false,
-    }
 }
 
 /// Whether it is a store that is neither an SC nor an AMO.

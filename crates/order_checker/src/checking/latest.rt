@@ -3,7 +3,6 @@ ghost use Rattle.pages.specs.Memory.{in_range};
 ghost use Rattle.round_schedule.specs.Accesses.{address_of, bytes_of, writes};
 ghost use Rattle.order_checker.specs.CheckingAtomic.{after_store, latest_of, others_of};
 
-use crate::checking::kinds::{address, stores, width};
 use pages::OutOfMemory;
 use round_schedule::Access;
 use std::collections::BTreeMap;
@@ -55,10 +54,10 @@ pub(crate) fn note_latest(
     ensures { OnOk result ((x : ℕ) → latest_of latest.new x ≡ (if writes access.now x
         then after_store (latest_of latest.old x) hart next else latest_of latest.old x)) }
 {
-    if !stores(access) {
+    if !access.stores() {
         return Ok(());
     }
-    note_bytes(latest, hart, address(access), width(access), next)
+    note_bytes(latest, hart, access.address(), access.byte_count(), next)
 }
 
 fn note_bytes(

@@ -5,7 +5,6 @@ ghost use Rattle.round_schedule.specs.Accesses.{address_of, bytes_of, reads, wri
 ghost use Rattle.order_checker.specs.Checking.{bound};
 
 use crate::checking::bounds::{Bounds, are_at_most, raise_bytes, raise_to};
-use crate::checking::kinds::{address, loads, stores, width};
 use pages::OutOfMemory;
 use round_schedule::Access;
 
@@ -21,10 +20,17 @@ pub fn note_load(
     ensures { OnOk result ((r x : ℕ) → bound sources.new r x ≡ (if r == reader && reads access.now x
         then max (bound sources.old r x) (bound from.now owner x) else bound sources.old r x)) }
 {
-    if !loads(access) {
+    if !access.loads() {
         return Ok(());
     }
-    raise_to(sources, reader, address(access), width(access), from, owner)
+    raise_to(
+        sources,
+        reader,
+        access.address(),
+        access.byte_count(),
+        from,
+        owner,
+    )
 }
 
 /// Raises the owner's bound of each byte that a store writes to `next`.
@@ -38,10 +44,10 @@ pub(crate) fn note_store(
     ensures { OnOk result ((h x : ℕ) → bound bounds.new h x ≡ (if h == owner && writes access.now x
         then max (bound bounds.old h x) next else bound bounds.old h x)) }
 {
-    if !stores(access) {
+    if !access.stores() {
         return Ok(());
     }
-    raise_bytes(bounds, owner, address(access), width(access), next)
+    raise_bytes(bounds, owner, access.address(), access.byte_count(), next)
 }
 
 /// Whether the owner's bounds of the bytes that a store writes are at most `position`.
@@ -50,5 +56,12 @@ pub fn may_store(bounds: &Bounds, owner: u64, access: &Access, position: usize) 
     ensures { IsTrue result ↔
         ((x : ℕ) → writes access.now x ≡ true → bound bounds.now owner x ≤ position) }
 {
-    !stores(access) || are_at_most(bounds, owner, address(access), width(access), position)
+    !access.stores()
+        || are_at_most(
+            bounds,
+            owner,
+            access.address(),
+            access.byte_count(),
+            position,
+        )
 }

@@ -5,7 +5,7 @@ ghost use Rattle.order_checker.specs.Checking.{IsRanking};
 ghost use Rattle.order_checker.specs.CheckingProgram.{Allowed, KeptButOverlap, bounds_after, bounds_of};
 
 use crate::checking::kinds::{
-    event_at, is_plain_store, is_release, loads, orders_loads, orders_stores, position_of, stores,
+    event_at, is_plain_store, is_release, orders_loads, orders_stores, position_of,
 };
 use memory_order::is_operation;
 use pages::OutOfMemory;
@@ -85,8 +85,8 @@ fn allows(bounds: &HartBounds, access: &Access, position: usize) -> bool
     ensures { IsTrue result ↔ Allowed bounds.now access.now position }
 {
     bounds.others <= position
-        && (!loads(access) || bounds.before_loads <= position)
-        && (!stores(access) || bounds.before_stores <= position)
+        && (!access.loads() || bounds.before_loads <= position)
+        && (!access.stores() || bounds.before_stores <= position)
         && (!is_release(access) || bounds.stores <= position)
 }
 

@@ -7,7 +7,7 @@ ghost use Rattle.memory_order.specs.Orders.{ListsOperations};
 ghost use Rattle.order_checker.specs.Checking.{IsLeft, bound, left_by};
 
 use crate::checking::bounds::{Bounds, bound};
-use crate::checking::kinds::{address, event_at, listed, loads, width};
+use crate::checking::kinds::{event_at, listed};
 use round_schedule::{Access, Event};
 use trace::Trace;
 
@@ -44,12 +44,12 @@ fn load_is_right(
         (opening_at trace.now.opening) order.now reader x (bound sources.now reader x)) }
 {
     let event = event_at(events, reader);
-    if !loads(&event.access) {
+    if !event.access.loads() {
         return true;
     }
     let number = number_read(&event.access);
-    let start = address(&event.access);
-    for k in 0..width(&event.access) {
+    let start = event.access.address();
+    for k in 0..event.access.byte_count() {
         let source = bound(sources, reader as u64, start + k);
         if byte_of(number, k) != byte_left(trace, events, order, source, start + k) {
             return false;
@@ -76,7 +76,7 @@ fn byte_left(trace: &Trace, events: &[Event], order: &[usize], source: usize, x:
 fn byte_written(access: &Access, x: u64) -> u8
     ensures { result ≡ byte_written access.now x }
 {
-    byte_of(number_written(access), x.saturating_sub(address(access)))
+    byte_of(number_written(access), x.saturating_sub(access.address()))
 }
 
 /// The number that was read; 0 where none was.
