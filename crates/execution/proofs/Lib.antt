@@ -1,0 +1,11 @@
+pub mod Answering
+pub mod Forming
+pub mod HeldByOwn
+pub mod Liking
+pub mod Owning
+pub mod RoundSteps
+pub mod RunExecutions
+pub mod Serially
+pub mod Standings
+pub mod Stepping
+pub mod Telling

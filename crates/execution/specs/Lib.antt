@@ -1,0 +1,4 @@
+pub mod Executions
+pub mod Progressing
+pub mod Runs
+pub mod Telling

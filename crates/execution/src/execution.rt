@@ -1,0 +1,114 @@
+ghost use Rattle.std.specs.Prelude.{◌≡◌, ◌≤◌, ◌^◌, length, IfOk, MatchOption, OnErr};
+ghost use Rattle.pages.specs.Memory.{Memory};
+ghost use Rattle.hart_step.specs.CodeTables.{Shows};
+ghost use Rattle.execution.specs.Executions.{IsLike, Takes};
+ghost use Rattle.execution.specs.Progressing.{HasNoStep, at_start};
+
+use crate::progress::{Progress, take_step};
+use crate::step::ScriptedStep;
+use crate::step_fault::StepFault;
+use hart_step::Hart;
+use pages::OutOfMemory;
+use round_schedule::Event;
+use rv64_decode::Instr;
+use serial_phase::SharedState;
+use std::alloc::Global;
+use std::marker::Model;
+
+/// An execution of an image under way: what its harts did so far, one after another, each instruction on numbers that it was given.
+#[derive(Drop)]
+pub struct Execution {
+    progress: Progress,
+}
+
+impl Model for Execution {
+    ghost use Rattle.execution.specs.Progressing.{IsReady, Underway, underway};
+
+    ghost Value = { Underway };
+
+    ghost view = { λ e. underway e.progress };
+
+    ghost invariant = { λ e. IsReady e.progress };
+}
+
+impl Execution {
+    /// The execution in which nothing is done yet: of these harts, over the memory and the console that they share.
+    ///
+    /// # Errors
+    ///
+    /// `OutOfMemory` alone.
+    pub fn new(
+        alloc: Global,
+        harts: Vec<Hart>,
+        shared: SharedState,
+    ) -> Result<Execution, OutOfMemory>
+        requires few { length harts.items ≤ 64 }
+        requires table { length shared.reservations ≡ length harts.items }
+        requires shows { Shows shared.pages.memory shared.code.first shared.code.instructions }
+        ensures memory { IfOk result (λ e. e.memory ≡ shared.pages.memory) }
+        ensures standing { IfOk result (λ e. e.standing ≡ at_start harts.items shared.console.console) }
+    {
+        let own = vec![in alloc; None; harts.len()]?;
+        let progress = Progress {
+            harts,
+            own,
+            shared,
+            round: 0,
+            instructions: Vec::new(alloc),
+            events: Vec::new(alloc),
+        };
+        Ok(Execution { progress })
+    }
+
+    /// The next step of a hart, or why there is none. Whatever the step says, the hart does the instruction of the image, as the
+    /// instruction set has it.
+    ///
+    /// # Errors
+    ///
+    /// `OutOfMemory` alone, and the execution stands where it stood.
+    pub fn take_step(&mut self, step: ScriptedStep) -> Result<Option<StepFault>, OutOfMemory>
+        ensures like { (image : Memory) → IsLike image self.old.memory → IsLike image self.new.memory }
+        ensures took { IfOk result (λ fault. MatchOption fault
+            ((image : Memory) → IsLike image self.old.memory →
+            Takes image step.hart step.round self.old.standing self.new.standing)
+            (λ f. HasNoStep f step.hart step.round self.old.standing × (self.new.standing ≡ self.old.standing))) }
+        ensures refused { OnErr result (self.new.standing ≡ self.old.standing) }
+    {
+        take_step(&mut self.progress, step)
+    }
+
+    /// The harts.
+    pub fn harts(&self) -> &[Hart]
+        ensures { result.now ≡ self.now.standing.harts }
+    {
+        self.progress.harts.as_slice()
+    }
+
+    /// What was put out.
+    pub fn output(&self) -> &[u8]
+        ensures { result.now ≡ self.now.standing.console.output }
+    {
+        self.progress.shared.console.output()
+    }
+
+    /// The instructions that were done, in the order of the steps.
+    pub fn instructions(&self) -> &[Instr]
+        ensures { result.now ≡ self.now.standing.instructions }
+    {
+        self.progress.instructions.as_slice()
+    }
+
+    /// The event of each.
+    pub fn events(&self) -> &[Event]
+        ensures { result.now ≡ self.now.standing.events }
+    {
+        self.progress.events.as_slice()
+    }
+
+    /// Guest memory has at most 2^26 bytes.
+    pub fn is_small(&self)
+        ensures { length self.now.memory.bytes ≤ 2 ^ 26 }
+    {
+        let _pages = self.progress.shared.pages.count();
+    }
+}

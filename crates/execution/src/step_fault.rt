@@ -1,0 +1,10 @@
+/// Why a hart has no next step.
+#[derive(Clone, Copy, Debug, PartialEq, Eq)]
+pub enum StepFault {
+    /// There is no hart of this number.
+    NoSuchHart,
+    /// The round is before that of an earlier step.
+    RoundFalls,
+    /// The hart has stopped.
+    HasStopped,
+}
