@@ -1,0 +1,4 @@
+mod Carrying
+mod Coherence
+mod Exactness
+mod KindBounds

@@ -1,0 +1,49 @@
+use Rattle.std.proofs.Common.{◌≡◌, ◌+◌, ◌==◌, if◌then◌else◌, ◌∙◌, ap, arith, below_more, rules, subst, sym, true, IsTrue}
+use Rattle.round_schedule.specs.Positions.{event}
+use Rattle.memory_order.specs.Operations.{is_operation}
+use Rattle.memory_order.specs.Orders.{place}
+use Rattle.memory_order.proofs.Facts.{within}
+use Rattle.rule_checker.specs.declared.annotated.KindBounds.{KindBounds}
+use Rattle.rule_checker.specs.Kinds.{KindsKeptAt, kinds_after, kinds_of}
+use Rattle.rule_checker.proofs.KindBounds.{Kinds, allowed_from_kinds, kinds_from_allowed, kinds_step}
+use Rattle.rule_checker.proofs.annotated.keeps_kinds.Goals as goal
+use Rattle.rule_checker.proofs.annotated.keeps_kinds.Goals.{else-operation-via-then-operation+else-not-allows, else-operation-via-else-operation}
+
+pub returns-then-not-allows : goal.returns-then-not-allows
+returns-then-not-allows c = (
+  λ h. cc,
+  λ kept.
+      let op : is_operation (event c.args.events.now c.loop-i.i) ≡ true = ap is_operation (sym c.event_at-event.ensures.at) ∙ sym c.is_operation-operation.ensures ∙ c.if-operation.true in
+      let a = allowed_from_kinds c.args.events.now (place c.args.order.now) c.loop-i.i c.position_of-position.result c.event_at-event.result c.kinds_of-bounds.result
+      c.event_at-event.ensures.at c.position_of-position.ensures.at
+      (subst (Kinds c.args.events.now (place c.args.order.now) c.event_at-event.result.hart c.loop-i.i) (sym c.kinds_of-bounds.ensures) (c.loop-i.invariant.bounded c.event_at-event.result.hart))
+      (kept c.loop-i.i op) in
+      let yes : IsTrue c.allows.result = c.allows.ensures.1 a in
+      cc,
+)
+
+pub loop-i-preserved : goal.loop-i-preserved
+loop-i-preserved c =
+    let t = c.args.events.now in
+    let pos = place c.args.order.now in
+    let i = c.loop-i.i in
+    let e = c.event_at-event.result in
+    let b = c.kinds_of-bounds.result in
+    let known = subst (Kinds t pos e.hart i) (sym c.kinds_of-bounds.ensures) (c.loop-i.invariant.bounded e.hart) in
+    let here : is_operation (event t i) ≡ true → KindsKeptAt t pos i = λ op. elim c.else-operation.branch [
+      | else-operation-via-then-operation+else-not-allows w ↦
+          kinds_from_allowed t pos i c.position_of-position.result e b c.event_at-event.ensures.at c.position_of-position.ensures.at known (w.allows.ensures.0 w.if-not-allows.false)
+      | else-operation-via-else-operation w ↦
+          absurd (let no = sym c.is_operation-operation.ensures ∙ w.if-operation.false in let same = ap is_operation c.event_at-event.ensures.at in cc)
+    ] in
+    record {
+      bounded = kinds_step t pos i (c.position_of-position.result + 1) e b (λ h. kinds_of c.loop-i.harts h) (λ h. kinds_of c.set_kinds.new.harts h)
+          c.event_at-event.ensures.at (ap (λ n. n + 1) c.position_of-position.ensures.at) c.kinds_of-bounds.ensures
+          (λ h. c.in_ok-set_kinds.ensures h ∙ ap (λ (x : KindBounds). if h == c.event_at-event.result.hart then x else kinds_of c.loop-i.harts h)
+          (c.kinds_after-next.ensures ∙ ap (λ o. kinds_after b e.access o (c.position_of-position.result + 1)) c.is_operation-operation.ensures))
+          c.loop-i.invariant.bounded;
+      kept = below_more _ _ c.loop-i.invariant.kept here;
+    }
+
+pub returns : goal.returns
+returns c = (λ h b op. c.loop-i.invariant.kept b (let l = within c.args.events.now b op in omega (arith, l)) op, λ kept. search rules)

@@ -1,0 +1,65 @@
+use Rattle.std.proofs.Common.{◌≡◌, ℕ, ◌+◌, ◌≤◌, ◌==◌, ◌&&◌, max, if◌then◌else◌, ap, arith, below_more, rules, subst, sym, true, IsTrue}
+use Rattle.round_schedule.specs.Accesses.{reads, writes}
+use Rattle.memory_order.specs.Operations.{covers, is_operation}
+use Rattle.memory_order.specs.Orders.{place}
+use Rattle.memory_order.proofs.Facts.{within}
+use Rattle.order_checker.specs.Checking.{bound}
+use Rattle.rule_checker.specs.Bytes.{MayLoad}
+use Rattle.rule_checker.proofs.Coherence.{bytes_from_tests, load_from_kept, seen_by_step, touched_from_kept, touched_step}
+use Rattle.order_checker.proofs.Valuing.{source_listed}
+use Rattle.rule_checker.proofs.coherent.keeps_bytes_of.Goals as goal
+
+pub returns-then-not-may_store : goal.returns-then-not-may_store
+returns-then-not-may_store c = (
+  λ h. cc,
+  λ kept.
+      let yes : IsTrue c.may_store.result = c.may_store.ensures.1
+      (subst (λ k. (x : ℕ) → writes c.event_at-event.result.access x ≡ true → bound c.loop-i.touched k x ≤ c.position_of-position.result) (sym c.from-hart.ensures)
+      (touched_from_kept c.args.events.now c.args.order.now c.loop-i.i c.position_of-position.result c.event_at-event.result (λ h x. bound c.loop-i.touched h x)
+      c.event_at-event.ensures.at c.position_of-position.ensures.at c.loop-i.invariant.touched kept)) in
+      cc,
+)
+
+pub may_load-requires-clause-listed : goal.may_load-requires-clause-listed
+may_load-requires-clause-listed c = λ x h.
+    source_listed c.args.events.now c.args.order.now c.loop-i.i x (bound c.args.sources.now c.loop-i.i x) c.requires.lists (c.requires.sourced c.loop-i.i x h)
+
+pub returns-then-not-may_load : goal.returns-then-not-may_load
+returns-then-not-may_load c = (
+  λ h. cc,
+  λ kept.
+      let yes : IsTrue c.may_load.result = c.may_load.ensures.1
+      (subst (λ k. MayLoad c.args.events.now c.args.order.now (λ x. bound c.loop-i.seen k x) (λ x. bound c.args.sources.now c.loop-i.i x) c.loop-i.i c.position_of-position.result) (sym c.from-hart.ensures)
+      (load_from_kept c.args.events.now c.args.order.now c.loop-i.i c.position_of-position.result c.event_at-event.result (λ h x. bound c.loop-i.seen h x) (λ r x. bound c.args.sources.now r x)
+      c.requires.lists c.event_at-event.ensures.at c.position_of-position.ensures.at c.loop-i.invariant.seen (λ r x h. c.requires.sourced r x h) kept)) in
+      cc,
+)
+
+pub loop-i-preserved : goal.loop-i-preserved
+loop-i-preserved c =
+    let t = c.args.events.now in
+    let g = c.args.order.now in
+    let i = c.loop-i.i in
+    let e = c.event_at-event.result in
+    record {
+      touched = touched_step t (place g) i (c.position_of-position.result + 1) e (λ h x. bound c.loop-i.touched h x) (λ h x. bound c.note_operation.new.bounds h x)
+          c.event_at-event.ensures.at (ap (λ n. n + 1) c.position_of-position.ensures.at)
+          (subst (λ k. (h x : ℕ) → bound c.note_operation.new.bounds h x ≡ (if h == k && (is_operation c.event_at-event.result && covers c.event_at-event.result.access x) then max (bound c.loop-i.touched h x) (c.position_of-position.result + 1) else bound c.loop-i.touched h x))
+          c.from-hart.ensures (λ h x. c.in_ok-note_operation.ensures h x))
+          c.loop-i.invariant.touched;
+      seen = seen_by_step t (place g) i e (λ r x. bound c.args.sources.now r x) (λ h x. bound c.loop-i.seen h x) (λ h x. bound c.note_load.new.sources h x)
+          c.event_at-event.ensures.at
+          (subst (λ k. (h x : ℕ) → bound c.note_load.new.sources h x ≡ (if h == k && reads c.event_at-event.result.access x then max (bound c.loop-i.seen h x) (bound c.args.sources.now c.loop-i.i x) else bound c.loop-i.seen h x))
+          c.from-hart.ensures (λ h x. c.in_ok-note_load.ensures h x))
+          (λ r x h. c.requires.sourced r x h) c.loop-i.invariant.seen;
+      kept = below_more _ _ c.loop-i.invariant.kept (λ op.
+          bytes_from_tests t g i c.position_of-position.result e (λ h x. bound c.loop-i.touched h x) (λ h x. bound c.loop-i.seen h x) (λ r x. bound c.args.sources.now r x)
+          c.requires.lists c.event_at-event.ensures.at c.position_of-position.ensures.at c.loop-i.invariant.touched c.loop-i.invariant.seen (λ r x h. c.requires.sourced r x h)
+          (subst (λ k. (x : ℕ) → writes c.event_at-event.result.access x ≡ true → bound c.loop-i.touched k x ≤ c.position_of-position.result) c.from-hart.ensures
+          (c.may_store.ensures.0 c.if-not-may_store.false))
+          (subst (λ k. MayLoad t g (λ x. bound c.loop-i.seen k x) (λ x. bound c.args.sources.now i x) i c.position_of-position.result) c.from-hart.ensures
+          (c.may_load.ensures.0 c.if-not-may_load.false)));
+    }
+
+pub returns : goal.returns
+returns c = (λ h b op. c.loop-i.invariant.kept b (let l = within c.args.events.now b op in omega (arith, l)) op, λ kept. search rules)

@@ -1,0 +1,158 @@
+ghost use Rattle.std.specs.Prelude.{◌≡◌, ◌==◌, ◌↔◌, ℕ, All, max, if◌then◌else◌, IsTrue, IfOk, OnOk};
+ghost use Rattle.trace.specs.Traced.{HasForm};
+ghost use Rattle.memory_order.specs.Operations.{is_acquire};
+ghost use Rattle.memory_order.specs.Orders.{place};
+ghost use Rattle.order_checker.specs.Checking.{IsRanking};
+ghost use Rattle.rule_checker.specs.Kinds.{AllowedByKind, KeptByKind, is_annotated, kinds_after, kinds_of, loads_loads, loads_stores};
+
+use memory_order::is_operation;
+use order_checker::{
+    event_at, is_release, loads, orders_loads, orders_stores, position_of, stores,
+};
+use pages::OutOfMemory;
+use round_schedule::{Access, Event};
+use std::alloc::Global;
+use std::collections::BTreeMap;
+
+/// The least positions in the order that a hart's operations so far leave to its later ones, by kinds.
+#[derive(Clone, Copy)]
+pub struct KindBounds {
+    /// To a release: past the loads, and past the stores.
+    pub(crate) loads: usize,
+    pub(crate) stores: usize,
+    /// To any operation: past the acquires.
+    pub(crate) acquires: usize,
+    /// To an acquire or a release: past the acquires and the releases.
+    pub(crate) annotated: usize,
+    /// To a load: past the loads, and past the stores, before a fence that orders them.
+    pub(crate) load_load: usize,
+    pub(crate) store_load: usize,
+    /// To a store: the same.
+    pub(crate) load_store: usize,
+    pub(crate) store_store: usize,
+}
+
+/// Whether an order keeps program order where fences and annotations ask for it: the rules 4 to 7 (manual, section 14.1.3).
+pub fn keeps_kinds(
+    alloc: Global,
+    events: &[Event],
+    order: &[usize],
+    ranks: &[usize],
+) -> Result<bool, OutOfMemory>
+    requires formed { All HasForm events.now }
+    requires ranked { IsRanking events.now order.now ranks.now }
+    ensures { IfOk result (λ yes. IsTrue yes ↔ KeptByKind events.now (place order.now)) }
+{
+    let mut harts = BTreeMap::new(alloc);
+    for i in 0..events.len() {
+        let event = event_at(events, i);
+        let position = position_of(events, order, ranks, i);
+        let bounds = kinds_of(&harts, event.hart);
+        let operation = is_operation(&event);
+        if operation && !allows(&bounds, &event.access, position) {
+            return Ok(false);
+        }
+        let next = kinds_after(&bounds, &event.access, operation, position + 1);
+        set_kinds(&mut harts, event.hart, next)?;
+    }
+    Ok(true)
+}
+
+fn kinds_of(harts: &BTreeMap<u8, KindBounds>, hart: u8) -> KindBounds
+    ensures { result ≡ kinds_of harts.now hart }
+{
+    match harts.get(&hart) {
+        Some(bounds) => *bounds,
+        None => KindBounds {
+            loads: 0,
+            stores: 0,
+            acquires: 0,
+            annotated: 0,
+            load_load: 0,
+            store_load: 0,
+            load_store: 0,
+            store_store: 0,
+        },
+    }
+}
+
+fn set_kinds(
+    harts: &mut BTreeMap<u8, KindBounds>,
+    hart: u8,
+    bounds: KindBounds,
+) -> Result<(), OutOfMemory>
+    ensures { OnOk result ((h : ℕ) → kinds_of harts.new h ≡
+        (if h == hart then bounds else kinds_of harts.old h)) }
+{
+    harts.insert(hart, bounds)?;
+    Ok(())
+}
+
+/// Whether the bounds let an operation stand at a position.
+fn allows(bounds: &KindBounds, access: &Access, position: usize) -> bool
+    ensures { IsTrue result ↔ AllowedByKind bounds.now access.now position }
+{
+    bounds.acquires <= position
+        && (!loads(access) || (bounds.load_load <= position && bounds.store_load <= position))
+        && (!stores(access) || (bounds.load_store <= position && bounds.store_store <= position))
+        && (!is_release(access) || (bounds.loads <= position && bounds.stores <= position))
+        && (!is_annotated(access) || bounds.annotated <= position)
+}
+
+/// The bounds after one more event of the hart, where the position after its own is `next`.
+fn kinds_after(bounds: &KindBounds, access: &Access, operation: bool, next: usize) -> KindBounds
+    ensures { result ≡ kinds_after bounds.now access.now operation next }
+{
+    KindBounds {
+        loads: raised(bounds.loads, loads(access), next),
+        stores: raised(bounds.stores, stores(access), next),
+        acquires: raised(bounds.acquires, operation && is_acquire(access), next),
+        annotated: raised(bounds.annotated, operation && is_annotated(access), next),
+        load_load: raised(bounds.load_load, loads_loads(access), bounds.loads),
+        store_load: raised(bounds.store_load, orders_loads(access), bounds.stores),
+        load_store: raised(bounds.load_store, loads_stores(access), bounds.loads),
+        store_store: raised(bounds.store_store, orders_stores(access), bounds.stores),
+    }
+}
+
+fn raised(bound: usize, is_raised: bool, value: usize) -> usize
+    ensures { result ≡ (if is_raised then max bound value else bound) }
+{
+    if is_raised { bound.max(value) } else { bound }
+}
+
+fn is_acquire(access: &Access) -> bool
+    ensures { result ≡ is_acquire access.now }
+{
+    match *access {
+        Access::LoadReserved { ordering, .. } | Access::Atomic { ordering, .. } => ordering.acquire,
+        Access::StoreConditional { ordering, .. } => ordering.acquire && ordering.release,
+        _ => false,
+    }
+}
+
+fn is_annotated(access: &Access) -> bool
+    ensures { result ≡ is_annotated access.now }
+{
+    is_acquire(access) || is_release(access)
+}
+
+/// Whether it is a fence that orders loads before loads.
+fn loads_loads(access: &Access) -> bool
+    ensures { result ≡ loads_loads access.now }
+{
+    match *access {
+        Access::Fence { before, after, .. } => before.reads && after.reads,
+        _ => false,
+    }
+}
+
+/// Whether it is a fence that orders loads before stores.
+fn loads_stores(access: &Access) -> bool
+    ensures { result ≡ loads_stores access.now }
+{
+    match *access {
+        Access::Fence { before, after, .. } => before.reads && after.writes,
+        _ => false,
+    }
+}

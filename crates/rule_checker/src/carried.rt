@@ -1,0 +1,230 @@
+ghost use Rattle.std.specs.Prelude.{◌≡◌, ◌==◌, ◌<◌, ◌≤◌, ◌↔◌, ◌+◌, ◌^◌, ℕ, All, max, if◌then◌else◌, IsTrue, IfOk, OnOk, length, true};
+ghost use Rattle.round_schedule.specs.Positions.{reads_at};
+ghost use Rattle.trace.specs.Traced.{HasForm};
+ghost use Rattle.memory_order.specs.Orders.{ListsOperations, place};
+ghost use Rattle.memory_order.specs.Rvwmo.{MaySee};
+ghost use Rattle.dependencies.specs.Dependencies.{KeepsDependencies, has_failed};
+ghost use Rattle.hart_step.specs.Registers.{reg, set_reg};
+ghost use Rattle.order_checker.specs.Checking.{IsMax, IsRanking, bound};
+ghost use Rattle.rule_checker.specs.CarriedBounds.{AllowedBy, AreRegisters, MayForward, MayForwardAll, carried_after, carried_of, destination_with, none_carried, operand_bound, result_bound, sources_bound};
+
+use dependencies::{Registers, used_registers};
+use memory_order::is_operation;
+use order_checker::{Bounds, address, bound, event_at, loads, position_of, stores, width};
+use pages::OutOfMemory;
+use round_schedule::{Access, Event};
+use rv64_decode::{Instr, Reg};
+use std::alloc::Global;
+use std::collections::BTreeMap;
+
+/// The bounds of the positions of what a hart's instructions so far depend on.
+#[derive(Clone, Copy)]
+pub struct Carried {
+    /// What each register depends on.
+    pub(crate) registers: [usize; 32],
+    /// What the branches and indirect jumps depend on.
+    pub(crate) steered: usize,
+    /// What the addresses depend on.
+    pub(crate) addressed: usize,
+}
+
+/// Whether an order keeps the dependencies between memory operations: the rules 9 to 13 (manual, section 14.1.3).
+pub fn keeps_dependencies(
+    alloc: Global,
+    instructions: &[Instr],
+    events: &[Event],
+    order: &[usize],
+    ranks: &[usize],
+    sources: &Bounds,
+) -> Result<bool, OutOfMemory>
+    requires formed { All HasForm events.now }
+    requires lists { ListsOperations events.now order.now }
+    requires ranked { IsRanking events.now order.now ranks.now }
+    requires along { length instructions.now ≡ length events.now }
+    requires sourced { (r x : ℕ) → reads_at events.now r x ≡ true →
+        IsMax (place order.now) (MaySee events.now (place order.now) r x) (bound sources.now r x) }
+    ensures { IfOk result (λ yes. IsTrue yes ↔ KeepsDependencies instructions.now events.now (place order.now)) }
+{
+    let mut harts = BTreeMap::new(alloc);
+    // of each event so far, what its address and data depend on
+    let mut operands = Vec::new(alloc);
+    for i in 0..events.len() {
+        let event = event_at(events, i);
+        let position = position_of(events, order, ranks, i);
+        let used = used_registers(&instructions[i]);
+        let carried = carried_of(&harts, event.hart);
+        are_registers(&used);
+        if is_operation(&event)
+            && !(allows(&carried, &used, &event.access, position)
+                && may_forward(events, order, &operands, sources, i, position))
+        {
+            return Ok(false);
+        }
+        operands.push(operand_bound(&carried, &used))?;
+        let next = carried_after(&carried, &used, &event, position + 1);
+        set_carried(&mut harts, event.hart, next)?;
+    }
+    Ok(true)
+}
+
+/// Registers are registers.
+fn are_registers(x: &Registers)
+    ensures { AreRegisters x.now }
+{
+    let _address = x.address.index();
+    let _value = x.value.index();
+    let _first = x.first.index();
+    let _second = x.second.index();
+    let _destination = x.destination.index();
+}
+
+fn carried_of(harts: &BTreeMap<u8, Carried>, hart: u8) -> Carried
+    ensures { result ≡ carried_of harts.now hart }
+{
+    match harts.get(&hart) {
+        Some(carried) => *carried,
+        None => Carried {
+            registers: [0; 32],
+            steered: 0,
+            addressed: 0,
+        },
+    }
+}
+
+fn set_carried(
+    harts: &mut BTreeMap<u8, Carried>,
+    hart: u8,
+    carried: Carried,
+) -> Result<(), OutOfMemory>
+    ensures { OnOk result ((h : ℕ) → carried_of harts.new h ≡
+        (if h == hart then carried else carried_of harts.old h)) }
+{
+    harts.insert(hart, carried)?;
+    Ok(())
+}
+
+/// The bound of what a register depends on.
+fn bound_of(carried: &Carried, r: Reg) -> usize
+    ensures { result ≡ reg carried.now.registers r }
+{
+    let value = carried.registers[r.index()];
+    if r.index() == 0 { 0 } else { value }
+}
+
+fn operand_bound(carried: &Carried, x: &Registers) -> usize
+    ensures { result ≡ operand_bound carried.now x.now }
+{
+    bound_of(carried, x.address).max(bound_of(carried, x.value))
+}
+
+fn sources_bound(carried: &Carried, x: &Registers) -> usize
+    ensures { result ≡ sources_bound carried.now x.now }
+{
+    let others = bound_of(carried, x.first).max(bound_of(carried, x.second));
+    operand_bound(carried, x).max(others)
+}
+
+fn has_failed(access: &Access) -> bool
+    ensures { result ≡ has_failed access.now }
+{
+    matches!(*access, Access::StoreConditional { written: None, .. })
+}
+
+/// The bounds after one more instruction, whose event stands before the position `next`.
+fn carried_after(carried: &Carried, x: &Registers, event: &Event, next: usize) -> Carried
+    ensures { result ≡ carried_after carried.now x.now event.now next }
+{
+    let sources = sources_bound(carried, x);
+    let addressed = bound_of(carried, x.address);
+    let own = if is_operation(event) { next } else { 0 };
+    let on = if x.carries { sources } else { 0 };
+    let destination = if has_failed(&event.access) {
+        Reg::new(0)
+    } else {
+        x.destination
+    };
+    Carried {
+        registers: set_bound(carried.registers, destination, own.max(on)),
+        steered: if x.steers {
+            carried.steered.max(sources)
+        } else {
+            carried.steered
+        },
+        addressed: carried.addressed.max(addressed),
+    }
+}
+
+fn set_bound(mut registers: [usize; 32], r: Reg, value: usize) -> [usize; 32]
+    ensures { result ≡ set_reg registers r value }
+{
+    if r.index() != 0 {
+        registers[r.index()] = value;
+    }
+    registers
+}
+
+/// Whether an operation may stand at a position by the rules 9, 10, 11 and 13.
+fn allows(carried: &Carried, x: &Registers, access: &Access, position: usize) -> bool
+    ensures { IsTrue result ↔ AllowedBy carried.now x.now access.now position }
+{
+    bound_of(carried, x.address) <= position
+        && (!stores(access)
+            || (bound_of(carried, x.value) <= position
+                && carried.steered <= position
+                && carried.addressed <= position))
+}
+
+/// Whether an operation may be from its sources, where it stands at a position, by the rule 12.
+fn may_forward(
+    events: &[Event],
+    order: &[usize],
+    operands: &[usize],
+    sources: &Bounds,
+    i: usize,
+    position: usize,
+) -> bool
+    requires within { i < length events.now }
+    requires formed { All HasForm events.now }
+    requires lists { ListsOperations events.now order.now }
+    requires operands { length operands.now ≡ i }
+    requires sourced { (x : ℕ) → reads_at events.now i x ≡ true →
+        IsMax (place order.now) (MaySee events.now (place order.now) i x) (bound sources.now i x) }
+    ensures { IsTrue result ↔
+        MayForwardAll events.now order.now operands.now (λ x. bound sources.now i x) i position }
+{
+    let event = event_at(events, i);
+    if !loads(&event.access) {
+        return true;
+    }
+    let start = address(&event.access);
+    for k in 0..width(&event.access) {
+        let source = bound(sources, i as u64, start + k);
+        if !forwards_from(events, order, operands, i, position, source) {
+            return false;
+        }
+    }
+    true
+}
+
+/// The same of one byte, which is from the store before position `source`.
+fn forwards_from(
+    events: &[Event],
+    order: &[usize],
+    operands: &[usize],
+    i: usize,
+    position: usize,
+    source: usize,
+) -> bool
+    requires within { i < length events.now }
+    requires operands { length operands.now ≡ i }
+    ensures { IsTrue result ↔ MayForward events.now order.now operands.now i position source }
+{
+    if source == 0 {
+        return true;
+    }
+    let store = match order.get(source - 1) {
+        Some(store) => *store,
+        None => 0,
+    };
+    store >= i || events[store].hart != events[i].hart || operands[store] <= position
+}

@@ -1,0 +1,100 @@
+ghost use Rattle.std.specs.Prelude.{◌≡◌, ◌↔◌, All, IfOk, IsTrue, length};
+ghost use Rattle.trace.specs.Traced.{HasForm, opening_at};
+ghost use Rattle.memory_order.specs.Orders.{ListsOperations, place};
+ghost use Rattle.memory_order.specs.Rvwmo.{AtomicityAxiom, LoadValueAxiom, MeetsRvwmoBy, PreservedOrderBy};
+ghost use Rattle.dependencies.specs.Dependencies.{DependencyRule};
+ghost use Rattle.order_checker.specs.Checking.{IsRanking};
+
+use crate::annotated::keeps_kinds;
+use crate::carried::keeps_dependencies;
+use crate::coherent::keeps_bytes_of;
+use crate::paired_order::keeps_pairs;
+use memory_order::Order;
+use order_checker::{all_sources, loads_are_right, own_stores, pairs_are_atomic, positions};
+use pages::OutOfMemory;
+use round_schedule::Event;
+use rv64_decode::Instr;
+use std::alloc::Global;
+use trace::Trace;
+
+/// Whether an order of the memory operations of instructions meets RVWMO, with all the manual's rules (section 14.1), over the
+/// bytes that a trace's memory opened with.
+///
+/// There is an event for each instruction, in program order of each hart.
+///
+/// # Errors
+///
+/// `OutOfMemory` alone.
+pub fn check_instructions(
+    alloc: Global,
+    opening: &Trace,
+    instructions: &[Instr],
+    events: &[Event],
+    order: &Order,
+) -> Result<bool, OutOfMemory>
+    requires formed { All HasForm events.now }
+    requires along { length instructions.now ≡ length events.now }
+    ensures { IfOk result (λ yes. IsTrue yes ↔ MeetsRvwmoBy (DependencyRule instructions.now events.now)
+        events.now (opening_at opening.now.opening) order.now.0.items) }
+{
+    meets_rvwmo(alloc, opening, instructions, events, &order.0)
+}
+
+/// The same of places.
+fn meets_rvwmo(
+    alloc: Global,
+    opening: &Trace,
+    instructions: &[Instr],
+    events: &[Event],
+    order: &[usize],
+) -> Result<bool, OutOfMemory>
+    requires formed { All HasForm events.now }
+    requires along { length instructions.now ≡ length events.now }
+    ensures { IfOk result (λ yes. IsTrue yes ↔ MeetsRvwmoBy (DependencyRule instructions.now events.now)
+        events.now (opening_at opening.now.opening) order.now) }
+{
+    match positions(alloc, events, order)? {
+        Some(ranks) => Ok(meets_all(alloc, opening, instructions, events, order, &ranks)?),
+        None => Ok(false),
+    }
+}
+
+/// Whether the axioms hold of an order that lists each memory operation once, each at its rank.
+fn meets_all(
+    alloc: Global,
+    opening: &Trace,
+    instructions: &[Instr],
+    events: &[Event],
+    order: &[usize],
+    ranks: &[usize],
+) -> Result<bool, OutOfMemory>
+    requires formed { All HasForm events.now }
+    requires along { length instructions.now ≡ length events.now }
+    requires lists { ListsOperations events.now order.now }
+    requires ranked { IsRanking events.now order.now ranks.now }
+    ensures { IfOk result (λ yes. IsTrue yes ↔ (PreservedOrderBy (DependencyRule instructions.now events.now (place order.now)) events.now (place order.now) ×
+        LoadValueAxiom events.now (opening_at opening.now.opening) (place order.now) ×
+        AtomicityAxiom events.now (place order.now))) }
+{
+    let own = match own_stores(alloc, events, order, ranks)? {
+        Some(own) => own,
+        None => return Ok(false),
+    };
+    let sources = all_sources(alloc, events, order, own)?;
+    if !loads_are_right(opening, events, order, &sources) {
+        return Ok(false);
+    }
+    if !keeps_kinds(alloc, events, order, ranks)? {
+        return Ok(false);
+    }
+    if !keeps_bytes_of(alloc, events, order, ranks, &sources)? {
+        return Ok(false);
+    }
+    if !keeps_pairs(alloc, events, order, ranks)? {
+        return Ok(false);
+    }
+    if !keeps_dependencies(alloc, instructions, events, order, ranks, &sources)? {
+        return Ok(false);
+    }
+    Ok(pairs_are_atomic(alloc, events, order, &sources)?)
+}
