@@ -1,0 +1,112 @@
+// Attributes. What makes no difference here is taken; what can't be had is refused with ENOTSUP.
+#include <errno.h>
+#include "kit.h"
+
+// Where an attribute has two values, and the kit can do the first one alone.
+static int first_or_unsupported(int value, int last)
+{
+    return value == 0 ? 0 : value > 0 && value <= last ? ENOTSUP : EINVAL;
+}
+
+// Processes: there is one, so what is shared by several and what isn't are the same.
+static int either_sharing(int shared)
+{
+    return shared == PTHREAD_PROCESS_PRIVATE || shared == PTHREAD_PROCESS_SHARED ? 0 : EINVAL;
+}
+
+static int is_private(int *shared)
+{
+    *shared = PTHREAD_PROCESS_PRIVATE;
+    return 0;
+}
+
+// Threads. The stacks are as large as layout.ld makes them, whatever size is asked for.
+
+int pthread_attr_init(pthread_attr_t *attr) { *attr = (pthread_attr_t){ PTHREAD_CREATE_JOINABLE, PTHREAD_STACK_MIN }; return 0; }
+int pthread_attr_destroy(pthread_attr_t *attr) { (void)attr; return 0; }
+int pthread_attr_getdetachstate(const pthread_attr_t *attr, int *state) { *state = attr->detached; return 0; }
+
+int pthread_attr_setdetachstate(pthread_attr_t *attr, int state)
+{
+    if (state != PTHREAD_CREATE_JOINABLE && state != PTHREAD_CREATE_DETACHED)
+        return EINVAL;
+    attr->detached = state;
+    return 0;
+}
+
+int pthread_attr_setstacksize(pthread_attr_t *attr, size_t size)
+{
+    if (size < PTHREAD_STACK_MIN)
+        return EINVAL;
+    attr->stack = size;
+    return 0;
+}
+
+int pthread_attr_getstacksize(const pthread_attr_t *attr, size_t *size) { *size = attr->stack; return 0; }
+int pthread_attr_setguardsize(pthread_attr_t *attr, size_t size) { (void)attr; (void)size; return 0; }
+int pthread_attr_getguardsize(const pthread_attr_t *attr, size_t *size) { (void)attr; *size = sizeof(uint64_t); return 0; }
+int pthread_attr_setscope(pthread_attr_t *attr, int scope) { (void)attr; return first_or_unsupported(scope, PTHREAD_SCOPE_PROCESS); }
+int pthread_attr_getscope(const pthread_attr_t *attr, int *scope) { (void)attr; *scope = PTHREAD_SCOPE_SYSTEM; return 0; }
+
+int pthread_attr_setinheritsched(pthread_attr_t *attr, int inherit)
+{
+    (void)attr;
+    return first_or_unsupported(inherit, PTHREAD_EXPLICIT_SCHED);
+}
+
+// Mutexes.
+
+int pthread_mutexattr_init(pthread_mutexattr_t *attr) { attr->kind = PTHREAD_MUTEX_DEFAULT; return 0; }
+int pthread_mutexattr_destroy(pthread_mutexattr_t *attr) { (void)attr; return 0; }
+int pthread_mutexattr_gettype(const pthread_mutexattr_t *attr, int *kind) { *kind = attr->kind; return 0; }
+
+int pthread_mutexattr_settype(pthread_mutexattr_t *attr, int kind)
+{
+    if (kind != PTHREAD_MUTEX_NORMAL && kind != PTHREAD_MUTEX_RECURSIVE && kind != PTHREAD_MUTEX_ERRORCHECK)
+        return EINVAL;
+    attr->kind = kind;
+    return 0;
+}
+
+int pthread_mutexattr_setpshared(pthread_mutexattr_t *attr, int shared) { (void)attr; return either_sharing(shared); }
+int pthread_mutexattr_getpshared(const pthread_mutexattr_t *attr, int *shared) { (void)attr; return is_private(shared); }
+
+int pthread_mutexattr_setrobust(pthread_mutexattr_t *attr, int robust)
+{
+    (void)attr;
+    return first_or_unsupported(robust, PTHREAD_MUTEX_ROBUST);
+}
+
+int pthread_mutexattr_setprotocol(pthread_mutexattr_t *attr, int protocol)
+{
+    (void)attr;
+    return first_or_unsupported(protocol, PTHREAD_PRIO_PROTECT);
+}
+
+// Conditions. All clocks are one.
+
+int pthread_condattr_init(pthread_condattr_t *attr) { attr->clock = CLOCK_REALTIME; return 0; }
+int pthread_condattr_destroy(pthread_condattr_t *attr) { (void)attr; return 0; }
+int pthread_condattr_getclock(const pthread_condattr_t *attr, clockid_t *clock) { *clock = attr->clock; return 0; }
+
+int pthread_condattr_setclock(pthread_condattr_t *attr, clockid_t clock)
+{
+    if (clock != CLOCK_REALTIME && clock != CLOCK_MONOTONIC)
+        return EINVAL;
+    attr->clock = clock;
+    return 0;
+}
+
+int pthread_condattr_setpshared(pthread_condattr_t *attr, int shared) { (void)attr; return either_sharing(shared); }
+int pthread_condattr_getpshared(const pthread_condattr_t *attr, int *shared) { (void)attr; return is_private(shared); }
+
+// Read-write locks and barriers.
+
+int pthread_rwlockattr_init(pthread_rwlockattr_t *attr) { attr->nothing = 0; return 0; }
+int pthread_rwlockattr_destroy(pthread_rwlockattr_t *attr) { (void)attr; return 0; }
+int pthread_rwlockattr_setpshared(pthread_rwlockattr_t *attr, int shared) { (void)attr; return either_sharing(shared); }
+int pthread_rwlockattr_getpshared(const pthread_rwlockattr_t *attr, int *shared) { (void)attr; return is_private(shared); }
+int pthread_barrierattr_init(pthread_barrierattr_t *attr) { attr->nothing = 0; return 0; }
+int pthread_barrierattr_destroy(pthread_barrierattr_t *attr) { (void)attr; return 0; }
+int pthread_barrierattr_setpshared(pthread_barrierattr_t *attr, int shared) { (void)attr; return either_sharing(shared); }
+int pthread_barrierattr_getpshared(const pthread_barrierattr_t *attr, int *shared) { (void)attr; return is_private(shared); }

@@ -1,0 +1,53 @@
+// Signals: none ever comes from outside. picolibc's raise calls the handler that its signal set, and here is what is left.
+#include <errno.h>
+#include <signal.h>
+#include <unistd.h>
+#include "kit.h"
+
+static _Thread_local sigset_t blocked;
+
+int pthread_sigmask(int how, const sigset_t *set, sigset_t *old)
+{
+    if (old)
+        *old = blocked;
+    if (!set)
+        return 0;
+    if (how == SIG_BLOCK)
+        blocked |= *set;
+    else if (how == SIG_UNBLOCK)
+        blocked &= ~*set;
+    else if (how == SIG_SETMASK)
+        blocked = *set;
+    else
+        return EINVAL;
+    return 0;
+}
+
+int sigprocmask(int how, const sigset_t *set, sigset_t *old)
+{
+    int error = pthread_sigmask(how, set, old);
+    if (error)
+        errno = error;
+    return error ? -1 : 0;
+}
+
+int sigpending(sigset_t *set) { *set = 0; return 0; }
+
+// To itself alone, and the program ends, as if it had no handler.
+int kill(pid_t process, int number)
+{
+    if (process != 1) {
+        errno = ESRCH;
+        return -1;
+    }
+    if (number)
+        _exit(128 + number);
+    return 0;
+}
+
+int pthread_kill(pthread_t thread, int number)
+{
+    if (!__kit_thread_of(thread))
+        return ESRCH;
+    return number ? EINVAL : 0;
+}

@@ -1,0 +1,272 @@
+// Threads: their creation, their end, and who waits for it. Each runs on a hart of its own, main on hart 0.
+//
+// A thread's result is seen through `done`, by the manual's table A.6:
+//   create   fence rw,w; sd of the hart's job     (release store; the hart: ld; fence r,rw)
+//   end      fence rw,w; sw of done               (release store)
+//   join     lw of done; fence r,rw               (acquire load)
+#include <errno.h>
+#include <stdio.h>
+#include <stdlib.h>
+#include "ticket.h"
+
+// When a new thread begins: START=0 at once, START=1 when the thread that created it begins to wait, START=2 one or the other
+// for the whole run, by the round of the first creation. To create a thread takes more instructions than most threads of a
+// small program have, so with START=0 the first is done before the second is there, in every plan; with START=1 those that were
+// created together begin together. POSIX allows both.
+extern char __kit_start[]; // the number itself, by the linker
+
+enum {
+    PATIENCE = 2000,    // rounds for which pthread_create waits for a hart to be free
+    GATE_OPENS = 4000,  // rounds after which a thread begins though the one that created it never waited
+};
+
+static volatile unsigned threads_alive = 1, threads_created = 1;
+
+// Records of threads are given back to a list, and never to malloc, so that a name of old can be told.
+
+static struct __ticket records_lock;
+static struct __kit_thread *free_records;
+
+static struct __kit_thread *take_record(void)
+{
+    ticket_take(&records_lock);
+    struct __kit_thread *record = free_records;
+    if (record)
+        free_records = record->next;
+    ticket_free(&records_lock);
+    return record ? record : malloc(sizeof *record);
+}
+
+static void give_record_back(struct __kit_thread *record)
+{
+    if (record == &__kit_main_thread) {
+        record->number = 0;
+        return;
+    }
+    ticket_take(&records_lock);
+    record->number = 0;
+    record->next = free_records;
+    free_records = record;
+    ticket_free(&records_lock);
+}
+
+static pthread_t handle_of(struct __kit_thread *thread)
+{
+    return (pthread_t)thread->number << 32 | (uintptr_t)thread;
+}
+
+struct __kit_thread *__kit_thread_of(pthread_t handle)
+{
+    struct __kit_thread *thread = (struct __kit_thread *)(handle & 0xffffffff);
+    return handle >> 32 && thread->number == handle >> 32 ? thread : 0;
+}
+
+// Creation.
+
+static bool begin_together(void)
+{
+    static volatile unsigned chosen; // 1: no, 2: yes
+    if (!chosen) {
+        uintptr_t start = (uintptr_t)__kit_start;
+        chosen = 1 + (start == 2 ? (round_number() * 2654435761u >> 16 & 1) : start);
+    }
+    return chosen == 2;
+}
+
+// Takes the lowest hart that is free, which takes patience where all have a thread.
+static unsigned take_hart(void)
+{
+    for (uint64_t until = 0;;) {
+        for (unsigned hart = 1; hart < __kit_hart_count; hart++)
+            if (!__kit_harts[hart].taken && swap_acquire(&__kit_harts[hart].taken, 1) == 0)
+                return hart;
+        uint64_t now = round_number();
+        if (!until) {
+            until = now + PATIENCE;
+            __kit_lets_others_begin();
+        } else if (now > until) {
+            fprintf(stderr, "pthread_create: all %u harts have a thread: give more --harts\n", (unsigned)__kit_hart_count);
+            __kit_end_all(TOO_FEW_HARTS);
+        }
+        __kit_end_with_others();
+    }
+}
+
+int pthread_create(pthread_t *handle, const pthread_attr_t *attr, void *(*run)(void *), void *argument)
+{
+    __kit_end_with_others();
+    unsigned hart = take_hart();
+    struct __kit_thread *thread = take_record();
+    if (!thread) {
+        store_release(&__kit_harts[hart].taken, 0);
+        return EAGAIN;
+    }
+    *thread = (struct __kit_thread){
+        .number = add_relaxed(&threads_created, 1) + 1,
+        .fate = attr && attr->detached ? DETACHED : 0,
+        .run = run,
+        .argument = argument,
+    };
+    if (begin_together()) {
+        struct __kit_hart *here = &__kit_harts[__kit_hart_here];
+        thread->gate = &here->waits;
+        thread->opens = here->waits + 1;
+        thread->begins_anyhow = round_number() + GATE_OPENS;
+        here->has_created = 1;
+    }
+    *handle = handle_of(thread);
+    add_relaxed(&threads_alive, 1);
+    release_fence();
+    __kit_harts[hart].job = thread;
+    return 0;
+}
+
+// Ends.
+
+void __kit_thread_ends(void *result)
+{
+    struct __kit_thread *me = __kit_self;
+    struct __kit_hart *here = &__kit_harts[__kit_hart_here];
+    __kit_lets_others_begin();
+    if (__kit_destroy_values)
+        __kit_destroy_values();
+    if (!__kit_stack_was_enough()) {
+        fprintf(stderr, "the stack of hart %u was too small\n", __kit_hart_here);
+        __kit_end_all(STACK_TOO_SMALL);
+    }
+    me->result = result;
+    __kit_hart_is_idle();
+    store_release(&here->taken, __kit_hart_here == 0); // before anybody can join, who may want the hart for another thread
+    if (or_both(&me->fate, ENDED) & DETACHED)
+        give_record_back(me);
+    else
+        store_release(&me->done, 1);
+    if (add_both(&threads_alive, -1) == 1)
+        exit(0);
+}
+
+_Noreturn void pthread_exit(void *result)
+{
+    for (struct __cleanup *last; (last = __kit_cleanups);) {
+        __kit_cleanups = last->outer;
+        last->run(last->argument);
+    }
+    __kit_thread_ends(result);
+    __kit_leave_thread();
+}
+
+// Waiting for an end.
+
+// Makes the caller the one that joins this thread.
+static int begin_join(pthread_t handle, struct __kit_thread **thread)
+{
+    *thread = __kit_thread_of(handle);
+    if (!*thread)
+        return ESRCH;
+    if (handle == __kit_handle)
+        return EDEADLK;
+    unsigned old = or_both(&(*thread)->fate, JOINING);
+    if (old & JOINING)
+        return EINVAL;
+    if (old & DETACHED) {
+        and_both(&(*thread)->fate, ~(unsigned)JOINING);
+        return EINVAL;
+    }
+    return 0;
+}
+
+static int end_join(struct __kit_thread *thread, void **result)
+{
+    acquire_fence();
+    if (result)
+        *result = thread->result;
+    give_record_back(thread);
+    return 0;
+}
+
+static int give_join_up(struct __kit_thread *thread, int error)
+{
+    and_both(&thread->fate, ~(unsigned)JOINING);
+    return error;
+}
+
+int pthread_join(pthread_t handle, void **result)
+{
+    struct __kit_thread *thread;
+    int error = begin_join(handle, &thread);
+    if (error)
+        return error;
+    __kit_lets_others_begin();
+    while (!thread->done) {
+        if (__kit_is_cancelled()) {
+            give_join_up(thread, 0);
+            pthread_testcancel();
+        }
+        __kit_wait_a_round();
+    }
+    return end_join(thread, result);
+}
+
+int pthread_tryjoin_np(pthread_t handle, void **result)
+{
+    struct __kit_thread *thread;
+    int error = begin_join(handle, &thread);
+    if (error)
+        return error;
+    return thread->done ? end_join(thread, result) : give_join_up(thread, EBUSY);
+}
+
+int pthread_timedjoin_np(pthread_t handle, void **result, const struct timespec *until)
+{
+    struct __kit_thread *thread;
+    int error = begin_join(handle, &thread);
+    if (error)
+        return error;
+    if (__kit_is_no_time(until))
+        return give_join_up(thread, EINVAL);
+    __kit_lets_others_begin();
+    while (!thread->done) {
+        if (round_number() >= __kit_round_of(until))
+            return give_join_up(thread, ETIMEDOUT);
+        __kit_end_with_others();
+    }
+    return end_join(thread, result);
+}
+
+int pthread_detach(pthread_t handle)
+{
+    struct __kit_thread *thread = __kit_thread_of(handle);
+    if (!thread)
+        return ESRCH;
+    unsigned old = or_both(&thread->fate, DETACHED);
+    if (old & DETACHED)
+        return EINVAL;
+    if (old & JOINING) {
+        and_both(&thread->fate, ~(unsigned)DETACHED);
+        return EINVAL;
+    }
+    if (old & ENDED) {
+        while (!thread->done)
+            __kit_wait_a_round();
+        acquire_fence();
+        give_record_back(thread);
+    }
+    return 0;
+}
+
+// Names.
+
+pthread_t pthread_self(void) { return __kit_handle; }
+int pthread_equal(pthread_t a, pthread_t b) { return a == b; }
+int pthread_setconcurrency(int level) { return level < 0 ? EINVAL : 0; }
+int pthread_getconcurrency(void) { return 0; }
+int pthread_setname_np(pthread_t thread, const char *name) { (void)name; return __kit_thread_of(thread) ? 0 : ESRCH; }
+
+int pthread_getname_np(pthread_t handle, char *name, size_t size)
+{
+    struct __kit_thread *thread = __kit_thread_of(handle);
+    if (!thread)
+        return ESRCH;
+    snprintf(name, size, "thread %u", thread->number);
+    return 0;
+}
