@@ -1,0 +1,4 @@
+pub mod Followed
+pub mod Formed
+pub mod RunOrders
+pub mod StoresOf

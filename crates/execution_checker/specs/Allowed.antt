@@ -1,0 +1,39 @@
+-- Executions that RVWMO allows, and what is said of a script.
+use Rattle.std.specs.Prelude.{◌≡◌, ℕ, ◌<◌, List, [], ◌∷◌, ◌++◌, length, slice_index_or, take}
+use Rattle.pages.specs.Memory.{Memory}
+use Rattle.memory_order.specs.Rvwmo.{MeetsRvwmoBy}
+use Rattle.dependencies.specs.Dependencies.{DependencyRule}
+use Rattle.execution.specs.declared.step.ScriptedStep.{ScriptedStep}
+use Rattle.execution.specs.declared.step_fault.StepFault.{StepFault}
+use Rattle.execution.specs.Executions.{Standing, Takes}
+use Rattle.execution.specs.Progressing.{HasNoStep}
+use Rattle.execution_checker.specs.declared.verdict.Verdict.{Verdict}
+use Rattle.execution_checker.specs.declared.verdict.Verdict.TheVariants.{Allowed, Broken, Refused}
+
+-- RVWMO allows what was done up to a standing, where memory opened with these bytes, in an order of its memory operations
+abbrev pub Allows : (ℕ → ℕ) → Standing → List ℕ → Type 0
+Allows opening q g = MeetsRvwmoBy (DependencyRule q.instructions q.events) q.events opening g
+
+-- the steps of a script lead from one standing to another
+pub data Follows (image : Memory) : List ScriptedStep → Standing → Standing → Type 0 where
+  follows-none : (p : Standing) → Follows image [] p p
+  follows-more : (ss : List ScriptedStep) (s : ScriptedStep) (p q r : Standing) →
+      Follows image ss p q → Takes image s.hart s.round q r → Follows image (ss ++ s ∷ []) p r
+
+-- a script can be followed up to the step at a place, whose hart has no next one
+pub record BreaksAt (image : Memory) (ss : List ScriptedStep) (place : ℕ) (fault : StepFault) (p q : Standing) : Type 0 where
+  pub within : place < length ss
+  pub up_to : Follows image (take place ss) p q
+  pub here : (s : ScriptedStep) → s ≡ slice_index_or ss place s → HasNoStep fault s.hart s.round q
+
+-- the verdict on what was done, in an order
+abbrev pub IsJudged : Verdict → (ℕ → ℕ) → Standing → List ℕ → Type 0
+IsJudged Allowed opening q g = Allows opening q g
+IsJudged Refused opening q g = Allows opening q g → ⊥
+IsJudged (Broken place fault) opening q g = ⊥
+
+-- the verdict on a script and an order, where the script leads from p to q
+abbrev pub IsVerdict : Verdict → Memory → (ℕ → ℕ) → List ScriptedStep → List ℕ → Standing → Standing → Type 0
+IsVerdict Allowed image opening ss g p q = Follows image ss p q × Allows opening q g
+IsVerdict Refused image opening ss g p q = Follows image ss p q × (Allows opening q g → ⊥)
+IsVerdict (Broken place fault) image opening ss g p q = BreaksAt image ss place fault p q
