@@ -2,7 +2,7 @@
 
 use crate::calls::{Refusal, tried};
 use crate::ending::Ending;
-use crate::guest::{GUEST, ended, settings};
+use crate::guest::{GUEST, SETTINGS, ended};
 use crate::loading::is_plan;
 use crate::memory::{has_bytes, is_opened, pages};
 use crate::stage::Stage;
@@ -75,7 +75,7 @@ fn copy_machine<R: Threads + Wait + Sync>(rt: &R, alloc: Global) -> Result<Endin
 
 /// Copies a machine that keeps no trace.
 fn copy_untraced<R: Threads + Wait + Sync>(rt: &R, alloc: Global) -> Result<Ending, RunError> {
-    let mut machine = prepare_untraced(alloc, &GUEST, &[], &settings(1))?;
+    let mut machine = prepare_untraced(alloc, &GUEST, &[], &SETTINGS)?;
     machine.run(rt, 2, 1)?;
     Ok(tried(
         || machine.copy(),

@@ -39,22 +39,20 @@ pub(crate) const REPORT: &str = "rounds 2\n\
     2 1 5 p load - 00000100 8 0000000000000001 -\n\
     end\n";
 
-/// Two rounds of two harts, on so many workers.
-pub(crate) fn settings(workers: u32) -> Settings<'static> {
-    Settings {
-        format: Format::Flat,
-        harts: 2,
-        pages: 1,
-        rounds: 2,
-        workers,
-        budget: 1,
-        plan: b"6\n",
-    }
-}
+/// Two rounds of two harts.
+pub(crate) const SETTINGS: Settings<'static> = Settings {
+    format: Format::Flat,
+    harts: 2,
+    pages: 1,
+    rounds: 2,
+    workers: 1,
+    budget: 1,
+    plan: b"6\n",
+};
 
 /// The machine before the first round.
 pub(crate) fn opened(alloc: Global) -> Result<Machine, RunError> {
-    prepare(alloc, &GUEST, &[], &settings(1))
+    prepare(alloc, &GUEST, &[], &SETTINGS)
 }
 
 /// The machine after both rounds.

@@ -2,7 +2,7 @@
 
 use crate::calls::tried;
 use crate::ending::Ending;
-use crate::guest::{GUEST, settings};
+use crate::guest::{GUEST, SETTINGS};
 use crate::stage::Stage;
 use hart_step::Hart;
 use host_io::RunError;
@@ -26,13 +26,13 @@ pub(crate) fn recorded<R: Threads + Wait + Sync>(
     rt: &R,
     alloc: Global,
 ) -> Result<Recording, RunError> {
-    record_with(rt, alloc, &GUEST, &[], &settings(1), 1)
+    record_with(rt, alloc, &GUEST, &[], &SETTINGS, 1)
 }
 
 /// Records the guest's run, without registers and with them.
 pub(crate) fn try_record<R: Threads + Wait + Sync>(rt: &R, alloc: Global) -> Ending {
     let without = tried(
-        || record(rt, alloc, &GUEST, &[], &settings(1)),
+        || record(rt, alloc, &GUEST, &[], &SETTINGS),
         |recording| is_recorded(recording, 0),
     );
     let with = tried(

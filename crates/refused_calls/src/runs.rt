@@ -2,7 +2,7 @@
 
 use crate::calls::{Refusal, tried};
 use crate::ending::Ending;
-use crate::guest::{GUEST, settings};
+use crate::guest::{GUEST, SETTINGS};
 use crate::stage::Stage;
 use elf_loader::Image;
 use emulation::trace_run;
@@ -16,7 +16,7 @@ use std::thread::Threads;
 /// The machine of the guest.
 pub(crate) fn try_prepare(alloc: Global) -> Ending {
     tried(
-        || prepare(alloc, &GUEST, &[], &settings(1)),
+        || prepare(alloc, &GUEST, &[], &SETTINGS),
         |machine| Stage::Opening.is_of(machine),
     )
 }
@@ -24,7 +24,7 @@ pub(crate) fn try_prepare(alloc: Global) -> Ending {
 /// The trace of the guest's run.
 pub(crate) fn try_trace<R: Threads + Wait + Sync>(rt: &R, alloc: Global) -> Ending {
     tried(
-        || trace_run(rt, alloc, &GUEST, &[], &settings(1), &mut Unobserved),
+        || trace_run(rt, alloc, &GUEST, &[], &SETTINGS, &mut Unobserved),
         |trace| Stage::Ended.has_events(trace),
     )
 }

@@ -2,11 +2,10 @@
 
 use crate::calls::Refusal;
 use crate::ending::Ending;
-use crate::guest::{GUEST, REPORT, ended, settings};
+use crate::guest::{REPORT, ended};
 use crate::recordings::EXITS;
-use emulation::{Report, Shown, emulate, order_run, report_run, show_run};
+use emulation::Report;
 use host_io::{RunError, WriteSink};
-use machine::{GuestFiles, Unobserved};
 use recording::{read_recording, write_recording};
 use std::alloc::Global;
 use std::io::{self, Write};
@@ -16,12 +15,7 @@ use std::thread::Threads;
 /// A call that writes a text.
 #[derive(Clone, Copy, Debug, PartialEq, Eq)]
 pub(crate) enum Writing {
-    EmulateOnOne,
-    EmulateOnFour,
-    ReportRun,
     Report,
-    ShowRun,
-    OrderRun,
     Write,
 }
 
@@ -29,12 +23,7 @@ impl Writing {
     /// The word that names it.
     pub(crate) fn name(self) -> &'static str {
         match self {
-            Writing::EmulateOnOne => "emulate-1",
-            Writing::EmulateOnFour => "emulate-4",
-            Writing::ReportRun => "report-run",
             Writing::Report => "report",
-            Writing::ShowRun => "show-run",
-            Writing::OrderRun => "order-run",
             Writing::Write => "write",
         }
     }
@@ -46,12 +35,7 @@ impl Writing {
         alloc: Global,
     ) -> Result<Ending, RunError> {
         Ok(match self {
-            Writing::EmulateOnOne => try_emulate(rt, alloc, 1),
-            Writing::EmulateOnFour => try_emulate(rt, alloc, 4),
-            Writing::ReportRun => try_report_run(rt, alloc),
             Writing::Report => try_report(rt, alloc)?,
-            Writing::ShowRun => try_show_run(rt, alloc),
-            Writing::OrderRun => try_order_run(rt, alloc),
             Writing::Write => try_write(alloc)?,
         })
     }
@@ -113,75 +97,6 @@ fn written<C: Fn(&mut Page) -> Result<(), RunError>>(call: &C, wanted: &[u8]) ->
     }
 }
 
-/// Runs the guest, and writes its report.
-fn try_emulate<R: Threads + Wait + Sync>(rt: &R, alloc: Global, workers: u32) -> Ending {
-    let settings = settings(workers);
-    written(
-        &|page| emulate(rt, alloc, &GUEST, &[], &settings, &mut WriteSink::new(page)),
-        REPORT.as_bytes(),
-    )
-}
-
-/// The same, and whether each hart exited with 0.
-fn try_report_run<R: Threads + Wait + Sync>(rt: &R, alloc: Global) -> Ending {
-    let settings = settings(1);
-    written(
-        &|page| {
-            report_run(
-                rt,
-                alloc,
-                &GuestFiles {
-                    image: &GUEST,
-                    input: &[],
-                },
-                &settings,
-                &mut Unobserved,
-                &mut WriteSink::new(page),
-            )?;
-            Ok(())
-        },
-        REPORT.as_bytes(),
-    )
-}
-
-/// Runs the guest, and writes its harts alone.
-fn try_show_run<R: Threads + Wait + Sync>(rt: &R, alloc: Global) -> Ending {
-    let settings = settings(1);
-    written(
-        &|page| {
-            show_run(
-                rt,
-                alloc,
-                &GuestFiles {
-                    image: &GUEST,
-                    input: &[],
-                },
-                &settings,
-                Shown::Harts,
-                &mut Unobserved,
-                &mut WriteSink::new(page),
-            )?;
-            Ok(())
-        },
-        HARTS.as_bytes(),
-    )
-}
-
-/// The harts of the guest, and how much was put out.
-const HARTS: &str = "rounds 2\n\
-    hart 0 pc 0000000000000018 done 6 stop 3\n\
-    x6 0000000000000008\n\
-    x7 0000000000000001\n\
-    x11 0000000000000002\n\
-    x28 0000000000000001\n\
-    hart 1 pc 0000000000000018 done 6 stop 3\n\
-    x5 0000000000000008\n\
-    x7 0000000000000001\n\
-    x10 0000000000000001\n\
-    x11 0000000000000002\n\
-    x28 0000000000000001\n\
-    output 0\n";
-
 /// Writes the report of a machine.
 fn try_report<R: Threads + Wait + Sync>(rt: &R, alloc: Global) -> Result<Ending, RunError> {
     let machine = ended(rt, alloc)?;
@@ -189,33 +104,6 @@ fn try_report<R: Threads + Wait + Sync>(rt: &R, alloc: Global) -> Result<Ending,
         &|page| machine.report(alloc, &mut WriteSink::new(page)),
         REPORT.as_bytes(),
     ))
-}
-
-/// The order of the guest's memory operations.
-const ORDER: &str = "order 4\n\
-    1 0 3 p store - 00000100 8 - 0000000000000001\n\
-    1 1 3 p store - 00000108 8 - 0000000000000001\n\
-    2 0 5 p load - 00000108 8 0000000000000001 -\n\
-    2 1 5 p load - 00000100 8 0000000000000001 -\n\
-    checked yes\n";
-
-/// Runs the guest, and writes the order of its memory operations.
-fn try_order_run<R: Threads + Wait + Sync>(rt: &R, alloc: Global) -> Ending {
-    let settings = settings(1);
-    written(
-        &|page| {
-            order_run(
-                rt,
-                alloc,
-                &GUEST,
-                &[],
-                &settings,
-                &mut Unobserved,
-                &mut WriteSink::new(page),
-            )
-        },
-        ORDER.as_bytes(),
-    )
 }
 
 /// Writes a recording that was read.

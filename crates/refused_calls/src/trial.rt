@@ -55,18 +55,13 @@ pub(crate) enum Trial {
 
 impl Trial {
     /// Each trial.
-    pub(crate) const ALL: [Trial; 42] = [
+    pub(crate) const ALL: [Trial; 37] = [
         Trial::RoundOnOne,
         Trial::RoundOnFour,
         Trial::RunOnOne,
         Trial::RunOnFour,
         Trial::Loops,
-        Trial::Writing(Writing::EmulateOnOne),
-        Trial::Writing(Writing::EmulateOnFour),
-        Trial::Writing(Writing::ReportRun),
         Trial::Writing(Writing::Report),
-        Trial::Writing(Writing::ShowRun),
-        Trial::Writing(Writing::OrderRun),
         Trial::TraceRun,
         Trial::PrepareMachine,
         Trial::Open,
