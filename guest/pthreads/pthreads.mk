@@ -66,6 +66,9 @@ ready = $(built)/start.o $(in_place:%=$(built)/%.o) $(built)/libkit.a $(built)/l
 %.elf: %.c $(ready)
 	$(call link_program,$(compile_c))
 
+%_mended.elf: %.c $(ready)
+	$(call link_program,$(compile_c),-DMENDED)
+
 # C++ without exceptions: the headers of libstdc++ for Linux on this processor, and runtime.cpp in place of its library.
 cpp_headers = -nostdinc++ -isystem '$(folder)/pthreads/cpp/include' -isystem '$(LIBSTDCXX)' -isystem '$(LIBSTDCXX)/riscv64-linux-gnu'
 compile_cpp = $(CROSS)g++ $(target) -O1 -fno-exceptions -fno-rtti -fno-use-cxa-atexit $(cpp_headers) $(headers) $(CFLAGS)
@@ -76,38 +79,38 @@ compile_cpp = $(CROSS)g++ $(target) -O1 -fno-exceptions -fno-rtti -fno-use-cxa-a
 %_mended.elf: %.cpp $(ready) $(built)/runtime.o
 	$(call link_program,$(compile_cpp),$(built)/runtime.o -DMENDED)
 
-$(built)/runtime.o: $(kit)/pthreads/cpp/runtime.cpp $(kit)/pthreads/cpp/include/features.h $(sources)
+# What is built is put in its place when it is whole, since two makes may be at it in one folder. What isn't for others to keep is
+# for git to pass over.
+define build
 	@mkdir -p $(built)
-	@$(CROSS)g++ $(target) -O2 -fno-exceptions -fno-rtti $(cpp_headers) $(headers) -c '$(folder)/pthreads/cpp/runtime.cpp' -o $@
-
-%_mended.elf: %.c $(ready)
-	$(call link_program,$(compile_c),-DMENDED)
+	@echo '*' >$(built)/.gitignore
+	@made=$@.$$$$; $(1) && mv $$made $@
+endef
 
 $(built)/start.o: $(kit)/pthreads/source/start.S
-	@mkdir -p $(built)
-	@$(CROSS)gcc $(target) -c '$(folder)/pthreads/source/start.S' -o $@
+	$(call build,$(CROSS)gcc $(target) -c '$(folder)/pthreads/source/start.S' -o $$made)
 
 $(built)/libkit.a: $(parts:%=$(built)/%.o)
-	@rm -f $@
-	@$(CROSS)ar crD $@ $^
+	$(call build,$(CROSS)ar crD $$made $^)
 
 # The data that only one file of the kit knows gets names that no program has, so that --see-object finds the program's. All names
 # are weak: a function of the program's own comes before one of the kit.
+names_hidden = $(CROSS)nm $$made | awk '$$2 ~ /[bdr]/ { print $$3, "__kit_" $$3 }' >$$made.own && \
+               $(CROSS)nm --defined-only --extern-only $$made | awk '{ print $$3 }' >$$made.weak && \
+               $(CROSS)objcopy --redefine-syms=$$made.own --weaken-symbols=$$made.weak $$made && rm $$made.own $$made.weak
+
 $(built)/%.o: $(kit)/pthreads/source/%.c $(sources)
-	@mkdir -p $(built)
-	@echo '*' >$(built)/.gitignore
-	@$(CROSS)gcc $(target) -O2 -std=gnu11 -D_GNU_SOURCE -Wall -Wextra $(headers) -c '$(folder)/pthreads/source/$*.c' -o $@
-	@$(CROSS)nm $@ | awk '$$2 ~ /[bdr]/ { print $$3, "__kit_" $$3 }' >$@.own
-	@$(CROSS)nm --defined-only --extern-only $@ | awk '{ print $$3 }' >$@.weak
-	@$(CROSS)objcopy --redefine-syms=$@.own --weaken-symbols=$@.weak $@
-	@rm $@.own $@.weak
+	$(call build,$(CROSS)gcc $(target) -O2 -std=gnu11 -D_GNU_SOURCE -Wall -Wextra $(headers) -c '$(folder)/pthreads/source/$*.c' -o $$made && $(names_hidden))
+
+.PRECIOUS: $(built)/%.o
+
+$(built)/runtime.o: $(kit)/pthreads/cpp/runtime.cpp $(kit)/pthreads/cpp/include/features.h $(sources)
+	$(call build,$(CROSS)g++ $(target) -O2 -fno-exceptions -fno-rtti $(cpp_headers) $(headers) -c '$(folder)/pthreads/cpp/runtime.cpp' -o $$made)
 
 # picolibc without its lines.
 $(built)/libc.a:
-	@mkdir -p $(built)
-	@$(CROSS)objcopy --strip-debug '$(PICOLIBC)/lib/$(multilib)/libc.a' $@
+	$(call build,$(CROSS)objcopy --strip-debug '$(PICOLIBC)/lib/$(multilib)/libc.a' $$made)
 
 # gcc's own functions, without the paths of those who built them.
 $(built)/libgcc.a:
-	@mkdir -p $(built)
-	@$(CROSS)objcopy --strip-debug "$$($(CROSS)gcc $(arch) -print-libgcc-file-name)" $@
+	$(call build,$(CROSS)objcopy --strip-debug "$$($(CROSS)gcc $(arch) -print-libgcc-file-name)" $$made)

@@ -30,6 +30,7 @@ int pthread_create(pthread_t *, const pthread_attr_t *, void *(*)(void *), void 
 int pthread_join(pthread_t, void **);
 int pthread_tryjoin_np(pthread_t, void **);
 int pthread_timedjoin_np(pthread_t, void **, const struct timespec *);
+int pthread_clockjoin_np(pthread_t, void **, clockid_t, const struct timespec *);
 int pthread_detach(pthread_t);
 void pthread_exit(void *) __attribute__((noreturn));
 pthread_t pthread_self(void);
@@ -53,6 +54,13 @@ int pthread_attr_getguardsize(const pthread_attr_t *, size_t *);
 int pthread_attr_setscope(pthread_attr_t *, int);
 int pthread_attr_getscope(const pthread_attr_t *, int *);
 int pthread_attr_setinheritsched(pthread_attr_t *, int);
+int pthread_attr_getinheritsched(const pthread_attr_t *, int *);
+int pthread_attr_setschedpolicy(pthread_attr_t *, int);
+int pthread_attr_getschedpolicy(const pthread_attr_t *, int *);
+int pthread_attr_setschedparam(pthread_attr_t *, const struct sched_param *);
+int pthread_attr_getschedparam(const pthread_attr_t *, struct sched_param *);
+int pthread_setschedparam(pthread_t, int, const struct sched_param *);
+int pthread_getschedparam(pthread_t, int *, struct sched_param *);
 
 // Once.
 
@@ -145,8 +153,13 @@ int pthread_condattr_getpshared(const pthread_condattr_t *, int *);
 // Read-write locks.
 
 typedef struct { struct __ticket writers; volatile unsigned holders; volatile pthread_t writer; } pthread_rwlock_t;
-typedef struct { int nothing; } pthread_rwlockattr_t;
+typedef struct { int kind; } pthread_rwlockattr_t;
 #define PTHREAD_RWLOCK_INITIALIZER { { 0, 0 }, 0, 0 }
+#define PTHREAD_RWLOCK_WRITER_NONRECURSIVE_INITIALIZER_NP PTHREAD_RWLOCK_INITIALIZER
+#define PTHREAD_RWLOCK_PREFER_READER_NP 0
+#define PTHREAD_RWLOCK_PREFER_WRITER_NP 1
+#define PTHREAD_RWLOCK_PREFER_WRITER_NONRECURSIVE_NP 2
+#define PTHREAD_RWLOCK_DEFAULT_NP PTHREAD_RWLOCK_PREFER_READER_NP
 
 int pthread_rwlock_init(pthread_rwlock_t *, const pthread_rwlockattr_t *);
 int pthread_rwlock_destroy(pthread_rwlock_t *);
@@ -161,6 +174,8 @@ int pthread_rwlock_clockwrlock(pthread_rwlock_t *, clockid_t, const struct times
 int pthread_rwlock_unlock(pthread_rwlock_t *);
 int pthread_rwlockattr_init(pthread_rwlockattr_t *);
 int pthread_rwlockattr_destroy(pthread_rwlockattr_t *);
+int pthread_rwlockattr_setkind_np(pthread_rwlockattr_t *, int);
+int pthread_rwlockattr_getkind_np(const pthread_rwlockattr_t *, int *);
 int pthread_rwlockattr_setpshared(pthread_rwlockattr_t *, int);
 int pthread_rwlockattr_getpshared(const pthread_rwlockattr_t *, int *);
 

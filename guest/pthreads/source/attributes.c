@@ -54,6 +54,47 @@ int pthread_attr_setinheritsched(pthread_attr_t *attr, int inherit)
     return first_or_unsupported(inherit, PTHREAD_EXPLICIT_SCHED);
 }
 
+int pthread_attr_getinheritsched(const pthread_attr_t *attr, int *inherit)
+{
+    (void)attr;
+    *inherit = PTHREAD_INHERIT_SCHED;
+    return 0;
+}
+
+// All threads have the one policy, and its one priority.
+
+int pthread_attr_setschedpolicy(pthread_attr_t *attr, int policy) { (void)attr; return first_or_unsupported(policy, SCHED_RR); }
+int pthread_attr_getschedpolicy(const pthread_attr_t *attr, int *policy) { (void)attr; *policy = SCHED_OTHER; return 0; }
+
+int pthread_attr_setschedparam(pthread_attr_t *attr, const struct sched_param *param)
+{
+    (void)attr;
+    return param->sched_priority == 0 ? 0 : ENOTSUP;
+}
+
+int pthread_attr_getschedparam(const pthread_attr_t *attr, struct sched_param *param)
+{
+    (void)attr;
+    param->sched_priority = 0;
+    return 0;
+}
+
+int pthread_setschedparam(pthread_t thread, int policy, const struct sched_param *param)
+{
+    if (!__kit_thread_of(thread))
+        return ESRCH;
+    return param->sched_priority == 0 ? first_or_unsupported(policy, SCHED_RR) : ENOTSUP;
+}
+
+int pthread_getschedparam(pthread_t thread, int *policy, struct sched_param *param)
+{
+    if (!__kit_thread_of(thread))
+        return ESRCH;
+    *policy = SCHED_OTHER;
+    param->sched_priority = 0;
+    return 0;
+}
+
 // Mutexes.
 
 int pthread_mutexattr_init(pthread_mutexattr_t *attr) { attr->kind = PTHREAD_MUTEX_DEFAULT; return 0; }
@@ -100,9 +141,19 @@ int pthread_condattr_setclock(pthread_condattr_t *attr, clockid_t clock)
 int pthread_condattr_setpshared(pthread_condattr_t *attr, int shared) { (void)attr; return either_sharing(shared); }
 int pthread_condattr_getpshared(const pthread_condattr_t *attr, int *shared) { (void)attr; return is_private(shared); }
 
-// Read-write locks and barriers.
+// Read-write locks and barriers. Who is preferred is a matter of schedule: readers are, whatever is asked for.
 
-int pthread_rwlockattr_init(pthread_rwlockattr_t *attr) { attr->nothing = 0; return 0; }
+int pthread_rwlockattr_init(pthread_rwlockattr_t *attr) { attr->kind = PTHREAD_RWLOCK_DEFAULT_NP; return 0; }
+int pthread_rwlockattr_getkind_np(const pthread_rwlockattr_t *attr, int *kind) { *kind = attr->kind; return 0; }
+
+int pthread_rwlockattr_setkind_np(pthread_rwlockattr_t *attr, int kind)
+{
+    if (kind < PTHREAD_RWLOCK_PREFER_READER_NP || kind > PTHREAD_RWLOCK_PREFER_WRITER_NONRECURSIVE_NP)
+        return EINVAL;
+    attr->kind = kind;
+    return 0;
+}
+
 int pthread_rwlockattr_destroy(pthread_rwlockattr_t *attr) { (void)attr; return 0; }
 int pthread_rwlockattr_setpshared(pthread_rwlockattr_t *attr, int shared) { (void)attr; return either_sharing(shared); }
 int pthread_rwlockattr_getpshared(const pthread_rwlockattr_t *attr, int *shared) { (void)attr; return is_private(shared); }

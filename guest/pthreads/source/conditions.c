@@ -73,10 +73,10 @@ static int await_signal(pthread_cond_t *cond, struct __waiter *waiter, const str
 
 static int wait_until(pthread_cond_t *cond, pthread_mutex_t *mutex, const struct timespec *until)
 {
-    if (mutex->owner != __kit_handle)
-        return EPERM;
     if (until && __kit_is_no_time(until))
         return EINVAL;
+    if (!__kit_may_unlock(mutex))
+        return EPERM;
     pthread_testcancel();
     struct __waiter waiter = { 0, 0 };
     join_queue(cond, &waiter);

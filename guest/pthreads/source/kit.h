@@ -52,6 +52,10 @@ extern _Thread_local struct __cleanup *__kit_cleanups; // the innermost one
 
 // Exits with this value, and so do all other harts at their next wait or lock.
 _Noreturn void __kit_end_all(int value);
+// The same after what is to be put out still, and a line that says why.
+_Noreturn void __kit_fail(int value, const char *before, uint64_t number, const char *after);
+// Fails where something was stored below the stack of this hart.
+void __kit_look_at_stack(void);
 // Exits if another hart has ended the program.
 _Noreturn void __kit_exit_too(void);
 
@@ -87,7 +91,7 @@ bool __kit_is_no_time(const struct timespec *time);
 // Whether this is a clock by which one can wait.
 bool __kit_is_clock(clockid_t clock);
 
-// Threads (threads.c, cancel.c, keys.c).
+// Threads (threads.c, cancel.c, keys.c), mutexes.
 
 // The record of a thread, or 0 where there is none of this name (any more).
 struct __kit_thread *__kit_thread_of(pthread_t thread);
@@ -99,12 +103,13 @@ _Noreturn void __kit_leave_thread(void);
 bool __kit_is_cancelled(void);
 // Says that no thread runs on this hart any more (process.c).
 void __kit_hart_is_idle(void);
-// Whether nothing was stored below the stack of this hart (process.c).
-bool __kit_stack_was_enough(void);
 // Gives the values of keys to their destructors. Only there where the program has keys.
 __attribute__((weak)) void __kit_destroy_values(void);
 
-// Streams (streams.c). Only there where the program has streams.
-__attribute__((weak)) void __kit_flush_output(void);
+// Whether this thread may give the mutex back, as far as that can be told (mutexes.c).
+bool __kit_may_unlock(const pthread_mutex_t *mutex);
+
+// Puts out what is kept of stdout, at the program's end (streams.c).
+void __kit_flush_output(void);
 
 #endif

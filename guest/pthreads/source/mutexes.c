@@ -1,7 +1,7 @@
-// Mutexes: a lock by tickets (ticket.h says how it orders), and who holds it.
+// Mutexes: a lock by tickets (ticket.h says how it orders), and in all kinds but the normal one who holds it.
 //
-// A mutex of any kind knows its owner, so that each kind tells of an unlock by another thread. The owner is a plain store of the
-// one that holds it; who reads its own name there has stored it itself.
+// The owner is a plain store of the thread that holds the mutex; who reads its own name there has stored it itself. A normal mutex
+// may be given back by another thread than the one that took it, as with glibc: POSIX leaves that open.
 #include <errno.h>
 #include "ticket.h"
 
@@ -27,9 +27,11 @@ int pthread_mutex_destroy(pthread_mutex_t *mutex)
 static int again(pthread_mutex_t *mutex, bool *has_it)
 {
     *has_it = false;
+    if (mutex->kind == PTHREAD_MUTEX_NORMAL)
+        return 0;
     if (mutex->kind == DESTROYED)
         return EINVAL;
-    if (mutex->kind == PTHREAD_MUTEX_NORMAL || mutex->owner != __kit_handle)
+    if (mutex->owner != __kit_handle)
         return 0;
     if (mutex->kind == PTHREAD_MUTEX_ERRORCHECK)
         return EDEADLK;
@@ -40,6 +42,12 @@ static int again(pthread_mutex_t *mutex, bool *has_it)
     return 0;
 }
 
+static void note_owner(pthread_mutex_t *mutex)
+{
+    if (mutex->kind != PTHREAD_MUTEX_NORMAL)
+        mutex->owner = __kit_handle;
+}
+
 int pthread_mutex_lock(pthread_mutex_t *mutex)
 {
     bool has_it;
@@ -48,7 +56,7 @@ int pthread_mutex_lock(pthread_mutex_t *mutex)
     if (error || has_it)
         return error;
     ticket_take(&mutex->ticket);
-    mutex->owner = __kit_handle;
+    note_owner(mutex);
     return 0;
 }
 
@@ -61,7 +69,7 @@ int pthread_mutex_trylock(pthread_mutex_t *mutex)
         return error == EDEADLK ? EBUSY : error;
     if (!ticket_try(&mutex->ticket))
         return EBUSY;
-    mutex->owner = __kit_handle;
+    note_owner(mutex);
     return 0;
 }
 
@@ -81,7 +89,7 @@ int pthread_mutex_timedlock(pthread_mutex_t *mutex, const struct timespec *until
             return ETIMEDOUT;
         __kit_end_with_others();
     }
-    mutex->owner = __kit_handle;
+    note_owner(mutex);
     return 0;
 }
 
@@ -90,17 +98,23 @@ int pthread_mutex_clocklock(pthread_mutex_t *mutex, clockid_t clock, const struc
     return __kit_is_clock(clock) ? pthread_mutex_timedlock(mutex, until) : EINVAL;
 }
 
+bool __kit_may_unlock(const pthread_mutex_t *mutex)
+{
+    return mutex->kind == PTHREAD_MUTEX_NORMAL ? !ticket_is_free(&mutex->ticket) : mutex->owner == __kit_handle;
+}
+
 int pthread_mutex_unlock(pthread_mutex_t *mutex)
 {
     if (mutex->kind == DESTROYED)
         return EINVAL;
-    if (mutex->owner != __kit_handle)
+    if (!__kit_may_unlock(mutex))
         return EPERM;
     if (mutex->depth) {
         mutex->depth--;
         return 0;
     }
-    mutex->owner = 0;
+    if (mutex->kind != PTHREAD_MUTEX_NORMAL)
+        mutex->owner = 0;
     ticket_free(&mutex->ticket);
     return 0;
 }

@@ -35,7 +35,7 @@ _Noreturn void __kit_end_all(int value)
         end_value = value;
         release_fence();
         __kit_ended = 1;
-        full_fence(); // with that of __kit_hart_is_idle
+        full_fence(); // as __kit_hart_is_idle says
         for (uint64_t hart = 0; hart < __kit_hart_count; hart++)
             __kit_harts[hart].job = &no_thread;
         exit_hart((uint64_t)(int64_t)value);
@@ -44,11 +44,43 @@ _Noreturn void __kit_end_all(int value)
         __kit_wait_a_round();
 }
 
+// Puts out words without stdio, which may have no stack left, or a lock that nobody gives back.
+static void put_words(const char *words)
+{
+    while (*words)
+        put_byte((uint8_t)*words++);
+}
+
+static void put_number(uint64_t number)
+{
+    if (number >= 10)
+        put_number(number / 10);
+    put_byte((uint8_t)('0' + number % 10));
+}
+
+_Noreturn void __kit_fail(int value, const char *before, uint64_t number, const char *after)
+{
+    __kit_end_with_others();
+    __kit_flush_output();
+    put_words(before);
+    put_number(number);
+    put_words(after);
+    __kit_end_all(value);
+}
+
+static const uint64_t unused_stack = 0x5afe57ac5afe57ac;
+
+void __kit_look_at_stack(void)
+{
+    if (*__kit_harts[__kit_hart_here].mark != unused_stack)
+        __kit_fail(STACK_TOO_SMALL, "the stack of hart ", __kit_hart_here, " was too small\n");
+}
+
 _Noreturn void _exit(int value)
 {
     __kit_end_with_others();
-    if (__kit_flush_output)
-        __kit_flush_output();
+    __kit_look_at_stack();
+    __kit_flush_output();
     __kit_end_all(value);
 }
 
@@ -72,8 +104,6 @@ static void begins_thread(unsigned hart, struct __kit_thread *thread)
         __kit_handle = (pthread_t)thread->number << 32 | (uintptr_t)thread;
 }
 
-static const uint64_t unused_stack = 0x5afe57ac5afe57ac;
-
 // Each hart begins here, on its stack, whose lowest word gets a mark.
 void __kit_hart_begins(uint64_t hart, uint64_t all, uint64_t *lowest)
 {
@@ -81,11 +111,6 @@ void __kit_hart_begins(uint64_t hart, uint64_t all, uint64_t *lowest)
     __kit_harts[hart].mark = lowest;
     __kit_hart_count = all; // each hart stores the same
     begins_thread((unsigned)hart, hart == 0 ? &__kit_main_thread : 0);
-}
-
-bool __kit_stack_was_enough(void)
-{
-    return *__kit_harts[__kit_hart_here].mark == unused_stack;
 }
 
 static void call_all(void (**first)(void), void (**end)(void))

@@ -16,7 +16,7 @@ static char kept[4096];
 static unsigned kept_bytes;
 static int buffering = _IOFBF;
 
-void __kit_flush_output(void)
+static void put_out(void)
 {
     unsigned bytes = kept_bytes;
     kept_bytes = 0;
@@ -24,19 +24,28 @@ void __kit_flush_output(void)
         put_byte((uint8_t)kept[i]);
 }
 
+// A call of another thread is let come to its end, unless that takes too long: then its thread may wait for this one.
+void __kit_flush_output(void)
+{
+    enum { PATIENCE = 30000 }; // rounds: printf of a double has some 20,000 instructions
+    for (int left = PATIENCE; left > 0 && kept_bytes && ftrylockfile(stdout); left--)
+        round_number();
+    put_out();
+}
+
 static int put_output(char c, FILE *stream)
 {
     (void)stream;
     kept[kept_bytes++] = c;
     if (kept_bytes == sizeof kept || buffering == _IONBF || (buffering == _IOLBF && c == '\n'))
-        __kit_flush_output();
+        put_out();
     return (unsigned char)c;
 }
 
 static int flush_output(FILE *stream)
 {
     (void)stream;
-    __kit_flush_output();
+    put_out();
     return 0;
 }
 

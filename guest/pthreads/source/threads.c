@@ -85,8 +85,7 @@ static unsigned take_hart(void)
             until = now + PATIENCE;
             __kit_lets_others_begin();
         } else if (now > until) {
-            fprintf(stderr, "pthread_create: all %u harts have a thread: give more --harts\n", (unsigned)__kit_hart_count);
-            __kit_end_all(TOO_FEW_HARTS);
+            __kit_fail(TOO_FEW_HARTS, "pthread_create: all ", __kit_hart_count, " harts have a thread: give more --harts\n");
         }
         __kit_end_with_others();
     }
@@ -130,10 +129,7 @@ void __kit_thread_ends(void *result)
     __kit_lets_others_begin();
     if (__kit_destroy_values)
         __kit_destroy_values();
-    if (!__kit_stack_was_enough()) {
-        fprintf(stderr, "the stack of hart %u was too small\n", __kit_hart_here);
-        __kit_end_all(STACK_TOO_SMALL);
-    }
+    __kit_look_at_stack();
     me->result = result;
     __kit_hart_is_idle();
     store_release(&here->taken, __kit_hart_here == 0); // before anybody can join, who may want the hart for another thread
@@ -222,15 +218,21 @@ int pthread_timedjoin_np(pthread_t handle, void **result, const struct timespec 
     int error = begin_join(handle, &thread);
     if (error)
         return error;
-    if (__kit_is_no_time(until))
+    if (until && __kit_is_no_time(until))
         return give_join_up(thread, EINVAL);
     __kit_lets_others_begin();
     while (!thread->done) {
-        if (round_number() >= __kit_round_of(until))
-            return give_join_up(thread, ETIMEDOUT);
+        uint64_t now = round_number();
         __kit_end_with_others();
+        if (until && now >= __kit_round_of(until))
+            return give_join_up(thread, ETIMEDOUT);
     }
     return end_join(thread, result);
+}
+
+int pthread_clockjoin_np(pthread_t handle, void **result, clockid_t clock, const struct timespec *until)
+{
+    return __kit_is_clock(clock) ? pthread_timedjoin_np(handle, result, until) : EINVAL;
 }
 
 int pthread_detach(pthread_t handle)
@@ -258,9 +260,20 @@ int pthread_detach(pthread_t handle)
 
 pthread_t pthread_self(void) { return __kit_handle; }
 int pthread_equal(pthread_t a, pthread_t b) { return a == b; }
-int pthread_setconcurrency(int level) { return level < 0 ? EINVAL : 0; }
-int pthread_getconcurrency(void) { return 0; }
 int pthread_setname_np(pthread_t thread, const char *name) { (void)name; return __kit_thread_of(thread) ? 0 : ESRCH; }
+
+// How many threads are to run at once is said, and makes no difference.
+static int concurrency;
+
+int pthread_getconcurrency(void) { return concurrency; }
+
+int pthread_setconcurrency(int level)
+{
+    if (level < 0)
+        return EINVAL;
+    concurrency = level;
+    return 0;
+}
 
 int pthread_getname_np(pthread_t handle, char *name, size_t size)
 {

@@ -23,6 +23,8 @@ uint64_t __kit_round_of(const struct timespec *time)
 {
     if (time->tv_sec < 0)
         return 0;
+    if ((uint64_t)time->tv_sec >= UINT64_MAX / second_ns - 1)
+        return UINT64_MAX; // never
     return rounds_of((uint64_t)time->tv_sec * second_ns + (uint64_t)time->tv_nsec);
 }
 
