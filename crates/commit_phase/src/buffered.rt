@@ -1,5 +1,6 @@
 ghost use Rattle.std.specs.Prelude.{◌≡◌, ℕ, List};
 
+use hart_rounds::HartEnd;
 use store_buffer::StoreBuffer;
 
 /// What the round of a hart left, as a commit sees it: its buffer.
@@ -16,5 +17,13 @@ impl Buffered for StoreBuffer {
 
     fn buffer(&self) -> &StoreBuffer {
         self
+    }
+}
+
+impl Buffered for HartEnd {
+    ghost bytes = { λ e. e.buffer };
+
+    fn buffer(&self) -> &StoreBuffer {
+        &self.buffer
     }
 }

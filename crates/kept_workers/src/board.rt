@@ -1,9 +1,9 @@
 ghost use Rattle.std.specs.Prelude.{◌≡◌, ◌≤◌};
 ghost use Rattle.std.specs.Arc.{arc_value};
 
-use crate::kept_round::KeptRound;
-use crate::kept_start::{KeptStart, RunStarts};
-use crate::posted::Posted;
+use crate::posted_round::PostedRound;
+use crate::posted_start::{PostedStart, RunStarts};
+use crate::postings::Postings;
 use hart_step::Access;
 use pages::OutOfMemory;
 use std::alloc::Global;
@@ -16,7 +16,7 @@ pub struct Board<S: RunStarts> {
     alloc: Global,
     /// How many workers it is for.
     pub workers: u32,
-    posted: Mutex<Posted<S>>,
+    posted: Mutex<Postings<S>>,
     // Told to those who serve: a start was posted, or the board is closed.
     news: Condvar,
     // Told to the one who posts: a worker left.
@@ -33,7 +33,7 @@ impl<S: RunStarts> Board<S> {
         Board {
             alloc,
             workers,
-            posted: Mutex::new(Posted {
+            posted: Mutex::new(Postings {
                 start: None,
                 count: 0,
                 holders: 0,
@@ -61,7 +61,7 @@ impl<S: RunStarts> Board<S> {
     }
 
     /// The next start that this worker has not seen, or none once the board is closed.
-    fn next_start<R: Wait>(&self, rt: &R, seen: &mut u64) -> Option<Arc<KeptStart<S>, Global>> {
+    fn next_start<R: Wait>(&self, rt: &R, seen: &mut u64) -> Option<Arc<PostedStart<S>, Global>> {
         let mut posted = self.posted.lock(rt);
         for _ in rt.forever() {
             if posted.closed {
@@ -77,7 +77,11 @@ impl<S: RunStarts> Board<S> {
 
     /// Posts a start, works on it beside those who serve, and gives it back with the rounds that were done. Rounds may be missing:
     /// those that were refused memory.
-    pub fn share<R: Wait>(&self, rt: &R, start: KeptStart<S>) -> (KeptStart<S>, Vec<KeptRound<S>>)
+    pub fn share<R: Wait>(
+        &self,
+        rt: &R,
+        start: PostedStart<S>,
+    ) -> (PostedStart<S>, Vec<PostedRound<S>>)
         ensures { result.0 ≡ start }
     {
         let shared = match Arc::new(self.alloc, start) {
@@ -93,7 +97,7 @@ impl<S: RunStarts> Board<S> {
     }
 
     /// Posts a start.
-    fn post<R: Wait>(&self, rt: &R, start: &Arc<KeptStart<S>, Global>) {
+    fn post<R: Wait>(&self, rt: &R, start: &Arc<PostedStart<S>, Global>) {
         let mut posted = self.posted.lock(rt);
         posted.start = Arc::try_clone(start).ok();
         posted.count = posted.count.wrapping_add(1);
@@ -102,7 +106,7 @@ impl<S: RunStarts> Board<S> {
     }
 
     /// Takes the start from the board, waits until no worker holds it, and takes the rounds that they left.
-    fn recall<R: Wait>(&self, rt: &R) -> Vec<KeptRound<S>> {
+    fn recall<R: Wait>(&self, rt: &R) -> Vec<PostedRound<S>> {
         let mut posted = self.posted.lock(rt);
         posted.start = None;
         for _ in rt.forever() {
@@ -125,15 +129,15 @@ impl<S: RunStarts> Board<S> {
 /// round while it goes on.
 fn rounds_of<S: RunStarts>(
     alloc: Global,
-    start: &KeptStart<S>,
+    start: &PostedStart<S>,
     room: &mut Vec<Access>,
-) -> Vec<KeptRound<S>> {
+) -> Vec<PostedRound<S>> {
     let mut rounds = Vec::new(alloc);
     for _ in 0..start.parts.harts.len() {
         let Some(number) = start.claim() else {
             break;
         };
-        let Ok(round) = KeptRound::of(start, number, room) else {
+        let Ok(round) = PostedRound::of(start, number, room) else {
             break;
         };
         if rounds.push(round).is_err() {

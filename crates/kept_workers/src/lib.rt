@@ -3,10 +3,10 @@
 #![tactic(auto)]
 
 mod board;
-mod kept_round;
-mod kept_start;
-mod posted;
+mod posted_round;
+mod posted_start;
+mod postings;
 
 pub use board::Board;
-pub use kept_round::KeptRound;
-pub use kept_start::{KeptStart, RunStarts, StartParts};
+pub use posted_round::PostedRound;
+pub use posted_start::{PostedStart, RunStarts, StartParts};

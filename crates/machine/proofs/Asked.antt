@@ -26,13 +26,14 @@ use Rattle.hart_step.specs.Console.{ConsoleState}
 use Rattle.hart_step.specs.Numbers.{minus}
 use Rattle.hart_step.specs.Rounds.{Leaves}
 use Rattle.hart_step.specs.Words.{words_of}
-use Rattle.parallel_phase.proofs.HartRounds.{indexed}
+use Rattle.hart_rounds.proofs.HartRounds.{indexed}
 use Rattle.hart_step.proofs.Soundness.{counts_done, sound}
-use Rattle.machine.specs.declared.outcome.Outcome.{Outcome}
+use Rattle.hart_rounds.specs.declared.hart_end.HartEnd.{HartEnd}
 use Rattle.machine.specs.declared.asked_turn.TurnPlace.{TurnPlace}
 use Rattle.machine.specs.Asked.{found_by, found_in}
 use Rattle.machine.specs.Guests.{Shared}
-use Rattle.machine.specs.Outcomes.{AreOutcomes, IsOutcome}
+use Rattle.machine.specs.HartEnds.{AreEndsOf, IsEndOf}
+use Rattle.machine.proofs.EndParts.{hart_is, waits_is}
 use Rattle.machine.proofs.Listed.{same_length}
 use Rattle.machine.proofs.RoundDone.{length-rounds}
 
@@ -162,49 +163,49 @@ module _ (code : List Range) (budget : ℕ) (quotas : ℕ → List ℕ) (s : Sta
       (subst (λ (z : Hart). AskedAt code budget quotas s table i count (minus z.done h.done) h z part.waits) (sym e)
       (record { few = k_few; early = by_round.early; at_end = by_round.at_end; beyond = by_round.beyond; over = by_round.over; in_turn = by_turn }))
 
--- ---- from the outcomes of a round
+-- ---- from what the harts left
 
-outcome_there : (logs : Bool) (m : Memory) (rs : List (HartRound Hart)) (os : List Outcome) (i : ℕ) (r : HartRound Hart) (o : Outcome) → AreOutcomes logs m rs os → slice_get rs i ≡ Some r → slice_get os i ≡ Some o → IsOutcome logs m r o
-outcome_there logs m [] os i r o a e f = absurd cc
-outcome_there logs m (x ∷ rs) [] i r o a e f = absurd a
-outcome_there logs m (x ∷ rs) (y ∷ os) zero r o a e f =
+end_there : (logs : Bool) (m : Memory) (rs : List (HartRound Hart)) (os : List HartEnd) (i : ℕ) (r : HartRound Hart) (o : HartEnd) → AreEndsOf logs m rs os → slice_get rs i ≡ Some r → slice_get os i ≡ Some o → IsEndOf logs m r o
+end_there logs m [] os i r o a e f = absurd cc
+end_there logs m (x ∷ rs) [] i r o a e f = absurd a
+end_there logs m (x ∷ rs) (y ∷ os) zero r o a e f =
     let p : x ≡ r = cc in
     let q : y ≡ o = cc in
-    subst (λ (z : HartRound Hart). IsOutcome logs m z o) p (subst (λ (z : Outcome). IsOutcome logs m x z) q a.0)
-outcome_there logs m (x ∷ rs) (y ∷ os) (suc i) r o a e f = outcome_there logs m rs os i r o a.1 e f
+    subst (λ (z : HartRound Hart). IsEndOf logs m z o) p (subst (λ (z : HartEnd). IsEndOf logs m x z) q a.0)
+end_there logs m (x ∷ rs) (y ∷ os) (suc i) r o a e f = end_there logs m rs os i r o a.1 e f
 
--- the outcomes are of the rounds of all harts
-pub outcomes_are : (logs : Bool) (plan : Planned) (n : ℕ) (hs gs : List Hart) (p : Paged) (os : List Outcome) → gs ≡ hs →
-    AreOutcomes logs p.memory (hart_rounds (words_of p.memory.code) p.memory.bytes (quotas_of plan (n + 1 - 1)) gs) os → AreOutcomes logs p.memory (hart_rounds (words_of p.memory.code) p.memory.bytes (quotas_of plan n) hs) os
-outcomes_are logs plan n hs gs p os same a =
+-- it is of the rounds of all harts
+pub ends_are : (logs : Bool) (plan : Planned) (n : ℕ) (hs gs : List Hart) (p : Paged) (os : List HartEnd) → gs ≡ hs →
+    AreEndsOf logs p.memory (hart_rounds (words_of p.memory.code) p.memory.bytes (quotas_of plan (n + 1 - 1)) gs) os → AreEndsOf logs p.memory (hart_rounds (words_of p.memory.code) p.memory.bytes (quotas_of plan n) hs) os
+ends_are logs plan n hs gs p os same a =
     let m : Memory = p.memory in
     let less : n + 1 - 1 ≡ n = omega arith in
-    subst (λ (xs : List Hart). AreOutcomes logs m (hart_rounds (words_of m.code) m.bytes (quotas_of plan n) xs) os) same
-    (subst (λ (k : ℕ). AreOutcomes logs m (hart_rounds (words_of m.code) m.bytes (quotas_of plan k) gs) os) less a)
+    subst (λ (xs : List Hart). AreEndsOf logs m (hart_rounds (words_of m.code) m.bytes (quotas_of plan n) xs) os) same
+    (subst (λ (k : ℕ). AreEndsOf logs m (hart_rounds (words_of m.code) m.bytes (quotas_of plan k) gs) os) less a)
 
-pub how_many : (logs : Bool) (plan : Planned) (n : ℕ) (hs gs : List Hart) (p : Paged) (os : List Outcome) → gs ≡ hs →
-    AreOutcomes logs p.memory (hart_rounds (words_of p.memory.code) p.memory.bytes (quotas_of plan (n + 1 - 1)) gs) os → length os ≡ length hs
+pub how_many : (logs : Bool) (plan : Planned) (n : ℕ) (hs gs : List Hart) (p : Paged) (os : List HartEnd) → gs ≡ hs →
+    AreEndsOf logs p.memory (hart_rounds (words_of p.memory.code) p.memory.bytes (quotas_of plan (n + 1 - 1)) gs) os → length os ≡ length hs
 how_many logs plan n hs gs p os same a =
     let W = words_of p.memory.code in
-    sym (same_length logs p.memory _ os (outcomes_are logs plan n hs gs p os same a)) ∙ length-rounds W p.memory.bytes (quotas_of plan n) hs
+    sym (same_length logs p.memory _ os (ends_are logs plan n hs gs p os same a)) ∙ length-rounds W p.memory.bytes (quotas_of plan n) hs
 
 at_index : {A : Type 0} (xs : List A) (i : ℕ) (x : A) → i < length xs → x ≡ get_or xs i x → slice_get xs i ≡ Some x
 at_index xs i x low is = indexed xs i x low ∙ ap (λ z. Some z) (sym is)
 
-pub asked_of : (logs : Bool) (plan : Planned) (n : ℕ) (hs gs : List Hart) (p : Paged) (t : List (Option Span)) (c : ConsoleState) (es : List Event) (os : List Outcome) (i count done : ℕ) (h : Hart) (o : Outcome) →
-    gs ≡ hs → AreOutcomes logs p.memory (hart_rounds (words_of p.memory.code) p.memory.bytes (quotas_of plan (n + 1 - 1)) gs) os → i < length hs → h ≡ get_or hs i h → o ≡ get_or os i o → done ≡ minus o.hart.done h.done →
+pub asked_of : (logs : Bool) (plan : Planned) (n : ℕ) (hs gs : List Hart) (p : Paged) (t : List (Option Span)) (c : ConsoleState) (es : List Event) (os : List HartEnd) (i count done : ℕ) (h : Hart) (o : HartEnd) →
+    gs ≡ hs → AreEndsOf logs p.memory (hart_rounds (words_of p.memory.code) p.memory.bytes (quotas_of plan (n + 1 - 1)) gs) os → i < length hs → h ≡ get_or hs i h → o ≡ get_or os i o → done ≡ minus o.hart.done h.done →
     IsBytes p.memory.bytes → Tied t es → length t ≡ length hs → length hs ≡ plan.harts → All IsQuota (quotas_of plan n) → length (quotas_of plan n) ≡ plan.harts → plan.budget ≤ 1000 → h.done < 2 ^ 64 →
     AskedAt p.memory.code plan.budget (quotas_of plan) (record { harts = hs; bytes = p.memory.bytes; console = c; trace = es; rounds = n }) t i count done h o.hart o.waits
 asked_of logs plan n hs gs p t c es os i count done h o same a low_i at_h at_o by_done bytes tied size harts quotas sized small low =
     let m : Memory = p.memory in
     let rs : List (HartRound Hart) = hart_rounds (words_of m.code) m.bytes (quotas_of plan n) hs in
-    let there : AreOutcomes logs m rs os = outcomes_are logs plan n hs gs p os same a in
+    let there : AreEndsOf logs m rs os = ends_are logs plan n hs gs p os same a in
     let s : State Hart ConsoleState = record { harts = hs; bytes = m.bytes; console = c; trace = es; rounds = n } in
     let low_o : i < length os = omega (arith, low_i, same_length logs m rs os there, length-rounds (words_of m.code) m.bytes (quotas_of plan n) hs) in
-    let is = outcome_there logs m rs os i _ o there (round_at (words_of m.code) m.bytes (quotas_of plan n) hs i h (at_index hs i h low_i at_h)) (at_index os i o low_o at_o) in
+    let is = end_there logs m rs os i _ o there (round_at (words_of m.code) m.bytes (quotas_of plan n) hs i h (at_index hs i h low_i at_h)) (at_index os i o low_o at_o) in
     let quota : slice_index (quotas_of plan n) i ≤ 1000000 = omega (arith, (quotas i 0 (omega (arith, low_i, harts, sized))).1) in
     subst (λ (k : ℕ). AskedAt m.code plan.budget (quotas_of plan) s t i count k h o.hart o.waits) (sym by_done)
-    (asked_at m.code plan.budget (quotas_of plan) s t i count h tied size bytes (at_index hs i h low_i at_h) low_i quota small low o.hart o.waits is.hart is.waits)
+    (asked_at m.code plan.budget (quotas_of plan) s t i count h tied size bytes (at_index hs i h low_i at_h) low_i quota small low o.hart o.waits (hart_is is) (waits_is is))
 
 -- ---- no such hart
 

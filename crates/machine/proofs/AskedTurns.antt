@@ -19,10 +19,11 @@ use Rattle.serial_phase.specs.Turns.{Turns}
 use Rattle.serial_phase.specs.declared.shared.SharedState.{SharedState}
 use Rattle.serial_phase.specs.declared.shared.Turn.{Turn}
 use Rattle.machine.specs.declared.asked_turn.TurnPlace.{TurnPlace}
-use Rattle.machine.specs.declared.outcome.Outcome.{Outcome}
+use Rattle.hart_rounds.specs.declared.hart_end.HartEnd.{HartEnd}
 use Rattle.machine.specs.Guests.{Shared}
 use Rattle.machine.specs.Asked.{HadTurns, LeftBy, tabled_turn_begun, found, found_at, found_in, ready_for_turns}
-use Rattle.machine.specs.Outcomes.{AreOutcomes, turns_of, waits_of}
+use Rattle.machine.specs.HartEnds.{AreEndsOf, turns_of, waits_of}
+use Rattle.machine.proofs.EndParts.{hart_is, waits_is}
 
 -- ---- room for fewer
 
@@ -45,14 +46,14 @@ no_turns : (turn : Turn) (s : SharedState) → HadTurns turn [] s s
 no_turns turn s logs m [] c a eb ec et = record { pages = record { bytes = sym eb; code = refl; count = refl; stays = λ page h. h }; table = sym et; console = sym ec }
 no_turns turn s logs m (r ∷ rs) c a eb ec et = absurd a
 
--- the turn of a hart with this outcome, and the one of the next hart
-abbrev pub turn_for : Turn → Outcome → Turn
+-- the turn of a hart whose round left this, and the one of the next hart
+abbrev pub turn_for : Turn → HartEnd → Turn
 turn_for turn o = record turn { budget = cond o.waits turn.budget 0 }
 
 abbrev pub next_turn : Turn → Turn
 next_turn turn = record turn { hart = turn.hart + 1 }
 
-turns_more : (turn : Turn) (o : Outcome) (os : List Outcome) (s s' u : SharedState) (k : Turns) (h : Hart) →
+turns_more : (turn : Turn) (o : HartEnd) (os : List HartEnd) (s s' u : SharedState) (k : Turns) (h : Hart) →
     TakesTurn (turn_done (turn_for turn o) o.hart s) h s s' → HadTurns (next_turn turn) os (record s' { log = k }) u → HadTurns turn (o ∷ os) s u
 turns_more turn o os s s' u k h x y logs m [] c a eb ec et = absurd a
 turns_more turn o os s s' u k h x y logs m (r ∷ rs) c a eb ec et =
@@ -63,8 +64,8 @@ turns_more turn o os s s' u k h x y logs m (r ∷ rs) c a eb ec et =
     let tabled_turn : Bool → Hart → List ℕ → ConsoleState → List (Option Span) → TabledTurn Hart ConsoleState = λ b g bs e table. tabled_turn_from W n first (cond b budget 0) (tabled_turn_begun g bs e table) in
     let D : TabledTurn Hart ConsoleState = tabled_turn_of W budget n c first r.last.hart r.waits in
     let same : turn_done (turn_for turn o) o.hart s ≡ D =
-    ap (λ (b : Bool). tabled_turn b o.hart s.pages.memory.bytes s.console.console s.reservations) a.0.waits
-    ∙ ap (λ (g : Hart). tabled_turn r.waits g s.pages.memory.bytes s.console.console s.reservations) a.0.hart
+    ap (λ (b : Bool). tabled_turn b o.hart s.pages.memory.bytes s.console.console s.reservations) (waits_is a.0)
+    ∙ ap (λ (g : Hart). tabled_turn r.waits g s.pages.memory.bytes s.console.console s.reservations) (hart_is a.0)
     ∙ ap (λ (bs : List ℕ). tabled_turn r.waits r.last.hart bs s.console.console s.reservations) (sym eb)
     ∙ ap (λ (e : ConsoleState). tabled_turn r.waits r.last.hart c.bytes e s.reservations) (sym ec)
     ∙ ap (λ (table : List (Option Span)). tabled_turn r.waits r.last.hart c.bytes c.console table) (sym et) in
@@ -77,46 +78,46 @@ turns_more turn o os s s' u k h x y logs m (r ∷ rs) c a eb ec et =
 
 -- by the first of a list
 
-abbrev pub rest : List Outcome → List Outcome
+abbrev pub rest : List HartEnd → List HartEnd
 rest os = take (length os - 1) (drop 1 os)
 
-all_taken : (os : List Outcome) → take (length os) os ≡ os
+all_taken : (os : List HartEnd) → take (length os) os ≡ os
 all_taken [] = refl
-all_taken (o ∷ os) = ap (λ (x : List Outcome). o ∷ x) (all_taken os)
+all_taken (o ∷ os) = ap (λ (x : List HartEnd). o ∷ x) (all_taken os)
 
-rest_is : (o : Outcome) (os : List Outcome) → rest (o ∷ os) ≡ os
+rest_is : (o : HartEnd) (os : List HartEnd) → rest (o ∷ os) ≡ os
 rest_is o os = let e : length (o ∷ os) - 1 ≡ length os = omega arith in ap (λ (n : ℕ). take n os) e ∙ all_taken os
 
-pub none_there : (turn : Turn) (os : List Outcome) (s : SharedState) → length os < 1 → HadTurns turn os s s
+pub none_there : (turn : Turn) (os : List HartEnd) (s : SharedState) → length os < 1 → HadTurns turn os s s
 none_there turn [] s lt = no_turns turn s
 none_there turn (o ∷ os) s lt = absurd (omega (arith, lt))
 
-pub turns_up : (turn of_first : Turn) (o : Outcome) (os : List Outcome) (s s' u : SharedState) (k : Turns) (h : Hart) → 1 ≤ length os → o ≡ get_or os 0 o → of_first ≡ turn_for turn o →
+pub turns_up : (turn of_first : Turn) (o : HartEnd) (os : List HartEnd) (s s' u : SharedState) (k : Turns) (h : Hart) → 1 ≤ length os → o ≡ get_or os 0 o → of_first ≡ turn_for turn o →
     TakesTurn (turn_done of_first o.hart s) h s s' → HadTurns (next_turn turn) (rest os) (record s' { log = k }) u → HadTurns turn os s u
 turns_up turn of_first o [] s s' u k h some is e x y = absurd (omega (arith, some))
 turns_up turn of_first o (v ∷ os) s s' u k h some is e x y =
     let x1 = subst (λ (t : Turn). TakesTurn (turn_done t o.hart s) h s s') e x in
-    let x2 : TakesTurn (turn_done (turn_for turn v) v.hart s) h s s' = subst (λ (z : Outcome). TakesTurn (turn_done (turn_for turn z) z.hart s) h s s') is x1 in
-    turns_more turn v os s s' u k h x2 (subst (λ (r : List Outcome). HadTurns (next_turn turn) r (record s' { log = k }) u) (rest_is v os) y)
+    let x2 : TakesTurn (turn_done (turn_for turn v) v.hart s) h s s' = subst (λ (z : HartEnd). TakesTurn (turn_done (turn_for turn z) z.hart s) h s s') is x1 in
+    turns_more turn v os s s' u k h x2 (subst (λ (r : List HartEnd). HadTurns (next_turn turn) r (record s' { log = k }) u) (rest_is v os) y)
 
 -- what the turns may need together
-pub sums : (budget n k : ℕ) (o : Outcome) (os : List Outcome) → 1 ≤ length os → o ≡ get_or os 0 o → k ≡ cond o.waits budget 0 → n + turns_of budget (waits_of os) ≡ (n + turns_of budget (waits_of (rest os))) + k
+pub sums : (budget n k : ℕ) (o : HartEnd) (os : List HartEnd) → 1 ≤ length os → o ≡ get_or os 0 o → k ≡ cond o.waits budget 0 → n + turns_of budget (waits_of os) ≡ (n + turns_of budget (waits_of (rest os))) + k
 sums budget n k o [] some is e = absurd (omega (arith, some))
 sums budget n k o (v ∷ os) some is e =
-    let same : k ≡ cond v.waits budget 0 = e ∙ ap (λ (z : Outcome). cond z.waits budget 0) is in
-    ap (λ (x : ℕ). n + x) (omega arith) ∙ ap (λ (x : ℕ). n + (turns_of budget (waits_of os) + x)) (sym same) ∙ omega arith ∙ ap (λ (r : List Outcome). (n + turns_of budget (waits_of r)) + k) (sym (rest_is v os))
+    let same : k ≡ cond v.waits budget 0 = e ∙ ap (λ (z : HartEnd). cond z.waits budget 0) is in
+    ap (λ (x : ℕ). n + x) (omega arith) ∙ ap (λ (x : ℕ). n + (turns_of budget (waits_of os) + x)) (sym same) ∙ omega arith ∙ ap (λ (r : List HartEnd). (n + turns_of budget (waits_of r)) + k) (sym (rest_is v os))
 
-pub sums_0 : (budget k : ℕ) (o : Outcome) (os : List Outcome) → 1 ≤ length os → o ≡ get_or os 0 o → k ≡ cond o.waits budget 0 → turns_of budget (waits_of os) ≡ turns_of budget (waits_of (rest os)) + k
+pub sums_0 : (budget k : ℕ) (o : HartEnd) (os : List HartEnd) → 1 ≤ length os → o ≡ get_or os 0 o → k ≡ cond o.waits budget 0 → turns_of budget (waits_of os) ≡ turns_of budget (waits_of (rest os)) + k
 sums_0 budget k o os some is e = omega (arith, sums budget 0 k o os some is e)
 
--- ---- the first outcomes are those of the first rounds
+-- ---- what the first harts left is of the first rounds
 
-pub first_outcomes : (logs : Bool) (m : Memory) (i : ℕ) (rs : List (HartRound Hart)) (os : List Outcome) → AreOutcomes logs m rs os → AreOutcomes logs m (take i rs) (take i os)
-first_outcomes logs m zero rs os a = tt
-first_outcomes logs m (suc i) [] [] a = tt
-first_outcomes logs m (suc i) (r ∷ rs) [] a = absurd a
-first_outcomes logs m (suc i) [] (o ∷ os) a = absurd a
-first_outcomes logs m (suc i) (r ∷ rs) (o ∷ os) a = (a.0, first_outcomes logs m i rs os a.1)
+pub first_ends : (logs : Bool) (m : Memory) (i : ℕ) (rs : List (HartRound Hart)) (os : List HartEnd) → AreEndsOf logs m rs os → AreEndsOf logs m (take i rs) (take i os)
+first_ends logs m zero rs os a = tt
+first_ends logs m (suc i) [] [] a = tt
+first_ends logs m (suc i) (r ∷ rs) [] a = absurd a
+first_ends logs m (suc i) [] (o ∷ os) a = absurd a
+first_ends logs m (suc i) (r ∷ rs) (o ∷ os) a = (a.0, first_ends logs m i rs os a.1)
 
 -- ---- a hart in its own turn
 
@@ -145,8 +146,8 @@ found_further budget count h d e le less differ =
 
 -- ---- after a commit and the turns before it
 
-pub begun_there : (logs : Bool) (turn : Turn) (place : TurnPlace) (h : Hart) (old : Shared) (rs : List (HartRound Hart)) (os : List Outcome) (ready : Paged) (start end : SharedState) →
-    turn ≡ record { hart = 0; round = place.round; budget = place.budget } → AreOutcomes logs old.memory rs os → ready.memory ≡ old.memory → Committed rs ready start.pages old.table start.reservations →
+pub begun_there : (logs : Bool) (turn : Turn) (place : TurnPlace) (h : Hart) (old : Shared) (rs : List (HartRound Hart)) (os : List HartEnd) (ready : Paged) (start end : SharedState) →
+    turn ≡ record { hart = 0; round = place.round; budget = place.budget } → AreEndsOf logs old.memory rs os → ready.memory ≡ old.memory → Committed rs ready start.pages old.table start.reservations →
     start.console.console ≡ old.console → HadTurns turn (take place.hart os) start end →
     found_at end.pages.memory.code place (tabled_turn_begun h end.pages.memory.bytes end.console.console end.reservations) ≡ found_in old place h rs
 begun_there logs turn place h old rs os ready start end first a same committed console had =
@@ -155,7 +156,7 @@ begun_there logs turn place h old rs os ready start end first a same committed c
     let memory : start.pages.memory ≡ stored m (all_stores rs) = committed.memory ∙ ap (λ (x : Memory). stored x (all_stores rs)) same in
     let c : TabledPhase Hart ConsoleState = ready_for_turns old rs in
     let had' = subst (λ (t : Turn). HadTurns t (take i os) start end) first had in
-    let left = had' logs m (take i rs) c (first_outcomes logs m i rs os a) (sym (ap (λ (x : Memory). x.bytes) memory)) (sym console) (sym committed.table) in
+    let left = had' logs m (take i rs) c (first_ends logs m i rs os a) (sym (ap (λ (x : Memory). x.bytes) memory)) (sym console) (sym committed.table) in
     let code : start.pages.memory.code ≡ m.code = ap (λ (x : Memory). x.code) memory in
     let there = subst (λ (z : List Range). LeftBy (tabled_phase_from (words_of z) place.budget place.round 0 (take i rs) c) start end) code left in
     let s : TabledPhase Hart ConsoleState = tabled_phase_from (words_of m.code) place.budget place.round 0 (take i rs) c in

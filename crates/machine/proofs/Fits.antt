@@ -17,7 +17,7 @@ use Rattle.hart_step.specs.declared.hart.Hart.{Hart}
 use Rattle.hart_step.specs.Step.{stepped}
 use Rattle.hart_step.specs.Words.{words_of}
 use Rattle.serial_phase.proofs.PlainSteps.{Quiet, none, one, good_step}
-use Rattle.machine.specs.Outcomes.{AllFit}
+use Rattle.machine.specs.HartEnds.{AllFit}
 
 -- the stores have no fault
 abbrev pub FitStores : Memory → List Store → Type 0

@@ -5,23 +5,23 @@ use Rattle.round_planner.specs.Quotas.{Planned, quotas_of}
 use Rattle.hart_step.specs.declared.hart.Hart.{Hart}
 use Rattle.hart_step.specs.Words.{words_of}
 use Rattle.serial_phase.specs.declared.shared.SharedState.{SharedState}
-use Rattle.machine.specs.declared.outcome.Outcome.{Outcome}
+use Rattle.hart_rounds.specs.declared.hart_end.HartEnd.{HartEnd}
 use Rattle.machine.specs.Guests.{Guest, guest_of}
 use Rattle.machine.specs.Kept.{AreOfGuest}
-use Rattle.machine.specs.Outcomes.{AreOutcomes}
+use Rattle.machine.specs.HartEnds.{AreEndsOf}
 use Rattle.machine.proofs.Listed.{same_length}
 use Rattle.machine.proofs.RoundDone.{length-rounds}
 
-pub here_are : (logs : Bool) (plan : Planned) (n : ℕ) (hs : List Hart) (s : SharedState) (g : Guest) (os : List Outcome) → guest_of hs s ≡ g → AreOfGuest logs plan n g os →
-    AreOutcomes logs s.pages.memory (hart_rounds (words_of s.pages.memory.code) s.pages.memory.bytes (quotas_of plan n) hs) os
+pub here_are : (logs : Bool) (plan : Planned) (n : ℕ) (hs : List Hart) (s : SharedState) (g : Guest) (os : List HartEnd) → guest_of hs s ≡ g → AreOfGuest logs plan n g os →
+    AreEndsOf logs s.pages.memory (hart_rounds (words_of s.pages.memory.code) s.pages.memory.bytes (quotas_of plan n) hs) os
 here_are logs plan n hs s g os is a = subst (λ (x : Guest). AreOfGuest logs plan n x os) (sym is) a
 
-pub many_here : (logs : Bool) (plan : Planned) (n : ℕ) (hs : List Hart) (s : SharedState) (g : Guest) (os : List Outcome) → guest_of hs s ≡ g → AreOfGuest logs plan n g os → length os ≡ length hs
+pub many_here : (logs : Bool) (plan : Planned) (n : ℕ) (hs : List Hart) (s : SharedState) (g : Guest) (os : List HartEnd) → guest_of hs s ≡ g → AreOfGuest logs plan n g os → length os ≡ length hs
 many_here logs plan n hs s g os is a =
     let m = s.pages.memory in
     sym (same_length logs m _ os (here_are logs plan n hs s g os is a)) ∙ length-rounds (words_of m.code) m.bytes (quotas_of plan n) hs
 
-pub many_of : (logs : Bool) (plan : Planned) (n : ℕ) (g : Guest) (os : List Outcome) → AreOfGuest logs plan n g os → length os ≡ length g.harts
+pub many_of : (logs : Bool) (plan : Planned) (n : ℕ) (g : Guest) (os : List HartEnd) → AreOfGuest logs plan n g os → length os ≡ length g.harts
 many_of logs plan n g os a =
     let m = g.shared.memory in
     sym (same_length logs m _ os a) ∙ length-rounds (words_of m.code) m.bytes (quotas_of plan n) g.harts

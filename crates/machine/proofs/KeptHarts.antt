@@ -10,9 +10,9 @@ use Rattle.hart_step.specs.Words.{words_of}
 use Rattle.serial_phase.specs.declared.shared.SerialRound.{SerialRound}
 use Rattle.serial_phase.specs.declared.shared.SharedState.{SharedState}
 use Rattle.serial_phase.specs.Phase.{TakesTurns, is_waiting, serial_done, waiting_rounds}
-use Rattle.machine.specs.declared.outcome.Outcome.{Outcome}
-use Rattle.machine.specs.Outcomes.{AreKept, harts_of}
-use Rattle.machine.proofs.AtRest.{picked}
+use Rattle.hart_rounds.specs.declared.hart_end.HartEnd.{HartEnd}
+use Rattle.machine.specs.HartEnds.{AreKept, harts_of}
+use Rattle.hart_rounds.proofs.AtRest.{picked}
 use Rattle.machine.proofs.Listed.{harts-push}
 use Rattle.machine.proofs.RoundDone.{length-harts}
 
@@ -20,21 +20,21 @@ use Rattle.machine.proofs.RoundDone.{length-harts}
 pub kept_none : (hs gs : List Hart) → gs ≡ [] → AreKept hs gs
 kept_none hs gs none = λ i h low few stop. absurd (omega (arith, few, ap length none))
 
--- a hart of the outcomes
-pub hart_at : (os : List Outcome) (i : ℕ) (h : Hart) (o : Outcome) → i < length os → get_or (harts_of os) i h ≡ (get_or os i o).hart
+-- a hart in what the rounds left
+pub hart_at : (os : List HartEnd) (i : ℕ) (h : Hart) (o : HartEnd) → i < length os → get_or (harts_of os) i h ≡ (get_or os i o).hart
 hart_at [] i h o low = absurd (omega (arith, low))
 hart_at (x ∷ os) zero h o low = refl
 hart_at (x ∷ os) (suc i) h o low = hart_at os i h o (omega (arith, low))
 
--- an outcome whose hart has stopped has the hart itself
-pub kept_at : (hs : List Hart) (os : List Outcome) (i : ℕ) (o : Outcome) → i < length hs → i < length os → AreKept hs (harts_of os) → is_some (get_or os i o).hart.stop ≡ true →
+-- where a hart has stopped, it is the hart itself
+pub kept_at : (hs : List Hart) (os : List HartEnd) (i : ℕ) (o : HartEnd) → i < length hs → i < length os → AreKept hs (harts_of os) → is_some (get_or os i o).hart.stop ≡ true →
     get_or hs i o.hart ≡ (get_or os i o).hart
 kept_at hs os i o low less kept stopped =
     let here = hart_at os i o.hart o less in
     sym (kept i o.hart low (omega (arith, less, length-harts os)) (ap (λ (h : Hart). is_some h.stop) here ∙ stopped)) ∙ here
 
--- the first outcomes
-harts_take : (n : ℕ) (os : List Outcome) → harts_of (take n os) ≡ take n (harts_of os)
+-- the first of them
+harts_take : (n : ℕ) (os : List HartEnd) → harts_of (take n os) ≡ take n (harts_of os)
 harts_take zero os = refl
 harts_take (suc n) [] = refl
 harts_take (suc n) (o ∷ os) = ap (λ (hs : List Hart). o.hart ∷ hs) (harts_take n os)
@@ -46,11 +46,11 @@ front_kept n hs gs kept = λ i h low few stopped.
     let same : get_or (take n gs) i h ≡ get_or gs i h = get_or-take n gs i h inside in
     same ∙ kept i h low (omega (arith, few, size)) (ap (λ (g : Hart). is_some g.stop) (sym same) ∙ stopped)
 
-pub kept_front : (n : ℕ) (hs : List Hart) (os : List Outcome) → AreKept hs (harts_of os) → AreKept hs (harts_of (take n os))
+pub kept_front : (n : ℕ) (hs : List Hart) (os : List HartEnd) → AreKept hs (harts_of os) → AreKept hs (harts_of (take n os))
 kept_front n hs os kept = subst (AreKept hs) (sym (harts_take n os)) (front_kept n hs (harts_of os) kept)
 
--- one more outcome
-pub kept_push : (hs : List Hart) (os : List Outcome) (o : Outcome) → get_or hs (length os) o.hart ≡ o.hart → AreKept hs (harts_of os) → AreKept hs (harts_of (os ++ o ∷ []))
+-- one more
+pub kept_push : (hs : List Hart) (os : List HartEnd) (o : HartEnd) → get_or hs (length os) o.hart ≡ o.hart → AreKept hs (harts_of os) → AreKept hs (harts_of (os ++ o ∷ []))
 kept_push hs os o here kept = subst (AreKept hs) (sym (harts-push os o)) (λ i h low few stopped.
     let gs = harts_of os in
     let both : List Hart = gs ++ o.hart ∷ [] in

@@ -5,11 +5,11 @@ use Rattle.round_schedule.specs.Schedule.{HartRound, hart_rounds}
 use Rattle.round_planner.specs.Quotas.{Planned, quota_of, quotas_of}
 use Rattle.hart_step.specs.declared.hart.Hart.{Hart}
 use Rattle.hart_step.specs.Words.{words_of}
-use Rattle.round_lock.specs.Starts.{Start}
-use Rattle.machine.specs.declared.outcome.Outcome.{Outcome}
+use Rattle.hart_rounds.specs.Starts.{Start}
+use Rattle.hart_rounds.specs.declared.hart_end.HartEnd.{HartEnd}
 use Rattle.machine.specs.Guests.{Guest}
 use Rattle.machine.specs.Kept.{AreOfGuest, next_start_of, quotas_from, start_at, untraced_rounds}
-use Rattle.machine.specs.Outcomes.{AreOutcomes}
+use Rattle.machine.specs.HartEnds.{AreEndsOf}
 use Rattle.machine.specs.Untraced.{Untraced, untraced_round}
 use Rattle.machine.proofs.RoundsOfHarts.{same_rounds}
 
@@ -39,15 +39,15 @@ pub same_start : (m w : Memory) (qs ps : List ℕ) (hs gs : List Hart) (a b : Bo
 same_start m w qs ps hs gs a b em eq eh el =
     ap (λ (x : Memory). starting x qs hs a) em ∙ ap (λ (x : List ℕ). starting w x hs a) eq ∙ ap (λ (x : List Hart). starting w ps x a) eh ∙ ap (λ (x : Bool). starting w ps gs x) el
 
--- outcomes of rounds with quotas that were set one by one
-pub of_guest : (logs : Bool) (plan : Planned) (n : ℕ) (m : Memory) (qs : List ℕ) (hs : List Hart) (g : Guest) (os : List Outcome) → ((h : ℕ) → h < length hs → get_or qs h 0 ≡ quota_of plan (n + 1) h) →
-    m ≡ g.shared.memory → hs ≡ g.harts → AreOutcomes logs m (hart_rounds (words_of m.code) m.bytes qs hs) os → AreOfGuest logs plan n g os
+-- what rounds left with quotas that were set one by one
+pub of_guest : (logs : Bool) (plan : Planned) (n : ℕ) (m : Memory) (qs : List ℕ) (hs : List Hart) (g : Guest) (os : List HartEnd) → ((h : ℕ) → h < length hs → get_or qs h 0 ≡ quota_of plan (n + 1) h) →
+    m ≡ g.shared.memory → hs ≡ g.harts → AreEndsOf logs m (hart_rounds (words_of m.code) m.bytes qs hs) os → AreOfGuest logs plan n g os
 of_guest logs plan n m qs hs g os f em eh a =
     let less : (n + 1) - 1 ≡ n = omega arith in
     let rounds = same_rounds (words_of m.code) m.bytes qs (quotas_of plan n) hs (λ k low. f k low ∙ ap (λ (x : ℕ). get_or (quotas_of plan x) k 0) less) in
-    subst (λ (x : Memory). AreOutcomes logs x (hart_rounds (words_of x.code) x.bytes (quotas_of plan n) g.harts) os) em
-    (subst (λ (xs : List Hart). AreOutcomes logs m (hart_rounds (words_of m.code) m.bytes (quotas_of plan n) xs) os) eh
-    (subst (λ (rs : List (HartRound Hart)). AreOutcomes logs m rs os) rounds a))
+    subst (λ (x : Memory). AreEndsOf logs x (hart_rounds (words_of x.code) x.bytes (quotas_of plan n) g.harts) os) em
+    (subst (λ (xs : List Hart). AreEndsOf logs m (hart_rounds (words_of m.code) m.bytes (quotas_of plan n) xs) os) eh
+    (subst (λ (rs : List (HartRound Hart)). AreEndsOf logs m rs os) rounds a))
 
 pub one_more : (k : ℕ) (u : Untraced) → untraced_round (untraced_rounds k u) ≡ untraced_rounds (k + 1) u
 one_more k u = ap (λ (n : ℕ). untraced_rounds n u) (sym (add-one k))

@@ -1,3 +1,4 @@
+pub mod EndParts
 pub mod Fits
 pub mod CodeKept
 pub mod RoundsOfHarts

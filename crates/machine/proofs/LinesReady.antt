@@ -7,7 +7,7 @@ use Rattle.store_buffer.specs.Covered.{one_byte}
 use Rattle.store_buffer.specs.Lines.{line_at, line_bytes, put_first, whole_line}
 use Rattle.commit_phase.proofs.Writing.{All-after, All-before}
 use Rattle.hart_step.proofs.Spares.{within_pages}
-use Rattle.machine.specs.Outcomes.{AllFit, AllOnReady, KeepsPages}
+use Rattle.machine.specs.HartEnds.{AllFit, AllOnReady, KeepsPages}
 use Rattle.machine.proofs.Listed.{keeps_first, keeps_more}
 
 -- the byte lies in one of so many pages

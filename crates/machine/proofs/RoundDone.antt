@@ -25,11 +25,12 @@ use Rattle.serial_phase.specs.Phase.{TakesTurns, serial_done, waiting_rounds, is
 use Rattle.serial_phase.specs.declared.shared.SerialRound.{SerialRound}
 use Rattle.serial_phase.specs.declared.shared.SharedState.{SharedState}
 use Rattle.serial_phase.specs.Turns.{Turns, count_log}
-use Rattle.machine.specs.declared.outcome.Outcome.{Outcome}
-use Rattle.machine.specs.Outcomes.{AreOutcomes, mask_of, waits_of, harts_of, events_of_rounds, outcome_events, round_events, turns_of, count_true}
+use Rattle.hart_rounds.specs.declared.hart_end.HartEnd.{HartEnd}
+use Rattle.machine.specs.HartEnds.{AreEndsOf, mask_of, waits_of, harts_of, events_of_rounds, events_of_ends, round_events, turns_of, count_true}
 use Rattle.machine.specs.Machine.{count_waiting}
 use Rattle.machine.specs.Guests.{Guest, Shared, guest_after, guest_of, guest_round, shared_of}
 use Rattle.machine.specs.Rounds.{IsFinished}
+use Rattle.machine.proofs.EndParts.{hart_is, log_is, waits_is}
 
 -- ---- which harts wait
 
@@ -65,52 +66,52 @@ budgets w budget i (b ∷ bs) f =
 pub needed_is : (budget : ℕ) (bs : List Bool) → budget_from (mask_of bs) budget 0 (length bs) ≡ turns_of budget bs
 needed_is budget bs = budgets (mask_of bs) budget 0 bs (λ k low. ap (is_waiting (mask_of bs)) (omega arith) ∙ waiting_bit bs k)
 
-pub length-waits : (os : List Outcome) → length (waits_of os) ≡ length os
+pub length-waits : (os : List HartEnd) → length (waits_of os) ≡ length os
 length-waits [] = refl
 length-waits (o ∷ os) = ap suc (length-waits os)
 
-pub length-harts : (os : List Outcome) → length (harts_of os) ≡ length os
+pub length-harts : (os : List HartEnd) → length (harts_of os) ≡ length os
 length-harts [] = refl
 length-harts (o ∷ os) = ap suc (length-harts os)
 
--- ---- the serial phase from the outcomes
+-- ---- the serial phase from what the rounds left
 
-tabled_phase_same : (W : Words Hart ConsoleState) (budget n i w : ℕ) (logs : Bool) (m : Memory) (rs : List (HartRound Hart)) (os : List Outcome) (s : TabledPhase Hart ConsoleState) → AreOutcomes logs m rs os →
+tabled_phase_same : (W : Words Hart ConsoleState) (budget n i w : ℕ) (logs : Bool) (m : Memory) (rs : List (HartRound Hart)) (os : List HartEnd) (s : TabledPhase Hart ConsoleState) → AreEndsOf logs m rs os →
     ((k : ℕ) → k < length os → is_waiting w (i + k) ≡ get_or (waits_of os) k false) → tabled_phase_from W budget n i (waiting_rounds w i (harts_of os)) s ≡ tabled_phase_from W budget n i rs s
 tabled_phase_same W budget n i w logs m [] [] s a f = refl
 tabled_phase_same W budget n i w logs m (r ∷ rs) [] s a f = absurd a
 tabled_phase_same W budget n i w logs m [] (o ∷ os) s a f = absurd a
 tabled_phase_same W budget n i w logs m (r ∷ rs) (o ∷ os) s a f =
-    let waits : is_waiting w i ≡ r.waits = ap (is_waiting w) (omega arith) ∙ f 0 (omega arith) ∙ a.0.waits in
+    let waits : is_waiting w i ≡ r.waits = ap (is_waiting w) (omega arith) ∙ f 0 (omega arith) ∙ (waits_is a.0) in
     tabled_phase_same W budget n (suc i) w logs m rs os (tabled_phase_joined s (tabled_turn_of W budget n s i o.hart (is_waiting w i))) a.1 (λ k low. ap (is_waiting w) (omega arith) ∙ f (suc k) (omega arith))
-    ∙ ap (λ (h : Hart). tabled_phase_from W budget n (suc i) rs (tabled_phase_joined s (tabled_turn_of W budget n s i h (is_waiting w i)))) a.0.hart
+    ∙ ap (λ (h : Hart). tabled_phase_from W budget n (suc i) rs (tabled_phase_joined s (tabled_turn_of W budget n s i h (is_waiting w i)))) (hart_is a.0)
     ∙ ap (λ (b : Bool). tabled_phase_from W budget n (suc i) rs (tabled_phase_joined s (tabled_turn_of W budget n s i r.last.hart b))) waits
 
-pub serial_is : (phase : SerialRound) (logs : Bool) (m : Memory) (rs : List (HartRound Hart)) (os : List Outcome) (start : SharedState) → AreOutcomes logs m rs os → phase.waiting ≡ mask_of (waits_of os) →
+pub serial_is : (phase : SerialRound) (logs : Bool) (m : Memory) (rs : List (HartRound Hart)) (os : List HartEnd) (start : SharedState) → AreEndsOf logs m rs os → phase.waiting ≡ mask_of (waits_of os) →
     serial_done phase (harts_of os) start
     ≡ tabled_phase_from (words_of start.pages.memory.code) phase.budget phase.round 0 rs (record { harts = []; bytes = start.pages.memory.bytes; console = start.console.console; table = start.reservations; log = [] })
 serial_is phase logs m rs os start a w =
     tabled_phase_same (words_of start.pages.memory.code) phase.budget phase.round 0 phase.waiting logs m rs os _ a
     (λ k low. ap (λ (x : ℕ). is_waiting x (0 + k)) w ∙ ap (is_waiting (mask_of (waits_of os))) (omega arith) ∙ waiting_bit (waits_of os) k)
 
--- where the outcomes have the accesses, their events are those of the rounds
-events_are : (m : Memory) (n i : ℕ) (rs : List (HartRound Hart)) (os : List Outcome) → AreOutcomes true m rs os → outcome_events n i os ≡ events_from n i rs
+-- where the accesses are kept, their events are those of the rounds
+events_are : (m : Memory) (n i : ℕ) (rs : List (HartRound Hart)) (os : List HartEnd) → AreEndsOf true m rs os → events_of_ends n i os ≡ events_from n i rs
 events_are m n i [] [] a = refl
 events_are m n i (r ∷ rs) [] a = absurd a
 events_are m n i [] (o ∷ os) a = absurd a
 events_are m n i (r ∷ rs) (o ∷ os) a =
-    ap (λ (as' : List Access). events_of n i Parallel as' ++ outcome_events n (suc i) os) a.0.log
+    ap (λ (as' : List Access). events_of n i Parallel as' ++ events_of_ends n (suc i) os) (log_is a.0)
     ∙ ap (λ (es : List Event). events_of n i Parallel r.last.accesses ++ es) (events_are m n (suc i) rs os a.1)
 
--- what holds of the events of rounds holds of those of their outcomes, where these have the accesses, or else of any events
-pub by_outcomes : (P : List Event → Type 0) (logs : Bool) → (logs ≡ false → (es fs : List Event) → P es → P fs) → (m : Memory) (n : ℕ) (rs : List (HartRound Hart)) (os : List Outcome) (closed : List (List Access)) (es : List Event) →
-    AreOutcomes logs m rs os → P (es ++ events_of_rounds n rs closed) → P (es ++ round_events n os closed)
-by_outcomes P true any m n rs os closed es a p = subst (λ (fs : List Event). P (es ++ (fs ++ log_events n 0 closed))) (sym (events_are m n 0 rs os a)) p
-by_outcomes P false any m n rs os closed es a p = any refl (es ++ events_of_rounds n rs closed) (es ++ round_events n os closed) p
+-- what holds of the events of rounds holds of those of what they left, where the accesses are kept, or else of any events
+pub by_ends : (P : List Event → Type 0) (logs : Bool) → (logs ≡ false → (es fs : List Event) → P es → P fs) → (m : Memory) (n : ℕ) (rs : List (HartRound Hart)) (os : List HartEnd) (closed : List (List Access)) (es : List Event) →
+    AreEndsOf logs m rs os → P (es ++ events_of_rounds n rs closed) → P (es ++ round_events n os closed)
+by_ends P true any m n rs os closed es a p = subst (λ (fs : List Event). P (es ++ (fs ++ log_events n 0 closed))) (sym (events_are m n 0 rs os a)) p
+by_ends P false any m n rs os closed es a p = any refl (es ++ events_of_rounds n rs closed) (es ++ round_events n os closed) p
 
 -- and the other way round
-pub by_rounds : (P : List Event → Type 0) (logs : Bool) → (logs ≡ false → (es fs : List Event) → P es → P fs) → (m : Memory) (n : ℕ) (rs : List (HartRound Hart)) (os : List Outcome) (closed : List (List Access)) (es : List Event) →
-    AreOutcomes logs m rs os → P (es ++ round_events n os closed) → P (es ++ events_of_rounds n rs closed)
+pub by_rounds : (P : List Event → Type 0) (logs : Bool) → (logs ≡ false → (es fs : List Event) → P es → P fs) → (m : Memory) (n : ℕ) (rs : List (HartRound Hart)) (os : List HartEnd) (closed : List (List Access)) (es : List Event) →
+    AreEndsOf logs m rs os → P (es ++ round_events n os closed) → P (es ++ events_of_rounds n rs closed)
 by_rounds P true any m n rs os closed es a p = subst (λ (fs : List Event). P (es ++ (fs ++ log_events n 0 closed))) (events_are m n 0 rs os a) p
 by_rounds P false any m n rs os closed es a p = any refl (es ++ round_events n os closed) (es ++ events_of_rounds n rs closed) p
 
@@ -203,8 +204,8 @@ length-rounds W bs qs (h ∷ hs) = ap suc (length-rounds W bs (rest_of qs) hs)
 abbrev pub next_rounds : Planned → ℕ → Guest → List (HartRound Hart)
 next_rounds plan n g = hart_rounds (words_of g.shared.memory.code) g.shared.memory.bytes (quotas_of plan n) g.harts
 
-pub finished_done : (logs : Bool) (plan : Planned) (phase : SerialRound) (n : ℕ) (old new : Guest) (more : List Event) (os : List Outcome) →
-    AreOutcomes logs old.shared.memory (next_rounds plan n old) os →
+pub finished_done : (logs : Bool) (plan : Planned) (phase : SerialRound) (n : ℕ) (old new : Guest) (more : List Event) (os : List HartEnd) →
+    AreEndsOf logs old.shared.memory (next_rounds plan n old) os →
     phase.budget ≡ plan.budget → phase.round ≡ n + 1 → phase.waiting ≡ mask_of (waits_of os) → IsFinished phase (next_rounds plan n old) os old.shared new more →
     DoneWith (guest_round plan n old) old new more
 unfolding tabled_round
@@ -237,11 +238,11 @@ finished_done logs plan phase n old new more os a budget round waiting x =
           ∙ ap (λ (y : List (List Access)). events_from (n + 1) 0 rs ++ log_events (n + 1) 0 y) (served.log ∙ ap (λ (y : TabledPhase Hart ConsoleState). y.log) done);
     }
 
-pub waited_is : (logs : Bool) (m : Memory) (rs : List (HartRound Hart)) (os : List Outcome) → AreOutcomes logs m rs os → count_true (waits_of os) ≡ count_waiting rs
+pub waited_is : (logs : Bool) (m : Memory) (rs : List (HartRound Hart)) (os : List HartEnd) → AreEndsOf logs m rs os → count_true (waits_of os) ≡ count_waiting rs
 waited_is logs m [] [] a = refl
 waited_is logs m (r ∷ rs) [] a = absurd a
 waited_is logs m [] (o ∷ os) a = absurd a
-waited_is logs m (r ∷ rs) (o ∷ os) a = ap (λ (b : Bool). cond b 1 0 + count_true (waits_of os)) a.0.waits ∙ ap (λ (n : ℕ). cond r.waits 1 0 + n) (waited_is logs m rs os a.1)
+waited_is logs m (r ∷ rs) (o ∷ os) a = ap (λ (b : Bool). cond b 1 0 + count_true (waits_of os)) (waits_is a.0) ∙ ap (λ (n : ℕ). cond r.waits 1 0 + n) (waited_is logs m rs os a.1)
 
 abbrev pub whole : List Hart → List ℕ → ConsoleState → List Event → ℕ → State Hart ConsoleState
 whole hs bs c es k = record { harts = hs; bytes = bs; console = c; trace = es; rounds = k }
@@ -267,7 +268,7 @@ unfolding tabled_round
 rounds_next W budget quotas m = refl
 
 -- a round that goes on so is finished
-pub finished_from : (phase : SerialRound) (rs : List (HartRound Hart)) (os : List Outcome) (gs : List Hart) (old ready start end : SharedState) → ready.pages.memory ≡ old.pages.memory →
+pub finished_from : (phase : SerialRound) (rs : List (HartRound Hart)) (os : List HartEnd) (gs : List Hart) (old ready start end : SharedState) → ready.pages.memory ≡ old.pages.memory →
     Committed rs ready.pages start.pages old.reservations start.reservations →
     start.console.console ≡ old.console.console → TakesTurns (serial_done phase (harts_of os) start) gs start end →
     IsFinished phase rs os (shared_of old) (guest_of gs end) (events_of_rounds phase.round rs end.log.closed)

@@ -5,11 +5,12 @@ use Rattle.round_schedule.specs.Schedule.{Words, HartRound, hart_rounds, hart_ro
 use Rattle.hart_step.specs.declared.hart.Hart.{Hart}
 use Rattle.hart_step.specs.Console.{ConsoleState}
 use Rattle.hart_step.specs.Words.{words_of}
-use Rattle.machine.specs.declared.outcome.Outcome.{Outcome}
-use Rattle.round_lock.specs.Starts.{Content, Start, content_from, content_of, round_at}
-use Rattle.round_lock.proofs.Contents.{round_at_is}
-use Rattle.parallel_phase.proofs.HartRounds.{indexed}
-use Rattle.machine.specs.Outcomes.{AllFit, AreOutcomes, IsOutcome}
+use Rattle.hart_rounds.specs.declared.hart_end.HartEnd.{HartEnd}
+use Rattle.hart_rounds.specs.Starts.{Start}
+use Rattle.hart_rounds.specs.Ends.{end_of, round_at}
+use Rattle.hart_rounds.proofs.RoundAt.{round_at_is}
+use Rattle.hart_rounds.proofs.HartRounds.{indexed}
+use Rattle.machine.specs.HartEnds.{AllFit, AreEndsOf, IsEndOf}
 use Rattle.machine.proofs.Fits.{buffer_fits}
 
 first_is : (qs : List ℕ) → first_or_zero qs ≡ get_or qs 0 0
@@ -28,20 +29,20 @@ rounds_next w bs qs (h ∷ hs) (suc i) d low =
     ap (λ (rs : List (HartRound Hart)). hart_round_of w bs (first_or_zero qs) h ∷ rs) (rounds_next w bs (rest_of qs) hs i d (omega arith))
     ∙ ap (λ (q : ℕ). hart_round_of w bs (first_or_zero qs) h ∷ (hart_rounds w bs (rest_of qs) (take i hs) ++ hart_round_of w bs q (get_or hs i d) ∷ [])) (rest_is qs i)
 
-outcomes-push : (logs : Bool) (m : Memory) (rs : List (HartRound Hart)) (os : List Outcome) (r : HartRound Hart) (o : Outcome) → AreOutcomes logs m rs os → IsOutcome logs m r o → AreOutcomes logs m (rs ++ r ∷ []) (os ++ o ∷ [])
-outcomes-push logs m [] [] r o a b = (b, tt)
-outcomes-push logs m (x ∷ rs) [] r o a b = absurd a
-outcomes-push logs m [] (x ∷ os) r o a b = absurd a
-outcomes-push logs m (x ∷ rs) (y ∷ os) r o a b = (a.0, outcomes-push logs m rs os r o a.1 b)
+ends-push : (logs : Bool) (m : Memory) (rs : List (HartRound Hart)) (os : List HartEnd) (r : HartRound Hart) (o : HartEnd) → AreEndsOf logs m rs os → IsEndOf logs m r o → AreEndsOf logs m (rs ++ r ∷ []) (os ++ o ∷ [])
+ends-push logs m [] [] r o a b = (b, tt)
+ends-push logs m (x ∷ rs) [] r o a b = absurd a
+ends-push logs m [] (x ∷ os) r o a b = absurd a
+ends-push logs m (x ∷ rs) (y ∷ os) r o a b = (a.0, ends-push logs m rs os r o a.1 b)
 
-pub outcomes_more : (logs : Bool) (m : Memory) (qs : List ℕ) (hs : List Hart) (i : ℕ) (d : Hart) (q : ℕ) (os ps : List Outcome) (o : Outcome) → i < length hs → q ≡ get_or qs i 0 → ps ≡ os ++ o ∷ [] →
-    AreOutcomes logs m (hart_rounds (words_of m.code) m.bytes qs (take i hs)) os → IsOutcome logs m (hart_round_of (words_of m.code) m.bytes q (get_or hs i d)) o →
-    AreOutcomes logs m (hart_rounds (words_of m.code) m.bytes qs (take (i + 1) hs)) ps
-outcomes_more logs m qs hs i d q os ps o low e more a b =
-    subst (AreOutcomes logs m (hart_rounds (words_of m.code) m.bytes qs (take (i + 1) hs))) (sym more)
-    (subst (λ (rs : List (HartRound Hart)). AreOutcomes logs m rs (os ++ o ∷ []))
+pub ends_more : (logs : Bool) (m : Memory) (qs : List ℕ) (hs : List Hart) (i : ℕ) (d : Hart) (q : ℕ) (os ps : List HartEnd) (o : HartEnd) → i < length hs → q ≡ get_or qs i 0 → ps ≡ os ++ o ∷ [] →
+    AreEndsOf logs m (hart_rounds (words_of m.code) m.bytes qs (take i hs)) os → IsEndOf logs m (hart_round_of (words_of m.code) m.bytes q (get_or hs i d)) o →
+    AreEndsOf logs m (hart_rounds (words_of m.code) m.bytes qs (take (i + 1) hs)) ps
+ends_more logs m qs hs i d q os ps o low e more a b =
+    subst (AreEndsOf logs m (hart_rounds (words_of m.code) m.bytes qs (take (i + 1) hs))) (sym more)
+    (subst (λ (rs : List (HartRound Hart)). AreEndsOf logs m rs (os ++ o ∷ []))
     (sym (ap (λ (k : ℕ). hart_rounds (words_of m.code) m.bytes qs (take k hs)) (add-one i) ∙ rounds_next (words_of m.code) m.bytes qs hs i d low))
-    (outcomes-push logs m _ os _ o a (subst (λ (x : ℕ). IsOutcome logs m (hart_round_of (words_of m.code) m.bytes x (get_or hs i d)) o) e b)))
+    (ends-push logs m _ os _ o a (subst (λ (x : ℕ). IsEndOf logs m (hart_round_of (words_of m.code) m.bytes x (get_or hs i d)) o) e b)))
 
 -- the rounds of all harts depend on the quota of each
 pub same_rounds : (w : Words Hart ConsoleState) (bs qs ps : List ℕ) (hs : List Hart) → ((k : ℕ) → k < length hs → get_or qs k 0 ≡ get_or ps k 0) → hart_rounds w bs qs hs ≡ hart_rounds w bs ps hs
@@ -50,22 +51,16 @@ same_rounds w bs qs ps (h ∷ hs) f =
     ap₂ (λ (q : ℕ) (rs : List (HartRound Hart)). hart_round_of w bs q h ∷ rs) (first_is qs ∙ f 0 (omega arith) ∙ sym (first_is ps))
     (same_rounds w bs (rest_of qs) (rest_of ps) hs (λ k low. rest_is qs k ∙ f (suc k) (omega arith) ∙ sym (rest_is ps k)))
 
--- the round of a hart, as it was gathered
-pub is_outcome : (s : Start) (n : ℕ) (d : Hart) (c : Content) (o : Outcome) → n < length s.harts → length s.quotas ≡ length s.harts → round_at s n ≡ Some c →
-    c ≡ content_from o.hart o.buffer o.log o.accesses o.waits →
-    IsOutcome s.logs s.memory (hart_round_of (words_of s.memory.code) s.memory.bytes (get_or s.quotas n 0) (get_or s.harts n d)) o
-is_outcome s n d c o low sized at parts =
+-- the round of a hart, as the start has it
+pub is_end_of : (s : Start) (n : ℕ) (d : Hart) (o : HartEnd) → n < length s.harts → length s.quotas ≡ length s.harts → round_at s n ≡ Some o →
+    IsEndOf s.logs s.memory (hart_round_of (words_of s.memory.code) s.memory.bytes (get_or s.quotas n 0) (get_or s.harts n d)) o
+is_end_of s n d o low sized at =
     let q = get_or s.quotas n 0 in
     let h = get_or s.harts n d in
     let r = hart_round_of (words_of s.memory.code) s.memory.bytes q h in
-    let both : Some (content_of s.logs r) ≡ Some c = sym (round_at_is s n q h (indexed s.harts n d low) (indexed s.quotas n 0 (omega (arith, sized, low)))) ∙ at in
-    let here : content_of s.logs r ≡ c = cc in
-    let same : content_of s.logs r ≡ content_from o.hart o.buffer o.log o.accesses o.waits = here ∙ parts in
+    let both : Some (end_of s.logs r) ≡ Some o = sym (round_at_is s n q h (indexed s.harts n d low) (indexed s.quotas n 0 (omega (arith, sized, low)))) ∙ at in
+    let same : end_of s.logs r ≡ o = cc in
     record {
-      hart = sym (ap (λ (x : Content). x.hart) same);
-      buffer = sym (ap (λ (x : Content). x.buffer) same);
-      log = sym (ap (λ (x : Content). x.accesses) same);
-      accesses = sym (ap (λ (x : Content). x.count) same);
-      waits = sym (ap (λ (x : Content). x.waits) same);
-      fits = subst (λ (es : List (ℕ × ℕ)). AllFit s.memory es) (ap (λ (x : Content). x.buffer) same) (buffer_fits s.memory q h);
+      is = sym same;
+      fits = subst (λ (es : List (ℕ × ℕ)). AllFit s.memory es) (ap (λ (x : HartEnd). x.buffer) same) (buffer_fits s.memory q h);
     }

@@ -14,8 +14,8 @@ use Rattle.round_planner.specs.Quotas.{IsQuota, Planned, quotas_of}
 use Rattle.hart_step.specs.declared.hart.Hart.{Hart}
 use Rattle.trace.specs.Traced.{IsTrace, Traced}
 use Rattle.machine.specs.Machine.{opening_hart, opening_harts}
-use Rattle.machine.specs.declared.outcome.Outcome.{Outcome}
-use Rattle.machine.specs.Outcomes.{HasPlaces}
+use Rattle.hart_rounds.specs.declared.hart_end.HartEnd.{HartEnd}
+use Rattle.machine.specs.HartEnds.{HasPlaces}
 
 -- no hart has done anything before the first round
 pub placed_first : (entry n i k : ℕ) → Placed (λ (h : Hart). h.done) 0 (opening_harts entry n i k) []
@@ -61,18 +61,18 @@ turn_first es n i closed as' l e h = split_first es (events_of n i Serial as') (
 
 -- ---- the places for their events
 
-adopted_on : (n i : ℕ) (p : Outcome) (os : List Outcome) (t u : Traced) → HasPlaces true (p ∷ os) t → t.logs ≤ u.logs + 1 → u.events ≡ t.events ++ events_of n i Parallel p.log → HasPlaces true os u
+adopted_on : (n i : ℕ) (p : HartEnd) (os : List HartEnd) (t u : Traced) → HasPlaces true (p ∷ os) t → t.logs ≤ u.logs + 1 → u.events ≡ t.events ++ events_of n i Parallel p.log → HasPlaces true os u
 adopted_on n i p os t u h g e = record {
   room = omega arith;
   logs = λ w. omega (arith, h.logs refl, g);
   few = λ w. omega (arith, h.few refl, ap length e, length-append t.events (events_of n i Parallel p.log), length-map p.log (event_of n i Parallel));
 }
 
-copied_on : (p : Outcome) (os : List Outcome) (t u : Traced) → HasPlaces false (p ∷ os) t → t.room ≤ u.room + length p.log → HasPlaces false os u
+copied_on : (p : HartEnd) (os : List HartEnd) (t u : Traced) → HasPlaces false (p ∷ os) t → t.room ≤ u.room + length p.log → HasPlaces false os u
 copied_on p os t u h r = record { room = omega (arith, h.room, r); logs = λ w. absurd (false≢true w); few = λ w. absurd (false≢true w) }
 
 -- after the events of the first hart
-pub places_on : (adopts : Bool) (n i : ℕ) (p : Outcome) (os : List Outcome) (t u : Traced) → HasPlaces adopts (p ∷ os) t → t.room ≤ u.room + (if adopts then 0 else length p.log) →
+pub places_on : (adopts : Bool) (n i : ℕ) (p : HartEnd) (os : List HartEnd) (t u : Traced) → HasPlaces adopts (p ∷ os) t → t.room ≤ u.room + (if adopts then 0 else length p.log) →
     (adopts ≡ true → t.logs ≤ u.logs + 1) → u.events ≡ t.events ++ events_of n i Parallel p.log → HasPlaces adopts os u
 places_on true n i p os t u h r g e = adopted_on n i p os t u h (g refl) e
 places_on false n i p os t u h r g e = copied_on p os t u h r

@@ -14,9 +14,9 @@ use Rattle.serial_phase.specs.Phase.{HasBytes}
 use Rattle.serial_phase.specs.declared.shared.SharedState.{SharedState}
 use Rattle.serial_phase.specs.declared.shared.Turn.{Turn}
 use Rattle.machine.specs.declared.asked_turn.TurnPlace.{TurnPlace}
-use Rattle.machine.specs.declared.outcome.Outcome.{Outcome}
+use Rattle.hart_rounds.specs.declared.hart_end.HartEnd.{HartEnd}
 use Rattle.machine.specs.Guests.{Shared}
-use Rattle.machine.specs.Outcomes.{AreOutcomes}
+use Rattle.machine.specs.HartEnds.{AreEndsOf}
 
 -- a hart that began a turn of at most `budget` instructions as h, after `count` of them: a turn of as many ends as d, and one more
 -- instruction from there as e. It is none where d did fewer, and e where that one is not done, since it then ends the turn
@@ -70,9 +70,9 @@ pub record LeftBy (c : TabledPhase Hart ConsoleState) (old new : SharedState) : 
   pub table : new.reservations ≡ c.table
   pub console : new.console.console ≡ c.console
 
--- harts with these outcomes had their turns, of which the first one's would be this
-abbrev pub HadTurns : Turn → List Outcome → SharedState → SharedState → Type 0
+-- harts whose rounds left these had their turns, of which the first one's would be this
+abbrev pub HadTurns : Turn → List HartEnd → SharedState → SharedState → Type 0
 HadTurns turn os old new =
-    (logs : Bool) (m : Memory) (rs : List (HartRound Hart)) (c : TabledPhase Hart ConsoleState) → AreOutcomes logs m rs os →
+    (logs : Bool) (m : Memory) (rs : List (HartRound Hart)) (c : TabledPhase Hart ConsoleState) → AreEndsOf logs m rs os →
     c.bytes ≡ old.pages.memory.bytes → c.console ≡ old.console.console → c.table ≡ old.reservations →
     LeftBy (tabled_phase_from (words_of old.pages.memory.code) turn.budget turn.round turn.hart rs c) old new

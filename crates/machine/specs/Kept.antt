@@ -3,10 +3,10 @@ use Rattle.std.specs.Prelude.{Bool, ℕ, zero, suc, ◌+◌, ◌-◌, List, [], 
 use Rattle.round_schedule.specs.Schedule.{hart_rounds}
 use Rattle.round_planner.specs.Quotas.{Planned, quota_of, quotas_of}
 use Rattle.hart_step.specs.Words.{words_of}
-use Rattle.round_lock.specs.Starts.{Start}
-use Rattle.machine.specs.declared.outcome.Outcome.{Outcome}
+use Rattle.hart_rounds.specs.Starts.{Start}
+use Rattle.hart_rounds.specs.declared.hart_end.HartEnd.{HartEnd}
 use Rattle.machine.specs.Guests.{Guest}
-use Rattle.machine.specs.Outcomes.{AreOutcomes}
+use Rattle.machine.specs.HartEnds.{AreEndsOf}
 use Rattle.machine.specs.Untraced.{Untraced, untraced_round}
 
 -- the quotas of harts k, k + 1, .., n of them, in a round
@@ -41,9 +41,9 @@ abbrev pub start_at : Bool → Untraced → ℕ → Start
 start_at logs u round = next_start_of logs (untraced_rounds (round - (u.rounds + 1)) u)
 
 -- these are what the rounds of a guest after n rounds left
-abbrev pub AreOfGuest : Bool → Planned → ℕ → Guest → List Outcome → Type 0
-AreOfGuest logs plan n g os = AreOutcomes logs g.shared.memory (hart_rounds (words_of g.shared.memory.code) g.shared.memory.bytes (quotas_of plan n) g.harts) os
+abbrev pub AreOfGuest : Bool → Planned → ℕ → Guest → List HartEnd → Type 0
+AreOfGuest logs plan n g os = AreEndsOf logs g.shared.memory (hart_rounds (words_of g.shared.memory.code) g.shared.memory.bytes (quotas_of plan n) g.harts) os
 
 -- the same of a machine's next round
-abbrev pub AreOfNext : Bool → Untraced → List Outcome → Type 0
+abbrev pub AreOfNext : Bool → Untraced → List HartEnd → Type 0
 AreOfNext logs u os = AreOfGuest logs u.plan u.rounds (guest_in u) os

@@ -1,4 +1,4 @@
-pub mod Outcomes
+pub mod HartEnds
 pub mod Kept
 pub mod Keepers
 pub mod Machine

@@ -8,12 +8,12 @@ use Rattle.hart_step.specs.declared.hart.Hart.{Hart}
 use Rattle.serial_phase.specs.declared.shared.SerialRound.{SerialRound}
 use Rattle.serial_phase.specs.declared.shared.SharedState.{SharedState}
 use Rattle.serial_phase.specs.Phase.{TakesTurns, serial_done}
-use Rattle.machine.specs.declared.outcome.Outcome.{Outcome}
+use Rattle.hart_rounds.specs.declared.hart_end.HartEnd.{HartEnd}
 use Rattle.machine.specs.Guests.{Guest, Shared, shared_of}
-use Rattle.machine.specs.Outcomes.{harts_of, events_of_rounds}
+use Rattle.machine.specs.HartEnds.{harts_of, events_of_rounds}
 
--- the commit of the rounds with these outcomes, their serial turns from there to an end, and the events of both
-pub record IsFinished (phase : SerialRound) (rs : List (HartRound Hart)) (os : List Outcome) (old : Shared) (new : Guest) (more : List Event) : Type 0 where
+-- the commit of the rounds that left these, their serial turns from there to an end, and the events of both
+pub record IsFinished (phase : SerialRound) (rs : List (HartRound Hart)) (os : List HartEnd) (old : Shared) (new : Guest) (more : List Event) : Type 0 where
   pub ready : Paged
   pub start : SharedState
   pub end : SharedState
@@ -25,5 +25,5 @@ pub record IsFinished (phase : SerialRound) (rs : List (HartRound Hart)) (os : L
   pub events : more ≡ events_of_rounds phase.round rs end.log.closed
 
 -- whatever events the round has that goes on from these rounds of the harts, they may be kept after those that there are
-abbrev pub MayFinish : (List Event → Type 0) → SerialRound → List (HartRound Hart) → List Outcome → Shared → List Event → Type 0
+abbrev pub MayFinish : (List Event → Type 0) → SerialRound → List (HartRound Hart) → List HartEnd → Shared → List Event → Type 0
 MayFinish may_keep phase rs os old es = (new : Guest) (more : List Event) → IsFinished phase rs os old new more → may_keep (es ++ more)

@@ -7,13 +7,13 @@ ghost use Rattle.hart_step.specs.Room.{HasSpares};
 ghost use Rattle.serial_phase.specs.Roomed.{HasRoom};
 ghost use Rattle.machine.specs.Asked.{HadTurns, tabled_turn_begun, found_at, found_in};
 ghost use Rattle.machine.specs.Guests.{shared_of};
-ghost use Rattle.machine.specs.Outcomes.{AreFit, AreOutcomes, turns_of, waits_of};
+ghost use Rattle.machine.specs.HartEnds.{AreFit, AreEndsOf, turns_of, waits_of};
 
 use crate::commit::commit;
 use crate::crew::Crew;
 use crate::events::turns_needed;
-use crate::outcome::Outcome;
 use crate::room::make_turn_room;
+use hart_rounds::HartEnd;
 use hart_step::Hart;
 use pages::OutOfMemory;
 use serial_phase::{SharedState, Turn, take_turn};
@@ -21,7 +21,7 @@ use std::thread::Threads;
 
 /// A place in a serial turn.
 #[derive(Clone, Copy)]
-pub struct TurnPlace {
+pub(crate) struct TurnPlace {
     /// Whose turn it is.
     pub hart: u32,
     /// In which round.
@@ -34,10 +34,10 @@ pub struct TurnPlace {
 
 /// A waiting hart at a place in its turn, for which it went out of its part of the round as `start`: after the commit and the turns
 /// of the harts before it. `None` where it does fewer instructions.
-pub fn ask_turn<G, R: Threads + Sync>(
+pub(crate) fn ask_turn<G, R: Threads + Sync>(
     crew: &Crew<'_, G, R>,
     shared: &mut SharedState,
-    outcomes: &[Outcome],
+    ends: &[HartEnd],
     start: Hart,
     place: TurnPlace,
 ) -> Result<Option<Hart>, OutOfMemory>
@@ -45,22 +45,22 @@ pub fn ask_turn<G, R: Threads + Sync>(
     requires shows { Shows shared.old.pages.memory shared.old.code.first
         shared.old.code.instructions }
     requires rounds { (logs : Bool) × (rs : List (HartRound Hart)) ×
-        AreOutcomes logs shared.old.pages.memory rs outcomes.now ×
+        AreEndsOf logs shared.old.pages.memory rs ends.now ×
         TouchesNoCode shared.old.pages.memory.code (all_stores rs) }
-    requires few { length outcomes.now ≤ 64 }
-    requires fits { AreFit shared.old.pages.memory outcomes.now }
-    requires size { length shared.old.reservations ≡ length outcomes.now }
-    requires hart { place.hart < length outcomes.now }
+    requires few { length ends.now ≤ 64 }
+    requires fits { AreFit shared.old.pages.memory ends.now }
+    requires size { length shared.old.reservations ≡ length ends.now }
+    requires hart { place.hart < length ends.now }
     requires budget { place.budget ≤ 1000 }
     requires count { place.count ≤ place.budget }
     ensures { IfOk result (λ h. (logs : Bool) (rs : List (HartRound Hart)) →
-        AreOutcomes logs shared.old.pages.memory rs outcomes.now →
+        AreEndsOf logs shared.old.pages.memory rs ends.now →
         h ≡ found_in (shared_of shared.old) place start rs) }
 {
-    let earlier = &outcomes[..place.hart as usize];
+    let earlier = &ends[..place.hart as usize];
     let turns = turns_needed(earlier, place.budget) + place.budget;
-    make_turn_room(shared, outcomes, turns)?;
-    commit(crew, &mut shared.pages, &mut shared.reservations, outcomes);
+    make_turn_room(shared, ends, turns)?;
+    commit(crew, &mut shared.pages, &mut shared.reservations, ends);
     let first = Turn {
         hart: 0,
         round: place.round,
@@ -71,32 +71,32 @@ pub fn ask_turn<G, R: Threads + Sync>(
 }
 
 /// Does the turns of the waiting ones among these harts, of which the first one's turn would be this.
-fn take_turns(shared: &mut SharedState, outcomes: &[Outcome], turn: Turn)
+fn take_turns(shared: &mut SharedState, ends: &[HartEnd], turn: Turn)
     requires shows { Shows shared.old.pages.memory shared.old.code.first
         shared.old.code.instructions }
-    requires harts { turn.hart + length outcomes.now ≤ length shared.old.reservations }
+    requires harts { turn.hart + length ends.now ≤ length shared.old.reservations }
     requires few { length shared.old.reservations ≤ 64 }
-    requires pages { HasSpares (turns_of turn.budget (waits_of outcomes.now)) shared.old.pages }
-    requires console { HasRoom (turns_of turn.budget (waits_of outcomes.now)) shared.old.console }
-    requires log { turns_of turn.budget (waits_of outcomes.now) ≤ shared.old.log.room }
+    requires pages { HasSpares (turns_of turn.budget (waits_of ends.now)) shared.old.pages }
+    requires console { HasRoom (turns_of turn.budget (waits_of ends.now)) shared.old.console }
+    requires log { turns_of turn.budget (waits_of ends.now) ≤ shared.old.log.room }
     requires began { shared.old.log.current ≡ [] }
-    ensures turns { HadTurns turn outcomes.now shared.old shared.new }
-    ensures pages { (n : ℕ) → HasSpares (n + turns_of turn.budget (waits_of outcomes.now))
+    ensures turns { HadTurns turn ends.now shared.old shared.new }
+    ensures pages { (n : ℕ) → HasSpares (n + turns_of turn.budget (waits_of ends.now))
         shared.old.pages → HasSpares n shared.new.pages }
-    ensures console { (n : ℕ) → HasRoom (n + turns_of turn.budget (waits_of outcomes.now))
+    ensures console { (n : ℕ) → HasRoom (n + turns_of turn.budget (waits_of ends.now))
         shared.old.console → HasRoom n shared.new.console }
     ensures log { shared.old.log.room ≤
-        shared.new.log.room + turns_of turn.budget (waits_of outcomes.now) }
+        shared.new.log.room + turns_of turn.budget (waits_of ends.now) }
     ensures began { shared.new.log.current ≡ [] }
     ensures size { length shared.new.reservations ≡ length shared.old.reservations }
     ensures shows { Shows shared.new.pages.memory shared.new.code.first
         shared.new.code.instructions }
 {
-    match outcomes {
+    match ends {
         [] => {}
-        [outcome, rest @ ..] => {
-            let mut hart = outcome.hart;
-            take_turn(&mut hart, shared, turn_of(outcome, turn));
+        [end, rest @ ..] => {
+            let mut hart = end.hart;
+            take_turn(&mut hart, shared, turn_of(end, turn));
             shared.log.clear();
             let next = Turn {
                 hart: turn.hart + 1,
@@ -108,11 +108,11 @@ fn take_turns(shared: &mut SharedState, outcomes: &[Outcome], turn: Turn)
 }
 
 /// The turn of a hart: of no instruction where it does not wait.
-fn turn_of(outcome: &Outcome, turn: Turn) -> Turn
-    ensures { result ≡ record turn { budget = if outcome.now.waits then turn.budget else 0 } }
+fn turn_of(end: &HartEnd, turn: Turn) -> Turn
+    ensures { result ≡ record turn { budget = if end.now.waits then turn.budget else 0 } }
 {
     Turn {
-        budget: if outcome.waits { turn.budget } else { 0 },
+        budget: if end.waits { turn.budget } else { 0 },
         ..turn
     }
 }

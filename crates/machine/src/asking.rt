@@ -13,14 +13,14 @@ use crate::asked_turn::{TurnPlace, ask_turn};
 use crate::crew::Crew;
 use crate::guest::GuestState;
 use crate::machine::Machine;
-use crate::outcome::outcomes_of;
+use crate::parallel::parallel;
 use crate::running::{MANY_LINES, MOST_WORKERS};
 use crate::untraced::UntracedMachine;
+use hart_rounds::LogForm;
 use hart_step::{AccessCount, Buffered, Hart, hart_round};
 use host_io::RunError;
 use pages::OutOfMemory;
 use parallel_phase::Open;
-use round_lock::LogForm;
 use serial_phase::SharedState;
 use std::sync::Wait;
 use std::thread::Threads;
@@ -119,14 +119,13 @@ impl UntracedMachine {
         } = self;
         let GuestState {
             harts,
-            outcomes: room,
-            mut accesses,
+            mut spare,
             mut shared,
         } = guest;
         let before = harts[hart as usize];
         let round = rounds + 1;
-        let outcomes = outcomes_of(crew, &shared, &harts, &plan, round, room, &mut accesses)?;
-        let parts = outcomes.as_slice();
+        let ends = parallel(crew, &shared, &harts, &plan, round, &mut spare)?;
+        let parts = ends.as_slice();
         let part = &parts[hart as usize];
         let done = done_since(before, part.hart);
         if count < done {

@@ -2,11 +2,11 @@ ghost use Rattle.std.specs.Prelude.{◌≡◌, ◌≤◌, Bool, length, List};
 ghost use Rattle.round_schedule.specs.Schedule.{HartRound};
 ghost use Rattle.commit_phase.specs.Commit.{Committed};
 ghost use Rattle.hart_step.specs.declared.hart.Hart.{Hart};
-ghost use Rattle.machine.specs.Outcomes.{AreFit, AreOutcomes, AreReady};
+ghost use Rattle.machine.specs.HartEnds.{AreFit, AreEndsOf, AreReady};
 
 use crate::crew::Crew;
-use crate::outcome::Outcome;
 use commit_phase::{OpenShards, commit as commit_all, commit_on};
+use hart_rounds::HartEnd;
 use pages::Pages;
 use reservations::Reservations;
 use std::thread::Threads;
@@ -14,40 +14,40 @@ use store_buffer::StoreBuffer;
 
 /// Commits the stores of all harts, in hart order. Where the crew shares the commit, each worker writes those of a part of
 /// memory. Takes no memory.
-pub fn commit<G, R: Threads + Sync>(
+pub(crate) fn commit<G, R: Threads + Sync>(
     crew: &Crew<'_, G, R>,
     pages: &mut Pages,
     table: &mut Reservations,
-    outcomes: &[Outcome],
+    ends: &[HartEnd],
 )
     requires workers { 1 ≤ crew.now.workers }
-    requires few { length outcomes.now ≤ 64 }
-    requires fits { AreFit pages.old.memory outcomes.now }
-    requires ready { AreReady pages.old outcomes.now }
+    requires few { length ends.now ≤ 64 }
+    requires fits { AreFit pages.old.memory ends.now }
+    requires ready { AreReady pages.old ends.now }
     ensures ready { pages.new.ready ≡ pages.old.ready }
     ensures spare { pages.new.spare ≡ pages.old.spare }
     ensures size { length table.new ≡ length table.old }
     ensures committed { (logs : Bool) (rs : List (HartRound Hart)) →
-        AreOutcomes logs pages.old.memory rs outcomes.now →
+        AreEndsOf logs pages.old.memory rs ends.now →
         Committed rs pages.old pages.new table.old table.new }
 {
-    if crew.workers > 1 && stores_lines(outcomes, crew.least_lines) {
-        commit_on(crew.rt, pages, table, outcomes, crew.workers, &OpenShards);
+    if crew.workers > 1 && stores_lines(ends, crew.least_lines) {
+        commit_on(crew.rt, pages, table, ends, crew.workers, &OpenShards);
     } else {
-        commit_all(pages, table, outcomes);
+        commit_all(pages, table, ends);
     }
 }
 
 /// Whether the harts stored to so many lines at least, each hart's counted.
-fn stores_lines(outcomes: &[Outcome], least: usize) -> bool {
-    least == 0 || line_count(outcomes) >= least
+fn stores_lines(ends: &[HartEnd], least: usize) -> bool {
+    least == 0 || line_count(ends) >= least
 }
 
 /// How many lines the harts stored to, each hart's counted.
-fn line_count(outcomes: &[Outcome]) -> usize {
+fn line_count(ends: &[HartEnd]) -> usize {
     let mut count: usize = 0;
-    for outcome in outcomes {
-        count = count.saturating_add(lines_of(&outcome.buffer));
+    for end in ends {
+        count = count.saturating_add(lines_of(&end.buffer));
     }
     count
 }

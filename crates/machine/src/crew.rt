@@ -1,8 +1,8 @@
-use round_lock::LogForm;
+use hart_rounds::LogForm;
 
 /// Who does the rounds of the harts and commits their stores: so many workers, and what is told of each hart.
 #[derive(Drop)]
-pub struct Crew<'a, G, R> {
+pub(crate) struct Crew<'a, G, R> {
     /// What starts the workers' threads and waits for them.
     pub rt: &'a R,
     /// How many workers there are, 1 to 16. The calling thread is one of them.

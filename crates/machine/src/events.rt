@@ -3,46 +3,40 @@ ghost use Rattle.round_schedule.specs.declared.event.Phase.TheVariants.{Parallel
 ghost use Rattle.round_schedule.specs.TabledTurn.{log_events};
 ghost use Rattle.round_schedule.specs.Events.{events_of};
 ghost use Rattle.trace.specs.Traced.{IsTrace};
-ghost use Rattle.machine.specs.Outcomes.{HasPlaces, count_copied, harts_of, outcome_events, turns_of, waits_of};
+ghost use Rattle.machine.specs.HartEnds.{HasPlaces, count_copied, harts_of, events_of_ends, turns_of, waits_of};
 ghost use Rattle.serial_phase.specs.Turns.{count_log};
 
-use crate::outcome::Outcome;
+use hart_rounds::HartEnd;
 use hart_step::Access;
 use round_schedule::Phase;
 use serial_phase::SerialLog;
 use trace::{Log, Trace};
 
 /// How many instructions the serial turns may do together.
-pub fn turns_needed(outcomes: &[Outcome], budget: u32) -> u32
-    requires few { length outcomes.now ≤ 64 }
+pub(crate) fn turns_needed(ends: &[HartEnd], budget: u32) -> u32
+    requires few { length ends.now ≤ 64 }
     requires budget { budget ≤ 1000 }
-    ensures needed { result ≡ turns_of budget (waits_of outcomes.now) }
-    ensures small { result ≤ 1000 * length outcomes.now }
+    ensures needed { result ≡ turns_of budget (waits_of ends.now) }
+    ensures small { result ≤ 1000 * length ends.now }
 {
-    match outcomes {
+    match ends {
         [] => 0,
         [first, rest @ ..] => turns_needed(rest, budget) + if first.waits { budget } else { 0 },
     }
 }
 
 /// Adds the events of the parallel phase, hart by hart. Where the trace adopts the harts' logs, they are handed over as they are.
-pub fn add_parallel(trace: &mut Trace, round: u32, outcomes: &mut [Outcome], adopts: bool)
-    requires few { length outcomes.old ≤ 64 }
-    requires places { HasPlaces adopts outcomes.old trace.old }
-    requires sound { IsTrace (trace.old.events ++ outcome_events round 0 outcomes.old) }
-    ensures events { trace.new.events ≡ trace.old.events ++ outcome_events round 0 outcomes.old }
+pub(crate) fn add_parallel(trace: &mut Trace, round: u32, ends: &mut [HartEnd], adopts: bool)
+    requires few { length ends.old ≤ 64 }
+    requires places { HasPlaces adopts ends.old trace.old }
+    requires sound { IsTrace (trace.old.events ++ events_of_ends round 0 ends.old) }
+    ensures events { trace.new.events ≡ trace.old.events ++ events_of_ends round 0 ends.old }
     ensures opening { trace.new.opening ≡ trace.old.opening }
-    ensures room { trace.old.room ≤ trace.new.room + count_copied adopts outcomes.old }
-    ensures harts { harts_of outcomes.new ≡ harts_of outcomes.old }
+    ensures room { trace.old.room ≤ trace.new.room + count_copied adopts ends.old }
+    ensures harts { harts_of ends.new ≡ harts_of ends.old }
 {
-    for number in 0..outcomes.len() {
-        add_log(
-            trace,
-            round,
-            number as u32,
-            &mut outcomes[number].log,
-            adopts,
-        );
+    for number in 0..ends.len() {
+        add_log(trace, round, number as u32, &mut ends[number].log, adopts);
     }
 }
 
@@ -69,7 +63,7 @@ fn add_log(trace: &mut Trace, round: u32, hart: u32, log: &mut Log, adopts: bool
 }
 
 /// Adds the events of the serial turns of harts `first`, `first` + 1, .., `left` of them.
-pub fn add_serial(trace: &mut Trace, round: u32, first: u32, left: u32, log: &SerialLog)
+pub(crate) fn add_serial(trace: &mut Trace, round: u32, first: u32, left: u32, log: &SerialLog)
     requires harts { first + left ≡ length log.now.closed }
     requires few { length log.now.closed ≤ 64 }
     requires room { count_log (drop first log.now.closed) ≤ trace.old.room }

@@ -3,9 +3,9 @@ ghost use Rattle.machine.specs.Guests.{opening_guest};
 
 use crate::decoding::decode_code;
 use crate::opening::opening_harts;
-use crate::outcome::Outcome;
+use crate::spare_lists::SpareLists;
 use elf_loader::Image;
-use hart_step::{Access, CodeTable, Hart};
+use hart_step::{CodeTable, Hart};
 use pages::{OutOfMemory, Pages};
 use reservations::Reservations;
 use serial_phase::{Console, SerialLog, SharedState};
@@ -16,10 +16,7 @@ use std::marker::Model;
 #[derive(Drop)]
 pub(crate) struct GuestState {
     pub(crate) harts: Vec<Hart>,
-    /// What the harts of an earlier round left, for its room. A hart that had stopped then isn't copied once more.
-    pub(crate) outcomes: Vec<Outcome>,
-    /// Room for the accesses of one hart's round at a time.
-    pub(crate) accesses: Vec<Access>,
+    pub(crate) spare: SpareLists,
     pub(crate) shared: SharedState,
 }
 
@@ -31,7 +28,7 @@ impl Model for GuestState {
 
     ghost view = { λ g. guest_of g.harts.items g.shared };
 
-    ghost invariant = { λ g. Agrees g.harts.items g.outcomes.items g.shared };
+    ghost invariant = { λ g. Agrees g.harts.items g.spare.ends.items g.shared };
 }
 
 impl GuestState {
@@ -58,8 +55,7 @@ impl GuestState {
         };
         Ok(GuestState {
             harts,
-            outcomes: Vec::new(alloc),
-            accesses: Vec::new(alloc),
+            spare: SpareLists::new(alloc),
             shared,
         })
     }
@@ -121,8 +117,7 @@ impl GuestState {
         let code = CodeTable::new(alloc, &pages, known.first(), known.words().len())?;
         Ok(GuestState {
             harts: copied(alloc, &self.harts)?,
-            outcomes: Vec::new(alloc),
-            accesses: Vec::new(alloc),
+            spare: SpareLists::new(alloc),
             shared: SharedState {
                 pages,
                 code,

@@ -1,19 +1,20 @@
 ghost use Rattle.std.specs.Prelude.{◌≡◌, ◌<◌, ◌≤◌, ◌+◌, ◌^◌, ℕ, length, IfOk, IfSome, OnOk, [], Some};
-ghost use Rattle.round_lock.specs.Starts.{content_from, keeps_log, round_at, rounds_of};
-ghost use Rattle.kept_workers.specs.Kept.{Fits, start_of};
+ghost use Rattle.hart_rounds.specs.Starts.{keeps_log, rounds_of};
+ghost use Rattle.hart_rounds.specs.Ends.{round_at};
+ghost use Rattle.kept_workers.specs.Parts.{Fits, start_of};
 ghost use Rattle.machine.specs.Kept.{AreOfGuest, AreOfNext, next_start, next_start_of};
-ghost use Rattle.machine.specs.Outcomes.{AreOutcomes};
+ghost use Rattle.machine.specs.HartEnds.{AreEndsOf};
 
 use crate::crew::Crew;
 use crate::guest::GuestState;
-use crate::outcome::{Outcome, round_in_place, set_quotas};
+use crate::parallel::set_quotas;
 use crate::running::MANY_LINES;
 use crate::untraced::UntracedMachine;
+use hart_rounds::{HartEnd, LogForm, RoundStart, round_from};
 use hart_step::{CodeTable, Hart};
-use kept_workers::{Board, KeptRound, KeptStart, RunStarts, StartParts};
+use kept_workers::{Board, PostedRound, PostedStart, RunStarts, StartParts};
 use pages::{OutOfMemory, Pages};
 use parallel_phase::Open;
-use round_lock::{LogForm, RoundStart};
 use round_planner::Plan;
 use serial_phase::SharedState;
 use std::alloc::Global;
@@ -101,39 +102,39 @@ fn swap_parts(harts: &mut Vec<Hart>, shared: &mut SharedState, parts: &mut Start
 impl<S: RunStarts, R: Wait> KeptCrew<'_, S, R> {
     /// Does the rounds of all harts of a machine, whose next round starts as the run says. Refused or not, the machine is as it
     /// was.
-    pub(crate) fn outcomes(
+    pub(crate) fn do_parallel(
         &mut self,
         machine: &mut UntracedMachine,
-    ) -> Result<Vec<Outcome>, OutOfMemory>
+    ) -> Result<Vec<HartEnd>, OutOfMemory>
         requires start { S.starts (machine.old.rounds + 1) ≡
             next_start_of (keeps_log self.old.crew.form) machine.old }
         requires rounds { machine.old.rounds + 1 < 2 ^ 32 }
         ensures stays { machine.new ≡ machine.old }
         ensures form { self.new.crew.form ≡ self.old.crew.form }
-        ensures outcomes { IfOk result (λ os.
+        ensures ends { IfOk result (λ os.
             AreOfNext (keeps_log self.old.crew.form) machine.old os.items) }
     {
-        self.outcomes_of_guest(&mut machine.guest, &machine.plan, machine.rounds)
+        self.do_parallel_of(&mut machine.guest, &machine.plan, machine.rounds)
     }
 
     /// The same of a guest after so many rounds.
-    fn outcomes_of_guest(
+    fn do_parallel_of(
         &mut self,
         guest: &mut GuestState,
         plan: &Plan,
         done: u32,
-    ) -> Result<Vec<Outcome>, OutOfMemory>
+    ) -> Result<Vec<HartEnd>, OutOfMemory>
         requires start { S.starts (done + 1) ≡
             next_start (keeps_log self.old.crew.form) plan.now done guest.old }
         requires harts { length guest.old.harts ≡ plan.now.harts }
         requires done { done + 1 < 2 ^ 32 }
         ensures guest { guest.new ≡ guest.old }
         ensures form { self.new.crew.form ≡ self.old.crew.form }
-        ensures outcomes { IfOk result (λ os.
+        ensures ends { IfOk result (λ os.
             AreOfGuest (keeps_log self.old.crew.form) plan.now done guest.old os.items) }
     {
         let alloc = guest.shared.pages.allocator();
-        let mut room = mem::replace(&mut guest.outcomes, Vec::new(alloc));
+        let mut room = guest.spare.take_ends(alloc);
         // The round before has what it left until here: two rounds' stores would be in memory at once.
         room.clear();
         // At most 64.
@@ -142,81 +143,67 @@ impl<S: RunStarts, R: Wait> KeptCrew<'_, S, R> {
         let round = done + 1;
         set_quotas(plan, round, parts.quotas.as_mut_slice());
         swap_parts(&mut guest.harts, &mut guest.shared, &mut parts);
-        let start = KeptStart::new(round, parts);
+        let start = PostedStart::new(round, parts);
         let (start, rounds) = self.board.share(self.crew.rt, start);
-        let outcomes = in_order(&start, rounds, room);
+        let ends = in_order(&start, rounds, room);
         let mut parts = start.into_parts();
         swap_parts(&mut guest.harts, &mut guest.shared, &mut parts);
         self.stand_in = Some(parts);
-        outcomes
+        ends
     }
 }
 
 /// The rounds of all harts in hart order, in an empty list that is taken for its room.
 fn in_order<S: RunStarts>(
-    start: &KeptStart<S>,
-    mut rounds: Vec<KeptRound<S>>,
-    mut room: Vec<Outcome>,
-) -> Result<Vec<Outcome>, OutOfMemory>
+    start: &PostedStart<S>,
+    mut rounds: Vec<PostedRound<S>>,
+    mut room: Vec<HartEnd>,
+) -> Result<Vec<HartEnd>, OutOfMemory>
     requires fits { Fits start.now.parts }
     requires empty { room.items ≡ [] }
-    ensures { IfOk result (λ os. AreOutcomes (keeps_log start.now.parts.form)
+    ensures { IfOk result (λ os. AreEndsOf (keeps_log start.now.parts.form)
         start.now.parts.pages.memory (rounds_of (start_of start.now.parts)) os.items) }
 {
     let count = start.parts.harts.len();
     room.reserve(count)?;
     for number in 0..count {
-        let outcome = outcome_of_hart(start, &mut rounds, number)?;
-        room.push_reserved(outcome);
+        let end = end_of_hart(start, &mut rounds, number)?;
+        room.push_reserved(end);
     }
     Ok(room)
 }
 
 /// What the round of a hart left. Where it is missing among those that were done, it is done here and now.
-fn outcome_of_hart<S: RunStarts>(
-    start: &KeptStart<S>,
-    rounds: &mut Vec<KeptRound<S>>,
+fn end_of_hart<S: RunStarts>(
+    start: &PostedStart<S>,
+    rounds: &mut Vec<PostedRound<S>>,
     number: usize,
-) -> Result<Outcome, OutOfMemory>
+) -> Result<HartEnd, OutOfMemory>
     requires { number < length start.now.parts.harts.items }
-    ensures { IfOk result (λ o. round_at (start_of start.now.parts) number ≡
-        Some (content_from o.hart o.buffer o.log o.accesses o.waits)) }
+    ensures { IfOk result (λ e. round_at (start_of start.now.parts) number ≡ Some e) }
 {
     match take_round(rounds, start.round, number) {
-        Some(round) => Ok(outcome_of(round)),
-        None => outcome_alone(number, &start.lent()),
+        Some(round) => Ok(round.into_end()),
+        None => end_alone(number, &start.lent()),
     }
 }
 
 /// The round of a hart, if it is among these.
 fn take_round<S: RunStarts>(
-    rounds: &mut Vec<KeptRound<S>>,
+    rounds: &mut Vec<PostedRound<S>>,
     round: u32,
     number: usize,
-) -> Option<KeptRound<S>>
+) -> Option<PostedRound<S>>
     ensures { IfSome result (λ r. (r.round ≡ round) × (r.number ≡ number)) }
 {
     let place = rounds.iter().position(|done| done.is_of(round, number))?;
     Some(rounds.swap_remove(place))
 }
 
-/// What a round left.
-fn outcome_of<S: RunStarts>(round: KeptRound<S>) -> Outcome
-    ensures { round_at (S.starts round.round) round.number ≡ Some (content_from result.hart
-        result.buffer result.log result.accesses result.waits) }
-{
-    let (hart, left) = round.into_parts();
-    Outcome::of(hart, left)
-}
-
 /// What the round of a hart leaves, done here and now.
-fn outcome_alone(number: usize, start: &RoundStart<'_>) -> Result<Outcome, OutOfMemory>
+fn end_alone(number: usize, start: &RoundStart<'_>) -> Result<HartEnd, OutOfMemory>
     requires { number < length start.now.harts }
-    ensures { IfOk result (λ o. round_at start.now number ≡
-        Some (content_from o.hart o.buffer o.log o.accesses o.waits)) }
+    ensures { IfOk result (λ e. round_at start.now number ≡ Some e) }
 {
-    let alloc = start.pages().allocator();
-    let mut outcome = Outcome::begun(alloc, start.harts()[number]);
-    round_in_place(number, start, &mut outcome, &mut Vec::new(alloc))?;
-    Ok(outcome)
+    round_from(number, start, &mut Vec::new(start.pages().allocator()))
 }

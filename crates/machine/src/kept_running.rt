@@ -2,7 +2,7 @@
 ghost use Rattle.std.specs.Prelude.{◌≡◌, ◌<◌, ◌≤◌, ◌+◌, ◌-◌, ◌^◌, ℕ, List, IfOk};
 ghost use denote.Param.Send.{IsSync};
 ghost use Rattle.round_schedule.specs.declared.event.Event.{Event};
-ghost use Rattle.round_lock.specs.Starts.{keeps_log};
+ghost use Rattle.hart_rounds.specs.Starts.{keeps_log};
 ghost use Rattle.machine.specs.Kept.{AreOfNext, next_start_of, start_at};
 ghost use Rattle.machine.specs.Untraced.{MayGoOn, RanFor};
 
@@ -10,8 +10,8 @@ use crate::crew::Crew;
 use crate::keeper::EventKeeper;
 use crate::kept_crew::KeptCrew;
 use crate::observing::Observer;
-use crate::outcome::Outcome;
 use crate::untraced::UntracedMachine;
+use hart_rounds::HartEnd;
 use kept_workers::{Board, RunStarts};
 use pages::OutOfMemory;
 use std::marker::Brand;
@@ -133,8 +133,8 @@ impl UntracedMachine {
                 self.pass(rounds - done);
                 return Ok(());
             }
-            let outcomes = self.shared_outcomes(&mut crew)?;
-            self.end_round(&crew.crew, keeper, outcomes)?;
+            let ends = self.do_parallel_by(&mut crew)?;
+            self.end_round(&crew.crew, keeper, ends)?;
             observer.after_round(self);
         }
         Ok(())
@@ -142,26 +142,26 @@ impl UntracedMachine {
 
     /// Does the rounds of all harts by the crew where that is worth it, else on the calling thread. Refused or not, the machine
     /// is as it was.
-    fn shared_outcomes<S: RunStarts, R: Threads + Wait + Sync>(
+    fn do_parallel_by<S: RunStarts, R: Threads + Wait + Sync>(
         &mut self,
         crew: &mut KeptCrew<'_, S, R>,
-    ) -> Result<Vec<Outcome>, OutOfMemory>
+    ) -> Result<Vec<HartEnd>, OutOfMemory>
         requires start { S.starts (self.old.rounds + 1) ≡
             next_start_of (keeps_log crew.old.crew.form) self.old }
         requires rounds { self.old.rounds + 1 < 2 ^ 32 }
         ensures stays { self.new ≡ self.old }
         ensures form { crew.new.crew.form ≡ crew.old.crew.form }
-        ensures outcomes { IfOk result (λ os.
+        ensures ends { IfOk result (λ os.
             AreOfNext (keeps_log crew.old.crew.form) self.old os.items) }
     {
         if self.worth_workers(crew.crew.workers) > 1 {
-            crew.outcomes(self)
+            crew.do_parallel(self)
         } else {
             let alone = Crew {
                 workers: 1,
                 ..crew.crew
             };
-            self.outcomes(&alone)
+            self.do_parallel(&alone)
         }
     }
 }

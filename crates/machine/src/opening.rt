@@ -21,7 +21,7 @@ fn opening_hart(entry: u64, harts: u32, number: u32) -> Hart
 }
 
 /// All harts before the first round.
-pub fn opening_harts(alloc: Global, entry: u64, harts: u32) -> Result<Vec<Hart>, OutOfMemory>
+pub(crate) fn opening_harts(alloc: Global, entry: u64, harts: u32) -> Result<Vec<Hart>, OutOfMemory>
     ensures { IfOk result (λ hs. hs.items ≡ opening_harts entry harts 0 harts) }
 {
     let mut opened = Vec::new(alloc);

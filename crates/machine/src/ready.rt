@@ -1,19 +1,19 @@
 ghost use Rattle.std.specs.Prelude.{◌≡◌, ◌<◌, ◌/◌, OnOk, length, List, true};
 ghost use Rattle.pages.specs.Paged.{is_page_ready};
-ghost use Rattle.machine.specs.Outcomes.{AllFit, AllOnReady, AreFit, AreReady, KeepsPages};
+ghost use Rattle.machine.specs.HartEnds.{AllFit, AllOnReady, AreFit, AreReady, KeepsPages};
 
-use crate::outcome::Outcome;
+use hart_rounds::HartEnd;
 use pages::{OutOfMemory, Pages};
 use store_buffer::StoreBuffer;
 
 /// Makes the pages ready to which the buffers of all harts write. Refused, it changes no byte.
-pub fn make_ready(pages: &mut Pages, outcomes: &[Outcome]) -> Result<(), OutOfMemory>
-    requires { AreFit pages.old.memory outcomes.now }
+pub(crate) fn make_ready(pages: &mut Pages, ends: &[HartEnd]) -> Result<(), OutOfMemory>
+    requires { AreFit pages.old.memory ends.now }
     ensures keeps { KeepsPages pages.old pages.new }
-    ensures ready { OnOk result (AreReady pages.new outcomes.now) }
+    ensures ready { OnOk result (AreReady pages.new ends.now) }
 {
-    for outcome in outcomes {
-        make_buffer_ready(pages, &outcome.buffer)?;
+    for end in ends {
+        make_buffer_ready(pages, &end.buffer)?;
     }
     Ok(())
 }

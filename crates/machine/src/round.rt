@@ -6,33 +6,33 @@ ghost use Rattle.round_planner.specs.Quotas.{quotas_of};
 ghost use Rattle.hart_step.specs.declared.hart.Hart.{Hart};
 ghost use Rattle.hart_step.specs.CodeTables.{Shows};
 ghost use Rattle.hart_step.specs.Words.{words_of};
-ghost use Rattle.round_lock.specs.Starts.{keeps_log};
+ghost use Rattle.hart_rounds.specs.Starts.{keeps_log};
 ghost use Rattle.machine.specs.Guests.{guest_events, guest_of, next_guest, shared_of};
 ghost use Rattle.machine.specs.Held.{most_of_round};
 ghost use Rattle.machine.specs.Kept.{AreOfGuest};
 ghost use Rattle.machine.specs.Machine.{count_waiting};
-ghost use Rattle.machine.specs.Outcomes.{AreAtRest, AreFit, AreKept, AreOutcomes, count_accesses, count_true, harts_of, mask_of, waits_of};
+ghost use Rattle.machine.specs.HartEnds.{AreAtRest, AreFit, AreKept, AreEndsOf, count_accesses, count_true, harts_of, mask_of, waits_of};
 ghost use Rattle.machine.specs.Rounds.{IsFinished, MayFinish};
 
 use crate::commit::commit;
 use crate::crew::Crew;
 use crate::guest::GuestState;
 use crate::keeper::EventKeeper;
-use crate::outcome::{Outcome, give_harts, outcomes_of};
+use crate::parallel::{give_harts, parallel};
 use crate::room::make_turn_room;
 use crate::tally::Tally;
+use hart_rounds::HartEnd;
 use hart_step::Hart;
 use pages::OutOfMemory;
 use parallel_phase::Gate;
 use round_planner::Plan;
 use serial_phase::{SerialRound, SharedState, serial};
-use std::mem;
 use std::sync::Wait;
 use std::thread::Threads;
 
 /// What a round left beside the guest.
 #[derive(Clone, Copy)]
-pub struct RoundCounts {
+pub(crate) struct RoundCounts {
     /// How many harts waited for the serial phase.
     pub waited: u32,
     /// How many events there were.
@@ -41,33 +41,27 @@ pub struct RoundCounts {
 
 impl GuestState {
     /// Does the rounds of all harts after `done` rounds, by the workers of a crew. Refused or not, the guest is as it was.
-    pub(crate) fn outcomes<G: Gate + Sync, R: Threads + Wait + Sync>(
+    pub(crate) fn do_parallel<G: Gate + Sync, R: Threads + Wait + Sync>(
         &mut self,
         crew: &Crew<'_, G, R>,
         plan: &Plan,
         done: u32,
-    ) -> Result<Vec<Outcome>, OutOfMemory>
+    ) -> Result<Vec<HartEnd>, OutOfMemory>
         requires workers { (1 ≤ crew.now.workers) × (crew.now.workers ≤ 16) }
         requires harts { length self.old.harts ≡ plan.now.harts }
         requires done { done + 1 < 2 ^ 32 }
         ensures stays { self.new ≡ self.old }
-        ensures outcomes { IfOk result (λ os.
+        ensures ends { IfOk result (λ os.
             AreOfGuest (keeps_log crew.now.form) plan.now done self.old os.items) }
     {
-        let alloc = self.shared.pages.allocator();
-        let room = mem::replace(&mut self.outcomes, Vec::new(alloc));
-        let mut accesses = mem::replace(&mut self.accesses, Vec::new(alloc));
-        let outcomes = outcomes_of(
+        parallel(
             crew,
             &self.shared,
             &self.harts,
             plan,
             done + 1,
-            room,
-            &mut accesses,
-        );
-        self.accesses = accesses;
-        outcomes
+            &mut self.spare,
+        )
     }
 
     /// Does the round after `done` rounds from what its harts left on: the commit, the serial turns. The keeper gets its events.
@@ -79,10 +73,10 @@ impl GuestState {
         keeper: &mut E,
         plan: &Plan,
         done: u32,
-        mut outcomes: Vec<Outcome>,
+        mut ends: Vec<HartEnd>,
     ) -> Result<RoundCounts, OutOfMemory>
         requires workers { 1 ≤ crew.now.workers }
-        requires outcomes { AreOfGuest E.logs plan.now done self.old outcomes.items }
+        requires ends { AreOfGuest E.logs plan.now done self.old ends.items }
         requires harts { length self.old.harts ≡ plan.now.harts }
         requires done { done + 1 < 2 ^ 32 }
         requires sound { (es : List Event) × E.keeps keeper.old es ×
@@ -104,7 +98,7 @@ impl GuestState {
     {
         // At most 64.
         let _harts = plan.harts();
-        let tally = Tally::of(&outcomes);
+        let tally = Tally::of(&ends);
         let phase = SerialRound {
             round: done + 1,
             waiting: tally.waiting,
@@ -114,12 +108,12 @@ impl GuestState {
             crew,
             &mut self.shared,
             keeper,
-            &mut outcomes,
+            &mut ends,
             &mut self.harts,
             phase,
             tally,
         )?;
-        self.outcomes = outcomes;
+        self.spare.ends = ends;
         Ok(counts)
     }
 }
@@ -129,7 +123,7 @@ fn finish<E: EventKeeper, G, R: Threads + Sync>(
     crew: &Crew<'_, G, R>,
     shared: &mut SharedState,
     keeper: &mut E,
-    outcomes: &mut [Outcome],
+    ends: &mut [HartEnd],
     harts: &mut [Hart],
     phase: SerialRound,
     tally: Tally,
@@ -137,23 +131,23 @@ fn finish<E: EventKeeper, G, R: Threads + Sync>(
     requires workers { 1 ≤ crew.now.workers }
     requires shows { Shows shared.old.pages.memory shared.old.code.first
         shared.old.code.instructions }
-    requires rounds { (rs : List (HartRound Hart)) × AreOutcomes E.logs shared.old.pages.memory
-        rs outcomes.old × TouchesNoCode shared.old.pages.memory.code (all_stores rs) ×
+    requires rounds { (rs : List (HartRound Hart)) × AreEndsOf E.logs shared.old.pages.memory
+        rs ends.old × TouchesNoCode shared.old.pages.memory.code (all_stores rs) ×
         ((es : List Event) × E.keeps keeper.old es ×
-        MayFinish E.may_keep phase rs outcomes.old (shared_of shared.old) es) }
-    requires few { length outcomes.old ≤ 64 }
-    requires fits { AreFit shared.old.pages.memory outcomes.old }
-    requires harts { length harts.old ≡ length outcomes.old }
-    requires at_rest { AreAtRest harts.old outcomes.old }
-    requires size { length shared.old.reservations ≡ length outcomes.old }
-    requires waiting { phase.waiting ≡ mask_of (waits_of outcomes.old) }
+        MayFinish E.may_keep phase rs ends.old (shared_of shared.old) es) }
+    requires few { length ends.old ≤ 64 }
+    requires fits { AreFit shared.old.pages.memory ends.old }
+    requires harts { length harts.old ≡ length ends.old }
+    requires at_rest { AreAtRest harts.old ends.old }
+    requires size { length shared.old.reservations ≡ length ends.old }
+    requires waiting { phase.waiting ≡ mask_of (waits_of ends.old) }
     requires budget { phase.budget ≤ 1000 }
-    requires waited { tally.waited ≡ count_true (waits_of outcomes.old) }
-    requires counted { tally.accesses ≡ count_accesses outcomes.old }
-    requires accesses { count_accesses outcomes.old ≤ 64000000 }
+    requires waited { tally.waited ≡ count_true (waits_of ends.old) }
+    requires counted { tally.accesses ≡ count_accesses ends.old }
+    requires accesses { count_accesses ends.old ≤ 64000000 }
     ensures ok { IfOk result (λ n. (rs : List (HartRound Hart)) →
-        AreOutcomes E.logs shared.old.pages.memory rs outcomes.old → (more : List Event) ×
-        IsFinished phase rs outcomes.old (shared_of shared.old) (guest_of harts.new shared.new)
+        AreEndsOf E.logs shared.old.pages.memory rs ends.old → (more : List Event) ×
+        IsFinished phase rs ends.old (shared_of shared.old) (guest_of harts.new shared.new)
         more × (n.events ≡ length more) ×
         ((es : List Event) → E.keeps keeper.old es → E.keeps keeper.new (es ++ more))) }
     ensures few { IfOk result (λ n. n.events ≤ 64 * most_of_round) }
@@ -161,24 +155,24 @@ fn finish<E: EventKeeper, G, R: Threads + Sync>(
     ensures size { length shared.new.reservations ≡ length shared.old.reservations }
     ensures shows { Shows shared.new.pages.memory shared.new.code.first
         shared.new.code.instructions }
-    ensures waited { IfOk result (λ n. n.waited ≡ count_true (waits_of outcomes.old)) }
+    ensures waited { IfOk result (λ n. n.waited ≡ count_true (waits_of ends.old)) }
     ensures harts { OnErr result (harts.new ≡ harts.old) }
     ensures memory { OnErr result (shared.new.pages.memory ≡ shared.old.pages.memory) }
     ensures reservations { OnErr result (shared.new.reservations ≡ shared.old.reservations) }
     ensures console { OnErr result (shared.new.console.console ≡ shared.old.console.console) }
     ensures untold { OnErr result ((es : List Event) → E.keeps keeper.old es →
         E.keeps keeper.new es) }
-    ensures kept { OnOk result (AreKept harts.new (harts_of outcomes.new)) }
+    ensures kept { OnOk result (AreKept harts.new (harts_of ends.new)) }
 {
     let turns = tally.waited * phase.budget;
-    make_turn_room(shared, outcomes, turns)?;
-    let adopts = keeper.make_room(outcomes, tally, turns)?;
+    make_turn_room(shared, ends, turns)?;
+    let adopts = keeper.make_room(ends, tally, turns)?;
     // From here on nothing is refused.
-    commit(crew, &mut shared.pages, &mut shared.reservations, outcomes);
-    give_harts(outcomes, harts);
+    commit(crew, &mut shared.pages, &mut shared.reservations, ends);
+    give_harts(ends, harts);
     serial(shared, harts, phase);
     let events = tally.accesses + shared.log.len() as u64;
-    keeper.add(phase.round, outcomes, &shared.log, adopts);
+    keeper.add(phase.round, ends, &shared.log, adopts);
     Ok(RoundCounts {
         waited: tally.waited,
         events,

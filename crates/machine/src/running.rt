@@ -8,10 +8,10 @@ ghost use Rattle.machine.specs.Machine.{after_round, after_rounds, count_stopped
 use crate::crew::Crew;
 use crate::machine::Machine;
 use crate::observing::{Observer, Unobserved};
+use hart_rounds::LogForm;
 use hart_step::Hart;
 use host_io::RunError;
 use parallel_phase::Gate;
-use round_lock::LogForm;
 use std::sync::Wait;
 use std::thread::Threads;
 
@@ -80,8 +80,8 @@ impl Machine {
             least_lines: 0,
             form: LogForm::InBrief,
         };
-        let outcomes = self.bare.outcomes(&crew)?;
-        Ok(self.bare.end_round(&crew, &mut self.trace, outcomes)?)
+        let ends = self.bare.do_parallel(&crew)?;
+        Ok(self.bare.end_round(&crew, &mut self.trace, ends)?)
     }
 
     /// Does so many rounds, on 1 to 16 workers. It may wait.

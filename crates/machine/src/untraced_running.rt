@@ -4,7 +4,7 @@ ghost use Rattle.round_schedule.specs.declared.event.Event.{Event};
 ghost use Rattle.round_schedule.specs.Schedule.{hart_rounds};
 ghost use Rattle.round_planner.specs.Quotas.{quotas_of};
 ghost use Rattle.hart_step.specs.Words.{words_of};
-ghost use Rattle.round_lock.specs.Starts.{keeps_log};
+ghost use Rattle.hart_rounds.specs.Starts.{keeps_log};
 ghost use Rattle.trace.specs.Traced.{IsTrace};
 ghost use Rattle.machine.specs.Machine.{count_stopped, count_waiting};
 ghost use Rattle.machine.specs.Kept.{AreOfNext};
@@ -13,9 +13,9 @@ ghost use Rattle.machine.specs.Untraced.{AreAdded, AreLast, HasRun, IsAfter, May
 use crate::crew::Crew;
 use crate::keeper::{EventKeeper, NoTrace};
 use crate::observing::{Observer, Unobserved};
-use crate::outcome::Outcome;
 use crate::running::{MANY_LINES, MOST_WORKERS, RoundNote, stopped_count, workers_for};
 use crate::untraced::UntracedMachine;
+use hart_rounds::HartEnd;
 use host_io::RunError;
 use pages::OutOfMemory;
 use parallel_phase::{Gate, Open};
@@ -213,8 +213,8 @@ impl UntracedMachine {
                 least_lines: MANY_LINES,
                 form: keeper.log_form(),
             };
-            let outcomes = self.outcomes(&crew)?;
-            self.end_round(&crew, keeper, outcomes)?;
+            let ends = self.do_parallel(&crew)?;
+            self.end_round(&crew, keeper, ends)?;
             observer.after_round(self);
         }
         Ok(())
@@ -246,17 +246,17 @@ impl UntracedMachine {
     }
 
     /// Does the rounds of all harts by a crew. Refused or not, the machine is as it was.
-    pub(crate) fn outcomes<G: Gate + Sync, R: Threads + Wait + Sync>(
+    pub(crate) fn do_parallel<G: Gate + Sync, R: Threads + Wait + Sync>(
         &mut self,
         crew: &Crew<'_, G, R>,
-    ) -> Result<Vec<Outcome>, OutOfMemory>
+    ) -> Result<Vec<HartEnd>, OutOfMemory>
         requires workers { (1 ≤ crew.now.workers) × (crew.now.workers ≤ 16) }
         requires rounds { self.old.rounds + 1 < 2 ^ 32 }
         ensures stays { self.new ≡ self.old }
-        ensures outcomes { IfOk result (λ os.
+        ensures ends { IfOk result (λ os.
             AreOfNext (keeps_log crew.now.form) self.old os.items) }
     {
-        self.guest.outcomes(crew, &self.plan, self.rounds)
+        self.guest.do_parallel(crew, &self.plan, self.rounds)
     }
 
     /// Does the rest of a round after the rounds of its harts, has its events kept, and notes how much work it was.
@@ -264,10 +264,10 @@ impl UntracedMachine {
         &mut self,
         crew: &Crew<'_, G, R>,
         keeper: &mut E,
-        outcomes: Vec<Outcome>,
+        ends: Vec<HartEnd>,
     ) -> Result<RoundNote, OutOfMemory>
         requires workers { 1 ≤ crew.now.workers }
-        requires outcomes { AreOfNext E.logs self.old outcomes.items }
+        requires ends { AreOfNext E.logs self.old ends.items }
         requires rounds { self.old.rounds + 1 < 2 ^ 32 }
         requires sound { (es : List Event) × E.keeps keeper.old es ×
             E.may_keep (es ++ next_events self.old) }
@@ -296,7 +296,7 @@ impl UntracedMachine {
         let _pages = pages.count();
         let counts = self
             .guest
-            .do_round(crew, keeper, &self.plan, self.rounds, outcomes)?;
+            .do_round(crew, keeper, &self.plan, self.rounds, ends)?;
         self.rounds += 1;
         self.events += counts.events;
         self.note_work(before);

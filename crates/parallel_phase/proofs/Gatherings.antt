@@ -1,13 +1,14 @@
 -- The seats that workers take and give back, and the table of rounds that they leave.
 use Rattle.std.proofs.Common.{◌≡◌, ℕ, zero, suc, ◌<◌, List, [], ◌∷◌, ◌++◌, length, map, take, drop, slice_index_or, sym, ap, ◌∙◌, subst, arith}
 use Rattle.atomic_table.specs.Seated.{TableId}
+use Rattle.hart_rounds.specs.Ends.{round_at}
+use Rattle.hart_rounds.specs.Starts.{Start}
 use Rattle.round_lock.specs.declared.hart_round.HartRound.{HartRound}
-use Rattle.round_lock.specs.declared.start.BookStart.{Ghosts}
+use Rattle.round_lock.specs.declared.book_start.BookStart.{Ghosts}
 use Rattle.round_lock.specs.Histories.{Complete, harts_of}
 use Rattle.round_lock.specs.Known.{Collected, Known, fresh_seats}
 use Rattle.round_lock.specs.Lists.{Each}
 use Rattle.round_lock.specs.Rounds.{IsTable, hart_of, seat_of}
-use Rattle.round_lock.specs.Starts.{Start, round_at}
 use Rattle.round_lock.proofs.Lists.{each_map, has_from_times}
 use Rattle.round_lock.proofs.Moves.{found}
 use Rattle.round_lock.proofs.Using.{IsFresh, all_fresh}

@@ -1,3 +1,1 @@
-pub mod FewAccesses
-pub mod HartRounds
 pub mod Gatherings

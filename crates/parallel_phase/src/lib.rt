@@ -9,4 +9,4 @@ mod working;
 
 pub use gate::{Gate, Open};
 pub use gathering::gather;
-pub use rounds::{LONG, RoundEnd, hart_round, round_from, round_into};
+pub use rounds::hart_round;

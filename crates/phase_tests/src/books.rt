@@ -5,17 +5,16 @@ ghost use Rattle.hart_step.specs.CodeTables.{Shows};
 ghost use Rattle.round_lock.specs.Lists.{has};
 ghost use Rattle.round_lock.specs.Rounds.{harts_put, ticket_of};
 
+use hart_rounds::HartEnd;
 use hart_step::{CodeTable, Hart};
 use pages::{OutOfMemory, Pages};
-use round_lock::{BookStart, Gathered, HartRound, RoundBook, RoundLeft, RoundStart, Seat, Ticket};
+use round_lock::{BookStart, Gathered, HartRound, RoundBook, RoundStart, Seat, Ticket};
 use std::alloc::Global;
 use std::marker::Brand;
 use std::process::Abort;
 use std::sync::Wait;
 use std::test::Fail;
 use std::thread::{Threads, join};
-use store_buffer::StoreBuffer;
-use trace::Log;
 
 /// One page, of which nothing is code.
 fn no_code(alloc: Global) -> Result<(Pages, CodeTable), OutOfMemory>
@@ -50,13 +49,7 @@ fn idle_round<B: BookStart>(
     if *start.quotas().get(number)? != 0 {
         return None;
     }
-    let left = RoundLeft {
-        buffer: StoreBuffer::new(alloc),
-        log: Log::of(Vec::new(alloc)),
-        accesses: 0,
-        waits: false,
-    };
-    Some(HartRound::new(ticket, hart, left))
+    Some(HartRound::new(ticket, HartEnd::at_rest(alloc, hart)))
 }
 
 /// Claims a hart and puts its round, if there is a hart left.
@@ -157,12 +150,9 @@ fn close_two<B: BookStart, R: Abort>(
     book.close(seats)
 }
 
-/// Whether a round left nothing.
-fn is_idle(left: &RoundLeft) -> bool {
-    !left.waits
-        && left.accesses == 0
-        && left.log.len() == 0
-        && left.buffer.stores().next().is_none()
+/// Whether a round left its hart alone.
+fn is_idle(end: &HartEnd) -> bool {
+    !end.waits && end.accesses == 0 && end.log.len() == 0 && end.buffer.stores().next().is_none()
 }
 
 /// Whether the round of hart 1 is there, with 7 in its registers and nothing left, and there is no hart 2.
@@ -183,8 +173,8 @@ fn has_last<B: BookStart>(gathered: &Gathered<HartRound<B>>) -> bool {
 fn takes_first<B: BookStart>(gathered: &mut Gathered<HartRound<B>>) -> bool {
     match gathered.take(0) {
         Some(taken) => {
-            let (hart, left) = taken.into_parts();
-            hart.x[5] == 6 && is_idle(&left)
+            let end = taken.into_end();
+            end.hart.x[5] == 6 && is_idle(&end)
         }
         None => false,
     }

@@ -7,10 +7,11 @@ ghost use Rattle.std.specs.Prelude.{◌≡◌, ◌≤◌, length};
 mod gates;
 
 use crate::code::code_of;
+use hart_rounds::LogForm;
 use hart_step::{Access, Hart};
 use pages::Width;
 use parallel_phase::{Gate, Open, gather};
-use round_lock::{BookStart, HartRound, LogForm, RoundStart};
+use round_lock::{BookStart, HartRound, RoundStart};
 use std::marker::Brand;
 use std::process::Abort;
 use std::sync::Wait;

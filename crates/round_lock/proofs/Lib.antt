@@ -9,6 +9,5 @@ pub mod Ending
 pub mod Moves
 pub mod Putting
 pub mod Books
-pub mod Contents
 pub mod Using
 pub mod Taking

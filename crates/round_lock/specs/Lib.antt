@@ -4,5 +4,4 @@ pub mod Histories
 pub mod Rule
 pub mod Known
 pub mod Seats
-pub mod Starts
 pub mod Rounds

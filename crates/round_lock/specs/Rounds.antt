@@ -1,18 +1,20 @@
 -- What callers see of a hart's round.
 use Rattle.std.specs.Prelude.{◌≡◌, ℕ, ◌<◌, List, length, map, Some}
+use Rattle.hart_rounds.specs.declared.hart_end.HartEnd.{HartEnd}
+use Rattle.hart_rounds.specs.Ends.{round_at}
+use Rattle.hart_rounds.specs.Starts.{Start}
 use Rattle.round_lock.specs.declared.hart_round.HartRound.{HartRound}
 use Rattle.round_lock.specs.Histories.{Complete, entry_of}
 use Rattle.round_lock.specs.Lists.{Each}
-use Rattle.round_lock.specs.Starts.{Content, Start, content_from, round_at}
 use Rattle.round_lock.specs.Known.{Collected, Known, Named}
 
 -- the hart and the seat of its ticket
 abbrev pub ticket_of : {b : _} {g : _} → HartRound b g → Named
 ticket_of r = r.ticket
 
--- what the round came to
-abbrev pub content_in : {b : _} {g : _} → HartRound b g → Content
-content_in r = content_from r.hart r.left.buffer r.left.log r.left.accesses r.left.waits
+-- what the round left
+abbrev pub end_in : {b : _} {g : _} → HartRound b g → HartEnd
+end_in r = r.end
 
 -- the harts that a seat has put
 abbrev pub harts_put : {b : _} {g : _} → Known (HartRound b g) → List ℕ
@@ -29,4 +31,4 @@ pub record IsTable {b : _} {g : _} (s : Start) (c : Collected (HartRound b g)) :
   pub harts : c.harts ≡ length s.harts
   pub complete : Complete hart_of seat_of (length s.harts) c.history
   pub only : Each (λ e. hart_of e < length s.harts) c.history
-  pub rounds : (h : ℕ) → h < length s.harts → (e : HartRound b g) × (entry_of hart_of seat_of h c.history ≡ Some e) × (round_at s h ≡ Some (content_in e))
+  pub rounds : (h : ℕ) → h < length s.harts → (e : HartRound b g) × (entry_of hart_of seat_of h c.history ≡ Some e) × (round_at s h ≡ Some (end_in e))

@@ -2,26 +2,23 @@
 #![tactic(auto)]
 
 mod book;
+mod book_start;
 mod entry;
 mod gathered;
 mod hart_round;
-mod log_form;
 mod opening;
-mod round_left;
 mod rounds;
 mod rule;
 mod seat;
 mod sitter;
 mod slot;
-mod start;
 mod ticket;
 
 pub use book::RoundBook;
+pub use book_start::BookStart;
 pub use entry::Entry;
 pub use gathered::Gathered;
 pub use hart_round::HartRound;
-pub use log_form::LogForm;
-pub use round_left::RoundLeft;
+pub use hart_rounds::RoundStart;
 pub use seat::Seat;
-pub use start::{BookStart, RoundStart};
 pub use ticket::Ticket;

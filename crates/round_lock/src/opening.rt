@@ -4,9 +4,10 @@ ghost use Rattle.std.specs.Prelude.{◌≡◌, ◌<◌, ◌≤◌, length, IfOk}
 ghost use Rattle.round_lock.specs.Known.{fresh_seats};
 
 use crate::book::RoundBook;
+use crate::book_start::BookStart;
 use crate::hart_round::HartRound;
 use crate::seat::Seat;
-use crate::start::{BookStart, RoundStart};
+use hart_rounds::RoundStart;
 use pages::OutOfMemory;
 
 impl<B: BookStart> RoundBook<HartRound<B>> {

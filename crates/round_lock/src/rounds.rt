@@ -1,14 +1,15 @@
 //! What a hart's round is made of, and how a book sees it.
 
 ghost use Rattle.std.specs.Prelude.{◌≡◌, Some};
-ghost use Rattle.round_lock.specs.Rounds.{content_in, ticket_of};
-ghost use Rattle.round_lock.specs.Starts.{content_from, one_content, round_at};
+ghost use Rattle.hart_rounds.specs.Ends.{round_at};
+ghost use Rattle.round_lock.specs.Rounds.{end_in, ticket_of};
+ghost use Rattle.hart_rounds.proofs.RoundAt.{one_end};
 
+use crate::book_start::BookStart;
 use crate::entry::Entry;
 use crate::hart_round::HartRound;
-use crate::round_left::RoundLeft;
-use crate::start::BookStart;
 use crate::ticket::Ticket;
+use hart_rounds::HartEnd;
 use hart_step::Hart;
 use std::marker::PhantomData;
 use store_buffer::StoreBuffer;
@@ -19,9 +20,9 @@ impl<B: BookStart> Entry for HartRound<B> {
 
     ghost seat = { λ r. (ticket_of r).seat };
 
-    ghost right = { λ r. round_at B.start (ticket_of r).hart ≡ Some (content_in r) };
+    ghost right = { λ r. round_at B.start (ticket_of r).hart ≡ Some (end_in r) };
 
-    ghost same = { λ r s. content_in r ≡ content_in s };
+    ghost same = { λ r s. end_in r ≡ end_in s };
 
     fn hart_number(&self) -> u32 {
         self.ticket.hart
@@ -29,67 +30,63 @@ impl<B: BookStart> Entry for HartRound<B> {
 
     ghost is_right = { λ r. r.content };
 
-    ghost is_same = { λ r s e. one_content B.start (ticket_of r).hart (ticket_of s).hart (content_in r) (content_in s) r.content s.content e };
+    ghost is_same = { λ r s e. one_end B.start (ticket_of r).hart (ticket_of s).hart (end_in r) (end_in s) r.content s.content e };
 }
 
 impl<B: BookStart> HartRound<B> {
-    /// A round for a ticket. What it is made of is the round of the ticket's hart from the book's start.
-    pub fn new(ticket: Ticket, hart: Hart, left: RoundLeft) -> HartRound<B>
-        requires { round_at B.start ticket.hart ≡
-            Some (content_from hart left.buffer left.log left.accesses left.waits) }
+    /// A round for a ticket. What it left is what the round of the ticket's hart leaves from the book's start.
+    pub fn new(ticket: Ticket, end: HartEnd) -> HartRound<B>
+        requires { round_at B.start ticket.hart ≡ Some end }
         ensures ticket { ticket_of result ≡ ticket }
-        ensures content { content_in result ≡
-            content_from hart left.buffer left.log left.accesses left.waits }
+        ensures content { end_in result ≡ end }
     {
         HartRound {
             ticket,
-            hart,
-            left,
+            end,
             of: PhantomData,
         }
     }
 
     /// The hart after its round.
     pub fn hart(&self) -> &Hart
-        ensures { result.now ≡ (content_in self.now).hart }
+        ensures { result.now ≡ (end_in self.now).hart }
     {
-        &self.hart
+        &self.end.hart
     }
 
     /// The bytes that it stored.
     pub fn buffer(&self) -> &StoreBuffer
-        ensures { result.now ≡ (content_in self.now).buffer }
+        ensures { result.now ≡ (end_in self.now).buffer }
     {
-        &self.left.buffer
+        &self.end.buffer
     }
 
     /// Its accesses in program order, or none where they were only counted.
     pub fn log(&self) -> &Log
-        ensures { result.now ≡ (content_in self.now).accesses }
+        ensures { result.now ≡ (end_in self.now).log }
     {
-        &self.left.log
+        &self.end.log
     }
 
     /// How many accesses there were.
     pub fn accesses(&self) -> u64
-        ensures { result ≡ (content_in self.now).count }
+        ensures { result ≡ (end_in self.now).accesses }
     {
-        self.left.accesses
+        self.end.accesses
     }
 
     /// Whether it waits for the serial phase.
     pub fn waits(&self) -> bool
-        ensures { result ≡ (content_in self.now).waits }
+        ensures { result ≡ (end_in self.now).waits }
     {
-        self.left.waits
+        self.end.waits
     }
 
-    /// The hart after its round, and what the round left beside it.
-    pub fn into_parts(self) -> (Hart, RoundLeft)
-        ensures { content_in self ≡ content_from result.0 result.1.buffer result.1.log
-            result.1.accesses result.1.waits }
+    /// What the round left, handed over.
+    pub fn into_end(self) -> HartEnd
+        ensures { result ≡ end_in self }
     {
-        let HartRound { hart, left, .. } = self;
-        (hart, left)
+        let HartRound { end, .. } = self;
+        end
     }
 }

@@ -7,7 +7,7 @@ use std::alloc::Global;
 use std::marker::Model;
 
 /// How many bytes the output holds.
-pub const OUTPUT_ROOM: usize = 1_048_576;
+pub(crate) const OUTPUT_ROOM: usize = 1_048_576;
 
 /// The input and the output of a run.
 #[derive(Drop)]

@@ -127,7 +127,7 @@ fn between(accesses: &[Access], start: usize, end: usize) -> &[Access]
 }
 
 /// Adds an access to the turn that is under way, where there is one.
-pub fn keep(log: &mut SerialLog, access: Option<Access>)
+pub(crate) fn keep(log: &mut SerialLog, access: Option<Access>)
     requires { 0 < log.old.room }
     ensures current { log.new.current ≡ log.old.current ++ option_to_list access }
     ensures closed { log.new.closed ≡ log.old.closed }

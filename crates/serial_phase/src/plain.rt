@@ -15,7 +15,7 @@ use rv64_decode::Instr;
 
 /// Does an instruction that has no effect of its own in the serial phase, on memory itself. Its
 /// store breaks the reservations of other harts at once.
-pub fn plain(h: &mut Hart, state: &mut SharedState, hart: u32, i: Instr) -> Stepped
+pub(crate) fn plain(h: &mut Hart, state: &mut SharedState, hart: u32, i: Instr) -> Stepped
     requires known { decoded state.old.pages.memory h.old.pc ≡ Some i }
     requires room { HasSpares 1 state.old.pages }
     ensures answer { result ≡ (stepped h.old state.old.pages.memory).answer }
@@ -42,7 +42,7 @@ fn note_answer(answer: Stepped, table: &mut Reservations, hart: u32)
 
 /// Breaks the reservations of other harts that the access of a plain instruction breaks, where it made one.
 #[inline(always)]
-pub fn note_seen(seen: Option<Access>, table: &mut Reservations, hart: u32)
+pub(crate) fn note_seen(seen: Option<Access>, table: &mut Reservations, hart: u32)
     requires { IsPlainAnswer (Done seen) }
     ensures { table.new ≡ updated_by hart seen table.old }
 {

@@ -18,7 +18,7 @@ use round_schedule::{Access, Stepped};
 use rv64_decode::{AcquireRelease, Atomic, AtomicOperation, Reg};
 
 /// Stops the hart for good, and changes nothing else.
-pub fn stop(h: &mut Hart, code: u8, value: u64) -> Stepped
+pub(crate) fn stop(h: &mut Hart, code: u8, value: u64) -> Stepped
     ensures answer { result ≡ Stopped code }
     ensures hart { h.new ≡ stopped_with h.old code value }
 {
@@ -27,7 +27,7 @@ pub fn stop(h: &mut Hart, code: u8, value: u64) -> Stepped
 }
 
 /// An instruction of the A extension, by its kind.
-pub fn atomic(h: &mut Hart, state: &mut SharedState, hart: u32, word: Atomic) -> Stepped
+pub(crate) fn atomic(h: &mut Hart, state: &mut SharedState, hart: u32, word: Atomic) -> Stepped
     requires hart { hart < length state.old.reservations }
     requires room { HasSpares 1 state.old.pages }
     ensures answer { result ≡ (atomic_step word hart h.old state.old).answer }
@@ -211,7 +211,7 @@ fn put(state: &mut SharedState, hart: u32, store: Store)
 }
 
 /// A call of the environment: x17 is its number, x10 its argument and its answer.
-pub fn call(h: &mut Hart, console: &mut Console, round: u32) -> Stepped
+pub(crate) fn call(h: &mut Hart, console: &mut Console, round: u32) -> Stepped
     requires { HasRoom 1 console.old }
     ensures answer { result ≡ (called round h.old console.old.console).answer }
     ensures hart { h.new ≡ (called round h.old console.old.console).hart }

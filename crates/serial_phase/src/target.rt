@@ -8,7 +8,7 @@ use rv64_decode::{AcquireRelease, AtomicWidth, Reg};
 /// The number in memory that an instruction of the A extension is about, and the register that gets
 /// its answer.
 #[derive(Clone, Copy)]
-pub struct Target {
+pub(crate) struct Target {
     /// The register that gets the answer.
     pub rd: Reg,
     /// The address of the number: what rs1 holds.
@@ -20,7 +20,7 @@ pub struct Target {
 }
 
 /// The number at the address in rs1.
-pub fn target_of(
+pub(crate) fn target_of(
     h: &Hart,
     rd: Reg,
     rs1: Reg,
@@ -38,7 +38,7 @@ pub fn target_of(
 }
 
 /// The width of the access to a word, 4 bytes, or to a doubleword, 8 bytes.
-pub fn width_of(width: AtomicWidth) -> Width
+pub(crate) fn width_of(width: AtomicWidth) -> Width
     ensures { result ≡ width_of width }
 {
     match width {

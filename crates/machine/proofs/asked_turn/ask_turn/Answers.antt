@@ -3,7 +3,7 @@ use Rattle.pages.specs.Memory.{Memory}
 use Rattle.commit_phase.specs.Commit.{Committed}
 use Rattle.hart_step.specs.CodeTables.{Shows}
 use Rattle.machine.specs.Guests.{shared_of}
-use Rattle.machine.specs.Outcomes.{AreOutcomes}
+use Rattle.machine.specs.HartEnds.{AreEndsOf}
 use Rattle.machine.proofs.AskedTurns.{begun_there, same_room}
 use Rattle.machine.proofs.CodeKept.{shows_committed}
 use Rattle.machine.proofs.RoundDone.{spares_left}
@@ -15,7 +15,7 @@ take_turns-requires-clause-shows g c =
     let room = c.make_turn_room.new.shared in
     let m = c.args.shared.now.pages.memory in
     let same = c.in_ok-make_turn_room.ensures.keeps.memory in
-    let committed = c.commit.ensures.committed rounds.0 rounds.1 (subst (λ (x : Memory). AreOutcomes rounds.0 x rounds.1 c.args.outcomes.now) (sym same) rounds.2) in
+    let committed = c.commit.ensures.committed rounds.0 rounds.1 (subst (λ (x : Memory). AreEndsOf rounds.0 x rounds.1 c.args.ends.now) (sym same) rounds.2) in
     shows_committed rounds.1 m room.pages c.commit.new.pages room.reservations c.commit.new.table room.code.first room.code.instructions same committed rounds.3
     (subst (λ x. Shows m x.first x.instructions) (sym c.in_ok-make_turn_room.ensures.code) c.requires.shows)
 
@@ -32,9 +32,9 @@ hart_at-requires-clause-console g c =
 pub returns : goal.returns
 returns g c = λ logs rs a.
     let old = shared_of c.args.shared.now in
-    let os = c.args.outcomes.now in
+    let os = c.args.ends.now in
     let same = c.in_ok-make_turn_room.ensures.keeps.memory in
     let committed = subst (λ t. Committed rs c.make_turn_room.new.shared.pages c.commit.new.pages t c.commit.new.table) c.in_ok-make_turn_room.ensures.reservations
-    (c.commit.ensures.committed logs rs (subst (λ (x : Memory). AreOutcomes logs x rs os) (sym same) a)) in
+    (c.commit.ensures.committed logs rs (subst (λ (x : Memory). AreEndsOf logs x rs os) (sym same) a)) in
     c.hart_at.ensures
     ∙ begun_there logs _ c.args.place c.args.start old rs os c.make_turn_room.new.shared.pages _ c.take_turns.new.shared refl a same committed c.in_ok-make_turn_room.ensures.console c.take_turns.ensures.turns

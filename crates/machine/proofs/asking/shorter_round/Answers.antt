@@ -1,5 +1,5 @@
 use Rattle.std.proofs.Common.{[], refl}
-use Rattle.parallel_phase.proofs.HartRounds.{shows_through}
+use Rattle.hart_rounds.proofs.HartRounds.{shows_through}
 use Rattle.machine.proofs.Asked.{shorter_is}
 use Rattle.machine.proofs.asking.shorter_round.Goals as goal
 

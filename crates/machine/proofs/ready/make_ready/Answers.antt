@@ -1,18 +1,18 @@
 use Rattle.std.proofs.Common.{sym, subst, arith}
 use Rattle.pages.specs.Memory.{Memory}
-use Rattle.machine.specs.declared.outcome.Outcome.{Outcome}
-use Rattle.machine.specs.Outcomes.{AllFit, AllOnReady}
+use Rattle.hart_rounds.specs.declared.hart_end.HartEnd.{HartEnd}
+use Rattle.machine.specs.HartEnds.{AllFit, AllOnReady}
 use Rattle.machine.proofs.Listed.{fit_at, keeps_all_more, all_ready}
 use Rattle.machine.proofs.ready.make_ready.Goals as goal
 
 pub make_buffer_ready-requires : goal.make_buffer_ready-requires
 make_buffer_ready-requires c =
-    subst (λ (m : Memory). AllFit m c.outcome-item.result.buffer) (sym c.loop-outcome.invariant.keeps.memory)
-    (subst (λ (x : Outcome). AllFit c.args.pages.now.memory x.buffer) (sym c.outcome-item.is) (fit_at c.args.pages.now.memory c.args.outcomes.now c.loop-outcome.outcome-index c.outcome-item.result c.loop-outcome-test.true c.requires))
+    subst (λ (m : Memory). AllFit m c.end-item.result.buffer) (sym c.loop-end.invariant.keeps.memory)
+    (subst (λ (x : HartEnd). AllFit c.args.pages.now.memory x.buffer) (sym c.end-item.is) (fit_at c.args.pages.now.memory c.args.ends.now c.loop-end.end-index c.end-item.result c.loop-end-test.true c.requires))
 
-pub loop-outcome-preserved : goal.loop-outcome-preserved
-loop-outcome-preserved c = keeps_all_more c.args.pages.now c.loop-outcome.pages c.make_buffer_ready.new.pages c.args.outcomes.now c.loop-outcome.outcome-index c.outcome-item.result c.loop-outcome-test.true c.in_ok-make_buffer_ready.ensures.keeps
-    (subst (λ (x : Outcome). AllOnReady c.make_buffer_ready.new.pages x.buffer) c.outcome-item.is c.in_ok-make_buffer_ready.ensures.ready) c.loop-outcome.invariant
+pub loop-end-preserved : goal.loop-end-preserved
+loop-end-preserved c = keeps_all_more c.args.pages.now c.loop-end.pages c.make_buffer_ready.new.pages c.args.ends.now c.loop-end.end-index c.end-item.result c.loop-end-test.true c.in_ok-make_buffer_ready.ensures.keeps
+    (subst (λ (x : HartEnd). AllOnReady c.make_buffer_ready.new.pages x.buffer) c.end-item.is c.in_ok-make_buffer_ready.ensures.ready) c.loop-end.invariant
 
 pub returns-clause-ready : goal.returns-clause-ready
-returns-clause-ready c = all_ready c.loop-outcome.pages c.args.outcomes.now (λ k d low. c.loop-outcome.invariant.ready k d (omega (arith, c.loop-outcome-test.false)))
+returns-clause-ready c = all_ready c.loop-end.pages c.args.ends.now (λ k d low. c.loop-end.invariant.ready k d (omega (arith, c.loop-end-test.false)))

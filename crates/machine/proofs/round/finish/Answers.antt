@@ -8,45 +8,45 @@ use Rattle.round_schedule.specs.declared.event.Event.{Event}
 use Rattle.hart_step.specs.declared.hart.Hart.{Hart}
 use Rattle.serial_phase.specs.Phase.{TakesTurns, serial_done, budget_from}
 use Rattle.serial_phase.specs.Roomed.{HasRoom}
-use Rattle.machine.specs.declared.outcome.Outcome.{Outcome}
-use Rattle.machine.specs.Outcomes.{AreFit, AreKept, AreOutcomes, AreReady, mask_of, waits_of, harts_of, events_of_rounds, round_events}
+use Rattle.hart_rounds.specs.declared.hart_end.HartEnd.{HartEnd}
+use Rattle.machine.specs.HartEnds.{AreFit, AreKept, AreEndsOf, AreReady, mask_of, waits_of, harts_of, events_of_rounds, round_events}
 use Rattle.machine.proofs.CodeKept.{shows_committed}
 use Rattle.machine.proofs.Counted.{all_logged, count_events, few_turns}
 use Rattle.machine.proofs.KeptHarts.{kept_by_turns}
-use Rattle.machine.proofs.RoundDone.{by_outcomes, by_rounds, finished_from, needed_is, length-waits, length-harts, spares_left, log_of}
+use Rattle.machine.proofs.RoundDone.{by_ends, by_rounds, finished_from, needed_is, length-waits, length-harts, spares_left, log_of}
 use Rattle.machine.proofs.Tallied.{count_most, turns_by_count}
 use Rattle.machine.proofs.round.finish.Goals as goal
 
 pub overflow_mul-turns : goal.overflow_mul-turns
 overflow_mul-turns g c =
-    let bs = waits_of c.args.outcomes.now in
-    let few : c.args.tally.waited ≤ 64 = omega (arith, c.requires.waited, count_most bs, length-waits c.args.outcomes.now, c.requires.few) in
+    let bs = waits_of c.args.ends.now in
+    let few : c.args.tally.waited ≤ 64 = omega (arith, c.requires.waited, count_most bs, length-waits c.args.ends.now, c.requires.few) in
     omega (arith, mul-le c.args.tally.waited c.args.phase.budget 64 1000 few c.requires.budget)
 
 pub make_room-requires : goal.make_room-requires
 make_room-requires g c = λ e.
-    c.requires.counted ∙ all_logged c.args.shared.now.pages.memory c.requires.rounds.0 c.args.outcomes.now
-    (subst (λ (b : Bool). AreOutcomes b c.args.shared.now.pages.memory c.requires.rounds.0 c.args.outcomes.now) e c.requires.rounds.1)
+    c.requires.counted ∙ all_logged c.args.shared.now.pages.memory c.requires.rounds.0 c.args.ends.now
+    (subst (λ (b : Bool). AreEndsOf b c.args.shared.now.pages.memory c.requires.rounds.0 c.args.ends.now) e c.requires.rounds.1)
 
 pub commit-requires-clause-few : goal.commit-requires-clause-few
-commit-requires-clause-few g c = λ lifetimes within. omega (arith, c.requires.few, ap length c.in_ok-adopts.ensures.outcomes)
+commit-requires-clause-few g c = λ lifetimes within. omega (arith, c.requires.few, ap length c.in_ok-adopts.ensures.ends)
 
 pub commit-requires-clause-fits : goal.commit-requires-clause-fits
 commit-requires-clause-fits g c = λ lifetimes within.
-    subst (λ (x : List Outcome). AreFit c.make_turn_room.new.shared.pages.memory x) (sym c.in_ok-adopts.ensures.outcomes)
-    (subst (λ (m : Memory). AreFit m c.args.outcomes.now) (sym c.in_ok-make_turn_room.ensures.keeps.memory) c.requires.fits)
+    subst (λ (x : List HartEnd). AreFit c.make_turn_room.new.shared.pages.memory x) (sym c.in_ok-adopts.ensures.ends)
+    (subst (λ (m : Memory). AreFit m c.args.ends.now) (sym c.in_ok-make_turn_room.ensures.keeps.memory) c.requires.fits)
 
 pub commit-requires-clause-ready : goal.commit-requires-clause-ready
 commit-requires-clause-ready g c = λ lifetimes within.
-    subst (λ (x : List Outcome). AreReady c.make_turn_room.new.shared.pages x) (sym c.in_ok-adopts.ensures.outcomes) c.in_ok-make_turn_room.ensures.ready
+    subst (λ (x : List HartEnd). AreReady c.make_turn_room.new.shared.pages x) (sym c.in_ok-adopts.ensures.ends) c.in_ok-make_turn_room.ensures.ready
 
 pub serial-requires : goal.serial-requires
 serial-requires g c =
-    let os = c.args.outcomes.now in
+    let os = c.args.ends.now in
     let phase = c.args.phase in
     let room = c.make_turn_room.new.shared in
     let hs = c.give_harts.new.harts in
-    let size : length hs ≡ length os = ap length (c.give_harts.ensures ∙ ap harts_of c.in_ok-adopts.ensures.outcomes) ∙ length-harts os in
+    let size : length hs ≡ length os = ap length (c.give_harts.ensures ∙ ap harts_of c.in_ok-adopts.ensures.ends) ∙ length-harts os in
     let turns = c.args.tally.waited * phase.budget in
     let need : budget_from phase.waiting phase.budget 0 (length hs) ≡ turns =
     ap (λ (w : ℕ). budget_from w phase.budget 0 (length hs)) c.requires.waiting
@@ -55,8 +55,8 @@ serial-requires g c =
     let rounds = c.requires.rounds in
     let m = c.args.shared.now.pages.memory in
     let same = c.in_ok-make_turn_room.ensures.keeps.memory in
-    let committed = c.commit.ensures.committed g.E.EventKeeper.logs rounds.0 (subst (λ (x : Memory). AreOutcomes g.E.EventKeeper.logs x rounds.0 c.make_room.new.outcomes) (sym same)
-    (subst (λ (x : List Outcome). AreOutcomes g.E.EventKeeper.logs m rounds.0 x) (sym c.in_ok-adopts.ensures.outcomes) rounds.1)) in
+    let committed = c.commit.ensures.committed g.E.EventKeeper.logs rounds.0 (subst (λ (x : Memory). AreEndsOf g.E.EventKeeper.logs x rounds.0 c.make_room.new.ends) (sym same)
+    (subst (λ (x : List HartEnd). AreEndsOf g.E.EventKeeper.logs m rounds.0 x) (sym c.in_ok-adopts.ensures.ends) rounds.1)) in
     record {
       shows = shows_committed rounds.0 m room.pages c.commit.new.pages room.reservations c.commit.new.table room.code.first room.code.instructions same committed rounds.2
           (subst (λ x. Shows m x.first x.instructions) (sym c.make_turn_room.ensures.code) c.requires.shows);
@@ -79,19 +79,19 @@ returns-clause-kept g c =
 
 pub add-requires : goal.add-requires
 add-requires g c =
-    let os = c.args.outcomes.now in
+    let os = c.args.ends.now in
     let rs = c.requires.rounds.0 in
     let a = c.requires.rounds.1 in
     let sound = c.requires.rounds.3 in
     let phase = c.args.phase in
     let start : SharedState = record c.make_turn_room.new.shared { pages = c.commit.new.pages; reservations = c.commit.new.table } in
-    let served = subst (λ (hs : List Hart). TakesTurns (serial_done phase hs start) c.serial.new.harts start c.serial.new.state) (c.give_harts.ensures ∙ ap harts_of c.in_ok-adopts.ensures.outcomes) c.serial.ensures.turns in
+    let served = subst (λ (hs : List Hart). TakesTurns (serial_done phase hs start) c.serial.new.harts start c.serial.new.state) (c.give_harts.ensures ∙ ap harts_of c.in_ok-adopts.ensures.ends) c.serial.ensures.turns in
     let fits = log_of phase (waits_of os) (harts_of os) c.serial.new.harts start c.serial.new.state (length-waits os ∙ sym (length-harts os)) c.requires.waiting served in
     let kept = c.in_ok-make_turn_room.ensures.keeps.memory in
-    let same = c.in_ok-adopts.ensures.outcomes in
+    let same = c.in_ok-adopts.ensures.ends in
     let finished = finished_from phase rs os c.serial.new.harts c.args.shared.now c.make_turn_room.new.shared start c.serial.new.state kept
-    (subst (λ t. Committed rs c.make_turn_room.new.shared.pages c.commit.new.pages t c.commit.new.table) c.make_turn_room.ensures.reservations (c.commit.ensures.committed g.E.EventKeeper.logs rs (subst (λ (m : Memory). AreOutcomes g.E.EventKeeper.logs m rs c.make_room.new.outcomes) (sym kept)
-    (subst (λ (x : List Outcome). AreOutcomes g.E.EventKeeper.logs c.args.shared.now.pages.memory rs x) (sym same) a)))) c.make_turn_room.ensures.console served in
+    (subst (λ t. Committed rs c.make_turn_room.new.shared.pages c.commit.new.pages t c.commit.new.table) c.make_turn_room.ensures.reservations (c.commit.ensures.committed g.E.EventKeeper.logs rs (subst (λ (m : Memory). AreEndsOf g.E.EventKeeper.logs m rs c.make_room.new.ends) (sym kept)
+    (subst (λ (x : List HartEnd). AreEndsOf g.E.EventKeeper.logs c.args.shared.now.pages.memory rs x) (sym same) a)))) c.make_turn_room.ensures.console served in
     record {
       harts = fits.length ∙ length-harts os ∙ sym (ap length same);
       few = omega (arith, c.requires.few, ap length same);
@@ -99,26 +99,26 @@ add-requires g c =
       sound = (
         sound.0,
         c.in_ok-adopts.ensures.kept sound.0 sound.1,
-        subst (λ (x : List Outcome). g.E.EventKeeper.may_keep (sound.0 ++ round_events phase.round x c.serial.new.state.log.closed)) (sym same)
-            (by_outcomes g.E.EventKeeper.may_keep g.E.EventKeeper.logs g.met.E.EventKeeper.may_keep_any c.args.shared.now.pages.memory phase.round rs os c.serial.new.state.log.closed sound.0 a (sound.2 _ _ finished)),
+        subst (λ (x : List HartEnd). g.E.EventKeeper.may_keep (sound.0 ++ round_events phase.round x c.serial.new.state.log.closed)) (sym same)
+            (by_ends g.E.EventKeeper.may_keep g.E.EventKeeper.logs g.met.E.EventKeeper.may_keep_any c.args.shared.now.pages.memory phase.round rs os c.serial.new.state.log.closed sound.0 a (sound.2 _ _ finished)),
       );
     }
 
 pub returns-clause-ok : goal.returns-clause-ok
 returns-clause-ok g c = λ rs a.
-    let os = c.args.outcomes.now in
+    let os = c.args.ends.now in
     let phase = c.args.phase in
     let start : SharedState = record c.make_turn_room.new.shared { pages = c.commit.new.pages; reservations = c.commit.new.table } in
-    let served = subst (λ (hs : List Hart). TakesTurns (serial_done phase hs start) c.serial.new.harts start c.serial.new.state) (c.give_harts.ensures ∙ ap harts_of c.in_ok-adopts.ensures.outcomes) c.serial.ensures.turns in
+    let served = subst (λ (hs : List Hart). TakesTurns (serial_done phase hs start) c.serial.new.harts start c.serial.new.state) (c.give_harts.ensures ∙ ap harts_of c.in_ok-adopts.ensures.ends) c.serial.ensures.turns in
     let kept = c.in_ok-make_turn_room.ensures.keeps.memory in
-    let same = c.in_ok-adopts.ensures.outcomes in
+    let same = c.in_ok-adopts.ensures.ends in
     let finished = finished_from phase rs os c.serial.new.harts c.args.shared.now c.make_turn_room.new.shared start c.serial.new.state kept
-    (subst (λ t. Committed rs c.make_turn_room.new.shared.pages c.commit.new.pages t c.commit.new.table) c.make_turn_room.ensures.reservations (c.commit.ensures.committed g.E.EventKeeper.logs rs (subst (λ (m : Memory). AreOutcomes g.E.EventKeeper.logs m rs c.make_room.new.outcomes) (sym kept)
-    (subst (λ (x : List Outcome). AreOutcomes g.E.EventKeeper.logs c.args.shared.now.pages.memory rs x) (sym same) a)))) c.make_turn_room.ensures.console served in
+    (subst (λ t. Committed rs c.make_turn_room.new.shared.pages c.commit.new.pages t c.commit.new.table) c.make_turn_room.ensures.reservations (c.commit.ensures.committed g.E.EventKeeper.logs rs (subst (λ (m : Memory). AreEndsOf g.E.EventKeeper.logs m rs c.make_room.new.ends) (sym kept)
+    (subst (λ (x : List HartEnd). AreEndsOf g.E.EventKeeper.logs c.args.shared.now.pages.memory rs x) (sym same) a)))) c.make_turn_room.ensures.console served in
     let closed = c.serial.new.state.log.closed in
     let all = events_of_rounds phase.round rs closed in
     let m = c.args.shared.now.pages.memory in
-    let events = subst (λ (x : List Outcome). (es : List Event) → g.E.EventKeeper.keeps c.make_room.new.self es → g.E.EventKeeper.keeps c.add.new.self (es ++ round_events phase.round x c.serial.new.state.log.closed)) same c.add.ensures.kept in (
+    let events = subst (λ (x : List HartEnd). (es : List Event) → g.E.EventKeeper.keeps c.make_room.new.self es → g.E.EventKeeper.keeps c.add.new.self (es ++ round_events phase.round x c.serial.new.state.log.closed)) same c.add.ensures.kept in (
       all,
       finished,
       omega (arith, c.requires.counted, c.len.ensures, count_events g.E.EventKeeper.logs m phase.round rs os closed a),
@@ -127,18 +127,18 @@ returns-clause-ok g c = λ rs a.
 
 pub returns-clause-few : goal.returns-clause-few
 returns-clause-few g c =
-    let os = c.args.outcomes.now in
+    let os = c.args.ends.now in
     let phase = c.args.phase in
     let start : SharedState = record c.make_turn_room.new.shared { pages = c.commit.new.pages; reservations = c.commit.new.table } in
-    let served = subst (λ (hs : List Hart). TakesTurns (serial_done phase hs start) c.serial.new.harts start c.serial.new.state) (c.give_harts.ensures ∙ ap harts_of c.in_ok-adopts.ensures.outcomes) c.serial.ensures.turns in
+    let served = subst (λ (hs : List Hart). TakesTurns (serial_done phase hs start) c.serial.new.harts start c.serial.new.state) (c.give_harts.ensures ∙ ap harts_of c.in_ok-adopts.ensures.ends) c.serial.ensures.turns in
     let fits = log_of phase (waits_of os) (harts_of os) c.serial.new.harts start c.serial.new.state (length-waits os ∙ sym (length-harts os)) c.requires.waiting served in
     omega (arith, c.requires.accesses, c.requires.counted, c.len.ensures, fits.fits, few_turns phase.budget (waits_of os) c.requires.budget, length-waits os, c.requires.few)
 
 pub overflow_add-events : goal.overflow_add-events
 overflow_add-events g c =
-    let os = c.args.outcomes.now in
+    let os = c.args.ends.now in
     let phase = c.args.phase in
     let start : SharedState = record c.make_turn_room.new.shared { pages = c.commit.new.pages; reservations = c.commit.new.table } in
-    let served = subst (λ (hs : List Hart). TakesTurns (serial_done phase hs start) c.serial.new.harts start c.serial.new.state) (c.give_harts.ensures ∙ ap harts_of c.in_ok-adopts.ensures.outcomes) c.serial.ensures.turns in
+    let served = subst (λ (hs : List Hart). TakesTurns (serial_done phase hs start) c.serial.new.harts start c.serial.new.state) (c.give_harts.ensures ∙ ap harts_of c.in_ok-adopts.ensures.ends) c.serial.ensures.turns in
     let fits = log_of phase (waits_of os) (harts_of os) c.serial.new.harts start c.serial.new.state (length-waits os ∙ sym (length-harts os)) c.requires.waiting served in
     omega (arith, c.requires.accesses, c.requires.counted, c.len.ensures, fits.fits, few_turns phase.budget (waits_of os) c.requires.budget, length-waits os, c.requires.few)

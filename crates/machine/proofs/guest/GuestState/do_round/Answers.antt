@@ -5,10 +5,10 @@ use Rattle.round_schedule.specs.Schedule.{hart_rounds}
 use Rattle.round_planner.specs.Quotas.{quotas_of}
 use Rattle.hart_step.specs.declared.hart.Hart.{Hart}
 use Rattle.hart_step.specs.Words.{words_of}
-use Rattle.machine.specs.declared.outcome.Outcome.{Outcome}
+use Rattle.hart_rounds.specs.declared.hart_end.HartEnd.{HartEnd}
 use Rattle.machine.specs.Guests.{Guest, guest_events, guest_of, next_guest}
 use Rattle.machine.specs.Machine.{count_waiting}
-use Rattle.machine.specs.Outcomes.{AreAtRest, AreFit, AreKept, AreOutcomes, count_accesses, count_true, harts_of, mask_of, waits_of}
+use Rattle.machine.specs.HartEnds.{AreAtRest, AreFit, AreKept, AreEndsOf, count_accesses, count_true, harts_of, mask_of, waits_of}
 use Rattle.machine.proofs.AtRest.{at_rest}
 use Rattle.machine.proofs.CodeKept.{rounds_touch}
 use Rattle.machine.proofs.Counted.{few_accesses}
@@ -30,9 +30,9 @@ finish-requires-clause-rounds g c = λ lifetimes within.
     let m = i.shared.pages.memory in
     let qs = quotas_of c.args.plan.now c.args.done in
     let rs = hart_rounds (words_of m.code) m.bytes qs i.harts.items in
-    let a = here_are g.E.EventKeeper.logs c.args.plan.now c.args.done i.harts.items i.shared _ c.args.outcomes.items c.self.view_is c.requires.outcomes in
-    let here = subst (λ (x : List Outcome). AreOutcomes g.E.EventKeeper.logs m rs x) (sym c.deref_mut.ensures.value) a in
-    let waits = c.of-tally.ensures.waiting ∙ ap (λ (os : List Outcome). mask_of (waits_of os)) (c.deref.ensures.value ∙ sym c.deref_mut.ensures.value) in
+    let a = here_are g.E.EventKeeper.logs c.args.plan.now c.args.done i.harts.items i.shared _ c.args.ends.items c.self.view_is c.requires.ends in
+    let here = subst (λ (x : List HartEnd). AreEndsOf g.E.EventKeeper.logs m rs x) (sym c.deref_mut.ensures.value) a in
+    let waits = c.of-tally.ensures.waiting ∙ ap (λ (os : List HartEnd). mask_of (waits_of os)) (c.deref.ensures.value ∙ sym c.deref_mut.ensures.value) in
     let sound = subst (λ (x : Guest). g.E.EventKeeper.may_keep (c.requires.sound.0 ++ guest_events c.args.plan.now c.args.done x)) (sym c.self.view_is) c.requires.sound.2 in (
       rs,
       here,
@@ -48,20 +48,20 @@ finish-requires-clause-rounds g c = λ lifetimes within.
 pub finish-requires-clause-few : goal.finish-requires-clause-few
 finish-requires-clause-few g c = λ lifetimes within.
     let i = c.self.inside in
-    let many = many_here g.E.EventKeeper.logs c.args.plan.now c.args.done i.harts.items i.shared _ c.args.outcomes.items c.self.view_is c.requires.outcomes in
+    let many = many_here g.E.EventKeeper.logs c.args.plan.now c.args.done i.harts.items i.shared _ c.args.ends.items c.self.view_is c.requires.ends in
     omega (arith, many, ap length c.deref_mut.ensures.value, c.requires.harts, ap (λ (x : Guest). length x.harts) c.self.view_is, c.harts-harts.ensures.harts, c.harts-harts.ensures.few_harts)
 
 pub finish-requires-clause-fits : goal.finish-requires-clause-fits
 finish-requires-clause-fits g c = λ lifetimes within.
     let i = c.self.inside in
     let m = i.shared.pages.memory in
-    let a = here_are g.E.EventKeeper.logs c.args.plan.now c.args.done i.harts.items i.shared _ c.args.outcomes.items c.self.view_is c.requires.outcomes in
-    subst (λ (x : List Outcome). AreFit m x) (sym c.deref_mut.ensures.value) (are_fit g.E.EventKeeper.logs m _ c.args.outcomes.items a)
+    let a = here_are g.E.EventKeeper.logs c.args.plan.now c.args.done i.harts.items i.shared _ c.args.ends.items c.self.view_is c.requires.ends in
+    subst (λ (x : List HartEnd). AreFit m x) (sym c.deref_mut.ensures.value) (are_fit g.E.EventKeeper.logs m _ c.args.ends.items a)
 
 pub finish-requires-clause-harts : goal.finish-requires-clause-harts
 finish-requires-clause-harts g c = λ lifetimes within.
     let i = c.self.inside in
-    let many = many_here g.E.EventKeeper.logs c.args.plan.now c.args.done i.harts.items i.shared _ c.args.outcomes.items c.self.view_is c.requires.outcomes in
+    let many = many_here g.E.EventKeeper.logs c.args.plan.now c.args.done i.harts.items i.shared _ c.args.ends.items c.self.view_is c.requires.ends in
     ap length c.deref_mut-2.ensures.value ∙ sym many ∙ sym (ap length c.deref_mut.ensures.value)
 
 pub finish-requires-clause-at_rest : goal.finish-requires-clause-at_rest
@@ -69,23 +69,23 @@ finish-requires-clause-at_rest g c = λ lifetimes within.
     let i = c.self.inside in
     let m = i.shared.pages.memory in
     let qs = quotas_of c.args.plan.now c.args.done in
-    let a = here_are g.E.EventKeeper.logs c.args.plan.now c.args.done i.harts.items i.shared _ c.args.outcomes.items c.self.view_is c.requires.outcomes in
+    let a = here_are g.E.EventKeeper.logs c.args.plan.now c.args.done i.harts.items i.shared _ c.args.ends.items c.self.view_is c.requires.ends in
     subst (λ (hs : List Hart). AreAtRest hs c.deref_mut.result.now) (sym c.deref_mut-2.ensures.value)
-    (subst (λ (os : List Outcome). AreAtRest i.harts.items os) (sym c.deref_mut.ensures.value) (at_rest g.E.EventKeeper.logs m qs i.harts.items c.args.outcomes.items a))
+    (subst (λ (os : List HartEnd). AreAtRest i.harts.items os) (sym c.deref_mut.ensures.value) (at_rest g.E.EventKeeper.logs m qs i.harts.items c.args.ends.items a))
 
 pub finish-requires-clause-size : goal.finish-requires-clause-size
 finish-requires-clause-size g c = λ lifetimes within.
     let i = c.self.inside in
-    let many = many_here g.E.EventKeeper.logs c.args.plan.now c.args.done i.harts.items i.shared _ c.args.outcomes.items c.self.view_is c.requires.outcomes in
+    let many = many_here g.E.EventKeeper.logs c.args.plan.now c.args.done i.harts.items i.shared _ c.args.ends.items c.self.view_is c.requires.ends in
     c.self.invariant.size ∙ sym many ∙ sym (ap length c.deref_mut.ensures.value)
 
 pub finish-requires-clause-waiting : goal.finish-requires-clause-waiting
 finish-requires-clause-waiting g c = λ lifetimes within.
-    c.of-tally.ensures.waiting ∙ ap (λ (os : List Outcome). mask_of (waits_of os)) (c.deref.ensures.value ∙ sym c.deref_mut.ensures.value)
+    c.of-tally.ensures.waiting ∙ ap (λ (os : List HartEnd). mask_of (waits_of os)) (c.deref.ensures.value ∙ sym c.deref_mut.ensures.value)
 
 pub finish-requires-clause-waited : goal.finish-requires-clause-waited
 finish-requires-clause-waited g c = λ lifetimes within.
-    c.of-tally.ensures.waited ∙ ap (λ (os : List Outcome). count_true (waits_of os)) (c.deref.ensures.value ∙ sym c.deref_mut.ensures.value)
+    c.of-tally.ensures.waited ∙ ap (λ (os : List HartEnd). count_true (waits_of os)) (c.deref.ensures.value ∙ sym c.deref_mut.ensures.value)
 
 pub finish-requires-clause-counted : goal.finish-requires-clause-counted
 finish-requires-clause-counted g c = λ lifetimes within. c.of-tally.ensures.accesses ∙ ap count_accesses (c.deref.ensures.value ∙ sym c.deref_mut.ensures.value)
@@ -97,9 +97,9 @@ pub finish-requires-clause-accesses : goal.finish-requires-clause-accesses
 finish-requires-clause-accesses g c = λ lifetimes within.
     let i = c.self.inside in
     let m = i.shared.pages.memory in
-    let many = many_here g.E.EventKeeper.logs c.args.plan.now c.args.done i.harts.items i.shared _ c.args.outcomes.items c.self.view_is c.requires.outcomes in
-    let a = here_are g.E.EventKeeper.logs c.args.plan.now c.args.done i.harts.items i.shared _ c.args.outcomes.items c.self.view_is c.requires.outcomes in
-    let few = few_accesses g.E.EventKeeper.logs m (words_of m.code) m.bytes (quotas_of c.args.plan.now c.args.done) i.harts.items c.args.outcomes.items (low_quotas c.args.plan.now c.harts-harts.ensures.in_range c.args.done) a in
+    let many = many_here g.E.EventKeeper.logs c.args.plan.now c.args.done i.harts.items i.shared _ c.args.ends.items c.self.view_is c.requires.ends in
+    let a = here_are g.E.EventKeeper.logs c.args.plan.now c.args.done i.harts.items i.shared _ c.args.ends.items c.self.view_is c.requires.ends in
+    let few = few_accesses g.E.EventKeeper.logs m (words_of m.code) m.bytes (quotas_of c.args.plan.now c.args.done) i.harts.items c.args.ends.items (low_quotas c.args.plan.now c.harts-harts.ensures.in_range c.args.done) a in
     omega (arith, few, ap count_accesses c.deref_mut.ensures.value, many, c.requires.harts, ap (λ (x : Guest). length x.harts) c.self.view_is, c.harts-harts.ensures.harts, c.harts-harts.ensures.few_harts)
 
 pub returns-clause-ok : goal.returns-clause-ok
@@ -107,9 +107,9 @@ returns-clause-ok g c =
     let i = c.self.inside in
     let m = i.shared.pages.memory in
     let rs = hart_rounds (words_of m.code) m.bytes (quotas_of c.args.plan.now c.args.done) i.harts.items in
-    let a = here_are g.E.EventKeeper.logs c.args.plan.now c.args.done i.harts.items i.shared _ c.args.outcomes.items c.self.view_is c.requires.outcomes in
-    let here = subst (λ (x : List Outcome). AreOutcomes g.E.EventKeeper.logs m rs x) (sym c.deref_mut.ensures.value) a in
-    let waits = c.of-tally.ensures.waiting ∙ ap (λ (os : List Outcome). mask_of (waits_of os)) (c.deref.ensures.value ∙ sym c.deref_mut.ensures.value) in
+    let a = here_are g.E.EventKeeper.logs c.args.plan.now c.args.done i.harts.items i.shared _ c.args.ends.items c.self.view_is c.requires.ends in
+    let here = subst (λ (x : List HartEnd). AreEndsOf g.E.EventKeeper.logs m rs x) (sym c.deref_mut.ensures.value) a in
+    let waits = c.of-tally.ensures.waiting ∙ ap (λ (os : List HartEnd). mask_of (waits_of os)) (c.deref.ensures.value ∙ sym c.deref_mut.ensures.value) in
     let ok = c.in_ok-counts.ensures.ok rs here in
     let done = finished_done g.E.EventKeeper.logs c.args.plan.now _ c.args.done (guest_of i.harts.items i.shared) _ ok.0 c.deref_mut.result.now here c.budget.ensures.budget refl waits ok.1 in
     let whole : take i.harts.len (c.finish.new.harts ++ drop (length c.finish.new.harts) i.harts.items) ≡ c.finish.new.harts = take_at c.finish.new.harts _ i.harts.len (omega (arith, c.finish.auto.harts, c.deref_mut-2.ensures.len, ap length c.deref_mut-2.ensures.value)) in
@@ -120,9 +120,9 @@ returns-clause-kept g c = λ es kept.
     let i = c.self.inside in
     let m = i.shared.pages.memory in
     let rs = hart_rounds (words_of m.code) m.bytes (quotas_of c.args.plan.now c.args.done) i.harts.items in
-    let a = here_are g.E.EventKeeper.logs c.args.plan.now c.args.done i.harts.items i.shared _ c.args.outcomes.items c.self.view_is c.requires.outcomes in
-    let here = subst (λ (x : List Outcome). AreOutcomes g.E.EventKeeper.logs m rs x) (sym c.deref_mut.ensures.value) a in
-    let waits = c.of-tally.ensures.waiting ∙ ap (λ (os : List Outcome). mask_of (waits_of os)) (c.deref.ensures.value ∙ sym c.deref_mut.ensures.value) in
+    let a = here_are g.E.EventKeeper.logs c.args.plan.now c.args.done i.harts.items i.shared _ c.args.ends.items c.self.view_is c.requires.ends in
+    let here = subst (λ (x : List HartEnd). AreEndsOf g.E.EventKeeper.logs m rs x) (sym c.deref_mut.ensures.value) a in
+    let waits = c.of-tally.ensures.waiting ∙ ap (λ (os : List HartEnd). mask_of (waits_of os)) (c.deref.ensures.value ∙ sym c.deref_mut.ensures.value) in
     let ok = c.in_ok-counts.ensures.ok rs here in
     let done = finished_done g.E.EventKeeper.logs c.args.plan.now _ c.args.done (guest_of i.harts.items i.shared) _ ok.0 c.deref_mut.result.now here c.budget.ensures.budget refl waits ok.1 in
     subst (λ (x : List Event). g.E.EventKeeper.keeps c.finish.new.keeper (es ++ x)) (done.events ∙ ap (λ (x : Guest). guest_events c.args.plan.now c.args.done x) c.self.view_is) (ok.3 es kept)
@@ -132,9 +132,9 @@ returns-clause-events g c =
     let i = c.self.inside in
     let m = i.shared.pages.memory in
     let rs = hart_rounds (words_of m.code) m.bytes (quotas_of c.args.plan.now c.args.done) i.harts.items in
-    let a = here_are g.E.EventKeeper.logs c.args.plan.now c.args.done i.harts.items i.shared _ c.args.outcomes.items c.self.view_is c.requires.outcomes in
-    let here = subst (λ (x : List Outcome). AreOutcomes g.E.EventKeeper.logs m rs x) (sym c.deref_mut.ensures.value) a in
-    let waits = c.of-tally.ensures.waiting ∙ ap (λ (os : List Outcome). mask_of (waits_of os)) (c.deref.ensures.value ∙ sym c.deref_mut.ensures.value) in
+    let a = here_are g.E.EventKeeper.logs c.args.plan.now c.args.done i.harts.items i.shared _ c.args.ends.items c.self.view_is c.requires.ends in
+    let here = subst (λ (x : List HartEnd). AreEndsOf g.E.EventKeeper.logs m rs x) (sym c.deref_mut.ensures.value) a in
+    let waits = c.of-tally.ensures.waiting ∙ ap (λ (os : List HartEnd). mask_of (waits_of os)) (c.deref.ensures.value ∙ sym c.deref_mut.ensures.value) in
     let ok = c.in_ok-counts.ensures.ok rs here in
     let done = finished_done g.E.EventKeeper.logs c.args.plan.now _ c.args.done (guest_of i.harts.items i.shared) _ ok.0 c.deref_mut.result.now here c.budget.ensures.budget refl waits ok.1 in
     ok.2 ∙ ap length (done.events ∙ ap (λ (x : Guest). guest_events c.args.plan.now c.args.done x) c.self.view_is)
@@ -147,41 +147,41 @@ returns-clause-waited g c =
     let i = c.self.inside in
     let m = i.shared.pages.memory in
     let rs = hart_rounds (words_of m.code) m.bytes (quotas_of c.args.plan.now c.args.done) i.harts.items in
-    let a = here_are g.E.EventKeeper.logs c.args.plan.now c.args.done i.harts.items i.shared _ c.args.outcomes.items c.self.view_is c.requires.outcomes in
-    let here = subst (λ (x : List Outcome). AreOutcomes g.E.EventKeeper.logs m rs x) (sym c.deref_mut.ensures.value) a in
+    let a = here_are g.E.EventKeeper.logs c.args.plan.now c.args.done i.harts.items i.shared _ c.args.ends.items c.self.view_is c.requires.ends in
+    let here = subst (λ (x : List HartEnd). AreEndsOf g.E.EventKeeper.logs m rs x) (sym c.deref_mut.ensures.value) a in
     c.in_ok-counts.ensures.waited ∙ waited_is g.E.EventKeeper.logs m rs c.deref_mut.result.now here
     ∙ ap (λ (x : Guest). count_waiting (hart_rounds (words_of x.shared.memory.code) x.shared.memory.bytes (quotas_of c.args.plan.now c.args.done) x.harts)) c.self.view_is
 
 pub of-tally-requires-clause-few : goal.of-tally-requires-clause-few
 of-tally-requires-clause-few g c =
-    let many = many_of g.E.EventKeeper.logs c.args.plan.now c.args.done c.args.self.now c.args.outcomes.items c.requires.outcomes in
+    let many = many_of g.E.EventKeeper.logs c.args.plan.now c.args.done c.args.self.now c.args.ends.items c.requires.ends in
     omega (arith, ap length c.deref.ensures.value, many, c.requires.harts, c.harts-harts.ensures.harts, c.harts-harts.ensures.few_harts)
 
 pub of-tally-requires-clause-accesses : goal.of-tally-requires-clause-accesses
 of-tally-requires-clause-accesses g c =
     let h = c.args.self.now in
     let m = h.shared.memory in
-    let os = c.args.outcomes.items in
-    let many = many_of g.E.EventKeeper.logs c.args.plan.now c.args.done h os c.requires.outcomes in
-    let few = few_accesses g.E.EventKeeper.logs m (words_of m.code) m.bytes (quotas_of c.args.plan.now c.args.done) h.harts os (low_quotas c.args.plan.now c.harts-harts.ensures.in_range c.args.done) c.requires.outcomes in
+    let os = c.args.ends.items in
+    let many = many_of g.E.EventKeeper.logs c.args.plan.now c.args.done h os c.requires.ends in
+    let few = few_accesses g.E.EventKeeper.logs m (words_of m.code) m.bytes (quotas_of c.args.plan.now c.args.done) h.harts os (low_quotas c.args.plan.now c.harts-harts.ensures.in_range c.args.done) c.requires.ends in
     omega (arith, few, ap count_accesses c.deref.ensures.value, many, c.requires.harts, c.harts-harts.ensures.harts, c.harts-harts.ensures.few_harts)
 
 pub invariant_of-self-2 : goal.invariant_of-self-2
 invariant_of-self-2 g c =
     let i = c.self.inside in
-    let many = many_here g.E.EventKeeper.logs c.args.plan.now c.args.done i.harts.items i.shared _ c.args.outcomes.items c.self.view_is c.requires.outcomes in
+    let many = many_here g.E.EventKeeper.logs c.args.plan.now c.args.done i.harts.items i.shared _ c.args.ends.items c.self.view_is c.requires.ends in
     let whole : take i.harts.len (c.finish.new.harts ++ drop (length c.finish.new.harts) i.harts.items) ≡ c.finish.new.harts = take_at c.finish.new.harts _ i.harts.len (omega (arith, c.finish.auto.harts, c.deref_mut-2.ensures.len, ap length c.deref_mut-2.ensures.value)) in
-    let all : take c.args.outcomes.len (c.finish.new.outcomes ++ drop (length c.finish.new.outcomes) c.args.outcomes.items) ≡ c.finish.new.outcomes =
-    take_at c.finish.new.outcomes _ c.args.outcomes.len (omega (arith, c.finish.auto.outcomes, c.deref_mut.ensures.len, ap length c.deref_mut.ensures.value)) in
+    let all : take c.args.ends.len (c.finish.new.ends ++ drop (length c.finish.new.ends) c.args.ends.items) ≡ c.finish.new.ends =
+    take_at c.finish.new.ends _ c.args.ends.len (omega (arith, c.finish.auto.ends, c.deref_mut.ensures.len, ap length c.deref_mut.ensures.value)) in
     record {
       size = c.finish.ensures.size ∙ c.self.invariant.size ∙ sym (ap length whole ∙ omega (arith, c.finish.auto.harts, ap length c.deref_mut-2.ensures.value));
       shows = c.finish.ensures.shows;
-      kept = subst (λ (hs : List Hart). AreKept hs (harts_of (take c.args.outcomes.len (c.finish.new.outcomes ++ drop (length c.finish.new.outcomes) c.args.outcomes.items)))) (sym whole) (subst (λ (os : List Outcome). AreKept c.finish.new.harts (harts_of os)) (sym all) c.in_ok-counts.ensures.kept);
+      kept = subst (λ (hs : List Hart). AreKept hs (harts_of (take c.args.ends.len (c.finish.new.ends ++ drop (length c.finish.new.ends) c.args.ends.items)))) (sym whole) (subst (λ (os : List HartEnd). AreKept c.finish.new.harts (harts_of os)) (sym all) c.in_ok-counts.ensures.kept);
     }
 
 pub returns-clause-count : goal.returns-clause-count
 returns-clause-count g c =
     let i = c.self.inside in
-    let many = many_here g.E.EventKeeper.logs c.args.plan.now c.args.done i.harts.items i.shared _ c.args.outcomes.items c.self.view_is c.requires.outcomes in
+    let many = many_here g.E.EventKeeper.logs c.args.plan.now c.args.done i.harts.items i.shared _ c.args.ends.items c.self.view_is c.requires.ends in
     let whole : take i.harts.len (c.finish.new.harts ++ drop (length c.finish.new.harts) i.harts.items) ≡ c.finish.new.harts = take_at c.finish.new.harts _ i.harts.len (omega (arith, c.finish.auto.harts, c.deref_mut-2.ensures.len, ap length c.deref_mut-2.ensures.value)) in
     ap length whole ∙ omega (arith, c.finish.auto.harts, ap length c.deref_mut-2.ensures.value, ap (λ (x : Guest). length x.harts) c.self.view_is)

@@ -1,5 +1,5 @@
 use Rattle.machine.proofs.KeptHarts.{kept_none}
-use Rattle.machine.specs.Outcomes.{harts_of}
+use Rattle.machine.specs.HartEnds.{harts_of}
 use Rattle.std.proofs.Common.{◌*◌, ℕ, List, length, sym, ap, ◌∙◌}
 use Rattle.std.proofs.lemmas.List.{length-replicate}
 use Rattle.pages.specs.Initial.{bytes_from}

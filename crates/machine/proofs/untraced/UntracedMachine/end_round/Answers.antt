@@ -10,9 +10,9 @@ pub do_round-requires-clause-sound : goal.do_round-requires-clause-sound
 do_round-requires-clause-sound g c = λ lifetimes within.
     (c.requires.sound.0, c.requires.sound.1, subst (λ (u : Untraced). g.E.EventKeeper.may_keep (c.requires.sound.0 ++ next_events u)) (sym c.self.view_is) c.requires.sound.2)
 
-pub do_round-requires-clause-outcomes : goal.do_round-requires-clause-outcomes
-do_round-requires-clause-outcomes g c = λ lifetimes within.
-    subst (λ (u : Untraced). AreOfNext g.E.EventKeeper.logs u c.args.outcomes.items) (sym c.self.view_is) c.requires.outcomes
+pub do_round-requires-clause-ends : goal.do_round-requires-clause-ends
+do_round-requires-clause-ends g c = λ lifetimes within.
+    subst (λ (u : Untraced). AreOfNext g.E.EventKeeper.logs u c.args.ends.items) (sym c.self.view_is) c.requires.ends
 
 pub stopped_count-requires : goal.stopped_count-requires
 stopped_count-requires g c = omega (arith, ap length c.harts.ensures.harts, ap (λ (w : Untraced). length w.harts) c.note_work.ensures, c.in_ok-counts.ensures.count, c.self.invariant.harts, c.harts-harts.ensures.harts, c.harts-harts.ensures.few_harts)

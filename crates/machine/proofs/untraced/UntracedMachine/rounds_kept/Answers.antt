@@ -1,6 +1,6 @@
 use Rattle.std.proofs.Common.{◌≡◌, Bool, ◌+◌, ◌-◌, ◌++◌, ℕ, List, length, refl, sym, ap, ◌∙◌, subst, arith, rules, Err}
 use Rattle.round_schedule.specs.declared.event.Event.{Event}
-use Rattle.round_lock.specs.Starts.{keeps_log}
+use Rattle.hart_rounds.specs.Starts.{keeps_log}
 use Rattle.machine.specs.Kept.{AreOfNext, next_start_of}
 use Rattle.machine.specs.Machine.{after_rounds, count_stopped}
 use Rattle.machine.specs.Untraced.{HasRun, IsUntraced, MayGoOn, Untraced, next_events, untraced_round}
@@ -17,35 +17,35 @@ loop-done-init g c = record {
   form = ap keeps_log c.new-crew.ensures ∙ c.log_form.ensures;
 }
 
-pub shared_outcomes-requires-clause-rounds : goal.shared_outcomes-requires-clause-rounds
-shared_outcomes-requires-clause-rounds g c = λ lifetimes within. omega (arith, c.loop-done.invariant.run.rounds, c.requires.rounds, c.loop-done-test.true)
+pub do_parallel_by-requires-clause-rounds : goal.do_parallel_by-requires-clause-rounds
+do_parallel_by-requires-clause-rounds g c = λ lifetimes within. omega (arith, c.loop-done.invariant.run.rounds, c.requires.rounds, c.loop-done-test.true)
 
-pub shared_outcomes-requires-clause-start : goal.shared_outcomes-requires-clause-start
-shared_outcomes-requires-clause-start g c = λ lifetimes within.
+pub do_parallel_by-requires-clause-start : goal.do_parallel_by-requires-clause-start
+do_parallel_by-requires-clause-start g c = λ lifetimes within.
     let i = c.loop-done.invariant in
     subst (λ (b : Bool). g.S.RunStarts.starts (c.loop-done.self.rounds + 1) ≡ next_start_of b c.loop-done.self) (sym i.form)
     (starts_there g.E.EventKeeper.logs g.S.RunStarts.starts c.loop-done.done c.args.self.now c.loop-done.self c.requires.starts i.same i.run.rounds)
 
-pub end_round-requires-clause-outcomes : goal.end_round-requires-clause-outcomes
-end_round-requires-clause-outcomes g c = λ lifetimes within.
-    subst (λ (u : Untraced). AreOfNext g.E.EventKeeper.logs u c.in_ok-outcomes.outcomes.items) (sym c.shared_outcomes.ensures.stays)
-    (subst (λ (b : Bool). AreOfNext b c.loop-done.self c.in_ok-outcomes.outcomes.items) c.loop-done.invariant.form c.in_ok-outcomes.ensures.outcomes)
+pub end_round-requires-clause-ends : goal.end_round-requires-clause-ends
+end_round-requires-clause-ends g c = λ lifetimes within.
+    subst (λ (u : Untraced). AreOfNext g.E.EventKeeper.logs u c.in_ok-ends.ends.items) (sym c.do_parallel_by.ensures.stays)
+    (subst (λ (b : Bool). AreOfNext b c.loop-done.self c.in_ok-ends.ends.items) c.loop-done.invariant.form c.in_ok-ends.ensures.ends)
 
 pub end_round-requires-clause-rounds : goal.end_round-requires-clause-rounds
 end_round-requires-clause-rounds g c = λ lifetimes within.
-    omega (arith, c.loop-done.invariant.run.rounds, c.requires.rounds, c.loop-done-test.true, ap (λ (u : Untraced). u.rounds) c.shared_outcomes.ensures.stays)
+    omega (arith, c.loop-done.invariant.run.rounds, c.requires.rounds, c.loop-done-test.true, ap (λ (u : Untraced). u.rounds) c.do_parallel_by.ensures.stays)
 
 pub end_round-requires-clause-sound : goal.end_round-requires-clause-sound
 end_round-requires-clause-sound g c = λ lifetimes within.
     let i = c.loop-done.invariant in
     let may = (may_next g.E.EventKeeper.may_keep c.loop-done.done c.args.rounds i.sound.0 c.loop-done.self c.loop-done-test.true i.sound.2).0 in
-    (i.sound.0, i.sound.1, subst (λ (u : Untraced). g.E.EventKeeper.may_keep (i.sound.0 ++ next_events u)) (sym c.shared_outcomes.ensures.stays) may)
+    (i.sound.0, i.sound.1, subst (λ (u : Untraced). g.E.EventKeeper.may_keep (i.sound.0 ++ next_events u)) (sym c.do_parallel_by.ensures.stays) may)
 
 pub loop-done-preserved : goal.loop-done-preserved
 loop-done-preserved g c =
     let i = c.loop-done.invariant in
     let u = c.loop-done.self in
-    let same = c.shared_outcomes.ensures.stays in
+    let same = c.do_parallel_by.ensures.stays in
     let one = c.in_ok-end_round.ensures in
     let after = g.E.EventKeeper.keeps c.end_round.new.keeper in
     let ok : c.end_round.new.self ≡ untraced_round u = one.ok ∙ ap untraced_round same in
@@ -59,7 +59,7 @@ loop-done-preserved g c =
       opening = one.opening ∙ i.opening;
       sound = (i.sound.0 ++ next_events u, kept i.sound.0 i.sound.1, sound);
       same = ok ∙ ap untraced_round i.same ∙ one_more c.loop-done.done c.args.self.now;
-      form = ap keeps_log c.shared_outcomes.ensures.form ∙ i.form;
+      form = ap keeps_log c.do_parallel_by.ensures.form ∙ i.form;
     }
 
 pub returns-then-running_harts-eq0-clause-ran : goal.returns-then-running_harts-eq0-clause-ran
@@ -75,14 +75,14 @@ returns-then-running_harts-eq0-clause-ran g c =
     subst (λ (n : ℕ). HasRun n c.args.self.now c.pass.new.self (g.E.EventKeeper.keeps c.args.keeper.now) keeps) all
     (then_run c.loop-done.done k c.args.self.now u c.pass.new.self (g.E.EventKeeper.keeps c.args.keeper.now) keeps keeps i.run passed)
 
-pub returns-in_err-outcomes-clause-ran : goal.returns-in_err-outcomes-clause-ran
-returns-in_err-outcomes-clause-ran g c =
+pub returns-in_err-ends-clause-ran : goal.returns-in_err-ends-clause-ran
+returns-in_err-ends-clause-ran g c =
     let i = c.loop-done.invariant in
-    let r : c.from_residual.result ≡ Err c.in_err-outcomes.field-0.0 = search rules in
+    let r : c.from_residual.result ≡ Err c.in_err-ends.field-0.0 = search rules in
     rw r (
       c.loop-done.done,
       c.loop-done-test.true,
-      subst (λ (w : Untraced). HasRun c.loop-done.done c.args.self.now w (g.E.EventKeeper.keeps c.args.keeper.now) (g.E.EventKeeper.keeps c.loop-done.keeper)) (sym c.shared_outcomes.ensures.stays) i.run,
+      subst (λ (w : Untraced). HasRun c.loop-done.done c.args.self.now w (g.E.EventKeeper.keeps c.args.keeper.now) (g.E.EventKeeper.keeps c.loop-done.keeper)) (sym c.do_parallel_by.ensures.stays) i.run,
     )
 
 pub returns-in_err-end_round-clause-ran : goal.returns-in_err-end_round-clause-ran
@@ -90,7 +90,7 @@ returns-in_err-end_round-clause-ran g c =
     let i = c.loop-done.invariant in
     let none = c.in_err-end_round.ensures in
     let keeps = g.E.EventKeeper.keeps c.end_round.new.keeper in
-    let same = none.err ∙ c.shared_outcomes.ensures.stays in
+    let same = none.err ∙ c.do_parallel_by.ensures.stays in
     let r : c.from_residual-in_err-end_round.result ≡ Err c.in_err-end_round.field-0.0 = search rules in
     rw r (
       c.loop-done.done,

@@ -1,6 +1,6 @@
 use Rattle.std.proofs.Common.{◌≡◌, ◌-◌, List}
 use Rattle.round_schedule.specs.declared.event.Event.{Event}
-use Rattle.round_lock.specs.Starts.{keeps_log}
+use Rattle.hart_rounds.specs.Starts.{keeps_log}
 use Rattle.machine.specs.Kept.{untraced_rounds}
 use Rattle.machine.specs.Untraced.{HasRun, MayGoOn}
 use Rattle.machine.proofs.untraced.UntracedMachine.rounds_kept.Given as goal

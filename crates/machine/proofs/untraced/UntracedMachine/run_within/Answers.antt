@@ -13,29 +13,29 @@ loop-done-init g c = (
   (c.requires.sound.0, c.requires.sound.1, subst (λ (k : ℕ). MayGoOn g.E.EventKeeper.may_keep k c.requires.sound.0 c.args.self.now) (omega arith) c.requires.sound.2),
 )
 
-pub outcomes-requires-clause-rounds : goal.outcomes-requires-clause-rounds
-outcomes-requires-clause-rounds g c = λ lifetimes within. omega (arith, c.loop-done.invariant.0.rounds, c.requires.rounds, c.loop-done-test.true)
+pub do_parallel-requires-clause-rounds : goal.do_parallel-requires-clause-rounds
+do_parallel-requires-clause-rounds g c = λ lifetimes within. omega (arith, c.loop-done.invariant.0.rounds, c.requires.rounds, c.loop-done-test.true)
 
-pub end_round-requires-clause-outcomes : goal.end_round-requires-clause-outcomes
-end_round-requires-clause-outcomes g c = λ lifetimes within.
-    subst (λ (u : Untraced). AreOfNext g.E.EventKeeper.logs u c.in_ok-outcomes.outcomes.items) (sym c.outcomes.ensures.stays)
-    (subst (λ (b : Bool). AreOfNext b c.loop-done.self c.in_ok-outcomes.outcomes.items) c.log_form.ensures c.in_ok-outcomes.ensures.outcomes)
+pub end_round-requires-clause-ends : goal.end_round-requires-clause-ends
+end_round-requires-clause-ends g c = λ lifetimes within.
+    subst (λ (u : Untraced). AreOfNext g.E.EventKeeper.logs u c.in_ok-ends.ends.items) (sym c.do_parallel.ensures.stays)
+    (subst (λ (b : Bool). AreOfNext b c.loop-done.self c.in_ok-ends.ends.items) c.log_form.ensures c.in_ok-ends.ensures.ends)
 
 pub end_round-requires-clause-rounds : goal.end_round-requires-clause-rounds
 end_round-requires-clause-rounds g c = λ lifetimes within.
-    omega (arith, c.loop-done.invariant.0.rounds, c.requires.rounds, c.loop-done-test.true, ap (λ (u : Untraced). u.rounds) c.outcomes.ensures.stays)
+    omega (arith, c.loop-done.invariant.0.rounds, c.requires.rounds, c.loop-done-test.true, ap (λ (u : Untraced). u.rounds) c.do_parallel.ensures.stays)
 
 pub end_round-requires-clause-sound : goal.end_round-requires-clause-sound
 end_round-requires-clause-sound g c = λ lifetimes within.
     let i = c.loop-done.invariant in
     let may = (may_next g.E.EventKeeper.may_keep c.loop-done.done c.args.rounds i.2.0 c.loop-done.self c.loop-done-test.true i.2.2).0 in
-    (i.2.0, i.2.1, subst (λ (u : Untraced). g.E.EventKeeper.may_keep (i.2.0 ++ next_events u)) (sym c.outcomes.ensures.stays) may)
+    (i.2.0, i.2.1, subst (λ (u : Untraced). g.E.EventKeeper.may_keep (i.2.0 ++ next_events u)) (sym c.do_parallel.ensures.stays) may)
 
 pub loop-done-preserved : goal.loop-done-preserved
 loop-done-preserved g c =
     let i = c.loop-done.invariant in
     let u = c.loop-done.self in
-    let same = c.outcomes.ensures.stays in
+    let same = c.do_parallel.ensures.stays in
     let one = c.in_ok-end_round.ensures in
     let after = g.E.EventKeeper.keeps c.end_round.new.keeper in
     let ok : c.end_round.new.self ≡ untraced_round u = one.ok ∙ ap untraced_round same in
@@ -59,14 +59,14 @@ returns-then-running_harts-eq0-clause-ok g c =
     subst (λ (n : ℕ). HasRun n c.args.self.now c.pass.new.self (g.E.EventKeeper.keeps c.args.keeper.now) keeps) all
     (then_run c.loop-done.done k c.args.self.now u c.pass.new.self (g.E.EventKeeper.keeps c.args.keeper.now) keeps keeps i.0 passed)
 
-pub returns-in_err-outcomes-clause-fewer : goal.returns-in_err-outcomes-clause-fewer
-returns-in_err-outcomes-clause-fewer g c =
+pub returns-in_err-ends-clause-fewer : goal.returns-in_err-ends-clause-fewer
+returns-in_err-ends-clause-fewer g c =
     let i = c.loop-done.invariant in
-    let r : c.from_residual.result ≡ Err c.in_err-outcomes.field-0.0 = search rules in
+    let r : c.from_residual.result ≡ Err c.in_err-ends.field-0.0 = search rules in
     rw r (
       c.loop-done.done,
       c.loop-done-test.true,
-      subst (λ (w : Untraced). HasRun c.loop-done.done c.args.self.now w (g.E.EventKeeper.keeps c.args.keeper.now) (g.E.EventKeeper.keeps c.loop-done.keeper)) (sym c.outcomes.ensures.stays) i.0,
+      subst (λ (w : Untraced). HasRun c.loop-done.done c.args.self.now w (g.E.EventKeeper.keeps c.args.keeper.now) (g.E.EventKeeper.keeps c.loop-done.keeper)) (sym c.do_parallel.ensures.stays) i.0,
     )
 
 pub returns-in_err-end_round-clause-fewer : goal.returns-in_err-end_round-clause-fewer
@@ -74,7 +74,7 @@ returns-in_err-end_round-clause-fewer g c =
     let i = c.loop-done.invariant in
     let none = c.in_err-end_round.ensures in
     let keeps = g.E.EventKeeper.keeps c.end_round.new.keeper in
-    let same = none.err ∙ c.outcomes.ensures.stays in
+    let same = none.err ∙ c.do_parallel.ensures.stays in
     let r : c.from_residual-in_err-end_round.result ≡ Err c.in_err-end_round.field-0.0 = search rules in
     rw r (
       c.loop-done.done,

@@ -1,0 +1,4 @@
+pub mod FewAccesses
+pub mod HartRounds
+pub mod RoundAt
+pub mod AtRest

@@ -1,0 +1,56 @@
+ghost use Rattle.std.specs.Prelude.{◌≡◌, ◌<◌, ◌↔◌, true, length, Some};
+ghost use Rattle.hart_rounds.specs.Ends.{round_at};
+
+use crate::posted_start::{PostedStart, RunStarts};
+use hart_rounds::{HartEnd, round_from};
+use hart_step::Access;
+use pages::OutOfMemory;
+use std::marker::PhantomData;
+
+/// The round of one hart: what the hart comes to from the start of a round of the run. Its type keeps that it is that.
+#[derive(Drop)]
+pub struct PostedRound<S: RunStarts> {
+    /// The number of the run's round.
+    pub round: u32,
+    /// The hart's number.
+    pub number: u32,
+    /// What its round left.
+    pub end: HartEnd,
+    of: PhantomData<S>,
+    ghost content: { round_at (S.starts round) number ≡ Some end },
+}
+
+impl<S: RunStarts> PostedRound<S> {
+    /// Does the round of a hart. `room` is taken for its accesses while the round goes on: what it holds is let go.
+    pub(crate) fn of(
+        start: &PostedStart<S>,
+        number: usize,
+        room: &mut Vec<Access>,
+    ) -> Result<PostedRound<S>, OutOfMemory>
+        requires { number < length start.now.parts.harts.items }
+    {
+        let end = round_from(number, &start.lent(), room)?;
+        Ok(PostedRound {
+            round: start.round,
+            number: number as u32,
+            end,
+            of: PhantomData,
+        })
+    }
+
+    /// Whether it is the round of this hart in this round of the run.
+    pub fn is_of(&self, round: u32, number: usize) -> bool
+        ensures { (result ≡ true) ↔ (self.now.round ≡ round) × (self.now.number ≡ number) }
+    {
+        self.round == round && self.number as usize == number
+    }
+
+    /// What the round left, handed over.
+    pub fn into_end(self) -> HartEnd
+        ensures end { result ≡ self.end }
+        ensures content { round_at (S.starts self.round) self.number ≡ Some result }
+    {
+        let PostedRound { end, .. } = self;
+        end
+    }
+}

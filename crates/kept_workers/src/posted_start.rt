@@ -1,0 +1,93 @@
+ghost use Rattle.std.specs.Prelude.{◌≡◌, ◌<◌, ℕ, length, IfSome};
+ghost use Rattle.hart_rounds.specs.Starts.{Start, empty_start};
+ghost use Rattle.kept_workers.specs.Parts.{Fits, start_of};
+
+use hart_rounds::{LogForm, RoundStart};
+use hart_step::{CodeTable, Hart};
+use pages::Pages;
+use std::marker::{Brand, PhantomData};
+use std::sync::atomic::{AtomicU64, Ordering};
+
+/// What each round of a run starts from, by the round's number, in proofs alone. Each run on kept workers picks it.
+pub trait RunStarts {
+    ghost starts: { ℕ → Start };
+}
+
+impl RunStarts for Brand {
+    ghost starts = { λ _. empty_start };
+}
+
+/// What the parallel phase of a round starts from, as its owner hands it over and gets it back.
+#[derive(Drop)]
+pub struct StartParts {
+    /// Guest memory.
+    pub pages: Pages,
+    /// The decoded words of a run of its code.
+    pub table: CodeTable,
+    /// The harts, in hart order.
+    pub harts: Vec<Hart>,
+    /// The quota of each hart.
+    pub quotas: Vec<u32>,
+    /// What becomes of the harts' accesses.
+    pub form: LogForm,
+}
+
+/// The start of a round of a run, which several workers read at once. Its type keeps that it is that.
+#[derive(Drop)]
+pub struct PostedStart<S: RunStarts> {
+    /// The round's number.
+    pub round: u32,
+    /// What it starts from.
+    pub parts: StartParts,
+    // How many harts were claimed.
+    claimed: AtomicU64,
+    of: PhantomData<S>,
+    ghost fits: { Fits parts },
+    ghost start: { S.starts round ≡ start_of parts },
+}
+
+impl<S: RunStarts> PostedStart<S> {
+    /// The start of a round, none of whose harts is claimed.
+    pub fn new(round: u32, parts: StartParts) -> PostedStart<S>
+        requires fits { Fits parts }
+        requires start { S.starts round ≡ start_of parts }
+        ensures round { result.round ≡ round }
+        ensures parts { result.parts ≡ parts }
+    {
+        PostedStart {
+            round,
+            parts,
+            claimed: AtomicU64::new(0),
+            of: PhantomData,
+        }
+    }
+
+    /// The start as the rounds of harts read it.
+    pub fn lent(&self) -> RoundStart<'_>
+        ensures { result ≡ S.starts self.now.round }
+    {
+        let parts = &self.parts;
+        let start = RoundStart::new(&parts.pages, &parts.table, &parts.harts, &parts.quotas);
+        start.with_form(parts.form)
+    }
+
+    /// What it starts from, handed back.
+    pub fn into_parts(self) -> StartParts
+        ensures { result ≡ self.parts }
+    {
+        let PostedStart { parts, .. } = self;
+        parts
+    }
+
+    /// Claims the next hart, or none once all are claimed.
+    pub(crate) fn claim(&self) -> Option<usize>
+        ensures { IfSome result (λ h. h < length self.now.parts.harts.items) }
+    {
+        let hart = self.claimed.fetch_add(1, Ordering::SeqCst);
+        if hart < self.parts.harts.len() as u64 {
+            Some(hart as usize)
+        } else {
+            None
+        }
+    }
+}

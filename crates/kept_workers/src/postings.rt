@@ -1,0 +1,39 @@
+use crate::posted_round::PostedRound;
+use crate::posted_start::{PostedStart, RunStarts};
+use std::alloc::Global;
+use std::sync::Arc;
+
+/// What stands on a board.
+#[derive(Drop)]
+pub(crate) struct Postings<S: RunStarts> {
+    /// The start of the round that is under way, while it may be taken.
+    pub(crate) start: Option<Arc<PostedStart<S>, Global>>,
+    /// How many starts were posted.
+    pub(crate) count: u64,
+    /// How many workers hold the start that was posted last.
+    pub(crate) holders: u64,
+    /// The rounds that workers left.
+    pub(crate) rounds: Vec<PostedRound<S>>,
+    /// Whether no start will be posted any more.
+    pub(crate) closed: bool,
+}
+
+impl<S: RunStarts> Postings<S> {
+    /// Takes part in the round that is posted, unless a worker has seen it. Its holder has to leave it.
+    pub(crate) fn take_start(&mut self, seen: &mut u64) -> Option<Arc<PostedStart<S>, Global>> {
+        if self.count == *seen {
+            return None;
+        }
+        let posted = self.start.as_ref()?;
+        *seen = self.count;
+        let start = Arc::try_clone(posted).ok()?;
+        self.holders = self.holders.wrapping_add(1);
+        Some(start)
+    }
+
+    /// A worker has let the start go, and leaves the rounds that it did. What finds no room is lost, and done anew.
+    pub(crate) fn leave(&mut self, mut rounds: Vec<PostedRound<S>>) {
+        self.holders = self.holders.wrapping_sub(1);
+        let _ = self.rounds.append(&mut rounds);
+    }
+}
