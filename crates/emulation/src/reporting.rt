@@ -1,5 +1,5 @@
-ghost use Rattle.std.specs.Prelude.{◌≡◌, ◌⊎◌, ◌<◌, ◌++◌, Err, IfErr, OnErr, OnOk};
-ghost use Rattle.host_io.specs.Taken.{BeganText};
+ghost use Rattle.std.specs.Prelude.{◌≡◌, ◌<◌};
+ghost use Rattle.host_io.specs.Taken.{WritesText};
 ghost use Rattle.report.specs.Report.{report_of};
 
 use host_io::{RunError, Sink};
@@ -34,12 +34,7 @@ pub trait Report {
 
 impl Report for Machine {
     fn report<S: Sink>(&self, alloc: Global, out: &mut S) -> Result<(), RunError>
-        ensures ok { OnOk result (S.took out.new ≡ S.took out.old ++ report_of self.now.state) }
-        ensures begun { OnErr result
-            (BeganText (S.took out.old) (S.took out.new) (report_of self.now.state)) }
-        ensures sink { result ≡ Err RunError.SinkFailed → S.failures out.old < S.failures out.new }
-        ensures errors { IfErr result (λ e. (e ≡ RunError.OutOfMemory) ⊎
-            (e ≡ RunError.SinkFailed)) }
+        ensures { WritesText (report_of self.now.state) (S.took out.old) (S.failures out.old) result (S.took out.new) (S.failures out.new) }
     {
         write_state(alloc, &state_of(self), self.trace(), out)
     }
@@ -51,12 +46,7 @@ impl Report for Machine {
         alloc: Global,
         out: &mut S,
     ) -> Result<(), RunError>
-        ensures ok { OnOk result (S.took out.new ≡ S.took out.old ++ report_of self.now.state) }
-        ensures begun { OnErr result
-            (BeganText (S.took out.old) (S.took out.new) (report_of self.now.state)) }
-        ensures sink { result ≡ Err RunError.SinkFailed → S.failures out.old < S.failures out.new }
-        ensures errors { IfErr result (λ e. (e ≡ RunError.OutOfMemory) ⊎
-            (e ≡ RunError.SinkFailed)) }
+        ensures { WritesText (report_of self.now.state) (S.took out.old) (S.failures out.old) result (S.took out.new) (S.failures out.new) }
     {
         write_state_on(rt, workers, alloc, &state_of(self), self.trace(), out)
     }

@@ -3,8 +3,7 @@ use Rattle.std.specs.Prelude.{ℕ, ◌+◌, ◌==◌, ◌&&◌, if◌then◌else
 use Rattle.std.specs.Fmt.{decimal}
 use Rattle.hart_step.specs.declared.hart.Stop.{Stop}
 use Rattle.plan_hunt.specs.declared.row.Row.{Row}
-use Rattle.report.specs.Report.{bytes_text}
-use Rattle.report.specs.Text.{hex, stop_text}
+use Rattle.report_lines.specs.Text.{bytes_text, hex, stop_text}
 use Rattle.hunt_table.specs.declared.header.Header.{Header}
 use Rattle.hunt_table.specs.declared.header.SeenRange.{SeenRange}
 

@@ -1,13 +1,12 @@
 ghost use Rattle.std.specs.Prelude.{◌≡◌, ◌+◌, ◌<◌, ◌≤◌, ◌++◌, codes, drop, OnOk, take};
-ghost use Rattle.report.specs.Report.{bytes_text};
-ghost use Rattle.report.specs.Text.{stop_text};
+ghost use Rattle.report_lines.specs.Text.{bytes_text};
 ghost use Rattle.hunt_table.specs.Text.{ending_line, ending_text, output_line, quoted, quoted_byte, seen_line, seen_lines, stop_line, stop_lines};
 
 use crate::header::SeenRange;
 use hart_step::Stop;
 use pages::OutOfMemory;
 use plan_hunt::Row;
-use report::Line;
+use report_lines::{Line, add_stop};
 
 /// Adds a byte as it is written between quotes.
 #[tactic(auto, unfolding(crate::specs::Text::quoted_byte))]
@@ -47,31 +46,15 @@ fn add_output(line: &mut Line, output: &[u8]) -> Result<(), OutOfMemory>
     line.text("\"\n")
 }
 
-fn add_stop_text(line: &mut Line, stop: Option<Stop>) -> Result<(), OutOfMemory>
-    ensures { OnOk result (line.new ≡ line.old ++ stop_text stop) }
-{
-    match stop {
-        None => line.text("running"),
-        Some(Stop { code: 1, value }) => {
-            line.text("exit ")?;
-            line.hex(value, 16)
-        }
-        Some(Stop { code, .. }) => {
-            line.text("stop ")?;
-            line.decimal(u64::from(code))
-        }
-    }
-}
-
 /// Adds the line of a hart.
 #[tactic(auto, unfolding(crate::specs::Text::stop_line))]
-fn add_stop(line: &mut Line, hart: u64, stop: Option<Stop>) -> Result<(), OutOfMemory>
+fn add_hart(line: &mut Line, hart: u64, stop: Option<Stop>) -> Result<(), OutOfMemory>
     ensures { OnOk result (line.new ≡ line.old ++ stop_line hart stop) }
 {
     line.text("hart ")?;
     line.decimal(hart)?;
     line.text(" ")?;
-    add_stop_text(line, stop)?;
+    add_stop(line, stop)?;
     line.text("\n")
 }
 
@@ -79,7 +62,7 @@ fn add_stops(line: &mut Line, stops: &[Option<Stop>]) -> Result<(), OutOfMemory>
     ensures { OnOk result (line.new ≡ line.old ++ stop_lines 0 stops.now) }
 {
     for (hart, stop) in stops.iter().enumerate() {
-        add_stop(line, hart as u64, *stop)?;
+        add_hart(line, hart as u64, *stop)?;
     }
     Ok(())
 }

@@ -1,5 +1,5 @@
-ghost use Rattle.std.specs.Prelude.{◌≡◌, ◌⊎◌, ◌<◌, ◌++◌, Err, IfErr, length, OnErr, OnOk};
-ghost use Rattle.host_io.specs.Taken.{BeganText};
+ghost use Rattle.std.specs.Prelude.{◌≡◌, ◌<◌, ◌++◌, Err, OnOk, length};
+ghost use Rattle.host_io.specs.Taken.{WritesText};
 ghost use Rattle.hunt_table.specs.Text.{endings_text, header_text, table_text};
 
 use crate::endings::add_ending;
@@ -7,7 +7,7 @@ use crate::header::{Header, SeenRange};
 use host_io::{RunError, Sink, put_all};
 use pages::OutOfMemory;
 use plan_hunt::Row;
-use report::Line;
+use report_lines::Line;
 use std::alloc::Global;
 
 /// Writes the table of a hunt as text. The text is made as a whole before any of it is put.
@@ -22,12 +22,8 @@ pub fn write_table<S: Sink>(
     rows: &[Row],
     out: &mut S,
 ) -> Result<(), RunError>
-    ensures ok { OnOk result (S.took out.new ≡ S.took out.old ++ table_text header.now rows.now) }
-    ensures begun { OnErr result
-        (BeganText (S.took out.old) (S.took out.new) (table_text header.now rows.now)) }
+    ensures writes { WritesText (table_text header.now rows.now) (S.took out.old) (S.failures out.old) result (S.took out.new) (S.failures out.new) }
     ensures memory { result ≡ Err RunError.OutOfMemory → S.took out.new ≡ S.took out.old }
-    ensures sink { result ≡ Err RunError.SinkFailed → S.failures out.old < S.failures out.new }
-    ensures errors { IfErr result (λ e. (e ≡ RunError.OutOfMemory) ⊎ (e ≡ RunError.SinkFailed)) }
 {
     let mut line = Line::new(alloc);
     add_table(&mut line, header, rows)?;

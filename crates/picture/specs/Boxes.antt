@@ -12,7 +12,7 @@ use Rattle.round_schedule.specs.declared.access.Access.TheVariants.{Load, Store,
 use Rattle.round_schedule.specs.declared.event.Event.{Event}
 use Rattle.round_schedule.specs.Accesses.{loads, read_of}
 use Rattle.round_schedule.specs.Events.{is_serial}
-use Rattle.report.specs.Text.{hex}
+use Rattle.report_lines.specs.Text.{hex}
 use Rattle.picture.specs.declared.elements.Point.{Point}
 use Rattle.picture.specs.declared.event_box.EventBox.{EventBox}
 use Rattle.picture.specs.Elements.{label_text, rectangle_text, wait_text}

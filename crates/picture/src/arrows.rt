@@ -6,7 +6,7 @@ use crate::event_box::EventBox;
 use crate::layout::left_of;
 use crate::source::{has_opening, has_place, sources};
 use pages::OutOfMemory;
-use report::Line;
+use report_lines::Line;
 use std::alloc::Global;
 use trace::Trace;
 

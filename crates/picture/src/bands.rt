@@ -6,7 +6,7 @@ use crate::event_box::EventBox;
 use crate::layout::{last_top_of_part, left_of, opens_part};
 use hart_step::{Hart, Stop};
 use pages::OutOfMemory;
-use report::Line;
+use report_lines::Line;
 use round_schedule::Phase;
 
 fn phase_name(phase: Phase) -> &'static str

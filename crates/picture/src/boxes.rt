@@ -8,7 +8,7 @@ use crate::labels::{access, value_read, written};
 use crate::layout::{is_serial, left_of, opens_turn};
 use crate::lost::is_lost;
 use pages::OutOfMemory;
-use report::Line;
+use report_lines::Line;
 use trace::Trace;
 
 fn box_class(lost: bool) -> &'static str

@@ -4,7 +4,7 @@ ghost use Rattle.picture.specs.Elements.{attribute, curve_text, down_text, label
 
 use crate::style::start_of_wait;
 use pages::OutOfMemory;
-use report::Line;
+use report_lines::Line;
 
 /// A point, so far from the left and from the top.
 #[derive(Clone, Copy, Debug, PartialEq, Eq)]

@@ -4,7 +4,7 @@ ghost use Rattle.pages.specs.Memory.{width_bytes};
 ghost use Rattle.picture.specs.Boxes.{access_text, mode_text, operand_text, ordering_text, read_text, set_text, written_text};
 
 use pages::{OutOfMemory, Width};
-use report::Line;
+use report_lines::Line;
 use round_schedule::Access;
 use rv64_decode::{AcquireRelease, FenceMode, FenceSet};
 

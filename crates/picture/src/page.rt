@@ -1,5 +1,5 @@
-ghost use Rattle.std.specs.Prelude.{◌≡◌, ◌⊎◌, ◌≤◌, ◌<◌, ◌++◌, ◌+◌, ◌^◌, [], Err, IfErr, OnErr, OnOk, length};
-ghost use Rattle.host_io.specs.Taken.{BeganText};
+ghost use Rattle.std.specs.Prelude.{◌≡◌, ◌≤◌, ◌<◌, ◌++◌, ◌+◌, ◌^◌, [], Err, OnOk, length};
+ghost use Rattle.host_io.specs.Taken.{WritesText};
 ghost use Rattle.picture.specs.Arrows.{arrows_to};
 ghost use Rattle.picture.specs.Bands.{band_at};
 ghost use Rattle.picture.specs.Boxes.{box_text};
@@ -17,7 +17,7 @@ use crate::view::{View, places_seen};
 use hart_step::Hart;
 use host_io::{RunError, Sink, put_all};
 use pages::OutOfMemory;
-use report::Line;
+use report_lines::Line;
 use std::alloc::Global;
 use trace::Trace;
 
@@ -172,13 +172,8 @@ pub fn write_picture<S: Sink>(
     out: &mut S,
 ) -> Result<(), RunError>
     requires { length harts.now ≤ 64 }
-    ensures ok { OnOk result (S.took out.new ≡
-        S.took out.old ++ picture_text trace.now.events harts.now view.now) }
-    ensures begun { OnErr result (BeganText (S.took out.old) (S.took out.new)
-        (picture_text trace.now.events harts.now view.now)) }
-    ensures sink { result ≡ Err RunError.SinkFailed → S.failures out.old < S.failures out.new }
+    ensures writes { WritesText (picture_text trace.now.events harts.now view.now) (S.took out.old) (S.failures out.old) result (S.took out.new) (S.failures out.new) }
     ensures memory { result ≡ Err RunError.OutOfMemory → S.took out.new ≡ S.took out.old }
-    ensures errors { IfErr result (λ e. (e ≡ RunError.OutOfMemory) ⊎ (e ≡ RunError.SinkFailed)) }
 {
     let mut line = Line::new(alloc);
     picture(alloc, &mut line, trace, harts, view)?;

@@ -1,7 +1,7 @@
-ghost use Rattle.std.specs.Prelude.{◌≡◌, ◌⊎◌, ◌++◌, ◌<◌, ℕ, Err, IfErr, OnErr, OnOk, map};
+ghost use Rattle.std.specs.Prelude.{◌≡◌, ◌++◌, ℕ, Err, OnOk, map};
 ghost use Rattle.std.specs.Int.{w32, w64, to_le_bytes};
 ghost use mir.Syntax.{w8};
-ghost use Rattle.host_io.specs.Taken.{BeganText};
+ghost use Rattle.host_io.specs.Taken.{WritesText};
 ghost use Rattle.host_io.specs.declared.error.RunError.TheVariants as refusals;
 ghost use Rattle.recording.specs.Fields.{bytes as length_and_bytes, each, spelled_each, where_due};
 ghost use Rattle.recording.specs.Grammar.{any, from_version_2, hart_summary, is_due, kept_after, number as between, recording, registers, summary};
@@ -17,12 +17,9 @@ use std::alloc::{AllocError, Global};
 ///
 /// `OutOfMemory`: nothing is written then. `SinkFailed`: a beginning of the text is.
 pub fn write_recording<S: Sink>(alloc: Global, r: &Recording, out: &mut S) -> Result<(), RunError>
-    ensures ok { OnOk result (S.took out.new ≡ S.took out.old ++ recording.spelled r.now) }
-    ensures begun { OnErr result
-        (BeganText (S.took out.old) (S.took out.new) (recording.spelled r.now)) }
-    ensures sink { result ≡ Err refusals.SinkFailed → S.failures out.old < S.failures out.new }
+    ensures writes { WritesText (recording.spelled r.now) (S.took out.old) (S.failures out.old) result
+        (S.took out.new) (S.failures out.new) }
     ensures memory { result ≡ Err refusals.OutOfMemory → S.took out.new ≡ S.took out.old }
-    ensures errors { IfErr result (λ e. (e ≡ refusals.OutOfMemory) ⊎ (e ≡ refusals.SinkFailed)) }
 {
     let mut text = Vec::new(alloc);
     match put_recording(&mut text, r.parts()) {

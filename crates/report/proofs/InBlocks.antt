@@ -8,8 +8,10 @@ use Rattle.round_schedule.specs.declared.event.Event.{Event}
 use Rattle.hart_step.specs.declared.hart.Hart.{Hart}
 use Rattle.pages.specs.Flat.{page_bytes}
 use Rattle.report.specs.Blocks.{block_text, body_text, middle_text, pages_text, start_text}
-use Rattle.report.specs.Report.{events_text, harts_text, head_text, memory_row, memory_rows, memory_text, output_text, report_text, trace_text}
-use Rattle.report.proofs.RowsMore.{events-append, rows-add, rows-take}
+use Rattle.report.specs.Report.{events_text, harts_text, head_text, memory_text, output_text, report_text, trace_text}
+use Rattle.report_lines.specs.Rows.{memory_row, memory_rows}
+use Rattle.report.proofs.Parts.{events-append}
+use Rattle.report_lines.proofs.MemoryRows.{rows-add, rows-take}
 
 -- one block more
 pub blocks_more : (es : List Event) (i : ℕ) → events_text (take (1024 * (i + 1)) es) ≡ events_text (take (1024 * i) es) ++ block_text es (1024 * i)

@@ -1,9 +1,4 @@
-pub mod Decimals
-pub mod Digits
-pub mod Tails
 pub mod Writing
-pub mod RowsMore
-pub mod Zeros
-pub mod Pairs
+pub mod Parts
 pub mod Orders
 mod InBlocks

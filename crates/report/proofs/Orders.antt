@@ -8,8 +8,8 @@ use Rattle.memory_order.specs.Orders.{ListsOperations}
 use Rattle.memory_order.proofs.Facts.{within}
 use Rattle.report.specs.Order.{places_text}
 use Rattle.report.specs.Report.{events_text}
-use Rattle.report.specs.Text.{event_text}
-use Rattle.report.proofs.RowsMore.{events-append}
+use Rattle.report_lines.specs.Text.{event_text}
+use Rattle.report.proofs.Parts.{events-append}
 
 abbrev Answer : Type 0
 Answer = Result (Unit {0}) RunError

@@ -2,7 +2,7 @@
 use Rattle.std.proofs.Common.{◌≡◌, ℕ, ◌<◌, ◌⊎◌, ⊎_elim, inl, inr, OnOk, OnErr, IfErr, List, [], ◌++◌, length, take, drop, Result, Ok, Err, MatchResult, refl, sym, ap, subst, ◌∙◌, arith, append_assoc, append-nil}
 use Rattle.std.proofs.Math.Seq.{take-append_seam}
 use Rattle.std.proofs.lemmas.List.{length-append, take-append-drop}
-use Rattle.host_io.specs.Taken.{BeganText}
+use Rattle.host_io.specs.Taken.{BeganText, WritesText}
 use Rattle.host_io.specs.declared.error.RunError.{RunError}
 use Rattle.host_io.specs.declared.error.RunError.TheVariants.{OutOfMemory, SinkFailed}
 use Rattle.report.specs.Pending.{Way, way, Split, Refused, Wrote}
@@ -132,6 +132,10 @@ sink_of text s n (Err x) l h e =
 pub errors_of : (text : List ℕ) (s n : Way) (r : Answer) → s.line ≡ [] → Wrote text s r n → IfErr r (λ e. (e ≡ OutOfMemory) ⊎ (e ≡ SinkFailed))
 errors_of text s n (Ok v) l h = tt
 errors_of text s n (Err x) l h = let p = all_put text s n (Err x) l h in ⊎_elim (λ m. inl m.0) (λ f. inr f.0) p.1
+
+-- all of it, of a call whose line is empty before and after
+pub writes_of : (text : List ℕ) (s n : Way) (r : Answer) → s.line ≡ [] → Wrote text s r n → OnOk r (n.line ≡ []) → WritesText text s.took s.failures r n.took n.failures
+writes_of text s n r l h p = record { ok = whole_of text s n r l h p; begun = begun_of text s n r l h; sink = sink_of text s n r l h; errors = errors_of text s n r l h }
 
 sink_only : (e : RunError) → ◌≡◌ {A = Answer} (Err e) (Err SinkFailed) → e ≡ SinkFailed
 sink_only e q = cc

@@ -5,7 +5,8 @@ use Rattle.round_schedule.specs.declared.event.Event.{Event}
 use Rattle.hart_step.specs.declared.hart.Hart.{Hart}
 use Rattle.report.specs.declared.piece.Piece.{Piece}
 use Rattle.report.specs.declared.piece.Piece.TheVariants.{Pages, Events}
-use Rattle.report.specs.Report.{events_text, harts_text, memory_rows, output_text}
+use Rattle.report.specs.Report.{events_text, harts_text, output_text}
+use Rattle.report_lines.specs.Rows.{memory_rows}
 
 -- the lines of so many pages from one on, or of those that are left
 abbrev pub pages_text : List ℕ → ℕ → ℕ → List ℕ

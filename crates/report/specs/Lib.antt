@@ -1,4 +1,3 @@
-pub mod Text
 pub mod Pending
 pub mod Report
 pub mod Order

@@ -1,29 +1,12 @@
 -- The report of a run, as text.
-use Rattle.std.specs.Prelude.{ℕ, zero, suc, ◌+◌, ◌/◌, ◌==◌, Bool, if◌then◌else◌, List, [], ◌∷◌, ◌++◌, length, drop, take, codes}
+use Rattle.std.specs.Prelude.{ℕ, zero, suc, ◌+◌, ◌/◌, List, [], ◌∷◌, ◌++◌, length, drop, take, codes}
 use Rattle.std.specs.Fmt.{decimal}
-use Rattle.std.specs.List.{list_all}
 use Rattle.round_schedule.specs.declared.event.Event.{Event}
 use Rattle.round_schedule.specs.Schedule.{State}
 use Rattle.hart_step.specs.declared.hart.Hart.{Hart}
 use Rattle.hart_step.specs.Console.{ConsoleState}
-use Rattle.report.specs.Text.{hex, hart_text, event_text}
-
--- bytes, two digits each
-abbrev pub bytes_text : List ℕ → List ℕ
-bytes_text [] = []
-bytes_text (b ∷ bs) = hex 2 b ++ bytes_text bs
-
-abbrev pub all_zero : List ℕ → Bool
-all_zero bs = list_all (λ b. b == 0) bs
-
--- the line of the 16 bytes from an address on, where they are not all 0
-unfoldable pub memory_row : ℕ → List ℕ → List ℕ
-memory_row a row = if all_zero row then [] else hex 8 a ++ codes " " ++ bytes_text row ++ codes "\n"
-
--- n such lines
-unfoldable pub memory_rows : ℕ → List ℕ → ℕ → List ℕ
-memory_rows a bs zero = []
-memory_rows a bs (suc n) = memory_row a (take 16 bs) ++ memory_rows (a + 16) (drop 16 bs) n
+use Rattle.report_lines.specs.Rows.{memory_rows}
+use Rattle.report_lines.specs.Text.{bytes_text, event_text, hart_text}
 
 -- `memory` with the number of pages, and the lines of all bytes
 unfoldable pub memory_text : List ℕ → List ℕ

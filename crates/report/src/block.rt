@@ -4,9 +4,9 @@ ghost use Rattle.std.specs.Prelude.{◌≡◌, ℕ, List, [], IfOk};
 ghost use Rattle.round_schedule.specs.declared.event.Event.{Event};
 ghost use Rattle.report.specs.Blocks.{piece_text};
 
-use crate::line::Line;
 use crate::piece::{EVENTS, Piece};
 use pages::{OutOfMemory, Pages};
+use report_lines::Line;
 use std::alloc::Global;
 use std::marker::{Brand, PhantomData};
 use trace::Trace;

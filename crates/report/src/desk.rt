@@ -3,8 +3,8 @@
 ghost use Rattle.std.specs.Prelude.{◌<◌, ◌≤◌};
 
 use crate::block::{Block, PutBody};
-use crate::line::Line;
 use pages::OutOfMemory;
+use report_lines::Line;
 use std::{array, mem};
 
 /// How many slots there are: two for each of 16 workers.

@@ -6,13 +6,12 @@ ghost use Rattle.trace.specs.Traced.{opening_at};
 ghost use Rattle.report.specs.Order.{IsCheckedOrder, checked_text, order_text, places_text};
 ghost use Rattle.report.specs.Pending.{Wrote, way};
 
-use crate::line::Line;
 use crate::state::{put_count, put_event};
-use crate::tail::Tail;
 use crate::writer::put_line;
 use host_io::{RunError, Sink};
 use memory_order::memory_order;
 use order_checker::check_order;
+use report_lines::{Line, Tail};
 use std::alloc::Global;
 use trace::Trace;
 

@@ -3,11 +3,8 @@
 ghost use Rattle.std.specs.Prelude.{◌≡◌, ◌*◌, [], OnOk};
 ghost use Rattle.report.specs.Blocks.{block_text, pages_text, piece_text};
 
-use crate::line::Line;
-use crate::rows::page_lines;
-use crate::tail::Tail;
-use crate::text::event_line;
 use pages::{OutOfMemory, Pages};
+use report_lines::{Line, Tail, event_line, page_lines};
 use trace::Trace;
 
 /// How many events a piece has, if so many are left.

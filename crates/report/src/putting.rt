@@ -3,16 +3,17 @@
 ghost use Rattle.std.specs.Prelude.{◌≡◌, ◌/◌, [], IfOk, OnOk, length};
 ghost use Rattle.report.specs.Blocks.{body_text, middle_text, piece_text};
 ghost use Rattle.report.specs.Pending.{Wrote, way};
-ghost use Rattle.report.specs.Report.{events_text, memory_rows};
+ghost use Rattle.report.specs.Report.{events_text};
+ghost use Rattle.report_lines.specs.Rows.{memory_rows};
 
 use crate::block::PutBody;
 use crate::formatting::{Formatting, Turn};
-use crate::line::Line;
 use crate::piece::{EVENTS, Piece};
 use crate::state::{put_count, put_output};
 use crate::writer::put_line;
 use host_io::{RunError, Sink, put_all};
 use pages::OutOfMemory;
+use report_lines::Line;
 use std::alloc::Global;
 use std::sync::Wait;
 

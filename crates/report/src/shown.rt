@@ -1,14 +1,14 @@
-ghost use Rattle.std.specs.Prelude.{◌≡◌, ◌⊎◌, ◌<◌, ◌++◌, [], OnOk, OnErr, IfErr, Err};
-ghost use Rattle.host_io.specs.Taken.{BeganText};
+ghost use Rattle.std.specs.Prelude.{◌≡◌, ◌<◌, [], OnOk};
+ghost use Rattle.host_io.specs.Taken.{WritesText};
 ghost use Rattle.report.specs.Pending.{Wrote, way};
 ghost use Rattle.report.specs.RunStates.{state_of, summary_of};
 ghost use Rattle.report.specs.Shown.{output_line};
 
-use crate::line::Line;
 use crate::run_state::RunState;
 use crate::state::{put_count, put_end, put_harts, put_head};
 use crate::writer::put_line;
 use host_io::{RunError, Sink};
+use report_lines::Line;
 use std::alloc::Global;
 
 /// Writes the report of a state without its events: the harts, memory and the console's output.
@@ -22,11 +22,7 @@ pub fn write_untraced<S: Sink>(
     state: &RunState<'_>,
     out: &mut S,
 ) -> Result<(), RunError>
-    ensures ok { OnOk result (S.took out.new ≡ S.took out.old ++ state_of state.now) }
-    ensures begun { OnErr result
-        (BeganText (S.took out.old) (S.took out.new) (state_of state.now)) }
-    ensures sink { result ≡ Err RunError.SinkFailed → S.failures out.old < S.failures out.new }
-    ensures errors { IfErr result (λ e. (e ≡ RunError.OutOfMemory) ⊎ (e ≡ RunError.SinkFailed)) }
+    ensures { WritesText (state_of state.now) (S.took out.old) (S.failures out.old) result (S.took out.new) (S.failures out.new) }
 {
     let mut line = Line::new(alloc);
     put_untraced(out, &mut line, state)
@@ -51,11 +47,7 @@ pub fn write_summary<S: Sink>(
     state: &RunState<'_>,
     out: &mut S,
 ) -> Result<(), RunError>
-    ensures ok { OnOk result (S.took out.new ≡ S.took out.old ++ summary_of state.now) }
-    ensures begun { OnErr result
-        (BeganText (S.took out.old) (S.took out.new) (summary_of state.now)) }
-    ensures sink { result ≡ Err RunError.SinkFailed → S.failures out.old < S.failures out.new }
-    ensures errors { IfErr result (λ e. (e ≡ RunError.OutOfMemory) ⊎ (e ≡ RunError.SinkFailed)) }
+    ensures { WritesText (summary_of state.now) (S.took out.old) (S.failures out.old) result (S.took out.new) (S.failures out.new) }
 {
     let mut line = Line::new(alloc);
     put_summary(out, &mut line, state)

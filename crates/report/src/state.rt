@@ -1,23 +1,21 @@
-ghost use Rattle.std.specs.Prelude.{◌≡◌, ◌⊎◌, ◌<◌, ◌≤◌, ◌+◌, ◌*◌, ◌/◌, ◌^◌, ◌++◌, [], OnOk, OnErr, IfErr, Err, codes, drop, take, length};
+ghost use Rattle.std.specs.Prelude.{◌≡◌, ◌<◌, ◌≤◌, ◌+◌, ◌*◌, ◌/◌, ◌++◌, [], OnOk, codes, take, length};
 ghost use Rattle.std.specs.Fmt.{decimal};
-ghost use Rattle.host_io.specs.Taken.{BeganText};
+ghost use Rattle.host_io.specs.Taken.{WritesText};
 ghost use Rattle.pages.specs.Flat.{page_bytes};
 ghost use Rattle.report.specs.Pending.{Wrote, way};
-ghost use Rattle.report.specs.Report.{bytes_text, events_text, harts_text, output_rows, output_text, trace_text, memory_rows};
+ghost use Rattle.report.specs.Report.{events_text, harts_text, output_rows, output_text, trace_text};
+ghost use Rattle.report_lines.specs.Rows.{memory_rows};
 ghost use Rattle.report.specs.RunStates.{head_of, report_with, start_of};
-ghost use Rattle.report.specs.Text.{event_text, hart_text};
+ghost use Rattle.report_lines.specs.Text.{bytes_text, event_text, hart_text};
 
 use crate::blocks::put_body;
 use crate::cut::Cut;
-use crate::line::Line;
-use crate::rows::{count_line, output_row, page_lines};
 use crate::run_state::RunState;
-use crate::tail::Tail;
-use crate::text::{event_line, hart_lines};
 use crate::writer::{put_line, put_long};
 use hart_step::Hart;
 use host_io::{RunError, Sink};
 use pages::Pages;
+use report_lines::{Line, Tail, count_line, event_line, hart_lines, output_row, page_lines};
 use round_schedule::Event;
 use std::alloc::Global;
 use std::sync::Wait;
@@ -206,12 +204,7 @@ pub fn write_state<S: Sink>(
     trace: &Trace,
     out: &mut S,
 ) -> Result<(), RunError>
-    ensures ok { OnOk result (S.took out.new ≡
-        S.took out.old ++ report_with state.now trace.now.events) }
-    ensures begun { OnErr result
-        (BeganText (S.took out.old) (S.took out.new) (report_with state.now trace.now.events)) }
-    ensures sink { result ≡ Err RunError.SinkFailed → S.failures out.old < S.failures out.new }
-    ensures errors { IfErr result (λ e. (e ≡ RunError.OutOfMemory) ⊎ (e ≡ RunError.SinkFailed)) }
+    ensures { WritesText (report_with state.now trace.now.events) (S.took out.old) (S.failures out.old) result (S.took out.new) (S.failures out.new) }
 {
     let mut line = Line::new(alloc);
     put_state(out, &mut line, state, trace)
@@ -266,12 +259,7 @@ pub fn write_state_on<S: Sink, R: Threads + Wait + Sync>(
     trace: &Trace,
     out: &mut S,
 ) -> Result<(), RunError>
-    ensures ok { OnOk result (S.took out.new ≡
-        S.took out.old ++ report_with state.now trace.now.events) }
-    ensures begun { OnErr result
-        (BeganText (S.took out.old) (S.took out.new) (report_with state.now trace.now.events)) }
-    ensures sink { result ≡ Err RunError.SinkFailed → S.failures out.old < S.failures out.new }
-    ensures errors { IfErr result (λ e. (e ≡ RunError.OutOfMemory) ⊎ (e ≡ RunError.SinkFailed)) }
+    ensures { WritesText (report_with state.now trace.now.events) (S.took out.old) (S.failures out.old) result (S.took out.new) (S.failures out.new) }
 {
     let mut line = Line::new(alloc);
     let workers = workers.min(MOST_WORKERS) as usize;

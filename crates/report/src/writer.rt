@@ -1,8 +1,8 @@
 ghost use Rattle.std.specs.Prelude.{◌≡◌, [], OnOk};
 ghost use Rattle.report.specs.Pending.{Wrote, way};
 
-use crate::line::Line;
 use host_io::{RunError, Sink, put_all};
+use report_lines::Line;
 
 /// How many bytes a line may have before it is put.
 const LONG: usize = 32_768;

@@ -11,8 +11,7 @@ use Rattle.hunt_table.specs.declared.header.SeenRange.{SeenRange}
 use Rattle.plan_hunt.specs.Adding.{row}
 use Rattle.plan_hunt.specs.Endings.{ended}
 use Rattle.plan_hunt.specs.declared.row.Row.{Row}
-use Rattle.report.specs.Report.{bytes_text}
-use Rattle.report.specs.Text.{hex}
+use Rattle.report_lines.specs.Text.{bytes_text, hex}
 use Rattle.table_reader.specs.Reading.{bytes_of, ending_at, ending_lines_at, endings_at, is_ending_line, is_seen_line, is_stop_line, output_line_at, ranges_of, seen_at, seen_line_at, stop_line_at, stops_at, word_at}
 use Rattle.table_reader.specs.Told.{IsToldRange, IsToldRow, IsToldStop}
 use Rattle.table_reader.proofs.Lines.{five, seen_line_again, seven, stop_line_again}

@@ -7,8 +7,7 @@ use Rattle.std.proofs.lemmas.List.{drop-drop, length-append}
 use Rattle.hart_step.specs.declared.hart.Stop.{Stop}
 use Rattle.hunt_table.specs.Text.{seen_line, stop_line}
 use Rattle.hunt_table.specs.declared.header.SeenRange.{SeenRange}
-use Rattle.report.specs.Report.{bytes_text}
-use Rattle.report.specs.Text.{hex, stop_text}
+use Rattle.report_lines.specs.Text.{bytes_text, hex, stop_text}
 use Rattle.table_reader.specs.Reading.{bytes_at, is_seen_line, is_stop_line, seen_bytes, seen_line_at, stop_at, stop_line_at, word_at}
 use Rattle.table_reader.specs.Told.{IsToldRange, IsToldStop}
 use Rattle.table_reader.proofs.Numbers.{after_bytes, bytes_again, hex_at_front, length-bytes_text, number_again, word_again}

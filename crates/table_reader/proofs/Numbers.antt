@@ -6,8 +6,7 @@ use Rattle.std.proofs.lemmas.Fmt.{decimal_by_steps}
 use Rattle.std.proofs.lemmas.List.{drop_at, length-append, take_at}
 use Rattle.std.proofs.lemmas.List.Elements.{All-head}
 use Rattle.std.proofs.lemmas.List.Sums.{fold_push}
-use Rattle.report.specs.Report.{bytes_text}
-use Rattle.report.specs.Text.{hex, hex_digit}
+use Rattle.report_lines.specs.Text.{bytes_text, hex, hex_digit}
 use Rattle.table_reader.specs.Reading.{bytes_at, digit_value, hex_value, number_after, number_at, with_digit, with_hex_digit, word_at}
 
 -- ---- decimal numbers

@@ -6,7 +6,7 @@ use Rattle.std.proofs.lemmas.Bool.Decides.{nat_tests}
 use Rattle.std.proofs.lemmas.List.{length-append}
 use Rattle.std.proofs.lemmas.List.Elements.{All-head}
 use Rattle.hunt_table.specs.Text.{output_line, quoted, quoted_byte}
-use Rattle.report.specs.Text.{hex}
+use Rattle.report_lines.specs.Text.{hex}
 use Rattle.table_reader.specs.Reading.{output_bytes, output_line_at, quoted_at, quoted_byte_at}
 use Rattle.table_reader.proofs.Lines.{five}
 use Rattle.table_reader.proofs.Numbers.{hex_at_front, number_again, tail_of}

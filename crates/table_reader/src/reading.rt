@@ -11,7 +11,7 @@ use crate::error::ReadError;
 use crate::table::Table;
 use hunt_table::{Header, add_table};
 use pages::OutOfMemory;
-use report::Line;
+use report_lines::Line;
 use std::alloc::Global;
 
 /// What a text would be as a table. Whether it is one is not looked at: each part is read as if it were there.

@@ -2,7 +2,7 @@ use Rattle.std.proofs.Common.{◌≡◌, ◌∙◌, ◌⊎◌, ◌++◌, ℕ, Er
 use Rattle.host_io.specs.declared.error.RunError.{RunError}
 use Rattle.host_io.specs.declared.error.RunError.TheVariants.{OutOfMemory, SinkFailed}
 use Rattle.host_io.specs.Taken.{BeganText}
-use Rattle.host_io.proofs.Refused.{refused, where_done, where_refused}
+use Rattle.host_io.proofs.Written.{refused, where_done, where_refused}
 use Rattle.round_schedule.specs.declared.event.Event.{Event}
 use Rattle.round_planner.specs.Quotas.{Planned}
 use Rattle.hart_step.specs.declared.hart.Hart.{Hart}
@@ -35,21 +35,21 @@ write_picture-requires g c =
     omega (arith, e, c.in_ok-machine.ensures.range.few_harts)
 
 pub returns-clause-errors : goal.returns-clause-errors
-returns-clause-errors g c = λ none. refused c.write_picture.result _ _ c.write_picture.ensures.sink c.write_picture.ensures.errors
+returns-clause-errors g c = λ none. refused c.write_picture.result _ _ c.write_picture.ensures.writes.sink c.write_picture.ensures.writes.errors
 
 pub returns-clause-untouched : goal.returns-clause-untouched
-returns-clause-untouched g c = untouched c.write_picture.result _ c.write_picture.ensures.memory c.write_picture.ensures.errors
+returns-clause-untouched g c = untouched c.write_picture.result _ c.write_picture.ensures.memory c.write_picture.ensures.writes.errors
 
 pub returns-clause-draws : goal.returns-clause-draws
 returns-clause-draws g c =
     let made = c.in_ok-machine.ensures.machine in
     let after = c.in_ok-run_observed.ensures.ok ∙ ap (after_rounds c.args.settings.now.rounds) made.2 in
     let same = same_picture _ _ _ _ c.args.view.now c.trace.ensures.events c.harts.ensures.harts after in
-    where_done c.write_picture.result _ _ (λ h. (made.0, made.1, h ∙ ap (λ (text : List ℕ). g.S.Sink.took c.args.out.now ++ text) same)) c.write_picture.ensures.ok
+    where_done c.write_picture.result _ _ (λ h. (made.0, made.1, h ∙ ap (λ (text : List ℕ). g.S.Sink.took c.args.out.now ++ text) same)) c.write_picture.ensures.writes.ok
 
 pub returns-clause-begun : goal.returns-clause-begun
 returns-clause-begun g c =
     let made = c.in_ok-machine.ensures.machine in
     let after = c.in_ok-run_observed.ensures.ok ∙ ap (after_rounds c.args.settings.now.rounds) made.2 in
     let same = same_picture _ _ _ _ c.args.view.now c.trace.ensures.events c.harts.ensures.harts after in
-    where_refused c.write_picture.result _ _ (λ h. inr (made.0, made.1, subst (λ (text : List ℕ). BeganText (g.S.Sink.took c.args.out.now) (g.S.Sink.took c.write_picture.new.out) text) same h)) c.write_picture.ensures.begun
+    where_refused c.write_picture.result _ _ (λ h. inr (made.0, made.1, subst (λ (text : List ℕ). BeganText (g.S.Sink.took c.args.out.now) (g.S.Sink.took c.write_picture.new.out) text) same h)) c.write_picture.ensures.writes.begun

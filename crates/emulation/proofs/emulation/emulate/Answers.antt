@@ -1,6 +1,6 @@
 use Rattle.std.proofs.Common.{◌∙◌, ◌++◌, ℕ, List, ap, inr, subst}
 use Rattle.host_io.specs.Taken.{BeganText}
-use Rattle.host_io.proofs.Refused.{refused, where_done, where_refused}
+use Rattle.host_io.proofs.Written.{refused, where_done, where_refused}
 use Rattle.report.specs.Report.{report_of}
 use Rattle.machine.specs.Machine.{Running, after_rounds}
 use Rattle.emulation.proofs.emulation.emulate.Goals as goal

@@ -1,7 +1,7 @@
 use Rattle.std.proofs.Common.{◌∙◌, ⊎_elim, inl, inr, ℕ, ◌++◌, Bool, List, ap, slice_index, subst, true}
 use Rattle.round_schedule.specs.declared.event.Event.{Event}
 use Rattle.host_io.specs.Taken.{BeganText}
-use Rattle.host_io.proofs.Refused.{where_done, where_refused}
+use Rattle.host_io.proofs.Written.{where_done, where_refused}
 use Rattle.memory_order.proofs.Meeting.{meets_rvwmo}
 use Rattle.trace.specs.Traced.{opening_at}
 use Rattle.report.specs.Order.{order_text}

@@ -1,5 +1,5 @@
 use Rattle.std.proofs.Common.{◌≡◌, ◌++◌, drop}
-use Rattle.report.specs.Report.{bytes_text}
+use Rattle.report_lines.specs.Text.{bytes_text}
 use Rattle.hunt_table.proofs.endings.add_bytes.Given as goal
 
 abbrev pub invariant-loop-byte : goal.invariant-loop-byte

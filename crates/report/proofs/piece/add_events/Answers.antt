@@ -2,8 +2,8 @@ use Rattle.std.proofs.Common.{◌≡◌, ◌∙◌, ◌∷◌, ◌++◌, List, [
 use Rattle.std.specs.declared.iter.Take.{Take}
 use Rattle.round_schedule.specs.declared.event.Event.{Event}
 use Rattle.report.specs.Report.{events_text}
-use Rattle.report.specs.Text.{event_text}
-use Rattle.report.proofs.RowsMore.{events-append}
+use Rattle.report_lines.specs.Text.{event_text}
+use Rattle.report.proofs.Parts.{events-append}
 use Rattle.report.proofs.piece.add_events.Goals as goal
 
 pub loop-event-init : goal.loop-event-init

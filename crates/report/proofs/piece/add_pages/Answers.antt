@@ -1,9 +1,9 @@
 use Rattle.std.proofs.Common.{◌≡◌, ◌*◌, ◌++◌, ◌∙◌, ◌-◌, ◌≤◌, List, ℕ, ap, arith, drop, sym}
 use Rattle.pages.specs.Flat.{page_bytes}
 use Rattle.report.specs.Blocks.{pages_text}
-use Rattle.report.specs.Report.{memory_rows}
+use Rattle.report_lines.specs.Rows.{memory_rows}
 use Rattle.report.proofs.InBlocks.{page_after, pages_past}
-use Rattle.report.proofs.RowsMore.{no_rows}
+use Rattle.report_lines.proofs.MemoryRows.{no_rows}
 use Rattle.report.proofs.piece.add_pages.Goals as goal
 
 pub loop-page-init : goal.loop-page-init

@@ -1,7 +1,7 @@
 use Rattle.std.proofs.Common.{◌≡◌, Err, [], arith, rules, sym}
 use Rattle.report.specs.Pending.{way}
 use Rattle.report.proofs.InBlocks.{all_pieces, pages_more, pieces_left}
-use Rattle.report.proofs.RowsMore.{no_rows}
+use Rattle.report_lines.proofs.MemoryRows.{no_rows}
 use Rattle.report.proofs.Writing.{loop_more, loop_stop, same_text, wrote_none}
 use Rattle.report.proofs.putting.put_memory_blocks.Goals as goal
 

@@ -1,6 +1,6 @@
 use Rattle.std.proofs.Common.{◌*◌, ◌-◌, [], Ok}
 use Rattle.report.specs.Pending.{Wrote, way}
-use Rattle.report.specs.Report.{memory_rows}
+use Rattle.report_lines.specs.Rows.{memory_rows}
 use Rattle.report.proofs.putting.put_memory_blocks.Given as goal
 
 abbrev pub invariant-loop-first : goal.invariant-loop-first

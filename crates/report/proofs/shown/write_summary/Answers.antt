@@ -1,15 +1,9 @@
 use Rattle.report.specs.Pending.{way}
-use Rattle.report.proofs.Writing.{begun_of, errors_of, sink_of, whole_of}
+use Rattle.report.proofs.Writing.{writes_of}
 use Rattle.report.proofs.shown.write_summary.Goals as goal
 
-pub returns-clause-ok : goal.returns-clause-ok
-returns-clause-ok g c = whole_of _ (way (g.S.Sink.took c.args.out.now) (g.S.Sink.failures c.args.out.now) c.new-line.result) (way (g.S.Sink.took c.put_summary.new.out) (g.S.Sink.failures c.put_summary.new.out) c.put_summary.new.line) c.put_summary.result c.new-line.ensures c.put_summary.ensures.wrote c.put_summary.ensures.empty
-
-pub returns-clause-begun : goal.returns-clause-begun
-returns-clause-begun g c = begun_of _ (way (g.S.Sink.took c.args.out.now) (g.S.Sink.failures c.args.out.now) c.new-line.result) (way (g.S.Sink.took c.put_summary.new.out) (g.S.Sink.failures c.put_summary.new.out) c.put_summary.new.line) c.put_summary.result c.new-line.ensures c.put_summary.ensures.wrote
-
-pub returns-clause-sink : goal.returns-clause-sink
-returns-clause-sink g c = sink_of _ (way (g.S.Sink.took c.args.out.now) (g.S.Sink.failures c.args.out.now) c.new-line.result) (way (g.S.Sink.took c.put_summary.new.out) (g.S.Sink.failures c.put_summary.new.out) c.put_summary.new.line) c.put_summary.result c.new-line.ensures c.put_summary.ensures.wrote
-
-pub returns-clause-errors : goal.returns-clause-errors
-returns-clause-errors g c = errors_of _ (way (g.S.Sink.took c.args.out.now) (g.S.Sink.failures c.args.out.now) c.new-line.result) (way (g.S.Sink.took c.put_summary.new.out) (g.S.Sink.failures c.put_summary.new.out) c.put_summary.new.line) c.put_summary.result c.new-line.ensures c.put_summary.ensures.wrote
+pub returns : goal.returns
+returns g c =
+    let before = way (g.S.Sink.took c.args.out.now) (g.S.Sink.failures c.args.out.now) c.new-line.result in
+    let after = way (g.S.Sink.took c.put_summary.new.out) (g.S.Sink.failures c.put_summary.new.out) c.put_summary.new.line in
+    writes_of _ before after c.put_summary.result c.new-line.ensures c.put_summary.ensures.wrote c.put_summary.ensures.empty

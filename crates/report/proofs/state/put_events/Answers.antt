@@ -1,7 +1,7 @@
 use Rattle.std.proofs.Common.{◌≡◌, ◌∙◌, ◌++◌, [], Err, List, ap, append_assoc, append-nil, rules, sym, ℕ}
 use Rattle.report.specs.Pending.{way}
 use Rattle.report.specs.Report.{events_text}
-use Rattle.report.specs.Text.{event_text}
+use Rattle.report_lines.specs.Text.{event_text}
 use Rattle.report.proofs.Writing.{loop_stop, same_text, wrote_none, wrote_then}
 use Rattle.report.proofs.state.put_events.Goals as goal
 

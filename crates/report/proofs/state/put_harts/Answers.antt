@@ -3,7 +3,7 @@ use Rattle.std.proofs.lemmas.List.{take_all}
 use Rattle.report.specs.Pending.{way}
 use Rattle.report.specs.Report.{harts_text}
 use Rattle.report.proofs.Writing.{loop_more, loop_stop, same_text, wrote_none}
-use Rattle.report.proofs.RowsMore.{harts_left, harts_more}
+use Rattle.report.proofs.Parts.{harts_left, harts_more}
 use Rattle.report.proofs.state.put_harts.Goals as goal
 
 pub loop-number-init : goal.loop-number-init

@@ -1,8 +1,8 @@
 use Rattle.std.proofs.Common.{◌≡◌, ◌*◌, ◌/◌, ℕ, Err, length, rules, arith, sym, ap}
 use Rattle.report.specs.Pending.{way}
-use Rattle.report.specs.Report.{memory_rows}
+use Rattle.report_lines.specs.Rows.{memory_rows}
 use Rattle.report.proofs.Writing.{loop_more, loop_stop, same_text, wrote_none}
-use Rattle.report.proofs.RowsMore.{no_rows, pages_left, page_more}
+use Rattle.report_lines.proofs.MemoryRows.{no_rows, pages_left, page_more}
 use Rattle.report.proofs.state.put_pages.Goals as goal
 
 row_count : (n m : ℕ) → 4096 * n ≡ m → 256 * n ≡ m / 16

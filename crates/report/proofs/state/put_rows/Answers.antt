@@ -2,7 +2,7 @@ use Rattle.std.proofs.Common.{◌≡◌, ◌+◌, ◌*◌, ◌/◌, Err, length,
 use Rattle.report.specs.Pending.{way}
 use Rattle.report.specs.Report.{output_rows}
 use Rattle.report.proofs.Writing.{loop_more, loop_stop, same_text, wrote_none}
-use Rattle.report.proofs.RowsMore.{output_left, output_more, output_none, row_text}
+use Rattle.report.proofs.Parts.{output_left, output_more, output_none, row_text}
 use Rattle.report.proofs.state.put_rows.Goals as goal
 
 pub loop-row-init : goal.loop-row-init

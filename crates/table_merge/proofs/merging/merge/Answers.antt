@@ -12,13 +12,13 @@ returns-in_err-table-clause-apart g c = λ e.
 pub returns-in_err-write_table-clause-begun : goal.returns-in_err-write_table-clause-begun
 returns-in_err-write_table-clause-begun g c =
     let p = err_from_is_err_and c.from_residual-in_err-write_table.result c.from_residual-in_err-write_table.ensures.1 in
-    rw p.1 (inr (c.in_ok-table.table, c.in_ok-table.ensures.merged, rw c.deref.ensures.value at c.in_err-write_table.ensures.begun))
+    rw p.1 (inr (c.in_ok-table.table, c.in_ok-table.ensures.merged, rw c.deref.ensures.value at c.in_err-write_table.ensures.writes.begun))
 
 pub returns-clause-merged : goal.returns-clause-merged
 returns-clause-merged g c = (
   c.in_ok-table.table,
   c.in_ok-table.ensures.merged,
-  c.in_ok-write_table.ensures.ok ∙ ap (λ (v : List Row). g.S.Sink.took c.args.out.now ++ table_text c.in_ok-table.table.header v) c.deref.ensures.value,
+  c.in_ok-write_table.ensures.writes.ok ∙ ap (λ (v : List Row). g.S.Sink.took c.args.out.now ++ table_text c.in_ok-table.table.header v) c.deref.ensures.value,
 )
 
 pub returns-in_err-table-clause-not_a_table : goal.returns-in_err-table-clause-not_a_table

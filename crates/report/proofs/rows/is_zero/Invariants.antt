@@ -1,6 +1,0 @@
-use Rattle.std.proofs.Common.{◌≡◌, ◌==◌, take}
-use Rattle.report.specs.Report.{all_zero}
-use Rattle.report.proofs.rows.is_zero.Given as goal
-
-abbrev pub invariant-loop-byte : goal.invariant-loop-byte
-invariant-loop-byte l = (l.joined == 0) ≡ all_zero (take l.byte-index l.bytes)

@@ -1,5 +1,0 @@
-use Rattle.std.proofs.Common.{length}
-use Rattle.report.proofs.text.+register_lines.Given as goal
-
-abbrev pub decreases-register_lines : goal.decreases-register_lines
-decreases-register_lines l = length l.values.now

@@ -1,7 +1,0 @@
-use Rattle.std.proofs.Common.{rules, append_assoc}
-use Rattle.report.specs.Text.{hart_text}
-use Rattle.report.proofs.text.hart_lines.Goals as goal
-
-pub returns : goal.returns
-unfolding hart_text
-returns c = search (rules, append_assoc)
