@@ -5,6 +5,7 @@ ghost use Rattle.dethart.specs.Status.{IsNoFile};
 use crate::failure::Failure;
 use command_line::Program;
 use host_io::{ReadSource, RunError, read_all};
+use pages::MOST_PAGES;
 use replayer::{Cause, ReadError, Recording, read_recording};
 use std::fs::{self, File};
 use std::io::{self, Read};
@@ -13,7 +14,7 @@ use std::io::{self, Read};
 const MOST_BYTES: u64 = 1 << 30;
 
 /// One byte more than a flat image can have that fits into guest memory.
-const MOST_OF_FLAT: u64 = 16_384 * 4096 + 1;
+const MOST_OF_FLAT: u64 = MOST_PAGES as u64 * 4096 + 1;
 
 /// How many bytes say that a file begins as a recording.
 const MAGIC_BYTES: u64 = 8;

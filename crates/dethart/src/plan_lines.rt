@@ -1,6 +1,7 @@
 //! Which line of a plan's text is bad, and why.
 
 use round_planner::{Plan, PlanError};
+use round_schedule::MOST_HARTS;
 use std::alloc::Global;
 use std::fmt::{self, Display, Formatter, Write};
 
@@ -66,7 +67,7 @@ pub(crate) fn bad_line(
 
 /// Whether a line alone is refused for this cause.
 fn refuses(alloc: Global, line: &[u8], harts: u32, cause: PlanError) -> bool {
-    harts >= 1 && harts <= 64 && Plan::parse(alloc, line, harts).err() == Some(cause)
+    harts >= 1 && harts <= MOST_HARTS && Plan::parse(alloc, line, harts).err() == Some(cause)
 }
 
 /// What is wrong with a line.

@@ -12,6 +12,7 @@ use command_line::{Plan, PlanChoice};
 use host_io::{RunError, WriteSink, put_all};
 use pages::OutOfMemory;
 use plan_family::Family;
+use round_schedule::MOST_HARTS;
 use std::alloc::Global;
 use std::io::Write;
 
@@ -40,7 +41,7 @@ pub(crate) fn plan_of(
 {
     let (text, is_file) = match (choice.number, choice.file) {
         // Where there is no such number of harts, the run is refused for it, whatever its plan.
-        (Some(number), _) if harts >= 1 && harts <= 64 => {
+        (Some(number), _) if harts >= 1 && harts <= MOST_HARTS => {
             let family = Family {
                 seed: choice.seed,
                 harts,
@@ -117,7 +118,7 @@ pub(crate) fn write_plan<W: Write>(
     asked: &Plan,
     out: &mut W,
 ) -> Result<u32, Failure> {
-    if asked.harts < 1 || asked.harts > 64 {
+    if asked.harts < 1 || asked.harts > MOST_HARTS {
         return Err(Failure::Refused(RunError::HartsOutOfRange));
     }
     let family = Family {

@@ -6,6 +6,8 @@ use crate::error::HuntError;
 use host_io::RunError;
 use hunt_table::{Header, SeenRange};
 use machine::Format;
+use pages::MOST_PAGES;
+use round_schedule::{MOST_HARTS, MOST_WORKERS};
 
 /// What a hunt is asked for.
 #[derive(Drop)]
@@ -37,13 +39,13 @@ fn check_guest(settings: &HuntSettings) -> Result<(), HuntError>
     ensures err { IfErr result (λ e. (hunt_fault settings.now ≡ Some e) ×
         (shrink_fault settings.now ≡ Some e)) }
 {
-    if settings.harts < 1 || settings.harts > 64 {
+    if settings.harts < 1 || settings.harts > MOST_HARTS {
         return Err(HuntError::Run(RunError::HartsOutOfRange));
     }
-    if settings.pages < 1 || settings.pages > 16_384 {
+    if settings.pages < 1 || settings.pages > MOST_PAGES {
         return Err(HuntError::Run(RunError::PagesOutOfRange));
     }
-    if settings.workers < 1 || settings.workers > 16 {
+    if settings.workers < 1 || settings.workers > MOST_WORKERS {
         return Err(HuntError::Run(RunError::WorkersOutOfRange));
     }
     Ok(())

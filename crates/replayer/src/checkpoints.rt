@@ -18,6 +18,7 @@ use hart_step::Hart;
 use host_io::RunError;
 use machine::{Machine, UntracedMachine};
 use recording::Recording;
+use round_schedule::MOST_WORKERS;
 use std::alloc::Global;
 use std::marker::Model;
 use std::sync::Wait;
@@ -128,7 +129,7 @@ impl Replay {
         ensures workers { AreNoWorkers workers → result ≡ Err refusals.WorkersOutOfRange }
         ensures errors { AreWorkers workers → IfErr result (λ e. e ≡ refusals.OutOfMemory) }
     {
-        if workers < 1 || workers > 16 {
+        if workers < 1 || workers > MOST_WORKERS {
             return Err(RunError::WorkersOutOfRange);
         }
         if round == 0 || round > self.rounds {

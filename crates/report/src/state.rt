@@ -16,7 +16,7 @@ use hart_step::Hart;
 use host_io::{RunError, Sink};
 use pages::Pages;
 use report_lines::{Line, Tail, count_line, event_line, hart_lines, output_row, page_lines};
-use round_schedule::Event;
+use round_schedule::{Event, MOST_WORKERS};
 use std::alloc::Global;
 use std::sync::Wait;
 use std::thread::Threads;
@@ -237,9 +237,6 @@ fn put_state_on<S: Sink, R: Threads + Wait + Sync>(
     put_body(rt, workers, alloc, out, cut, state, trace)?;
     put_end(out, line)
 }
-
-/// The most workers that format a report.
-const MOST_WORKERS: u32 = 16;
 
 /// Writes what `write_state` writes, with the lines of memory and of the events formatted by so many workers, though by no more
 /// than 16.
