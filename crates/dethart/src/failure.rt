@@ -5,11 +5,11 @@ ghost use Rattle.dethart.specs.declared.failure.Failure.TheVariants as failures;
 
 use crate::plan_lines::BadLine;
 use host_io::RunError;
+use hunt_table::MergeError;
 use hunter::HuntError;
 use replayer::ReadError;
 use std::alloc::{AllocError, AllocFailed};
 use std::io;
-use table_merge::MergeError;
 
 /// Why the program ends without what it was asked for.
 #[derive(Debug, Drop)]

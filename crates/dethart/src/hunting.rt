@@ -7,13 +7,12 @@ use crate::ranges::{named_bytes, seen_ranges};
 use crate::run::format_of;
 use command_line::{Hunt, Merge, Search, Shrink};
 use host_io::{WriteSink, put_all};
-use hunt_table::Header;
+use hunt_table::{Header, merge};
 use hunter::{HuntSettings, hunt, shrink};
 use std::alloc::Global;
 use std::io::Write;
 use std::sync::Wait;
 use std::thread::Threads;
-use table_merge::merge;
 
 /// Hunts, and writes the table of endings. Answers whether there is one ending, in which all harts exited.
 pub(crate) fn write_hunt<R: Threads + Wait + Sync, W: Write>(

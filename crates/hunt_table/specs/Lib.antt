@@ -1,1 +1,5 @@
 pub mod Text
+pub mod Reading
+pub mod Told
+pub mod Merging
+pub mod Refusals

@@ -1,9 +1,19 @@
-//! The text of a hunt's table: its plans, and each ending with the plans that lead there.
+//! Tables of hunts: their text, written and read, and the tables of slices of one hunt merged into that of the whole. A table has the
+//! plans of the hunt, and each ending with the plans that lead there.
 #![tactic(auto)]
 
-mod endings;
 mod header;
+mod merge_error;
+mod merging;
+mod read_error;
+mod reading;
 mod table;
+mod writing;
 
 pub use header::{Header, SeenRange};
-pub use table::{add_table, write_table};
+pub use merge_error::MergeError;
+pub use merging::merge;
+pub use read_error::ReadError;
+pub use reading::read_table;
+pub use table::Table;
+pub use writing::{add_table, write_table};

@@ -1,5 +1,5 @@
-//! Tests of the endings of many plans, of smaller plans and of tables, through the public calls of the crates `plan_hunt`, `plan_shrink`,
-//! `table_reader` and `table_merge`.
+//! Tests of the endings of many plans, of smaller plans and of tables, through the public calls of the crates `plan_hunt`, `plan_shrink`
+//! and `hunt_table`.
 #![tactic(auto)]
 
 #[cfg(test)]

@@ -1,8 +1,8 @@
-//! No table at all, which no command line can name, through the public call of the crate `table_merge`.
+//! No table at all, which no command line can name, through the public call of the crate `hunt_table`.
 
 use host_io::WriteSink;
+use hunt_table::merge;
 use std::test::Fail;
-use table_merge::merge;
 
 #[test]
 fn no_tables_are_refused(rt: HostRuntime) -> Result<(), Fail> {

@@ -1,8 +1,8 @@
-//! Tables that are read, through the public call of the crate `table_reader`.
+//! Tables that are read, through the public call of the crate `hunt_table`.
 
+use hunt_table::read_table;
 use std::alloc::Global;
 use std::test::Fail;
-use table_reader::read_table;
 
 const TABLE: &str = "plans 2 4 seed 7\n\
                      endings 2\n\

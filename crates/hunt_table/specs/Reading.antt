@@ -1,0 +1,169 @@
+-- What a reader makes of a text, whatever it is: each part is read from the front as if it were there. Where the text is a
+-- table's, that is the table.
+use Rattle.std.specs.Prelude.{ℕ, zero, suc, ◌+◌, ◌-◌, ◌*◌, ◌/◌, ◌%◌, ◌^◌, ◌==◌, ◌&&◌, min, nat_le, nat_lt, if◌then◌else◌, Bool, true, List, [], ◌∷◌, fold, length, map, take, drop, slice_index, Option, Some, None}
+use Rattle.std.specs.List.{flat_map}
+use Rattle.hart_step.specs.declared.hart.Stop.{Stop}
+use Rattle.hunt_table.specs.declared.header.SeenRange.{SeenRange}
+use Rattle.plan_hunt.specs.Adding.{row}
+use Rattle.plan_hunt.specs.Endings.{ended}
+use Rattle.plan_hunt.specs.declared.row.Row.{Row}
+use Rattle.hunt_table.specs.declared.table.Table.{Table}
+
+-- ---- numbers
+
+-- a decimal number with one more digit, up to the largest of 64 bits
+abbrev pub with_digit : ℕ → ℕ → ℕ
+with_digit n d = min (min (n * 10) (2 ^ 64 - 1) + d) (2 ^ 64 - 1)
+
+-- the number whose digits before these are those of n, and what follows
+abbrev pub number_after : ℕ → List ℕ → ℕ × List ℕ
+number_after n [] = (n, [])
+number_after n (b ∷ bs) = if nat_le 48 b && nat_le b 57 then number_after (with_digit n (b - 48)) bs else (n, b ∷ bs)
+
+unfoldable pub number_at : List ℕ → ℕ × List ℕ
+number_at bs = number_after 0 bs
+
+abbrev pub word_at : List ℕ → ℕ × List ℕ
+word_at bs = (min (number_at bs).0 (2 ^ 32 - 1), (number_at bs).1)
+
+-- the value of a hexadecimal digit
+abbrev pub digit_value : ℕ → ℕ
+digit_value b = if nat_lt b 97 then b - 48 else b - 97 + 10
+
+abbrev pub with_hex_digit : ℕ → ℕ → ℕ
+with_hex_digit n b = (n * 16 % 2 ^ 64 + digit_value b) % 2 ^ 64
+
+unfoldable pub hex_value : List ℕ → ℕ
+hex_value ds = fold with_hex_digit 0 ds
+
+-- ---- parts, one after the other
+
+-- at most n parts, each read from the front, as long as one is there; and what follows
+unfoldable pub many : {A : Type 0} → (List ℕ → Bool) → (List ℕ → A × List ℕ) → ℕ → List ℕ → List A × List ℕ
+many there part zero bs = ([], bs)
+many there part (suc n) bs =
+    if there bs then ((part bs).0 ∷ (many there part n (part bs).1).0, (many there part n (part bs).1).1) else ([], bs)
+
+-- ---- the lines of harts
+
+abbrev pub stop_at : List ℕ → Option Stop × List ℕ
+stop_at bs =
+    if slice_index bs 0 == 114 then (None, drop 7 bs)
+    else (if slice_index bs 0 == 101 then (Some (record { code = 1; value = hex_value (take 16 (drop 5 bs)) }), drop 16 (drop 5 bs))
+    else (Some (record { code = min (number_at (drop 5 bs)).0 255; value = 0 }), (number_at (drop 5 bs)).1))
+
+unfoldable pub stop_line_at : List ℕ → Option Stop × List ℕ
+stop_line_at bs = let s = stop_at (drop 1 (number_at (drop 5 bs)).1) in (s.0, drop 1 s.1)
+
+-- a line that begins with `h`
+abbrev pub is_stop_line : List ℕ → Bool
+is_stop_line bs = slice_index bs 0 == 104
+
+abbrev pub stops_at : List ℕ → List (Option Stop) × List ℕ
+stops_at bs = many is_stop_line stop_line_at (length bs) bs
+
+-- ---- the lines of ranges
+
+-- n bytes of two digits each
+unfoldable pub bytes_at : ℕ → List ℕ → List ℕ
+bytes_at zero bs = []
+bytes_at (suc n) bs = hex_value (take 2 bs) % 2 ^ 8 ∷ bytes_at n (drop 2 bs)
+
+-- as many bytes as the line tells, if the text has two digits for each
+abbrev pub seen_bytes : SeenRange → List ℕ → (SeenRange × List ℕ) × List ℕ
+seen_bytes r bs = let n = min r.length (length bs / 2) in ((r, bytes_at n bs), drop 1 (drop (2 * n) bs))
+
+-- a range, and its bytes
+unfoldable pub seen_line_at : List ℕ → (SeenRange × List ℕ) × List ℕ
+seen_line_at bs =
+    let size = word_at (drop 9 (drop 4 bs)) in
+    seen_bytes (record { address = min (hex_value (take 8 (drop 4 bs))) (2 ^ 32 - 1); length = size.0 }) (drop 1 size.1)
+
+-- a line that begins with `s`
+abbrev pub is_seen_line : List ℕ → Bool
+is_seen_line bs = slice_index bs 0 == 115
+
+abbrev pub seen_at : List ℕ → List (SeenRange × List ℕ) × List ℕ
+seen_at bs = many is_seen_line seen_line_at (length bs) bs
+
+abbrev pub ranges_of : List (SeenRange × List ℕ) → List SeenRange
+ranges_of lines = map (λ (l : SeenRange × List ℕ). l.0) lines
+
+abbrev pub bytes_of : List (SeenRange × List ℕ) → List ℕ
+bytes_of lines = flat_map (λ (l : SeenRange × List ℕ). l.1) lines
+
+-- ---- the line of the output
+
+-- a byte between quotes
+unfoldable pub quoted_byte_at : List ℕ → ℕ × List ℕ
+quoted_byte_at bs =
+    if slice_index bs 0 == 92
+    then (if slice_index bs 1 == 110 then (10, drop 2 bs)
+    else (if slice_index bs 1 == 120 then (hex_value (take 2 (drop 2 bs)) % 2 ^ 8, drop 2 (drop 2 bs))
+    else (slice_index bs 1, drop 2 bs)))
+    else (slice_index bs 0, drop 1 bs)
+
+abbrev pub quoted_at : ℕ → List ℕ → List ℕ × List ℕ
+quoted_at n bs = many (λ _. true) quoted_byte_at n bs
+
+-- as many bytes as the line tells, if the text has a character for each
+abbrev pub output_bytes : ℕ × List ℕ → List ℕ × List ℕ
+output_bytes n = quoted_at (min n.0 (length n.1)) (drop 2 n.1)
+
+unfoldable pub output_line_at : List ℕ → List ℕ × List ℕ
+output_line_at bs = let b = output_bytes (number_at (drop 7 bs)) in (b.0, drop 2 b.1)
+
+-- ---- endings
+
+-- from the second line of an ending on: the ending with so many plans from a first one on, and its ranges
+unfoldable pub ending_lines_at : ℕ → ℕ → List ℕ → (Row × List SeenRange) × List ℕ
+ending_lines_at plans first bs =
+    let stops = stops_at bs in
+    let seen = seen_at stops.1 in
+    let output = output_line_at seen.1 in
+    ((row (ended stops.0 output.0 (bytes_of seen.0)) first plans, ranges_of seen.0), output.1)
+
+unfoldable pub ending_at : List ℕ → (Row × List SeenRange) × List ℕ
+ending_at bs =
+    let plans = word_at (drop 7 (number_at (drop 7 bs)).1) in
+    let first = word_at (drop 7 plans.1) in
+    ending_lines_at plans.0 first.0 (drop 1 first.1)
+
+-- a line that begins as `endi` does, and not as the last, which is `end`
+abbrev pub is_ending_line : List ℕ → Bool
+is_ending_line bs = slice_index bs 3 == 105
+
+abbrev pub endings_at : ℕ → List ℕ → List (Row × List SeenRange) × List ℕ
+endings_at n bs = many is_ending_line ending_at n bs
+
+abbrev pub rows_of : List (Row × List SeenRange) → List Row
+rows_of endings = map (λ (e : Row × List SeenRange). e.0) endings
+
+-- the ranges of the last ending, or those before it where there is none
+abbrev pub last_ranges : List SeenRange → List (Row × List SeenRange) → List SeenRange
+last_ranges ranges [] = ranges
+last_ranges ranges (e ∷ es) = last_ranges e.1 es
+
+-- ---- a table
+
+pub record Told : Type 0 where
+  pub seed : ℕ
+  pub first : ℕ
+  pub count : ℕ
+  pub ranges : List SeenRange
+  pub rows : List Row
+
+abbrev pub told : ℕ → ℕ → ℕ → List (Row × List SeenRange) → Told
+told first count seed es = record { seed = seed; first = first; count = count; ranges = last_ranges [] es; rows = rows_of es }
+
+unfoldable pub table_at : List ℕ → Told
+table_at bs =
+    let first = word_at (drop 6 bs) in
+    let count = word_at (drop 1 first.1) in
+    let seed = number_at (drop 6 count.1) in
+    let endings = number_at (drop 9 seed.1) in
+    told first.0 count.0 seed.0 (endings_at endings.0 (drop 1 endings.1)).0
+
+-- a table in memory as its contents
+abbrev pub contents : Table → Told
+contents t = record { seed = t.header.seed; first = t.header.first; count = t.header.count; ranges = t.header.ranges.items; rows = t.rows.items }

@@ -1,0 +1,73 @@
+mod cursor;
+mod endings;
+mod growing;
+mod output;
+mod seen;
+mod stops;
+
+ghost use Rattle.std.specs.Prelude.{◌≡◌, ◌≢◌, ◌↔◌, IfErr, IfOk, IsTrue, List};
+ghost use Rattle.hunt_table.specs.Text.{table_text};
+ghost use Rattle.hunt_table.specs.declared.header.Header.{Header as TableHeader};
+ghost use Rattle.plan_hunt.specs.declared.row.Row.{Row as TableRow};
+ghost use Rattle.hunt_table.specs.Reading.{contents, table_at};
+ghost use Rattle.hunt_table.specs.Told.{IsReadAs, IsTold};
+
+use crate::header::Header;
+use crate::read_error::ReadError;
+use crate::reading::cursor::{number_at, skip, word_at};
+use crate::reading::endings::endings_at;
+use crate::table::Table;
+use crate::writing::add_table;
+use pages::OutOfMemory;
+use report_lines::Line;
+use std::alloc::Global;
+
+/// What a text would be as a table. Whether it is one is not looked at: each part is read as if it were there.
+#[tactic(auto, unfolding(crate::specs::Reading::table_at))]
+fn table_at(alloc: Global, text: &[u8]) -> Result<Table, OutOfMemory>
+    ensures { IfOk result (λ t. contents t ≡ table_at text.now) }
+{
+    let (first, rest) = word_at(skip(text, "plans ".len()));
+    let (count, rest) = word_at(skip(rest, 1));
+    let (seed, rest) = number_at(skip(rest, " seed ".len()));
+    let (endings, rest) = number_at(skip(rest, "\nendings ".len()));
+    let endings = endings_at(alloc, skip(rest, 1), endings)?;
+    Ok(Table {
+        header: Header {
+            seed,
+            first,
+            count,
+            ranges: endings.ranges,
+        },
+        rows: endings.rows,
+    })
+}
+
+fn is_same(text: &[u8], other: &[u8]) -> bool
+    ensures { IsTrue result ↔ (text.now ≡ other.now) }
+{
+    text == other
+}
+
+/// Reads the table of a hunt from its text.
+///
+/// # Errors
+///
+/// `NotATable` where the text is not that of a table, byte for byte, and `OutOfMemory`.
+pub fn read_table(alloc: Global, text: &[u8]) -> Result<Table, ReadError>
+    // The text is that of the table.
+    ensures found { IfOk result (λ t. text.now ≡ table_text t.header t.rows.items) }
+    // Each table is read from its text, unless memory runs out.
+    ensures only { (h : TableHeader) (rows : List TableRow) → IsTold h rows →
+        text.now ≡ table_text h rows → IsReadAs h rows result }
+{
+    // Each part was read as if it were there: the text is a table's where it is the text of what was read.
+    let table = table_at(alloc, text)?;
+    let mut line = Line::new(alloc);
+    add_table(&mut line, &table.header, &table.rows)?;
+    if is_same(text, line.as_bytes()) {
+        Ok(table)
+    } else {
+        Err(ReadError::NotATable)
+    }
+}

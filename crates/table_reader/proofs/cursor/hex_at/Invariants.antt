@@ -1,6 +1,0 @@
-use Rattle.std.proofs.Common.{◌≡◌, take, fold}
-use Rattle.table_reader.specs.Reading.{with_hex_digit}
-use Rattle.table_reader.proofs.cursor.hex_at.Given as goal
-
-abbrev pub invariant-loop-digit : goal.invariant-loop-digit
-invariant-loop-digit l = l.number ≡ fold with_hex_digit 0 (take l.digit-index l.digit-items)

@@ -1,7 +1,0 @@
-use Rattle.std.proofs.Common.{◌-◌, length}
-use Rattle.table_reader.specs.Reading.{is_stop_line, stop_line_at, stops_at}
-use Rattle.table_reader.proofs.Loops.{Goes}
-use Rattle.table_reader.proofs.stops.stops_at.Given as goal
-
-abbrev pub invariant-lines : goal.invariant-lines
-invariant-lines l = Goes is_stop_line stop_line_at (length l.text - l.counter) l.rest l.stops.items (stops_at l.text)
