@@ -10,7 +10,7 @@ use crate::recording::HartSummary;
 use std::alloc::Global;
 
 /// The number of eight bytes at the front, from low to high, and what follows it.
-pub fn double_or(
+pub(crate) fn double_or(
     bytes: &[u8],
     short: Cause,
     wrong: Cause,
@@ -34,7 +34,7 @@ pub fn double_or(
 }
 
 /// The number of four bytes at the front, from low to high, and what follows it.
-pub fn word_or(
+pub(crate) fn word_or(
     bytes: &[u8],
     short: Cause,
     wrong: Cause,
@@ -56,7 +56,7 @@ pub fn word_or(
 }
 
 /// The byte at the front, from low to high, and what follows it.
-pub fn byte_or(
+pub(crate) fn byte_or(
     bytes: &[u8],
     short: Cause,
     wrong: Cause,
@@ -76,7 +76,7 @@ pub fn byte_or(
 }
 
 /// A length of eight bytes and as many bytes, and what follows them.
-pub fn bytes_at(alloc: Global, bytes: &[u8]) -> Result<(Vec<u8>, &[u8]), ReadError>
+pub(crate) fn bytes_at(alloc: Global, bytes: &[u8]) -> Result<(Vec<u8>, &[u8]), ReadError>
     ensures { Gives (λ x. (x.0.items, x.1.now)) result (length_and_bytes.taken bytes.now) }
 {
     let (length, rest) = double_or(bytes, Cause::Cut, Cause::Cut, 0, u64::MAX)?;
@@ -88,7 +88,7 @@ pub fn bytes_at(alloc: Global, bytes: &[u8]) -> Result<(Vec<u8>, &[u8]), ReadErr
 }
 
 /// What is kept of a hart, and what follows it.
-pub fn hart_at(bytes: &[u8]) -> Result<(HartSummary, &[u8]), ReadError>
+pub(crate) fn hart_at(bytes: &[u8]) -> Result<(HartSummary, &[u8]), ReadError>
     ensures { Gives (λ x. (hart_view x.0, x.1.now)) result (hart_summary.taken bytes.now) }
 {
     let (pc, rest) = double_or(bytes, Cause::Cut, Cause::OutOfRange, 0, u64::MAX)?;
@@ -108,7 +108,7 @@ pub fn hart_at(bytes: &[u8]) -> Result<(HartSummary, &[u8]), ReadError>
 }
 
 /// A number from low to high that is there from version 2 on, and known before, and what follows it.
-pub fn from_version_2(
+pub(crate) fn from_version_2(
     bytes: &[u8],
     version: u32,
     before: u32,

@@ -11,7 +11,7 @@ use std::alloc::Global;
 
 /// What is kept of so many harts, and what follows them.
 #[tactic(auto, using(crate::proofs::Loops::starts))]
-pub fn harts_at(
+pub(crate) fn harts_at(
     alloc: Global,
     bytes: &[u8],
     count: u32,
@@ -31,7 +31,7 @@ pub fn harts_at(
 
 /// Registers x1 to x31 of a hart, and what follows them.
 #[tactic(auto, using(crate::proofs::Loops::starts))]
-pub fn hart_registers_at(alloc: Global, bytes: &[u8]) -> Result<(Vec<u64>, &[u8]), ReadError>
+pub(crate) fn hart_registers_at(alloc: Global, bytes: &[u8]) -> Result<(Vec<u64>, &[u8]), ReadError>
     ensures { Gives (λ x.
         (x.0.items, x.1.now)) result ((each 31 1 (λ x. any w64)).taken bytes.now) }
 {
@@ -47,7 +47,7 @@ pub fn hart_registers_at(alloc: Global, bytes: &[u8]) -> Result<(Vec<u64>, &[u8]
 
 /// The same of so many harts.
 #[tactic(auto, using(crate::proofs::Loops::starts))]
-pub fn registers_at(
+pub(crate) fn registers_at(
     alloc: Global,
     bytes: &[u8],
     count: u32,
@@ -66,7 +66,11 @@ pub fn registers_at(
 }
 
 /// The summary of a state with so many harts, and what follows it.
-pub fn summary_at(alloc: Global, bytes: &[u8], count: u32) -> Result<(Summary, &[u8]), ReadError>
+pub(crate) fn summary_at(
+    alloc: Global,
+    bytes: &[u8],
+    count: u32,
+) -> Result<(Summary, &[u8]), ReadError>
     ensures { Gives (λ x. (summary_view x.0, x.1.now)) result ((summary count).taken bytes.now) }
 {
     let (output, rest) = double_or(bytes, Cause::Cut, Cause::OutOfRange, 0, u64::MAX)?;
@@ -83,7 +87,7 @@ pub fn summary_at(alloc: Global, bytes: &[u8], count: u32) -> Result<(Summary, &
 }
 
 /// What is kept of a round, and what follows it.
-pub fn kept_at(
+pub(crate) fn kept_at(
     alloc: Global,
     bytes: &[u8],
     count: u32,
@@ -115,7 +119,7 @@ pub fn kept_at(
 
 /// What is kept of so many rounds, and what follows it.
 #[tactic(auto, using(crate::proofs::Loops::starts))]
-pub fn rounds_at(
+pub(crate) fn rounds_at(
     alloc: Global,
     bytes: &[u8],
     count: u32,

@@ -112,7 +112,7 @@ impl Reader {
 }
 
 /// The rows of a text.
-pub fn read_rows(alloc: Global, text: &[u8]) -> Result<Vec<Vec<u32>>, PlanError>
+pub(crate) fn read_rows(alloc: Global, text: &[u8]) -> Result<Vec<Vec<u32>>, PlanError>
     ensures { MatchResult result (λ v. read_from start text.now ≡
         Some (map (λ r. r.items) v.items)) (λ e. Refuses e (read_from start text.now)) }
 {

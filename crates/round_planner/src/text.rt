@@ -50,7 +50,7 @@ fn write_row(text: &mut Vec<u8>, row: &[u32]) -> Result<(), OutOfMemory>
 }
 
 /// Adds the rows of a plan.
-pub fn write_rows(text: &mut Vec<u8>, rows: &[Vec<u32>]) -> Result<(), OutOfMemory>
+pub(crate) fn write_rows(text: &mut Vec<u8>, rows: &[Vec<u32>]) -> Result<(), OutOfMemory>
     ensures { OnOk result (text.new.items ≡
         text.old.items ++ plan_text (map (λ r. r.items) rows.now)) }
 {
