@@ -1,5 +1,5 @@
 -- What a hart's round left, part by part.
-use Rattle.std.proofs.Common.{◌≡◌, ℕ, Bool, List, [], length, ap}
+use Rattle.std.proofs.Common.{◌≡◌, Bool, [], length, ap}
 use Rattle.pages.specs.Memory.{Memory}
 use Rattle.store_buffer.specs.Covered.{with_stores}
 use Rattle.round_schedule.specs.Schedule.{HartRound}

@@ -1,5 +1,5 @@
 -- What the rounds of the harts left, as the code keeps it.
-use Rattle.std.specs.Prelude.{◌≡◌, ℕ, suc, ◌+◌, ◌*◌, ◌/◌, ◌<◌, ◌≤◌, ◌^◌, Bool, true, false, if◌then◌else◌, List, [], ◌∷◌, ◌++◌, length, get_or, is_some, None, All}
+use Rattle.std.specs.Prelude.{◌≡◌, ℕ, suc, ◌+◌, ◌*◌, ◌/◌, ◌<◌, ◌≤◌, ◌^◌, Bool, true, if◌then◌else◌, List, [], ◌∷◌, ◌++◌, length, get_or, is_some, None, All}
 use Rattle.pages.specs.declared.access.Width.TheVariants.{W1}
 use Rattle.pages.specs.Memory.{Memory, store_fault}
 use Rattle.pages.specs.Paged.{Paged, is_page_ready}

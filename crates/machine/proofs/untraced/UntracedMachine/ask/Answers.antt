@@ -25,7 +25,7 @@ bounds-parts-hart g c =
     let i = c.self.inside in
     let g' = c.guest.inside in
     let view = ap (λ (x : Guest). untraced_of x i.plan i.events i.rounds) c.guest.view_is ∙ c.self.view_is in
-    let many = how_many (keeps_log c.args.crew.now.form) i.plan i.rounds g'.harts.items c.deref.result.now g'.shared.pages c.in_ok-ends.ends.items c.deref.ensures.value c.in_ok-ends.ensures in
+    let many = how_many (keeps_log c.args.crew.now.form) i.plan i.rounds g'.harts.items c.deref.result.now g'.shared.pages c.in_ok-ends.ends.items c.deref.ensures.value c.in_ok-ends.ensures.ends in
     omega (arith, many, ap length c.as_slice-parts.ensures.value, c.requires.hart, ap (λ (u : Untraced). length u.harts) view)
 
 pub overflow_cast-count : goal.overflow_cast-count
@@ -36,7 +36,7 @@ overflow_cast-count g c =
     let es = c.requires.run.0.state.trace in
     let tied = subst (λ (u : Untraced). Tied u.table es) (sym view) c.requires.run.1.table in
     let asked = asked_of (keeps_log c.args.crew.now.form) i.plan i.rounds g'.harts.items c.deref.result.now g'.shared.pages g'.shared.reservations g'.shared.console.console es c.in_ok-ends.ends.items c.args.hart c.args.count c.done_since-done.result c.index-before.result.now c.index-parts-hart.result
-    c.deref.ensures.value c.in_ok-ends.ensures (omega (arith, c.requires.hart, ap (λ (u : Untraced). length u.harts) view)) c.index-before.ensures (c.index-parts-hart.is ∙ ap (λ (os : List HartEnd). get_or os c.args.hart c.index-parts-hart.result) c.as_slice-parts.ensures.value) c.done_since-done.ensures.count
+    c.deref.ensures.value c.in_ok-ends.ensures.ends (omega (arith, c.requires.hart, ap (λ (u : Untraced). length u.harts) view)) c.index-before.ensures (c.index-parts-hart.is ∙ ap (λ (os : List HartEnd). get_or os c.args.hart c.index-parts-hart.result) c.as_slice-parts.ensures.value) c.done_since-done.ensures.count
     (subst IsBytes (ap (λ (m : Memory). m.bytes) (c.pages.ensures ∙ sym (ap (λ (x : Guest). x.shared.memory) c.guest.view_is))) c.bytes_fit.ensures) tied c.guest.invariant.size (ap (λ (x : Guest). length x.harts) c.guest.view_is ∙ c.self.invariant.harts) (c.harts-harts.ensures.in_range i.rounds) (c.harts-harts.ensures.quotas i.rounds) (omega (arith, c.budget-budget.ensures.budget, c.budget-budget.ensures.few_budget)) c.done_since-done.ensures.fits in
     omega (arith, asked.few, c.if-count-done.true)
 
@@ -48,7 +48,7 @@ returns-then-count-done g c = λ m0 is.
     let es = m0.state.trace in
     let tied = subst (λ (u : Untraced). Tied u.table es) (sym view) is.table in
     let asked = asked_of (keeps_log c.args.crew.now.form) i.plan i.rounds g'.harts.items c.deref.result.now g'.shared.pages g'.shared.reservations g'.shared.console.console es c.in_ok-ends.ends.items c.args.hart c.args.count c.done_since-done.result c.index-before.result.now c.index-parts-hart.result
-    c.deref.ensures.value c.in_ok-ends.ensures (omega (arith, c.requires.hart, ap (λ (u : Untraced). length u.harts) view)) c.index-before.ensures (c.index-parts-hart.is ∙ ap (λ (os : List HartEnd). get_or os c.args.hart c.index-parts-hart.result) c.as_slice-parts.ensures.value) c.done_since-done.ensures.count
+    c.deref.ensures.value c.in_ok-ends.ensures.ends (omega (arith, c.requires.hart, ap (λ (u : Untraced). length u.harts) view)) c.index-before.ensures (c.index-parts-hart.is ∙ ap (λ (os : List HartEnd). get_or os c.args.hart c.index-parts-hart.result) c.as_slice-parts.ensures.value) c.done_since-done.ensures.count
     (subst IsBytes (ap (λ (m : Memory). m.bytes) (c.pages.ensures ∙ sym (ap (λ (x : Guest). x.shared.memory) c.guest.view_is))) c.bytes_fit.ensures) tied c.guest.invariant.size (ap (λ (x : Guest). length x.harts) c.guest.view_is ∙ c.self.invariant.harts) (c.harts-harts.ensures.in_range i.rounds) (c.harts-harts.ensures.quotas i.rounds) (omega (arith, c.budget-budget.ensures.budget, c.budget-budget.ensures.few_budget)) c.done_since-done.ensures.fits in
     let seen = ap (λ (u : Untraced). hart_after (words_of u.code) u.plan.budget (quotas_of u.plan) (with_events u es m0.opening).state c.args.hart c.args.count) view
     ∙ ap (λ (m : Running). hart_after (words_of m.code) m.plan.budget (quotas_of m.plan) m.state c.args.hart c.args.count) (is_running m0 c.args.self is) in
@@ -62,7 +62,7 @@ returns-then-count-done-2 g c = λ m0 is.
     let es = m0.state.trace in
     let tied = subst (λ (u : Untraced). Tied u.table es) (sym view) is.table in
     let asked = asked_of (keeps_log c.args.crew.now.form) i.plan i.rounds g'.harts.items c.deref.result.now g'.shared.pages g'.shared.reservations g'.shared.console.console es c.in_ok-ends.ends.items c.args.hart c.args.count c.done_since-done.result c.index-before.result.now c.index-parts-hart.result
-    c.deref.ensures.value c.in_ok-ends.ensures (omega (arith, c.requires.hart, ap (λ (u : Untraced). length u.harts) view)) c.index-before.ensures (c.index-parts-hart.is ∙ ap (λ (os : List HartEnd). get_or os c.args.hart c.index-parts-hart.result) c.as_slice-parts.ensures.value) c.done_since-done.ensures.count
+    c.deref.ensures.value c.in_ok-ends.ensures.ends (omega (arith, c.requires.hart, ap (λ (u : Untraced). length u.harts) view)) c.index-before.ensures (c.index-parts-hart.is ∙ ap (λ (os : List HartEnd). get_or os c.args.hart c.index-parts-hart.result) c.as_slice-parts.ensures.value) c.done_since-done.ensures.count
     (subst IsBytes (ap (λ (m : Memory). m.bytes) (c.pages.ensures ∙ sym (ap (λ (x : Guest). x.shared.memory) c.guest.view_is))) c.bytes_fit.ensures) tied c.guest.invariant.size (ap (λ (x : Guest). length x.harts) c.guest.view_is ∙ c.self.invariant.harts) (c.harts-harts.ensures.in_range i.rounds) (c.harts-harts.ensures.quotas i.rounds) (omega (arith, c.budget-budget.ensures.budget, c.budget-budget.ensures.few_budget)) c.done_since-done.ensures.fits in
     let seen = ap (λ (u : Untraced). hart_after (words_of u.code) u.plan.budget (quotas_of u.plan) (with_events u es m0.opening).state c.args.hart c.args.count) view
     ∙ ap (λ (m : Running). hart_after (words_of m.code) m.plan.budget (quotas_of m.plan) m.state c.args.hart c.args.count) (is_running m0 c.args.self is) in
@@ -76,7 +76,7 @@ returns-then-not-part g c = λ m0 is.
     let es = m0.state.trace in
     let tied = subst (λ (u : Untraced). Tied u.table es) (sym view) is.table in
     let asked = asked_of (keeps_log c.args.crew.now.form) i.plan i.rounds g'.harts.items c.deref.result.now g'.shared.pages g'.shared.reservations g'.shared.console.console es c.in_ok-ends.ends.items c.args.hart c.args.count c.done_since-done.result c.index-before.result.now c.index-parts-hart.result
-    c.deref.ensures.value c.in_ok-ends.ensures (omega (arith, c.requires.hart, ap (λ (u : Untraced). length u.harts) view)) c.index-before.ensures (c.index-parts-hart.is ∙ ap (λ (os : List HartEnd). get_or os c.args.hart c.index-parts-hart.result) c.as_slice-parts.ensures.value) c.done_since-done.ensures.count
+    c.deref.ensures.value c.in_ok-ends.ensures.ends (omega (arith, c.requires.hart, ap (λ (u : Untraced). length u.harts) view)) c.index-before.ensures (c.index-parts-hart.is ∙ ap (λ (os : List HartEnd). get_or os c.args.hart c.index-parts-hart.result) c.as_slice-parts.ensures.value) c.done_since-done.ensures.count
     (subst IsBytes (ap (λ (m : Memory). m.bytes) (c.pages.ensures ∙ sym (ap (λ (x : Guest). x.shared.memory) c.guest.view_is))) c.bytes_fit.ensures) tied c.guest.invariant.size (ap (λ (x : Guest). length x.harts) c.guest.view_is ∙ c.self.invariant.harts) (c.harts-harts.ensures.in_range i.rounds) (c.harts-harts.ensures.quotas i.rounds) (omega (arith, c.budget-budget.ensures.budget, c.budget-budget.ensures.few_budget)) c.done_since-done.ensures.fits in
     let seen = ap (λ (u : Untraced). hart_after (words_of u.code) u.plan.budget (quotas_of u.plan) (with_events u es m0.opening).state c.args.hart c.args.count) view
     ∙ ap (λ (m : Running). hart_after (words_of m.code) m.plan.budget (quotas_of m.plan) m.state c.args.hart c.args.count) (is_running m0 c.args.self is) in
@@ -90,7 +90,7 @@ returns-then-count-done-3 g c = λ m0 is.
     let es = m0.state.trace in
     let tied = subst (λ (u : Untraced). Tied u.table es) (sym view) is.table in
     let asked = asked_of (keeps_log c.args.crew.now.form) i.plan i.rounds g'.harts.items c.deref.result.now g'.shared.pages g'.shared.reservations g'.shared.console.console es c.in_ok-ends.ends.items c.args.hart c.args.count c.done_since-done.result c.index-before.result.now c.index-parts-hart.result
-    c.deref.ensures.value c.in_ok-ends.ensures (omega (arith, c.requires.hart, ap (λ (u : Untraced). length u.harts) view)) c.index-before.ensures (c.index-parts-hart.is ∙ ap (λ (os : List HartEnd). get_or os c.args.hart c.index-parts-hart.result) c.as_slice-parts.ensures.value) c.done_since-done.ensures.count
+    c.deref.ensures.value c.in_ok-ends.ensures.ends (omega (arith, c.requires.hart, ap (λ (u : Untraced). length u.harts) view)) c.index-before.ensures (c.index-parts-hart.is ∙ ap (λ (os : List HartEnd). get_or os c.args.hart c.index-parts-hart.result) c.as_slice-parts.ensures.value) c.done_since-done.ensures.count
     (subst IsBytes (ap (λ (m : Memory). m.bytes) (c.pages.ensures ∙ sym (ap (λ (x : Guest). x.shared.memory) c.guest.view_is))) c.bytes_fit.ensures) tied c.guest.invariant.size (ap (λ (x : Guest). length x.harts) c.guest.view_is ∙ c.self.invariant.harts) (c.harts-harts.ensures.in_range i.rounds) (c.harts-harts.ensures.quotas i.rounds) (omega (arith, c.budget-budget.ensures.budget, c.budget-budget.ensures.few_budget)) c.done_since-done.ensures.fits in
     let seen = ap (λ (u : Untraced). hart_after (words_of u.code) u.plan.budget (quotas_of u.plan) (with_events u es m0.opening).state c.args.hart c.args.count) view
     ∙ ap (λ (m : Running). hart_after (words_of m.code) m.plan.budget (quotas_of m.plan) m.state c.args.hart c.args.count) (is_running m0 c.args.self is) in
@@ -103,7 +103,7 @@ ask_turn-requires-clause-rounds g c κs within =
     let view = ap (λ (x : Guest). untraced_of x i.plan i.events i.rounds) c.guest.view_is ∙ c.self.view_is in
     let m = g'.shared.pages.memory in
     let rs = hart_rounds (words_of m.code) m.bytes (quotas_of i.plan i.rounds) g'.harts.items in
-    let a = ends_are (keeps_log c.args.crew.now.form) i.plan i.rounds g'.harts.items c.deref.result.now g'.shared.pages c.in_ok-ends.ends.items c.deref.ensures.value c.in_ok-ends.ensures in
+    let a = ends_are (keeps_log c.args.crew.now.form) i.plan i.rounds g'.harts.items c.deref.result.now g'.shared.pages c.in_ok-ends.ends.items c.deref.ensures.value c.in_ok-ends.ensures.ends in
     (keeps_log c.args.crew.now.form, rs, subst (λ (os : List HartEnd). AreEndsOf (keeps_log c.args.crew.now.form) m rs os) (sym c.as_slice-parts.ensures.value) a, rounds_touch m (quotas_of i.plan i.rounds) g'.harts.items)
 
 pub ask_turn-requires-clause-few : goal.ask_turn-requires-clause-few
@@ -111,20 +111,20 @@ ask_turn-requires-clause-few g c κs within =
     let i = c.self.inside in
     let g' = c.guest.inside in
     let view = ap (λ (x : Guest). untraced_of x i.plan i.events i.rounds) c.guest.view_is ∙ c.self.view_is in
-    let many = how_many (keeps_log c.args.crew.now.form) i.plan i.rounds g'.harts.items c.deref.result.now g'.shared.pages c.in_ok-ends.ends.items c.deref.ensures.value c.in_ok-ends.ensures in
+    let many = how_many (keeps_log c.args.crew.now.form) i.plan i.rounds g'.harts.items c.deref.result.now g'.shared.pages c.in_ok-ends.ends.items c.deref.ensures.value c.in_ok-ends.ensures.ends in
     omega (arith, many, ap length c.as_slice-parts.ensures.value, (ap (λ (x : Guest). length x.harts) c.guest.view_is ∙ c.self.invariant.harts), c.harts-harts.ensures.harts, c.harts-harts.ensures.few_harts)
 
 pub ask_turn-requires-clause-fits : goal.ask_turn-requires-clause-fits
 ask_turn-requires-clause-fits g c κs within =
     let m = c.guest.inside.shared.pages.memory in
-    subst (λ (os : List HartEnd). AreFit m os) (sym c.as_slice-parts.ensures.value) (are_fit (keeps_log c.args.crew.now.form) m _ c.in_ok-ends.ends.items c.in_ok-ends.ensures)
+    subst (λ (os : List HartEnd). AreFit m os) (sym c.as_slice-parts.ensures.value) (are_fit (keeps_log c.args.crew.now.form) m _ c.in_ok-ends.ends.items c.in_ok-ends.ensures.ends)
 
 pub ask_turn-requires-clause-size : goal.ask_turn-requires-clause-size
 ask_turn-requires-clause-size g c κs within =
     let i = c.self.inside in
     let g' = c.guest.inside in
     let view = ap (λ (x : Guest). untraced_of x i.plan i.events i.rounds) c.guest.view_is ∙ c.self.view_is in
-    let many = how_many (keeps_log c.args.crew.now.form) i.plan i.rounds g'.harts.items c.deref.result.now g'.shared.pages c.in_ok-ends.ends.items c.deref.ensures.value c.in_ok-ends.ensures in
+    let many = how_many (keeps_log c.args.crew.now.form) i.plan i.rounds g'.harts.items c.deref.result.now g'.shared.pages c.in_ok-ends.ends.items c.deref.ensures.value c.in_ok-ends.ensures.ends in
     c.guest.invariant.size ∙ sym many ∙ sym (ap length c.as_slice-parts.ensures.value)
 
 pub ask_turn-requires-clause-hart : goal.ask_turn-requires-clause-hart
@@ -132,7 +132,7 @@ ask_turn-requires-clause-hart g c κs within =
     let i = c.self.inside in
     let g' = c.guest.inside in
     let view = ap (λ (x : Guest). untraced_of x i.plan i.events i.rounds) c.guest.view_is ∙ c.self.view_is in
-    let many = how_many (keeps_log c.args.crew.now.form) i.plan i.rounds g'.harts.items c.deref.result.now g'.shared.pages c.in_ok-ends.ends.items c.deref.ensures.value c.in_ok-ends.ensures in
+    let many = how_many (keeps_log c.args.crew.now.form) i.plan i.rounds g'.harts.items c.deref.result.now g'.shared.pages c.in_ok-ends.ends.items c.deref.ensures.value c.in_ok-ends.ensures.ends in
     omega (arith, many, ap length c.as_slice-parts.ensures.value, c.requires.hart, ap (λ (u : Untraced). length u.harts) view)
 
 pub returns : goal.returns
@@ -144,13 +144,13 @@ returns g c =
     let es = m0.state.trace in
     let tied = subst (λ (u : Untraced). Tied u.table es) (sym view) is.table in
     let asked = asked_of (keeps_log c.args.crew.now.form) i.plan i.rounds g'.harts.items c.deref.result.now g'.shared.pages g'.shared.reservations g'.shared.console.console es c.in_ok-ends.ends.items c.args.hart c.args.count c.done_since-done.result c.index-before.result.now c.index-parts-hart.result
-    c.deref.ensures.value c.in_ok-ends.ensures (omega (arith, c.requires.hart, ap (λ (u : Untraced). length u.harts) view)) c.index-before.ensures (c.index-parts-hart.is ∙ ap (λ (os : List HartEnd). get_or os c.args.hart c.index-parts-hart.result) c.as_slice-parts.ensures.value) c.done_since-done.ensures.count
+    c.deref.ensures.value c.in_ok-ends.ensures.ends (omega (arith, c.requires.hart, ap (λ (u : Untraced). length u.harts) view)) c.index-before.ensures (c.index-parts-hart.is ∙ ap (λ (os : List HartEnd). get_or os c.args.hart c.index-parts-hart.result) c.as_slice-parts.ensures.value) c.done_since-done.ensures.count
     (subst IsBytes (ap (λ (m : Memory). m.bytes) (c.pages.ensures ∙ sym (ap (λ (x : Guest). x.shared.memory) c.guest.view_is))) c.bytes_fit.ensures) tied c.guest.invariant.size (ap (λ (x : Guest). length x.harts) c.guest.view_is ∙ c.self.invariant.harts) (c.harts-harts.ensures.in_range i.rounds) (c.harts-harts.ensures.quotas i.rounds) (omega (arith, c.budget-budget.ensures.budget, c.budget-budget.ensures.few_budget)) c.done_since-done.ensures.fits in
     let seen = ap (λ (u : Untraced). hart_after (words_of u.code) u.plan.budget (quotas_of u.plan) (with_events u es m0.opening).state c.args.hart c.args.count) view
     ∙ ap (λ (m : Running). hart_after (words_of m.code) m.plan.budget (quotas_of m.plan) m.state c.args.hart c.args.count) (is_running m0 c.args.self is) in
     let m = g'.shared.pages.memory in
     let rs = hart_rounds (words_of m.code) m.bytes (quotas_of i.plan i.rounds) g'.harts.items in
-    let a = ends_are (keeps_log c.args.crew.now.form) i.plan i.rounds g'.harts.items c.deref.result.now g'.shared.pages c.in_ok-ends.ends.items c.deref.ensures.value c.in_ok-ends.ensures in
+    let a = ends_are (keeps_log c.args.crew.now.form) i.plan i.rounds g'.harts.items c.deref.result.now g'.shared.pages c.in_ok-ends.ends.items c.deref.ensures.value c.in_ok-ends.ensures.ends in
     f (keeps_log c.args.crew.now.form) rs (subst (λ (os : List HartEnd). AreEndsOf (keeps_log c.args.crew.now.form) m rs os) (sym c.as_slice-parts.ensures.value) a)
     ∙ ap (λ (b : ℕ). found_in (shared_of g'.shared) (record { hart = c.args.hart; round = i.rounds + 1; budget = b; count = c.args.count - c.done_since-done.result }) c.index-parts-hart.result.hart rs) c.budget-budget.ensures.budget
     ∙ sym (asked.in_turn c.if-not-part.false (omega (arith, c.if-count-done.false)) (omega (arith, c.if-count-done-3.false, c.budget-budget.ensures.budget))) ∙ seen) c.ask_turn.ensures
