@@ -9,7 +9,7 @@ use Rattle.round_schedule.specs.Events.{event_of, events_of}
 use Rattle.round_schedule.specs.Schedule.{Words, HartRound, began, events_from, first_or_zero, hart_rounds, rest_of}
 use Rattle.hart_step.specs.declared.hart.Hart.{Hart}
 use Rattle.hart_step.specs.Console.{ConsoleState}
-use Rattle.parallel_phase.proofs.FewAccesses.{few_of_round}
+use Rattle.hart_rounds.proofs.FewAccesses.{few_of_round}
 use Rattle.hart_rounds.specs.declared.hart_end.HartEnd.{HartEnd}
 use Rattle.serial_phase.specs.Turns.{count_log}
 use Rattle.machine.specs.HartEnds.{AreEndsOf, count_accesses, count_logged, events_of_rounds, turns_of}
