@@ -12,6 +12,7 @@ rule_told (argument.Flag name help) = flag_rule name.now
 rule_told (argument.See help) = see_rule
 rule_told (argument.SeeObject help) = object_rule
 rule_told (argument.File name help) = text_rule name.now
+rule_told (argument.Text name value_name help) = text_rule name.now
 rule_told (argument.Defaulted name value_name default help) = defaulted_rule name.now default.now
 rule_told (argument.Number parser name default help) = with_parser parser (defaulted_rule name.now default.now)
 rule_told (argument.NumberGiven parser name help) = with_parser parser (text_rule name.now)

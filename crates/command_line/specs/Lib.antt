@@ -1,3 +1,5 @@
 pub mod Arguments
+pub mod Asking
+pub mod Faults
 pub mod Options
 pub mod Reading

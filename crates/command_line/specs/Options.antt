@@ -73,14 +73,22 @@ see_rule = record (new_rule (codes "see")) {
 abbrev pub object_rule : Rule
 object_rule = record (text_rule (codes "see-object")) { action = Some Append }
 
--- a guest program, and the size of its machine
-abbrev pub guest_rules : List Rule
-guest_rules =
+-- a guest program, and the size of its machine, with this rule for the number of harts
+abbrev pub guest_rules : Rule → List Rule
+guest_rules harts =
     positional_rule (codes "image")
     ∷ flag_rule (codes "flat")
-    ∷ number_rule (codes "harts") (codes "1")
+    ∷ harts
     ∷ number_rule (codes "pages") (codes "256")
     ∷ []
+
+-- one hart where none are asked for
+abbrev pub one_hart : Rule
+one_hart = number_rule (codes "harts") (codes "1")
+
+-- the number of harts must be given
+abbrev pub harts_wanted : Rule
+harts_wanted = number_wanted_rule (codes "harts")
 
 -- how long it runs, what it reads, and whether it is told how far it is; without --rounds there are so many rounds
 abbrev pub program_rules : Text → List Rule
@@ -91,14 +99,15 @@ program_rules rounds =
     ∷ flag_rule (codes "progress")
     ∷ []
 
--- which plan a run goes by: one that the line gives, or one of the family
+-- which plan a run goes by: one that the line gives, or one of the family; which of these the line has decides whether they
+-- contradict, so that none has a default here
 abbrev pub plan_rules : List Rule
 plan_rules =
-    defaulted_rule (codes "quota") (codes "1000")
+    text_rule (codes "quota")
     ∷ text_rule (codes "plan")
-    ∷ number_rule (codes "budget") (codes "1")
+    ∷ number_given_rule (codes "budget")
     ∷ number_given_rule (codes "plan-number")
-    ∷ wide_number_rule (codes "seed") (codes "1")
+    ∷ wide_number_given_rule (codes "seed")
     ∷ []
 
 -- what of a run is printed
@@ -122,10 +131,13 @@ draw_rules =
 abbrev pub search_rules : List Rule
 search_rules = wide_number_rule (codes "seed") (codes "1") ∷ see_rule ∷ object_rule ∷ []
 
--- which plans of the family these are
+-- which plans of the family these are, and which endings the exit status tells of
 abbrev pub hunt_rules : List Rule
 hunt_rules =
-    number_rule (codes "plans") (codes "1000") ∷ number_rule (codes "first") (codes "0") ∷ []
+    number_rule (codes "plans") (codes "1000")
+    ∷ number_rule (codes "first") (codes "0")
+    ∷ defaulted_rule (codes "fail-on") (codes "differ")
+    ∷ []
 
 -- the plan of the family that is made smaller
 abbrev pub shrink_rules : List Rule
@@ -152,12 +164,13 @@ replay_rules =
     ∷ number_rule (codes "every") (codes "64")
     ∷ []
 
--- the hart that `replay` prints
+-- what `replay` prints of a hart; which of these the line has decides whether they contradict
 abbrev pub question_rules : List Rule
 question_rules =
     number_given_rule (codes "round")
-    ∷ number_rule (codes "hart") (codes "0")
+    ∷ number_given_rule (codes "hart")
     ∷ wide_number_given_rule (codes "count")
+    ∷ flag_rule (codes "how-many")
     ∷ wide_number_given_rule (codes "place")
     ∷ []
 
@@ -192,16 +205,16 @@ abbrev pub taking : Text → List Rule → App
 taking name rules = with_rules (new_app name) rules
 
 -- a subcommand that runs a guest program
-abbrev pub guest_app : Text → Text → App
-guest_app name rounds = with_rules (taking name guest_rules) (program_rules rounds)
+abbrev pub guest_app : Text → Rule → Text → App
+guest_app name harts rounds = with_rules (taking name (guest_rules harts)) (program_rules rounds)
 
 -- a subcommand that runs a guest program by one plan
 abbrev pub running : Text → App
-running name = with_rules (guest_app name (codes "1000")) plan_rules
+running name = with_rules (guest_app name one_hart (codes "1000")) plan_rules
 
 -- a subcommand that runs a guest program by plans of the family
 abbrev pub searching : Text → App
-searching name = with_rules (guest_app name (codes "10000")) search_rules
+searching name = with_rules (guest_app name harts_wanted (codes "10000")) search_rules
 
 abbrev pub run_app : App
 run_app = with_rules (running (codes "run")) print_rules

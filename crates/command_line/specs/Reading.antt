@@ -1,19 +1,18 @@
 -- What a command line says, by the matches that clap has on it.
 use Rattle.std.specs.Prelude.{◌≡◌, ◌⊎◌, ◌^◌, ◌&&◌, ◌||◌, ℕ, Bool, true, false, List, [], ◌∷◌, Option, Some, None}
 use Rattle.std.specs.Prelude.{if◌then◌else◌, nat_eq, nat_lt, not, codes, drop, length, is_some, map, option_and_then, option_map, unwrap_or}
-use Rattle.std.specs.List.{list_all, list_any, starts_with}
+use Rattle.std.specs.List.{list_all, starts_with}
 use Rattle.std.specs.Option.{option_map_or}
 use Rattle.std.specs.Str.{bytes_eq}
 use Rattle.std.specs.Char.{digit_value}
 use Rattle.std.specs.Str.Parse.{digits_value, without_leading_plus}
-use Rattle.clap.specs.Kinds.{or_else}
-use Rattle.clap.specs.Words.{Kinds, Row, Text, all_of, fault_of, first_of, one_of, subcommand_of}
-use Rattle.clap.specs.declared.error.kind.ErrorKind.TheVariants.{ValueValidation}
-use Rattle.command_line.specs.Options.{dethart_app}
+use Rattle.clap.specs.Words.{Row, Text, all_of, first_of, one_of}
 use Rattle.command_line.specs.declared.settings.Command.{Command}
 use Rattle.command_line.specs.declared.settings.Command.TheVariants as command
 use Rattle.command_line.specs.declared.settings.Bytes.{Bytes}
 use Rattle.command_line.specs.declared.settings.Draw.{Draw}
+use Rattle.command_line.specs.declared.settings.FailOn.{FailOn}
+use Rattle.command_line.specs.declared.settings.FailOn.TheVariants as fail_on
 use Rattle.command_line.specs.declared.settings.Hunt.{Hunt}
 use Rattle.command_line.specs.declared.settings.Merge.{Merge}
 use Rattle.command_line.specs.declared.settings.Migrate.{Migrate}
@@ -47,9 +46,16 @@ abbrev pub number_given : ℕ → Option Text → Option ℕ
 number_given bits None = None
 number_given bits (Some text) = number_in bits 10 text
 
--- the address that the text is, of 64 bits: in hexadecimal after `0x`, and else in decimal
+-- the digits begin with a zero, and have more after it, as an address that a report prints
+abbrev pub has_leading_zero : Text → Bool
+has_leading_zero text =
+    let digits = without_leading_plus text in
+    starts_with nat_eq digits (codes "0") && nat_lt 1 (length digits)
+
+-- the address that the text is, of 64 bits: in hexadecimal after `0x`, and else in decimal without leading zeros
 abbrev pub address_in : Text → Option ℕ
 address_in text = if starts_with nat_eq text (codes "0x") then number_in 64 16 (drop 2 text)
+    else if has_leading_zero text then None
     else number_in 64 10 text
 
 -- the number of 32 bits that the text is, and the default where there is none
@@ -95,6 +101,24 @@ shown_in text = if bytes_eq text (codes "report") then Some shown.Report
 abbrev pub shown_given : List Row → Option Shown
 shown_given rows = option_and_then shown_in (first_of (codes "show") rows)
 
+-- the word after --fail-on says which endings give another exit status
+abbrev pub fail_on_in : Text → Option FailOn
+fail_on_in text = if bytes_eq text (codes "differ") then Some fail_on.Differ
+    else if bytes_eq text (codes "bad") then Some fail_on.Bad
+    else if bytes_eq text (codes "never") then Some fail_on.Never else None
+
+-- what `hunt` is given after --fail-on
+abbrev pub fail_on_given : List Row → Option FailOn
+fail_on_given rows = option_and_then fail_on_in (first_of (codes "fail-on") rows)
+
+-- the line gives the option
+abbrev pub is_given : Text → List Row → Bool
+is_given id rows = is_some (first_of id rows)
+
+-- the line has the flag
+abbrev pub is_set : Text → List Row → Bool
+is_set name rows = option_map_or (λ text. bytes_eq text (codes "true")) (first_of name rows) false
+
 -- the flag is set where the text that clap states for it is `true`
 abbrev pub HoldsFlag : Option Text → Bool → Type 0
 HoldsFlag text flag = (text ≡ Some (codes "true") → flag ≡ true)
@@ -111,12 +135,17 @@ pub record HoldsProgram (default_rounds : ℕ) (rows : List Row) (program : Prog
   pub input : option_map (λ s. s.now) program.input ≡ first_of (codes "input") rows
   pub progress : HoldsFlag (one_of (codes "progress") rows) program.progress
 
+-- the line gives a row of quotas, and a file that has the plan
+abbrev pub quota_is_unread : List Row → Bool
+quota_is_unread rows = is_given (codes "quota") rows && is_given (codes "plan") rows
+
 pub record HoldsPlanChoice (rows : List Row) (plan : PlanChoice) : Type 0 where
   pub quota : plan.quota.now ≡ unwrap_or (first_of (codes "quota") rows) (codes "1000")
   pub file : option_map (λ s. s.now) plan.file ≡ first_of (codes "plan") rows
   pub budget : plan.budget ≡ number_or 1 (one_of (codes "budget") rows)
   pub number : plan.number ≡ number_given 32 (one_of (codes "plan-number") rows)
   pub seed : plan.seed ≡ wide_number_or 1 (one_of (codes "seed") rows)
+  pub quota_is_unread : plan.quota_is_unread ≡ quota_is_unread rows
 
 abbrev pub HoldsRun : List Row → Run → Type 0
 HoldsRun rows run = HoldsProgram 1000 rows run.program × HoldsPlanChoice rows run.plan
@@ -132,15 +161,26 @@ pub record HoldsRecord (rows : List Row) (r : Record) : Type 0 where
   pub out : r.out.now ≡ unwrap_or (first_of (codes "out") rows) []
   pub every : r.every ≡ number_or 0 (one_of (codes "every") rows)
 
+-- `replay` is asked of a hart
+abbrev pub asks_of_a_hart : List Row → Bool
+asks_of_a_hart rows = is_given (codes "round") rows || is_given (codes "place") rows
+
+-- the line gives an option of `replay` that says of which hart and where, and doesn't ask of a hart
+abbrev pub is_unread : Text → List Row → Bool
+is_unread id rows = is_given id rows && not (asks_of_a_hart rows)
+
 pub record HoldsReplay (rows : List Row) (replay : Replay) : Type 0 where
   pub recording : replay.recording.now ≡ unwrap_or (first_of (codes "recording") rows) []
   pub workers : replay.workers ≡ number_or 4 (one_of (codes "workers") rows)
   pub round : replay.round ≡ number_given 32 (one_of (codes "round") rows)
   pub hart : replay.hart ≡ number_or 0 (one_of (codes "hart") rows)
-  pub count : replay.count ≡ number_given 64 (one_of (codes "count") rows)
+  pub count : replay.count ≡ wide_number_or 0 (one_of (codes "count") rows)
+  pub how_many : replay.how_many ≡ is_set (codes "how-many") rows
   pub place : replay.place ≡ number_given 64 (one_of (codes "place") rows)
   pub every : replay.every ≡ number_or 64 (one_of (codes "every") rows)
   pub progress : HoldsFlag (one_of (codes "progress") rows) replay.progress
+  pub hart_is_unread : replay.hart_is_unread ≡ is_unread (codes "hart") rows
+  pub count_is_unread : replay.count_is_unread ≡ is_unread (codes "count") rows
 
 pub record HoldsWatch (rows : List Row) (watch : Watch) : Type 0 where
   pub recording : watch.recording.now ≡ unwrap_or (first_of (codes "recording") rows) []
@@ -166,6 +206,7 @@ pub record HoldsHunt (rows : List Row) (hunt : Hunt) : Type 0 where
   pub search : HoldsSearch rows hunt.search
   pub plans : hunt.plans ≡ number_or 1000 (one_of (codes "plans") rows)
   pub first : hunt.first ≡ number_or 0 (one_of (codes "first") rows)
+  pub fail_on : hunt.fail_on ≡ unwrap_or (fail_on_given rows) fail_on.Differ
 
 pub record HoldsShrink (rows : List Row) (shrink : Shrink) : Type 0 where
   pub search : HoldsSearch rows shrink.search
@@ -211,31 +252,3 @@ IsSubcommand name = (name ≡ codes "run") ⊎ (name ≡ codes "order") ⊎ (nam
     ⊎ (name ≡ codes "replay") ⊎ (name ≡ codes "watch") ⊎ (name ≡ codes "migrate")
     ⊎ (name ≡ codes "hunt") ⊎ (name ≡ codes "shrink") ⊎ (name ≡ codes "merge")
     ⊎ (name ≡ codes "plan") ⊎ (name ≡ codes "draw")
-
--- ADDRESS of `watch` is none
-abbrev pub has_bad_address : Text → List Row → Bool
-has_bad_address name rows = bytes_eq name (codes "watch") && not (is_some (address_given rows))
-
--- the texts are no ADDRESS and LENGTH
-abbrev pub is_bad_pair : Text × Text → Bool
-is_bad_pair given = not (is_some (address_in given.0) && is_some (number_in 64 10 given.1))
-
--- ADDRESS or LENGTH of a --see is none
-abbrev pub has_bad_bytes : List Row → Bool
-has_bad_bytes rows = list_any is_bad_pair (seen_given rows)
-
--- the word after --show asks for nothing that there is
-abbrev pub has_bad_show : List Row → Bool
-has_bad_show rows = option_map_or (λ text. not (is_some (shown_in text))) (first_of (codes "show") rows) false
-
--- clap takes each text as such a word, and this one is none
-abbrev pub has_bad_word : Text → List Row → Bool
-has_bad_word name rows = has_bad_address name rows || (has_bad_bytes rows || has_bad_show rows)
-
-abbrev pub word_fault : Option (Text × List Row) → Kinds
-word_fault None = []
-word_fault (Some met) = if has_bad_word met.0 met.1 then ValueValidation ∷ [] else []
-
--- the kinds of error that the words may give: those of clap, and where there are none, that of a bad word
-abbrev pub line_fault : List Text → Kinds
-line_fault words = or_else (fault_of dethart_app words) (word_fault (subcommand_of dethart_app words))

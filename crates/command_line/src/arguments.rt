@@ -26,6 +26,8 @@ pub(crate) enum Argument<'a> {
     SeeObject(&'a str),
     /// The option `--NAME FILE`, which has no default.
     File(&'a str, &'a str),
+    /// The option `--NAME VALUE`, which has no default: its name, and what the usage calls the value.
+    Text(&'a str, &'a str, &'a str),
     /// The option `--NAME VALUE`: its name, what the usage calls the value, and the default.
     Defaulted(&'a str, &'a str, &'a str, &'a str),
     /// The option `--NAME N`: its name and the default.
@@ -61,6 +63,14 @@ pub(crate) const WORKERS: Argument<'static> = Argument::Number(
 pub(crate) const PROGRESS: Argument<'static> = Argument::Flag(
     "progress",
     "Say on standard error how far it is",
+);
+
+/// The option `--harts N`, with its default.
+pub(crate) const HARTS: Argument<'static> = Argument::Number(
+    NARROW,
+    "harts",
+    "1",
+    "Harts: 1 to 64",
 );
 
 /// The option `--seed S`, by which the family of plans is one of many.
@@ -110,6 +120,7 @@ fn argument_of<'a>(alloc: Global, argument: Argument<'a>) -> Arg<'a>
         Argument::See(help) => see(alloc, help),
         Argument::SeeObject(help) => see_object(alloc, help),
         Argument::File(name, help) => option(alloc, name, "FILE", help),
+        Argument::Text(name, value_name, help) => option(alloc, name, value_name, help),
         Argument::Defaulted(name, value_name, default, help) => {
             defaulted(alloc, name, value_name, default, help)
         }

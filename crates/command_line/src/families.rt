@@ -1,12 +1,13 @@
 //! What the matches of the subcommands that go over plans of a family say.
-ghost use Rattle.std.specs.Prelude.{IfOk};
+ghost use Rattle.std.specs.Prelude.{◌≡◌, IfOk};
 ghost use Rattle.clap.specs.Words.{found_of, rows_of};
-ghost use Rattle.command_line.specs.Reading.{HoldsHunt, HoldsMerge, HoldsPlan, HoldsSearch, HoldsShrink};
+ghost use Rattle.command_line.specs.Faults.{has_bad_fail_on};
+ghost use Rattle.command_line.specs.Reading.{HoldsHunt, HoldsMerge, HoldsPlan, HoldsSearch, HoldsShrink, fail_on_given, fail_on_in};
 
 use crate::numbers::{number_of, wide_number_of};
 use crate::runs::program_of;
 use crate::seen::{seen_of, texts_of};
-use crate::settings::{Hunt, Merge, Plan, Search, Shrink};
+use crate::settings::{FailOn, Hunt, Merge, Plan, Search, Shrink};
 use clap::ArgMatches;
 use std::alloc::{AllocError, Global};
 
@@ -33,7 +34,43 @@ pub(crate) fn hunt_of<'a>(alloc: Global, matches: &ArgMatches<'a>) -> Result<Hun
         search,
         plans: number_of(matches, "plans", 1000),
         first: number_of(matches, "first", 0),
+        fail_on: fail_on_given(matches).unwrap_or(FailOn::Differ),
     })
+}
+
+/// Whether the matches have a word after `--fail-on` that says of no endings.
+pub(crate) fn has_bad_fail_on(matches: &ArgMatches<'_>) -> bool
+    ensures { result ≡ has_bad_fail_on (rows_of (found_of matches.now)) }
+{
+    match matches.get_str("fail-on") {
+        Some(text) => fail_on_in(text).is_none(),
+        None => false,
+    }
+}
+
+/// What `hunt` is given after `--fail-on`.
+fn fail_on_given(matches: &ArgMatches<'_>) -> Option<FailOn>
+    ensures { result ≡ fail_on_given (rows_of (found_of matches.now)) }
+{
+    match matches.get_str("fail-on") {
+        Some(text) => fail_on_in(text),
+        None => None,
+    }
+}
+
+/// Which endings the word after `--fail-on` says.
+fn fail_on_in(text: &str) -> Option<FailOn>
+    ensures { result ≡ fail_on_in text.now }
+{
+    if text == "differ" {
+        Some(FailOn::Differ)
+    } else if text == "bad" {
+        Some(FailOn::Bad)
+    } else if text == "never" {
+        Some(FailOn::Never)
+    } else {
+        None
+    }
 }
 
 /// What the matches of `shrink` say.

@@ -12,10 +12,10 @@ Examples:
 The program is run by PLANS plans of the family that the seed stands for, from
 the number FIRST on. Two runs have the same ending where each hart ended in the
 same way, the same bytes were put out, and the LENGTH bytes from ADDRESS on of
-each --see are the same. ADDRESS is decimal, or hexadecimal after 0x, and LENGTH
-is decimal. --see-object NAME stands for the address and size that the ELF
-file's symbol table gives an object of that name. What is printed is the table
-of the endings:
+each --see are the same. ADDRESS is hexadecimal after 0x, or decimal without
+leading zeros; LENGTH is decimal. --see-object NAME stands for the address and
+size that the ELF file's symbol table gives an object of that name. What is
+printed is the table of the endings:
 
   plans FIRST COUNT seed S
   endings E
@@ -31,16 +31,20 @@ first of these. dethart run --help lists each CODE. 'running' says only that the
 limit of rounds was reached. No plan of these ends otherwise, within this limit
 of rounds.
 
-This repeats a run that was found, with the other options of the hunt, which
-runs 10000 rounds where it isn't told otherwise:
-  dethart run IMAGE .. --rounds 10000 --plan-number PLAN --seed S
+Standard error has for each ending the line that runs the program by its first
+plan, with all options that matter:
+  ending K: dethart run IMAGE .. --rounds 10000 --plan-number PLAN --seed S
 
 A refusal is the line 'error N' on standard error, with the exit status 1;
 dethart run --help lists what each N means.
 
-Exit status: 0 there is one ending and all harts exited in it, 4 the table has
-another number of endings or one in which a hart didn't exit, 1 a refusal, 2 a
-bad command line.";
+Exit status: 1 a refusal, 2 a bad command line. Where the table was printed, 0
+or, as --fail-on says, 4:
+  differ  the table has more endings than one, or one in which a hart didn't
+          exit
+  bad     by some plan a hart runs on, was stopped by a fault or exited with
+          another value than 0
+  never   in no case, for slices of a hunt that dethart merge puts together";
 
 pub(crate) const SHRINK_ABOUT: &str =
     "Looks for a smaller plan by which the program in IMAGE ends the same.";
@@ -52,10 +56,11 @@ Example:
 It begins with plan N of the family that the seed stands for, and makes it
 smaller, one step after another, as long as the program ends as by plan N: each
 hart in the same way, with the same output, and with the same bytes of each
---see. The plan that is left is printed, and on standard error the line 'budget
-B'. No single step leads on from it to the same ending; docs/hunt.md lists the
-steps. This repeats the run:
-  dethart run IMAGE .. --rounds 10000 --plan small.txt --budget B
+--see. The plan that is left is printed. No single step leads on from it to the
+same ending; docs/hunt.md lists the steps. Standard error has its budget, and
+the line that runs the program by it once it is in a file:
+  budget B
+  dethart run IMAGE .. --rounds 10000 --plan FILE --budget B
 
 A refusal is the line 'error N' on standard error, with the exit status 1;
 dethart run --help lists what each N means.
@@ -85,7 +90,10 @@ pub(crate) const PLAN_AFTER_HELP: &str = "\
 Example:
   dethart plan 35 --harts 2
 
-By this plan dethart run --plan-number 35 --harts 2 runs a program.
+By this plan dethart run --plan-number 35 --harts 2 runs a program. Standard
+error has its budget, which is no part of the text:
+  budget B
+  dethart run IMAGE --harts 2 --plan FILE --budget B
 
 A refusal is the line 'error N' on standard error, with the exit status 1;
 dethart run --help lists what each N means.
@@ -103,9 +111,9 @@ Examples:
 The picture has a column for each hart, a band for each round, and a box for
 each memory operation, with an arrow to it from each store that it read bytes
 of. With --see it has the operations on the LENGTH bytes from ADDRESS on only,
-and with --from and --to those of these rounds only. ADDRESS is decimal, or
-hexadecimal after 0x, and LENGTH is decimal. It has at most 400 operations, and
-a line that says how many more there are.
+and with --from and --to those of these rounds only. ADDRESS is hexadecimal
+after 0x, or decimal without leading zeros; LENGTH is decimal. It has at most
+400 operations, and a line that says how many more there are.
 
 dethart run --help says what a plan is, and what each error N means: a refusal
 is the line 'error N' on standard error, with the exit status 1.

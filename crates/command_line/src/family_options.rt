@@ -4,7 +4,9 @@ ghost use Rattle.clap.specs.Words.{app_of};
 ghost use Rattle.clap.specs.declared.builder.command.Command.TheViews.{out-Command};
 ghost use Rattle.command_line.specs.Options.{hunt_app, merge_app, plan_app, searching, shrink_app};
 
-use crate::arguments::{Argument, NARROW, PROGRESS, SAME_OF_OBJECT, SEED, WORKERS, with_arguments};
+use crate::arguments::{
+    Argument, HARTS, NARROW, PROGRESS, SAME_OF_OBJECT, SEED, WORKERS, with_arguments,
+};
 use crate::family_help::{
     HUNT_ABOUT, HUNT_AFTER_HELP, MERGE_ABOUT, MERGE_AFTER_HELP, PLAN_ABOUT, PLAN_AFTER_HELP,
     SHRINK_ABOUT, SHRINK_AFTER_HELP,
@@ -12,6 +14,9 @@ use crate::family_help::{
 use crate::program_options::{INPUT, guest_command, named_command};
 use clap::Command;
 use std::alloc::{AllocError, Global};
+
+/// The option `--harts N`, which must be there: by its default of one hart every plan would come to the same ending.
+const HARTS_WANTED: Argument<'static> = Argument::NumberWanted("harts", "Harts: 1 to 64");
 
 /// What a program is run with by plans of the family, and what is seen of each run.
 static SEARCHING: [Argument<'static>; 7] = [
@@ -25,9 +30,15 @@ static SEARCHING: [Argument<'static>; 7] = [
 ];
 
 /// Which plans of the family a program is run by.
-static HUNT: [Argument<'static>; 2] = [
+static HUNT: [Argument<'static>; 3] = [
     Argument::Number(NARROW, "plans", "1000", "Plans: 1 to 4294967295"),
     Argument::Number(NARROW, "first", "0", "Number of the first plan"),
+    Argument::Defaulted(
+        "fail-on",
+        "WHAT",
+        "differ",
+        "Exit with 4 on: differ, bad or never",
+    ),
 ];
 
 /// The plan of the family that is made smaller.
@@ -51,7 +62,7 @@ static PLAN: [Argument<'static>; 3] = [
         "N",
         "The number of the plan: 0 to 4294967295",
     ),
-    Argument::Number(NARROW, "harts", "1", "Harts: 1 to 64"),
+    HARTS,
     SEED,
 ];
 
@@ -101,6 +112,6 @@ fn searching_command<'a>(
     ensures app { IfOk result (λ command. app_of command ≡ searching name.entry.now) }
     ensures local { IfOk result (λ command. (out-Command command).has_globals ≡ false) }
 {
-    let command = guest_command(alloc, name, about, after_help)?;
+    let command = guest_command(alloc, name, about, after_help, HARTS_WANTED)?;
     with_arguments(alloc, command, SEARCHING.as_slice())
 }

@@ -19,12 +19,14 @@ Examples:
 
 dethart run --help lists the options of a run, why a hart stops, and what each
 error N means. dethart order, record and draw take the same options, but for
-those that say what is printed.
+those that say what is printed. dethart help, dethart help COMMAND and dethart
+version print the same as --help, COMMAND --help and --version.
 
 Exit status: 0 what was asked for was printed or written, 1 a refusal (error N),
 2 a bad command line, 3 dethart replay found another run than the recorded one,
 4 dethart hunt found more endings than one, or one in which not all harts
-exited, or dethart run --strict found a hart that didn't exit with value 0.";
+exited (--fail-on says when else), or dethart run --strict found a hart that
+didn't exit with value 0.";
 
 pub(crate) const RUN_ABOUT: &str = "Runs the program in IMAGE, and prints the report.";
 
@@ -44,8 +46,10 @@ and how many bytes were put out.
 A plan is one or more rows of quotas; rounds take its rows in turn. A quota is
 how many instructions a hart does in a round: 1 to 1000000. A row is one number,
 which is the quota of each hart, or one for each hart with one space between. A
-hart that waits for its serial turn may then do BUDGET instructions. With
---plan-number all this is that of plan N of the family that the seed stands for.
+hart that waits for its serial turn may then do BUDGET instructions. Beside
+--plan, --quota isn't looked at. With --plan-number all this is that of plan N
+of the family that the seed stands for: beside it --quota, --plan and --budget
+are refused, and so is --seed without it.
 
 A hart that stops is done, with one of these codes:
    1  the exit call, which the report shows as 'exit VALUE'; VALUE is x10

@@ -2,9 +2,12 @@
 #![tactic(auto)]
 
 mod arguments;
+mod asking;
+mod contradictions;
 mod families;
 mod family_help;
 mod family_options;
+mod given;
 mod help;
 mod numbers;
 mod options;
@@ -17,8 +20,9 @@ mod runs;
 mod seen;
 mod settings;
 
+pub use asking::asked_by_options;
 pub use parsing::parse_line;
 pub use settings::{
-    Bytes, Command, Draw, Hunt, Merge, Migrate, Plan, PlanChoice, Print, Program, Record, Replay,
-    Run, Search, Shown, Shrink, Watch,
+    Bytes, Command, Draw, FailOn, Hunt, Merge, Migrate, Plan, PlanChoice, Print, Program, Record,
+    Replay, Run, Search, Shown, Shrink, Watch,
 };

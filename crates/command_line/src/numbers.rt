@@ -1,7 +1,8 @@
 //! The numbers that texts and options are.
 ghost use Rattle.std.specs.Prelude.{◌≡◌, ◌≤◌};
+ghost use Rattle.std.specs.Str.Parse.{without_leading_plus};
 ghost use Rattle.clap.specs.Words.{found_of, one_text};
-ghost use Rattle.command_line.specs.Reading.{address_in, number_given, number_in, number_or, wide_number_or};
+ghost use Rattle.command_line.specs.Reading.{address_in, has_leading_zero, number_given, number_in, number_or, wide_number_or};
 
 use clap::ArgMatches;
 
@@ -33,13 +34,34 @@ pub(crate) fn wide_number_of(matches: &ArgMatches<'_>, id: &str, default: u64) -
     wide_given(matches, id).unwrap_or(default)
 }
 
-/// The address that the text is: in hexadecimal after `0x`, and else in decimal.
+/// The address that the text is: in hexadecimal after `0x`, and else in decimal without leading zeros, since an address that
+/// is printed begins with them and is hexadecimal.
 pub(crate) fn address_in(text: &str) -> Option<u64>
     ensures { result ≡ address_in text.now }
 {
     match text.strip_prefix("0x") {
         Some(digits) => number_in(digits, 16),
+        None if has_leading_zero(text) => None,
         None => number_in(text, 10),
+    }
+}
+
+/// Whether the digits begin with a zero and have more after it.
+fn has_leading_zero(text: &str) -> bool
+    ensures { result ≡ has_leading_zero text.now }
+{
+    let digits = without_plus(text.as_bytes());
+    digits.starts_with(b"0") && digits.len() > 1
+}
+
+/// The text without a plus that it begins with.
+fn without_plus(text: &[u8]) -> &[u8]
+    ensures { result.now ≡ without_leading_plus text.now }
+{
+    if !text.is_empty() && text[0] == b'+' {
+        &text[1..]
+    } else {
+        text
     }
 }
 

@@ -2,9 +2,12 @@
 ghost use Rattle.std.specs.Prelude.{◌≡◌, IfOk, Some, is_some, map};
 ghost use Rattle.clap.specs.Words.{FailsBy, found_of, rows_of, subcommand_of};
 ghost use Rattle.command_line.specs.Options.{dethart_app};
-ghost use Rattle.command_line.specs.Reading.{HoldsLine, HoldsMigrate, HoldsNamed, HoldsReplay, HoldsWatch, IsSubcommand, address_given, has_bad_address, has_bad_word, line_fault, word_fault};
+ghost use Rattle.command_line.specs.Faults.{has_bad_address, has_bad_word, line_fault, word_fault};
+ghost use Rattle.command_line.specs.Reading.{HoldsLine, HoldsMigrate, HoldsNamed, HoldsReplay, HoldsWatch, IsSubcommand, address_given, asks_of_a_hart, is_unread};
 
-use crate::families::{hunt_of, merge_of, plan_of, shrink_of};
+use crate::contradictions::contradiction;
+use crate::families::{has_bad_fail_on, hunt_of, merge_of, plan_of, shrink_of};
+use crate::given::{is_given, is_set};
 use crate::numbers::{address_in, number_given, number_of, wide_given, wide_number_of};
 use crate::options::dethart_command;
 use crate::runs::{draw_of, has_bad_show, print_of, record_of, run_of};
@@ -16,14 +19,17 @@ use std::alloc::{AllocError, Global};
 
 /// What is said of an ADDRESS that is none.
 const BAD_ADDRESS: &str =
-    "invalid value for '<ADDRESS>': it is a decimal number of 64 bits, or a hexadecimal one after 0x";
+    "invalid value for '<ADDRESS>': it is a number of 64 bits, in hexadecimal or in decimal: begin it with 0x, or write it without leading zeros";
 
 /// What is said of the two words after `--see` where one of them is none.
 const BAD_BYTES: &str =
-    "invalid value for '--see <ADDRESS> <LENGTH>': these are numbers of 64 bits, LENGTH a decimal one, and ADDRESS a decimal one or a hexadecimal one after 0x";
+    "invalid value for '--see <ADDRESS> <LENGTH>': these are numbers of 64 bits, LENGTH in decimal, and ADDRESS in hexadecimal or in decimal: begin it with 0x, or write it without leading zeros";
 
 /// What is said of a WHAT that is none.
 const BAD_SHOW: &str = "invalid value for '--show <WHAT>': it is report, output or harts";
+
+/// What is said of a WHAT after `--fail-on` that is none.
+const BAD_FAIL_ON: &str = "invalid value for '--fail-on <WHAT>': it is differ, bad or never";
 
 /// Reads the words of a command line, of which the first is the program's name.
 ///
@@ -55,6 +61,9 @@ fn subcommand_of<'a>(
 {
     if let Some(text) = bad_word(name, matches) {
         return Err(command.error(ErrorKind::ValueValidation, text)?);
+    }
+    if let Some(text) = contradiction(name, matches) {
+        return Err(command.error(ErrorKind::ArgumentConflict, text)?);
     }
     Ok(command_of(alloc, name, matches)?)
 }
@@ -93,11 +102,28 @@ fn replay_of<'a>(matches: &ArgMatches<'a>) -> Replay<'a>
         workers: number_of(matches, "workers", 4),
         round: number_given(matches, "round"),
         hart: number_of(matches, "hart", 0),
-        count: wide_given(matches, "count"),
+        count: wide_number_of(matches, "count", 0),
+        how_many: is_set(matches, "how-many"),
         place: wide_given(matches, "place"),
         every: number_of(matches, "every", 64),
         progress: matches.get_flag("progress"),
+        hart_is_unread: is_unread(matches, "hart"),
+        count_is_unread: is_unread(matches, "count"),
     }
+}
+
+/// Whether `replay` is asked of a hart.
+fn asks_of_a_hart(matches: &ArgMatches<'_>) -> bool
+    ensures { result ≡ asks_of_a_hart (rows_of (found_of matches.now)) }
+{
+    is_given(matches, "round") || is_given(matches, "place")
+}
+
+/// Whether the line gives the option `id`, which says of which hart and where, and doesn't ask of a hart.
+fn is_unread(matches: &ArgMatches<'_>, id: &str) -> bool
+    ensures { result ≡ is_unread id.now (rows_of (found_of matches.now)) }
+{
+    is_given(matches, id) && !asks_of_a_hart(matches)
 }
 
 /// What the matches of `watch` say.
@@ -127,6 +153,8 @@ fn bad_word(name: &str, matches: &ArgMatches<'_>) -> Option<&'static str>
         Some(BAD_BYTES)
     } else if has_bad_show(matches) {
         Some(BAD_SHOW)
+    } else if has_bad_fail_on(matches) {
+        Some(BAD_FAIL_ON)
     } else {
         None
     }

@@ -2,6 +2,7 @@
 ghost use Rattle.std.specs.Prelude.{◌≡◌, IfOk, false};
 ghost use Rattle.clap.specs.Words.{app_of, new_app};
 ghost use Rattle.clap.specs.declared.builder.command.Command.TheViews.{out-Command};
+ghost use Rattle.command_line.specs.Arguments.{rule_told};
 ghost use Rattle.command_line.specs.Options.{guest_rules, taking};
 
 use crate::arguments::{Argument, NARROW, with_arguments};
@@ -29,28 +30,39 @@ pub(crate) const INPUT: Argument<'static> = Argument::File(
     "What the guest reads [default: no input]",
 );
 
-/// A guest program, and the size of its machine.
-static GUEST: [Argument<'static>; 4] = [
-    Argument::Positional(
-        "image",
-        "IMAGE",
-        "The file of the guest program: ELF, or any code with --flat",
-    ),
-    Argument::Flag("flat", "IMAGE is flat: bytes from address 0 on, all code"),
-    Argument::Number(NARROW, "harts", "1", "Harts: 1 to 64"),
-    Argument::Number(NARROW, "pages", "256", "Pages of 4096 bytes: 1 to 16384"),
-];
+/// The argument IMAGE.
+const IMAGE: Argument<'static> = Argument::Positional(
+    "image",
+    "IMAGE",
+    "The file of the guest program: ELF, or any code with --flat",
+);
 
-/// A subcommand that runs a guest program: the image, and the size of its machine.
+/// The option `--flat`.
+const FLAT: Argument<'static> = Argument::Flag(
+    "flat",
+    "IMAGE is flat: bytes from address 0 on, all code",
+);
+
+/// The option `--pages N`.
+const PAGES: Argument<'static> = Argument::Number(
+    NARROW,
+    "pages",
+    "256",
+    "Pages of 4096 bytes: 1 to 16384",
+);
+
+/// A subcommand that runs a guest program: the image, and the size of its machine, whose harts are this option.
 pub(crate) fn guest_command<'a>(
     alloc: Global,
     name: &'a str,
     about: &'a str,
     after_help: &'a str,
+    harts: Argument<'a>,
 ) -> Result<Command<'a>, AllocError>
-    ensures app { IfOk result (λ command. app_of command ≡ taking name.entry.now guest_rules) }
+    ensures app { IfOk result (λ command. app_of command ≡
+        taking name.entry.now (guest_rules (rule_told harts.entry))) }
     ensures local { IfOk result (λ command. (out-Command command).has_globals ≡ false) }
 {
     let command = named_command(alloc, name, about, after_help);
-    with_arguments(alloc, command, GUEST.as_slice())
+    with_arguments(alloc, command, &[IMAGE, FLAT, harts, PAGES])
 }

@@ -25,17 +25,20 @@ Examples:
   dethart replay guest.rec
   dethart replay guest.rec --round 12 --hart 3
   dethart replay guest.rec --round 12 --hart 3 --count 40
+  dethart replay guest.rec --round 12 --hart 3 --how-many
   dethart replay guest.rec --hart 3 --place 12040
 
 The line 'same' says that the run is the recorded one, and 'differs R' that it
 isn't, first in round R.
 
-With --round the line 'count N' says how many instructions the hart did in that
-round. With --count too the hart is printed, as the report prints one, after
-that many of them. With --place and no round it is printed before its
+With --round the hart is printed, as the report prints one, after the first
+COUNT instructions that it did in that round: at the round's start where no
+count is given. With --how-many the line 'count N' says how many it did, in
+place of the hart. With --place and no round the hart is printed before its
 instruction at that place of the whole run, as the trace counts places from 0
 on, after the line 'round R' of the round in which it does that instruction.
-The line is 'none' where there is no such round, hart, count or place.
+The line is 'none' where there is no such round, hart, count or place. Without
+--round and --place, --hart and --count aren't looked at.
 
 A refusal is the line 'error N' on standard error, with the exit status 1;
 dethart run --help lists what each N means.
@@ -55,8 +58,8 @@ The line 'hits N' comes first, N the number of accesses, and then each access,
 as its line in the report's trace and in the order of the trace. An access is
 one of them where one of its bytes is among the LENGTH bytes from ADDRESS on, or
 among those of a --see; with --from and --to, where it is of such a round too.
-ADDRESS and LENGTH are numbers of 64 bits: decimal, and for ADDRESS also
-hexadecimal after 0x.
+ADDRESS and LENGTH are numbers of 64 bits: LENGTH is decimal, and ADDRESS is
+hexadecimal after 0x, or decimal without leading zeros.
 
 A refusal is the line 'error N' on standard error, with the exit status 1;
 dethart run --help lists what each N means.

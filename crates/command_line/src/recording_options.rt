@@ -14,7 +14,7 @@ use clap::Command;
 use std::alloc::{AllocError, Global};
 
 /// A recording, how its run is done again, and the hart to print.
-static REPLAY: [Argument<'static>; 8] = [
+static REPLAY: [Argument<'static>; 9] = [
     RECORDING,
     WORKERS,
     PROGRESS,
@@ -24,13 +24,14 @@ static REPLAY: [Argument<'static>; 8] = [
         "64",
         "No effect: one question needs no checkpoint",
     ),
-    Argument::NumberGiven(NARROW, "round", "A round, from 1 on"),
-    Argument::Number(NARROW, "hart", "0", "A hart, from 0 on"),
+    Argument::NumberGiven(NARROW, "round", "The hart in this round, from 1 on"),
+    Argument::NumberGiven(NARROW, "hart", "Which hart, from 0 on [default: 0]"),
     Argument::NumberGiven(
         WIDE,
         "count",
-        "The hart after so many instructions of the round",
+        "After so many instructions of the round [default: 0]",
     ),
+    Argument::Flag("how-many", "How many instructions it did in the round"),
     Argument::NumberGiven(
         WIDE,
         "place",
@@ -44,7 +45,7 @@ static WATCH: [Argument<'static>; 8] = [
     Argument::Positional(
         "address",
         "ADDRESS",
-        "The address of the first byte: decimal, or hexadecimal after 0x",
+        "The address of the first byte: hexadecimal after 0x, or decimal",
     ),
     Argument::NumberPositional(WIDE, "length", "LENGTH", "How many bytes, in decimal"),
     Argument::See("More bytes; can be repeated"),

@@ -4,7 +4,9 @@ ghost use Rattle.clap.specs.Words.{app_of};
 ghost use Rattle.clap.specs.declared.builder.command.Command.TheViews.{out-Command};
 ghost use Rattle.command_line.specs.Options.{draw_app, order_app, record_app, run_app, running};
 
-use crate::arguments::{Argument, NARROW, PROGRESS, SAME_OF_OBJECT, SEED, WORKERS, with_arguments};
+use crate::arguments::{
+    Argument, HARTS, NARROW, PROGRESS, SAME_OF_OBJECT, WIDE, WORKERS, with_arguments,
+};
 use crate::family_help::{DRAW_ABOUT, DRAW_AFTER_HELP};
 use crate::help::{ORDER_ABOUT, ORDER_AFTER_HELP, RUN_ABOUT, RUN_AFTER_HELP};
 use crate::program_options::{INPUT, guest_command};
@@ -18,15 +20,23 @@ static RUNNING: [Argument<'static>; 9] = [
     WORKERS,
     INPUT,
     PROGRESS,
-    Argument::Defaulted("quota", "PLAN", "1000", "One row of quotas 1 to 1000000"),
+    Argument::Text(
+        "quota",
+        "PLAN",
+        "One row of quotas 1 to 1000000 [default: 1000]",
+    ),
     Argument::File("plan", "The plan from a file, in place of --quota"),
-    Argument::Number(NARROW, "budget", "1", "Length of a serial turn: 1 to 1000"),
+    Argument::NumberGiven(
+        NARROW,
+        "budget",
+        "Length of a serial turn: 1 to 1000 [default: 1]",
+    ),
     Argument::NumberGiven(
         NARROW,
         "plan-number",
         "By plan N of the family, not by these three",
     ),
-    SEED,
+    Argument::NumberGiven(WIDE, "seed", "Which family plan N is of [default: 1]"),
 ];
 
 /// What of a run is printed.
@@ -108,6 +118,6 @@ fn running_command<'a>(
     ensures app { IfOk result (λ command. app_of command ≡ running name.entry.now) }
     ensures local { IfOk result (λ command. (out-Command command).has_globals ≡ false) }
 {
-    let command = guest_command(alloc, name, about, after_help)?;
+    let command = guest_command(alloc, name, about, after_help, HARTS)?;
     with_arguments(alloc, command, RUNNING.as_slice())
 }

@@ -1,8 +1,10 @@
 //! What the matches of the subcommands that run a program by one plan say.
 ghost use Rattle.std.specs.Prelude.{◌≡◌, IfOk};
 ghost use Rattle.clap.specs.Words.{found_of, rows_of};
-ghost use Rattle.command_line.specs.Reading.{HoldsDraw, HoldsPlanChoice, HoldsPrint, HoldsProgram, HoldsRecord, HoldsRun, has_bad_show, shown_given, shown_in};
+ghost use Rattle.command_line.specs.Faults.{has_bad_show};
+ghost use Rattle.command_line.specs.Reading.{HoldsDraw, HoldsPlanChoice, HoldsPrint, HoldsProgram, HoldsRecord, HoldsRun, quota_is_unread, shown_given, shown_in};
 
+use crate::given::is_given;
 use crate::numbers::{number_given, number_of, wide_number_of};
 use crate::seen::{seen_of, texts_of};
 use crate::settings::{Draw, PlanChoice, Print, Program, Record, Run, Shown};
@@ -35,7 +37,15 @@ fn plan_choice_of<'a>(matches: &ArgMatches<'a>) -> PlanChoice<'a>
         budget: number_of(matches, "budget", 1),
         number: number_given(matches, "plan-number"),
         seed: wide_number_of(matches, "seed", 1),
+        quota_is_unread: quota_is_unread(matches),
     }
+}
+
+/// Whether the line gives a row of quotas, and a file that has the plan.
+fn quota_is_unread(matches: &ArgMatches<'_>) -> bool
+    ensures { result ≡ quota_is_unread (rows_of (found_of matches.now)) }
+{
+    is_given(matches, "quota") && is_given(matches, "plan")
 }
 
 /// What the matches of `order` say, and those of `run`, `record` and `draw` of the run.

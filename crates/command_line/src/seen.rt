@@ -2,7 +2,8 @@
 ghost use Rattle.std.specs.Prelude.{◌≡◌, IfOk, map};
 ghost use Rattle.std.specs.List.{list_any};
 ghost use Rattle.clap.specs.Words.{found_of, rows_of};
-ghost use Rattle.command_line.specs.Reading.{bytes_of, has_bad_bytes, is_bad_pair, pairs, seen_given, texts_given};
+ghost use Rattle.command_line.specs.Faults.{has_bad_bytes, is_bad_pair};
+ghost use Rattle.command_line.specs.Reading.{bytes_of, pairs, seen_given, texts_given};
 
 use crate::numbers::{address_in, number_in};
 use crate::settings::Bytes;

@@ -55,10 +55,12 @@ pub struct PlanChoice<'a> {
     pub file: Option<&'a str>,
     /// How many instructions a waiting hart may do in its serial turn.
     pub budget: u32,
-    /// The number of a plan of the family. Where it is given, `quota`, `file` and `budget` aren't looked at.
+    /// The number of a plan of the family. The line gives none of the above beside it.
     pub number: Option<u32>,
-    /// The seed of the family. Where there is no number, it isn't looked at.
+    /// The seed of the family. The line gives none where there is no number.
     pub seed: u64,
+    /// The line gives both a quota and a file, so that the quota isn't looked at.
+    pub quota_is_unread: bool,
 }
 
 /// One run: the words after `order`, and a part of those after `run`, `record` and `draw`.
@@ -116,16 +118,23 @@ pub struct Replay<'a> {
     pub round: Option<u32>,
     /// The number of the hart to print. Where there is neither a round nor a place, it isn't looked at.
     pub hart: u32,
-    /// After how many of the instructions that the hart did in the round it is printed. Where there is a round and no
-    /// count, how many these were is printed.
-    pub count: Option<u64>,
-    /// The place of an instruction among all that the hart did, before which it is printed. Where it is given, round and
-    /// count aren't looked at.
+    /// After how many of the instructions that the hart did in the round it is printed. Where there is no round, it isn't
+    /// looked at.
+    pub count: u64,
+    /// How many instructions the hart did in the round is printed, and not the hart. The line gives a round then, and no
+    /// count.
+    pub how_many: bool,
+    /// The place of an instruction among all that the hart did, before which it is printed. The line gives neither a round
+    /// nor a count beside it.
     pub place: Option<u64>,
     /// A machine to go on from is kept after each round whose number is a multiple of this; 0: only the first.
     pub every: u32,
     /// It is told between rounds how far the run is.
     pub progress: bool,
+    /// The line gives a hart, which isn't looked at.
+    pub hart_is_unread: bool,
+    /// The line gives a count, which isn't looked at.
+    pub count_is_unread: bool,
 }
 
 /// The words after `watch`.
@@ -180,6 +189,17 @@ pub struct Search<'a> {
     pub objects: Vec<&'a str>,
 }
 
+/// Which tables of a hunt give another exit status.
+#[derive(Clone, Copy, PartialEq, Eq, Drop)]
+pub enum FailOn {
+    /// Those with more endings than one, or with one in which a hart didn't exit.
+    Differ,
+    /// Those with an ending in which a hart runs on, was stopped by a fault, or exited with another value than 0.
+    Bad,
+    /// None.
+    Never,
+}
+
 /// The words after `hunt`.
 #[derive(PartialEq, Eq, Drop)]
 pub struct Hunt<'a> {
@@ -189,6 +209,8 @@ pub struct Hunt<'a> {
     pub plans: u32,
     /// The number of the first of these.
     pub first: u32,
+    /// Which tables give another exit status.
+    pub fail_on: FailOn,
 }
 
 /// The words after `shrink`.

@@ -1,11 +1,11 @@
 //! Lines that go over plans of a family.
 
 use crate::harness::{DEFAULTS, is_read};
-use command_line::{Bytes, Command, Hunt, Merge, Plan, Program, Search, Shrink};
+use command_line::{Bytes, Command, FailOn, Hunt, Merge, Plan, Program, Search, Shrink};
 use std::alloc::{AllocError, Global};
 use std::test::Fail;
 
-/// The runs of `guest.elf` by the family of this seed, with these bytes and objects looked at.
+/// The runs of `guest.elf` on two harts by the family of this seed, with these bytes and objects looked at.
 fn search<'a>(
     alloc: Global,
     seed: u64,
@@ -13,6 +13,7 @@ fn search<'a>(
     objects: &[&'a str],
 ) -> Result<Search<'a>, AllocError> {
     let program = Program {
+        harts: 2,
         rounds: 10000,
         ..DEFAULTS.program
     };
@@ -39,7 +40,20 @@ static SEEN: [Bytes; 2] = [
 ];
 
 const HUNT_WITH_EVERY_OPTION: &str =
-    "dethart hunt --see 0x20000 8 guest.elf --plans=200 --first 7 --seed=9 --see-object=counter --see 24 1";
+    "dethart hunt --see 0x20000 8 guest.elf --plans=200 --first 7 --seed=9 --see-object=counter --harts 2 --see 24 1 --fail-on never";
+
+/// What is read after `--fail-on`.
+static FAILURES: [(&str, FailOn); 3] = [
+    ("dethart hunt guest.elf --harts=2", FailOn::Differ),
+    (
+        "dethart hunt guest.elf --harts=2 --fail-on=differ",
+        FailOn::Differ,
+    ),
+    (
+        "dethart hunt guest.elf --harts=2 --fail-on=bad",
+        FailOn::Bad,
+    ),
+];
 
 #[test]
 fn reads_hunt(rt: HostRuntime) -> Result<(), Fail> {
@@ -47,14 +61,18 @@ fn reads_hunt(rt: HostRuntime) -> Result<(), Fail> {
         search: search(rt.alloc(), 9, SEEN.as_slice(), &["counter"])?,
         plans: 200,
         first: 7,
+        fail_on: FailOn::Never,
     };
     assert!(rt; is_read(&rt, HUNT_WITH_EVERY_OPTION, &Command::Hunt(given)));
-    let defaults = Hunt {
-        search: search(rt.alloc(), 1, &[], &[])?,
-        plans: 1000,
-        first: 0,
-    };
-    assert!(rt; is_read(&rt, "dethart hunt guest.elf", &Command::Hunt(defaults)));
+    for (line, fail_on) in &FAILURES {
+        let defaults = Hunt {
+            search: search(rt.alloc(), 1, &[], &[])?,
+            plans: 1000,
+            first: 0,
+            fail_on: *fail_on,
+        };
+        assert!(rt; is_read(&rt, line, &Command::Hunt(defaults)));
+    }
     Ok(())
 }
 
@@ -64,7 +82,7 @@ fn reads_shrink(rt: HostRuntime) -> Result<(), Fail> {
         search: search(rt.alloc(), 1, &[], &[])?,
         plan_number: 35,
     };
-    let line = "dethart shrink guest.elf --plan-number=35";
+    let line = "dethart shrink guest.elf --plan-number=35 --harts 2";
     assert!(rt; is_read(&rt, line, &Command::Shrink(given)));
     Ok(())
 }

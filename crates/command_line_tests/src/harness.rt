@@ -3,6 +3,16 @@
 use command_line::{Command, PlanChoice, Program, Run, parse_line};
 use std::alloc::{AllocError, Global};
 
+/// What a line with no option says of the plan.
+pub(crate) const DEFAULT_PLAN: PlanChoice<'static> = PlanChoice {
+    quota: "1000",
+    file: None,
+    budget: 1,
+    number: None,
+    seed: 1,
+    quota_is_unread: false,
+};
+
 /// What a line with no option says of the run.
 pub(crate) const DEFAULTS: Run<'static> = Run {
     program: Program {
@@ -15,13 +25,7 @@ pub(crate) const DEFAULTS: Run<'static> = Run {
         input: None,
         progress: false,
     },
-    plan: PlanChoice {
-        quota: "1000",
-        file: None,
-        budget: 1,
-        number: None,
-        seed: 1,
-    },
+    plan: DEFAULT_PLAN,
 };
 
 /// The words of a line, between each two of which stands one space.

@@ -6,34 +6,69 @@ use std::alloc::Global;
 use std::test::Fail;
 
 /// Lines of `replay`, with every option and with none, and what they say.
-static REPLAYS: [(&str, Replay<'static>); 2] = [
+static REPLAYS: [(&str, Replay<'static>); 6] = [
+    ("dethart replay guest.rec", REPLAY),
     (
-        "dethart replay --workers 2 guest.rec --round 4294967295 --hart=3 --count 18446744073709551615 --place=7 --every=0 --progress",
+        "dethart replay --workers 2 guest.rec --round 4294967295 --hart=3 --count 18446744073709551615 --every=0 --progress",
         Replay {
-            recording: "guest.rec",
             workers: 2,
             round: Some(4294967295),
             hart: 3,
-            count: Some(18446744073709551615),
-            place: Some(7),
+            count: 18446744073709551615,
             every: 0,
             progress: true,
+            ..REPLAY
         },
     ),
     (
-        "dethart replay guest.rec",
+        "dethart replay guest.rec --round 5",
         Replay {
-            recording: "guest.rec",
-            workers: 4,
-            round: None,
-            hart: 0,
-            count: None,
-            place: None,
-            every: 64,
-            progress: false,
+            round: Some(5),
+            ..REPLAY
+        },
+    ),
+    (
+        "dethart replay guest.rec --round 5 --how-many",
+        Replay {
+            round: Some(5),
+            how_many: true,
+            ..REPLAY
+        },
+    ),
+    (
+        "dethart replay guest.rec --place=7 --hart 2",
+        Replay {
+            hart: 2,
+            place: Some(7),
+            ..REPLAY
+        },
+    ),
+    (
+        "dethart replay guest.rec --count 1 --hart 2",
+        Replay {
+            hart: 2,
+            count: 1,
+            hart_is_unread: true,
+            count_is_unread: true,
+            ..REPLAY
         },
     ),
 ];
+
+/// What a line of `replay` says that has no option.
+const REPLAY: Replay<'static> = Replay {
+    recording: "guest.rec",
+    workers: 4,
+    round: None,
+    hart: 0,
+    count: 0,
+    how_many: false,
+    place: None,
+    every: 64,
+    progress: false,
+    hart_is_unread: false,
+    count_is_unread: false,
+};
 
 #[test]
 fn reads_replay(rt: HostRuntime) {
@@ -82,7 +117,7 @@ fn watch<'a>(alloc: Global, address: u64, length: u64) -> Watch<'a> {
 static WATCHED: [(&str, u64, u64); 5] = [
     ("dethart watch guest.rec 256 0", 256, 0),
     ("dethart watch guest.rec 0 1", 0, 1),
-    ("dethart watch guest.rec 00100 1", 100, 1),
+    ("dethart watch guest.rec 0x00000100 1", 256, 1),
     ("dethart watch guest.rec 0x100 1", 256, 1),
     (
         "dethart watch guest.rec 0xffffffffffffFFFF 1",

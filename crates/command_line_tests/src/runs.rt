@@ -1,11 +1,11 @@
 //! Lines that run a program by one plan.
 
-use crate::harness::{DEFAULTS, are_read, is_read};
+use crate::harness::{DEFAULT_PLAN, DEFAULTS, are_read, is_read};
 use command_line::{Command, Draw, PlanChoice, Print, Program, Record, Run, Shown};
 use std::test::Fail;
 
-/// Lines of `run`, with every option and with none, and what they say.
-static RUNS: [(&[&str], Print<'static>); 2] = [
+/// Lines of `run`, with the options beside each other that go together and with none, and what they say.
+static RUNS: [(&[&str], Print<'static>); 3] = [
     (
         &[
             "dethart",
@@ -27,9 +27,6 @@ static RUNS: [(&[&str], Print<'static>); 2] = [
             "50",
             "--input",
             "keys.txt",
-            "--plan-number",
-            "35",
-            "--seed=18446744073709551615",
             "--show",
             "harts",
             "--no-trace",
@@ -52,13 +49,36 @@ static RUNS: [(&[&str], Print<'static>); 2] = [
                     quota: "9 8 7",
                     file: Some("odd.txt"),
                     budget: 50,
-                    number: Some(35),
-                    seed: 18446744073709551615,
+                    quota_is_unread: true,
+                    ..DEFAULT_PLAN
                 },
             },
             show: Shown::Harts,
             no_trace: true,
             strict: true,
+        },
+    ),
+    (
+        &[
+            "dethart",
+            "run",
+            "guest.elf",
+            "--plan-number",
+            "35",
+            "--seed=18446744073709551615",
+        ],
+        Print {
+            run: Run {
+                plan: PlanChoice {
+                    number: Some(35),
+                    seed: 18446744073709551615,
+                    ..DEFAULT_PLAN
+                },
+                ..DEFAULTS
+            },
+            show: Shown::Report,
+            no_trace: false,
+            strict: false,
         },
     ),
     (

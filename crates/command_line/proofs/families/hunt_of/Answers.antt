@@ -1,7 +1,8 @@
-use Rattle.std.proofs.Common.{◌∙◌, ap, codes}
+use Rattle.std.proofs.Common.{◌∙◌, ap, codes, unwrap_or}
 use Rattle.clap.specs.Words.{found_of}
 use Rattle.clap.proofs.WalkLemmas.{one_text-rows}
 use Rattle.command_line.specs.Reading.{number_or}
+use Rattle.command_line.specs.declared.settings.FailOn.TheVariants as fail_on
 use Rattle.command_line.proofs.families.hunt_of.Goals as goal
 
 pub returns : goal.returns
@@ -11,4 +12,5 @@ returns c =
       search = c.in_ok-search.ensures;
       plans = c.number_of.ensures ∙ ap (number_or 1000) (one_text-rows f (codes "plans"));
       first = c.number_of-2.ensures ∙ ap (number_or 0) (one_text-rows f (codes "first"));
+      fail_on = c.unwrap_or.ensures ∙ ap (λ o. unwrap_or o fail_on.Differ) c.fail_on_given.ensures;
     }

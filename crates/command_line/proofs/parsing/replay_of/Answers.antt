@@ -2,7 +2,7 @@ use Rattle.std.proofs.Common.{◌∙◌, ap, codes}
 use Rattle.clap.specs.Words.{found_of}
 use Rattle.clap.proofs.WalkLemmas.{first_value-rows, one_text-rows}
 use Rattle.command_line.proofs.Texts.{text_or}
-use Rattle.command_line.specs.Reading.{number_given, number_or}
+use Rattle.command_line.specs.Reading.{number_given, number_or, wide_number_or}
 use Rattle.command_line.proofs.parsing.replay_of.Goals as goal
 
 pub returns : goal.returns
@@ -13,8 +13,11 @@ returns c =
       workers = c.number_of.ensures ∙ ap (number_or 4) (one_text-rows f (codes "workers"));
       round = c.number_given.ensures ∙ ap (number_given 32) (one_text-rows f (codes "round"));
       hart = c.number_of-2.ensures ∙ ap (number_or 0) (one_text-rows f (codes "hart"));
-      count = c.wide_given.ensures ∙ ap (number_given 64) (one_text-rows f (codes "count"));
-      place = c.wide_given-2.ensures ∙ ap (number_given 64) (one_text-rows f (codes "place"));
+      count = c.wide_number_of.ensures ∙ ap (wide_number_or 0) (one_text-rows f (codes "count"));
+      how_many = c.is_set.ensures;
+      place = c.wide_given.ensures ∙ ap (number_given 64) (one_text-rows f (codes "place"));
       every = c.number_of-3.ensures ∙ ap (number_or 64) (one_text-rows f (codes "every"));
       progress = (λ e. c.get_flag.ensures.value (one_text-rows f (codes "progress") ∙ e), λ e. c.get_flag.ensures.other (one_text-rows f (codes "progress") ∙ e), λ e. c.get_flag.ensures.none (one_text-rows f (codes "progress") ∙ e));
+      hart_is_unread = c.is_unread.ensures;
+      count_is_unread = c.is_unread-2.ensures;
     }

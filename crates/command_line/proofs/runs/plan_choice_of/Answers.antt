@@ -14,4 +14,5 @@ returns c =
       budget = c.number_of.ensures ∙ ap (number_or 1) (one_text-rows f (codes "budget"));
       number = c.number_given.ensures ∙ ap (number_given 32) (one_text-rows f (codes "plan-number"));
       seed = c.wide_number_of.ensures ∙ ap (wide_number_or 1) (one_text-rows f (codes "seed"));
+      quota_is_unread = c.quota_is_unread.ensures;
     }

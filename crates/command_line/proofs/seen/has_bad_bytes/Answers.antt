@@ -2,7 +2,8 @@ use Rattle.std.proofs.Common.{◌∙◌, ap, codes, unwrap_or, []}
 use Rattle.std.specs.List.{list_any}
 use Rattle.clap.specs.Words.{found_of}
 use Rattle.clap.proofs.WalkLemmas.{raw_values-rows}
-use Rattle.command_line.specs.Reading.{is_bad_pair, pairs}
+use Rattle.command_line.specs.Faults.{is_bad_pair}
+use Rattle.command_line.specs.Reading.{pairs}
 use Rattle.command_line.proofs.seen.has_bad_bytes.Goals as goal
 
 pub returns-in-Some : goal.returns-in-Some

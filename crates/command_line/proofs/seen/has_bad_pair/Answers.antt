@@ -1,7 +1,7 @@
 use Rattle.std.proofs.Common.{◌∙◌, ap, sym}
 use Rattle.std.specs.List.{list_any}
 use Rattle.command_line.proofs.Pairs.{no_pairs}
-use Rattle.command_line.specs.Reading.{is_bad_pair}
+use Rattle.command_line.specs.Faults.{is_bad_pair}
 use Rattle.command_line.proofs.seen.has_bad_pair.Goals as goal
 
 pub returns : goal.returns

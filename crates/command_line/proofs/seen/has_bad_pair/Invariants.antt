@@ -1,6 +1,7 @@
 use Rattle.std.proofs.Common.{◌≡◌, length, map}
 use Rattle.std.specs.List.{list_any}
-use Rattle.command_line.specs.Reading.{is_bad_pair, pairs}
+use Rattle.command_line.specs.Faults.{is_bad_pair}
+use Rattle.command_line.specs.Reading.{pairs}
 use Rattle.command_line.proofs.seen.has_bad_pair.Given as goal
 
 -- no text before these is bad
