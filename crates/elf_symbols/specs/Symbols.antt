@@ -1,6 +1,6 @@
 -- The objects that an ELF64 file's symbol table names (System V gABI, chapters "ELF Header", "Sections", "String Table" and
 -- "Symbol Table"), in a file that is little-endian.
-use Rattle.std.specs.Prelude.{ℕ, zero, suc, ◌+◌, ◌*◌, ◌/◌, ◌==◌, ◌&&◌, Bool, not, nat_le, nat_lt, if◌then◌else◌, bit_and, List, length, take, drop, slice_index, Option, Some, None, option_and_then}
+use Rattle.std.specs.Prelude.{ℕ, zero, suc, ◌+◌, ◌*◌, ◌/◌, ◌==◌, ◌&&◌, Bool, not, nat_le, nat_lt, if◌then◌else◌, bit_and, List, length, take, drop, slice_index, Option, Some, None, is_some, option_and_then}
 use Rattle.std.specs.Str.{bytes_eq}
 use Rattle.elf_loader.specs.ElfCauses.{has_magic, is_little_64, passes}
 use Rattle.elf_loader.specs.Segments.{field}
@@ -46,6 +46,10 @@ symbols_from file at (suc n) = if (section_at file at).kind == 2 then Some (sect
 
 abbrev pub symbols_of : List ℕ → Option Section
 symbols_of file = symbols_from file (headers_of file) (header_count_of file)
+
+-- the file has sections, and one of them is a symbol table
+abbrev pub has_symbol_table : List ℕ → Bool
+has_symbol_table file = has_sections file && is_some (symbols_of file)
 
 -- the section of this number, where it is of type SHT_STRTAB, 3
 abbrev pub strings_of : List ℕ → ℕ → Option Section

@@ -1,9 +1,16 @@
 ghost use Rattle.std.specs.Prelude.{◌≡◌};
-ghost use Rattle.elf_symbols.specs.Symbols.{object_of};
+ghost use Rattle.elf_symbols.specs.Symbols.{has_symbol_table, object_of};
 
 use crate::object::Object;
 use crate::section::{bytes_of, has_sections, strings_of, symbols_of};
 use crate::symbol::object_among;
+
+/// Whether an ELF64 file has a symbol table, as one that was stripped hasn't.
+pub fn has_symbol_table(file: &[u8]) -> bool
+    ensures { result ≡ has_symbol_table file.now }
+{
+    has_sections(file) && symbols_of(file).is_some()
+}
 
 /// The object of a name in the symbol table of an ELF64 file: of the symbols with this name, the first that is an object of
 /// one or more bytes. The name is given without the byte 0 that ends it in the file.

@@ -7,5 +7,5 @@ mod object;
 mod section;
 mod symbol;
 
-pub use finding::find_object;
+pub use finding::{find_object, has_symbol_table};
 pub use object::Object;
