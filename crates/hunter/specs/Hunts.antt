@@ -1,5 +1,5 @@
 -- What a hunt is asked for, and what its runs end in.
-use Rattle.std.specs.Prelude.{◌≡◌, ◌⊎◌, ℕ, ◌+◌, ◌*◌, ◌-◌, ◌^◌, ◌<◌, ◌≤◌, ◌==◌, ◌&&◌, ◌||◌, length, nat_lt, if◌then◌else◌, Bool, false, List, [], ◌∷◌, ◌++◌, map, take, drop, Option, Some, None}
+use Rattle.std.specs.Prelude.{◌≡◌, ◌⊎◌, ℕ, ◌+◌, ◌*◌, ◌-◌, ◌^◌, ◌<◌, ◌≤◌, ◌==◌, ◌&&◌, ◌||◌, length, nat_lt, if◌then◌else◌, Bool, true, false, List, [], ◌∷◌, ◌++◌, map, take, drop, Option, Some, None}
 use Rattle.std.specs.List.{list_all, list_any}
 use Rattle.elf_loader.specs.Causes.{IsLeast as IsLeastOfImage}
 use Rattle.elf_loader.specs.Image.{Loaded}
@@ -42,9 +42,13 @@ pub record IsHunt (s : HuntSettings) : Type 0 where
   pub some_plans : 1 ≤ s.header.count
   pub few_plans : s.header.first + s.header.count < 2 ^ 32
 
--- a byte of the range lies outside memory of so many pages
-abbrev pub is_outside : ℕ → SeenRange → Bool
-is_outside pages r = nat_lt (4096 * pages) (r.address + r.length)
+-- there is no byte in the range, or one of them lies outside memory of so many pages
+abbrev pub is_bad_range : ℕ → SeenRange → Bool
+is_bad_range pages r = nat_lt r.length 1 || nat_lt (4096 * pages) (r.address + r.length)
+
+-- a range whose bytes are to be seen is such a one
+abbrev pub has_bad_range : HuntSettings → Bool
+has_bad_range s = list_any (is_bad_range s.pages) s.header.ranges.items
 
 -- the refusal of what is out of range; of several, the one of the least number
 abbrev pub hunt_fault : HuntSettings → Option HuntError
@@ -53,8 +57,7 @@ hunt_fault s =
     else (if nat_lt s.pages 1 || nat_lt 16384 s.pages then Some (Run refusals.PagesOutOfRange)
     else (if nat_lt s.workers 1 || nat_lt 16 s.workers then Some (Run refusals.WorkersOutOfRange)
     else (if nat_lt s.header.count 1 || nat_lt (2 ^ 32 - 1 - s.header.first) s.header.count then Some PlansOutOfRange
-    else (if list_any (is_outside s.pages) s.header.ranges.items then Some SeenOutside
-    else None))))
+    else None)))
 
 -- the same where the plans are not looked at
 abbrev pub shrink_fault : HuntSettings → Option HuntError
@@ -62,8 +65,7 @@ shrink_fault s =
     if nat_lt s.harts 1 || nat_lt 64 s.harts then Some (Run refusals.HartsOutOfRange)
     else (if nat_lt s.pages 1 || nat_lt 16384 s.pages then Some (Run refusals.PagesOutOfRange)
     else (if nat_lt s.workers 1 || nat_lt 16 s.workers then Some (Run refusals.WorkersOutOfRange)
-    else (if list_any (is_outside s.pages) s.header.ranges.items then Some SeenOutside
-    else None)))
+    else None))
 
 -- ---- endings
 
@@ -104,6 +106,14 @@ has_exited (Some s) = s.code == 1
 abbrev pub is_one_exit : List Row → Bool
 is_one_exit rows = (length rows == 1) && list_all (λ (r : Row). list_all has_exited r.ending.stops) rows
 
+abbrev pub ends_well : Option Stop → Bool
+ends_well None = false
+ends_well (Some s) = (s.code == 1) && (s.value == 0)
+
+-- in each ending each hart exited with 0: none runs on, was stopped by a fault, or exited with another value
+abbrev pub all_end_well : List Row → Bool
+all_end_well rows = list_all (λ (r : Row). list_all ends_well r.ending.stops) rows
+
 -- ---- refusals
 
 -- the cause of the least number that speaks against the file
@@ -112,4 +122,6 @@ IsImageCause s file cause = IsLeastOfImage (StandsIn s.format file s.pages) caus
 
 -- a reason that stands to refuse the hunt, or want of memory
 abbrev pub IsHuntReason : HuntSettings → List ℕ → HuntError → Type 0
-IsHuntReason s file e = (e ≡ Run refusals.OutOfMemory) ⊎ ((cause : ImageCause) × IsImageCause s file cause × (e ≡ Run (refusals.Image cause)))
+IsHuntReason s file e = (e ≡ Run refusals.OutOfMemory)
+    ⊎ (((cause : ImageCause) × IsImageCause s file cause × (e ≡ Run (refusals.Image cause)))
+    ⊎ ((has_bad_range s ≡ true) × (e ≡ SeenOutside)))

@@ -15,8 +15,8 @@ pub enum HuntError {
     /// There is no plan, or a plan has a number over 4,294,967,294.
     #[error("a hunt has 1 or more plans, with numbers up to 4294967294")]
     PlansOutOfRange,
-    /// A byte that is looked at lies outside guest memory.
-    #[error("a byte that is to be seen lies outside memory")]
+    /// A range of bytes that is looked at is empty, or one of its bytes lies outside guest memory.
+    #[error("a range of bytes that is to be seen is empty, or isn't all in guest memory")]
     SeenOutside,
 }
 

@@ -1,17 +1,17 @@
-ghost use Rattle.std.specs.Prelude.{◌≡◌, ◌⊎◌, ◌<◌, ◌++◌, Err, IfErr, IfOk, None, OnErr, OnOk, Some, List};
+ghost use Rattle.std.specs.Prelude.{◌≡◌, ◌⊎◌, ◌<◌, ◌++◌, Err, IfErr, IfOk, None, OnErr, Some, List, false};
 ghost use Rattle.std.specs.List.{list_all};
 ghost use Rattle.host_io.specs.declared.load_error.LoadError.{LoadError as ImageCause};
 ghost use Rattle.host_io.specs.Taken.{BeganText};
 ghost use Rattle.host_io.specs.declared.error.RunError.TheVariants as refusals;
 ghost use Rattle.hunt_table.specs.Text.{table_text};
 ghost use Rattle.plan_hunt.specs.declared.row.Row.{Row as TableRow};
-ghost use Rattle.hunter.specs.Hunts.{IsHuntReason, IsHunted, IsImageCause, hunt_fault, is_one_exit, has_exited};
+ghost use Rattle.hunter.specs.Hunts.{IsHuntReason, IsHunted, IsImageCause, all_end_well, ends_well, has_bad_range, has_exited, hunt_fault, is_one_exit};
 ghost use Rattle.hunter.specs.declared.error.HuntError.{HuntError as Refusal};
 ghost use Rattle.hunter.specs.declared.error.HuntError.TheVariants.{Run};
 
 use crate::error::HuntError;
 use crate::guest::Guest;
-use crate::settings::{HuntSettings, check_hunt};
+use crate::settings::{HuntSettings, check_hunt, check_ranges};
 use hart_step::Stop;
 use host_io::Sink;
 use hunt_table::write_table;
@@ -25,7 +25,7 @@ use std::thread::Threads;
 ///
 /// # Errors
 ///
-/// The refusals of the settings, then of the image; `OutOfMemory`. No plan of a family is refused.
+/// The refusals of the settings, then of the image, then of the ranges; `OutOfMemory`. No plan of a family is refused.
 pub fn tabulate_hunt<O: HuntObserver, R: Threads + Wait + Sync>(
     rt: &R,
     alloc: Global,
@@ -41,9 +41,11 @@ pub fn tabulate_hunt<O: HuntObserver, R: Threads + Wait + Sync>(
     ensures image { (cause : ImageCause) → hunt_fault settings.now ≡ None →
         IsImageCause settings.now image.now cause →
         (result ≡ Err (Run (refusals.Image cause))) ⊎ (result ≡ Err (Run refusals.OutOfMemory)) }
+    ensures ranges { IfOk result (λ _. has_bad_range settings.now ≡ false) }
 {
     check_hunt(settings)?;
     let guest = Guest::load(alloc, image, input, settings)?;
+    check_ranges(settings)?;
     Ok(tabulate(
         rt,
         alloc,
@@ -81,18 +83,48 @@ fn have_all_exited(rows: &[Row]) -> bool
     true
 }
 
-fn is_one_exit(rows: &[Row]) -> bool
+/// Whether there is one ending in a table, in which all harts exited.
+pub fn is_one_exit(rows: &[Row]) -> bool
     ensures { result ≡ is_one_exit rows.now }
 {
     rows.len() == 1 && have_all_exited(rows)
 }
 
-/// Runs a guest under the plans of a hunt, and writes the table of the endings that they lead to. It answers whether there
-/// is one ending, in which all harts exited. The observer looks on between two blocks of plans.
+fn ends_well(stop: Option<Stop>) -> bool
+    ensures { result ≡ ends_well stop }
+{
+    match stop {
+        None => false,
+        Some(stop) => stop.code == 1 && stop.value == 0,
+    }
+}
+
+fn end_well(stops: &[Option<Stop>]) -> bool
+    ensures { result ≡ list_all ends_well stops.now }
+{
+    stops.iter().all(|stop| ends_well(*stop))
+}
+
+/// Whether in each ending of a table each hart exited with 0: none runs on, was stopped by a fault, or exited with another
+/// value.
+pub fn all_end_well(rows: &[Row]) -> bool
+    ensures { result ≡ all_end_well rows.now }
+{
+    for row in rows {
+        if !end_well(row.ending.stops()) {
+            return false;
+        }
+    }
+    true
+}
+
+/// Runs a guest under the plans of a hunt, writes the table of the endings that they lead to, and answers its rows. The
+/// observer looks on between two blocks of plans.
 ///
 /// # Errors
 ///
-/// The refusals of the settings, then of the image; `OutOfMemory`; `SinkFailed`. Nothing is written before all runs are done.
+/// The refusals of the settings, then of the image, then of the ranges; `OutOfMemory`; `SinkFailed`. Nothing is written before
+/// all runs are done.
 pub fn hunt<S: Sink, O: HuntObserver, R: Threads + Wait + Sync>(
     rt: &R,
     alloc: Global,
@@ -101,11 +133,10 @@ pub fn hunt<S: Sink, O: HuntObserver, R: Threads + Wait + Sync>(
     settings: &HuntSettings,
     observer: &mut O,
     out: &mut S,
-) -> Result<bool, HuntError>
-    // The sink took the table of the runs that the definitions name, and the answer is that of the table.
-    ensures hunts { IfOk result (λ exits.
-        (rows : List TableRow) × IsHunted settings.now image.now input.now rows × (S.took out.new ≡
-        S.took out.old ++ table_text settings.now.header rows) × (exits ≡ is_one_exit rows)) }
+) -> Result<Vec<Row>, HuntError>
+    // The rows are the table of the runs that the definitions name, and the sink took its text.
+    ensures hunts { IfOk result (λ rows. IsHunted settings.now image.now input.now rows.items ×
+        (S.took out.new ≡ S.took out.old ++ table_text settings.now.header rows.items)) }
     // Else it took nothing, or a beginning of that table.
     ensures begun { OnErr result ((S.took out.new ≡ S.took out.old) ⊎
         ((rows : List TableRow) × IsHunted settings.now image.now input.now rows ×
@@ -122,8 +153,10 @@ pub fn hunt<S: Sink, O: HuntObserver, R: Threads + Wait + Sync>(
     ensures image { (cause : ImageCause) → hunt_fault settings.now ≡ None →
         IsImageCause settings.now image.now cause →
         (result ≡ Err (Run (refusals.Image cause))) ⊎ (result ≡ Err (Run refusals.OutOfMemory)) }
+    // No hunt looks at a range that is empty, or not all in memory.
+    ensures ranges { IfOk result (λ _. has_bad_range settings.now ≡ false) }
 {
     let rows = tabulate_hunt(rt, alloc, image, input, settings, observer)?;
     write_table(alloc, &settings.header, &rows, out)?;
-    Ok(is_one_exit(&rows))
+    Ok(rows)
 }

@@ -8,7 +8,7 @@ mod settings;
 mod shrinking;
 
 pub use error::HuntError;
-pub use hunting::{hunt, tabulate_hunt};
+pub use hunting::{all_end_well, hunt, is_one_exit, tabulate_hunt};
 pub use plan_hunt::{HuntObserver, UnobservedHunt};
 pub use plan_shrink::{ShrinkObserver, UnobservedShrink};
 pub use settings::HuntSettings;

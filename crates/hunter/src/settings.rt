@@ -1,6 +1,7 @@
-ghost use Rattle.std.specs.Prelude.{◌≡◌, ◌+◌, ◌*◌, IfOk, IfErr, None, Some, nat_lt};
+ghost use Rattle.std.specs.Prelude.{◌≡◌, IfOk, IfErr, None, Some, false, true};
 ghost use Rattle.std.specs.List.{list_any};
-ghost use Rattle.hunter.specs.Hunts.{IsGuest, IsHunt, hunt_fault, is_outside, shrink_fault};
+ghost use Rattle.hunter.specs.Hunts.{IsGuest, IsHunt, has_bad_range, hunt_fault, is_bad_range, shrink_fault};
+ghost use Rattle.hunter.specs.declared.error.HuntError.TheVariants.{SeenOutside};
 
 use crate::error::HuntError;
 use host_io::RunError;
@@ -26,11 +27,23 @@ pub struct HuntSettings {
     pub header: Header,
 }
 
-fn is_outside(ranges: &[SeenRange], pages: u32) -> bool
-    ensures { result ≡ list_any (is_outside pages) ranges.now }
+/// Whether a range is empty, or has a byte outside memory of so many pages.
+fn has_bad_range(ranges: &[SeenRange], pages: u32) -> bool
+    ensures { result ≡ list_any (is_bad_range pages) ranges.now }
 {
-    ranges.iter().any(|range| u64::from(range.address) + u64::from(range.length)
-        > 4096 * u64::from(pages))
+    ranges.iter().any(|range| range.length < 1
+        || u64::from(range.address) + u64::from(range.length) > 4096 * u64::from(pages))
+}
+
+/// Refuses an empty range, and one that has a byte outside memory.
+pub(crate) fn check_ranges(settings: &HuntSettings) -> Result<(), HuntError>
+    ensures ok { IfOk result (λ _. has_bad_range settings.now ≡ false) }
+    ensures err { IfErr result (λ e. (has_bad_range settings.now ≡ true) × (e ≡ SeenOutside)) }
+{
+    if has_bad_range(&settings.header.ranges, settings.pages) {
+        return Err(HuntError::SeenOutside);
+    }
+    Ok(())
 }
 
 /// Refuses harts, pages or workers that are out of range.
@@ -63,9 +76,6 @@ pub(crate) fn check_hunt(settings: &HuntSettings) -> Result<(), HuntError>
     if count < 1 || count > u32::MAX - first {
         return Err(HuntError::PlansOutOfRange);
     }
-    if is_outside(&settings.header.ranges, settings.pages) {
-        return Err(HuntError::SeenOutside);
-    }
     Ok(())
 }
 
@@ -75,9 +85,5 @@ pub(crate) fn check_shrink(settings: &HuntSettings) -> Result<(), HuntError>
     ensures range { IfOk result (λ _. IsGuest settings.now) }
     ensures err { IfErr result (λ e. shrink_fault settings.now ≡ Some e) }
 {
-    check_guest(settings)?;
-    if is_outside(&settings.header.ranges, settings.pages) {
-        return Err(HuntError::SeenOutside);
-    }
-    Ok(())
+    check_guest(settings)
 }

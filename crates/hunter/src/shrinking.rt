@@ -1,15 +1,15 @@
-ghost use Rattle.std.specs.Prelude.{◌≡◌, ◌⊎◌, Err, IfErr, IfOk, None, Some};
+ghost use Rattle.std.specs.Prelude.{◌≡◌, ◌⊎◌, Err, IfErr, IfOk, None, Some, false};
 ghost use Rattle.host_io.specs.declared.load_error.LoadError.{LoadError as ImageCause};
 ghost use Rattle.host_io.specs.declared.error.RunError.TheVariants as refusals;
 ghost use Rattle.plan_family.specs.Families.{family_plan};
 ghost use Rattle.plan_shrink.specs.Steps.{IsShrunk};
-ghost use Rattle.hunter.specs.Hunts.{IsHuntReason, IsImageCause, ends_from, ends_under, family_of, shrink_fault};
+ghost use Rattle.hunter.specs.Hunts.{IsHuntReason, IsImageCause, ends_from, ends_under, family_of, has_bad_range, shrink_fault};
 ghost use Rattle.hunter.specs.declared.error.HuntError.{HuntError as Refusal};
 ghost use Rattle.hunter.specs.declared.error.HuntError.TheVariants.{Run};
 
 use crate::error::HuntError;
 use crate::guest::Guest;
-use crate::settings::{HuntSettings, check_shrink};
+use crate::settings::{HuntSettings, check_ranges, check_shrink};
 use pages::OutOfMemory;
 use plan_family::serial_budget;
 use plan_shrink::ShrinkObserver;
@@ -25,7 +25,7 @@ use std::thread::Threads;
 ///
 /// # Errors
 ///
-/// The refusals of the settings, then of the image; `OutOfMemory`.
+/// The refusals of the settings, then of the image, then of the ranges; `OutOfMemory`.
 pub fn shrink<O: ShrinkObserver, R: Threads + Wait + Sync>(
     rt: &R,
     alloc: Global,
@@ -46,9 +46,11 @@ pub fn shrink<O: ShrinkObserver, R: Threads + Wait + Sync>(
     ensures image { (cause : ImageCause) → shrink_fault settings.now ≡ None →
         IsImageCause settings.now image.now cause →
         (result ≡ Err (Run (refusals.Image cause))) ⊎ (result ≡ Err (Run refusals.OutOfMemory)) }
+    ensures ranges { IfOk result (λ _. has_bad_range settings.now ≡ false) }
 {
     check_shrink(settings)?;
     let guest = Guest::load(alloc, image, input, settings)?;
+    check_ranges(settings)?;
     Ok(shrunk(rt, &guest, number, observer)?)
 }
 
