@@ -1,8 +1,12 @@
 -- The exit status.
-use Rattle.std.specs.Prelude.{◌≡◌, ℕ, ⊤}
+use Rattle.std.specs.Prelude.{◌≡◌, ℕ, ⊤, Bool, false, not, List}
+use Rattle.command_line.specs.declared.settings.FailOn.{FailOn}
+use Rattle.command_line.specs.declared.settings.FailOn.TheVariants.{Bad, Differ, Never}
 use Rattle.host_io.specs.declared.error.RunError.TheVariants as refusals
+use Rattle.hunter.specs.Hunts.{all_end_well, is_one_exit}
+use Rattle.plan_hunt.specs.declared.row.Row.{Row}
 use Rattle.dethart.specs.declared.failure.Failure.{Failure}
-use Rattle.dethart.specs.declared.failure.Failure.TheVariants.{Hunt, Line, Merge, NoFile, NoObject, NotText, Plan, ReaderGone, Refused, TooLarge, Unread}
+use Rattle.dethart.specs.declared.failure.Failure.TheVariants.{Hunt, Line, Merge, NoFile, NoObject, NoSymbols, NotText, Plan, ReaderGone, Refused, TooLarge, Unread, Unwritten}
 use Rattle.dethart.specs.declared.printing.Answer.{Answer}
 use Rattle.dethart.specs.declared.printing.Answer.TheVariants.{Done, Differs, Doubtful}
 
@@ -10,19 +14,21 @@ use Rattle.dethart.specs.declared.printing.Answer.TheVariants.{Done, Differs, Do
 abbrev pub status_of : Failure → ℕ
 status_of (Refused error) = 1
 status_of (Plan error line) = 1
-status_of (NoFile path) = 1
+status_of (NoFile path reason) = 1
+status_of (Unwritten path) = 1
 status_of (TooLarge path) = 1
 status_of (Unread error) = 1
 status_of (Hunt error) = 1
 status_of (Merge error) = 1
-status_of (NoObject name) = 1
+status_of (NoObject name others) = 1
+status_of (NoSymbols name) = 1
 status_of ReaderGone = 1
 status_of (Line error) = 2
 status_of NotText = 2
 
 -- a file couldn't be read or is too large, or memory was refused
 abbrev pub IsNoFile : Failure → Type 0
-IsNoFile (NoFile path) = ⊤
+IsNoFile (NoFile path reason) = ⊤
 IsNoFile (TooLarge path) = ⊤
 IsNoFile (Refused error) = error ≡ refusals.OutOfMemory
 IsNoFile failure = ⊥
@@ -32,3 +38,9 @@ abbrev pub answer_status : Answer → ℕ
 answer_status Done = 0
 answer_status Differs = 3
 answer_status Doubtful = 4
+
+-- a hunt with this table is doubtful
+abbrev pub is_doubtful : FailOn → List Row → Bool
+is_doubtful Differ rows = not (is_one_exit rows)
+is_doubtful Bad rows = not (all_end_well rows)
+is_doubtful Never rows = false

@@ -11,6 +11,19 @@ use replayer::ReadError;
 use std::alloc::{AllocError, AllocFailed};
 use std::io;
 
+/// Why a file couldn't be opened or read.
+#[derive(Clone, Copy, Debug, PartialEq, Eq, Drop)]
+pub(crate) enum Unreadable {
+    /// There is none of its path.
+    NotFound,
+    /// Who runs the program may not read it.
+    NoPermission,
+    /// It is a folder.
+    Folder,
+    /// Another reason.
+    Other,
+}
+
 /// Why the program ends without what it was asked for.
 #[derive(Debug, Drop)]
 pub(crate) enum Failure {
@@ -23,17 +36,21 @@ pub(crate) enum Failure {
     /// The run was refused for its plan, of which this line is bad.
     Plan(RunError, BadLine),
     /// The file of this path couldn't be opened or read.
-    NoFile(String),
+    NoFile(String, Unreadable),
     /// The file of this path has more bytes than are read of a file.
     TooLarge(String),
+    /// The file of this path couldn't be made or written.
+    Unwritten(String),
     /// The file is no recording.
     Unread(ReadError),
     /// The hunt was refused.
     Hunt(HuntError),
     /// The tables weren't merged.
     Merge(MergeError),
-    /// The image has no symbol of an object of this name.
-    NoObject(String),
+    /// The image's symbol table has no object of this name; the second text names those that it has of a like name.
+    NoObject(String, String),
+    /// The image has no symbol table, and so no object of this name.
+    NoSymbols(String),
     /// What reads standard output has gone, as `head` does.
     ReaderGone,
 }
@@ -110,12 +127,13 @@ impl Failure {
         match self {
             Failure::Line(_) | Failure::NotText | Failure::ReaderGone => None,
             Failure::Refused(error) | Failure::Plan(error, _) => Some(error.number()),
-            Failure::NoFile(_) => Some(RunError::SourceFailed.number()),
+            Failure::NoFile(_, _) => Some(RunError::SourceFailed.number()),
+            Failure::Unwritten(_) => Some(RunError::SinkFailed.number()),
             Failure::TooLarge(_) => Some(62),
             Failure::Unread(error) => Some(error.number()),
             Failure::Hunt(error) => Some(error.number()),
             Failure::Merge(error) => Some(error.number()),
-            Failure::NoObject(_) => Some(75),
+            Failure::NoObject(_, _) | Failure::NoSymbols(_) => Some(75),
         }
     }
 
@@ -129,13 +147,33 @@ impl Failure {
             Failure::NotText => eprintln!(rt; "error: an argument isn't UTF-8"),
             Failure::Refused(error) => eprintln!(rt; "{error}"),
             Failure::Plan(error, line) => eprintln!(rt; "{error}\n{line}"),
-            Failure::NoFile(path) => eprintln!(rt; "the file {path} couldn't be opened or read"),
+            Failure::NoFile(path, Unreadable::NotFound) => {
+                eprintln!(rt; "there is no file {path}")
+            }
+            Failure::NoFile(path, Unreadable::NoPermission) => {
+                eprintln!(rt; "there is no permission to read the file {path}")
+            }
+            Failure::NoFile(path, Unreadable::Folder) => {
+                eprintln!(rt; "{path} is a folder, and no file")
+            }
+            Failure::NoFile(path, Unreadable::Other) => {
+                eprintln!(rt; "the file {path} couldn't be opened or read")
+            }
+            Failure::Unwritten(path) => {
+                eprintln!(rt; "the file {path} couldn't be made or written")
+            }
             Failure::TooLarge(path) => eprintln!(rt; "the file {path} has more than 1 GiB"),
             Failure::Unread(error) => eprintln!(rt; "{error}"),
             Failure::Hunt(error) => eprintln!(rt; "{error}"),
             Failure::Merge(error) => eprintln!(rt; "{error}"),
-            Failure::NoObject(name) => {
+            Failure::NoObject(name, others) if others.is_empty() => {
                 eprintln!(rt; "the image's symbol table has no object {name}")
+            }
+            Failure::NoObject(name, others) => {
+                eprintln!(rt; "the image's symbol table has no object {name}, but {others}")
+            }
+            Failure::NoSymbols(name) => {
+                eprintln!(rt; "the image has no symbol table, which would say where {name} is")
             }
             Failure::ReaderGone => Ok(()),
         }

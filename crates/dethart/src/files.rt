@@ -2,7 +2,7 @@
 ghost use Rattle.std.specs.Prelude.{IfErr};
 ghost use Rattle.dethart.specs.Status.{IsNoFile};
 
-use crate::failure::Failure;
+use crate::failure::{Failure, Unreadable};
 use command_line::Program;
 use host_io::{ReadSource, RunError, read_all};
 use pages::MOST_PAGES;
@@ -62,7 +62,33 @@ fn open(rt: &HostRuntime, path: &str) -> Result<File, Failure>
         Err(error) if error.kind() == io::ErrorKind::OutOfMemory => {
             Err(Failure::Refused(RunError::OutOfMemory))
         }
-        Err(_) => Err(Failure::NoFile(String::from_str(rt.alloc(), path)?)),
+        Err(error) => Err(no_file(
+            rt,
+            path,
+            match error.kind() {
+                io::ErrorKind::NotFound => Unreadable::NotFound,
+                io::ErrorKind::PermissionDenied => Unreadable::NoPermission,
+                _ => Unreadable::Other,
+            },
+        )),
+    }
+}
+
+/// The failure of a file that can't be opened or read for this reason.
+fn no_file(rt: &HostRuntime, path: &str, reason: Unreadable) -> Failure
+    ensures { IsNoFile result }
+{
+    match String::from_str(rt.alloc(), path) {
+        Ok(path) => Failure::NoFile(path, reason),
+        Err(_) => Failure::Refused(RunError::OutOfMemory),
+    }
+}
+
+/// Why the file at a path, which was opened, can't be read.
+fn unreadable(rt: &HostRuntime, path: &str) -> Unreadable {
+    match fs::metadata(rt, path) {
+        Ok(found) if found.is_dir() => Unreadable::Folder,
+        _ => Unreadable::Other,
     }
 }
 
@@ -73,7 +99,7 @@ fn read_up<R: Read + Drop>(rt: &HostRuntime, path: &str, reader: R) -> Result<Ve
     match read_all(rt.alloc(), &mut ReadSource::new(reader)) {
         Ok(bytes) => Ok(bytes),
         Err(RunError::OutOfMemory) => Err(Failure::Refused(RunError::OutOfMemory)),
-        Err(_) => Err(Failure::NoFile(String::from_str(rt.alloc(), path)?)),
+        Err(_) => Err(no_file(rt, path, unreadable(rt, path))),
     }
 }
 

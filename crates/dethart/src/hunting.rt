@@ -3,26 +3,29 @@
 use crate::failure::Failure;
 use crate::files::{ProgramFiles, read_file, read_program};
 use crate::progress::Progress;
-use crate::ranges::{named_bytes, seen_ranges};
+use crate::ranges::{NamedBytes, named_bytes, seen_ranges};
 use crate::run::format_of;
 use command_line::{Hunt, Merge, Search, Shrink};
 use host_io::{WriteSink, put_all};
-use hunt_table::{Header, merge};
+use hunt_table::{Header, SeenRange, merge};
 use hunter::{HuntSettings, hunt, shrink};
-use std::alloc::Global;
+use plan_hunt::Row;
+use std::alloc::{AllocError, Global};
 use std::io::Write;
 use std::sync::Wait;
 use std::thread::Threads;
 
-/// Hunts, and writes the table of endings. Answers whether there is one ending, in which all harts exited.
+/// Hunts, and writes the table of endings. Answers its rows.
 pub(crate) fn write_hunt<R: Threads + Wait + Sync, W: Write>(
     rt: &HostRuntime,
     threads: &R,
     asked: &Hunt<'_>,
     out: &mut W,
-) -> Result<bool, Failure> {
+) -> Result<Vec<Row>, Failure> {
     let files = read_program(rt, &asked.search.program)?;
-    let settings = settings_of(rt.alloc(), &asked.search, &files, asked.first, asked.plans)?;
+    let named = named_in(rt.alloc(), &asked.search, &files)?;
+    let ranges = seen_ranges(rt.alloc(), &named.bytes)?;
+    let settings = settings_of(&asked.search, ranges, asked.first, asked.plans);
     let mut progress = Progress::new(rt, asked.search.program.progress, asked.plans);
     let answer = hunt(
         threads,
@@ -34,7 +37,7 @@ pub(crate) fn write_hunt<R: Threads + Wait + Sync, W: Write>(
         &mut WriteSink::new(out),
     );
     progress.end();
-    Ok(answer?)
+    named.explain(answer)
 }
 
 /// Looks for a smaller plan that leads to the same ending, and writes it. Answers its budget, which is no part of the text.
@@ -45,7 +48,9 @@ pub(crate) fn write_shrunk<R: Threads + Wait + Sync, W: Write>(
     out: &mut W,
 ) -> Result<u32, Failure> {
     let files = read_program(rt, &asked.search.program)?;
-    let settings = settings_of(rt.alloc(), &asked.search, &files, asked.plan_number, 1)?;
+    let named = named_in(rt.alloc(), &asked.search, &files)?;
+    let ranges = seen_ranges(rt.alloc(), &named.bytes)?;
+    let settings = settings_of(&asked.search, ranges, asked.plan_number, 1);
     let mut progress = Progress::new(rt, asked.search.program.progress, 0);
     let answer = shrink(
         threads,
@@ -57,7 +62,7 @@ pub(crate) fn write_shrunk<R: Threads + Wait + Sync, W: Write>(
         &mut progress,
     );
     progress.end();
-    let plan = answer?;
+    let plan = named.explain(answer)?;
     put_all(&mut WriteSink::new(out), plan.text(rt.alloc())?.as_slice())?;
     Ok(plan.budget())
 }
@@ -75,17 +80,30 @@ pub(crate) fn write_merged<W: Write>(
     Ok(merge(rt.alloc(), &texts, &mut WriteSink::new(out))?)
 }
 
-/// What the line says of a hunt by so many plans from a first one on.
-fn settings_of(
+/// The bytes that are looked at when a run ends.
+fn named_in(
     alloc: Global,
     search: &Search<'_>,
     files: &ProgramFiles,
+) -> Result<NamedBytes, AllocError> {
+    named_bytes(
+        alloc,
+        &files.image,
+        search.program.pages,
+        &search.seen,
+        &search.objects,
+    )
+}
+
+/// What the line says of a hunt by so many plans from a first one on, with the ranges that are looked at when a run ends.
+fn settings_of(
+    search: &Search<'_>,
+    ranges: Vec<SeenRange>,
     first: u32,
     count: u32,
-) -> Result<HuntSettings, Failure> {
+) -> HuntSettings {
     let program = &search.program;
-    let named = named_bytes(alloc, &files.image, &search.seen, &search.objects)?;
-    Ok(HuntSettings {
+    HuntSettings {
         format: format_of(program),
         harts: program.harts,
         pages: program.pages,
@@ -95,7 +113,7 @@ fn settings_of(
             seed: search.seed,
             first,
             count,
-            ranges: seen_ranges(alloc, &named)?,
+            ranges,
         },
-    })
+    }
 }

@@ -14,10 +14,12 @@ mod printing;
 mod progress;
 mod ranges;
 mod recordings;
+mod repeating;
 mod run;
 mod saving;
+mod unread;
 
-use command_line::{Command, parse_line};
+use command_line::{Command, asked_by_options, parse_line};
 use failure::Failure;
 use line::{answer_line, arguments, texts_of};
 use printing::{
@@ -28,6 +30,7 @@ use recordings::{make_recording, migrate_file};
 use std::process::ExitCode;
 use std::sync::Wait;
 use std::thread::Threads;
+use unread::tell_unread;
 
 fn main(rt: HostRuntime) -> ExitCode {
     match start(&rt, &rt) {
@@ -44,8 +47,12 @@ fn main(rt: HostRuntime) -> ExitCode {
 fn start<R: Threads + Wait + Sync>(rt: &HostRuntime, threads: &R) -> Result<Answer, Failure> {
     let arguments = arguments(rt)?;
     let words = texts_of(rt.alloc(), arguments.as_slice())?;
+    let words = asked_by_options(rt.alloc(), words.as_slice())?;
     match parse_line(rt.alloc(), words.as_slice()) {
-        Ok(command) => obey(rt, threads, &command),
+        Ok(command) => {
+            tell_unread(rt, &command);
+            obey(rt, threads, &command)
+        }
         Err(error) => {
             answer_line(rt, error)?;
             Ok(Answer::Done)

@@ -2,10 +2,12 @@
 
 use crate::failure::Failure;
 use crate::ranges::{access_ranges, named_bytes};
-use crate::run::{guest_files, progress_of, read_run, settings_of};
-use command_line::Draw;
+use crate::run::{RunFiles, guest_files, progress_of, read_run, settings_of};
+use command_line::{Draw, Program};
 use drawing::{View, draw_run};
 use host_io::WriteSink;
+use machine::prepare;
+use std::alloc::Global;
 use std::io::Write;
 use std::sync::Wait;
 use std::thread::Threads;
@@ -21,10 +23,15 @@ pub(crate) fn write_drawing<R: Threads + Wait + Sync, W: Write>(
     let named = named_bytes(
         rt.alloc(),
         &files.program.image,
+        asked.run.program.pages,
         &asked.seen,
         &asked.objects,
     )?;
-    let ranges = access_ranges(rt.alloc(), &named)?;
+    if let Some(fault) = named.fault {
+        refuse_run(rt.alloc(), &asked.run.program, &files)?;
+        return Err(fault);
+    }
+    let ranges = access_ranges(rt.alloc(), &named.bytes)?;
     let view = View {
         ranges: ranges.as_slice(),
         from: asked.from.unwrap_or(0),
@@ -44,4 +51,12 @@ pub(crate) fn write_drawing<R: Threads + Wait + Sync, W: Write>(
     files
         .plan
         .explain(rt.alloc(), asked.run.program.harts, answer)
+}
+
+/// Refuses the settings of a run, then its image, then its plan.
+fn refuse_run(alloc: Global, program: &Program<'_>, files: &RunFiles) -> Result<(), Failure> {
+    let settings = settings_of(program, &files.plan);
+    let prepared = prepare(alloc, &files.program.image, &files.program.input, &settings);
+    let _machine = files.plan.explain(alloc, program.harts, prepared)?;
+    Ok(())
 }

@@ -1,6 +1,6 @@
 //! What the commands print to standard output, and the exit status that goes with it.
 ghost use Rattle.std.specs.Prelude.{◌≡◌};
-ghost use Rattle.dethart.specs.Status.{answer_status};
+ghost use Rattle.dethart.specs.Status.{answer_status, is_doubtful};
 
 use crate::failure::Failure;
 use crate::hunting::{write_hunt, write_merged, write_shrunk};
@@ -8,8 +8,11 @@ use crate::output::{finish, standard_output};
 use crate::pictures::write_drawing;
 use crate::plans::write_plan;
 use crate::recordings::{Replayed, write_replay, write_watch};
+use crate::repeating::{tell_endings, tell_plan, tell_shrunk};
 use crate::run::{write_order_of, write_run};
-use command_line::{Draw, Hunt, Merge, Plan, Print, Replay, Run, Shrink, Watch};
+use command_line::{Draw, FailOn, Hunt, Merge, Plan, Print, Replay, Run, Shrink, Watch};
+use hunter::{all_end_well, is_one_exit};
+use plan_hunt::Row;
 use std::sync::Wait;
 use std::thread::Threads;
 
@@ -91,6 +94,17 @@ pub(crate) fn print_watch<R: Threads + Wait + Sync>(
     Ok(Answer::Done)
 }
 
+/// Whether a hunt with this table is doubtful.
+fn is_doubtful(fail_on: FailOn, rows: &[Row]) -> bool
+    ensures { result ≡ is_doubtful fail_on rows.now }
+{
+    match fail_on {
+        FailOn::Differ => !is_one_exit(rows),
+        FailOn::Bad => !all_end_well(rows),
+        FailOn::Never => false,
+    }
+}
+
 /// Runs the guest program by many plans, and prints the table of its endings.
 pub(crate) fn print_hunt<R: Threads + Wait + Sync>(
     rt: &HostRuntime,
@@ -99,11 +113,12 @@ pub(crate) fn print_hunt<R: Threads + Wait + Sync>(
 ) -> Result<Answer, Failure> {
     let mut out = standard_output(rt)?;
     let written = write_hunt(rt, threads, asked, &mut out);
-    let is_one_exit = finish(out, written)?;
-    Ok(if is_one_exit {
-        Answer::Done
-    } else {
+    let rows = finish(out, written)?;
+    let _untold = tell_endings(rt, asked, &rows);
+    Ok(if is_doubtful(asked.fail_on, &rows) {
         Answer::Doubtful
+    } else {
+        Answer::Done
     })
 }
 
@@ -116,7 +131,7 @@ pub(crate) fn print_shrunk<R: Threads + Wait + Sync>(
     let mut out = standard_output(rt)?;
     let written = write_shrunk(rt, threads, asked, &mut out);
     let budget = finish(out, written)?;
-    let _unwritten = eprintln!(rt; "budget {budget}");
+    let _untold = tell_shrunk(rt, asked, budget);
     Ok(Answer::Done)
 }
 
@@ -133,8 +148,7 @@ pub(crate) fn print_plan(rt: &HostRuntime, asked: &Plan) -> Result<Answer, Failu
     let mut out = standard_output(rt)?;
     let written = write_plan(rt.alloc(), asked, &mut out);
     let budget = finish(out, written)?;
-    // The plan is out, so it is no failure where standard error takes nothing.
-    let _unwritten = eprintln!(rt; "budget {budget}");
+    tell_plan(rt, asked, budget);
     Ok(Answer::Done)
 }
 

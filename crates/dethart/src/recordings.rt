@@ -3,19 +3,18 @@
 use crate::failure::Failure;
 use crate::files::read_recording_of;
 use crate::progress::Progress;
-use crate::ranges::access_ranges;
+use crate::ranges::{access_ranges, is_in_memory};
 use crate::run::{progress_of, read_run, settings_of};
 use crate::saving::save;
-use command_line::{Migrate, Record, Replay, Watch};
+use command_line::{Bytes, Migrate, Record, Replay, Watch};
 use hart_step::Hart;
 use host_io::{RunError, Sink, WriteSink, put_all};
-use pages::Range;
 use replayer::{
     Recording, Rounds, Verdict, count_at, migrate, record_observed, replay_observed, state_at,
     state_before, watch_rounds,
 };
 use report::{write_event, write_hart};
-use std::alloc::Global;
+use std::alloc::{AllocError, Global};
 use std::io::Write;
 use std::sync::Wait;
 use std::thread::Threads;
@@ -41,13 +40,21 @@ pub(crate) fn make_recording<R: Threads + Wait + Sync>(
     let recording = files
         .plan
         .explain(rt.alloc(), asked.run.program.harts, recorded)?;
-    Ok(save(rt, &recording, asked.out)?)
+    saved(rt, &recording, asked.out)
 }
 
 /// Writes the recording of a file to another file, in the newest version.
 pub(crate) fn migrate_file(rt: &HostRuntime, asked: &Migrate<'_>) -> Result<(), Failure> {
     let recording = read_recording_of(rt, asked.recording)?;
-    Ok(save(rt, &migrate(recording), asked.out)?)
+    saved(rt, &migrate(recording), asked.out)
+}
+
+/// Writes a recording to a file, which a refusal names.
+fn saved(rt: &HostRuntime, recording: &Recording, path: &str) -> Result<(), Failure> {
+    match save(rt, recording, path) {
+        Err(RunError::SinkFailed) => Err(Failure::Unwritten(String::from_str(rt.alloc(), path)?)),
+        answer => Ok(answer?),
+    }
 }
 
 /// What came of a replay.
@@ -150,16 +157,12 @@ fn tell<R: Threads + Wait + Sync>(
         return Ok(before.map_or(Told::None, |(round, hart)| Told::Before(round, hart)));
     }
     let round = asked.round.unwrap_or(0);
-    Ok(match asked.count {
-        Some(count) => {
-            let state = state_at(threads, alloc, recording, round, hart, count, workers)?;
-            state.map_or(Told::None, Told::Hart)
-        }
-        None => {
-            let count = count_at(threads, alloc, recording, round, hart, workers)?;
-            count.map_or(Told::None, Told::Count)
-        }
-    })
+    if asked.how_many {
+        let count = count_at(threads, alloc, recording, round, hart, workers)?;
+        return Ok(count.map_or(Told::None, Told::Count));
+    }
+    let state = state_at(threads, alloc, recording, round, hart, asked.count, workers)?;
+    Ok(state.map_or(Told::None, Told::Hart))
 }
 
 /// Puts a line of a word and a number.
@@ -175,6 +178,29 @@ fn put_number<S: Sink>(
     put_all(sink, line.as_bytes())
 }
 
+/// The bytes that are watched.
+fn watched_bytes(alloc: Global, asked: &Watch<'_>) -> Result<Vec<Bytes>, AllocError> {
+    let mut named = Vec::from_slice(alloc, &asked.more)?;
+    named.push(Bytes {
+        address: asked.address,
+        length: asked.length,
+    })?;
+    Ok(named)
+}
+
+/// Says on standard error that there are no such bytes, or that memory of so many pages doesn't have all of them: so that nobody
+/// takes a wrong address for one that is never touched.
+fn tell_of_bytes(rt: &HostRuntime, bytes: &Bytes, pages: u32) {
+    let (address, length) = (bytes.address, bytes.length);
+    if length == 0 {
+        let _unwritten = eprintln!(rt; "the range from 0x{address:x} on is empty");
+    } else if !is_in_memory(bytes, pages) {
+        let _unwritten = eprintln!(rt;
+            "the {length} bytes from 0x{address:x} on aren't all in guest memory"
+        );
+    }
+}
+
 /// Runs the recording of a file anew, and writes `hits N` and the event lines of those that hit one of the ranges.
 pub(crate) fn write_watch<R: Threads + Wait + Sync, W: Write>(
     rt: &HostRuntime,
@@ -183,11 +209,11 @@ pub(crate) fn write_watch<R: Threads + Wait + Sync, W: Write>(
     out: &mut W,
 ) -> Result<(), Failure> {
     let recording = read_recording_of(rt, asked.recording)?;
-    let mut ranges = access_ranges(rt.alloc(), &asked.more)?;
-    ranges.push(Range {
-        start: asked.address,
-        len: asked.length,
-    })?;
+    let named = watched_bytes(rt.alloc(), asked)?;
+    for bytes in &named {
+        tell_of_bytes(rt, bytes, recording.pages());
+    }
+    let ranges = access_ranges(rt.alloc(), &named)?;
     let mut progress = Progress::new(rt, asked.progress, recording.rounds());
     let found = watch_rounds(
         threads,
