@@ -76,8 +76,9 @@ Example:
   dethart merge first.txt second.txt
 
 Each TABLE is what dethart hunt or dethart merge printed, of one program with
-the same options; the plans of each go on where those of the one before it end.
-What is printed is the table of one hunt over all these plans.
+the same options. They may be given in any order; the plans of each have to go
+on where those of another one end. What is printed is the table of one hunt over
+all these plans.
 
 A refusal is the line 'error N' on standard error, with the exit status 1;
 dethart run --help lists what each N means.

@@ -3,6 +3,7 @@ ghost use Rattle.dethart.specs.Status.{status_of};
 ghost use Rattle.host_io.specs.declared.error.RunError.TheVariants as refusals;
 ghost use Rattle.dethart.specs.declared.failure.Failure.TheVariants as failures;
 
+use crate::merging::Apart;
 use crate::plan_lines::BadLine;
 use host_io::RunError;
 use hunt_table::MergeError;
@@ -47,6 +48,10 @@ pub(crate) enum Failure {
     Hunt(HuntError),
     /// The tables weren't merged.
     Merge(MergeError),
+    /// The file of this path has no table.
+    NotATable(String),
+    /// The tables of these files aren't of two slices of a hunt that follow on one another.
+    Apart(String, String, Apart),
     /// The image's symbol table has no object of this name; the second text names those that it has of a like name.
     NoObject(String, String),
     /// The image has no symbol table, and so no object of this name.
@@ -133,6 +138,8 @@ impl Failure {
             Failure::Unread(error) => Some(error.number()),
             Failure::Hunt(error) => Some(error.number()),
             Failure::Merge(error) => Some(error.number()),
+            Failure::NotATable(_) => Some(MergeError::NotATable.number()),
+            Failure::Apart(_, _, _) => Some(MergeError::Apart.number()),
             Failure::NoObject(_, _) | Failure::NoSymbols(_) => Some(75),
         }
     }
@@ -166,6 +173,11 @@ impl Failure {
             Failure::Unread(error) => eprintln!(rt; "{error}"),
             Failure::Hunt(error) => eprintln!(rt; "{error}"),
             Failure::Merge(error) => eprintln!(rt; "{error}"),
+            Failure::NotATable(path) => eprintln!(rt; "the file {path} is no table of a hunt"),
+            Failure::Apart(last, path, apart) => {
+                let why = apart.words();
+                eprintln!(rt; "the table {path} doesn't go on where {last} ends: {why}")
+            }
             Failure::NoObject(name, others) if others.is_empty() => {
                 eprintln!(rt; "the image's symbol table has no object {name}")
             }

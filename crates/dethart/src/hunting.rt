@@ -1,13 +1,13 @@
 //! The commands that run a guest by many plans.
 
 use crate::failure::Failure;
-use crate::files::{ProgramFiles, read_file, read_program};
+use crate::files::{ProgramFiles, read_program};
 use crate::progress::Progress;
 use crate::ranges::{NamedBytes, named_bytes, seen_ranges};
 use crate::run::format_of;
-use command_line::{Hunt, Merge, Search, Shrink};
+use command_line::{Hunt, Search, Shrink};
 use host_io::{WriteSink, put_all};
-use hunt_table::{Header, SeenRange, merge};
+use hunt_table::{Header, SeenRange};
 use hunter::{HuntSettings, hunt, shrink};
 use plan_hunt::Row;
 use std::alloc::{AllocError, Global};
@@ -65,19 +65,6 @@ pub(crate) fn write_shrunk<R: Threads + Wait + Sync, W: Write>(
     let plan = named.explain(answer)?;
     put_all(&mut WriteSink::new(out), plan.text(rt.alloc())?.as_slice())?;
     Ok(plan.budget())
-}
-
-/// Joins the tables of the files, and writes the table of all their plans.
-pub(crate) fn write_merged<W: Write>(
-    rt: &HostRuntime,
-    asked: &Merge<'_>,
-    out: &mut W,
-) -> Result<(), Failure> {
-    let mut texts = Vec::new(rt.alloc());
-    for path in &asked.tables {
-        texts.push(read_file(rt, path)?)?;
-    }
-    Ok(merge(rt.alloc(), &texts, &mut WriteSink::new(out))?)
 }
 
 /// The bytes that are looked at when a run ends.

@@ -6,6 +6,7 @@ mod failure;
 mod files;
 mod hunting;
 mod line;
+mod merging;
 mod output;
 mod pictures;
 mod plan_lines;

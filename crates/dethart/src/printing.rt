@@ -3,7 +3,8 @@ ghost use Rattle.std.specs.Prelude.{◌≡◌};
 ghost use Rattle.dethart.specs.Status.{answer_status, is_doubtful};
 
 use crate::failure::Failure;
-use crate::hunting::{write_hunt, write_merged, write_shrunk};
+use crate::hunting::{write_hunt, write_shrunk};
+use crate::merging::write_merged;
 use crate::output::{finish, standard_output};
 use crate::pictures::write_drawing;
 use crate::plans::write_plan;
