@@ -1,5 +1,6 @@
 # Programs with threads and a C library: one file in C or C++ each, what LIBS adds, the kit of this folder and picolibc.
-# guest/Makefile reads this where PTHREADS is set. It has found `kit`, the folder guest as make writes it, and `folder`, as a shell reads it.
+# guest/Makefile reads this where PTHREADS is set. It has found `kit`, the folder guest as make writes it, and `folder`, as a shell
+# reads it.
 #
 #   LIBS=other.c       more sources, objects or libraries of the program
 #   ARGS='4 "a b"'     the words that main gets after the program's name, as for a shell
@@ -16,6 +17,10 @@ LIBS =
 START = 2
 ROUND_NS = 1000000
 
+ifeq ($(wildcard $(PICOLIBC)/include/stdio.h),)
+$(error there is no C library in $(PICOLIBC): apt-get install gcc-riscv64-unknown-elf picolibc-riscv64-unknown-elf)
+endif
+
 # The kit is built once, in the folder of the program.
 built = dethart.built$(if $(SMALL),/small)
 
@@ -28,8 +33,8 @@ rename = -ffile-prefix-map=$(1) -fdebug-prefix-map=$(1)
 paths = $(call rename,'$(CURDIR)'=.) $(call rename,'$(folder)/'=guest/) $(call rename,'$(PICOLIBC)'=picolibc) \
         $(call rename,'$(shell $(CROSS)gcc -print-file-name=include)'=gcc)
 
-target = $(if $(SMALL),-g1,-g) $(arch) -mcmodel=medlow -mno-relax -msmall-data-limit=0 -fno-pic -ftls-model=local-exec -fno-stack-protector \
-         -fno-asynchronous-unwind-tables -ffunction-sections -fdata-sections $(paths)
+target = $(if $(SMALL),-g1,-g) $(arch) -mcmodel=medlow -mno-relax -msmall-data-limit=0 -fno-pic -ftls-model=local-exec \
+         -fno-stack-protector -fno-asynchronous-unwind-tables -ffunction-sections -fdata-sections $(paths)
 headers = -isystem '$(folder)/pthreads/include' -isystem '$(PICOLIBC)/include' -I'$(folder)'
 
 # Calls of stdio that whole_output.c and others put under a lock.
@@ -42,8 +47,9 @@ libraries = -L$(built) -L'$(PICOLIBC)/lib/$(multilib)' -Wl,--start-group -lkit -
 in_place = process libc_locks time streams assertions memset
 parts = threads cancel once mutexes conditions rwlocks barriers spinlocks semaphores keys attributes whole_output whole_flush \
         whole_input system signals unavailable messages small_atomics
-sources = $(addprefix $(kit)/pthreads/source/,kit.h order.h ticket.h whole.h) $(addprefix $(kit)/pthreads/include/, \
-          err.h error.h pthread.h sched.h semaphore.h stdatomic.h stdio.h threads.h time.h unistd.h sys/mman.h)
+sources = $(addprefix $(kit)/pthreads/source/,kit.h order.h ticket.h whole.h) $(kit)/pthreads/pthreads.mk \
+          $(addprefix $(kit)/pthreads/include/,err.h error.h pthread.h sched.h semaphore.h stdatomic.h stdio.h threads.h time.h unistd.h) \
+          $(kit)/pthreads/include/sys/mman.h $(kit)/dethart.h
 
 # The words of a line, each with a 0 behind it, as data for the assembler.
 arguments = { printf '.globl __kit_arguments\n.type __kit_arguments, @object\n.data\n__kit_arguments:\n'; \
@@ -70,8 +76,10 @@ ready = $(built)/start.o $(in_place:%=$(built)/%.o) $(built)/libkit.a $(built)/l
 	$(call link_program,$(compile_c),-DMENDED)
 
 # C++ without exceptions: the headers of libstdc++ for Linux on this processor, and runtime.cpp in place of its library.
-cpp_headers = -nostdinc++ -isystem '$(folder)/pthreads/cpp/include' -isystem '$(LIBSTDCXX)' -isystem '$(LIBSTDCXX)/riscv64-linux-gnu'
-compile_cpp = $(CROSS)g++ $(target) -O1 -fno-exceptions -fno-rtti -fno-use-cxa-atexit $(cpp_headers) $(headers) $(CFLAGS)
+cpp_headers = $(if $(wildcard $(LIBSTDCXX)/atomic),,$(error there is no C++ in $(LIBSTDCXX): apt-get install libstdc++-12-dev-riscv64-cross)) \
+              -nostdinc++ -isystem '$(folder)/pthreads/cpp/include' -isystem '$(LIBSTDCXX)' -isystem '$(LIBSTDCXX)/riscv64-linux-gnu'
+cpp = $(CROSS)g++ $(target) -fno-exceptions -fno-rtti $(cpp_headers) $(headers)
+compile_cpp = $(cpp) -O1 -fno-use-cxa-atexit $(CFLAGS)
 
 %.elf: %.cpp $(ready) $(built)/runtime.o
 	$(call link_program,$(compile_cpp),$(built)/runtime.o)
@@ -100,12 +108,13 @@ names_hidden = $(CROSS)nm $$made | awk '$$2 ~ /[bdr]/ { print $$3, "__kit_" $$3 
                $(CROSS)objcopy --redefine-syms=$$made.own --weaken-symbols=$$made.weak $$made && rm $$made.own $$made.weak
 
 $(built)/%.o: $(kit)/pthreads/source/%.c $(sources)
-	$(call build,$(CROSS)gcc $(target) -O2 -std=gnu11 -D_GNU_SOURCE -Wall -Wextra $(headers) -c '$(folder)/pthreads/source/$*.c' -o $$made && $(names_hidden))
+	$(call build,$(CROSS)gcc $(target) -O2 -std=gnu11 -D_GNU_SOURCE -Wall -Wextra $(headers) \
+	    -c '$(folder)/pthreads/source/$*.c' -o $$made && $(names_hidden))
 
 .PRECIOUS: $(built)/%.o
 
 $(built)/runtime.o: $(kit)/pthreads/cpp/runtime.cpp $(kit)/pthreads/cpp/include/features.h $(sources)
-	$(call build,$(CROSS)g++ $(target) -O2 -fno-exceptions -fno-rtti $(cpp_headers) $(headers) -c '$(folder)/pthreads/cpp/runtime.cpp' -o $$made)
+	$(call build,$(cpp) -O2 -c '$(folder)/pthreads/cpp/runtime.cpp' -o $$made)
 
 # picolibc without its lines.
 $(built)/libc.a:

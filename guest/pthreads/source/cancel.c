@@ -14,6 +14,7 @@ bool __kit_is_cancelled(void)
 
 void pthread_testcancel(void)
 {
+    __kit_end_with_others();
     if (__kit_self && __kit_is_cancelled()) {
         acquire_fence();
         state = PTHREAD_CANCEL_DISABLE;

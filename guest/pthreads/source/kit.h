@@ -23,8 +23,8 @@ struct __kit_thread {
     volatile unsigned cancelled;
     void *(*run)(void *);
     void *argument, *result;
-    const volatile unsigned *gate; // the thread begins when this
-    unsigned opens;                // is another number,
+    const volatile unsigned *gate; // where there is one, the thread begins when it holds another number
+    unsigned closed;               // than this one,
     uint64_t begins_anyhow;        // or in this round
     struct __kit_thread *next;     // of the records that are free
 };
@@ -92,6 +92,12 @@ bool __kit_is_no_time(const struct timespec *time);
 bool __kit_is_clock(clockid_t clock);
 
 // Threads (threads.c, cancel.c, keys.c), mutexes.
+
+// The name of a thread: its number and its record, so that none is used again.
+static inline pthread_t __kit_name_of(const struct __kit_thread *thread)
+{
+    return (pthread_t)thread->number << 32 | (uintptr_t)thread;
+}
 
 // The record of a thread, or 0 where there is none of this name (any more).
 struct __kit_thread *__kit_thread_of(pthread_t thread);

@@ -101,7 +101,7 @@ static void begins_thread(unsigned hart, struct __kit_thread *thread)
     __kit_hart_here = hart;
     __kit_self = thread;
     if (thread)
-        __kit_handle = (pthread_t)thread->number << 32 | (uintptr_t)thread;
+        __kit_handle = __kit_name_of(thread);
 }
 
 // Each hart begins here, on its stack, whose lowest word gets a mark.
@@ -158,7 +158,7 @@ void __kit_hart_works(void)
         runs_main();
     struct __kit_thread *thread = next_job(hart);
     begins_thread(number, thread);
-    while (thread->gate && *thread->gate != thread->opens && round_number() < thread->begins_anyhow)
+    while (thread->gate && *thread->gate == thread->closed && round_number() < thread->begins_anyhow)
         __kit_end_with_others();
     __kit_thread_ends(thread->run(thread->argument));
 }

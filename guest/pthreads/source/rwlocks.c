@@ -21,7 +21,7 @@ int pthread_rwlock_destroy(pthread_rwlock_t *lock)
     return lock->holders || !ticket_is_free(&lock->writers) ? EBUSY : 0;
 }
 
-int pthread_rwlock_tryrdlock(pthread_rwlock_t *lock)
+static inline int try_read(pthread_rwlock_t *lock)
 {
     for (unsigned now; (now = lock->holders) != a_writer;) {
         if (now == a_writer - 1)
@@ -32,22 +32,35 @@ int pthread_rwlock_tryrdlock(pthread_rwlock_t *lock)
     return EBUSY;
 }
 
-static int read_lock(pthread_rwlock_t *lock, const struct timespec *until)
+int pthread_rwlock_tryrdlock(pthread_rwlock_t *lock)
+{
+    __kit_end_with_others();
+    return try_read(lock);
+}
+
+static __attribute__((noinline)) int await_no_writer(pthread_rwlock_t *lock, const struct timespec *until)
 {
     int error;
-    __kit_end_with_others();
-    while ((error = pthread_rwlock_tryrdlock(lock)) == EBUSY) {
-        if (lock->writer == __kit_handle)
-            return EDEADLK;
-        if (until && __kit_is_no_time(until))
-            return EINVAL;
-        __kit_lets_others_begin();
+    if (lock->writer == __kit_handle)
+        return EDEADLK;
+    if (until && __kit_is_no_time(until))
+        return EINVAL;
+    __kit_lets_others_begin();
+    do {
         uint64_t now = round_number();
         __kit_end_with_others();
-        if (until && now >= __kit_round_of(until))
+        error = try_read(lock);
+        if (error == EBUSY && until && now >= __kit_round_of(until))
             return ETIMEDOUT;
-    }
+    } while (error == EBUSY);
     return error;
+}
+
+static inline int read_lock(pthread_rwlock_t *lock, const struct timespec *until)
+{
+    __kit_end_with_others();
+    int error = try_read(lock);
+    return error == EBUSY ? await_no_writer(lock, until) : error;
 }
 
 int pthread_rwlock_rdlock(pthread_rwlock_t *lock) { return read_lock(lock, 0); }
@@ -60,6 +73,7 @@ int pthread_rwlock_clockrdlock(pthread_rwlock_t *lock, clockid_t clock, const st
 
 int pthread_rwlock_trywrlock(pthread_rwlock_t *lock)
 {
+    __kit_end_with_others();
     if (!ticket_try(&lock->writers))
         return EBUSY;
     if (!change_acquire(&lock->holders, 0, a_writer)) {
@@ -89,7 +103,6 @@ int pthread_rwlock_wrlock(pthread_rwlock_t *lock)
 // It draws no ticket, since none can be given back.
 int pthread_rwlock_timedwrlock(pthread_rwlock_t *lock, const struct timespec *until)
 {
-    __kit_end_with_others();
     if (lock->writer == __kit_handle)
         return EDEADLK;
     while (pthread_rwlock_trywrlock(lock)) {
@@ -98,7 +111,6 @@ int pthread_rwlock_timedwrlock(pthread_rwlock_t *lock, const struct timespec *un
         __kit_lets_others_begin();
         if (round_number() >= __kit_round_of(until))
             return ETIMEDOUT;
-        __kit_end_with_others();
     }
     return 0;
 }

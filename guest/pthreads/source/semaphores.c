@@ -65,7 +65,6 @@ static int await_one(sem_t *sem, const struct timespec *until)
 
 static int wait_until(sem_t *sem, const struct timespec *until)
 {
-    __kit_end_with_others();
     pthread_testcancel();
     if (take_one(sem))
         return 0;

@@ -50,11 +50,6 @@ static void give_record_back(struct __kit_thread *record)
     ticket_free(&records_lock);
 }
 
-static pthread_t handle_of(struct __kit_thread *thread)
-{
-    return (pthread_t)thread->number << 32 | (uintptr_t)thread;
-}
-
 struct __kit_thread *__kit_thread_of(pthread_t handle)
 {
     struct __kit_thread *thread = (struct __kit_thread *)(handle & 0xffffffff);
@@ -109,11 +104,11 @@ int pthread_create(pthread_t *handle, const pthread_attr_t *attr, void *(*run)(v
     if (begin_together()) {
         struct __kit_hart *here = &__kit_harts[__kit_hart_here];
         thread->gate = &here->waits;
-        thread->opens = here->waits + 1;
+        thread->closed = here->waits;
         thread->begins_anyhow = round_number() + GATE_OPENS;
         here->has_created = 1;
     }
-    *handle = handle_of(thread);
+    *handle = __kit_name_of(thread);
     add_relaxed(&threads_alive, 1);
     release_fence();
     __kit_harts[hart].job = thread;

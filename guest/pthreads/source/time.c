@@ -10,9 +10,14 @@ extern char __kit_round_ns[]; // the number itself, by the linker
 static const uint64_t second_ns = 1000000000;
 
 static uint64_t round_ns(void) { return (uintptr_t)__kit_round_ns; }
-static uint64_t now_ns(void) { return round_number() * round_ns(); }
 static struct timespec time_of(uint64_t ns) { return (struct timespec){ (time_t)(ns / second_ns), (long)(ns % second_ns) }; }
 static uint64_t rounds_of(uint64_t ns) { return (ns + round_ns() - 1) / round_ns(); }
+
+static uint64_t now_ns(void)
+{
+    __kit_end_with_others(); // a program may wait by looking at a clock
+    return round_number() * round_ns();
+}
 
 bool __kit_is_no_time(const struct timespec *time)
 {
