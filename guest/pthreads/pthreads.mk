@@ -79,7 +79,7 @@ ready = $(built)/start.o $(in_place:%=$(built)/%.o) $(built)/libkit.a $(built)/l
 cpp_headers = $(if $(wildcard $(LIBSTDCXX)/atomic),,$(error there is no C++ in $(LIBSTDCXX): apt-get install libstdc++-12-dev-riscv64-cross)) \
               -nostdinc++ -isystem '$(folder)/pthreads/cpp/include' -isystem '$(LIBSTDCXX)' -isystem '$(LIBSTDCXX)/riscv64-linux-gnu'
 cpp = $(CROSS)g++ $(target) -fno-exceptions -fno-rtti $(cpp_headers) $(headers)
-compile_cpp = $(cpp) -O1 -fno-use-cxa-atexit $(CFLAGS)
+compile_cpp = $(cpp) -O1 $(CFLAGS)
 
 %.elf: %.cpp $(ready) $(built)/runtime.o
 	$(call link_program,$(compile_cpp),$(built)/runtime.o)

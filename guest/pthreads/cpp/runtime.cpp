@@ -60,6 +60,49 @@ void __cxa_guard_abort(volatile unsigned *guard) { __atomic_store_n(guard, 0, __
 
 }
 
+// The variables of a thread that have destructors: a key's value is the last one that was made.
+
+namespace {
+
+struct Made {
+    void (*destroy)(void *);
+    void *object;
+    Made *before;
+};
+
+pthread_once_t made_once = PTHREAD_ONCE_INIT;
+pthread_key_t last_made;
+
+void destroy_all(void *last)
+{
+    for (Made *made = static_cast<Made *>(last); made;) {
+        Made *before = made->before;
+        made->destroy(made->object);
+        delete made;
+        made = before;
+    }
+}
+
+void destroy_those_of_main()
+{
+    destroy_all(pthread_getspecific(last_made));
+}
+
+void make_key()
+{
+    if (pthread_key_create(&last_made, destroy_all) || atexit(destroy_those_of_main))
+        abort();
+}
+
+}
+
+extern "C" int __cxa_thread_atexit(void (*destroy)(void *), void *object, void *)
+{
+    pthread_once(&made_once, make_key);
+    void *before = pthread_getspecific(last_made);
+    return pthread_setspecific(last_made, new Made{destroy, object, static_cast<Made *>(before)});
+}
+
 namespace std {
 
 void terminate() noexcept { abort(); }

@@ -131,7 +131,7 @@ int pthread_rwlock_unlock(pthread_rwlock_t *lock)
     if (lock->writer != __kit_handle)
         return EPERM;
     lock->writer = 0;
+    ticket_free(&lock->writers); // first, since who sees no holder may destroy the lock; the next writer waits for that as well
     store_release(&lock->holders, 0);
-    ticket_free(&lock->writers);
     return 0;
 }

@@ -2,7 +2,6 @@
 #include <assert.h>
 #include <stdio.h>
 #include <stdlib.h>
-#include <string.h>
 
 int twice(int number); // more_code.c
 
@@ -11,7 +10,7 @@ int main(int count, char **words)
     assert(count == 3 && words[count] == NULL);
     char *room = malloc(600000); // more than half of the usual 256 pages
     assert(room);
-    memset(room, 1, 600000);
+    room[599999] = 1;
     printf("%s: %d, %s\n", words[0], twice(atoi(words[1])), words[2]);
     return 0;
 }

@@ -1,4 +1,6 @@
-// The threads of C++: std::thread with arguments, mutexes and their guards, a condition with a predicate, once, times.
+// The threads of C++: std::thread with arguments, mutexes and their guards, a condition with a predicate, once, times, and variables
+// of a thread's own that have destructors.
+#include <atomic>
 #include <cassert>
 #include <chrono>
 #include <condition_variable>
@@ -14,6 +16,14 @@ static std::recursive_mutex again;
 static std::condition_variable changed;
 static std::once_flag once;
 static int inits, done, sum;
+static std::atomic<int> gone{0};
+
+struct Own {
+    int count = 0;
+    ~Own() { gone += count; }
+};
+
+static thread_local Own own;
 
 static void adds(int number, int &total)
 {
@@ -22,6 +32,7 @@ static void adds(int number, int &total)
     for (int i = 0; i < ten; i++) {
         std::lock_guard<std::mutex> guard(lock);
         total++;
+        own.count++;
     }
     std::lock_guard outer(again), inner(again);
     std::unique_lock guard(lock);
@@ -53,7 +64,7 @@ int main()
         std::scoped_lock both(lock, other);
         assert(std::thread::hardware_concurrency() == 4 && !other.try_lock());
     }
-    assert(inits == 1 && other.try_lock());
+    assert(inits == 1 && gone == 30 && other.try_lock());
     other.unlock();
     std::printf("C++ %d\n", sum);
 }
