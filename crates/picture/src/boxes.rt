@@ -1,7 +1,7 @@
 ghost use Rattle.std.specs.Prelude.{◌≡◌, ◌≤◌, ◌++◌, OnOk};
 ghost use Rattle.picture.specs.Boxes.{box_class, box_text, line_at, lines_text, outline_text, waited_text};
 
-use crate::access::{loads, value_read as read_by};
+use crate::access::value_read as read_by;
 use crate::elements::{Point, Rectangle, add_rectangle, start_label, wait_mark};
 use crate::event_box::EventBox;
 use crate::labels::{access, value_read, written};
@@ -52,7 +52,7 @@ fn lines(line: &mut Line, shown: &EventBox) -> Result<(), OutOfMemory>
     start_label(line, "line", line_at(shown, 28))?;
     value_read(line, read_by(done))?;
     line.text("</text>\n")?;
-    let down = if loads(done) { 41 } else { 28 };
+    let down = if done.loads() { 41 } else { 28 };
     start_label(line, "line", line_at(shown, down))?;
     written(line, done)?;
     line.text("</text>\n")

@@ -4,7 +4,7 @@ ghost use Rattle.round_schedule.specs.Accesses.{address_of};
 ghost use Rattle.picture.specs.Sources.{bytes};
 ghost use Rattle.picture.specs.Marks.{is_by_other, is_lost, is_lost_byte, is_read, overwriter, reads_from};
 
-use crate::access::{address, byte_count, event_at, reads, stores, writes};
+use crate::access::{event_at, reads, writes};
 use crate::source::source;
 use round_schedule::Access;
 use trace::Trace;
@@ -64,8 +64,8 @@ fn are_lost(trace: &Trace, place: usize, access: &Access) -> bool
     requires { address_of access.now < 2 ^ 32 }
     ensures { result ≡ list_all (is_lost_byte trace.now.events place) (bytes access.now) }
 {
-    let first = address(access);
-    let end = first + byte_count(access);
+    let first = access.address();
+    let end = first + access.byte_count();
     (first..end).all(|byte| is_lost_byte(trace, place, byte))
 }
 
@@ -75,5 +75,5 @@ pub(crate) fn is_lost(trace: &Trace, place: usize) -> bool
     ensures { result ≡ is_lost trace.now.events place }
 {
     let access = event_at(trace, place).access;
-    stores(&access) && are_lost(trace, place, &access)
+    access.stores() && are_lost(trace, place, &access)
 }

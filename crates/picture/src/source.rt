@@ -3,7 +3,7 @@ ghost use Rattle.round_schedule.specs.Accesses.{address_of};
 ghost use Rattle.picture.specs.Sources.{bytes, gives, is_opening, is_place, sees, source, sources};
 ghost use Rattle.std.specs.List.{list_any};
 
-use crate::access::{address, byte_count, event_at, loads, writes};
+use crate::access::{event_at, writes};
 use pages::OutOfMemory;
 use round_schedule::{Access, Event, Phase};
 use std::alloc::Global;
@@ -52,8 +52,8 @@ fn sources_at(
     requires { address_of access.now < 2 ^ 32 }
     ensures { IfOk result (λ v. v.items ≡ map (source trace.now.events place) (bytes access.now)) }
 {
-    let first = address(access);
-    let end = first + byte_count(access);
+    let first = access.address();
+    let end = first + access.byte_count();
     let found: Vec<Option<usize>> = (first..end)
         .map(|byte| source(trace, place, byte))
         .collect(alloc)?;
@@ -70,7 +70,7 @@ pub(crate) fn sources(
     ensures { IfOk result (λ v. v.items ≡ sources trace.now.events place) }
 {
     let access = event_at(trace, place).access;
-    if loads(&access) {
+    if access.loads() {
         sources_at(alloc, trace, place, &access)
     } else {
         Ok(Vec::new(alloc))

@@ -3,7 +3,7 @@ ghost use Rattle.std.specs.List.{list_any};
 ghost use Rattle.round_schedule.specs.Positions.{event};
 ghost use Rattle.picture.specs.Views.{is_seen, is_shown, places_seen, touches};
 
-use crate::access::{address, byte_count, event_at, is_in_range};
+use crate::access::{event_at, is_in_range};
 use pages::{OutOfMemory, Range};
 use round_schedule::{Access, Event};
 use std::alloc::Global;
@@ -23,8 +23,8 @@ pub struct View<'a> {
 fn touches(access: &Access, range: &Range) -> bool
     ensures { result ≡ touches access.now range.now }
 {
-    let first = address(access);
-    let count = byte_count(access);
+    let first = access.address();
+    let count = access.byte_count();
     (is_in_range(range.start, range.len, first) && count > 0)
         || (is_in_range(first, count, range.start) && range.len > 0)
 }
