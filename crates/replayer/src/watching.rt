@@ -3,8 +3,6 @@ ghost use Rattle.round_planner.specs.Quotas.{Planned};
 ghost use Rattle.host_io.specs.declared.error.RunError.TheVariants as refusals;
 ghost use Rattle.machine.specs.Machine.{Running, after_rounds};
 ghost use Rattle.machine.specs.Untraced.{IsUntraced};
-ghost use Rattle.pages.specs.Memory.{width_bytes};
-ghost use Rattle.round_schedule.specs.Accesses.{address_of, bytes_of};
 ghost use Rattle.round_schedule.specs.Held.{any_byte};
 ghost use Rattle.replayer.specs.Hits.{hits, is_hit, is_watched, of_rounds, sought_in};
 ghost use Rattle.replayer.specs.Refusals.{RefusedInOrder};
@@ -14,9 +12,9 @@ use crate::opened::opened_untraced;
 use crate::rounds::Rounds;
 use host_io::RunError;
 use machine::{Observer, Unobserved, UntracedMachine};
-use pages::{OutOfMemory, Range, Width};
+use pages::{OutOfMemory, Range};
 use recording::Recording;
-use round_schedule::{Access, Event};
+use round_schedule::Event;
 use std::alloc::Global;
 use std::sync::Wait;
 use std::thread::Threads;
@@ -198,13 +196,13 @@ fn is_hit(event: &Event, ranges: &[Range]) -> bool
 {
     any_in(
         ranges,
-        u128::from(address_of(event.access)),
-        bytes_of(event.access),
+        u128::from(event.access.address()),
+        event.access.byte_count(),
     )
 }
 
 /// Whether one of so many addresses does.
-fn any_in(ranges: &[Range], address: u128, left: u8) -> bool
+fn any_in(ranges: &[Range], address: u128, left: u64) -> bool
     requires within { address + left < 2 ^ 65 }
     requires few { left ≤ 8 }
     ensures { result ≡ any_byte (is_watched ranges.now) address left }
@@ -217,43 +215,4 @@ fn is_watched(ranges: &[Range], address: u128) -> bool
 {
     ranges.iter().any(|range| u128::from(range.start) <= address
         && address < u128::from(range.start) + u128::from(range.len))
-}
-
-fn address_of(access: Access) -> u64
-    ensures { result ≡ address_of access }
-{
-    match access {
-        Access::Load { address, .. }
-        | Access::Store { address, .. }
-        | Access::LoadReserved { address, .. }
-        | Access::StoreConditional { address, .. }
-        | Access::Atomic { address, .. } => address,
-        Access::Fence { .. } => 0,
-    }
-}
-
-/// How many bytes an access speaks of.
-fn bytes_of(access: Access) -> u8
-    ensures count { result ≡ bytes_of access }
-    ensures few { result ≤ 8 }
-{
-    match access {
-        Access::Load { width, .. }
-        | Access::Store { width, .. }
-        | Access::LoadReserved { width, .. }
-        | Access::StoreConditional { width, .. }
-        | Access::Atomic { width, .. } => bytes(width),
-        Access::Fence { .. } => 0,
-    }
-}
-
-fn bytes(width: Width) -> u8
-    ensures { result ≡ width_bytes width }
-{
-    match width {
-        Width::W1 => 1,
-        Width::W2 => 2,
-        Width::W4 => 4,
-        Width::W8 => 8,
-    }
 }
