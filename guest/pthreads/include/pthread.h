@@ -92,7 +92,7 @@ void __cleanup_pop(struct __cleanup *, int);
 
 struct __ticket { volatile unsigned next, serving; };
 typedef struct { struct __ticket ticket; int kind; unsigned depth; volatile pthread_t owner; } pthread_mutex_t;
-typedef struct { int kind; } pthread_mutexattr_t;
+typedef struct { int kind, shared; } pthread_mutexattr_t;
 
 #define PTHREAD_MUTEX_NORMAL 0
 #define PTHREAD_MUTEX_RECURSIVE 1
@@ -133,7 +133,7 @@ int pthread_mutexattr_setprotocol(pthread_mutexattr_t *, int);
 
 struct __waiter;
 typedef struct { struct __ticket ticket; struct __waiter *volatile first; } pthread_cond_t;
-typedef struct { clockid_t clock; } pthread_condattr_t;
+typedef struct { clockid_t clock; int shared; } pthread_condattr_t;
 #define PTHREAD_COND_INITIALIZER { { 0, 0 }, 0 }
 
 int pthread_cond_init(pthread_cond_t *, const pthread_condattr_t *);
@@ -153,7 +153,7 @@ int pthread_condattr_getpshared(const pthread_condattr_t *, int *);
 // Read-write locks.
 
 typedef struct { struct __ticket writers; volatile unsigned holders; volatile pthread_t writer; } pthread_rwlock_t;
-typedef struct { int kind; } pthread_rwlockattr_t;
+typedef struct { int kind, shared; } pthread_rwlockattr_t;
 #define PTHREAD_RWLOCK_INITIALIZER { { 0, 0 }, 0, 0 }
 #define PTHREAD_RWLOCK_WRITER_NONRECURSIVE_INITIALIZER_NP PTHREAD_RWLOCK_INITIALIZER
 #define PTHREAD_RWLOCK_PREFER_READER_NP 0
@@ -182,7 +182,7 @@ int pthread_rwlockattr_getpshared(const pthread_rwlockattr_t *, int *);
 // Barriers.
 
 typedef struct { unsigned all; volatile unsigned come, passes, left; } pthread_barrier_t;
-typedef struct { int nothing; } pthread_barrierattr_t;
+typedef struct { int shared; } pthread_barrierattr_t;
 #define PTHREAD_BARRIER_SERIAL_THREAD (-1)
 
 int pthread_barrier_init(pthread_barrier_t *, const pthread_barrierattr_t *, unsigned);

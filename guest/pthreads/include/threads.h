@@ -60,7 +60,7 @@ __attribute__((noreturn)) static inline void thrd_exit(int result) { pthread_exi
 
 static inline int mtx_init(mtx_t *mutex, int type)
 {
-    pthread_mutexattr_t attr = { type & mtx_recursive ? PTHREAD_MUTEX_RECURSIVE : PTHREAD_MUTEX_NORMAL };
+    pthread_mutexattr_t attr = { type & mtx_recursive ? PTHREAD_MUTEX_RECURSIVE : PTHREAD_MUTEX_NORMAL, PTHREAD_PROCESS_PRIVATE };
     return __thrd_result(pthread_mutex_init(mutex, &attr));
 }
 

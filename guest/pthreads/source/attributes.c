@@ -8,15 +8,18 @@ static int first_or_unsupported(int value, int last)
     return value == 0 ? 0 : value > 0 && value <= last ? ENOTSUP : EINVAL;
 }
 
-// Processes: there is one, so what is shared by several and what isn't are the same.
-static int either_sharing(int shared)
+// There is one process, so what is shared by several and what isn't are the same.
+static int set_sharing(int *to, int shared)
 {
-    return shared == PTHREAD_PROCESS_PRIVATE || shared == PTHREAD_PROCESS_SHARED ? 0 : EINVAL;
+    if (shared != PTHREAD_PROCESS_PRIVATE && shared != PTHREAD_PROCESS_SHARED)
+        return EINVAL;
+    *to = shared;
+    return 0;
 }
 
-static int is_private(int *shared)
+static int get_sharing(int from, int *shared)
 {
-    *shared = PTHREAD_PROCESS_PRIVATE;
+    *shared = from;
     return 0;
 }
 
@@ -97,7 +100,7 @@ int pthread_getschedparam(pthread_t thread, int *policy, struct sched_param *par
 
 // Mutexes.
 
-int pthread_mutexattr_init(pthread_mutexattr_t *attr) { attr->kind = PTHREAD_MUTEX_DEFAULT; return 0; }
+int pthread_mutexattr_init(pthread_mutexattr_t *attr) { *attr = (pthread_mutexattr_t){ PTHREAD_MUTEX_DEFAULT, 0 }; return 0; }
 int pthread_mutexattr_destroy(pthread_mutexattr_t *attr) { (void)attr; return 0; }
 int pthread_mutexattr_gettype(const pthread_mutexattr_t *attr, int *kind) { *kind = attr->kind; return 0; }
 
@@ -109,8 +112,8 @@ int pthread_mutexattr_settype(pthread_mutexattr_t *attr, int kind)
     return 0;
 }
 
-int pthread_mutexattr_setpshared(pthread_mutexattr_t *attr, int shared) { (void)attr; return either_sharing(shared); }
-int pthread_mutexattr_getpshared(const pthread_mutexattr_t *attr, int *shared) { (void)attr; return is_private(shared); }
+int pthread_mutexattr_setpshared(pthread_mutexattr_t *attr, int shared) { return set_sharing(&attr->shared, shared); }
+int pthread_mutexattr_getpshared(const pthread_mutexattr_t *attr, int *shared) { return get_sharing(attr->shared, shared); }
 
 int pthread_mutexattr_setrobust(pthread_mutexattr_t *attr, int robust)
 {
@@ -126,7 +129,7 @@ int pthread_mutexattr_setprotocol(pthread_mutexattr_t *attr, int protocol)
 
 // Conditions. All clocks are one.
 
-int pthread_condattr_init(pthread_condattr_t *attr) { attr->clock = CLOCK_REALTIME; return 0; }
+int pthread_condattr_init(pthread_condattr_t *attr) { *attr = (pthread_condattr_t){ CLOCK_REALTIME, 0 }; return 0; }
 int pthread_condattr_destroy(pthread_condattr_t *attr) { (void)attr; return 0; }
 int pthread_condattr_getclock(const pthread_condattr_t *attr, clockid_t *clock) { *clock = attr->clock; return 0; }
 
@@ -138,12 +141,12 @@ int pthread_condattr_setclock(pthread_condattr_t *attr, clockid_t clock)
     return 0;
 }
 
-int pthread_condattr_setpshared(pthread_condattr_t *attr, int shared) { (void)attr; return either_sharing(shared); }
-int pthread_condattr_getpshared(const pthread_condattr_t *attr, int *shared) { (void)attr; return is_private(shared); }
+int pthread_condattr_setpshared(pthread_condattr_t *attr, int shared) { return set_sharing(&attr->shared, shared); }
+int pthread_condattr_getpshared(const pthread_condattr_t *attr, int *shared) { return get_sharing(attr->shared, shared); }
 
 // Read-write locks and barriers. Who is preferred is a matter of schedule: readers are, whatever is asked for.
 
-int pthread_rwlockattr_init(pthread_rwlockattr_t *attr) { attr->kind = PTHREAD_RWLOCK_DEFAULT_NP; return 0; }
+int pthread_rwlockattr_init(pthread_rwlockattr_t *attr) { *attr = (pthread_rwlockattr_t){ PTHREAD_RWLOCK_DEFAULT_NP, 0 }; return 0; }
 int pthread_rwlockattr_getkind_np(const pthread_rwlockattr_t *attr, int *kind) { *kind = attr->kind; return 0; }
 
 int pthread_rwlockattr_setkind_np(pthread_rwlockattr_t *attr, int kind)
@@ -155,9 +158,9 @@ int pthread_rwlockattr_setkind_np(pthread_rwlockattr_t *attr, int kind)
 }
 
 int pthread_rwlockattr_destroy(pthread_rwlockattr_t *attr) { (void)attr; return 0; }
-int pthread_rwlockattr_setpshared(pthread_rwlockattr_t *attr, int shared) { (void)attr; return either_sharing(shared); }
-int pthread_rwlockattr_getpshared(const pthread_rwlockattr_t *attr, int *shared) { (void)attr; return is_private(shared); }
-int pthread_barrierattr_init(pthread_barrierattr_t *attr) { attr->nothing = 0; return 0; }
+int pthread_rwlockattr_setpshared(pthread_rwlockattr_t *attr, int shared) { return set_sharing(&attr->shared, shared); }
+int pthread_rwlockattr_getpshared(const pthread_rwlockattr_t *attr, int *shared) { return get_sharing(attr->shared, shared); }
+int pthread_barrierattr_init(pthread_barrierattr_t *attr) { *attr = (pthread_barrierattr_t){ 0 }; return 0; }
 int pthread_barrierattr_destroy(pthread_barrierattr_t *attr) { (void)attr; return 0; }
-int pthread_barrierattr_setpshared(pthread_barrierattr_t *attr, int shared) { (void)attr; return either_sharing(shared); }
-int pthread_barrierattr_getpshared(const pthread_barrierattr_t *attr, int *shared) { (void)attr; return is_private(shared); }
+int pthread_barrierattr_setpshared(pthread_barrierattr_t *attr, int shared) { return set_sharing(&attr->shared, shared); }
+int pthread_barrierattr_getpshared(const pthread_barrierattr_t *attr, int *shared) { return get_sharing(attr->shared, shared); }

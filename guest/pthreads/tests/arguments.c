@@ -8,9 +8,6 @@ int twice(int number); // more_code.c
 int main(int count, char **words)
 {
     assert(count == 3 && words[count] == NULL);
-    char *room = malloc(600000); // more than half of the usual 256 pages
-    assert(room);
-    room[599999] = 1;
     printf("%s: %d, %s\n", words[0], twice(atoi(words[1])), words[2]);
     return 0;
 }
