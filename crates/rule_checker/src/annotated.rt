@@ -6,9 +6,7 @@ ghost use Rattle.order_checker.specs.Checking.{IsRanking};
 ghost use Rattle.rule_checker.specs.Kinds.{AllowedByKind, KeptByKind, is_annotated, kinds_after, kinds_of, loads_loads, loads_stores};
 
 use memory_order::is_operation;
-use order_checker::{
-    event_at, is_release, loads, orders_loads, orders_stores, position_of, stores,
-};
+use order_checker::{event_at, is_release, orders_loads, orders_stores, position_of};
 use pages::OutOfMemory;
 use round_schedule::{Access, Event};
 use std::alloc::Global;
@@ -93,8 +91,8 @@ fn allows(bounds: &KindBounds, access: &Access, position: usize) -> bool
     ensures { IsTrue result ↔ AllowedByKind bounds.now access.now position }
 {
     bounds.acquires <= position
-        && (!loads(access) || (bounds.load_load <= position && bounds.store_load <= position))
-        && (!stores(access) || (bounds.load_store <= position && bounds.store_store <= position))
+        && (!access.loads() || (bounds.load_load <= position && bounds.store_load <= position))
+        && (!access.stores() || (bounds.load_store <= position && bounds.store_store <= position))
         && (!is_release(access) || (bounds.loads <= position && bounds.stores <= position))
         && (!is_annotated(access) || bounds.annotated <= position)
 }
@@ -104,8 +102,8 @@ fn kinds_after(bounds: &KindBounds, access: &Access, operation: bool, next: usiz
     ensures { result ≡ kinds_after bounds.now access.now operation next }
 {
     KindBounds {
-        loads: raised(bounds.loads, loads(access), next),
-        stores: raised(bounds.stores, stores(access), next),
+        loads: raised(bounds.loads, access.loads(), next),
+        stores: raised(bounds.stores, access.stores(), next),
         acquires: raised(bounds.acquires, operation && is_acquire(access), next),
         annotated: raised(bounds.annotated, operation && is_annotated(access), next),
         load_load: raised(bounds.load_load, loads_loads(access), bounds.loads),

@@ -10,7 +10,7 @@ ghost use Rattle.rule_checker.specs.CarriedBounds.{AllowedBy, AreRegisters, MayF
 
 use dependencies::{Registers, used_registers};
 use memory_order::is_operation;
-use order_checker::{Bounds, address, bound, event_at, loads, position_of, stores, width};
+use order_checker::{Bounds, bound, event_at, position_of};
 use pages::OutOfMemory;
 use round_schedule::{Access, Event};
 use rv64_decode::{Instr, Reg};
@@ -168,7 +168,7 @@ fn allows(carried: &Carried, x: &Registers, access: &Access, position: usize) ->
     ensures { IsTrue result ↔ AllowedBy carried.now x.now access.now position }
 {
     bound_of(carried, x.address) <= position
-        && (!stores(access)
+        && (!access.stores()
             || (bound_of(carried, x.value) <= position
                 && carried.steered <= position
                 && carried.addressed <= position))
@@ -193,11 +193,11 @@ fn may_forward(
         MayForwardAll events.now order.now operands.now (λ x. bound sources.now i x) i position }
 {
     let event = event_at(events, i);
-    if !loads(&event.access) {
+    if !event.access.loads() {
         return true;
     }
-    let start = address(&event.access);
-    for k in 0..width(&event.access) {
+    let start = event.access.address();
+    for k in 0..event.access.byte_count() {
         let source = bound(sources, i as u64, start + k);
         if !forwards_from(events, order, operands, i, position, source) {
             return false;

@@ -10,8 +10,7 @@ ghost use Rattle.rule_checker.specs.Bytes.{IsForwarded, KeptByByte, MayLoad, May
 
 use memory_order::is_operation;
 use order_checker::{
-    Bounds, address, bound, event_at, is_plain_store, listed, loads, may_store, note_load,
-    position_of, raise_bytes, width,
+    Bounds, bound, event_at, is_plain_store, listed, may_store, note_load, position_of, raise_bytes,
 };
 use pages::OutOfMemory;
 use round_schedule::Event;
@@ -71,8 +70,8 @@ fn note_operation(
     raise_bytes(
         bounds,
         owner,
-        address(&event.access),
-        width(&event.access),
+        event.access.address(),
+        event.access.byte_count(),
         next,
     )
 }
@@ -94,11 +93,11 @@ fn may_load(
     ensures { IsTrue result ↔ MayLoad events.now order.now (λ x. bound seen.now hart x) (λ x. bound sources.now i x) i position }
 {
     let event = event_at(events, i);
-    if !loads(&event.access) {
+    if !event.access.loads() {
         return true;
     }
-    let start = address(&event.access);
-    for k in 0..width(&event.access) {
+    let start = event.access.address();
+    for k in 0..event.access.byte_count() {
         let before = bound(seen, hart, start + k);
         let source = bound(sources, i as u64, start + k);
         if !may_load_byte(events, order, before, source, position) {

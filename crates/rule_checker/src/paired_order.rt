@@ -6,7 +6,7 @@ ghost use Rattle.memory_order.specs.Orders.{place};
 ghost use Rattle.memory_order.specs.Rvwmo.{IsPaired};
 ghost use Rattle.order_checker.specs.Checking.{AreReserved, IsRanking};
 
-use order_checker::{event_at, last_reserved, paired, position_of, stores};
+use order_checker::{event_at, last_reserved, paired, position_of};
 use pages::OutOfMemory;
 use round_schedule::Event;
 use std::alloc::Global;
@@ -46,7 +46,7 @@ fn pair_is_kept(
     ensures { IsTrue result ↔ ((l : ℕ) → IsPaired events.now l i →
         is_store (event events.now i) ≡ true → place order.now l < place order.now i) }
 {
-    if !stores(&event_at(events, i).access) {
+    if !event_at(events, i).access.stores() {
         return true;
     }
     match paired(events, reserved, i) {
