@@ -4,8 +4,8 @@ use Rattle.std.proofs.lemmas.List.Elements.{All-cons}
 use Rattle.pages.specs.declared.access.Fault.{Fault}
 use Rattle.pages.specs.declared.access.Range.{Range}
 use Rattle.pages.specs.declared.access.Store.{Store}
-use Rattle.pages.specs.Memory.{IsBytes, Memory, any_code, stored, store_fault, width_bytes}
-use Rattle.pages.specs.StoreLaws.{TouchesNoCode, fetched_stays, length-after}
+use Rattle.pages.specs.Memory.{IsBytes, Memory, TouchesNoCode, any_code, stored, store_fault, width_bytes}
+use Rattle.pages.proofs.StoreLaws.{fetched_stays, length-after}
 use Rattle.rv64_decode.specs.declared.instruction.Instr.{Instr}
 use Rattle.round_schedule.specs.declared.access.Access.{Access}
 use Rattle.round_schedule.specs.declared.access.Stepped.{Stepped}

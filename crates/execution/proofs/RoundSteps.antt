@@ -4,8 +4,8 @@ use Rattle.std.proofs.lemmas.List.{length-append}
 use Rattle.std.proofs.lemmas.List.Elements.{All-append}
 use Rattle.pages.specs.declared.access.Range.{Range}
 use Rattle.pages.specs.declared.access.Store.{Store}
-use Rattle.pages.specs.Memory.{IsBytes, Memory, after, any_code, width_bytes}
-use Rattle.pages.specs.StoreLaws.{TouchesNoCode, bytes_after, after-append}
+use Rattle.pages.specs.Memory.{IsBytes, Memory, TouchesNoCode, after, any_code, width_bytes}
+use Rattle.pages.proofs.StoreLaws.{bytes_after}
 use Rattle.round_schedule.specs.declared.access.Access.{Access}
 use Rattle.round_schedule.specs.declared.access.Stepped.{Stepped}
 use Rattle.round_schedule.specs.declared.access.Stepped.TheVariants.{Done, Stopped, Waits}

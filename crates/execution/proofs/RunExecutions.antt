@@ -1,7 +1,7 @@
 -- Every run in rounds is an execution.
 use Rattle.std.proofs.Common.{◌≡◌, ℕ, zero, suc, ◌+◌, List, [], ◌++◌, refl, sym, ap, subst, ◌∙◌, arith, append-nil}
 use Rattle.pages.specs.Memory.{IsBytes, Memory, after}
-use Rattle.pages.specs.StoreLaws.{bytes_after}
+use Rattle.pages.proofs.StoreLaws.{bytes_after}
 use Rattle.round_schedule.specs.declared.event.Event.{Event}
 use Rattle.round_schedule.specs.Schedule.{HartRound, State, Words, all_stores, committed, hart_rounds, opening_state, round_of, run_of, serial_from}
 use Rattle.hart_step.specs.declared.hart.Hart.{Hart}
