@@ -5,7 +5,7 @@ ghost use Rattle.host_io.specs.declared.error.RunError.TheVariants as refusals;
 ghost use Rattle.machine.specs.Settings.{IsPlan, IsReason, RefusedInOrder, settings_fault};
 ghost use Rattle.emulation.specs.Reports.{report_after};
 
-use crate::reporting::Report;
+use crate::reporting::report_on;
 use host_io::{RunError, Sink};
 use machine::{Settings, prepare};
 use std::alloc::Global;
@@ -45,5 +45,5 @@ pub fn emulate<S: Sink, R: Threads + Wait + Sync>(
 {
     let mut machine = prepare(alloc, image, input, settings)?;
     machine.run(rt, settings.rounds, settings.workers)?;
-    machine.report_on(rt, settings.workers, alloc, out)
+    report_on(rt, settings.workers, alloc, &machine, out)
 }

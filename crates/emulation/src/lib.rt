@@ -9,6 +9,6 @@ mod tracing;
 
 pub use emulation::emulate;
 pub use ordering::order_run;
-pub use reporting::Report;
+pub use reporting::{Report, report_on};
 pub use showing::{Shown, report_run, show_run};
 pub use tracing::trace_run;

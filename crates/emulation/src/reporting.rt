@@ -9,7 +9,7 @@ use std::alloc::Global;
 use std::sync::Wait;
 use std::thread::Threads;
 
-/// The report of a machine. Its calls stand here and not at `Machine`, which waits for no text.
+/// The report of a machine. It stands here and not at `Machine`, which waits for no text.
 pub trait Report {
     /// Writes the report of the state.
     ///
@@ -17,19 +17,6 @@ pub trait Report {
     ///
     /// `OutOfMemory` and `SinkFailed`; a beginning of the report is written then.
     fn report<S: Sink>(&self, alloc: Global, out: &mut S) -> Result<(), RunError>;
-
-    /// Writes the same, with the lines of its events formatted by so many workers, though by no more than 16.
-    ///
-    /// # Errors
-    ///
-    /// As `report`.
-    fn report_on<S: Sink, R: Threads + Wait + Sync>(
-        &self,
-        rt: &R,
-        workers: u32,
-        alloc: Global,
-        out: &mut S,
-    ) -> Result<(), RunError>;
 }
 
 impl Report for Machine {
@@ -38,18 +25,24 @@ impl Report for Machine {
     {
         write_state(alloc, &state_of(self), self.trace(), out)
     }
+}
 
-    fn report_on<S: Sink, R: Threads + Wait + Sync>(
-        &self,
-        rt: &R,
-        workers: u32,
-        alloc: Global,
-        out: &mut S,
-    ) -> Result<(), RunError>
-        ensures { WritesText (report_of self.now.state) (S.took out.old) (S.failures out.old) result (S.took out.new) (S.failures out.new) }
-    {
-        write_state_on(rt, workers, alloc, &state_of(self), self.trace(), out)
-    }
+/// Writes the report of a machine, with the lines of its events formatted by so many workers, though by no more than 16.
+///
+/// # Errors
+///
+/// As `report`.
+pub fn report_on<S: Sink, R: Threads + Wait + Sync>(
+    rt: &R,
+    workers: u32,
+    alloc: Global,
+    machine: &Machine,
+    out: &mut S,
+) -> Result<(), RunError>
+    ensures { WritesText (report_of machine.now.state) (S.took out.old) (S.failures out.old) result
+        (S.took out.new) (S.failures out.new) }
+{
+    write_state_on(rt, workers, alloc, &state_of(machine), machine.trace(), out)
 }
 
 /// What a run has come to, for its report.

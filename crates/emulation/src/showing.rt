@@ -8,7 +8,7 @@ ghost use Rattle.emulation.specs.Reports.{report_after};
 ghost use Rattle.emulation.specs.Showing.{all_end_well, ends_well, shown_text};
 ghost use Rattle.machine.specs.Untraced.{IsUntraced};
 
-use crate::reporting::{Report, untraced_state_of};
+use crate::reporting::{report_on, untraced_state_of};
 use hart_step::{Hart, Stop};
 use host_io::{RunError, Sink, put_all};
 use machine::{GuestFiles, Observer, Settings, UntracedMachine, prepare, prepare_untraced};
@@ -104,7 +104,7 @@ pub fn report_run<S: Sink, O: Observer, R: Threads + Wait + Sync>(
 {
     let mut machine = prepare(alloc, files.image, files.input, settings)?;
     machine.run_observed(rt, settings.rounds, settings.workers, observer)?;
-    machine.report_on(rt, settings.workers, alloc, out)?;
+    report_on(rt, settings.workers, alloc, &machine, out)?;
     Ok(all_end_well(machine.harts()))
 }
 
