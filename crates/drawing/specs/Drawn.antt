@@ -3,9 +3,14 @@ use Rattle.std.specs.Prelude.{ℕ, List}
 use Rattle.round_planner.specs.Quotas.{Planned}
 use Rattle.picture.specs.Picture.{picture_text}
 use Rattle.picture.specs.declared.view.View.{View}
+use Rattle.machine.specs.Machine.{Running}
 use Rattle.machine.specs.Settings.{after_run}
 use Rattle.machine.specs.declared.settings.Settings.{Settings}
 
--- of the events of the run, with the harts as they are at its end
+-- of the events of a run, with the harts as they are at its end
+abbrev pub picture_of : Running → View → List ℕ
+picture_of r view = picture_text r.state.trace r.state.harts view
+
+-- that of the run of a guest program
 abbrev pub picture_after : Settings → List ℕ → List ℕ → Planned → View → List ℕ
-picture_after s file input plan view = picture_text (after_run s file input plan).state.trace (after_run s file input plan).state.harts view
+picture_after s file input plan view = picture_of (after_run s file input plan) view

@@ -1,12 +1,13 @@
-ghost use Rattle.std.specs.Prelude.{◌≡◌, ◌⊎◌, ◌<◌, ◌++◌, None, IfErr, OnOk, OnErr};
+ghost use Rattle.std.specs.Prelude.{◌≡◌, ◌⊎◌, ◌<◌, ◌≤◌, ◌++◌, None, Err, IfErr, OnOk, OnErr};
 ghost use Rattle.round_planner.specs.Quotas.{Planned};
-ghost use Rattle.host_io.specs.Taken.{BeganText};
+ghost use Rattle.host_io.specs.Taken.{BeganText, WritesText};
 ghost use Rattle.host_io.specs.declared.error.RunError.TheVariants as refusals;
+ghost use Rattle.machine.specs.Machine.{after_rounds};
 ghost use Rattle.machine.specs.Settings.{IsPlan, IsReason, RefusedInOrder, settings_fault};
-ghost use Rattle.drawing.specs.Drawn.{picture_after};
+ghost use Rattle.drawing.specs.Drawn.{picture_after, picture_of};
 
 use host_io::{RunError, Sink};
-use machine::{GuestFiles, Observer, Settings, prepare};
+use machine::{GuestFiles, Machine, Observer, Settings, prepare};
 use picture::{View, write_picture};
 use std::alloc::Global;
 use std::sync::Wait;
@@ -47,6 +48,30 @@ pub fn draw_run<S: Sink, O: Observer, R: Threads + Wait + Sync>(
         ((e ≡ refusals.SinkFailed) × (S.failures out.old < S.failures out.new))) }
 {
     let mut machine = prepare(alloc, files.image, files.input, settings)?;
+    let drawn = draw_rounds(rt, alloc, &mut machine, settings, view, observer, out);
+    drop(machine);
+    drawn
+}
+
+/// Runs a machine on for the rounds of the settings, and writes the picture of what it has come to.
+fn draw_rounds<S: Sink, O: Observer, R: Threads + Wait + Sync>(
+    rt: &R,
+    alloc: Global,
+    machine: &mut Machine,
+    settings: &Settings<'_>,
+    view: &View<'_>,
+    observer: &mut O,
+    out: &mut S,
+) -> Result<(), RunError>
+    requires some_workers { 1 ≤ settings.now.workers }
+    requires few_workers { settings.now.workers ≤ 16 }
+    requires few_harts { machine.old.plan.harts ≤ 64 }
+    requires opened { machine.old.state.rounds ≡ 0 }
+    ensures writes { WritesText
+        (picture_of (after_rounds settings.now.rounds machine.old) view.now)
+        (S.took out.old) (S.failures out.old) result (S.took out.new) (S.failures out.new) }
+    ensures memory { result ≡ Err refusals.OutOfMemory → S.took out.new ≡ S.took out.old }
+{
     machine.run_observed(rt, settings.rounds, settings.workers, observer)?;
     write_picture(alloc, machine.trace(), machine.harts(), view, out)
 }
