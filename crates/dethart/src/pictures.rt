@@ -1,9 +1,9 @@
 //! The command that draws a run.
 
 use crate::failure::Failure;
-use crate::ranges::{access_ranges, named_bytes};
+use crate::ranges::{NamedBytes, access_ranges, named_bytes};
 use crate::run::{RunFiles, guest_files, progress_of, read_run, settings_of};
-use command_line::{Draw, Program};
+use command_line::{Bytes, Draw, Program};
 use drawing::{View, draw_run};
 use host_io::WriteSink;
 use machine::prepare;
@@ -20,18 +20,32 @@ pub(crate) fn write_drawing<R: Threads + Wait + Sync, W: Write>(
     out: &mut W,
 ) -> Result<(), Failure> {
     let files = read_run(rt, &asked.run)?;
-    let named = named_bytes(
+    let NamedBytes { bytes, fault } = named_bytes(
         rt.alloc(),
         &files.program.image,
         asked.run.program.pages,
         &asked.seen,
         &asked.objects,
     )?;
-    if let Some(fault) = named.fault {
-        refuse_run(rt.alloc(), &asked.run.program, &files)?;
-        return Err(fault);
+    match fault {
+        Some(fault) => {
+            refuse_run(rt.alloc(), &asked.run.program, &files)?;
+            Err(fault)
+        }
+        None => draw_files(rt, threads, asked, &files, &bytes, out),
     }
-    let ranges = access_ranges(rt.alloc(), &named.bytes)?;
+}
+
+/// Runs a guest program, and writes a picture of what its run does to these bytes.
+fn draw_files<R: Threads + Wait + Sync, W: Write>(
+    rt: &HostRuntime,
+    threads: &R,
+    asked: &Draw<'_>,
+    files: &RunFiles,
+    bytes: &[Bytes],
+    out: &mut W,
+) -> Result<(), Failure> {
+    let ranges = access_ranges(rt.alloc(), bytes)?;
     let view = View {
         ranges: ranges.as_slice(),
         from: asked.from.unwrap_or(0),
