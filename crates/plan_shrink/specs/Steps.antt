@@ -67,9 +67,10 @@ pub record LeadsTo (ends : Planned → Ended) (e : Ended) (p : Planned) (s : Ste
 abbrev pub NoStepLeads : (Planned → Ended) → Ended → Planned → Type 0
 NoStepLeads ends e p = (s : Step) → LeadsTo ends e p s → ⊥
 
--- a plan for the same harts, with the same budget, that ends the same, and from which no single step does
+-- a plan for the same harts, with the same budget, that isn't larger and ends the same, and from which no single step does
 pub record IsShrunk (ends : Planned → Ended) (p q : Planned) : Type 0 where
   pub harts : q.harts ≡ p.harts
   pub budget : q.budget ≡ p.budget
+  pub no_larger : size q.rows ≤ size p.rows
   pub same : ends q ≡ ends p
   pub least : NoStepLeads ends (ends p) q

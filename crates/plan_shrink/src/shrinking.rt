@@ -16,7 +16,7 @@ use std::alloc::Global;
 use std::sync::Wait;
 use std::thread::Threads;
 
-/// A plan that ends as that of these rows does, and from which no single step to a smaller plan ends so.
+/// A plan that ends as that of these rows does and isn't larger, and from which no single step to a smaller plan ends so.
 ///
 /// The runs go one after another, and the observer looks on after each of them.
 ///
