@@ -257,10 +257,10 @@ def wanted(lines, mark, rest):
 
 
 class Reader:
-    """Reads one table after another. A table sees the files of those before it."""
+    """Reads one table after another. A table sees the files of those before it, and each name is that of one file."""
 
     def __init__(self):
-        self.files, self.cases, self.lines = {}, [], []
+        self.files, self.places, self.cases, self.lines = {}, {}, [], []
 
     def table(self, path):
         with open(path, encoding="utf-8") as file:
@@ -278,6 +278,9 @@ class Reader:
             return
         if mark == "file":
             name, kind, *words = rest.split()
+            if name in self.places:
+                raise BadTable(f"there is a file {name} in {self.places[name]}")
+            self.places[name] = place
             body = itertools.takewhile(lambda line: line.startswith("  "), after)
             self.files[name] = file_of(kind, words, [line[2:] for line in body], self.files)
         elif mark == "case":
