@@ -1,7 +1,8 @@
 # What the scripts of this folder and `dethart` share about built programs. To be sourced by bash, with root set to the repository's
 # folder.
 #
-# A built program has a file SOURCES beside it: the toolchain's line, the program's sha256, and one sha256 over what it was made of.
+# A built program has a file SOURCES beside it: the sum of the logic that it was proved in, the program's sha256, and one sha256 over what
+# it was made of. Which kit of that logic built it isn't told: where two make other bytes, the program's sum tells them apart.
 # built/ has the program that is shipped with the repository, .built/ the one that was built here last.
 
 # The crates that the program stands on by crates.txt, each after those that it stands on itself, and the program's last.
@@ -58,9 +59,15 @@ has_program_of() {
     [[ $told == *$'\n'"sources $2" && $told == *$'\n'"program $(sum_of_file "$1/dethart")"$'\n'* ]]
 }
 
+# What the toolchain on the PATH proves in, as 'logic SUM', by the end of its line 'KIT logic SUM'; else its whole line.
+logic_of_toolchain() {
+  local told
+  told=$(rt version) && printf 'logic %s\n' "${told#* logic }"
+}
+
 # Puts the program $1, made of the sources with the sum $2 by the toolchain on the PATH, into folder $3 with its SOURCES.
 put_program() {
   mkdir -p -- "$3" && rm -f -- "$3/SOURCES" && cp -- "$1" "$3/dethart.new" && mv -f -- "$3/dethart.new" "$3/dethart" &&
-    printf 'kit %s\nprogram %s\nsources %s\n' "$(rt version)" "$(sum_of_file "$3/dethart")" "$2" >"$3/SOURCES.new" &&
+    { logic_of_toolchain && printf 'program %s\nsources %s\n' "$(sum_of_file "$3/dethart")" "$2"; } >"$3/SOURCES.new" &&
     mv -f -- "$3/SOURCES.new" "$3/SOURCES"
 }
