@@ -59,11 +59,11 @@ arguments = { printf '.globl __kit_arguments\n.type __kit_arguments, @object\n.d
 .PHONY: anew
 anew:
 
-own = $(built)/start.o $(in_place:%=$(built)/%.o) $(built)/$(notdir $*).arguments.o
+own = $(built)/start.o $(in_place:%=$(built)/%.o) $(built)/$(notdir $@).arguments.o
 define link_program
-	@$(arguments) | $(CROSS)gcc $(arch) -c -x assembler - -o $(built)/$(notdir $*).arguments.o
+	@$(arguments) | $(CROSS)gcc $(arch) -c -x assembler - -o $(built)/$(notdir $@).arguments.o
 	$(1) $(layout) $(own) $(2) $< $(LIBS) $(3) $(libraries) -o $@
-	@rm $(built)/$(notdir $*).arguments.o
+	@rm $(built)/$(notdir $@).arguments.o
 endef
 compile_c = $(CROSS)gcc $(target) -O1 $(headers) $(CFLAGS)
 
@@ -78,7 +78,7 @@ ready = $(built)/start.o $(in_place:%=$(built)/%.o) $(built)/libkit.a $(built)/l
 # C++ without exceptions: the headers of libstdc++ for Linux on this processor, and runtime.cpp in place of its library.
 cpp_headers = $(if $(wildcard $(LIBSTDCXX)/atomic),,$(error there is no C++ in $(LIBSTDCXX): apt-get install libstdc++-12-dev-riscv64-cross)) \
               -nostdinc++ -isystem '$(folder)/pthreads/cpp/include' -isystem '$(LIBSTDCXX)' -isystem '$(LIBSTDCXX)/riscv64-linux-gnu'
-cpp = $(CROSS)g++ $(target) -fno-exceptions -fno-rtti $(cpp_headers) $(headers)
+cpp = $(CROSS)g++ $(target) -fno-exceptions -fno-rtti -D_GNU_SOURCE $(cpp_headers) $(headers)
 compile_cpp = $(cpp) -O1 $(CFLAGS)
 
 %.elf: %.cpp $(ready) $(built)/runtime.o
@@ -101,19 +101,17 @@ $(built)/start.o: $(kit)/pthreads/source/start.S
 $(built)/libkit.a: $(parts:%=$(built)/%.o)
 	$(call build,$(CROSS)ar crD $$made $^)
 
-# The data that only one file of the kit knows gets names that no program has, so that --see-object finds the program's. All names
-# are weak: a function of the program's own comes before one of the kit.
-names_hidden = $(CROSS)nm $$made | awk '$$2 ~ /[bdr]/ { print $$3, "__kit_" $$3 }' >$$made.own && \
-               $(CROSS)nm --defined-only --extern-only $$made | awk '{ print $$3 }' >$$made.weak && \
-               $(CROSS)objcopy --redefine-syms=$$made.own --weaken-symbols=$$made.weak $$made && rm $$made.own $$made.weak
+# All names are weak: a function of the program's own comes before one of the kit.
+names_weak = $(CROSS)nm --defined-only --extern-only $$made | awk '{ print $$3 }' >$$made.weak && \
+             $(CROSS)objcopy --weaken-symbols=$$made.weak $$made && rm $$made.weak
 
 $(built)/%.o: $(kit)/pthreads/source/%.c $(sources)
 	$(call build,$(CROSS)gcc $(target) -O2 -std=gnu11 -D_GNU_SOURCE -Wall -Wextra $(headers) \
-	    -c '$(folder)/pthreads/source/$*.c' -o $$made && $(names_hidden))
+	    -c '$(folder)/pthreads/source/$*.c' -o $$made && $(names_weak))
 
 .PRECIOUS: $(built)/%.o
 
-$(built)/runtime.o: $(kit)/pthreads/cpp/runtime.cpp $(kit)/pthreads/cpp/include/features.h $(sources)
+$(built)/runtime.o: $(kit)/pthreads/cpp/runtime.cpp $(addprefix $(kit)/pthreads/cpp/include/,features.h syscall.h bits/c++locale.h bits/ctype_base.h) $(sources)
 	$(call build,$(cpp) -O2 -c '$(folder)/pthreads/cpp/runtime.cpp' -o $$made)
 
 # picolibc without its lines.

@@ -5,11 +5,11 @@
 #include "kit.h"
 
 _Thread_local struct __cleanup *__kit_cleanups;
-static _Thread_local int state = PTHREAD_CANCEL_ENABLE, type = PTHREAD_CANCEL_DEFERRED;
+static _Thread_local int __kit_state = PTHREAD_CANCEL_ENABLE, __kit_type = PTHREAD_CANCEL_DEFERRED;
 
 bool __kit_is_cancelled(void)
 {
-    return __kit_self->cancelled && state == PTHREAD_CANCEL_ENABLE;
+    return __kit_self->cancelled && __kit_state == PTHREAD_CANCEL_ENABLE;
 }
 
 void pthread_testcancel(void)
@@ -17,7 +17,7 @@ void pthread_testcancel(void)
     __kit_end_with_others();
     if (__kit_self && __kit_is_cancelled()) {
         acquire_fence();
-        state = PTHREAD_CANCEL_DISABLE;
+        __kit_state = PTHREAD_CANCEL_DISABLE;
         pthread_exit(PTHREAD_CANCELED);
     }
 }
@@ -25,7 +25,7 @@ void pthread_testcancel(void)
 // 'Asynchronous' is at once only where a thread cancels itself: no hart can be stopped from outside.
 static void act_at_once(void)
 {
-    if (type == PTHREAD_CANCEL_ASYNCHRONOUS)
+    if (__kit_type == PTHREAD_CANCEL_ASYNCHRONOUS)
         pthread_testcancel();
 }
 
@@ -45,8 +45,8 @@ int pthread_setcancelstate(int new, int *old)
     if (new != PTHREAD_CANCEL_ENABLE && new != PTHREAD_CANCEL_DISABLE)
         return EINVAL;
     if (old)
-        *old = state;
-    state = new;
+        *old = __kit_state;
+    __kit_state = new;
     act_at_once();
     return 0;
 }
@@ -56,8 +56,8 @@ int pthread_setcanceltype(int new, int *old)
     if (new != PTHREAD_CANCEL_DEFERRED && new != PTHREAD_CANCEL_ASYNCHRONOUS)
         return EINVAL;
     if (old)
-        *old = type;
-    type = new;
+        *old = __kit_type;
+    __kit_type = new;
     act_at_once();
     return 0;
 }

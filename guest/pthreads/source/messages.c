@@ -22,20 +22,18 @@ static void say(const char *format, va_list rest, int error)
     funlockfile(stderr);
 }
 
+void vwarnc(int error, const char *format, va_list rest) { say(format, rest, error); }
 void vwarn(const char *format, va_list rest) { say(format, rest, errno); }
 void vwarnx(const char *format, va_list rest) { say(format, rest, 0); }
 
-void verr(int value, const char *format, va_list rest)
+void verrc(int value, int error, const char *format, va_list rest)
 {
-    say(format, rest, errno);
+    say(format, rest, error);
     exit(value);
 }
 
-void verrx(int value, const char *format, va_list rest)
-{
-    say(format, rest, 0);
-    exit(value);
-}
+void verr(int value, const char *format, va_list rest) { verrc(value, errno, format, rest); }
+void verrx(int value, const char *format, va_list rest) { verrc(value, 0, format, rest); }
 
 #define WITH_REST(call)          \
     va_list rest;                \
@@ -43,8 +41,10 @@ void verrx(int value, const char *format, va_list rest)
     call;                        \
     va_end(rest)
 
+void warnc(int error, const char *format, ...) { WITH_REST(vwarnc(error, format, rest)); }
 void warn(const char *format, ...) { WITH_REST(vwarn(format, rest)); }
 void warnx(const char *format, ...) { WITH_REST(vwarnx(format, rest)); }
+void errc(int value, int error, const char *format, ...) { WITH_REST(verrc(value, error, format, rest)); }
 void err(int value, const char *format, ...) { WITH_REST(verr(value, format, rest)); }
 void errx(int value, const char *format, ...) { WITH_REST(verrx(value, format, rest)); }
 

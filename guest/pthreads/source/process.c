@@ -19,25 +19,25 @@ extern void (*__init_array_start[])(void), (*__init_array_end[])(void);
 
 // Ends. dethart has no call that stops another hart, so each stops itself where it sees that the program has ended.
 
-static volatile unsigned ending; // 1: some hart is about to set __kit_ended
-static volatile int end_value;
-static struct __kit_thread no_thread; // the job of a hart that is to exit
+static volatile unsigned __kit_ending; // 1: some hart is about to set __kit_ended
+static volatile int __kit_end_value;
+static struct __kit_thread __kit_no_thread; // the job of a hart that is to exit
 
 _Noreturn void __kit_exit_too(void)
 {
     acquire_fence();
-    exit_hart((uint64_t)(int64_t)end_value);
+    exit_hart((uint64_t)(int64_t)__kit_end_value);
 }
 
 _Noreturn void __kit_end_all(int value)
 {
-    if (swap_acquire(&ending, 1) == 0) {
-        end_value = value;
+    if (swap_acquire(&__kit_ending, 1) == 0) {
+        __kit_end_value = value;
         release_fence();
         __kit_ended = 1;
         full_fence(); // as __kit_hart_is_idle says
         for (uint64_t hart = 0; hart < __kit_hart_count; hart++)
-            __kit_harts[hart].job = &no_thread;
+            __kit_harts[hart].job = &__kit_no_thread;
         exit_hart((uint64_t)(int64_t)value);
     }
     for (;;)
@@ -122,13 +122,13 @@ static void call_all(void (**first)(void), void (**end)(void))
 static _Noreturn void runs_main(void)
 {
     enum { MOST_WORDS = 63 };
-    static char *words[MOST_WORDS + 1];
+    static char *__kit_words[MOST_WORDS + 1];
     int count = 0;
     for (char *word = __kit_arguments; *word && count < MOST_WORDS; word += strlen(word) + 1)
-        words[count++] = word;
+        __kit_words[count++] = word;
     call_all(__preinit_array_start, __preinit_array_end);
     call_all(__init_array_start, __init_array_end);
-    exit(main(count, words, &words[count]));
+    exit(main(count, __kit_words, &__kit_words[count]));
 }
 
 // The fence comes before the look at __kit_ended, and that of __kit_end_all before it stores the job: so either is seen.

@@ -4,20 +4,20 @@
 #include <unistd.h>
 #include "kit.h"
 
-static _Thread_local sigset_t blocked;
+static _Thread_local sigset_t __kit_blocked;
 
 int pthread_sigmask(int how, const sigset_t *set, sigset_t *old)
 {
     if (old)
-        *old = blocked;
+        *old = __kit_blocked;
     if (!set)
         return 0;
     if (how == SIG_BLOCK)
-        blocked |= *set;
+        __kit_blocked |= *set;
     else if (how == SIG_UNBLOCK)
-        blocked &= ~*set;
+        __kit_blocked &= ~*set;
     else if (how == SIG_SETMASK)
-        blocked = *set;
+        __kit_blocked = *set;
     else
         return EINVAL;
     return 0;

@@ -6,29 +6,29 @@
 #include <stdio.h>
 #include "kit.h"
 
-static pthread_mutex_t lock = PTHREAD_RECURSIVE_MUTEX_INITIALIZER_NP; // one for all streams
+static pthread_mutex_t __kit_lock = PTHREAD_RECURSIVE_MUTEX_INITIALIZER_NP; // one for all streams
 
-void flockfile(FILE *stream) { (void)stream; pthread_mutex_lock(&lock); }
-int ftrylockfile(FILE *stream) { (void)stream; return pthread_mutex_trylock(&lock); }
-void funlockfile(FILE *stream) { (void)stream; pthread_mutex_unlock(&lock); }
+void flockfile(FILE *stream) { (void)stream; pthread_mutex_lock(&__kit_lock); }
+int ftrylockfile(FILE *stream) { (void)stream; return pthread_mutex_trylock(&__kit_lock); }
+void funlockfile(FILE *stream) { (void)stream; pthread_mutex_unlock(&__kit_lock); }
 
-static char kept[4096];
-static unsigned kept_bytes;
-static int buffering = _IOFBF;
+static char __kit_kept[4096];
+static unsigned __kit_kept_bytes;
+static int __kit_buffering = _IOFBF;
 
 static void put_out(void)
 {
-    unsigned bytes = kept_bytes;
-    kept_bytes = 0;
+    unsigned bytes = __kit_kept_bytes;
+    __kit_kept_bytes = 0;
     for (unsigned i = 0; i < bytes; i++)
-        put_byte((uint8_t)kept[i]);
+        put_byte((uint8_t)__kit_kept[i]);
 }
 
 // A call of another thread is let come to its end, unless that takes too long: then its thread may wait for this one.
 void __kit_flush_output(void)
 {
     enum { PATIENCE = 30000 }; // rounds: printf of a double has some 20,000 instructions
-    for (int left = PATIENCE; left > 0 && kept_bytes && ftrylockfile(stdout); left--)
+    for (int left = PATIENCE; left > 0 && __kit_kept_bytes && ftrylockfile(stdout); left--)
         round_number();
     put_out();
 }
@@ -36,8 +36,8 @@ void __kit_flush_output(void)
 static int put_output(char c, FILE *stream)
 {
     (void)stream;
-    kept[kept_bytes++] = c;
-    if (kept_bytes == sizeof kept || buffering == _IONBF || (buffering == _IOLBF && c == '\n'))
+    __kit_kept[__kit_kept_bytes++] = c;
+    if (__kit_kept_bytes == sizeof __kit_kept || __kit_buffering == _IONBF || (__kit_buffering == _IOLBF && c == '\n'))
         put_out();
     return (unsigned char)c;
 }
@@ -63,10 +63,10 @@ static int get_input(FILE *stream)
     return c < 0 ? _FDEV_EOF : c;
 }
 
-static FILE input = FDEV_SETUP_STREAM(0, get_input, 0, _FDEV_SETUP_READ);
-static FILE output = FDEV_SETUP_STREAM(put_output, 0, flush_output, _FDEV_SETUP_WRITE);
-static FILE errors = FDEV_SETUP_STREAM(put_error, 0, 0, _FDEV_SETUP_WRITE);
-FILE *const stdin = &input, *const stdout = &output, *const stderr = &errors;
+static FILE __kit_input = FDEV_SETUP_STREAM(0, get_input, 0, _FDEV_SETUP_READ);
+static FILE __kit_output = FDEV_SETUP_STREAM(put_output, 0, flush_output, _FDEV_SETUP_WRITE);
+static FILE __kit_errors = FDEV_SETUP_STREAM(put_error, 0, 0, _FDEV_SETUP_WRITE);
+FILE *const stdin = &__kit_input, *const stdout = &__kit_output, *const stderr = &__kit_errors;
 
 int setvbuf(FILE *stream, char *buffer, int mode, size_t size)
 {
@@ -76,7 +76,7 @@ int setvbuf(FILE *stream, char *buffer, int mode, size_t size)
         return -1;
     if (stream == stdout) {
         flockfile(stream);
-        buffering = mode;
+        __kit_buffering = mode;
         funlockfile(stream);
     }
     return 0;

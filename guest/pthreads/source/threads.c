@@ -7,6 +7,7 @@
 #include <errno.h>
 #include <stdio.h>
 #include <stdlib.h>
+#include <string.h>
 #include "ticket.h"
 
 // When a new thread begins: START=0 at once, START=1 when the thread that created it begins to wait, START=2 one or the other
@@ -20,20 +21,20 @@ enum {
     GATE_OPENS = 4000,  // rounds after which a thread begins though the one that created it never waited
 };
 
-static volatile unsigned threads_alive = 1, threads_created = 1;
+static volatile unsigned __kit_threads_alive = 1, __kit_threads_created = 1;
 
 // Records of threads are given back to a list, and never to malloc, so that a name of old can be told.
 
-static struct __ticket records_lock;
-static struct __kit_thread *free_records;
+static struct __ticket __kit_records_lock;
+static struct __kit_thread *__kit_free_records;
 
 static struct __kit_thread *take_record(void)
 {
-    ticket_take(&records_lock);
-    struct __kit_thread *record = free_records;
+    ticket_take(&__kit_records_lock);
+    struct __kit_thread *record = __kit_free_records;
     if (record)
-        free_records = record->next;
-    ticket_free(&records_lock);
+        __kit_free_records = record->next;
+    ticket_free(&__kit_records_lock);
     return record ? record : malloc(sizeof *record);
 }
 
@@ -43,11 +44,11 @@ static void give_record_back(struct __kit_thread *record)
         record->number = 0;
         return;
     }
-    ticket_take(&records_lock);
+    ticket_take(&__kit_records_lock);
     record->number = 0;
-    record->next = free_records;
-    free_records = record;
-    ticket_free(&records_lock);
+    record->next = __kit_free_records;
+    __kit_free_records = record;
+    ticket_free(&__kit_records_lock);
 }
 
 struct __kit_thread *__kit_thread_of(pthread_t handle)
@@ -60,12 +61,12 @@ struct __kit_thread *__kit_thread_of(pthread_t handle)
 
 static bool begin_together(void)
 {
-    static volatile unsigned chosen; // 1: no, 2: yes
-    if (!chosen) {
+    static volatile unsigned __kit_chosen; // 1: no, 2: yes
+    if (!__kit_chosen) {
         uintptr_t start = (uintptr_t)__kit_start;
-        chosen = 1 + (start == 2 ? (round_number() * 2654435761u >> 16 & 1) : start);
+        __kit_chosen = 1 + (start == 2 ? (round_number() * 2654435761u >> 16 & 1) : start);
     }
-    return chosen == 2;
+    return __kit_chosen == 2;
 }
 
 // Takes the lowest hart that is free, which takes patience where all have a thread.
@@ -96,7 +97,7 @@ int pthread_create(pthread_t *handle, const pthread_attr_t *attr, void *(*run)(v
         return EAGAIN;
     }
     *thread = (struct __kit_thread){
-        .number = add_relaxed(&threads_created, 1) + 1,
+        .number = add_relaxed(&__kit_threads_created, 1) + 1,
         .fate = attr && attr->detached ? DETACHED : 0,
         .run = run,
         .argument = argument,
@@ -109,7 +110,7 @@ int pthread_create(pthread_t *handle, const pthread_attr_t *attr, void *(*run)(v
         here->has_created = 1;
     }
     *handle = __kit_name_of(thread);
-    add_relaxed(&threads_alive, 1);
+    add_relaxed(&__kit_threads_alive, 1);
     release_fence();
     __kit_harts[hart].job = thread;
     return 0;
@@ -132,7 +133,7 @@ void __kit_thread_ends(void *result)
         give_record_back(me);
     else
         store_release(&me->done, 1);
-    if (add_both(&threads_alive, -1) == 1)
+    if (add_both(&__kit_threads_alive, -1) == 1)
         exit(0);
 }
 
@@ -255,26 +256,65 @@ int pthread_detach(pthread_t handle)
 
 pthread_t pthread_self(void) { return __kit_handle; }
 int pthread_equal(pthread_t a, pthread_t b) { return a == b; }
-int pthread_setname_np(pthread_t thread, const char *name) { (void)name; return __kit_thread_of(thread) ? 0 : ESRCH; }
 
 // How many threads are to run at once is said, and makes no difference.
-static int concurrency;
+static int __kit_concurrency;
 
-int pthread_getconcurrency(void) { return concurrency; }
+int pthread_getconcurrency(void) { return __kit_concurrency; }
 
 int pthread_setconcurrency(int level)
 {
     if (level < 0)
         return EINVAL;
-    concurrency = level;
+    __kit_concurrency = level;
     return 0;
 }
 
-int pthread_getname_np(pthread_t handle, char *name, size_t size)
+// The name of the thread on each hart, as Linux keeps it, and the number of the thread that got it.
+struct name {
+    unsigned number;
+    char text[16];
+};
+
+static struct name __kit_names[MOST_HARTS];
+
+// Where the thread's name stands, or 0 where none of this handle runs.
+static struct name *name_of(const struct __kit_thread *thread)
 {
-    struct __kit_thread *thread = __kit_thread_of(handle);
-    if (!thread)
+    for (uint64_t hart = 0; thread && hart < __kit_hart_count; hart++)
+        if (__kit_harts[hart].job == thread || (hart == 0 && thread == &__kit_main_thread))
+            return &__kit_names[hart];
+    return 0;
+}
+
+int pthread_setname_np(pthread_t handle, const char *text)
+{
+    const struct __kit_thread *thread = __kit_thread_of(handle);
+    struct name *name = name_of(thread);
+    if (!name)
         return ESRCH;
-    snprintf(name, size, "thread %u", thread->number);
+    if (strlen(text) >= sizeof name->text)
+        return ERANGE;
+    ticket_take(&__kit_records_lock);
+    name->number = thread->number;
+    strcpy(name->text, text);
+    ticket_free(&__kit_records_lock);
+    return 0;
+}
+
+int pthread_getname_np(pthread_t handle, char *text, size_t size)
+{
+    const struct __kit_thread *thread = __kit_thread_of(handle);
+    const struct name *name = name_of(thread);
+    if (!name)
+        return ESRCH;
+    if (size < sizeof name->text)
+        return ERANGE;
+    ticket_take(&__kit_records_lock);
+    if (name->number == thread->number)
+        strcpy(text, name->text);
+    else
+        snprintf(text, size, "thread %u", thread->number);
+    ticket_free(&__kit_records_lock);
     return 0;
 }

@@ -1,4 +1,5 @@
-// Keys with destructors, once, variables of a thread's own, errno, strdup, time, and formats of printf and scanf.
+// Keys with destructors, once, variables of a thread's own, errno, strdup, names, time, and formats of printf and scanf.
+#define _GNU_SOURCE
 #include <assert.h>
 #include <errno.h>
 #include <stdio.h>
@@ -24,12 +25,22 @@ static void make(void)
     assert(pthread_key_create(&key, is_gone) == 0);
 }
 
+static void has_a_name(long me)
+{
+    char name[16], wanted[16];
+    sprintf(wanted, "worker %ld", me);
+    assert(pthread_setname_np(pthread_self(), wanted) == 0 && pthread_setname_np(pthread_self(), "sixteen letters.") == ERANGE);
+    assert(pthread_getname_np(pthread_self(), name, sizeof name) == 0 && strcmp(name, wanted) == 0);
+    assert(pthread_getname_np(pthread_self(), name, 15) == ERANGE);
+}
+
 static void *uses(void *me)
 {
     pthread_once(&once, make);
     assert(pthread_getspecific(key) == NULL);
     char *text = strdup("own");
     pthread_setspecific(key, text);
+    has_a_name((long)me);
     own += (int)(long)me;
     errno = (int)(long)me + 1;
     usleep(1000);
