@@ -1,13 +1,18 @@
 // What libstdc++'s headers want of its library, which is there for other processors only: new and delete, static variables of
-// functions, threads, conditions, once, clocks. There are no exceptions: where one would be thrown, the program aborts.
+// functions, counts of shared pointers, threads, conditions, once, waits, clocks. There are no exceptions: where one would be thrown,
+// the program aborts.
 #include <bits/functexcept.h>
 #include <chrono>
 #include <condition_variable>
 #include <errno.h>
+#include <memory>
 #include <mutex>
 #include <new>
 #include <sched.h>
+#include <stdarg.h>
 #include <stdlib.h>
+#include <string>
+#include <syscall.h>
 #include <thread>
 #include <time.h>
 #include <unistd.h>
@@ -27,6 +32,7 @@ void *operator new(size_t size, std::align_val_t alignment)
 }
 
 void *operator new[](size_t size) { return operator new(size); }
+void *operator new[](size_t size, std::align_val_t alignment) { return operator new(size, alignment); }
 void *operator new(size_t size, const std::nothrow_t &) noexcept { return malloc(size ? size : 1); }
 void *operator new[](size_t size, const std::nothrow_t &) noexcept { return malloc(size ? size : 1); }
 void operator delete(void *room) noexcept { free(room); }
@@ -35,6 +41,8 @@ void operator delete(void *room, std::align_val_t) noexcept { free(room); }
 void operator delete(void *room, size_t, std::align_val_t) noexcept { free(room); }
 void operator delete[](void *room) noexcept { free(room); }
 void operator delete[](void *room, size_t) noexcept { free(room); }
+void operator delete[](void *room, std::align_val_t) noexcept { free(room); }
+void operator delete[](void *room, size_t, std::align_val_t) noexcept { free(room); }
 
 extern "C" {
 
@@ -103,6 +111,14 @@ extern "C" int __cxa_thread_atexit(void (*destroy)(void *), void *object, void *
     return pthread_setspecific(last_made, new Made{destroy, object, static_cast<Made *>(before)});
 }
 
+// The counts of std::shared_ptr.
+namespace __gnu_cxx {
+
+int __exchange_and_add(volatile int *count, int more) noexcept { return __atomic_fetch_add(count, more, __ATOMIC_ACQ_REL); }
+void __atomic_add(volatile int *count, int more) noexcept { __atomic_fetch_add(count, more, __ATOMIC_ACQ_REL); }
+
+}
+
 namespace std {
 
 void terminate() noexcept { abort(); }
@@ -119,6 +135,21 @@ void __throw_out_of_range_fmt(const char *, ...) { abort(); }
 void __throw_overflow_error(const char *) { abort(); }
 void __throw_runtime_error(const char *) { abort(); }
 void __throw_system_error(int) { abort(); }
+
+// What std::make_shared asks of a pointer's block: without type_info the address of its tag, which was compared before, says it all.
+bool _Sp_make_shared_tag::_S_eq(const type_info &) noexcept { return false; }
+
+// The functions of std::string.
+template class basic_string<char>;
+
+// A number for bytes: FNV-1a.
+size_t _Hash_bytes(const void *bytes, size_t length, size_t seed)
+{
+    size_t hash = seed ^ 0xcbf29ce484222325;
+    for (size_t i = 0; i < length; i++)
+        hash = (hash ^ static_cast<const unsigned char *>(bytes)[i]) * 0x100000001b3;
+    return hash;
+}
 
 // Threads.
 
@@ -167,6 +198,42 @@ void condition_variable::notify_all() noexcept { pthread_cond_broadcast(native_h
 __thread void *__once_callable;
 __thread void (*__once_call)();
 extern "C" void __once_proxy() { __once_call(); }
+
+// The waits of C++20's atomics, semaphores, latches and barriers: libstdc++ makes them of Linux's futex.
+
+static bool is_over(const timespec &until)
+{
+    timespec now;
+    clock_gettime(CLOCK_MONOTONIC, &now);
+    return now.tv_sec != until.tv_sec ? now.tv_sec > until.tv_sec : now.tv_nsec >= until.tv_nsec;
+}
+
+// Waits until the word isn't `value` any more, or until this time. Who waits looks each round, so that nobody has to be woken.
+static int await_change(const volatile int *word, int value, const timespec *until)
+{
+    while (*word == value) {
+        if (until && is_over(*until))
+            return ETIMEDOUT;
+        sched_yield();
+    }
+    __atomic_thread_fence(__ATOMIC_ACQUIRE);
+    return 0;
+}
+
+extern "C" long syscall(long number, ...)
+{
+    enum { WAIT = 0, WAKE = 1, WAIT_UNTIL = 9, OF_THIS_PROCESS = 128 };
+    va_list rest;
+    va_start(rest, number);
+    const volatile int *word = va_arg(rest, const volatile int *);
+    int operation = va_arg(rest, int) & ~OF_THIS_PROCESS, value = va_arg(rest, int);
+    int error = number == SYS_futex && operation == WAKE ? 0 : ENOSYS;
+    if (number == SYS_futex && (operation == WAIT || operation == WAIT_UNTIL))
+        error = await_change(word, value, operation == WAIT ? nullptr : va_arg(rest, const timespec *));
+    va_end(rest);
+    errno = error;
+    return error ? -1 : 0;
+}
 
 // Clocks.
 
