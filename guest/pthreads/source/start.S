@@ -15,15 +15,14 @@ _start:
     sub   tp, t1, t2
     mv    sp, tp
     call  __kit_hart_begins # (hart, harts, the lowest word of the stack)
-works:
-    call  __kit_hart_works  # until a thread ends
-    j     works
+1:  call  __kit_hart_works  # until a thread ends
+    j     1b
 
 # Leaves all functions of a thread.
     .globl __kit_leave_thread
 __kit_leave_thread:
     mv    sp, tp
-    j     works
+    j     1b
 
 # The first of the threads' own variables, so that layout.ld always has some to begin with.
     .section .tdata.first, "awT", @progbits
