@@ -218,6 +218,17 @@ int pthread_key_delete(pthread_key_t);
 void *pthread_getspecific(pthread_key_t);
 int pthread_setspecific(pthread_key_t, const void *);
 
+// What a mutex, a stack, a clock or a priority of another kind would want. These say that there is none.
+
+int pthread_mutex_consistent(pthread_mutex_t *);
+int pthread_mutexattr_getrobust(const pthread_mutexattr_t *, int *);
+int pthread_mutexattr_getprotocol(const pthread_mutexattr_t *, int *);
+int pthread_attr_setstack(pthread_attr_t *, void *, size_t);
+int pthread_attr_getstack(const pthread_attr_t *, void **, size_t *);
+int pthread_getattr_np(pthread_t, pthread_attr_t *);
+int pthread_getcpuclockid(pthread_t, clockid_t *);
+int pthread_setschedprio(pthread_t, int);
+
 #ifdef __cplusplus
 }
 #endif

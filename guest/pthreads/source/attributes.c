@@ -98,8 +98,16 @@ int pthread_getschedparam(pthread_t thread, int *policy, struct sched_param *par
     return 0;
 }
 
-// Mutexes.
+int pthread_setschedprio(pthread_t thread, int priority)
+{
+    if (!__kit_thread_of(thread))
+        return ESRCH;
+    return priority == 0 ? 0 : ENOTSUP;
+}
 
+// Mutexes. None is robust, so none is ever inconsistent.
+
+int pthread_mutex_consistent(pthread_mutex_t *mutex) { (void)mutex; return EINVAL; }
 int pthread_mutexattr_init(pthread_mutexattr_t *attr) { *attr = (pthread_mutexattr_t){ PTHREAD_MUTEX_DEFAULT, 0 }; return 0; }
 int pthread_mutexattr_destroy(pthread_mutexattr_t *attr) { (void)attr; return 0; }
 int pthread_mutexattr_gettype(const pthread_mutexattr_t *attr, int *kind) { *kind = attr->kind; return 0; }
@@ -119,6 +127,20 @@ int pthread_mutexattr_setrobust(pthread_mutexattr_t *attr, int robust)
 {
     (void)attr;
     return first_or_unsupported(robust, PTHREAD_MUTEX_ROBUST);
+}
+
+int pthread_mutexattr_getrobust(const pthread_mutexattr_t *attr, int *robust)
+{
+    (void)attr;
+    *robust = PTHREAD_MUTEX_STALLED;
+    return 0;
+}
+
+int pthread_mutexattr_getprotocol(const pthread_mutexattr_t *attr, int *protocol)
+{
+    (void)attr;
+    *protocol = PTHREAD_PRIO_NONE;
+    return 0;
 }
 
 int pthread_mutexattr_setprotocol(pthread_mutexattr_t *attr, int protocol)

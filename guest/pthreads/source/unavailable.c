@@ -1,5 +1,6 @@
 // What can't be had. Each function fails, and the linker says why where a program calls it.
 #include <errno.h>
+#include <pthread.h>
 #include <signal.h>
 #include <stdint.h>
 #include <sys/mman.h>
@@ -18,6 +19,8 @@
 #define ONE_PROCESS "a guest is one process, so this always fails"
 #define NO_SIGNALS "no signal comes to a guest, so this always fails"
 #define NO_FILES "a guest has no files but 0, 1 and 2, so this always fails"
+#define ONE_STACK "a thread has the stack of its hart, so this always fails"
+#define ONE_CLOCK "all clocks are the round's number, so this always fails"
 #define NO_MAPPING "a guest has the memory that malloc gives, so this always fails"
 
 #pragma GCC diagnostic ignored "-Wunused-parameter"
@@ -49,6 +52,11 @@ UNAVAILABLE(int, munmap, (void *at, size_t size), -1, NO_MAPPING)
 UNAVAILABLE(int, mprotect, (void *at, size_t size, int protection), -1, NO_MAPPING)
 UNAVAILABLE(int, shm_open, (const char *name, int flags, mode_t mode), -1, NO_MAPPING)
 UNAVAILABLE(int, shm_unlink, (const char *name), -1, NO_MAPPING)
+
+UNAVAILABLE(int, pthread_attr_setstack, (pthread_attr_t *attr, void *stack, size_t size), ENOSYS, ONE_STACK)
+UNAVAILABLE(int, pthread_attr_getstack, (const pthread_attr_t *attr, void **stack, size_t *size), ENOSYS, ONE_STACK)
+UNAVAILABLE(int, pthread_getattr_np, (pthread_t thread, pthread_attr_t *attr), ENOSYS, ONE_STACK)
+UNAVAILABLE(int, pthread_getcpuclockid, (pthread_t thread, clockid_t *clock), ENOSYS, ONE_CLOCK)
 
 // Nothing is forked, so nothing is ever to be called.
 int pthread_atfork(void (*before)(void), void (*parent)(void), void (*child)(void)) { return 0; }

@@ -74,6 +74,10 @@ static void mutexes(int kind)
     assert(pthread_mutexattr_init(&attr) == 0 && pthread_mutexattr_settype(&attr, kind) == 0);
     assert(pthread_mutexattr_settype(&attr, 7) == EINVAL);
     assert(pthread_mutexattr_setrobust(&attr, PTHREAD_MUTEX_ROBUST) == ENOTSUP);
+    int robust = -1, protocol = -1;
+    assert(pthread_mutexattr_getrobust(&attr, &robust) == 0 && robust == PTHREAD_MUTEX_STALLED);
+    assert(pthread_mutexattr_getprotocol(&attr, &protocol) == 0 && protocol == PTHREAD_PRIO_NONE);
+    assert(pthread_mutex_consistent(&mutex) == EINVAL); // it isn't robust
     assert(pthread_mutex_init(&mutex, &attr) == 0);
     assert(pthread_mutex_unlock(&mutex) == EPERM); // not locked
     assert(pthread_cond_wait(&cond, &mutex) == EPERM);
