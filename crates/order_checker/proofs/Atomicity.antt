@@ -18,7 +18,7 @@ use Rattle.order_checker.specs.declared.checking.latest.Latest.{Latest}
 use Rattle.order_checker.specs.Checking.{Below, IsMax}
 use Rattle.order_checker.specs.CheckingAtomic.{AtomicAt, IsLatestStore, OthersBelow, after_store, no_store, others_of}
 use Rattle.order_checker.proofs.Bounding.{below_none, below_step, max_alike, max_below, max_none}
-use Rattle.order_checker.proofs.Valuing.{source_of}
+use Rattle.order_checker.proofs.Valuing.{source_by_bound}
 
 -- ---- the latest stores
 
@@ -157,7 +157,7 @@ one_pair t l m c a b = elim (cases_lt l m) [
     lr_reserves : (a : Access) → is_lr a ≡ true → (is_lr a || is_sc a) ≡ true
     lr_reserves a h = grind arith
 
-lr_loads : (a : Access) → is_lr a ≡ true → loads a ≡ true
+pub lr_loads : (a : Access) → is_lr a ≡ true → loads a ≡ true
 lr_loads (Load w p x r) h = cc
 lr_loads (Store w p x v) h = cc
 lr_loads (LoadReserved w o p x r) h = refl
@@ -190,7 +190,7 @@ pub test_from_atomic : (t : List Event) (g : List ℕ) (c p l hart : ℕ) (e : E
 test_from_atomic t g c p l hart e others sources lists op at paired is of om sm atomic x h =
     let r : reads_at t l x ≡ true = both (loads (event t l).access) (in_range (address_of (event t l).access) (bytes_of (event t l).access) x)
     (lr_loads (event t l).access paired.reserved) (sym (ap (λ (f : Event). in_range (address_of f.access) (bytes_of f.access) x) is) ∙ h) in
-    let s = source_of t (λ k. 0) g l x (sources x) lists (sm x r) in
+    let s = source_by_bound t (λ k. 0) g l x (sources x) lists (sm x r) in
     let b = from_keeps t (place g) l c x (sources x) (others x) s.0 (sm x r)
     (subst (λ k. IsMax (place g) (OthersBelow t (place g) (place g c) x k) (others x)) of (subst (λ q. IsMax (place g) (OthersBelow t (place g) q x hart) (others x)) (sym at) (om x)))
     s.1 (atomic l x s.0 paired (sc_stores (event t c).access paired.conditional op) r s.1) in

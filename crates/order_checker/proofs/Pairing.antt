@@ -1,12 +1,12 @@
 -- The pairs of LRs and SCs, by the last LR or SC of each hart.
-use Rattle.std.proofs.Common.{◌≡◌, ℕ, ◌+◌, ◌<◌, ◌==◌, ◌&&◌, max, Bool, true, false, if◌then◌else◌, List, [], ◌∷◌, ◌++◌, length, get_or, length-append, refl, sym, ap, ◌∙◌, subst, inl, inr, arith}
-use Rattle.std.proofs.lemmas.Bool.{and_from, and_parts, cases_lt, eq-eqb}
+use Rattle.std.proofs.Common.{◌≡◌, ℕ, ◌+◌, ◌<◌, ◌≤◌, ◌==◌, max, Bool, true, false, if◌then◌else◌, List, [], ◌∷◌, ◌++◌, length, get_or, length-append, refl, sym, ap, ◌∙◌, subst, inl, inr, arith}
+use Rattle.std.proofs.lemmas.Bool.{cases_lt, eq-eqb}
 use Rattle.std.proofs.lemmas.List.{get_or_append_left, get_or_push}
 use Rattle.round_schedule.specs.declared.event.Event.{Event}
 use Rattle.round_schedule.specs.Positions.{event}
 use Rattle.memory_order.specs.Operations.{is_lr_or_sc}
 use Rattle.order_checker.specs.Checking.{AreReserved, Earlier, IsMax}
-use Rattle.order_checker.proofs.Bounding.{earlier_step}
+use Rattle.order_checker.proofs.Bounding.{earlier_step, max_below}
 use Rattle.order_checker.proofs.Sourcing.{same_number}
 
 abbrev pub is_reserving : Event → Bool
@@ -27,19 +27,22 @@ reserved_more t i b v w e was now = (long, each)
           (subst (IsMax (λ j. j) (Earlier is_reserving t (event t i).hart i)) (sym (ap (λ u. get_or u i 0) e ∙ get_or_push v b 0 i was.0)) now)
     ]
 
-nothing : (r : Bool) (old next : ℕ) → next ≡ 0 → (if r then max old next else old) ≡ old
-nothing true old next z = omega (arith, z)
-nothing false old next z = refl
+set_is_max : (r : Bool) (old next : ℕ) → old ≤ next → (if r then max old next else old) ≡ (if r then next else old)
+set_is_max true old next l = omega (arith, l)
+set_is_max false old next l = refl
 
-pub last_step : (t : List Event) (i hart next : ℕ) (e : Event) (old new : ℕ → ℕ) (lr : Bool) → e ≡ event t i → hart ≡ e.hart → is_lr_or_sc e.access ≡ lr → next ≡ (if lr then i + 1 else 0) →
-    ((h : ℕ) → new h ≡ (if h == hart && true then max (old h) next else old h)) →
+pub last_step : (t : List Event) (i : ℕ) (e : Event) (old new : ℕ → ℕ) → e ≡ event t i → is_lr_or_sc e.access ≡ true →
+    ((h : ℕ) → new h ≡ (if h == e.hart then i + 1 else old h)) →
     ((h : ℕ) → IsMax (λ j. j) (Earlier is_reserving t h i) (old h)) → (h : ℕ) → IsMax (λ j. j) (Earlier is_reserving t h (i + 1)) (new h)
-last_step t i hart next e old new true is at test n set was h =
-    subst (IsMax (λ j. j) (Earlier is_reserving t h (i + 1))) (sym (set h))
-    (earlier_step is_reserving t (λ j. j) h i (old h) next (h == hart && true)
-    (λ r. (ap (λ (f : Event). f.hart) (sym is) ∙ sym at ∙ sym (same_number h hart (and_parts (h == hart) true r).0), ap is_reserving (sym is) ∙ test))
-    (λ s _. and_from (h == hart) true (eq-eqb h hart (sym s ∙ ap (λ (f : Event). f.hart) (sym is) ∙ sym at)) refl)
-    (λ _. n) (was h))
-last_step t i hart next e old new false is at test n set was h =
-    subst (IsMax (λ j. j) (Earlier is_reserving t h (i + 1))) (sym (set h ∙ nothing (h == hart && true) (old h) next n))
-    (earlier_step is_reserving t (λ j. j) h i (old h) 0 false (λ r. cc) (λ _ w. sym test ∙ ap is_reserving is ∙ w) (λ r. cc) (was h))
+last_step t i e old new is test set was h =
+    let low : old h ≤ i = max_below (λ j. j) (Earlier is_reserving t h i) (old h) i (was h) (λ a p. p.0) in
+    subst (IsMax (λ j. j) (Earlier is_reserving t h (i + 1))) (set_is_max (h == e.hart) (old h) (i + 1) (omega (arith, low)) ∙ sym (set h))
+    (earlier_step is_reserving t (λ j. j) h i (old h) (i + 1) (h == e.hart)
+    (λ r. (ap (λ (f : Event). f.hart) (sym is) ∙ sym (same_number h e.hart r), ap is_reserving (sym is) ∙ test))
+    (λ s _. eq-eqb h e.hart (sym s ∙ ap (λ (f : Event). f.hart) (sym is)))
+    (λ _. refl) (was h))
+
+pub last_kept : (t : List Event) (i : ℕ) (e : Event) (last : ℕ → ℕ) → e ≡ event t i → is_lr_or_sc e.access ≡ false →
+    ((h : ℕ) → IsMax (λ j. j) (Earlier is_reserving t h i) (last h)) → (h : ℕ) → IsMax (λ j. j) (Earlier is_reserving t h (i + 1)) (last h)
+last_kept t i e last is test was h =
+    earlier_step is_reserving t (λ j. j) h i (last h) 0 false (λ r. cc) (λ _ w. sym test ∙ ap is_reserving is ∙ w) (λ r. cc) (was h)

@@ -133,3 +133,13 @@ place_at g once k l =
         | inr a ↦ absurd (once k (place g (get_or g k 0)) 0 a f.0 (sym f.1))
       ]
     ]
+
+-- what stands at the position of a place is that place, if any is there
+inverse_step : (b a : ℕ) (g : List ℕ) (t : Bool) → (b == a) ≡ t → (place g a < length g → get_or g (place g a) 0 ≡ a) →
+    (if t then 0 else suc (place g a)) < suc (length g) → get_or (b ∷ g) (if t then 0 else suc (place g a)) 0 ≡ a
+inverse_step b a g true e rest l = grind (arith, nat_tests)
+inverse_step b a g false e rest l = rest (omega (arith, l))
+
+pub place_inverse : (g : List ℕ) (a : ℕ) → place g a < length g → get_or g (place g a) 0 ≡ a
+place_inverse [] a l = absurd (omega (arith, l))
+place_inverse (b ∷ g) a l = inverse_step b a g (b == a) refl (place_inverse g a) l

@@ -1,16 +1,21 @@
 -- The bounds of the stores that a byte of a load may be from.
-use Rattle.std.proofs.Common.{◌≡◌, ◌≢◌, ℕ, ◌+◌, ◌<◌, ◌≤◌, ◌==◌, ◌&&◌, max, true, if◌then◌else◌, List, sym, ap, ◌∙◌, subst, inl, inr, arith}
-use Rattle.std.proofs.lemmas.Bool.{and_from, and_left, and_parts, cases_lt, cond-false, cond-true, eq-eqb, ne_eqb}
+use Rattle.std.proofs.Common.{◌≡◌, ◌≢◌, ℕ, zero, suc, ◌+◌, ◌%◌, ◌<◌, ◌≤◌, ◌==◌, ◌&&◌, max, true, if◌then◌else◌, List, length, get_or, replicate, slice_index, refl, sym, ap, ◌∙◌, subst, inl, inr, arith}
+use Rattle.std.proofs.lemmas.Bool.{and_from, and_parts, cases_lt, eq-eqb}
 use Rattle.std.proofs.lemmas.Bool.Decides.{nat_tests}
 use Rattle.round_schedule.specs.declared.event.Event.{Event}
-use Rattle.round_schedule.specs.Accesses.{reads, stores, writes}
+use Rattle.round_schedule.specs.declared.access.Access.{Access}
+use Rattle.round_schedule.specs.Accesses.{loads, reads, writes}
 use Rattle.round_schedule.specs.Positions.{ProgramBefore, event, reads_at, writes_at}
 use Rattle.memory_order.specs.Operations.{is_operation}
 use Rattle.memory_order.specs.Orders.{ListsOperations, place}
 use Rattle.memory_order.specs.Rvwmo.{MaySee}
+use Rattle.memory_order.proofs.Facts.{load_is_operation}
+use Rattle.memory_order.proofs.Placing.{place_of_contained}
 use Rattle.memory_order.proofs.Sources.{load_at, one_place, store_at}
-use Rattle.order_checker.specs.Checking.{Below, Earlier, IsMax, OwnWrite}
+use Rattle.order_checker.specs.Checking.{Below, Earlier, IsMax, OwnWrite, row_of, source_at, source_of}
 use Rattle.order_checker.specs.CheckingProgram.{KeptOverlap}
+use Rattle.order_checker.proofs.Ranking.{place_inverse}
+use Rattle.order_checker.proofs.WordReading.{all_alike}
 use Rattle.order_checker.proofs.Bounding.{below_max, below_none, below_step, earlier_none, earlier_step, max_below, max_join}
 
 pub same_number : (a b : ℕ) → (a == b) ≡ true → a ≡ b
@@ -47,19 +52,15 @@ pub noted_none : (t : List Event) (pos : ℕ → ℕ) (sources : ℕ → ℕ →
 noted_none t pos sources z = record { noted = λ r x h l. absurd (omega (arith, l)); rest = λ r x l. z r x }
 
 pub noted_step : (t : List Event) (pos : ℕ → ℕ) (i : ℕ) (e : Event) (own old new : ℕ → ℕ → ℕ) → e ≡ event t i →
-    ((r x : ℕ) → new r x ≡ (if r == i && reads e.access x then max (old r x) (own e.hart x) else old r x)) →
+    ((r x : ℕ) → r ≢ i → new r x ≡ old r x) → ((x : ℕ) → reads e.access x ≡ true → new i x ≡ max (old i x) (own e.hart x)) →
     OwnStores t pos i own → Noted t pos i old → Noted t pos (i + 1) new
-noted_step t pos i e own old new is set stores was = record { noted = noted; rest = rest }
+noted_step t pos i e own old new is kept set stores was = record { noted = noted; rest = rest }
   where
-    kept : (r x : ℕ) → r ≢ i → new r x ≡ old r x
-    kept r x n = set r x ∙ cond-false (r == i && reads e.access x) (max (old r x) (own e.hart x)) (old r x) (and_left (r == i) (reads e.access x) (ne_eqb r i n))
-
     here : (r x : ℕ) → reads_at t r x ≡ true → r ≡ i → IsMax pos (OwnWrite t r x) (new r x)
     here r x h s =
         let f : e ≡ event t r = is ∙ ap (event t) (sym s) in
-        let test = and_from (r == i) (reads e.access x) (eq-eqb r i s) (ap (λ (d : Event). reads d.access x) f ∙ h) in
         let z = was.rest r x (omega (arith, s)) in
-        let m : new r x ≡ max (old r x) (own e.hart x) = set r x ∙ cond-true (r == i && reads e.access x) (max (old r x) (own e.hart x)) (old r x) test in
+        let m : new r x ≡ max (old r x) (own e.hart x) = subst (λ k. new k x ≡ max (old k x) (own e.hart x)) (sym s) (set x (ap (λ (d : Event). reads d.access x) f ∙ h)) in
         let n : new r x ≡ own (event t r).hart x = (let k : max (old r x) (own e.hart x) ≡ own e.hart x = omega (arith, z) in m ∙ k ∙ ap (λ (d : Event). own d.hart x) f) in
         subst (IsMax pos (OwnWrite t r x)) (sym n) (subst (λ k. IsMax pos (Earlier (λ d. writes d.access x) t (event t r).hart k) (own (event t r).hart x)) (sym s) (stores (event t r).hart x))
 
@@ -85,6 +86,39 @@ pub test_from_kept : (t : List Event) (pos : ℕ → ℕ) (i p : ℕ) (e : Event
 test_from_kept t pos i p e own is at stores kept x w =
     max_below pos (Earlier (λ d. writes d.access x) t e.hart i) (own e.hart x) p (stores e.hart x)
     (λ a q. let k = kept a i x (record { earlier = q.0; same_hart = q.1 ∙ ap (λ (d : Event). d.hart) is }) q.2 (sym (ap (λ (d : Event). writes d.access x) is) ∙ w) in omega (arith, k, at))
+
+-- ---- the table of sources
+
+pub load_within : (t : List Event) (g : List ℕ) (i p : ℕ) (a : Access) → ListsOperations t g → a ≡ (event t i).access → p ≡ place g i → loads a ≡ true → p < length g
+load_within t g i p a lists is at l =
+    let op = load_is_operation (event t i) (ap loads (sym is) ∙ l) in
+    let here = place_of_contained g i (lists.each i op) in
+    omega (arith, at, here.0)
+
+-- where the row of one position is written, the other operations keep theirs
+pub others_kept : (t : List Event) (g : List ℕ) (i p : ℕ) (a : Access) (old new : List (List ℕ)) → ListsOperations t g → a ≡ (event t i).access → p ≡ place g i →
+    ((q : ℕ) → (loads a ≡ true → q ≢ p) → row_of new q ≡ row_of old q) → (r x : ℕ) → r ≢ i → source_of g new r x ≡ source_of g old r x
+others_kept t g i p a old new lists is at same r x n = ap (λ (w : List ℕ). slice_index w (x % 8)) (same (place g r) (λ l e. n (other l e)))
+  where
+    other : loads a ≡ true → place g r ≡ p → r ≡ i
+    other l e =
+        let op = load_is_operation (event t i) (ap loads (sym is) ∙ l) in
+        let here = place_of_contained g i (lists.each i op) in
+        let q : place g r ≡ place g i = e ∙ at in
+        sym (place_inverse g r (omega (arith, q, here.0))) ∙ ap (λ k. get_or g k 0) q ∙ here.1
+
+pub here_raised : (g : List ℕ) (i p h k : ℕ) (a : Access) (old new : List (List ℕ)) (from : ℕ → ℕ → ℕ) → p ≡ place g i → k ≡ h →
+    ((x : ℕ) → reads a x ≡ true → source_at new p x ≡ max (source_at old p x) (from k x)) →
+    (x : ℕ) → reads a x ≡ true → source_of g new i x ≡ max (source_of g old i x) (from h x)
+here_raised g i p h k a old new from at hart set x r =
+    subst (λ q. source_at new q x ≡ max (source_at old q x) (from h x)) at
+    (subst (λ n. source_at new p x ≡ max (source_at old p x) (from n x)) hart (set x r))
+
+-- a table of zeros
+pub no_sources : (n p x : ℕ) → source_at (replicate n (replicate 8 0)) p x ≡ 0
+no_sources zero p x = refl
+no_sources (suc n) zero x = all_alike 0 x
+no_sources (suc n) (suc p) x = no_sources n p x
 
 -- ---- along the order: all stores to each byte
 
@@ -118,13 +152,10 @@ may_join t pos r x u v own seen =
     own seen
 
 pub sourced_step : (t : List Event) (g : List ℕ) (i p : ℕ) (e : Event) (seen : ℕ → ℕ) (old new : ℕ → ℕ → ℕ) → ListsOperations t g → e ≡ event t i → is_operation (event t i) ≡ true → place g i ≡ p →
-    ((r x : ℕ) → new r x ≡ (if r == i && reads e.access x then max (old r x) (seen x) else old r x)) →
+    ((r x : ℕ) → r ≢ i → new r x ≡ old r x) → ((x : ℕ) → reads e.access x ≡ true → new i x ≡ max (old i x) (seen x)) →
     SeenStores t (place g) p seen → Sourced t g p old → Sourced t g (p + 1) new
-sourced_step t g i p e seen old new lists is op at set stores was = record { noted = noted; rest = rest }
+sourced_step t g i p e seen old new lists is op at kept set stores was = record { noted = noted; rest = rest }
   where
-    kept : (r x : ℕ) → r ≢ i → new r x ≡ old r x
-    kept r x n = set r x ∙ cond-false (r == i && reads e.access x) (max (old r x) (seen x)) (old r x) (and_left (r == i) (reads e.access x) (ne_eqb r i n))
-
     apart : (r : ℕ) → place g r ≢ p → r ≢ i
     apart r n s = n (ap (place g) s ∙ at)
 
@@ -134,8 +165,7 @@ sourced_step t g i p e seen old new lists is op at set stores was = record { not
       | inr b ↦
           let q : place g r ≡ p = omega (arith, l, b) in
           let s : r ≡ i = one_place t g r i lists (load_at t r x h) op (q ∙ sym at) in
-          let test = and_from (r == i) (reads e.access x) (eq-eqb r i s) (ap (λ (d : Event). reads d.access x) (is ∙ ap (event t) (sym s)) ∙ h) in
-          let m : new r x ≡ max (old r x) (seen x) = set r x ∙ cond-true (r == i && reads e.access x) (max (old r x) (seen x)) (old r x) test in
+          let m : new r x ≡ max (old r x) (seen x) = subst (λ k. new k x ≡ max (old k x) (seen x)) (sym s) (set x (ap (λ (d : Event). reads d.access x) (is ∙ ap (event t) (sym s)) ∙ h)) in
           subst (IsMax (place g) (MaySee t (place g) r x)) (sym m)
           (may_join t (place g) r x (old r x) (seen x) (was.rest r x h b) (subst (λ k. IsMax (place g) (Below (λ f. writes f.access x) t (place g) k) (seen x)) (sym q) (stores x)))
     ]

@@ -1,19 +1,19 @@
 -- The load value axiom by the bounds of sources.
 use Rattle.std.proofs.Common.{◌≡◌, ℕ, ◌+◌, ◌-◌, ◌*◌, ◌%◌, ◌^◌, ◌<◌, ◌≤◌, ◌==◌, true, List, length, get_or, Option, Some, None, sym, ap, ◌∙◌, subst, inl, inr, arith}
-use Rattle.std.proofs.lemmas.Bool.{cases_lt, cond-false, ne_eqb}
+use Rattle.std.proofs.lemmas.Bool.{and_from, cases_lt, cond-false, ne_eqb}
 use Rattle.std.proofs.lemmas.Nat.{pow_below}
 use Rattle.std.proofs.Math.Nat.{div-eq_of_lt}
-use Rattle.pages.specs.Memory.{byte_of}
+use Rattle.pages.specs.Memory.{byte_of, in_range}
 use Rattle.round_schedule.specs.declared.event.Event.{Event}
 use Rattle.round_schedule.specs.declared.access.Access.{Access}
-use Rattle.round_schedule.specs.Accesses.{address_of, byte_read, byte_written, number_or_zero, read_of}
+use Rattle.round_schedule.specs.Accesses.{address_of, byte_read, byte_written, bytes_of, loads, number_or_zero, read_of, reads}
 use Rattle.round_schedule.specs.Positions.{event, reads_at, source_byte}
 use Rattle.memory_order.specs.Orders.{ListsOperations, place}
 use Rattle.memory_order.specs.Rvwmo.{IsSource, LoadValueAxiom, MaySee}
 use Rattle.memory_order.proofs.Placing.{place_of_contained}
 use Rattle.memory_order.proofs.Sources.{one_source, store_at}
 use Rattle.order_checker.specs.Checking.{IsLeft, IsMax, left_by}
-use Rattle.order_checker.proofs.Bounding.{max_below}
+use Rattle.order_checker.proofs.Bounding.{max_below, range_at}
 
 -- each bound is at most the order's length
 pub source_listed : (t : List Event) (g : List ℕ) (r x v : ℕ) → ListsOperations t g → IsMax (place g) (MaySee t (place g) r x) v → v ≤ length g
@@ -21,9 +21,9 @@ source_listed t g r x v lists m =
     max_below (place g) (MaySee t (place g) r x) v (length g) m (λ a h. (place_of_contained g a (lists.each a (store_at t a x h.0))).0)
 
 -- the source by its bound
-pub source_of : (t : List Event) (opening : ℕ → ℕ) (g : List ℕ) (r x v : ℕ) → ListsOperations t g → IsMax (place g) (MaySee t (place g) r x) v →
+pub source_by_bound : (t : List Event) (opening : ℕ → ℕ) (g : List ℕ) (r x v : ℕ) → ListsOperations t g → IsMax (place g) (MaySee t (place g) r x) v →
     (s : Option ℕ) × IsSource t (place g) r x s × (source_byte t opening x s ≡ left_by t opening g x v)
-source_of t opening g r x v lists m = elim m.attained [
+source_by_bound t opening g r x v lists m = elim m.attained [
   | inl z ↦ (None, (λ w h. let u = m.upper w h in omega (arith, u, z)), ap (λ n. left_by t opening g x n) (sym z))
   | inr a ↦
       let at : get_or g (v - 1) 0 ≡ a.0 =
@@ -39,18 +39,25 @@ pub values_from_left : (t : List Event) (opening : ℕ → ℕ) (g : List ℕ) (
     ((r x : ℕ) → reads_at t r x ≡ true → IsMax (place g) (MaySee t (place g) r x) (sources r x)) →
     ((r x : ℕ) → reads_at t r x ≡ true → IsLeft t opening g r x (sources r x)) → LoadValueAxiom t opening (place g)
 values_from_left t opening g sources lists m left r x h =
-    let s = source_of t opening g r x (sources r x) lists (m r x h) in
+    let s = source_by_bound t opening g r x (sources r x) lists (m r x h) in
     (s.0, s.1, left r x h ∙ sym s.2)
 
 pub left_from_values : (t : List Event) (opening : ℕ → ℕ) (g : List ℕ) (sources : ℕ → ℕ → ℕ) → ListsOperations t g →
     ((r x : ℕ) → reads_at t r x ≡ true → IsMax (place g) (MaySee t (place g) r x) (sources r x)) →
     LoadValueAxiom t opening (place g) → (r x : ℕ) → reads_at t r x ≡ true → IsLeft t opening g r x (sources r x)
 left_from_values t opening g sources lists m axiom_holds r x h =
-    let s = source_of t opening g r x (sources r x) lists (m r x h) in
+    let s = source_by_bound t opening g r x (sources r x) lists (m r x h) in
     let u = axiom_holds r x h in
     u.2 ∙ ap (λ n. source_byte t opening x n) (one_source t g r x u.0 s.0 lists u.1 s.1) ∙ s.2
 
 -- ---- byte by byte
+
+pub reads_here : (t : List Event) (r k start width : ℕ) (e : Event) → e ≡ event t r → loads e.access ≡ true → start ≡ address_of e.access → width ≡ bytes_of e.access → k < width →
+    reads_at t r (start + k) ≡ true
+reads_here t r k start width e is l s w low =
+    ap (λ (f : Event). reads f.access (start + k)) (sym is)
+    ∙ and_from (loads e.access) (in_range (address_of e.access) (bytes_of e.access) (start + k)) l
+    (subst (λ n. in_range n (bytes_of e.access) (start + k) ≡ true) s (subst (λ n. in_range start n (start + k) ≡ true) w (range_at start width k low)))
 
 pub read_byte_at : (a : Access) (start k x number : ℕ) → start ≡ address_of a → number ≡ number_or_zero (read_of a) → x ≡ start + k → byte_read a x ≡ byte_of number k
 read_byte_at a start k x number s n e =

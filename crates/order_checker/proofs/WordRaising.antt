@@ -22,31 +22,12 @@ range_inside w first count x e = let d = div-add-mod x 8 in let p : 8 * (x / 8) 
 range_outside : (w first count x : ℕ) → first + count ≤ 8 → x / 8 ≢ w → in_range (8 * w + first) count x ≡ false
 range_outside w first count x l other = grind (arith, nat_tests)
 
-pub word_raised : (a w first count v : ℕ) (was eight : List ℕ) (old new : ℕ → ℕ → Option (List ℕ)) → first + count ≤ 8 → was ≡ unwrap_or (old a w) (replicate 8 0) →
-    ((j : ℕ) → slice_index eight j ≡ (if in_range first count j then max (slice_index was j) v else slice_index was j)) →
-    ((h n : ℕ) → new h n ≡ (if is_at (pair_cmp (a, w)) (h, n) then Some eight else old h n)) →
-    (h x : ℕ) → slice_index (unwrap_or (new h (x / 8)) (replicate 8 0)) (x % 8) ≡
-    (if h == a && in_range (8 * w + first) count x then max (slice_index (unwrap_or (old h (x / 8)) (replicate 8 0)) (x % 8)) v else slice_index (unwrap_or (old h (x / 8)) (replicate 8 0)) (x % 8))
-word_raised a w first count v was eight old new l e g is h x =
-    let found = pick (is_at (pair_cmp (a, w)) (h, x / 8)) (h == a && x / 8 == w) (old h (x / 8)) (new h (x / 8)) eight (replicate 8 0) (pair_at a w h (x / 8)) (is h (x / 8)) in
-    let at : slice_index (unwrap_or (new h (x / 8)) (replicate 8 0)) (x % 8) ≡ slice_index (if h == a && x / 8 == w then eight else unwrap_or (old h (x / 8)) (replicate 8 0)) (x % 8) = ap (λ p. slice_index p (x % 8)) found in
-    elim (cases_eq h a) [
-      | inr other ↦ grind (arith, nat_tests)
-      | inl hart ↦ elim (cases_eq (x / 8) w) [
-        | inr other ↦ let out = range_outside w first count x l other in grind (arith, nat_tests)
-        | inl word ↦ let into = range_inside w first count x word in
-            let same : was ≡ unwrap_or (old h (x / 8)) (replicate 8 0) = e ∙ ap (λ n. unwrap_or (old n w) (replicate 8 0)) (sym hart) ∙ ap (λ n. unwrap_or (old h n) (replicate 8 0)) (sym word) in
-            let s : slice_index was (x % 8) ≡ slice_index (unwrap_or (old h (x / 8)) (replicate 8 0)) (x % 8) = ap (λ p. slice_index p (x % 8)) same in
-            let r = g (x % 8) in grind (arith, nat_tests)
-      ]
-    ]
-
-pub word_raised_to : (a w first count : ℕ) (was eight vs : List ℕ) (old new : ℕ → ℕ → Option (List ℕ)) → first + count ≤ 8 → was ≡ unwrap_or (old a w) (replicate 8 0) →
+pub word_raised : (a w first count : ℕ) (was eight vs : List ℕ) (old new : ℕ → ℕ → Option (List ℕ)) → first + count ≤ 8 → was ≡ unwrap_or (old a w) (replicate 8 0) →
     ((j : ℕ) → slice_index eight j ≡ (if in_range first count j then max (slice_index was j) (slice_index vs j) else slice_index was j)) →
     ((h n : ℕ) → new h n ≡ (if is_at (pair_cmp (a, w)) (h, n) then Some eight else old h n)) →
     (h x : ℕ) → slice_index (unwrap_or (new h (x / 8)) (replicate 8 0)) (x % 8) ≡
     (if h == a && in_range (8 * w + first) count x then max (slice_index (unwrap_or (old h (x / 8)) (replicate 8 0)) (x % 8)) (slice_index vs (x % 8)) else slice_index (unwrap_or (old h (x / 8)) (replicate 8 0)) (x % 8))
-word_raised_to a w first count was eight vs old new l e g is h x =
+word_raised a w first count was eight vs old new l e g is h x =
     let found = pick (is_at (pair_cmp (a, w)) (h, x / 8)) (h == a && x / 8 == w) (old h (x / 8)) (new h (x / 8)) eight (replicate 8 0) (pair_at a w h (x / 8)) (is h (x / 8)) in
     let at : slice_index (unwrap_or (new h (x / 8)) (replicate 8 0)) (x % 8) ≡ slice_index (if h == a && x / 8 == w then eight else unwrap_or (old h (x / 8)) (replicate 8 0)) (x % 8) = ap (λ p. slice_index p (x % 8)) found in
     elim (cases_eq h a) [

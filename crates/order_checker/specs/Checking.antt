@@ -1,11 +1,11 @@
 -- What the checker of orders keeps: bounds of positions, in maps from pairs of numbers.
-use Rattle.std.specs.Prelude.{◌≡◌, ℕ, ◌+◌, ◌-◌, ◌/◌, ◌%◌, ◌<◌, ◌⊎◌, ◌==◌, ◌&&◌, Bool, true, max, if◌then◌else◌, List, length, replicate, slice_index, unwrap_or}
+use Rattle.std.specs.Prelude.{◌≡◌, ℕ, ◌+◌, ◌-◌, ◌/◌, ◌%◌, ◌<◌, ◌⊎◌, ◌==◌, ◌&&◌, Bool, true, max, if◌then◌else◌, List, [], length, replicate, slice_index, slice_index_or, unwrap_or}
 use Rattle.std.specs.Ordering.{nat_cmp, ordering_then}
 use Rattle.std.specs.declared.cmp.Ordering.{Ordering}
 use Rattle.std.specs.BTreeMap.{BTreeMap, get}
 use Rattle.round_schedule.specs.declared.event.Event.{Event}
 use Rattle.round_schedule.specs.Accesses.{byte_read, byte_written, writes}
-use Rattle.round_schedule.specs.Positions.{event}
+use Rattle.round_schedule.specs.Positions.{event, reads_at}
 use Rattle.pages.specs.Memory.{in_range}
 use Rattle.memory_order.specs.Operations.{is_lr_or_sc}
 use Rattle.memory_order.specs.Orders.{place}
@@ -53,6 +53,22 @@ word_of m h w = unwrap_or (get pair_cmp m (h, w)) (replicate 8 0)
 -- what the map holds at a pair; 0 where nothing
 abbrev pub bound : BTreeMap (ℕ × ℕ) (List ℕ) → ℕ → ℕ → ℕ
 bound m h x = slice_index (word_of m h (x / 8)) (x % 8)
+
+-- the numbers that a table has for the operation at a position; the one of byte x stands at x % 8
+abbrev pub row_of : List (List ℕ) → ℕ → List ℕ
+row_of s p = slice_index_or s p []
+
+abbrev pub source_at : List (List ℕ) → ℕ → ℕ → ℕ
+source_at s p x = slice_index (row_of s p) (x % 8)
+
+-- and what it has for byte x of the operation at place r of the trace
+abbrev pub source_of : List ℕ → List (List ℕ) → ℕ → ℕ → ℕ
+source_of g s r x = source_at s (place g r) x
+
+-- the table has the bound of the places that P holds of, for each load and each of its bytes
+pub record AreSources (t : List Event) (g : List ℕ) (P : ℕ → ℕ → ℕ → Type 0) (s : List (List ℕ)) : Type 0 where
+  pub len : length s ≡ length g
+  pub max : (r x : ℕ) → reads_at t r x ≡ true → IsMax (place g) (P r x) (source_of g s r x)
 
 -- the number at one pair is raised to v
 abbrev pub Raises : BTreeMap (ℕ × ℕ) (List ℕ) → BTreeMap (ℕ × ℕ) (List ℕ) → ℕ → ℕ → ℕ → Type 0

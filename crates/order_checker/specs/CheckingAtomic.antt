@@ -1,5 +1,5 @@
 -- The atomicity axiom as the checker takes it, position by position of the order.
-use Rattle.std.specs.Prelude.{◌≡◌, ◌≢◌, ℕ, ◌+◌, ◌<◌, ◌==◌, true, if◌then◌else◌, List, Option, unwrap_or}
+use Rattle.std.specs.Prelude.{◌≡◌, ◌≢◌, ℕ, ◌+◌, ◌/◌, ◌%◌, ◌<◌, ◌==◌, true, if◌then◌else◌, List, Option, replicate, slice_index, unwrap_or}
 use Rattle.std.specs.Ordering.{nat_cmp}
 use Rattle.std.specs.BTreeMap.{BTreeMap, get}
 use Rattle.round_schedule.specs.declared.event.Event.{Event}
@@ -8,6 +8,7 @@ use Rattle.round_schedule.specs.Positions.{event, reads_at, writes_at}
 use Rattle.memory_order.specs.Operations.{is_store}
 use Rattle.memory_order.specs.Rvwmo.{IsPaired, IsSource, KeepsByte}
 use Rattle.order_checker.specs.declared.checking.latest.Latest.{Latest}
+use Rattle.order_checker.specs.declared.checking.latest.LatestOfWord.{LatestOfWord}
 use Rattle.order_checker.specs.Checking.{Below, IsMax}
 
 -- the atomicity axiom for the SC at c
@@ -18,9 +19,16 @@ AtomicAt t pos c =
 abbrev pub no_store : Latest
 no_store = record { last = 0; owner = 0; other = 0 }
 
--- what a map holds at a byte
-abbrev pub latest_of : BTreeMap ℕ Latest → ℕ → Latest
-latest_of m x = unwrap_or (get nat_cmp m x) no_store
+abbrev pub no_stores : LatestOfWord
+no_stores = record { last = replicate 8 0; owner = replicate 8 0; other = replicate 8 0 }
+
+-- what a word holds at one of its eight bytes
+abbrev pub latest_in : LatestOfWord → ℕ → Latest
+latest_in w j = record { last = slice_index w.last j; owner = slice_index w.owner j; other = slice_index w.other j }
+
+-- what a map of words holds at a byte
+abbrev pub latest_of : BTreeMap ℕ LatestOfWord → ℕ → Latest
+latest_of m x = latest_in (unwrap_or (get nat_cmp m (x / 8)) no_stores) (x % 8)
 
 -- the bound of the latest store of another hart
 abbrev pub others_of : Latest → ℕ → ℕ

@@ -1,7 +1,5 @@
 -- Preserved program order as the checker takes it: four rules in place of nine, and what a hart's earlier operations ask of its next.
-use Rattle.std.specs.Prelude.{◌≡◌, ℕ, ◌<◌, ◌≤◌, ◌&&◌, Bool, true, false, not, max, if◌then◌else◌, List, unwrap_or}
-use Rattle.std.specs.Ordering.{nat_cmp}
-use Rattle.std.specs.BTreeMap.{BTreeMap, get}
+use Rattle.std.specs.Prelude.{◌≡◌, ℕ, ◌<◌, ◌≤◌, ◌&&◌, Bool, true, false, not, max, if◌then◌else◌, List, slice_index_or}
 use Rattle.round_schedule.specs.declared.access.Access.{Access}
 use Rattle.round_schedule.specs.declared.access.Access.TheVariants.{Fence}
 use Rattle.round_schedule.specs.declared.event.Event.{Event}
@@ -40,9 +38,9 @@ KeptOverlap t pos = (a b x : ℕ) → ProgramBefore t a b → writes_at t a x �
 abbrev pub no_bounds : HartBounds
 no_bounds = record { others = 0; stores = 0; before_loads = 0; before_stores = 0 }
 
--- what a map from harts holds at one
-abbrev pub bounds_of : BTreeMap ℕ HartBounds → ℕ → HartBounds
-bounds_of m h = unwrap_or (get nat_cmp m h) no_bounds
+-- what a list has of a hart, by its number
+abbrev pub bounds_of : List HartBounds → ℕ → HartBounds
+bounds_of l h = slice_index_or l h no_bounds
 
 -- whether an operation may stand at a position
 abbrev pub Allowed : HartBounds → Access → ℕ → Type 0

@@ -17,7 +17,7 @@ use trace::Trace;
 /// of the manual's rules 9 to 13, on dependencies (section 14.1): a yes stands for the manual's rules too.
 ///
 /// The order may have any places at all: it meets the memory model only if it has that of each memory operation once,
-/// and no other. The steps are as many as the bytes of the trace's accesses, each with a look into a map.
+/// and no other. The steps are as many as the bytes of the trace's accesses, with a few looks into maps for each access.
 ///
 /// # Errors
 ///
@@ -70,8 +70,8 @@ fn meets_axioms(
         None => return Ok(false),
     };
     let sources = all_sources(alloc, events, order, own)?;
-    if !loads_are_right(trace, events, order, &sources) {
+    if !loads_are_right(trace, events, order, ranks, &sources) {
         return Ok(false);
     }
-    Ok(pairs_are_atomic(alloc, events, order, &sources)?)
+    Ok(pairs_are_atomic(alloc, events, order, ranks, &sources)?)
 }

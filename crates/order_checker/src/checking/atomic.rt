@@ -1,17 +1,16 @@
 ghost use Rattle.std.specs.Prelude.{◌≡◌, ◌+◌, ◌≤◌, ◌<◌, ◌^◌, ◌↔◌, ℕ, All, IfOk, IsTrue, length, slice_index, true};
 ghost use Rattle.pages.specs.Memory.{in_range};
 ghost use Rattle.round_schedule.specs.Accesses.{address_of, bytes_of};
-ghost use Rattle.round_schedule.specs.Positions.{reads_at};
 ghost use Rattle.trace.specs.Traced.{HasForm};
 ghost use Rattle.memory_order.specs.Orders.{ListsOperations, place};
 ghost use Rattle.memory_order.specs.Rvwmo.{AtomicityAxiom, MaySee};
-ghost use Rattle.order_checker.specs.Checking.{AreReserved, IsMax, bound};
+ghost use Rattle.order_checker.specs.Checking.{AreReserved, AreSources, IsRanking, source_at};
 ghost use Rattle.order_checker.specs.CheckingAtomic.{AtomicAt, IsLatestStore, latest_of, others_of};
 
-use crate::checking::bounds::{Bounds, bound};
-use crate::checking::kinds::{event_at, listed};
-use crate::checking::latest::{Latest, latest_of, note_latest, others_of};
+use crate::checking::kinds::{event_at, listed, position_of};
+use crate::checking::latest::{LatestStores, latest_of, note_latest, others_of};
 use crate::checking::pairs::{last_reserved, paired};
+use crate::checking::source_table::{Sources, source_at};
 use pages::OutOfMemory;
 use round_schedule::{Access, Event};
 use std::alloc::Global;
@@ -22,12 +21,13 @@ pub fn pairs_are_atomic(
     alloc: Global,
     events: &[Event],
     order: &[usize],
-    sources: &Bounds,
+    ranks: &[usize],
+    sources: &Sources,
 ) -> Result<bool, OutOfMemory>
     requires formed { All HasForm events.now }
     requires lists { ListsOperations events.now order.now }
-    requires sourced { (r x : ℕ) → reads_at events.now r x ≡ true →
-        IsMax (place order.now) (MaySee events.now (place order.now) r x) (bound sources.now r x) }
+    requires ranked { IsRanking events.now order.now ranks.now }
+    requires sourced { AreSources events.now order.now (MaySee events.now (place order.now)) sources.now.items }
     ensures { IfOk result (λ yes. IsTrue yes ↔ AtomicityAxiom events.now (place order.now)) }
 {
     let reserved = last_reserved(alloc, events)?;
@@ -35,11 +35,10 @@ pub fn pairs_are_atomic(
     for p in 0..order.len() {
         let place = listed(events, order, p);
         let event = event_at(events, place);
-        let hart = u64::from(event.hart);
-        if !is_atomic(events, order, sources, &reserved, &latest, p) {
+        if !is_atomic(events, order, ranks, sources, &reserved, &latest, p) {
             return Ok(false);
         }
-        note_latest(&mut latest, hart, &event.access, p + 1)?;
+        note_latest(&mut latest, event.hart, &event.access, p + 1)?;
     }
     Ok(true)
 }
@@ -48,49 +47,52 @@ pub fn pairs_are_atomic(
 fn is_atomic(
     events: &[Event],
     order: &[usize],
-    sources: &Bounds,
+    ranks: &[usize],
+    sources: &Sources,
     reserved: &[usize],
-    latest: &BTreeMap<u64, Latest>,
+    latest: &LatestStores,
     p: usize,
 ) -> bool
     requires within { p < length order.now }
     requires formed { All HasForm events.now }
     requires lists { ListsOperations events.now order.now }
-    requires sourced { (r x : ℕ) → reads_at events.now r x ≡ true →
-        IsMax (place order.now) (MaySee events.now (place order.now) r x) (bound sources.now r x) }
+    requires ranked { IsRanking events.now order.now ranks.now }
+    requires sourced { AreSources events.now order.now (MaySee events.now (place order.now)) sources.now.items }
     requires reserved { AreReserved events.now (length events.now) reserved.now }
     requires latest { (x : ℕ) →
         IsLatestStore events.now (place order.now) p x (latest_of latest.now x) }
     ensures { IsTrue result ↔ AtomicAt events.now (place order.now) (slice_index order.now p) }
 {
     let place = listed(events, order, p);
-    let hart = u64::from(event_at(events, place).hart);
+    let hart = event_at(events, place).hart;
     match paired(events, reserved, place) {
         None => true,
         Some(first) => {
             let reserve = event_at(events, first);
-            keeps_bytes(sources, first as u64, &reserve.access, latest, hart, p)
+            let reader = position_of(events, order, ranks, first);
+            keeps_bytes(sources, reader, &reserve.access, latest, hart, p)
         }
     }
 }
 
 /// Whether from the source of each byte of a load up to a position no other hart than this stores to it.
 fn keeps_bytes(
-    sources: &Bounds,
-    reader: u64,
+    sources: &Sources,
+    reader: usize,
     access: &Access,
-    latest: &BTreeMap<u64, Latest>,
-    hart: u64,
+    latest: &LatestStores,
+    hart: u8,
     p: usize,
 ) -> bool
-    requires { address_of access.now + bytes_of access.now < 2 ^ 64 }
+    requires within { reader < length sources.now.items }
+    requires fits { address_of access.now + bytes_of access.now < 2 ^ 64 }
     ensures { IsTrue result ↔ ((x : ℕ) → in_range (address_of access.now) (bytes_of access.now) x ≡
-        true → (others_of (latest_of latest.now x) hart ≤ bound sources.now reader x) ×
-        (bound sources.now reader x ≤ p)) }
+        true → (others_of (latest_of latest.now x) hart ≤ source_at sources.now.items reader x) ×
+        (source_at sources.now.items reader x ≤ p)) }
 {
     let start = access.address();
     for k in 0..access.byte_count() {
-        let source = bound(sources, reader, start + k);
+        let source = source_at(sources, reader, start + k);
         let found = latest_of(latest, start + k);
         if others_of(&found, hart) > source || source > p {
             return false;

@@ -5,7 +5,7 @@ ghost use Rattle.order_checker.specs.Checking.{Raises, RaisesBytes, bound, word_
 use pages::OutOfMemory;
 use std::collections::BTreeMap;
 
-/// Numbers at pairs: of a hart and an address, or of a place in a trace and an address. Where nothing stands it is 0.
+/// Numbers at pairs of a hart and an address, by words of eight addresses. Where nothing stands it is 0.
 ///
 /// Each is one more than a position in the order, so that 0 says that there is none.
 pub type Bounds = BTreeMap<(u64, u64), [usize; 8]>;
@@ -20,44 +20,40 @@ fn word_of(bounds: &Bounds, owner: u64, word: u64) -> [usize; 8]
     }
 }
 
-/// The number at a pair.
-pub fn bound(bounds: &Bounds, owner: u64, address: u64) -> usize
-    ensures { result ≡ bound bounds.now owner address }
+/// The numbers at the owner and each of `width` addresses, that of address `x` at `x % 8`.
+pub fn bounds_at(bounds: &Bounds, owner: u64, address: u64, width: u64) -> [usize; 8]
+    requires fits { address + width < 2 ^ 64 }
+    requires few { width ≤ 8 }
+    ensures { (x : ℕ) → in_range address width x ≡ true → slice_index result (x % 8) ≡ bound bounds.now owner x }
 {
-    word_of(bounds, owner, address / 8)[(address % 8) as usize]
+    let first = address % 8;
+    let numbers = word_of(bounds, owner, address / 8);
+    if first + width <= 8 {
+        return numbers;
+    }
+    let next = word_of(bounds, owner, address / 8 + 1);
+    begun_by(numbers, next, first as usize)
 }
 
-/// The numbers from `first` on, `count` of them, raised to at least `value`.
-fn raised(mut numbers: [usize; 8], first: usize, count: usize, value: usize) -> [usize; 8]
-    requires { first + count ≤ 8 }
+/// Some numbers, with the first `count` of others in place of their own.
+fn begun_by(mut numbers: [usize; 8], others: [usize; 8], count: usize) -> [usize; 8]
+    requires { count ≤ 8 }
     ensures { (j : ℕ) → slice_index result j ≡
-        (if in_range first count j then max (slice_index numbers j) value else slice_index numbers j) }
+        (if in_range 0 count j then slice_index others j else slice_index numbers j) }
 {
     for k in 0..count {
-        numbers[first + k] = numbers[first + k].max(value);
+        numbers[k] = others[k];
     }
     numbers
 }
 
-/// Raises the numbers at some of the eight addresses of a word.
-fn raise_word(
-    bounds: &mut Bounds,
-    owner: u64,
-    word: u64,
+/// The numbers from `first` on, `count` of them, raised to at least those of `values`.
+pub(crate) fn raised_to(
+    mut numbers: [usize; 8],
     first: usize,
     count: usize,
-    value: usize,
-) -> Result<(), OutOfMemory>
-    requires { first + count ≤ 8 }
-    ensures { OnOk result (RaisesBytes bounds.old bounds.new owner (8 * word + first) count (λ x. value)) }
-{
-    let new = raised(word_of(bounds, owner, word), first, count, value);
-    bounds.insert((owner, word), new)?;
-    Ok(())
-}
-
-/// The numbers from `first` on, `count` of them, raised to at least those of `values`.
-fn raised_to(mut numbers: [usize; 8], first: usize, count: usize, values: [usize; 8]) -> [usize; 8]
+    values: [usize; 8],
+) -> [usize; 8]
     requires { first + count ≤ 8 }
     ensures { (j : ℕ) → slice_index result j ≡ (if in_range first count j
         then max (slice_index numbers j) (slice_index values j) else slice_index numbers j) }
@@ -69,7 +65,7 @@ fn raised_to(mut numbers: [usize; 8], first: usize, count: usize, values: [usize
 }
 
 /// Raises the numbers at some of the eight addresses of a word to at least those of `values`.
-fn raise_word_to(
+fn raise_word(
     bounds: &mut Bounds,
     owner: u64,
     word: u64,
@@ -81,9 +77,17 @@ fn raise_word_to(
     ensures { OnOk result (RaisesBytes bounds.old bounds.new owner (8 * word + first) count
         (λ x. slice_index values (x % 8))) }
 {
-    let new = raised_to(word_of(bounds, owner, word), first, count, values);
-    bounds.insert((owner, word), new)?;
-    Ok(())
+    match bounds.get_mut(&(owner, word)) {
+        Some(numbers) => {
+            *numbers = raised_to(*numbers, first, count, values);
+            Ok(())
+        }
+        None => {
+            let new = raised_to([0; 8], first, count, values);
+            bounds.insert((owner, word), new)?;
+            Ok(())
+        }
+    }
 }
 
 /// Raises the number at a pair to at least `value`.
@@ -95,7 +99,39 @@ pub(crate) fn raise(
 ) -> Result<(), OutOfMemory>
     ensures { OnOk result (Raises bounds.old bounds.new owner address value) }
 {
-    raise_word(bounds, owner, address / 8, (address % 8) as usize, 1, value)
+    let first = (address % 8) as usize;
+    raise_word(bounds, owner, address / 8, first, 1, [value; 8])?;
+    Ok(())
+}
+
+/// Raises the numbers at the owner and each of `width` addresses `x` to at least the one of `values` at `x % 8`.
+pub fn raise_to(
+    bounds: &mut Bounds,
+    owner: u64,
+    address: u64,
+    width: u64,
+    values: [usize; 8],
+) -> Result<(), OutOfMemory>
+    requires { address + width < 2 ^ 64 }
+    ensures { OnOk result (RaisesBytes bounds.old bounds.new owner address width
+        (λ x. slice_index values (x % 8))) }
+{
+    let first = address % 8;
+    if first + width <= 8 {
+        return raise_word(
+            bounds,
+            owner,
+            address / 8,
+            first as usize,
+            width as usize,
+            values,
+        );
+    }
+    for k in 0..width {
+        let byte = address + k;
+        raise(bounds, owner, byte, values[(byte % 8) as usize])?;
+    }
+    Ok(())
 }
 
 /// Raises the numbers at the owner and each of `width` addresses to at least `value`.
@@ -109,37 +145,7 @@ pub fn raise_bytes(
     requires { address + width < 2 ^ 64 }
     ensures { OnOk result (RaisesBytes bounds.old bounds.new owner address width (λ x. value)) }
 {
-    if address % 8 + width <= 8 {
-        let first = (address % 8) as usize;
-        return raise_word(bounds, owner, address / 8, first, width as usize, value);
-    }
-    for k in 0..width {
-        raise(bounds, owner, address + k, value)?;
-    }
-    Ok(())
-}
-
-/// Raises the numbers at `to` and each of `width` addresses to at least those that `from` has at `owner`.
-pub(crate) fn raise_to(
-    bounds: &mut Bounds,
-    to: u64,
-    address: u64,
-    width: u64,
-    from: &Bounds,
-    owner: u64,
-) -> Result<(), OutOfMemory>
-    requires { address + width < 2 ^ 64 }
-    ensures { OnOk result (RaisesBytes bounds.old bounds.new to address width (λ x.
-        bound from.now owner x)) }
-{
-    if address % 8 + width <= 8 {
-        let first = (address % 8) as usize;
-        let values = word_of(from, owner, address / 8);
-        return raise_word_to(bounds, to, address / 8, first, width as usize, values);
-    }
-    for k in 0..width {
-        raise(bounds, to, address + k, bound(from, owner, address + k))?;
-    }
+    raise_to(bounds, owner, address, width, [value; 8])?;
     Ok(())
 }
 
@@ -151,12 +157,14 @@ pub(crate) fn are_at_most(
     width: u64,
     limit: usize,
 ) -> bool
-    requires { address + width < 2 ^ 64 }
+    requires fits { address + width < 2 ^ 64 }
+    requires few { width ≤ 8 }
     ensures { IsTrue result ↔
         ((x : ℕ) → in_range address width x ≡ true → bound bounds.now owner x ≤ limit) }
 {
+    let numbers = bounds_at(bounds, owner, address, width);
     for k in 0..width {
-        if bound(bounds, owner, address + k) > limit {
+        if numbers[((address + k) % 8) as usize] > limit {
             return false;
         }
     }

@@ -1,37 +1,12 @@
 //! Bounds of the bytes of one access.
 
 ghost use Rattle.std.specs.Prelude.{◌≡◌, ◌+◌, ◌==◌, ◌&&◌, ◌≤◌, ◌<◌, ◌^◌, ◌↔◌, ℕ, true, max, if◌then◌else◌, IsTrue, OnOk};
-ghost use Rattle.round_schedule.specs.Accesses.{address_of, bytes_of, reads, writes};
+ghost use Rattle.round_schedule.specs.Accesses.{address_of, bytes_of, writes};
 ghost use Rattle.order_checker.specs.Checking.{bound};
 
-use crate::checking::bounds::{Bounds, are_at_most, raise_bytes, raise_to};
+use crate::checking::bounds::{Bounds, are_at_most, raise_bytes};
 use pages::OutOfMemory;
 use round_schedule::Access;
-
-/// Raises the bound of each byte that a load at `reader` reads to what `from` has at `owner`.
-pub fn note_load(
-    sources: &mut Bounds,
-    reader: u64,
-    access: &Access,
-    from: &Bounds,
-    owner: u64,
-) -> Result<(), OutOfMemory>
-    requires { address_of access.now + bytes_of access.now < 2 ^ 64 }
-    ensures { OnOk result ((r x : ℕ) → bound sources.new r x ≡ (if r == reader && reads access.now x
-        then max (bound sources.old r x) (bound from.now owner x) else bound sources.old r x)) }
-{
-    if !access.loads() {
-        return Ok(());
-    }
-    raise_to(
-        sources,
-        reader,
-        access.address(),
-        access.byte_count(),
-        from,
-        owner,
-    )
-}
 
 /// Raises the owner's bound of each byte that a store writes to `next`.
 pub(crate) fn note_store(

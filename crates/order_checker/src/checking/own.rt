@@ -1,13 +1,12 @@
-ghost use Rattle.std.specs.Prelude.{◌≡◌, ℕ, All, IfOk, MatchOption, true};
-ghost use Rattle.round_schedule.specs.Positions.{reads_at};
+ghost use Rattle.std.specs.Prelude.{All, IfOk, MatchOption};
 ghost use Rattle.trace.specs.Traced.{HasForm};
-ghost use Rattle.memory_order.specs.Orders.{place};
-ghost use Rattle.order_checker.specs.Checking.{IsMax, IsRanking, OwnWrite, bound};
+ghost use Rattle.memory_order.specs.Orders.{ListsOperations, place};
+ghost use Rattle.order_checker.specs.Checking.{AreSources, IsRanking, OwnWrite};
 ghost use Rattle.order_checker.specs.CheckingProgram.{KeptOverlap};
 
-use crate::checking::bounds::Bounds;
 use crate::checking::kinds::{event_at, position_of};
-use crate::checking::noting::{may_store, note_load, note_store};
+use crate::checking::noting::{may_store, note_store};
+use crate::checking::source_table::{Sources, note_load};
 use pages::OutOfMemory;
 use round_schedule::Event;
 use std::alloc::Global;
@@ -21,15 +20,15 @@ pub fn own_stores(
     events: &[Event],
     order: &[usize],
     ranks: &[usize],
-) -> Result<Option<Bounds>, OutOfMemory>
+) -> Result<Option<Sources>, OutOfMemory>
     requires formed { All HasForm events.now }
+    requires lists { ListsOperations events.now order.now }
     requires ranked { IsRanking events.now order.now ranks.now }
     ensures { IfOk result (λ o. MatchOption o (KeptOverlap events.now (place order.now) →
-        ⊥) (λ m. KeptOverlap events.now (place order.now) × ((r x : ℕ) → reads_at events.now r x ≡
-        true → IsMax (place order.now) (OwnWrite events.now r x) (bound m r x)))) }
+        ⊥) (λ s. KeptOverlap events.now (place order.now) × AreSources events.now order.now (OwnWrite events.now) s.items)) }
 {
     let mut own = BTreeMap::new(alloc);
-    let mut sources = BTreeMap::new(alloc);
+    let mut sources = vec![in alloc; [0; 8]; order.len()]?;
     for i in 0..events.len() {
         let event = event_at(events, i);
         let hart = u64::from(event.hart);
@@ -37,7 +36,7 @@ pub fn own_stores(
         if !may_store(&own, hart, &event.access, position) {
             return Ok(None);
         }
-        note_load(&mut sources, i as u64, &event.access, &own, hart)?;
+        note_load(&mut sources, position, &event.access, &own, hart);
         note_store(&mut own, hart, &event.access, position + 1)?;
     }
     Ok(Some(sources))

@@ -5,12 +5,11 @@ ghost use Rattle.memory_order.specs.Operations.{is_lr_or_sc};
 ghost use Rattle.memory_order.specs.Rvwmo.{IsPaired};
 ghost use Rattle.order_checker.specs.Checking.{AreReserved};
 
-use crate::checking::bounds::{bound, raise};
+use crate::checking::harts::{of_hart, set_of_hart};
 use crate::checking::kinds::{event_at, is_lr_or_sc, is_sc};
 use pages::OutOfMemory;
 use round_schedule::Event;
 use std::alloc::Global;
-use std::collections::BTreeMap;
 
 /// For each event, one more than the place of the last LR or SC of its hart before it; 0 where there is none.
 pub fn last_reserved(alloc: Global, events: &[Event]) -> Result<Vec<usize>, OutOfMemory>
@@ -18,14 +17,14 @@ pub fn last_reserved(alloc: Global, events: &[Event]) -> Result<Vec<usize>, OutO
     ensures { IfOk result (λ v. AreReserved events.now (length events.now) v.items) }
 {
     let mut reserved = Vec::new(alloc);
-    // of each hart, at address 0
-    let mut last = BTreeMap::new(alloc);
+    // of each hart so far
+    let mut last = vec![in alloc; 0; 256]?;
     for i in 0..events.len() {
         let event = event_at(events, i);
-        let hart = u64::from(event.hart);
-        reserved.push(bound(&last, hart, 0))?;
-        let next = if is_lr_or_sc(&event.access) { i + 1 } else { 0 };
-        raise(&mut last, hart, 0, next)?;
+        reserved.push(of_hart(&last, event.hart))?;
+        if is_lr_or_sc(&event.access) {
+            set_of_hart(&mut last, event.hart, i + 1);
+        }
     }
     Ok(reserved)
 }

@@ -4,6 +4,7 @@ ghost use Rattle.memory_order.specs.Orders.{place};
 ghost use Rattle.order_checker.specs.Checking.{IsRanking};
 ghost use Rattle.order_checker.specs.CheckingProgram.{Allowed, KeptButOverlap, bounds_after, bounds_of};
 
+use crate::checking::harts::{of_hart, raised, set_of_hart};
 use crate::checking::kinds::{
     event_at, is_plain_store, is_release, orders_loads, orders_stores, position_of,
 };
@@ -11,7 +12,6 @@ use memory_order::is_operation;
 use pages::OutOfMemory;
 use round_schedule::{Access, Event};
 use std::alloc::Global;
-use std::collections::BTreeMap;
 
 /// The least positions in the order that a hart's operations so far leave to its later ones.
 #[derive(Clone, Copy)]
@@ -26,6 +26,13 @@ pub(crate) struct HartBounds {
     pub(crate) before_stores: usize,
 }
 
+const NO_BOUNDS: HartBounds = HartBounds {
+    others: 0,
+    stores: 0,
+    before_loads: 0,
+    before_stores: 0,
+};
+
 /// Whether an order keeps preserved program order, but for the rule on overlapping stores.
 pub(crate) fn keeps_but_overlap(
     alloc: Global,
@@ -37,47 +44,18 @@ pub(crate) fn keeps_but_overlap(
     requires ranked { IsRanking events.now order.now ranks.now }
     ensures { IfOk result (λ yes. IsTrue yes ↔ KeptButOverlap events.now (place order.now)) }
 {
-    let mut harts = BTreeMap::new(alloc);
+    let mut harts = vec![in alloc; NO_BOUNDS; 256]?;
     for i in 0..events.len() {
         let event = event_at(events, i);
         let position = position_of(events, order, ranks, i);
-        let bounds = bounds_of(&harts, event.hart);
+        let bounds = of_hart(&harts, event.hart);
         if is_operation(&event) && !allows(&bounds, &event.access, position) {
             return Ok(false);
         }
-        set_bounds(
-            &mut harts,
-            event.hart,
-            bounds_after(&bounds, &event, position + 1),
-        )?;
+        let next = bounds_after(&bounds, &event, position + 1);
+        set_of_hart(&mut harts, event.hart, next);
     }
     Ok(true)
-}
-
-fn bounds_of(harts: &BTreeMap<u8, HartBounds>, hart: u8) -> HartBounds
-    ensures { result ≡ bounds_of harts.now hart }
-{
-    match harts.get(&hart) {
-        Some(bounds) => *bounds,
-        None => HartBounds {
-            others: 0,
-            stores: 0,
-            before_loads: 0,
-            before_stores: 0,
-        },
-    }
-}
-
-fn set_bounds(
-    harts: &mut BTreeMap<u8, HartBounds>,
-    hart: u8,
-    bounds: HartBounds,
-) -> Result<(), OutOfMemory>
-    ensures { OnOk result ((h : ℕ) → bounds_of harts.new h ≡
-        (if h == hart then bounds else bounds_of harts.old h)) }
-{
-    harts.insert(hart, bounds)?;
-    Ok(())
 }
 
 /// Whether the bounds let an operation stand at a position.
@@ -102,10 +80,4 @@ fn bounds_after(bounds: &HartBounds, event: &Event, next: usize) -> HartBounds
         before_loads: raised(bounds.before_loads, orders_loads(access), bounds.stores),
         before_stores: raised(bounds.before_stores, orders_stores(access), bounds.stores),
     }
-}
-
-fn raised(bound: usize, is_raised: bool, value: usize) -> usize
-    ensures { result ≡ (if is_raised then max bound value else bound) }
-{
-    if is_raised { bound.max(value) } else { bound }
 }

@@ -3,25 +3,32 @@ ghost use Rattle.pages.specs.Memory.{byte_of};
 ghost use Rattle.round_schedule.specs.Accesses.{byte_written, number_or_zero, read_of, written_of};
 ghost use Rattle.round_schedule.specs.Positions.{reads_at};
 ghost use Rattle.trace.specs.Traced.{HasForm, opening_at};
-ghost use Rattle.memory_order.specs.Orders.{ListsOperations};
-ghost use Rattle.order_checker.specs.Checking.{IsLeft, bound, left_by};
+ghost use Rattle.memory_order.specs.Orders.{ListsOperations, place};
+ghost use Rattle.memory_order.specs.Rvwmo.{MaySee};
+ghost use Rattle.order_checker.specs.Checking.{AreSources, IsLeft, IsRanking, left_by, source_of};
 
-use crate::checking::bounds::{Bounds, bound};
-use crate::checking::kinds::{event_at, listed};
+use crate::checking::kinds::{event_at, listed, position_of};
+use crate::checking::source_table::{Sources, source_at};
 use round_schedule::{Access, Event};
 use trace::Trace;
 
 /// Whether each byte of each load is the one that its source left; `sources` has the bounds of the sources.
-pub fn loads_are_right(trace: &Trace, events: &[Event], order: &[usize], sources: &Bounds) -> bool
+pub fn loads_are_right(
+    trace: &Trace,
+    events: &[Event],
+    order: &[usize],
+    ranks: &[usize],
+    sources: &Sources,
+) -> bool
     requires formed { All HasForm events.now }
     requires lists { ListsOperations events.now order.now }
-    requires listed { (r x : ℕ) → reads_at events.now r x ≡ true →
-        bound sources.now r x ≤ length order.now }
-    ensures { IsTrue result ↔ ((r x : ℕ) → reads_at events.now r x ≡ true →
-        IsLeft events.now (opening_at trace.now.opening) order.now r x (bound sources.now r x)) }
+    requires ranked { IsRanking events.now order.now ranks.now }
+    requires sourced { AreSources events.now order.now (MaySee events.now (place order.now)) sources.now.items }
+    ensures { IsTrue result ↔ ((r x : ℕ) → reads_at events.now r x ≡ true → IsLeft events.now
+        (opening_at trace.now.opening) order.now r x (source_of order.now sources.now.items r x)) }
 {
     for i in 0..events.len() {
-        if !load_is_right(trace, events, order, sources, i) {
+        if !load_is_right(trace, events, order, ranks, sources, i) {
             return false;
         }
     }
@@ -32,25 +39,27 @@ fn load_is_right(
     trace: &Trace,
     events: &[Event],
     order: &[usize],
-    sources: &Bounds,
+    ranks: &[usize],
+    sources: &Sources,
     reader: usize,
 ) -> bool
     requires within { reader < length events.now }
     requires formed { All HasForm events.now }
     requires lists { ListsOperations events.now order.now }
-    requires listed { (x : ℕ) → reads_at events.now reader x ≡ true →
-        bound sources.now reader x ≤ length order.now }
+    requires ranked { IsRanking events.now order.now ranks.now }
+    requires sourced { AreSources events.now order.now (MaySee events.now (place order.now)) sources.now.items }
     ensures { IsTrue result ↔ ((x : ℕ) → reads_at events.now reader x ≡ true → IsLeft events.now
-        (opening_at trace.now.opening) order.now reader x (bound sources.now reader x)) }
+        (opening_at trace.now.opening) order.now reader x (source_of order.now sources.now.items reader x)) }
 {
     let event = event_at(events, reader);
     if !event.access.loads() {
         return true;
     }
+    let position = position_of(events, order, ranks, reader);
     let number = number_read(&event.access);
     let start = event.access.address();
     for k in 0..event.access.byte_count() {
-        let source = bound(sources, reader as u64, start + k);
+        let source = source_at(sources, position, start + k);
         if byte_of(number, k) != byte_left(trace, events, order, source, start + k) {
             return false;
         }

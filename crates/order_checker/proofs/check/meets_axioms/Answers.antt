@@ -1,10 +1,10 @@
 use Rattle.std.proofs.Common.{IsTrue}
 use Rattle.trace.specs.Traced.{opening_at}
 use Rattle.memory_order.specs.Orders.{place}
-use Rattle.order_checker.specs.Checking.{bound}
+use Rattle.order_checker.specs.Checking.{source_of}
 use Rattle.order_checker.proofs.Composing.{at_none, at_some}
 use Rattle.order_checker.proofs.Preserving.{kept_but_overlap, kept_overlap, preserved_from}
-use Rattle.order_checker.proofs.Valuing.{left_from_values, source_listed, values_from_left}
+use Rattle.order_checker.proofs.Valuing.{left_from_values, values_from_left}
 use Rattle.order_checker.proofs.check.meets_axioms.Goals as goal
 
 pub returns-then-not-branch : goal.returns-then-not-branch
@@ -22,16 +22,12 @@ returns-in-None c = (
       absurd (at_none c.in_ok-own.field-0 _ _ c.in-None.is c.in_ok-own.ensures (kept_overlap c.args.events.now (place c.args.order.now) m.0)),
 )
 
-pub loads_are_right-requires-clause-listed : goal.loads_are_right-requires-clause-listed
-loads_are_right-requires-clause-listed c = λ r x h.
-    source_listed c.args.events.now c.args.order.now r x (bound c.in_ok-sources.sources r x) c.requires.lists (c.in_ok-sources.ensures r x h)
-
 pub returns-then-not-loads_are_right : goal.returns-then-not-loads_are_right
 returns-then-not-loads_are_right c = (
   λ h. cc,
   λ m.
       let yes : IsTrue c.loads_are_right.result = c.loads_are_right.ensures.1
-      (left_from_values c.args.events.now (opening_at c.args.trace.now.opening) c.args.order.now (λ r x. bound c.in_ok-sources.sources r x) c.requires.lists (λ r x h. c.in_ok-sources.ensures r x h) m.1) in
+      (left_from_values c.args.events.now (opening_at c.args.trace.now.opening) c.args.order.now (λ r x. source_of c.args.order.now c.in_ok-sources.sources.items r x) c.requires.lists c.in_ok-sources.ensures.max m.1) in
       cc,
 )
 
@@ -39,7 +35,7 @@ pub returns : goal.returns
 returns c = (
   λ h. (
     preserved_from c.args.events.now (place c.args.order.now) (c.in_ok-keeps_but_overlap.ensures.0 c.if-not-branch.false) (at_some c.in_ok-own.field-0 c.in-Some.own _ _ c.in-Some.is c.in_ok-own.ensures).0,
-    values_from_left c.args.events.now (opening_at c.args.trace.now.opening) c.args.order.now (λ r x. bound c.in_ok-sources.sources r x) c.requires.lists (λ r x k. c.in_ok-sources.ensures r x k)
+    values_from_left c.args.events.now (opening_at c.args.trace.now.opening) c.args.order.now (λ r x. source_of c.args.order.now c.in_ok-sources.sources.items r x) c.requires.lists c.in_ok-sources.ensures.max
         (c.loads_are_right.ensures.0 c.if-not-loads_are_right.false),
     c.in_ok-pairs_are_atomic.ensures.0 h,
   ),

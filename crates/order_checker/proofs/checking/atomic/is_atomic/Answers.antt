@@ -1,27 +1,39 @@
-use Rattle.std.proofs.Common.{◌≡◌, ◌∙◌, ap, subst, sym}
+use Rattle.std.proofs.Common.{◌≡◌, ℕ, ◌<◌, ◌∙◌, ap, arith, length, subst, sym, true}
 use Rattle.round_schedule.specs.declared.event.Event.{Event}
-use Rattle.round_schedule.specs.Positions.{event}
+use Rattle.round_schedule.specs.Accesses.{is_lr}
 use Rattle.memory_order.specs.Orders.{place}
-use Rattle.order_checker.specs.Checking.{bound}
+use Rattle.order_checker.specs.Checking.{source_at, source_of}
 use Rattle.order_checker.specs.CheckingAtomic.{AtomicAt, latest_of, others_of}
-use Rattle.order_checker.proofs.Atomicity.{atomic_from_test, others_max, test_from_atomic}
+use Rattle.order_checker.proofs.Atomicity.{KeepsTest, atomic_from_test, lr_loads, others_max, test_from_atomic}
+use Rattle.order_checker.proofs.Sourcing.{load_within}
 use Rattle.order_checker.proofs.checking.atomic.is_atomic.Goals as goal
+
+pub keeps_bytes-requires-clause-within : goal.keeps_bytes-requires-clause-within
+keeps_bytes-requires-clause-within c =
+    let access = ap (λ (e : Event). e.access) c.event_at-reserve.ensures.at in
+    let l = load_within c.args.events.now c.args.order.now c.in-Some.first c.position_of-reader.result c.event_at-reserve.result.access c.requires.lists access c.position_of-reader.ensures.at
+    (lr_loads c.event_at-reserve.result.access (ap is_lr access ∙ c.in-Some.ensures.1.reserved)) in
+    omega (arith, l, c.requires.sourced.len)
 
 pub returns-in-Some : goal.returns-in-Some
 returns-in-Some c =
     let t = c.args.events.now in
     let g = c.args.order.now in
-    let hart : c.from-hart.result ≡ (event c.args.events.now c.listed-place.result).hart = c.from-hart.ensures ∙ ap (λ (f : Event). f.hart) c.event_at.ensures.at in (
+    let p = c.args.p in
+    let s = c.args.sources.now.items in
+    let first = c.in-Some.first in
+    let hart = c.event_at-hart.result.hart in
+    let e = c.event_at-reserve.result in
+    let others = λ (x : ℕ). others_of (latest_of c.args.latest.now x) hart in
+    let of = ap (λ (f : Event). f.hart) c.event_at-hart.ensures.at in
+    let most = λ (x : ℕ). others_max t (place g) p x hart (latest_of c.args.latest.now x) (c.requires.latest x) in (
       λ h. subst (AtomicAt t (place g)) c.listed-place.ensures.at
-          (atomic_from_test t g c.listed-place.result c.args.p c.in-Some.first c.from-hart.result c.event_at-reserve.result
-          (λ x. others_of (latest_of c.args.latest.now x) c.from-hart.result) (λ x. bound c.args.sources.now c.in-Some.first x) c.requires.lists c.listed-place.ensures.position
-          c.in-Some.ensures.1 c.event_at-reserve.ensures.at hart
-          (λ x. others_max t (place g) c.args.p x c.from-hart.result (latest_of c.args.latest.now x) (c.requires.latest x))
-          (λ x r. c.requires.sourced c.in-Some.first x r) (c.keeps_bytes.ensures.0 h)),
+          (atomic_from_test t g c.listed-place.result p first hart e others (λ x. source_of g s first x) c.requires.lists c.listed-place.ensures.position
+          c.in-Some.ensures.1 c.event_at-reserve.ensures.at of most (λ x r. c.requires.sourced.max first x r)
+          (subst (λ q. KeepsTest e.access others (λ x. source_at s q x) p) c.position_of-reader.ensures.at (c.keeps_bytes.ensures.0 h))),
       λ a. c.keeps_bytes.ensures.1
-          (test_from_atomic t g c.listed-place.result c.args.p c.in-Some.first c.from-hart.result c.event_at-reserve.result
-          (λ x. others_of (latest_of c.args.latest.now x) c.from-hart.result) (λ x. bound c.args.sources.now c.in-Some.first x) c.requires.lists c.listed-place.ensures.operation c.listed-place.ensures.position
-          c.in-Some.ensures.1 c.event_at-reserve.ensures.at hart
-          (λ x. others_max t (place g) c.args.p x c.from-hart.result (latest_of c.args.latest.now x) (c.requires.latest x))
-          (λ x r. c.requires.sourced c.in-Some.first x r) (subst (AtomicAt t (place g)) (sym c.listed-place.ensures.at) a)),
+          (subst (λ q. KeepsTest e.access others (λ x. source_at s q x) p) (sym c.position_of-reader.ensures.at)
+          (test_from_atomic t g c.listed-place.result p first hart e others (λ x. source_of g s first x) c.requires.lists c.listed-place.ensures.operation c.listed-place.ensures.position
+          c.in-Some.ensures.1 c.event_at-reserve.ensures.at of most (λ x r. c.requires.sourced.max first x r)
+          (subst (AtomicAt t (place g)) (sym c.listed-place.ensures.at) a))),
     )

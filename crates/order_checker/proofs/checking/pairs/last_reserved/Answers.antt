@@ -1,27 +1,44 @@
-use Rattle.std.proofs.Common.{◌≡◌, ◌+◌, ◌∙◌, if◌then◌else◌, ap, refl, subst, sym}
+use Rattle.std.proofs.Common.{◌≡◌, ℕ, ◌+◌, ◌∙◌, ap, arith, get_or, length, replicate, rules, subst, sym}
+use Rattle.std.proofs.lemmas.List.{length-replicate}
 use Rattle.round_schedule.specs.declared.event.Event.{Event}
 use Rattle.round_schedule.specs.Positions.{event}
-use Rattle.memory_order.specs.Operations.{is_lr_or_sc}
-use Rattle.order_checker.specs.Checking.{Earlier, IsMax, bound}
-use Rattle.order_checker.proofs.Pairing.{is_reserving, last_step, reserved_more}
+use Rattle.order_checker.specs.Checking.{Earlier, IsMax}
+use Rattle.order_checker.proofs.Bounding.{earlier_none}
+use Rattle.order_checker.proofs.Harts.{alike_at_first}
+use Rattle.order_checker.proofs.Pairing.{is_reserving, last_kept, last_step, reserved_more}
 use Rattle.order_checker.proofs.checking.pairs.last_reserved.Goals as goal
 use Rattle.order_checker.proofs.checking.pairs.last_reserved.Goals.{then-is_lr_or_sc, else-is_lr_or_sc}
+
+pub loop-i-init : goal.loop-i-init
+loop-i-init c =
+    let t = c.args.events.now in
+    let none : c.in_ok-last.last.items ≡ replicate 256 0 = c.in_ok-last.ensures.items_if_clones_equal (λ y e. search rules) in
+    record {
+      harts = ap length none ∙ length-replicate {A = ℕ} 256 0;
+      reserved = (ap length c.new-reserved.ensures.items, λ m l. absurd (omega (arith, l)));
+      last = λ h.
+          subst (IsMax (λ j. j) (Earlier is_reserving t h 0)) (sym (ap (λ v. get_or v h 0) none ∙ alike_at_first 256 h 0)) (earlier_none is_reserving t (λ j. j) h);
+    }
 
 pub loop-i-preserved : goal.loop-i-preserved
 loop-i-preserved c =
     let t = c.args.events.now in
     let i = c.loop-i.i in
     let e = c.event_at-event.result in
-    let hart : c.from-hart.result ≡ (event c.args.events.now c.loop-i.i).hart = c.from-hart.ensures ∙ ap (λ (f : Event). f.hart) c.event_at-event.ensures.at in
-    let now : IsMax (λ j. j) (Earlier is_reserving c.args.events.now (event c.args.events.now c.loop-i.i).hart c.loop-i.i) c.bound.result =
-    subst (IsMax (λ j. j) (Earlier is_reserving c.args.events.now (event c.args.events.now c.loop-i.i).hart c.loop-i.i))
-    (sym (c.bound.ensures ∙ ap (λ h. bound c.loop-i.last h 0) hart)) (c.loop-i.invariant.last (event c.args.events.now c.loop-i.i).hart) in
-    let next : c.if-is_lr_or_sc.next ≡ (if is_lr_or_sc c.event_at-event.result.access then c.loop-i.i + 1 else 0) = elim c.if-is_lr_or_sc.branch [
-      | then-is_lr_or_sc w ↦ w.next-is ∙ ap (λ b. if b then c.loop-i.i + 1 else 0) (sym w.if-is_lr_or_sc.true ∙ c.is_lr_or_sc.ensures)
-      | else-is_lr_or_sc w ↦ w.next-is ∙ ap (λ b. if b then c.loop-i.i + 1 else 0) (sym w.if-is_lr_or_sc.false ∙ c.is_lr_or_sc.ensures)
-    ] in
+    let at = c.event_at-event.ensures.at in
+    let now = subst (λ v. IsMax (λ j. j) (Earlier is_reserving t (event t i).hart i) v)
+    (sym (c.of_hart.ensures 0 ∙ ap (λ h. get_or c.loop-i.last.items h 0) (ap (λ (f : Event). f.hart) at))) (c.loop-i.invariant.last (event t i).hart) in
     record {
-      reserved = reserved_more t i c.bound.result c.loop-i.reserved.items _ c.in_ok-push.ensures.items c.loop-i.invariant.reserved now;
-      last = last_step t i c.from-hart.result c.if-is_lr_or_sc.next e (λ h. bound c.loop-i.last h 0) (λ h. bound c.raise.new.bounds h 0) (is_lr_or_sc c.event_at-event.result.access)
-          c.event_at-event.ensures.at c.from-hart.ensures refl next (λ h. c.in_ok-raise.ensures h 0) c.loop-i.invariant.last;
+      harts = elim c.if-is_lr_or_sc.branch [
+        | then-is_lr_or_sc w ↦ rw w.last-is (w.set_of_hart.ensures.len ∙ c.loop-i.invariant.harts)
+        | else-is_lr_or_sc w ↦ rw w.last-is c.loop-i.invariant.harts
+      ];
+      reserved = reserved_more t i c.of_hart.result c.loop-i.reserved.items _ c.in_ok-push.ensures.items c.loop-i.invariant.reserved now;
+      last = λ h. elim c.if-is_lr_or_sc.branch [
+        | then-is_lr_or_sc w ↦ rw w.last-is
+            (last_step t i e (λ k. get_or c.loop-i.last.items k 0) (λ k. get_or w.set_of_hart.new.harts.items k 0) at (sym c.is_lr_or_sc.ensures ∙ w.if-is_lr_or_sc.true)
+            (λ k. w.set_of_hart.ensures.set 0 k) c.loop-i.invariant.last h)
+        | else-is_lr_or_sc w ↦ rw w.last-is
+            (last_kept t i e (λ k. get_or c.loop-i.last.items k 0) at (sym c.is_lr_or_sc.ensures ∙ w.if-is_lr_or_sc.false) c.loop-i.invariant.last h)
+      ];
     }

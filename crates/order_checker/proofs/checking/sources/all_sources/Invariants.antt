@@ -1,10 +1,12 @@
+use Rattle.std.proofs.Common.{◌≡◌, length}
 use Rattle.memory_order.specs.Orders.{place}
-use Rattle.order_checker.specs.Checking.{bound}
+use Rattle.order_checker.specs.Checking.{bound, source_of}
 use Rattle.order_checker.proofs.Sourcing.{SeenStores, Sourced}
 use Rattle.order_checker.proofs.checking.sources.all_sources.Given as goal
 
 abbrev pub invariant-loop-p : goal.invariant-loop-p
 invariant-loop-p l = record {
+  len : length l.sources.items ≡ length l.order;
   seen : SeenStores l.events (place l.order) l.p (λ x. bound l.seen 0 x);
-  sources : Sourced l.events l.order l.p (λ r x. bound l.sources r x);
+  sources : Sourced l.events l.order l.p (λ r x. source_of l.order l.sources.items r x);
 }
