@@ -1,10 +1,9 @@
 -- The bounds of registers along the instructions of a hart say which dependencies an order has to keep.
-use Rattle.std.proofs.Common.{◌≡◌, ◌≢◌, ℕ, ◌+◌, ◌-◌, ◌<◌, ◌≤◌, ◌==◌, ◌⊎◌, max, Bool, true, false, if◌then◌else◌, List, [], ◌∷◌, ◌++◌, length, get_or, slice_set, replicate, Option, Some, None, refl, sym, ap, ◌∙◌, subst, inl, inr, arith}
+use Rattle.std.proofs.Common.{◌≡◌, ◌≢◌, ℕ, ◌+◌, ◌-◌, ◌<◌, ◌≤◌, ◌==◌, ◌⊎◌, max, Bool, true, false, if◌then◌else◌, List, [], ◌∷◌, ◌++◌, length, get_or, slice_set, replicate, Some, refl, sym, ap, ◌∙◌, subst, inl, inr, arith}
 use Rattle.std.proofs.lemmas.List.{get_or-replicate, get_or_append_left, get_or-set_other, get_or-set_same, length-append, length-replicate, length-set}
 use Rattle.std.proofs.lemmas.Grind.{common_steps}
 use Rattle.std.proofs.lemmas.Bool.{cases_lt, cases_eq, cases_Bool, cond-true, cond-false, eq-eqb, ne_eqb}
 use Rattle.rv64_decode.specs.declared.instruction.Instr.{Instr}
-use Rattle.round_schedule.specs.declared.access.Access.{Access}
 use Rattle.round_schedule.specs.declared.event.Event.{Event}
 use Rattle.round_schedule.specs.Accesses.{stores}
 use Rattle.round_schedule.specs.Positions.{ProgramBefore, event, reads_at}
@@ -15,7 +14,7 @@ use Rattle.memory_order.specs.Rvwmo.{IsSource, MaySee}
 use Rattle.memory_order.proofs.Placing.{place_of_contained}
 use Rattle.memory_order.proofs.Sources.{store_at}
 use Rattle.dependencies.specs.declared.table.Registers.{Registers}
-use Rattle.dependencies.specs.Dependencies.{AddressDependency, AnyDependency, DataDependency, DependencyRule, Depends, IsLastWriter, IsSourceRegister, KeptAt, by-address, by-address-between, by-control, by-data, by-forwarding, destination_at, directly, has_failed, registers_at, through}
+use Rattle.dependencies.specs.Dependencies.{AddressDependency, AnyDependency, DataDependency, DependencyRule, Depends, IsSourceRegister, KeptAt, by-address, by-address-between, by-control, by-data, by-forwarding, destination_at, directly, registers_at, through}
 use Rattle.rule_checker.specs.declared.carried.Carried.{Carried}
 use Rattle.order_checker.specs.Checking.{IsMax}
 use Rattle.rule_checker.specs.CarriedBounds.{AllowedBy, AreOperands, AreRegisters, MayForwardAll, carried_after, destination_with, none_carried, operand_bound, result_bound, sources_bound}

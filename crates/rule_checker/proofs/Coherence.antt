@@ -1,13 +1,12 @@
 -- The bounds of bytes say where operations of common bytes let the later ones of a hart stand.
-use Rattle.std.proofs.Common.{◌≡◌, ◌≢◌, ℕ, zero, suc, ◌+◌, ◌-◌, ◌<◌, ◌≤◌, ◌==◌, ◌&&◌, ◌||◌, max, ◌⊎◌, Bool, true, false, if◌then◌else◌, List, get_or, Option, Some, None, refl, sym, ap, ◌∙◌, subst, inl, inr, arith}
-use Rattle.std.proofs.lemmas.Bool.{and_from, and_left, and_parts, cases_Bool, cases_lt, cases_eq, cond-false, cond-true, eq-eqb, ne_eqb}
-use Rattle.std.proofs.lemmas.Bool.Decides.{nat_tests}
+use Rattle.std.proofs.Common.{◌≡◌, ◌≢◌, ℕ, zero, suc, ◌+◌, ◌-◌, ◌<◌, ◌≤◌, ◌==◌, ◌&&◌, ◌||◌, max, ◌⊎◌, Bool, true, if◌then◌else◌, List, get_or, Option, Some, None, refl, sym, ap, ◌∙◌, subst, inl, inr, arith}
+use Rattle.std.proofs.lemmas.Bool.{and_from, and_parts, cases_Bool, cases_lt, cases_eq, eq-eqb}
 use Rattle.round_schedule.specs.declared.access.Access.{Access}
 use Rattle.round_schedule.specs.declared.access.Access.TheVariants.{Load, Store, LoadReserved, StoreConditional, Atomic, Fence}
 use Rattle.round_schedule.specs.declared.event.Event.{Event}
 use Rattle.round_schedule.specs.Accesses.{is_sc, loads, reads, stores, writes}
 use Rattle.round_schedule.specs.Positions.{ProgramBefore, event, reads_at, writes_at}
-use Rattle.memory_order.specs.Operations.{covers, is_amo, is_operation, is_plain_store, is_store}
+use Rattle.memory_order.specs.Operations.{covers, is_amo, is_operation, is_plain_store}
 use Rattle.memory_order.specs.Orders.{ListsOperations, place}
 use Rattle.memory_order.specs.Rvwmo.{IsSource, MaySee}
 use Rattle.memory_order.proofs.Sources.{load_at, one_place, store_at}

@@ -1,13 +1,13 @@
 -- Preserved program order with all the manual's rules, from the parts that the checker tests.
 use Rattle.std.proofs.Common.{◌≡◌, ℕ, ◌<◌, ◌↔◌, ◌||◌, true, Bool, List, IsTrue, refl}
-use Rattle.std.proofs.lemmas.Bool.{and_from, and_parts}
+use Rattle.std.proofs.lemmas.Bool.{and_parts}
 use Rattle.rv64_decode.specs.declared.instruction.Instr.{Instr}
 use Rattle.round_schedule.specs.declared.access.Access.{Access}
 use Rattle.round_schedule.specs.declared.access.Access.TheVariants.{Load, Store, LoadReserved, StoreConditional, Atomic, Fence}
 use Rattle.round_schedule.specs.declared.event.Event.{Event}
 use Rattle.round_schedule.specs.Accesses.{is_lr, is_sc, loads, stores}
-use Rattle.round_schedule.specs.Positions.{ProgramBefore, event, writes_at}
-use Rattle.memory_order.specs.Operations.{covers, is_acquire, is_operation, is_store}
+use Rattle.round_schedule.specs.Positions.{event}
+use Rattle.memory_order.specs.Operations.{covers, is_operation, is_store}
 use Rattle.memory_order.specs.Orders.{ListsOperations, place}
 use Rattle.memory_order.specs.Rvwmo.{AtomicityAxiom, IsPaired, LoadValueAxiom, MeetsRvwmoBy, PreservedOrderBy, Rule, acquired, both-annotated, dependent, different-writes, fenced, overlapping-store, paired, released, returns-atomic}
 use Rattle.memory_order.proofs.Facts.{store_is_operation}

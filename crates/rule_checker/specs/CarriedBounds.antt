@@ -1,7 +1,5 @@
 -- Dependencies as the checker takes them: of each register the greatest position of what it depends on.
-use Rattle.std.specs.Prelude.{◌≡◌, ℕ, ◌+◌, ◌-◌, ◌<◌, ◌≤◌, ◌==◌, ◌⊎◌, ◌≢◌, Bool, true, max, if◌then◌else◌, List, length, replicate, slice_index, unwrap_or}
-use Rattle.std.specs.Ordering.{nat_cmp}
-use Rattle.std.specs.BTreeMap.{BTreeMap, get}
+use Rattle.std.specs.Prelude.{◌≡◌, ℕ, ◌-◌, ◌<◌, ◌≤◌, ◌⊎◌, ◌≢◌, Bool, true, max, if◌then◌else◌, List, length, replicate, slice_index, slice_index_or}
 use Rattle.rv64_decode.specs.declared.instruction.Instr.{Instr}
 use Rattle.round_schedule.specs.declared.access.Access.{Access}
 use Rattle.round_schedule.specs.declared.event.Event.{Event}
@@ -12,7 +10,7 @@ use Rattle.memory_order.specs.Operations.{is_operation}
 use Rattle.dependencies.specs.declared.table.Registers.{Registers}
 use Rattle.dependencies.specs.Dependencies.{AddressDependency, DataDependency, has_failed}
 use Rattle.rule_checker.specs.declared.carried.Carried.{Carried}
-use Rattle.order_checker.specs.Checking.{IsMax, bound}
+use Rattle.order_checker.specs.Checking.{IsMax}
 
 -- the greatest bound of an instruction's address and data, and of all its source registers
 abbrev pub operand_bound : Carried → Registers → ℕ
@@ -40,9 +38,9 @@ carried_after c x e next = record {
 abbrev pub none_carried : Carried
 none_carried = record { registers = replicate 32 0; steered = 0; addressed = 0 }
 
--- what a map from harts holds at one
-abbrev pub carried_of : BTreeMap ℕ Carried → ℕ → Carried
-carried_of m h = unwrap_or (get nat_cmp m h) none_carried
+-- what a list has of a hart, by its number
+abbrev pub carried_of : List Carried → ℕ → Carried
+carried_of l h = slice_index_or l h none_carried
 
 -- whether an operation may stand at a position by the rules 9, 10, 11 and 13
 abbrev pub AllowedBy : Carried → Registers → Access → ℕ → Type 0

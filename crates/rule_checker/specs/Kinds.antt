@@ -1,7 +1,5 @@
 -- Preserved program order by the kinds of operations: the rules 4 to 7, as the checker takes them.
-use Rattle.std.specs.Prelude.{◌≡◌, ℕ, ◌<◌, ◌≤◌, ◌&&◌, ◌||◌, Bool, true, false, max, if◌then◌else◌, List, unwrap_or}
-use Rattle.std.specs.Ordering.{nat_cmp}
-use Rattle.std.specs.BTreeMap.{BTreeMap, get}
+use Rattle.std.specs.Prelude.{◌≡◌, ℕ, ◌<◌, ◌≤◌, ◌&&◌, ◌||◌, Bool, true, false, max, if◌then◌else◌, List, slice_index_or}
 use Rattle.round_schedule.specs.declared.access.Access.{Access}
 use Rattle.round_schedule.specs.declared.access.Access.TheVariants.{Fence}
 use Rattle.round_schedule.specs.declared.event.Event.{Event}
@@ -38,8 +36,9 @@ KeptByKind t pos = (b : ℕ) → is_operation (event t b) ≡ true → KindsKept
 abbrev pub no_kinds : KindBounds
 no_kinds = record { loads = 0; stores = 0; acquires = 0; annotated = 0; load_load = 0; load_store = 0; store_load = 0; store_store = 0 }
 
-abbrev pub kinds_of : BTreeMap ℕ KindBounds → ℕ → KindBounds
-kinds_of m h = unwrap_or (get nat_cmp m h) no_kinds
+-- what a list has of a hart, by its number
+abbrev pub kinds_of : List KindBounds → ℕ → KindBounds
+kinds_of l h = slice_index_or l h no_kinds
 
 -- whether an operation may stand at a position
 abbrev pub AllowedByKind : KindBounds → Access → ℕ → Type 0

@@ -1,16 +1,17 @@
-ghost use Rattle.std.specs.Prelude.{◌≡◌, ◌==◌, ◌↔◌, ℕ, All, max, if◌then◌else◌, IsTrue, IfOk, OnOk};
+ghost use Rattle.std.specs.Prelude.{◌≡◌, ◌↔◌, All, IsTrue, IfOk};
 ghost use Rattle.trace.specs.Traced.{HasForm};
 ghost use Rattle.memory_order.specs.Operations.{is_acquire};
 ghost use Rattle.memory_order.specs.Orders.{place};
 ghost use Rattle.order_checker.specs.Checking.{IsRanking};
-ghost use Rattle.rule_checker.specs.Kinds.{AllowedByKind, KeptByKind, is_annotated, kinds_after, kinds_of, loads_loads, loads_stores};
+ghost use Rattle.rule_checker.specs.Kinds.{AllowedByKind, KeptByKind, is_annotated, kinds_after, loads_loads, loads_stores};
 
 use memory_order::is_operation;
-use order_checker::{event_at, is_release, orders_loads, orders_stores, position_of};
+use order_checker::{
+    event_at, is_release, of_hart, orders_loads, orders_stores, position_of, raised, set_of_hart,
+};
 use pages::OutOfMemory;
 use round_schedule::{Access, Event};
 use std::alloc::Global;
-use std::collections::BTreeMap;
 
 /// The least positions in the order that a hart's operations so far leave to its later ones, by kinds.
 #[derive(Clone, Copy)]
@@ -30,6 +31,17 @@ pub struct KindBounds {
     pub(crate) store_store: usize,
 }
 
+const NO_KINDS: KindBounds = KindBounds {
+    loads: 0,
+    stores: 0,
+    acquires: 0,
+    annotated: 0,
+    load_load: 0,
+    store_load: 0,
+    load_store: 0,
+    store_store: 0,
+};
+
 /// Whether an order keeps program order where fences and annotations ask for it: the rules 4 to 7 (manual, section 14.1.3).
 pub fn keeps_kinds(
     alloc: Global,
@@ -41,49 +53,19 @@ pub fn keeps_kinds(
     requires ranked { IsRanking events.now order.now ranks.now }
     ensures { IfOk result (λ yes. IsTrue yes ↔ KeptByKind events.now (place order.now)) }
 {
-    let mut harts = BTreeMap::new(alloc);
+    let mut harts = vec![in alloc; NO_KINDS; 256]?;
     for i in 0..events.len() {
         let event = event_at(events, i);
         let position = position_of(events, order, ranks, i);
-        let bounds = kinds_of(&harts, event.hart);
+        let bounds = of_hart(&harts, event.hart);
         let operation = is_operation(&event);
         if operation && !allows(&bounds, &event.access, position) {
             return Ok(false);
         }
         let next = kinds_after(&bounds, &event.access, operation, position + 1);
-        set_kinds(&mut harts, event.hart, next)?;
+        set_of_hart(&mut harts, event.hart, next);
     }
     Ok(true)
-}
-
-fn kinds_of(harts: &BTreeMap<u8, KindBounds>, hart: u8) -> KindBounds
-    ensures { result ≡ kinds_of harts.now hart }
-{
-    match harts.get(&hart) {
-        Some(bounds) => *bounds,
-        None => KindBounds {
-            loads: 0,
-            stores: 0,
-            acquires: 0,
-            annotated: 0,
-            load_load: 0,
-            store_load: 0,
-            load_store: 0,
-            store_store: 0,
-        },
-    }
-}
-
-fn set_kinds(
-    harts: &mut BTreeMap<u8, KindBounds>,
-    hart: u8,
-    bounds: KindBounds,
-) -> Result<(), OutOfMemory>
-    ensures { OnOk result ((h : ℕ) → kinds_of harts.new h ≡
-        (if h == hart then bounds else kinds_of harts.old h)) }
-{
-    harts.insert(hart, bounds)?;
-    Ok(())
 }
 
 /// Whether the bounds let an operation stand at a position.
@@ -111,12 +93,6 @@ fn kinds_after(bounds: &KindBounds, access: &Access, operation: bool, next: usiz
         load_store: raised(bounds.load_store, loads_stores(access), bounds.loads),
         store_store: raised(bounds.store_store, orders_stores(access), bounds.stores),
     }
-}
-
-fn raised(bound: usize, is_raised: bool, value: usize) -> usize
-    ensures { result ≡ (if is_raised then max bound value else bound) }
-{
-    if is_raised { bound.max(value) } else { bound }
 }
 
 fn is_acquire(access: &Access) -> bool

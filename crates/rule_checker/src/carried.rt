@@ -1,21 +1,19 @@
-ghost use Rattle.std.specs.Prelude.{◌≡◌, ◌==◌, ◌<◌, ◌≤◌, ◌↔◌, ◌+◌, ◌^◌, ℕ, All, max, if◌then◌else◌, IsTrue, IfOk, OnOk, length, true};
-ghost use Rattle.round_schedule.specs.Positions.{reads_at};
+ghost use Rattle.std.specs.Prelude.{◌≡◌, ◌<◌, ◌↔◌, All, IsTrue, IfOk, length};
 ghost use Rattle.trace.specs.Traced.{HasForm};
 ghost use Rattle.memory_order.specs.Orders.{ListsOperations, place};
 ghost use Rattle.memory_order.specs.Rvwmo.{MaySee};
 ghost use Rattle.dependencies.specs.Dependencies.{KeepsDependencies, has_failed};
 ghost use Rattle.hart_step.specs.Registers.{reg, set_reg};
-ghost use Rattle.order_checker.specs.Checking.{IsMax, IsRanking, bound};
-ghost use Rattle.rule_checker.specs.CarriedBounds.{AllowedBy, AreRegisters, MayForward, MayForwardAll, carried_after, carried_of, destination_with, none_carried, operand_bound, result_bound, sources_bound};
+ghost use Rattle.order_checker.specs.Checking.{AreSources, IsRanking, source_of};
+ghost use Rattle.rule_checker.specs.CarriedBounds.{AllowedBy, AreRegisters, MayForward, MayForwardAll, carried_after, operand_bound, sources_bound};
 
 use dependencies::{Registers, used_registers};
 use memory_order::is_operation;
-use order_checker::{Bounds, bound, event_at, position_of};
+use order_checker::{Sources, event_at, of_hart, position_of, set_of_hart, source_at};
 use pages::OutOfMemory;
 use round_schedule::{Access, Event};
 use rv64_decode::{Instr, Reg};
 use std::alloc::Global;
-use std::collections::BTreeMap;
 
 /// The bounds of the positions of what a hart's instructions so far depend on.
 #[derive(Clone, Copy)]
@@ -28,6 +26,12 @@ pub struct Carried {
     pub(crate) addressed: usize,
 }
 
+const NONE_CARRIED: Carried = Carried {
+    registers: [0; 32],
+    steered: 0,
+    addressed: 0,
+};
+
 /// Whether an order keeps the dependencies between memory operations: the rules 9 to 13 (manual, section 14.1.3).
 pub fn keeps_dependencies(
     alloc: Global,
@@ -35,24 +39,23 @@ pub fn keeps_dependencies(
     events: &[Event],
     order: &[usize],
     ranks: &[usize],
-    sources: &Bounds,
+    sources: &Sources,
 ) -> Result<bool, OutOfMemory>
     requires formed { All HasForm events.now }
     requires lists { ListsOperations events.now order.now }
     requires ranked { IsRanking events.now order.now ranks.now }
     requires along { length instructions.now ≡ length events.now }
-    requires sourced { (r x : ℕ) → reads_at events.now r x ≡ true →
-        IsMax (place order.now) (MaySee events.now (place order.now) r x) (bound sources.now r x) }
+    requires sourced { AreSources events.now order.now (MaySee events.now (place order.now)) sources.now.items }
     ensures { IfOk result (λ yes. IsTrue yes ↔ KeepsDependencies instructions.now events.now (place order.now)) }
 {
-    let mut harts = BTreeMap::new(alloc);
+    let mut harts = vec![in alloc; NONE_CARRIED; 256]?;
     // of each event so far, what its address and data depend on
     let mut operands = Vec::new(alloc);
     for i in 0..events.len() {
         let event = event_at(events, i);
         let position = position_of(events, order, ranks, i);
         let used = used_registers(&instructions[i]);
-        let carried = carried_of(&harts, event.hart);
+        let carried = of_hart(&harts, event.hart);
         are_registers(&used);
         if is_operation(&event)
             && !(allows(&carried, &used, &event.access, position)
@@ -62,7 +65,7 @@ pub fn keeps_dependencies(
         }
         operands.push(operand_bound(&carried, &used))?;
         let next = carried_after(&carried, &used, &event, position + 1);
-        set_carried(&mut harts, event.hart, next)?;
+        set_of_hart(&mut harts, event.hart, next);
     }
     Ok(true)
 }
@@ -76,31 +79,6 @@ fn are_registers(x: &Registers)
     let _first = x.first.index();
     let _second = x.second.index();
     let _destination = x.destination.index();
-}
-
-fn carried_of(harts: &BTreeMap<u8, Carried>, hart: u8) -> Carried
-    ensures { result ≡ carried_of harts.now hart }
-{
-    match harts.get(&hart) {
-        Some(carried) => *carried,
-        None => Carried {
-            registers: [0; 32],
-            steered: 0,
-            addressed: 0,
-        },
-    }
-}
-
-fn set_carried(
-    harts: &mut BTreeMap<u8, Carried>,
-    hart: u8,
-    carried: Carried,
-) -> Result<(), OutOfMemory>
-    ensures { OnOk result ((h : ℕ) → carried_of harts.new h ≡
-        (if h == hart then carried else carried_of harts.old h)) }
-{
-    harts.insert(hart, carried)?;
-    Ok(())
 }
 
 /// The bound of what a register depends on.
@@ -179,18 +157,18 @@ fn may_forward(
     events: &[Event],
     order: &[usize],
     operands: &[usize],
-    sources: &Bounds,
+    sources: &Sources,
     i: usize,
     position: usize,
 ) -> bool
     requires within { i < length events.now }
     requires formed { All HasForm events.now }
     requires lists { ListsOperations events.now order.now }
+    requires standing { position ≡ place order.now i }
     requires operands { length operands.now ≡ i }
-    requires sourced { (x : ℕ) → reads_at events.now i x ≡ true →
-        IsMax (place order.now) (MaySee events.now (place order.now) i x) (bound sources.now i x) }
-    ensures { IsTrue result ↔
-        MayForwardAll events.now order.now operands.now (λ x. bound sources.now i x) i position }
+    requires sourced { AreSources events.now order.now (MaySee events.now (place order.now)) sources.now.items }
+    ensures { IsTrue result ↔ MayForwardAll events.now order.now operands.now
+        (λ x. source_of order.now sources.now.items i x) i position }
 {
     let event = event_at(events, i);
     if !event.access.loads() {
@@ -198,7 +176,7 @@ fn may_forward(
     }
     let start = event.access.address();
     for k in 0..event.access.byte_count() {
-        let source = bound(sources, i as u64, start + k);
+        let source = source_at(sources, position, start + k);
         if !forwards_from(events, order, operands, i, position, source) {
             return false;
         }

@@ -81,7 +81,7 @@ fn meets_all(
         None => return Ok(false),
     };
     let sources = all_sources(alloc, events, order, own)?;
-    if !loads_are_right(opening, events, order, &sources) {
+    if !loads_are_right(opening, events, order, ranks, &sources) {
         return Ok(false);
     }
     if !keeps_kinds(alloc, events, order, ranks)? {
@@ -96,5 +96,5 @@ fn meets_all(
     if !keeps_dependencies(alloc, instructions, events, order, ranks, &sources)? {
         return Ok(false);
     }
-    Ok(pairs_are_atomic(alloc, events, order, &sources)?)
+    Ok(pairs_are_atomic(alloc, events, order, ranks, &sources)?)
 }

@@ -1,19 +1,19 @@
-ghost use Rattle.std.specs.Prelude.{◌≡◌, ◌+◌, ◌==◌, ◌&&◌, ◌≤◌, ◌<◌, ◌^◌, ◌↔◌, ℕ, All, true, max, if◌then◌else◌, length, IsTrue, IfOk, OnOk};
-ghost use Rattle.round_schedule.specs.Accesses.{address_of, bytes_of};
-ghost use Rattle.round_schedule.specs.Positions.{reads_at};
+ghost use Rattle.std.specs.Prelude.{◌≡◌, ◌+◌, ◌==◌, ◌&&◌, ◌≤◌, ◌<◌, ◌^◌, ◌↔◌, ℕ, All, max, true, if◌then◌else◌, length, IsTrue, IfOk, OnOk};
+ghost use Rattle.round_schedule.specs.Accesses.{address_of, bytes_of, loads, reads};
 ghost use Rattle.trace.specs.Traced.{HasForm};
 ghost use Rattle.memory_order.specs.Operations.{covers, is_operation};
 ghost use Rattle.memory_order.specs.Orders.{ListsOperations, place};
 ghost use Rattle.memory_order.specs.Rvwmo.{MaySee};
-ghost use Rattle.order_checker.specs.Checking.{IsMax, IsRanking, bound};
+ghost use Rattle.order_checker.specs.Checking.{AreSources, IsRanking, bound, source_at, source_of};
 ghost use Rattle.rule_checker.specs.Bytes.{IsForwarded, KeptByByte, MayLoad, MayLoadByte};
 
 use memory_order::is_operation;
 use order_checker::{
-    Bounds, bound, event_at, is_plain_store, listed, may_store, note_load, position_of, raise_bytes,
+    Bounds, Sources, bounds_at, event_at, is_plain_store, listed, may_store, position_of,
+    raise_bytes, raise_to, source_at,
 };
 use pages::OutOfMemory;
-use round_schedule::Event;
+use round_schedule::{Access, Event};
 use std::alloc::Global;
 use std::collections::BTreeMap;
 
@@ -25,13 +25,12 @@ pub fn keeps_bytes_of(
     events: &[Event],
     order: &[usize],
     ranks: &[usize],
-    sources: &Bounds,
+    sources: &Sources,
 ) -> Result<bool, OutOfMemory>
     requires formed { All HasForm events.now }
     requires lists { ListsOperations events.now order.now }
     requires ranked { IsRanking events.now order.now ranks.now }
-    requires sourced { (r x : ℕ) → reads_at events.now r x ≡ true →
-        IsMax (place order.now) (MaySee events.now (place order.now) r x) (bound sources.now r x) }
+    requires sourced { AreSources events.now order.now (MaySee events.now (place order.now)) sources.now.items }
     ensures { IfOk result (λ yes. IsTrue yes ↔ KeptByByte events.now (place order.now)) }
 {
     let mut touched = BTreeMap::new(alloc);
@@ -46,7 +45,7 @@ pub fn keeps_bytes_of(
         if !may_load(events, order, &seen, sources, hart, i, position) {
             return Ok(false);
         }
-        note_load(&mut seen, hart, &event.access, sources, i as u64)?;
+        note_seen(&mut seen, hart, &event.access, sources, position)?;
         note_operation(&mut touched, hart, &event, position + 1)?;
     }
     Ok(true)
@@ -76,12 +75,32 @@ fn note_operation(
     )
 }
 
+/// Raises the owner's bound of each byte that a load reads to the one that the sources have at a position.
+fn note_seen(
+    seen: &mut Bounds,
+    owner: u64,
+    access: &Access,
+    sources: &Sources,
+    position: usize,
+) -> Result<(), OutOfMemory>
+    requires fits { address_of access.now + bytes_of access.now < 2 ^ 64 }
+    requires within { loads access.now ≡ true → position < length sources.now.items }
+    ensures { OnOk result ((h x : ℕ) → bound seen.new h x ≡ (if h == owner && reads access.now x
+        then max (bound seen.old h x) (source_at sources.now.items position x) else bound seen.old h x)) }
+{
+    if !access.loads() {
+        return Ok(());
+    }
+    let row = sources[position];
+    raise_to(seen, owner, access.address(), access.byte_count(), row)
+}
+
 /// Whether each byte of a load is from no earlier store than the hart's loads before it, and from no SC or AMO ahead.
 fn may_load(
     events: &[Event],
     order: &[usize],
     seen: &Bounds,
-    sources: &Bounds,
+    sources: &Sources,
     hart: u64,
     i: usize,
     position: usize,
@@ -89,18 +108,22 @@ fn may_load(
     requires within { i < length events.now }
     requires formed { All HasForm events.now }
     requires lists { ListsOperations events.now order.now }
-    requires listed { (x : ℕ) → reads_at events.now i x ≡ true → bound sources.now i x ≤ length order.now }
-    ensures { IsTrue result ↔ MayLoad events.now order.now (λ x. bound seen.now hart x) (λ x. bound sources.now i x) i position }
+    requires standing { position ≡ place order.now i }
+    requires sourced { AreSources events.now order.now (MaySee events.now (place order.now)) sources.now.items }
+    ensures { IsTrue result ↔ MayLoad events.now order.now (λ x. bound seen.now hart x)
+        (λ x. source_of order.now sources.now.items i x) i position }
 {
     let event = event_at(events, i);
     if !event.access.loads() {
         return true;
     }
     let start = event.access.address();
-    for k in 0..event.access.byte_count() {
-        let before = bound(seen, hart, start + k);
-        let source = bound(sources, i as u64, start + k);
-        if !may_load_byte(events, order, before, source, position) {
+    let width = event.access.byte_count();
+    let before = bounds_at(seen, hart, start, width);
+    for k in 0..width {
+        let source = source_at(sources, position, start + k);
+        let earlier = before[((start + k) % 8) as usize];
+        if !may_load_byte(events, order, earlier, source, position) {
             return false;
         }
     }

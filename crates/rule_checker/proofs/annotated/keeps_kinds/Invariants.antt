@@ -1,4 +1,4 @@
-use Rattle.std.proofs.Common.{◌≡◌, ℕ, ◌<◌, true}
+use Rattle.std.proofs.Common.{◌≡◌, ℕ, ◌<◌, length, true}
 use Rattle.round_schedule.specs.Positions.{event}
 use Rattle.memory_order.specs.Operations.{is_operation}
 use Rattle.memory_order.specs.Orders.{place}
@@ -8,6 +8,7 @@ use Rattle.rule_checker.proofs.annotated.keeps_kinds.Given as goal
 
 abbrev pub invariant-loop-i : goal.invariant-loop-i
 invariant-loop-i l = record {
-  bounded : (h : ℕ) → Kinds l.events (place l.order) h l.i (kinds_of l.harts h);
+  harts : length l.harts.items ≡ 256;
+  bounded : (h : ℕ) → Kinds l.events (place l.order) h l.i (kinds_of l.harts.items h);
   kept : (b : ℕ) → b < l.i → is_operation (event l.events b) ≡ true → KindsKeptAt l.events (place l.order) b;
 }

@@ -1,4 +1,4 @@
-use Rattle.std.proofs.Common.{◌≡◌, ℕ, ◌<◌, true}
+use Rattle.std.proofs.Common.{◌≡◌, ℕ, ◌<◌, length, true}
 use Rattle.round_schedule.specs.Positions.{event}
 use Rattle.memory_order.specs.Operations.{is_operation}
 use Rattle.memory_order.specs.Orders.{place}
@@ -9,7 +9,8 @@ use Rattle.rule_checker.proofs.carried.keeps_dependencies.Given as goal
 
 abbrev pub invariant-loop-i : goal.invariant-loop-i
 invariant-loop-i l = record {
-  carries : (h : ℕ) → Carries l.instructions l.events (place l.order) h l.i (carried_of l.harts h);
+  harts : length l.harts.items ≡ 256;
+  carries : (h : ℕ) → Carries l.instructions l.events (place l.order) h l.i (carried_of l.harts.items h);
   operands : AreOperands l.instructions l.events (place l.order) l.i l.operands.items;
   kept : (b : ℕ) → b < l.i → is_operation (event l.events b) ≡ true → KeptAt l.instructions l.events (place l.order) b;
 }

@@ -2,10 +2,10 @@ use Rattle.std.proofs.Common.{IsTrue}
 use Rattle.trace.specs.Traced.{opening_at}
 use Rattle.memory_order.specs.Orders.{place}
 use Rattle.dependencies.specs.Dependencies.{DependencyRule}
-use Rattle.order_checker.specs.Checking.{bound}
+use Rattle.order_checker.specs.Checking.{source_of}
 use Rattle.order_checker.proofs.Composing.{at_none}
 use Rattle.rule_checker.proofs.Exactness.{bytes_of_preserved, dependencies_of_preserved, kinds_of_preserved, overlap_of_preserved, pairs_of_preserved, preserved_by_parts}
-use Rattle.order_checker.proofs.Valuing.{left_from_values, source_listed, values_from_left}
+use Rattle.order_checker.proofs.Valuing.{left_from_values, values_from_left}
 use Rattle.rule_checker.proofs.check.meets_all.Goals as goal
 
 pub returns-in-None : goal.returns-in-None
@@ -16,16 +16,12 @@ returns-in-None c = (
       (overlap_of_preserved (DependencyRule c.args.instructions.now c.args.events.now (place c.args.order.now)) c.args.events.now (place c.args.order.now) m.0)),
 )
 
-pub loads_are_right-requires-clause-listed : goal.loads_are_right-requires-clause-listed
-loads_are_right-requires-clause-listed c = λ r x h.
-    source_listed c.args.events.now c.args.order.now r x (bound c.in_ok-sources.sources r x) c.requires.lists (c.in_ok-sources.ensures r x h)
-
 pub returns-then-not-loads_are_right : goal.returns-then-not-loads_are_right
 returns-then-not-loads_are_right c = (
   λ h. cc,
   λ m.
       let yes : IsTrue c.loads_are_right.result = c.loads_are_right.ensures.1
-      (left_from_values c.args.events.now (opening_at c.args.opening.now.opening) c.args.order.now (λ r x. bound c.in_ok-sources.sources r x) c.requires.lists (λ r x h. c.in_ok-sources.ensures r x h) m.1) in
+      (left_from_values c.args.events.now (opening_at c.args.opening.now.opening) c.args.order.now (λ r x. source_of c.args.order.now c.in_ok-sources.sources.items r x) c.requires.lists c.in_ok-sources.ensures.max m.1) in
       cc,
 )
 
@@ -70,7 +66,7 @@ returns c = (
   λ h. (
     preserved_by_parts c.args.instructions.now c.args.events.now (place c.args.order.now) (c.in_ok-keeps_kinds.ensures.0 c.if-not-branch.false) (c.in_ok-keeps_bytes_of.ensures.0 c.if-not-branch-2.false)
         (c.in_ok-keeps_pairs.ensures.0 c.if-not-branch-3.false) (c.in_ok-keeps_dependencies.ensures.0 c.if-not-branch-4.false),
-    values_from_left c.args.events.now (opening_at c.args.opening.now.opening) c.args.order.now (λ r x. bound c.in_ok-sources.sources r x) c.requires.lists (λ r x k. c.in_ok-sources.ensures r x k)
+    values_from_left c.args.events.now (opening_at c.args.opening.now.opening) c.args.order.now (λ r x. source_of c.args.order.now c.in_ok-sources.sources.items r x) c.requires.lists c.in_ok-sources.ensures.max
         (c.loads_are_right.ensures.0 c.if-not-loads_are_right.false),
     c.in_ok-pairs_are_atomic.ensures.0 h,
   ),
