@@ -1,0 +1,8 @@
+pub mod Units
+pub mod Sums
+pub mod Ended
+pub mod Told
+pub mod Framing
+pub mod Going
+pub mod Pieces
+pub mod Written
