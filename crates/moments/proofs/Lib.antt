@@ -1,0 +1,5 @@
+pub mod Left
+pub mod Seen
+pub mod Past
+pub mod Mine
+pub mod Ends
