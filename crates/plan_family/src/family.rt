@@ -3,7 +3,7 @@ ghost use Rattle.round_planner.specs.Causes.{checked};
 ghost use Rattle.round_planner.specs.Quotas.{planned};
 ghost use Rattle.plan_family.specs.Families.{PlansAreAccepted, drawn, family_plan, pace, plan_rows, quota, quotas, row_count, serial_budget};
 
-use crate::draw::draw;
+use crate::split_mix::draw;
 use pages::OutOfMemory;
 use round_planner::Plan;
 use std::alloc::Global;

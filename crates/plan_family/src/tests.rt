@@ -1,5 +1,5 @@
 use super::*;
-use crate::draw::draw;
+use crate::split_mix::draw;
 use std::test::Fail;
 
 #[test]

@@ -1,7 +1,7 @@
 use Rattle.std.proofs.Common.{◌≡◌, ◌+◌, ◌*◌, ◌%◌, ◌^◌, ap}
 use Rattle.std.proofs.Math.Nat.{add-mod-mod}
 use Rattle.plan_family.specs.Draws.{draw, mixed}
-use Rattle.plan_family.proofs.draw.draw.Goals as goal
+use Rattle.plan_family.proofs.split_mix.draw.Goals as goal
 
 pub returns : goal.returns
 unfolding draw
