@@ -1,11 +1,13 @@
 -- The arguments of the subcommands, as clap has them.
 use Rattle.clap.specs.Words.{Rule}
-use Rattle.command_line.specs.Options.{defaulted_rule, flag_rule, number_wanted_rule, object_rule, positional_rule, see_rule, several_rule, text_rule, with_parser}
+use Rattle.command_line.specs.Options.{defaulted_rule, flag_rule, number_wanted_rule, object_rule, optional_rule, positional_rule, see_rule, several_rule, text_rule, with_parser}
 use Rattle.command_line.specs.declared.arguments.Argument.{Argument}
 use Rattle.command_line.specs.declared.arguments.Argument.TheVariants as argument
 
 abbrev pub rule_told : Argument → Rule
 rule_told (argument.Positional id value_name help) = positional_rule id.now
+rule_told (argument.Optional id value_name help) = optional_rule id.now
+rule_told (argument.NumberOptional parser id value_name help) = with_parser parser (optional_rule id.now)
 rule_told (argument.NumberPositional parser id value_name help) = with_parser parser (positional_rule id.now)
 rule_told (argument.Several id value_name help) = several_rule id.now
 rule_told (argument.Flag name help) = flag_rule name.now

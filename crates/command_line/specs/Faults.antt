@@ -14,7 +14,17 @@ use Rattle.command_line.specs.Reading.{address_given, address_in, fail_on_in, is
 
 -- ADDRESS of `watch` is none
 abbrev pub has_bad_address : Text → List Row → Bool
-has_bad_address name rows = bytes_eq name (codes "watch") && not (is_some (address_given rows))
+has_bad_address name rows = bytes_eq name (codes "watch")
+    && (is_given (codes "address") rows && not (is_some (address_given rows)))
+
+-- there is an ADDRESS without a LENGTH, or neither ADDRESS nor --see nor --see-object
+abbrev pub has_no_bytes : List Row → Bool
+has_no_bytes rows = if is_given (codes "address") rows then not (is_given (codes "length") rows)
+    else not (is_given (codes "see") rows || is_given (codes "see-object") rows)
+
+-- the line of `watch` names no bytes
+abbrev pub names_no_bytes : Text → List Row → Bool
+names_no_bytes name rows = bytes_eq name (codes "watch") && has_no_bytes rows
 
 -- the texts are no ADDRESS and LENGTH
 abbrev pub is_bad_pair : Text × Text → Bool
@@ -32,10 +42,15 @@ has_bad_show rows = option_map_or (λ text. not (is_some (shown_in text))) (firs
 abbrev pub has_bad_fail_on : List Row → Bool
 has_bad_fail_on rows = option_map_or (λ text. not (is_some (fail_on_in text))) (first_of (codes "fail-on") rows) false
 
+-- the word after --as is no form that a trace is written in
+abbrev pub has_bad_form : List Row → Bool
+has_bad_form rows = option_map_or (λ text. not (bytes_eq text (codes "perfetto"))) (first_of (codes "as") rows) false
+
 -- clap takes each text as such a word, and this one is none
 abbrev pub has_bad_word : Text → List Row → Bool
 has_bad_word name rows =
-    has_bad_address name rows || (has_bad_bytes rows || (has_bad_show rows || has_bad_fail_on rows))
+    has_bad_address name rows || (names_no_bytes name rows
+    || (has_bad_bytes rows || (has_bad_show rows || (has_bad_fail_on rows || has_bad_form rows))))
 
 -- ---- options that contradict each other
 
@@ -60,7 +75,7 @@ has_stray_how_many rows = is_set (codes "how-many") rows
 -- a subcommand of this name runs a guest program by one plan
 abbrev pub goes_by_one_plan : Text → Bool
 goes_by_one_plan name = bytes_eq name (codes "run") || (bytes_eq name (codes "order")
-    || (bytes_eq name (codes "record") || bytes_eq name (codes "draw")))
+    || (bytes_eq name (codes "record") || (bytes_eq name (codes "draw") || bytes_eq name (codes "trace"))))
 
 -- --seed says of which family the one plan is, whose number isn't given
 abbrev pub has_stray_seed : Text → List Row → Bool

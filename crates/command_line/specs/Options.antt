@@ -20,12 +20,16 @@ with_parser parser rule = record rule { parser = Some parser }
 abbrev pub positional_rule : Text → Rule
 positional_rule id = record (new_rule id) { value_names = 1; required = true }
 
--- the same of a number of 32 bits, or of 64
+-- the same of a number of 32 bits
 abbrev pub number_positional_rule : Text → Rule
 number_positional_rule id = with_parser narrow (positional_rule id)
 
-abbrev pub wide_positional_rule : Text → Rule
-wide_positional_rule id = with_parser wide (positional_rule id)
+-- one that may be missing, and the same of a number of 64 bits
+abbrev pub optional_rule : Text → Rule
+optional_rule id = record (new_rule id) { value_names = 1 }
+
+abbrev pub wide_optional_rule : Text → Rule
+wide_optional_rule id = with_parser wide (optional_rule id)
 
 -- one argument or more of the name, of which one must be there
 abbrev pub several_rule : Text → Rule
@@ -127,6 +131,10 @@ abbrev pub draw_rules : List Rule
 draw_rules =
     see_rule ∷ object_rule ∷ number_given_rule (codes "from") ∷ number_given_rule (codes "to") ∷ []
 
+-- the form that a trace is written in
+abbrev pub trace_rules : List Rule
+trace_rules = defaulted_rule (codes "as") (codes "perfetto") ∷ []
+
 -- the family of plans that a program is run by, and what is seen of each run
 abbrev pub search_rules : List Rule
 search_rules = wide_number_rule (codes "seed") (codes "1") ∷ see_rule ∷ object_rule ∷ []
@@ -178,9 +186,18 @@ question_rules =
 abbrev pub watch_rules : List Rule
 watch_rules =
     positional_rule (codes "recording")
-    ∷ positional_rule (codes "address")
-    ∷ wide_positional_rule (codes "length")
+    ∷ optional_rule (codes "address")
+    ∷ wide_optional_rule (codes "length")
     ∷ see_rule
+    ∷ object_rule
+    ∷ []
+
+-- which accesses to them it prints, and how
+abbrev pub watched_access_rules : List Rule
+watched_access_rules =
+    number_given_rule (codes "hart")
+    ∷ flag_rule (codes "stores")
+    ∷ flag_rule (codes "pc")
     ∷ []
 
 -- the rounds that it looks at
@@ -229,7 +246,7 @@ abbrev pub replay_app : App
 replay_app = with_rules (taking (codes "replay") replay_rules) question_rules
 
 abbrev pub watch_app : App
-watch_app = with_rules (taking (codes "watch") watch_rules) watched_round_rules
+watch_app = with_rules (with_rules (taking (codes "watch") watch_rules) watched_access_rules) watched_round_rules
 
 abbrev pub migrate_app : App
 migrate_app = taking (codes "migrate") migrate_rules
@@ -248,6 +265,9 @@ plan_app = taking (codes "plan") family_rules
 
 abbrev pub draw_app : App
 draw_app = with_rules (running (codes "draw")) draw_rules
+
+abbrev pub trace_app : App
+trace_app = with_rules (running (codes "trace")) trace_rules
 
 -- `dethart` without its subcommands, of which it must be given one where it isn't asked for its version
 abbrev pub bare_app : App
@@ -274,7 +294,7 @@ hunting_commands = hunt_app ∷ shrink_app ∷ merge_app ∷ []
 
 -- the others
 abbrev pub other_commands : List App
-other_commands = plan_app ∷ draw_app ∷ []
+other_commands = plan_app ∷ draw_app ∷ trace_app ∷ []
 
 -- the command with these subcommands too
 abbrev pub with_commands : App → List App → App

@@ -184,9 +184,13 @@ pub record HoldsReplay (rows : List Row) (replay : Replay) : Type 0 where
 
 pub record HoldsWatch (rows : List Row) (watch : Watch) : Type 0 where
   pub recording : watch.recording.now ≡ unwrap_or (first_of (codes "recording") rows) []
-  pub address : watch.address ≡ unwrap_or (address_given rows) 0
+  pub address : watch.address ≡ address_given rows
   pub length : watch.length ≡ wide_number_or 0 (one_of (codes "length") rows)
   pub more : watch.more.items ≡ map bytes_of (seen_given rows)
+  pub objects : map (λ s. s.now) watch.objects.items ≡ texts_given (codes "see-object") rows
+  pub hart : watch.hart ≡ number_given 32 (one_of (codes "hart") rows)
+  pub stores : watch.stores ≡ is_set (codes "stores") rows
+  pub pc : watch.pc ≡ is_set (codes "pc") rows
   pub from : watch.from ≡ number_given 32 (one_of (codes "from") rows)
   pub to : watch.to ≡ number_given 32 (one_of (codes "to") rows)
   pub workers : watch.workers ≡ number_or 4 (one_of (codes "workers") rows)
@@ -240,6 +244,7 @@ HoldsNamed name rows (command.Shrink shrink) = (name ≡ codes "shrink") × Hold
 HoldsNamed name rows (command.Merge merge) = (name ≡ codes "merge") × HoldsMerge rows merge
 HoldsNamed name rows (command.Plan plan) = (name ≡ codes "plan") × HoldsPlan rows plan
 HoldsNamed name rows (command.Draw draw) = (name ≡ codes "draw") × HoldsDraw rows draw
+HoldsNamed name rows (command.Trace run) = (name ≡ codes "trace") × HoldsRun rows run
 
 -- the subcommand is the one that the line is of, and the line holds its values
 abbrev pub HoldsLine : Option (Text × List Row) → Command → Type 0
@@ -251,4 +256,4 @@ abbrev pub IsSubcommand : Text → Type 0
 IsSubcommand name = (name ≡ codes "run") ⊎ (name ≡ codes "order") ⊎ (name ≡ codes "record")
     ⊎ (name ≡ codes "replay") ⊎ (name ≡ codes "watch") ⊎ (name ≡ codes "migrate")
     ⊎ (name ≡ codes "hunt") ⊎ (name ≡ codes "shrink") ⊎ (name ≡ codes "merge")
-    ⊎ (name ≡ codes "plan") ⊎ (name ≡ codes "draw")
+    ⊎ (name ≡ codes "plan") ⊎ (name ≡ codes "draw") ⊎ (name ≡ codes "trace")

@@ -3,7 +3,7 @@ ghost use Rattle.std.specs.Prelude.{◌≡◌, IfOk, false, map};
 ghost use Rattle.clap.specs.Words.{app_of, rule_of};
 ghost use Rattle.clap.specs.declared.builder.command.Command.TheViews.{out-Command};
 ghost use Rattle.command_line.specs.Arguments.{rule_told};
-ghost use Rattle.command_line.specs.Options.{defaulted_rule, flag_rule, number_wanted_rule, object_rule, positional_rule, see_rule, several_rule, text_rule, with_parser, with_rules};
+ghost use Rattle.command_line.specs.Options.{defaulted_rule, flag_rule, number_wanted_rule, object_rule, optional_rule, positional_rule, see_rule, several_rule, text_rule, with_parser, with_rules};
 
 use clap::builder::ValueParser;
 use clap::{Arg, ArgAction, Command};
@@ -16,6 +16,10 @@ pub(crate) enum Argument<'a> {
     Positional(&'a str, &'a str, &'a str),
     /// The same of a number.
     NumberPositional(ValueParser<'a>, &'a str, &'a str, &'a str),
+    /// An argument that may be missing: its name, and what the usage calls it.
+    Optional(&'a str, &'a str, &'a str),
+    /// The same of a number.
+    NumberOptional(ValueParser<'a>, &'a str, &'a str, &'a str),
     /// Arguments of one name, of which one must be there.
     Several(&'a str, &'a str, &'a str),
     /// The option `--NAME` without a value.
@@ -81,6 +85,13 @@ pub(crate) const SEED: Argument<'static> = Argument::Number(
     "Which family: any number of 64 bits",
 );
 
+/// The option `--hart H` of a hart whose accesses alone are printed.
+pub(crate) const ONE_HART: Argument<'static> = Argument::NumberGiven(
+    NARROW,
+    "hart",
+    "Accesses of this hart alone, from 0 on",
+);
+
 /// The option `--see-object NAME` beside `--see`.
 pub(crate) const SAME_OF_OBJECT: Argument<'static> = Argument::SeeObject(
     "The same, a symbol's bytes; can be repeated",
@@ -114,6 +125,10 @@ fn argument_of<'a>(alloc: Global, argument: Argument<'a>) -> Arg<'a>
         Argument::Positional(id, value_name, help) => positional(alloc, id, value_name, help),
         Argument::NumberPositional(parser, id, value_name, help) => {
             number_positional(alloc, parser, id, value_name, help)
+        }
+        Argument::Optional(id, value_name, help) => optional(alloc, id, value_name, help),
+        Argument::NumberOptional(parser, id, value_name, help) => {
+            number_optional(alloc, parser, id, value_name, help)
         }
         Argument::Several(id, value_name, help) => several(alloc, id, value_name, help),
         Argument::Flag(name, help) => flag(alloc, name, help),
@@ -155,6 +170,28 @@ fn number_positional<'a>(
     ensures local { result.global ≡ false }
 {
     positional(alloc, id, value_name, help).value_parser(parser)
+}
+
+/// An argument that may be missing.
+fn optional<'a>(alloc: Global, id: &'a str, value_name: &'a str, help: &'a str) -> Arg<'a>
+    ensures rule { rule_of result ≡ optional_rule id.entry.now }
+    ensures local { result.global ≡ false }
+{
+    Arg::new(alloc, id).value_name(value_name).help(help)
+}
+
+/// An argument that may be missing, of a number.
+fn number_optional<'a>(
+    alloc: Global,
+    parser: ValueParser<'a>,
+    id: &'a str,
+    value_name: &'a str,
+    help: &'a str,
+) -> Arg<'a>
+    ensures rule { rule_of result ≡ with_parser parser.entry (optional_rule id.entry.now) }
+    ensures local { result.global ≡ false }
+{
+    optional(alloc, id, value_name, help).value_parser(parser)
 }
 
 /// Arguments of one name, of which one must be there.

@@ -107,7 +107,11 @@ fn stray_how_many(matches: &ArgMatches<'_>) -> Option<&'static str>
 fn goes_by_one_plan(name: &str) -> bool
     ensures { result ≡ goes_by_one_plan name.now }
 {
-    name == "run" || name == "order" || name == "record" || name == "draw"
+    name == "run"
+        || name == "order"
+        || name == "record"
+        || name == "draw"
+        || name == "trace"
 }
 
 /// Whether there is a seed of the one plan, and no number of the plan.

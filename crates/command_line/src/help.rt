@@ -16,10 +16,11 @@ Examples:
   dethart merge table.txt next.txt
   dethart plan 35 --harts 4
   dethart draw guest.elf --harts 4 --to 8 > run.svg
+  dethart trace guest.elf --harts 4 --as perfetto > run.json
 
 dethart run --help lists the options of a run, why a hart stops, and what each
-error N means. dethart order, record and draw take the same options, but for
-those that say what is printed. dethart help, dethart help COMMAND and dethart
+error N means. dethart order, record, draw and trace take the same options, but
+for those that say what is printed. dethart help, dethart help COMMAND and dethart
 version print the same as --help, COMMAND --help and --version.
 
 Exit status: 0 what was asked for was printed or written, 1 a refusal (error N),
@@ -121,3 +122,21 @@ dethart run --help says what a plan is, and what each error N means: a refusal
 is the line 'error N' on standard error, with the exit status 1.
 
 Exit status: 0 the order was printed, 1 a refusal, 2 a bad command line.";
+
+pub(crate) const TRACE_ABOUT: &str =
+    "Runs the program in IMAGE, and prints its trace for a viewer of traces.";
+
+pub(crate) const TRACE_AFTER_HELP: &str = "\
+Example:
+  dethart trace guest.elf --harts 2 --as perfetto > run.json
+
+The text is JSON in the format of Chrome's trace events: ui.perfetto.dev opens
+the file. Each hart has a track with a slice for each memory operation, and the
+rounds have one, with a slice for each round that has operations and for its
+serial phase. A flow leads from each store to each load that read a byte of it.
+Time is the place in the trace: operation N stands at microsecond N.
+
+dethart run --help says what a plan is, and what each error N means: a refusal
+is the line 'error N' on standard error, with the exit status 1.
+
+Exit status: 0 the trace was printed, 1 a refusal, 2 a bad command line.";

@@ -8,7 +8,9 @@ use crate::family_options::{hunt_command, merge_command, plan_command, shrink_co
 use crate::help::{ABOUT, AFTER_HELP};
 use crate::program_options::named_command;
 use crate::recording_options::{migrate_command, replay_command, watch_command};
-use crate::run_options::{draw_command, order_command, record_command, run_command};
+use crate::run_options::{
+    draw_command, order_command, record_command, run_command, trace_command,
+};
 use clap::Command;
 use std::alloc::{AllocError, Global};
 
@@ -22,7 +24,8 @@ pub(crate) fn dethart_command<'a>(alloc: Global) -> Result<Command<'a>, AllocErr
 {
     let hunting = with_hunting_commands(alloc);
     let planning = with_subcommand(hunting, plan_command(alloc));
-    with_subcommand(planning, draw_command(alloc))
+    let drawing = with_subcommand(planning, draw_command(alloc));
+    with_subcommand(drawing, trace_command(alloc))
 }
 
 /// The command without those that are neither of runs nor of recordings nor of hunts.

@@ -2,7 +2,7 @@
 ghost use Rattle.std.specs.Prelude.{◌≡◌, IfOk, Some, is_some, map};
 ghost use Rattle.clap.specs.Words.{FailsBy, found_of, rows_of, subcommand_of};
 ghost use Rattle.command_line.specs.Options.{dethart_app};
-ghost use Rattle.command_line.specs.Faults.{has_bad_address, has_bad_word, line_fault, word_fault};
+ghost use Rattle.command_line.specs.Faults.{has_bad_address, has_bad_word, has_no_bytes, line_fault, names_no_bytes, word_fault};
 ghost use Rattle.command_line.specs.Reading.{HoldsLine, HoldsMigrate, HoldsNamed, HoldsReplay, HoldsWatch, IsSubcommand, address_given, asks_of_a_hart, is_unread};
 
 use crate::contradictions::contradiction;
@@ -10,8 +10,8 @@ use crate::families::{has_bad_fail_on, hunt_of, merge_of, plan_of, shrink_of};
 use crate::given::{is_given, is_set};
 use crate::numbers::{address_in, number_given, number_of, wide_given, wide_number_of};
 use crate::options::dethart_command;
-use crate::runs::{draw_of, has_bad_show, print_of, record_of, run_of};
-use crate::seen::{has_bad_bytes, seen_of};
+use crate::runs::{draw_of, has_bad_form, has_bad_show, print_of, record_of, run_of};
+use crate::seen::{has_bad_bytes, seen_of, texts_of};
 use crate::settings::{Command, Migrate, Replay, Watch};
 use clap::error::ErrorKind;
 use clap::{ArgMatches, Error};
@@ -30,6 +30,13 @@ const BAD_SHOW: &str = "invalid value for '--show <WHAT>': it is report, output 
 
 /// What is said of a WHAT after `--fail-on` that is none.
 const BAD_FAIL_ON: &str = "invalid value for '--fail-on <WHAT>': it is differ, bad or never";
+
+/// What is said of a FORM that is none.
+const BAD_FORM: &str = "invalid value for '--as <FORM>': it is perfetto";
+
+/// What is said of a line of `watch` that names no bytes.
+const NO_BYTES: &str =
+    "name bytes: '<ADDRESS> <LENGTH>', '--see <ADDRESS> <LENGTH>' or '--see-object <NAME>'";
 
 /// Reads the words of a command line, of which the first is the program's name.
 ///
@@ -88,8 +95,9 @@ fn command_of<'a>(
         "shrink" => Command::Shrink(shrink_of(alloc, matches)?),
         "merge" => Command::Merge(merge_of(alloc, matches)?),
         "plan" => Command::Plan(plan_of(matches)),
-        // There is no other than `draw`.
-        _ => Command::Draw(draw_of(alloc, matches)?),
+        "draw" => Command::Draw(draw_of(alloc, matches)?),
+        // There is no other than `trace`.
+        _ => Command::Trace(run_of(matches)),
     })
 }
 
@@ -131,11 +139,16 @@ fn watch_of<'a>(alloc: Global, matches: &ArgMatches<'a>) -> Result<Watch<'a>, Al
     ensures { IfOk result (HoldsWatch (rows_of (found_of matches.now))) }
 {
     let more = seen_of(alloc, matches)?;
+    let objects = texts_of(alloc, matches, "see-object")?;
     Ok(Watch {
         recording: matches.get_str("recording").unwrap_or(""),
-        address: address_given(matches).unwrap_or(0),
+        address: address_given(matches),
         length: wide_number_of(matches, "length", 0),
         more,
+        objects,
+        hart: number_given(matches, "hart"),
+        stores: is_set(matches, "stores"),
+        pc: is_set(matches, "pc"),
         from: number_given(matches, "from"),
         to: number_given(matches, "to"),
         workers: number_of(matches, "workers", 4),
@@ -149,12 +162,16 @@ fn bad_word(name: &str, matches: &ArgMatches<'_>) -> Option<&'static str>
 {
     if has_bad_address(name, matches) {
         Some(BAD_ADDRESS)
+    } else if names_no_bytes(name, matches) {
+        Some(NO_BYTES)
     } else if has_bad_bytes(matches) {
         Some(BAD_BYTES)
     } else if has_bad_show(matches) {
         Some(BAD_SHOW)
     } else if has_bad_fail_on(matches) {
         Some(BAD_FAIL_ON)
+    } else if has_bad_form(matches) {
+        Some(BAD_FORM)
     } else {
         None
     }
@@ -164,7 +181,25 @@ fn bad_word(name: &str, matches: &ArgMatches<'_>) -> Option<&'static str>
 fn has_bad_address(name: &str, matches: &ArgMatches<'_>) -> bool
     ensures { result ≡ has_bad_address name.now (rows_of (found_of matches.now)) }
 {
-    name == "watch" && address_given(matches).is_none()
+    name == "watch" && is_given(matches, "address") && address_given(matches).is_none()
+}
+
+/// Whether the matches are of `watch`, and name no bytes.
+fn names_no_bytes(name: &str, matches: &ArgMatches<'_>) -> bool
+    ensures { result ≡ names_no_bytes name.now (rows_of (found_of matches.now)) }
+{
+    name == "watch" && has_no_bytes(matches)
+}
+
+/// Whether there is an ADDRESS without a LENGTH, or neither ADDRESS nor `--see` nor `--see-object`.
+fn has_no_bytes(matches: &ArgMatches<'_>) -> bool
+    ensures { result ≡ has_no_bytes (rows_of (found_of matches.now)) }
+{
+    if is_given(matches, "address") {
+        !is_given(matches, "length")
+    } else {
+        !(is_given(matches, "see") || is_given(matches, "see-object"))
+    }
 }
 
 /// What `watch` is given as ADDRESS.

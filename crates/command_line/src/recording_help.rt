@@ -53,13 +53,18 @@ pub(crate) const WATCH_AFTER_HELP: &str = "\
 Examples:
   dethart watch guest.rec 256 8
   dethart watch guest.rec 0x100 8 --see 0x200 4 --from 10 --to 20
+  dethart watch guest.rec --see-object counters --stores --hart 1 --pc
 
 The line 'hits N' comes first, N the number of accesses, and then each access,
 as its line in the report's trace and in the order of the trace. An access is
 one of them where one of its bytes is among the LENGTH bytes from ADDRESS on, or
-among those of a --see; with --from and --to, where it is of such a round too.
-ADDRESS and LENGTH are numbers of 64 bits: LENGTH is decimal, and ADDRESS is
-hexadecimal after 0x, or decimal without leading zeros.
+among those of a --see or a --see-object; with --from and --to, where it is of
+such a round too. With --hart it is one of this hart, and with --stores one that
+wrote. ADDRESS and LENGTH are numbers of 64 bits: LENGTH is decimal, and ADDRESS
+is hexadecimal after 0x, or decimal without leading zeros.
+
+With --pc each line ends in ' pc' and the address of the instruction, in 16
+digits: that of the hart before the instruction, whose run is done once more.
 
 A refusal is the line 'error N' on standard error, with the exit status 1;
 dethart run --help lists what each N means.

@@ -4,7 +4,9 @@ ghost use Rattle.clap.specs.Words.{app_of};
 ghost use Rattle.clap.specs.declared.builder.command.Command.TheViews.{out-Command};
 ghost use Rattle.command_line.specs.Options.{migrate_app, replay_app, watch_app};
 
-use crate::arguments::{Argument, NARROW, PROGRESS, RECORDING, WIDE, WORKERS, with_arguments};
+use crate::arguments::{
+    Argument, NARROW, ONE_HART, PROGRESS, RECORDING, SAME_OF_OBJECT, WIDE, WORKERS, with_arguments,
+};
 use crate::program_options::named_command;
 use crate::recording_help::{
     MIGRATE_ABOUT, MIGRATE_AFTER_HELP, REPLAY_ABOUT, REPLAY_AFTER_HELP, WATCH_ABOUT,
@@ -40,15 +42,19 @@ static REPLAY: [Argument<'static>; 9] = [
 ];
 
 /// A recording, and the bytes and rounds whose accesses are printed.
-static WATCH: [Argument<'static>; 8] = [
+static WATCH: [Argument<'static>; 12] = [
     RECORDING,
-    Argument::Positional(
+    Argument::Optional(
         "address",
         "ADDRESS",
         "The address of the first byte: hexadecimal after 0x, or decimal",
     ),
-    Argument::NumberPositional(WIDE, "length", "LENGTH", "How many bytes, in decimal"),
+    Argument::NumberOptional(WIDE, "length", "LENGTH", "How many bytes, in decimal"),
     Argument::See("More bytes; can be repeated"),
+    SAME_OF_OBJECT,
+    ONE_HART,
+    Argument::Flag("stores", "Accesses that wrote alone"),
+    Argument::Flag("pc", "Each with the pc of its instruction"),
     Argument::NumberGiven(NARROW, "from", "First round that is watched"),
     Argument::NumberGiven(NARROW, "to", "Last round that is watched"),
     WORKERS,

@@ -2,13 +2,15 @@
 ghost use Rattle.std.specs.Prelude.{◌≡◌, IfOk, false};
 ghost use Rattle.clap.specs.Words.{app_of};
 ghost use Rattle.clap.specs.declared.builder.command.Command.TheViews.{out-Command};
-ghost use Rattle.command_line.specs.Options.{draw_app, order_app, record_app, run_app, running};
+ghost use Rattle.command_line.specs.Options.{draw_app, order_app, record_app, run_app, running, trace_app};
 
 use crate::arguments::{
     Argument, HARTS, NARROW, PROGRESS, SAME_OF_OBJECT, WIDE, WORKERS, with_arguments,
 };
 use crate::family_help::{DRAW_ABOUT, DRAW_AFTER_HELP};
-use crate::help::{ORDER_ABOUT, ORDER_AFTER_HELP, RUN_ABOUT, RUN_AFTER_HELP};
+use crate::help::{
+    ORDER_ABOUT, ORDER_AFTER_HELP, RUN_ABOUT, RUN_AFTER_HELP, TRACE_ABOUT, TRACE_AFTER_HELP,
+};
 use crate::program_options::{INPUT, guest_command};
 use crate::recording_help::{RECORD_ABOUT, RECORD_AFTER_HELP};
 use clap::Command;
@@ -73,6 +75,14 @@ static DRAWN: [Argument<'static>; 4] = [
     Argument::NumberGiven(NARROW, "to", "Last round that is drawn"),
 ];
 
+/// The form that a trace is written in.
+static TRACED: [Argument<'static>; 1] = [Argument::Defaulted(
+    "as",
+    "FORM",
+    "perfetto",
+    "The form: perfetto, the JSON of Chrome's trace events",
+)];
+
 /// The subcommand `run`: how the program is run, and what is printed of that.
 pub(crate) fn run_command<'a>(alloc: Global) -> Result<Command<'a>, AllocError>
     ensures app { IfOk result (λ command. app_of command ≡ run_app) }
@@ -106,6 +116,15 @@ pub(crate) fn draw_command<'a>(alloc: Global) -> Result<Command<'a>, AllocError>
 {
     let command = running_command(alloc, "draw", DRAW_ABOUT, DRAW_AFTER_HELP)?;
     with_arguments(alloc, command, DRAWN.as_slice())
+}
+
+/// The subcommand `trace`: how the program is run, and in which form its trace is written.
+pub(crate) fn trace_command<'a>(alloc: Global) -> Result<Command<'a>, AllocError>
+    ensures app { IfOk result (λ command. app_of command ≡ trace_app) }
+    ensures local { IfOk result (λ command. (out-Command command).has_globals ≡ false) }
+{
+    let command = running_command(alloc, "trace", TRACE_ABOUT, TRACE_AFTER_HELP)?;
+    with_arguments(alloc, command, TRACED.as_slice())
 }
 
 /// A subcommand that runs a guest program by one plan.

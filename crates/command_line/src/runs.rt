@@ -1,7 +1,7 @@
 //! What the matches of the subcommands that run a program by one plan say.
 ghost use Rattle.std.specs.Prelude.{◌≡◌, IfOk};
 ghost use Rattle.clap.specs.Words.{found_of, rows_of};
-ghost use Rattle.command_line.specs.Faults.{has_bad_show};
+ghost use Rattle.command_line.specs.Faults.{has_bad_form, has_bad_show};
 ghost use Rattle.command_line.specs.Reading.{HoldsDraw, HoldsPlanChoice, HoldsPrint, HoldsProgram, HoldsRecord, HoldsRun, quota_is_unread, shown_given, shown_in};
 
 use crate::given::is_given;
@@ -76,6 +76,16 @@ pub(crate) fn has_bad_show(matches: &ArgMatches<'_>) -> bool
 {
     match matches.get_str("show") {
         Some(text) => shown_in(text).is_none(),
+        None => false,
+    }
+}
+
+/// Whether the matches have a word after `--as` that is no form that a trace is written in.
+pub(crate) fn has_bad_form(matches: &ArgMatches<'_>) -> bool
+    ensures { result ≡ has_bad_form (rows_of (found_of matches.now)) }
+{
+    match matches.get_str("as") {
+        Some(text) => text != "perfetto",
         None => false,
     }
 }

@@ -23,6 +23,8 @@ pub enum Command<'a> {
     Plan(Plan),
     /// `draw IMAGE`: run a guest program, and draw the run.
     Draw(Draw<'a>),
+    /// `trace IMAGE`: run a guest program, and print the trace in the form that ui.perfetto.dev opens.
+    Trace(Run<'a>),
 }
 
 /// A guest program, and what it is run with. The numbers are as they were given: their ranges are not tested here.
@@ -63,7 +65,7 @@ pub struct PlanChoice<'a> {
     pub quota_is_unread: bool,
 }
 
-/// One run: the words after `order`, and a part of those after `run`, `record` and `draw`.
+/// One run: the words after `order` and `trace`, and a part of those after `run`, `record` and `draw`.
 #[derive(Clone, Copy, PartialEq, Eq, Drop)]
 pub struct Run<'a> {
     /// The program that is run.
@@ -142,12 +144,20 @@ pub struct Replay<'a> {
 pub struct Watch<'a> {
     /// The path of the recording.
     pub recording: &'a str,
-    /// The address of the first byte that is watched.
-    pub address: u64,
-    /// How many bytes are watched.
+    /// The address of the first byte that is watched, where the line says one.
+    pub address: Option<u64>,
+    /// How many bytes are watched from there on.
     pub length: u64,
     /// More bytes that are watched.
     pub more: Vec<Bytes>,
+    /// The names of objects whose bytes are watched too.
+    pub objects: Vec<&'a str>,
+    /// The hart whose accesses alone are printed, where the line says one.
+    pub hart: Option<u32>,
+    /// Only those that wrote are printed.
+    pub stores: bool,
+    /// Each is printed with its instruction's pc.
+    pub pc: bool,
     /// The first round that is watched, where the line says one.
     pub from: Option<u32>,
     /// The last round that is watched, where the line says one.
