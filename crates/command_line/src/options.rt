@@ -14,8 +14,8 @@ use crate::run_options::{
 use clap::Command;
 use std::alloc::{AllocError, Global};
 
-/// The version of `dethart`, and of the toolchain that proved it.
-const VERSION: &str = "1.0.0 (rattle-kit-13f logic dac8208d650f15bf)";
+/// The version of `dethart`, and the sum of the logic that it was proved in.
+const VERSION: &str = "1.0.0 (logic dac8208d650f15bf)";
 
 /// The command `dethart` with its subcommands.
 pub(crate) fn dethart_command<'a>(alloc: Global) -> Result<Command<'a>, AllocError>
