@@ -1,4 +1,4 @@
-use Rattle.std.proofs.Common.{◌≡◌, ℕ, ◌<◌, ◌∙◌, ap, arith, length, subst, sym, true}
+use Rattle.std.proofs.Common.{ℕ, ◌∙◌, ap, arith, subst, sym}
 use Rattle.round_schedule.specs.declared.event.Event.{Event}
 use Rattle.round_schedule.specs.Accesses.{is_lr}
 use Rattle.memory_order.specs.Orders.{place}

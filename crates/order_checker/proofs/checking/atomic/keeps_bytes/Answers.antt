@@ -1,4 +1,4 @@
-use Rattle.std.proofs.Common.{◌≤◌, ◌+◌, ◌∙◌, ap, arith, inl, inr, subst}
+use Rattle.std.proofs.Common.{◌≤◌, ◌∙◌, ap, arith, inl, inr, subst}
 use Rattle.order_checker.specs.declared.checking.latest.Latest.{Latest}
 use Rattle.order_checker.specs.Checking.{source_at}
 use Rattle.order_checker.specs.CheckingAtomic.{latest_of, others_of}

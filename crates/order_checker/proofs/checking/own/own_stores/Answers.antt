@@ -1,5 +1,4 @@
-use Rattle.std.proofs.Common.{◌≡◌, ℕ, ◌+◌, ◌≤◌, ◌==◌, ◌&&◌, max, if◌then◌else◌, ◌∙◌, ap, arith, below_more, length, replicate, rules, subst, sym, true, IsTrue}
-use Rattle.std.proofs.lemmas.List.{length-replicate}
+use Rattle.std.proofs.Common.{◌≡◌, ℕ, ◌+◌, ◌≤◌, ◌==◌, ◌&&◌, max, if◌then◌else◌, ◌∙◌, ap, arith, below_more, subst, sym, true, IsTrue}
 use Rattle.round_schedule.specs.declared.event.Event.{Event}
 use Rattle.round_schedule.specs.Accesses.{writes}
 use Rattle.memory_order.specs.Orders.{place}
