@@ -1,0 +1,218 @@
+ghost use Rattle.std.specs.Prelude.{◌≤◌, ◌<◌, length};
+ghost use Rattle.hart_step.specs.CodeTables.{Shows};
+
+use crate::common::Common;
+use crate::draws::Draws;
+use crate::history::History;
+use crate::holding::{Ripe, put_ripe};
+use crate::memory::Memory;
+use crate::record::Record;
+use crate::stepping::{Outcome, step};
+use crate::timed_hart::TimedHart;
+use hart_step::Hart;
+use pages::{OutOfMemory, Pages};
+use serial_phase::SharedState;
+use std::alloc::Global;
+
+/// An image's harts over one memory that keeps its history.
+///
+/// They go one after another, instruction by instruction, as the instruction set has them. Without departures what they do is
+/// sequentially consistent. With departures a load may read memory as it was at an earlier time, and a plain store may stay with
+/// its hart for a while, where the times of registers, fences, acquires, releases and accesses say that the rules of RVWMO on
+/// preserved program order leave room for that.
+#[derive(Drop)]
+pub struct TimedMachine {
+    harts: Vec<TimedHart>,
+    common: Common,
+}
+
+impl TimedMachine {
+    /// The machine of these harts, over the memory and the console that they share, which has done nothing. It keeps a record if
+    /// one is wanted.
+    ///
+    /// # Errors
+    ///
+    /// `OutOfMemory` alone.
+    pub fn new(
+        alloc: Global,
+        harts: &[Hart],
+        shared: SharedState,
+        draws: Draws,
+        is_recorded: bool,
+    ) -> Result<TimedMachine, OutOfMemory>
+        requires few { length harts.now ≤ 64 }
+        requires shows { Shows shared.pages.memory shared.code.first shared.code.instructions }
+    {
+        let memory = Memory::new(shared);
+        let pages = memory.pages();
+        let history = History::new(alloc, pages)?;
+        let record = if is_recorded {
+            Some(Record::new(alloc))
+        } else {
+            None
+        };
+        Ok(TimedMachine {
+            harts: timed(alloc, harts, pages)?,
+            common: Common {
+                memory,
+                history,
+                draws,
+                operations: 0,
+                steps: 0,
+                held: 0,
+                record,
+            },
+        })
+    }
+
+    /// A hart, by its number.
+    pub fn hart(&self, number: usize) -> Option<&Hart> {
+        match self.harts.get(number) {
+            Some(hart) => Some(&hart.state),
+            None => None,
+        }
+    }
+
+    /// What was put out.
+    pub fn output(&self) -> &[u8] {
+        self.common.memory.output()
+    }
+
+    /// Guest memory.
+    pub fn pages(&self) -> &Pages {
+        self.common.memory.guest()
+    }
+
+    /// How many steps the harts have taken.
+    pub fn steps(&self) -> u64 {
+        self.common.steps
+    }
+
+    /// What was done, where the machine keeps it.
+    pub fn record(&self) -> Option<&Record> {
+        match &self.common.record {
+            Some(record) => Some(record),
+            None => None,
+        }
+    }
+
+    /// Has the harts go through so many rounds, or until all of them have stopped. In a round each does as many instructions as
+    /// the next row of the plan says, one hart after another, from the one on that is drawn. At the end no store is held.
+    ///
+    /// # Errors
+    ///
+    /// `OutOfMemory` alone.
+    pub fn run(&mut self, rows: &[Vec<u32>], rounds: u32) -> Result<(), OutOfMemory> {
+        let mut row = 0;
+        for round in 0..rounds {
+            if self.have_stopped() {
+                break;
+            }
+            if row >= rows.len() {
+                row = 0;
+            }
+            if row < rows.len() {
+                self.do_round(&rows[row], round.saturating_add(1))?;
+                row += 1;
+            }
+        }
+        for hart in self.harts.iter_mut() {
+            put_ripe(&mut hart.timing, &mut self.common, &Ripe::All)?;
+        }
+        Ok(())
+    }
+
+    fn have_stopped(&self) -> bool {
+        self.harts.iter().all(|hart| hart.state.stop.is_some())
+    }
+
+    /// The hart that begins a round.
+    fn first_hart(&self) -> usize {
+        (self.common.draws.first() % (self.harts.len() as u64).max(1)) as usize
+    }
+
+    /// One round. Where each hart that runs waits, the first goes on.
+    fn do_round(&mut self, quotas: &[u32], round: u32) -> Result<(), OutOfMemory> {
+        let mut went = false;
+        let count = self.harts.len();
+        let mut index = self.first_hart();
+        for _ in 0..count {
+            if index >= count {
+                index = 0;
+            }
+            let quota = match quotas.get(index) {
+                Some(quota) => *quota,
+                None => quotas.first().copied().unwrap_or(1),
+            };
+            if self.do_turn(index, quota, round, false)? {
+                went = true;
+            }
+            index += 1;
+        }
+        if !went {
+            self.force_one(round)?;
+        }
+        Ok(())
+    }
+
+    /// The first hart that runs does one instruction.
+    fn force_one(&mut self, round: u32) -> Result<(), OutOfMemory> {
+        for index in 0..self.harts.len() {
+            if self.do_turn(index, 1, round, true)? {
+                break;
+            }
+        }
+        Ok(())
+    }
+
+    /// A hart does so many instructions, or less where it stops or waits. Says whether it did one.
+    fn do_turn(
+        &mut self,
+        index: usize,
+        quota: u32,
+        round: u32,
+        forced: bool,
+    ) -> Result<bool, OutOfMemory> {
+        let mut went = false;
+        for _ in 0..quota {
+            let Some(hart) = self.harts.get_mut(index) else {
+                break;
+            };
+            match step(hart, &mut self.common, round, forced)? {
+                Outcome::Operated => {
+                    went = true;
+                    self.put_due(index)?;
+                }
+                Outcome::Went => went = true,
+                Outcome::Waits | Outcome::HasStopped => break,
+            }
+        }
+        Ok(went)
+    }
+
+    /// After an operation of a hart, what the others have held long enough goes to memory.
+    #[inline]
+    fn put_due(&mut self, index: usize) -> Result<(), OutOfMemory> {
+        if self.common.held == 0 {
+            return Ok(());
+        }
+        for (other, hart) in self.harts.iter_mut().enumerate() {
+            if other != index {
+                let others = self.common.operations.wrapping_sub(hart.timing.operations);
+                put_ripe(&mut hart.timing, &mut self.common, &Ripe::After(others))?;
+            }
+        }
+        Ok(())
+    }
+}
+
+/// The harts before their first step.
+fn timed(alloc: Global, harts: &[Hart], pages: u32) -> Result<Vec<TimedHart>, OutOfMemory>
+    requires { length harts.now ≤ 64 }
+{
+    let mut timed = Vec::with_capacity(alloc, harts.len())?;
+    for (number, hart) in harts.iter().enumerate() {
+        timed.push(TimedHart::new(alloc, *hart, number as u8, pages)?)?;
+    }
+    Ok(timed)
+}
