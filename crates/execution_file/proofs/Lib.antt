@@ -1,0 +1,6 @@
+pub mod Numerals
+pub mod Laws
+pub mod Whole
+pub mod Loops
+pub mod Written
+pub mod WordLoops

@@ -1,0 +1,6 @@
+pub mod Parts
+pub mod Numerals
+pub mod Grammar
+pub mod Recorded
+pub mod Views
+pub mod Refusals

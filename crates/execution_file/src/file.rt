@@ -1,0 +1,43 @@
+/// A hart's turn: at its next access or call, or at one of a number.
+#[derive(Clone, Copy, Debug, PartialEq, Eq)]
+pub struct Turn {
+    /// The hart.
+    pub hart: u8,
+    /// In an order which one of the hart's memory operations stands here, counted from 0; in calls the number of the round from
+    /// here on.
+    pub number: Option<u64>,
+}
+
+/// What a hart does.
+#[derive(Drop)]
+pub struct HartPart {
+    /// How many instructions it does.
+    pub steps: u64,
+    /// The code with which it stops after them, and 0 where it runs on.
+    pub code: u8,
+    /// The value of the exit call.
+    pub value: Option<u64>,
+    /// The numbers that its loads, LRs and AMOs read, and for each SC 1 where it succeeds and 0 where it fails, in program order.
+    pub reads: Vec<u64>,
+}
+
+/// An execution of a guest program: what its harts do, what they read, and an order of their memory operations.
+///
+/// Each value has one text, and nothing is said of whether there is such an execution.
+#[derive(Drop)]
+pub struct ExecutionFile {
+    /// Whether the image is a flat file; else it is an ELF file.
+    pub flat: bool,
+    /// How many pages of 4,096 bytes guest memory has.
+    pub pages: u32,
+    /// The file of the guest program.
+    pub image: Vec<u8>,
+    /// What the guest reads.
+    pub input: Vec<u8>,
+    /// The harts, in hart order.
+    pub harts: Vec<HartPart>,
+    /// The harts in the order of their calls, as far as it is given. The harts do the others after these, one hart after another.
+    pub calls: Vec<Turn>,
+    /// The harts in an order of their memory operations.
+    pub order: Vec<Turn>,
+}
