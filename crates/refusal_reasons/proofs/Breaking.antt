@@ -1,0 +1,72 @@
+-- The first two operations that break a rule of preserved program order.
+use Rattle.std.proofs.Common.{◌≡◌, ℕ, ◌+◌, ◌<◌, List, length, Option, Some, None, MatchOption, refl, sym, subst, inl, inr, arith}
+use Rattle.std.proofs.lemmas.Bool.{cases_eq, cases_lt}
+use Rattle.rv64_decode.specs.declared.instruction.Instr.{Instr}
+use Rattle.round_schedule.specs.declared.event.Event.{Event}
+use Rattle.memory_order.specs.Orders.{ListsOperations, place}
+use Rattle.memory_order.specs.Rvwmo.{PreservedOrderBy}
+use Rattle.memory_order.proofs.Facts.{within}
+use Rattle.memory_order.proofs.Sources.{one_place}
+use Rattle.dependencies.specs.Dependencies.{DependencyRule}
+use Rattle.refusal_reasons.specs.declared.rule.OrderRule.{OrderRule}
+use Rattle.refusal_reasons.specs.Orders.{IsFirstRule, NoneAsks, rule_of}
+use Rattle.refusal_reasons.specs.Reasons.{IsBroken, IsFirstBroken, IsFirstBrokenAt, IsTurned, NoneBroken, NoneBrokenAt}
+use Rattle.refusal_reasons.proofs.Naming.{asked_by, ordered_by}
+
+pub none_more : (is : List Instr) (t : List Event) (pos : ℕ → ℕ) (a b : ℕ) → NoneBrokenAt is t pos a b → ((rule : OrderRule) → IsBroken rule is t pos a b → ⊥) → NoneBrokenAt is t pos (a + 1) b
+none_more is t pos a b old here rule c l = elim (cases_lt c a) [
+  | inl low ↦ old rule c low
+  | inr high ↦ let e : c ≡ a = omega (arith, l, high) in (λ k. here rule (subst (λ n. IsBroken rule is t pos n b) e k))
+]
+
+pub none_if_straight : (is : List Instr) (t : List Event) (pos : ℕ → ℕ) (a b : ℕ) → (IsTurned t pos a b → ⊥) → (rule : OrderRule) → IsBroken rule is t pos a b → ⊥
+none_if_straight is t pos a b straight rule k = straight (record { first = k.first; second = k.second; before = k.before; turned = k.broken })
+
+pub none_if_unasked : (is : List Instr) (t : List Event) (pos : ℕ → ℕ) (a b : ℕ) → NoneAsks is t pos a b → (rule : OrderRule) → IsBroken rule is t pos a b → ⊥
+none_if_unasked is t pos a b none rule k = none rule (asked_by rule is t pos a b k.ordered)
+
+-- of two operations that the order turns round, the first rule that orders them is the first that they break
+pub broken_by_first : (is : List Instr) (t : List Event) (pos : ℕ → ℕ) (a b : ℕ) (o : Option OrderRule) → IsTurned t pos a b →
+    MatchOption o (NoneAsks is t pos a b) (λ rule. IsFirstRule rule is t pos a b) →
+    MatchOption o ((rule : OrderRule) → IsBroken rule is t pos a b → ⊥) (λ rule. IsTurned t pos a b × IsFirstRule rule is t pos a b)
+broken_by_first is t pos a b None turned none = none_if_unasked is t pos a b none
+broken_by_first is t pos a b (Some rule) turned first = (turned, first)
+
+pub first_broken : (rule : OrderRule) (is : List Instr) (t : List Event) (pos : ℕ → ℕ) (a b : ℕ) → IsTurned t pos a b → IsFirstRule rule is t pos a b → NoneBrokenAt is t pos a b →
+    IsFirstBrokenAt rule is t pos a b
+first_broken rule is t pos a b turned first none = record {
+  broken = record { first = turned.first; second = turned.second; before = turned.before; ordered = ordered_by rule is t pos a b first.asks; broken = turned.turned };
+  none = none;
+  least = λ k l o. first.least k l (asked_by k is t pos a b o);
+}
+
+-- the first of all second places
+pub first_of_all : (rule : OrderRule) (is : List Instr) (t : List Event) (pos : ℕ → ℕ) (a b second : ℕ) → b ≡ second → IsFirstBrokenAt rule is t pos a second →
+    ((d : ℕ) → d < second → NoneBrokenAt is t pos d d) → IsFirstBroken rule is t pos a b
+first_of_all rule is t pos a b second at first none =
+    subst (λ n. IsFirstBroken rule is t pos a n) (sym at) (record { broken = first.broken; none = before; least = first.least })
+  where
+    before : NoneBroken is t pos a second
+    before k c d o = elim o [
+      | inl l ↦ λ h. none d l k c h.before.earlier h
+      | inr e ↦ λ h. first.none k c e.1 (subst (λ n. IsBroken k is t pos c n) e.0 h)
+    ]
+
+pub none_below_next : (is : List Instr) (t : List Event) (pos : ℕ → ℕ) (second : ℕ) → ((d : ℕ) → d < second → NoneBrokenAt is t pos d d) → NoneBrokenAt is t pos second second →
+    (d : ℕ) → d < second + 1 → NoneBrokenAt is t pos d d
+none_below_next is t pos second old here d l = elim (cases_lt d second) [
+  | inl low ↦ old d low
+  | inr high ↦ let e : second ≡ d = omega (arith, l, high) in subst (λ n. NoneBrokenAt is t pos n n) e here
+]
+
+pub preserved_from_none : (is : List Instr) (t : List Event) (g : List ℕ) → ListsOperations t g → ((b : ℕ) → b < length t → NoneBrokenAt is t (place g) b b) →
+    PreservedOrderBy (DependencyRule is t (place g)) t (place g)
+preserved_from_none is t g lists none a b oa ob before r = elim (cases_lt (place g a) (place g b)) [
+  | inl l ↦ l
+  | inr n ↦ elim (cases_eq (place g a) (place g b)) [
+    | inl same ↦ absurd (let e = one_place t g a b lists oa ob same in let l = before.earlier in omega (arith, e, l))
+    | inr other ↦ absurd (
+        none b (within t b ob) (rule_of is t (place g) a b r) a before.earlier
+        (record { first = oa; second = ob; before = before; ordered = (r, refl); broken = omega (arith, n, other) }))
+  ]
+]

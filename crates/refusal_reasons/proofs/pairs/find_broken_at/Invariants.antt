@@ -1,0 +1,6 @@
+use Rattle.memory_order.specs.Orders.{place}
+use Rattle.refusal_reasons.specs.Reasons.{NoneBrokenAt}
+use Rattle.refusal_reasons.proofs.pairs.find_broken_at.Given as goal
+
+abbrev pub invariant-loop-first : goal.invariant-loop-first
+invariant-loop-first l = NoneBrokenAt l.instructions l.events (place l.order) l.first l.second

@@ -1,0 +1,4 @@
+pub mod Dependents
+pub mod Orders
+pub mod Reasons
+pub mod Rules

@@ -1,0 +1,118 @@
+ghost use Rattle.std.specs.Prelude.{◌≡◌, ◌↔◌, ◌<◌, IsTrue, MatchOption, length};
+ghost use Rattle.memory_order.specs.Orders.{place};
+ghost use Rattle.memory_order.specs.Rvwmo.{PreservedOrderBy};
+ghost use Rattle.dependencies.specs.Dependencies.{DependencyRule};
+ghost use Rattle.refusal_reasons.specs.Orders.{AreRanked, IsFirstRule};
+ghost use Rattle.refusal_reasons.specs.declared.rule.OrderRule.{OrderRule};
+ghost use Rattle.refusal_reasons.specs.Reasons.{IsBroken, IsFirstBroken, IsFirstBrokenAt, IsTurned, NoneBrokenAt};
+
+use crate::asking::first_rule;
+use crate::rule::OrderRule;
+use memory_order::is_operation;
+use order_checker::position_of;
+use round_schedule::Event;
+use rv64_decode::Instr;
+
+/// Two operations of a hart that break a rule of preserved program order.
+#[derive(Clone, Copy)]
+pub(crate) struct BrokenPair {
+    pub(crate) rule: OrderRule,
+    pub(crate) first: usize,
+    pub(crate) second: usize,
+}
+
+/// The first two operations that break a rule: of the least second place, of these the ones of the least first place, and the first
+/// rule that they break.
+pub(crate) fn find_broken(
+    instructions: &[Instr],
+    events: &[Event],
+    order: &[usize],
+    ranks: &[usize],
+) -> Option<BrokenPair>
+    requires along { length instructions.now ≡ length events.now }
+    requires ranked { AreRanked events.now order.now ranks.now }
+    ensures { MatchOption result
+        (PreservedOrderBy (DependencyRule instructions.now events.now (place order.now)) events.now (place order.now))
+        (λ p. IsFirstBroken p.rule instructions.now events.now (place order.now) p.first p.second) }
+{
+    for second in 0..events.len() {
+        match find_broken_at(instructions, events, order, ranks, second) {
+            Some(pair) => return Some(pair),
+            None => {}
+        }
+    }
+    None
+}
+
+/// The same with a given second place.
+fn find_broken_at(
+    instructions: &[Instr],
+    events: &[Event],
+    order: &[usize],
+    ranks: &[usize],
+    second: usize,
+) -> Option<BrokenPair>
+    requires along { length instructions.now ≡ length events.now }
+    requires ranked { AreRanked events.now order.now ranks.now }
+    requires within { second < length events.now }
+    ensures at { MatchOption result (Unit {0}) (λ p. p.second ≡ second) }
+    ensures first { MatchOption result (NoneBrokenAt instructions.now events.now (place order.now) second second)
+        (λ p. IsFirstBrokenAt p.rule instructions.now events.now (place order.now) p.first second) }
+{
+    for first in 0..second {
+        match broken_rule(instructions, events, order, ranks, first, second) {
+            Some(rule) => {
+                return Some(BrokenPair {
+                    rule,
+                    first,
+                    second,
+                });
+            }
+            None => {}
+        }
+    }
+    None
+}
+
+/// The first rule that two places break, if they break one.
+fn broken_rule(
+    instructions: &[Instr],
+    events: &[Event],
+    order: &[usize],
+    ranks: &[usize],
+    first: usize,
+    second: usize,
+) -> Option<OrderRule>
+    requires along { length instructions.now ≡ length events.now }
+    requires ranked { AreRanked events.now order.now ranks.now }
+    requires within { second < length events.now }
+    requires earlier { first < second }
+    ensures { MatchOption result
+        ((rule : OrderRule) → IsBroken rule instructions.now events.now (place order.now) first second → ⊥)
+        (λ rule. IsTurned events.now (place order.now) first second ×
+        IsFirstRule rule instructions.now events.now (place order.now) first second) }
+{
+    if !is_turned(events, order, ranks, first, second) {
+        return None;
+    }
+    first_rule(instructions, events, order, ranks, first, second)
+}
+
+/// Whether these are memory operations of one hart, and the order has the second first.
+fn is_turned(
+    events: &[Event],
+    order: &[usize],
+    ranks: &[usize],
+    first: usize,
+    second: usize,
+) -> bool
+    requires ranked { AreRanked events.now order.now ranks.now }
+    requires within { second < length events.now }
+    requires earlier { first < second }
+    ensures { IsTrue result ↔ IsTurned events.now (place order.now) first second }
+{
+    events[first].hart == events[second].hart
+        && is_operation(&events[first])
+        && is_operation(&events[second])
+        && position_of(events, order, ranks, second) < position_of(events, order, ranks, first)
+}

@@ -1,0 +1,163 @@
+ghost use Rattle.std.specs.Prelude.{◌≡◌, ◌↔◌, ◌<◌, IsTrue, MatchOption, length, true, false};
+ghost use Rattle.round_schedule.specs.Positions.{event};
+ghost use Rattle.memory_order.specs.Operations.{is_store};
+ghost use Rattle.memory_order.specs.Orders.{place};
+ghost use Rattle.memory_order.specs.Rvwmo.{AtomicityAxiom, IsPaired, KeepsByte};
+ghost use Rattle.refusal_reasons.specs.Orders.{AreRanked};
+ghost use Rattle.refusal_reasons.specs.Reasons.{AtomicFor, IsTorn, KeepsBytes, LiesBetween};
+
+use crate::access::writes;
+use crate::between::are_paired;
+use crate::sources::source_of;
+use order_checker::{event_at, position_of};
+use round_schedule::Event;
+
+/// An LR and the SC that it is paired with.
+#[derive(Clone, Copy)]
+pub(crate) struct Pair {
+    pub(crate) reserve: usize,
+    pub(crate) conditional: usize,
+}
+
+/// The first SC that succeeded where another hart stored between the LR that it is paired with and itself, with that LR.
+pub(crate) fn find_torn(events: &[Event], order: &[usize], ranks: &[usize]) -> Option<Pair>
+    requires ranked { AreRanked events.now order.now ranks.now }
+    ensures { MatchOption result (AtomicityAxiom events.now (place order.now))
+        (λ p. IsTorn events.now (place order.now) p.reserve p.conditional) }
+{
+    for conditional in 0..events.len() {
+        match find_torn_at(events, order, ranks, conditional) {
+            Some(reserve) => {
+                return Some(Pair {
+                    reserve,
+                    conditional,
+                });
+            }
+            None => {}
+        }
+    }
+    None
+}
+
+/// The LR of one SC.
+fn find_torn_at(
+    events: &[Event],
+    order: &[usize],
+    ranks: &[usize],
+    conditional: usize,
+) -> Option<usize>
+    requires ranked { AreRanked events.now order.now ranks.now }
+    requires within { conditional < length events.now }
+    ensures { MatchOption result (AtomicFor events.now (place order.now) conditional)
+        (λ l. IsTorn events.now (place order.now) l conditional) }
+{
+    if !events[conditional].access.stores() {
+        return None;
+    }
+    for l in 0..conditional {
+        if events[l].hart == events[conditional].hart
+            && are_paired(events, l, conditional)
+            && !keeps_bytes(events, order, ranks, l, conditional)
+        {
+            return Some(l);
+        }
+    }
+    None
+}
+
+/// Whether no other hart stores to a byte of the load at `l` between its source and the SC at `c`.
+fn keeps_bytes(events: &[Event], order: &[usize], ranks: &[usize], l: usize, c: usize) -> bool
+    requires ranked { AreRanked events.now order.now ranks.now }
+    requires reserve { l < length events.now }
+    requires within { c < length events.now }
+    requires paired { IsPaired events.now l c }
+    requires stores { is_store (event events.now c) ≡ true }
+    ensures kept { result ≡ true → KeepsBytes events.now (place order.now) l c }
+    ensures torn { result ≡ false → IsTorn events.now (place order.now) l c }
+{
+    let event = event_at(events, l);
+    if !event.access.loads() {
+        return true;
+    }
+    let start = event.access.address();
+    for k in 0..event.access.byte_count() {
+        let source = source_of(events, order, ranks, l, start + k);
+        if !keeps_byte(events, order, ranks, c, start + k, source) {
+            return false;
+        }
+    }
+    true
+}
+
+/// Whether no other hart stores to a byte between the store at `source`, or the opening, and the SC at `c`.
+fn keeps_byte(
+    events: &[Event],
+    order: &[usize],
+    ranks: &[usize],
+    c: usize,
+    x: u64,
+    source: Option<usize>,
+) -> bool
+    requires ranked { AreRanked events.now order.now ranks.now }
+    requires within { c < length events.now }
+    requires source { MatchOption source (Unit {0}) (λ s. s < length events.now) }
+    ensures { IsTrue result ↔ KeepsByte events.now (place order.now) c x source }
+{
+    if !precedes(events, order, ranks, source, c) {
+        return false;
+    }
+    for v in 0..events.len() {
+        if lies_between(events, order, ranks, c, x, source, v) {
+            return false;
+        }
+    }
+    true
+}
+
+/// Whether a store stands before a place, or there is no store.
+fn precedes(
+    events: &[Event],
+    order: &[usize],
+    ranks: &[usize],
+    source: Option<usize>,
+    c: usize,
+) -> bool
+    requires ranked { AreRanked events.now order.now ranks.now }
+    requires within { c < length events.now }
+    requires source { MatchOption source (Unit {0}) (λ s. s < length events.now) }
+    ensures { IsTrue result ↔ MatchOption source (Unit {0}) (λ s. place order.now s < place order.now c) }
+{
+    match source {
+        Some(s) => position_of(events, order, ranks, s) < position_of(events, order, ranks, c),
+        None => true,
+    }
+}
+
+/// Whether the event at `v` is a store of another hart to a byte between.
+fn lies_between(
+    events: &[Event],
+    order: &[usize],
+    ranks: &[usize],
+    c: usize,
+    x: u64,
+    source: Option<usize>,
+    v: usize,
+) -> bool
+    requires ranked { AreRanked events.now order.now ranks.now }
+    requires within { c < length events.now }
+    requires source { MatchOption source (Unit {0}) (λ s. s < length events.now) }
+    requires store { v < length events.now }
+    ensures { IsTrue result ↔ LiesBetween events.now (place order.now) c x source v }
+{
+    if !writes(&events[v].access, x) || events[v].hart == events[c].hart {
+        return false;
+    }
+    let position = position_of(events, order, ranks, v);
+    if position >= position_of(events, order, ranks, c) {
+        return false;
+    }
+    match source {
+        Some(s) => position_of(events, order, ranks, s) < position,
+        None => true,
+    }
+}

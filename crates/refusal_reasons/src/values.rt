@@ -1,0 +1,143 @@
+ghost use Rattle.std.specs.Prelude.{◌≡◌, ◌<◌, MatchOption, Option, length, true, false};
+ghost use Rattle.pages.specs.Memory.{byte_of};
+ghost use Rattle.round_schedule.specs.Accesses.{byte_read, byte_written, number_or_zero, read_of, written_of};
+ghost use Rattle.round_schedule.specs.Positions.{reads_at, source_byte};
+ghost use Rattle.trace.specs.Traced.{opening_at};
+ghost use Rattle.memory_order.specs.Orders.{place};
+ghost use Rattle.memory_order.specs.Rvwmo.{LoadValueAxiom};
+ghost use Rattle.refusal_reasons.specs.Orders.{AreRanked};
+ghost use Rattle.refusal_reasons.specs.Reasons.{IsRight, IsWrong, IsRightLoad};
+
+use crate::sources::source_of;
+use order_checker::event_at;
+use round_schedule::{Access, Event};
+use trace::Trace;
+
+/// A byte that a load read.
+#[derive(Clone, Copy)]
+pub(crate) struct ByteRead {
+    pub(crate) load: usize,
+    pub(crate) address: u64,
+}
+
+/// The first byte of the first load that isn't the one that its source wrote.
+pub(crate) fn find_wrong(
+    opening: &Trace,
+    events: &[Event],
+    order: &[usize],
+    ranks: &[usize],
+) -> Option<ByteRead>
+    requires ranked { AreRanked events.now order.now ranks.now }
+    ensures { MatchOption result (LoadValueAxiom events.now (opening_at opening.now.opening) (place order.now))
+        (λ w. IsWrong events.now (opening_at opening.now.opening) (place order.now) w.load w.address) }
+{
+    for load in 0..events.len() {
+        match find_wrong_at(opening, events, order, ranks, load) {
+            Some(address) => return Some(ByteRead { load, address }),
+            None => {}
+        }
+    }
+    None
+}
+
+/// The first byte of one load.
+fn find_wrong_at(
+    opening: &Trace,
+    events: &[Event],
+    order: &[usize],
+    ranks: &[usize],
+    load: usize,
+) -> Option<u64>
+    requires ranked { AreRanked events.now order.now ranks.now }
+    requires within { load < length events.now }
+    ensures { MatchOption result (IsRightLoad events.now (opening_at opening.now.opening) (place order.now) load)
+        (λ x. IsWrong events.now (opening_at opening.now.opening) (place order.now) load x) }
+{
+    let event = event_at(events, load);
+    if !event.access.loads() {
+        return None;
+    }
+    let start = event.access.address();
+    for k in 0..event.access.byte_count() {
+        if !is_right(opening, events, order, ranks, load, start + k) {
+            return Some(start + k);
+        }
+    }
+    None
+}
+
+/// Whether a byte that a load reads is the one that its source wrote.
+fn is_right(
+    opening: &Trace,
+    events: &[Event],
+    order: &[usize],
+    ranks: &[usize],
+    load: usize,
+    x: u64,
+) -> bool
+    requires ranked { AreRanked events.now order.now ranks.now }
+    requires within { load < length events.now }
+    requires reads { reads_at events.now load x ≡ true }
+    ensures right { result ≡ true → IsRight events.now (opening_at opening.now.opening) (place order.now) load x }
+    ensures wrong { result ≡ false → IsWrong events.now (opening_at opening.now.opening) (place order.now) load x }
+{
+    let source = source_of(events, order, ranks, load, x);
+    byte_read(&events[load].access, x) == byte_left(opening, events, source, x)
+}
+
+/// The byte at an address that the store at a place left; the opening byte where there is none.
+fn byte_left(opening: &Trace, events: &[Event], source: Option<usize>, x: u64) -> u8
+    requires { MatchOption source (Unit {0}) (λ s. s < length events.now) }
+    ensures { result ≡ source_byte events.now (opening_at opening.now.opening) x source }
+{
+    match source {
+        Some(s) => byte_written(&events[s].access, x),
+        None => opening.opening_byte(x),
+    }
+}
+
+fn byte_read(access: &Access, x: u64) -> u8
+    ensures { result ≡ byte_read access.now x }
+{
+    byte_of(number_read(access), x.saturating_sub(access.address()))
+}
+
+fn byte_written(access: &Access, x: u64) -> u8
+    ensures { result ≡ byte_written access.now x }
+{
+    byte_of(number_written(access), x.saturating_sub(access.address()))
+}
+
+/// The number that was read; 0 where none was.
+fn number_read(access: &Access) -> u64
+    ensures { result ≡ number_or_zero (read_of access.now) }
+{
+    match *access {
+        Access::Load { read, .. }
+        | Access::LoadReserved { read, .. }
+        | Access::Atomic { read, .. } => read,
+        _ => 0,
+    }
+}
+
+/// The number that was written; 0 where none was.
+fn number_written(access: &Access) -> u64
+    ensures { result ≡ number_or_zero (written_of access.now) }
+{
+    match *access {
+        Access::Store { written, .. } | Access::Atomic { written, .. } => written,
+        Access::StoreConditional { written, .. } => written.unwrap_or(0),
+        _ => 0,
+    }
+}
+
+/// Byte `k` of a number, the least significant first.
+fn byte_of(number: u64, k: u64) -> u8
+    ensures { result ≡ byte_of number k }
+{
+    if k < 8 {
+        ((number >> (8 * k)) % 256) as u8
+    } else {
+        0
+    }
+}
