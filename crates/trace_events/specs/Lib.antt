@@ -1,0 +1,5 @@
+pub mod Slices
+pub mod Flows
+pub mod TraceEvents
+pub mod Located
+pub mod Writers

@@ -1,0 +1,172 @@
+//! The flows of a trace, as text.
+
+ghost use Rattle.std.specs.Prelude.{◌≡◌, ◌<◌, ◌^◌, ◌++◌, IfOk, OnOk, length, map};
+ghost use Rattle.std.specs.List.{list_any};
+ghost use Rattle.round_schedule.specs.Accesses.{address_of};
+ghost use Rattle.round_schedule.specs.Positions.{event};
+ghost use Rattle.picture.specs.Sources.{bytes, is_place, source, sources};
+ghost use Rattle.trace_events.specs.Flows.{flow_number, flow_start, flow_text, flow_to, flows_from, flows_text};
+ghost use Rattle.trace_events.specs.Writers.{Indexes};
+
+use crate::slices::track_of;
+use crate::writers::Writers;
+use pages::OutOfMemory;
+use report_lines::Line;
+use round_schedule::{Access, Event};
+use std::alloc::Global;
+
+/// Adds the start of an end of a flow.
+#[tactic(auto, unfolding(crate::specs::Flows::flow_start))]
+fn add_end(line: &mut Line, kind: &str, hart: u8, time: u64) -> Result<(), OutOfMemory>
+    ensures { OnOk result (line.new ≡ line.old ++ flow_start kind.now hart time) }
+{
+    line.text(",\n{\"ph\":")?;
+    line.text(kind)?;
+    line.text(",\"pid\":0,\"tid\":")?;
+    line.decimal(track_of(hart))?;
+    line.text(",\"ts\":")?;
+    line.decimal(time)
+}
+
+/// Adds the number of a flow.
+#[tactic(auto, unfolding(crate::specs::Flows::flow_number))]
+fn add_number(line: &mut Line, place: u64, byte: u64) -> Result<(), OutOfMemory>
+    ensures { OnOk result (line.new ≡ line.old ++ flow_number place byte) }
+{
+    line.text(",\"id\":\"")?;
+    line.hex(place, 15)?;
+    line.hex(byte, 1)?;
+    line.text("\",\"cat\":\"read\",\"name\":\"read\"}")
+}
+
+/// The hart of the event at a place; 0 past the trace's end.
+#[tactic(auto, unfolding(round_schedule::specs::Positions::no_event))]
+fn hart_at(events: &[Event], place: usize) -> u8
+    ensures { result ≡ (event events.now place).hart }
+{
+    match events.get(place) {
+        Some(event) => event.hart,
+        None => 0,
+    }
+}
+
+/// Adds the flow from the event at one place to a byte of the event at another.
+#[tactic(auto, unfolding(crate::specs::Flows::flow_text))]
+fn add_flow(
+    line: &mut Line,
+    events: &[Event],
+    place: usize,
+    byte: usize,
+    writer: usize,
+) -> Result<(), OutOfMemory>
+    ensures { OnOk result (line.new ≡ line.old ++ flow_text events.now place byte writer) }
+{
+    add_end(line, "\"s\"", hart_at(events, writer), writer as u64)?;
+    add_number(line, place as u64, byte as u64)?;
+    add_end(
+        line,
+        "\"f\",\"bp\":\"e\"",
+        hart_at(events, place),
+        place as u64,
+    )?;
+    add_number(line, place as u64, byte as u64)
+}
+
+fn is_place(place: usize, found: Option<usize>) -> bool
+    ensures { result ≡ is_place place found }
+{
+    match found {
+        None => false,
+        Some(at) => at == place,
+    }
+}
+
+/// Whether one of the sources is the store at a place.
+fn has_place(found: &[Option<usize>], place: usize) -> bool
+    ensures { result ≡ list_any (is_place place) found.now }
+{
+    found.iter().any(|at| is_place(place, *at))
+}
+
+/// Adds the flow from the next byte's source, where no byte before has the same one.
+fn add_flow_to(
+    line: &mut Line,
+    events: &[Event],
+    place: usize,
+    earlier: &[Option<usize>],
+    found: Option<usize>,
+) -> Result<(), OutOfMemory>
+    ensures { OnOk result (line.new ≡ line.old ++ flow_to events.now place earlier.now found) }
+{
+    match found {
+        None => Ok(()),
+        Some(writer) => {
+            if has_place(earlier, writer) {
+                return Ok(());
+            }
+            add_flow(line, events, place, earlier.len(), writer)
+        }
+    }
+}
+
+/// The sources of the bytes of an access at a place.
+fn sources_at(
+    alloc: Global,
+    events: &[Event],
+    writers: &Writers,
+    place: usize,
+    access: &Access,
+) -> Result<Vec<Option<usize>>, OutOfMemory>
+    requires place { place < length events.now }
+    requires before { Indexes events.now place writers.now }
+    requires low { address_of access.now < 2 ^ 32 }
+    ensures { IfOk result (λ v. v.items ≡ map (source events.now place) (bytes access.now)) }
+{
+    let first = access.address();
+    let end = first + access.byte_count();
+    let found: Vec<Option<usize>> = (first..end)
+        .map(|byte| writers.source(events, place, byte))
+        .collect(alloc)?;
+    Ok(found)
+}
+
+/// The sources of all bytes of the event at a place, where it reads any.
+#[tactic(auto, unfolding(picture::specs::Sources::sources))]
+fn sources(
+    alloc: Global,
+    events: &[Event],
+    writers: &Writers,
+    place: usize,
+) -> Result<Vec<Option<usize>>, OutOfMemory>
+    requires place { place < length events.now }
+    requires before { Indexes events.now place writers.now }
+    requires low { address_of (event events.now place).access < 2 ^ 32 }
+    ensures { IfOk result (λ v. v.items ≡ sources events.now place) }
+{
+    let access = &events[place].access;
+    if access.loads() {
+        sources_at(alloc, events, writers, place, access)
+    } else {
+        Ok(Vec::new(alloc))
+    }
+}
+
+/// Adds the flows to the event at a place.
+pub(crate) fn add_flows(
+    alloc: Global,
+    line: &mut Line,
+    events: &[Event],
+    writers: &Writers,
+    place: usize,
+) -> Result<(), OutOfMemory>
+    requires place { place < length events.now }
+    requires before { Indexes events.now place writers.now }
+    requires low { address_of (event events.now place).access < 2 ^ 32 }
+    ensures { OnOk result (line.new ≡ line.old ++ flows_text events.now place) }
+{
+    let found = sources(alloc, events, writers, place)?;
+    for (byte, writer) in found.iter().enumerate() {
+        add_flow_to(line, events, place, &found[..byte], *writer)?;
+    }
+    Ok(())
+}
