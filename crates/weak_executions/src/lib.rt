@@ -1,0 +1,11 @@
+//! Executions of a guest program by number, in which loads read old and stores come late, and what RVWMO says of them.
+#![tactic(auto)]
+
+mod checking;
+mod guest;
+mod opening;
+
+pub use checking::{Finding, check};
+pub use execution_checker::Verdict;
+pub use guest::WeakGuest;
+pub use opening::Opening;
