@@ -1,0 +1,148 @@
+//! Packets read and written. Sums are worked out by hand; the examples of escapes and of runs are those of gdb's manual, appendix E.1.
+
+use gdb_packets::{Item, Reader, acknowledge, write_packet};
+use host_io::{History, Source, SourceFault, WriteSink};
+use std::alloc::Global;
+use std::test::Fail;
+
+/// A source that gives one byte at a time.
+#[derive(Drop)]
+struct Slow<'a> {
+    rest: &'a [u8],
+    given: History,
+    ended: History,
+}
+
+impl Source for Slow<'_> {
+    ghost use Rattle.std.specs.Prelude.{length};
+
+    ghost gave = { λ s. s.given.bytes };
+
+    ghost ends = { λ s. length s.ended.bytes };
+
+    ghost failures = { λ _. 0 };
+
+    fn get(&mut self, buf: &mut [u8]) -> Result<usize, SourceFault> {
+        if buf.is_empty() {
+            return Ok(0);
+        }
+        match self.rest.split_first() {
+            None => {
+                self.ended.note(&[0]);
+                Ok(0)
+            }
+            Some((first, rest)) => {
+                buf[0] = *first;
+                self.rest = rest;
+                self.given.note(&buf[..1]);
+                Ok(1)
+            }
+        }
+    }
+}
+
+/// All that a stream tells: `+`, `-`, `!` for an interrupt, `?` for a spoilt packet, and a packet's payload in brackets.
+fn told<S: Source>(alloc: Global, src: &mut S) -> Result<Vec<u8>, Fail> {
+    let mut reader = Reader::new();
+    let mut text = Vec::new(alloc);
+    for _ in 0..100 {
+        match reader.next(alloc, src)? {
+            None => break,
+            Some(Item::Accepted) => text.push(b'+')?,
+            Some(Item::Again) => text.push(b'-')?,
+            Some(Item::Interrupt) => text.push(b'!')?,
+            Some(Item::Spoilt) => text.push(b'?')?,
+            Some(Item::Packet(payload)) => {
+                text.push(b'[')?;
+                text.extend_from_slice(payload.as_slice())?;
+                text.push(b']')?;
+            }
+        }
+    }
+    Ok(text)
+}
+
+#[test]
+fn streams_are_told(rt: HostRuntime) -> Result<(), Fail> {
+    let rows: [(&[u8], &[u8]); 16] = [
+        (b"$g#67", b"[g]"),
+        (b"+$m1000,8#92-$?#3f", b"+[m1000,8]-[?]"),
+        (b"$qC#b4$qC#B4", b"[qC][qC]"),
+        (b"$g#68$g#6g$g#67", b"??[g]"),
+        (b"ab\n$g#67\r\n", b"[g]"),
+        (b"\x03$\x03#03\x03", b"![\x03]!"),
+        (b"$#00", b"[]"),
+        (b"$}\x03#80", b"[#]"),
+        (b"$0* #7a", b"[0000]"),
+        (b"$* #4a", b"?"),
+        (b"$0*#5a", b"?"),
+        (b"$a}#de", b"?"),
+        (b"$a$g#ec", b"?"),
+        (b"$g#67$g#6", b"[g]"),
+        (b"$g", b""),
+        (b"", b""),
+    ];
+    for (stream, expected) in rows {
+        let mut slow = Slow {
+            rest: stream,
+            given: History::new(),
+            ended: History::new(),
+        };
+        let text = told(rt.alloc(), &mut slow)?;
+        assert!(rt; text.as_slice() == expected, "{stream:?}");
+        let text = told(rt.alloc(), &mut host_io::ReadSource::new(stream))?;
+        assert!(rt; text.as_slice() == expected, "{stream:?}");
+    }
+    Ok(())
+}
+
+#[test]
+fn payloads_are_written(rt: HostRuntime) -> Result<(), Fail> {
+    let rows: [(&[u8], &[u8]); 4] = [
+        (b"OK", b"$OK#9a"),
+        (b"", b"$#00"),
+        (b"#$*}", b"$}\x03}\x04}\x0a}\x5d#62"),
+        (b"\x00\xff", b"$\x00\xff#ff"),
+    ];
+    for (payload, expected) in rows {
+        let mut text = Vec::new(rt.alloc());
+        assert!(rt; write_packet(rt.alloc(), payload, &mut WriteSink::new(&mut text)) == Ok(()));
+        assert!(rt; text.as_slice() == expected, "{payload:?}");
+    }
+    Ok(())
+}
+
+#[test]
+fn packets_are_acknowledged(rt: HostRuntime) -> Result<(), Fail> {
+    let mut text = Vec::new(rt.alloc());
+    for item in [
+        Item::Packet(Vec::new(rt.alloc())),
+        Item::Accepted,
+        Item::Spoilt,
+    ] {
+        assert!(rt; acknowledge(&item, &mut WriteSink::new(&mut text)) == Ok(()));
+    }
+    assert!(rt; text.as_slice() == b"+-".as_slice());
+    Ok(())
+}
+
+/// A packet of so many bytes `a`, of which the sum is 61 (hexadecimal) times as much.
+fn long_packet(alloc: Global, count: u32, digits: &[u8]) -> Result<Vec<u8>, Fail> {
+    let mut text = Vec::new(alloc);
+    text.push(b'$')?;
+    text.resize(count as usize + 1, b'a')?;
+    text.push(b'#')?;
+    text.extend_from_slice(digits)?;
+    Ok(text)
+}
+
+#[test]
+fn packets_end_at_65536_bytes(rt: HostRuntime) -> Result<(), Fail> {
+    let most = long_packet(rt.alloc(), 65_536, b"00")?;
+    let text = told(rt.alloc(), &mut host_io::ReadSource::new(most.as_slice()))?;
+    assert_eq!(rt; text.len(), 65_538);
+    let more = long_packet(rt.alloc(), 65_537, b"61")?;
+    let text = told(rt.alloc(), &mut host_io::ReadSource::new(more.as_slice()))?;
+    assert!(rt; text.as_slice() == b"?".as_slice());
+    Ok(())
+}
