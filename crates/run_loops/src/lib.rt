@@ -1,0 +1,28 @@
+//! Runs that are back where they were after an earlier round, and so never end.
+//!
+//! The laws are the contracts of functions that do nothing.
+#![tactic(auto)]
+
+ghost use Rattle.run_loops.specs.Forgetting.{CountsAreForgotten};
+ghost use Rattle.run_loops.specs.Returning.{LaterComesBack, RunsComeBack, RunsGoRound};
+
+/// No instruction looks at how many its hart has done; and but for the call for the number of the round, none looks at that.
+pub fn counts_are_forgotten()
+    ensures { CountsAreForgotten }
+{}
+
+/// A run that comes back to where it was never ends: after any number of further rounds the same harts have stopped, so each hart
+/// that runs there runs for ever under this plan.
+pub fn runs_come_back<H, K, C>()
+    ensures { RunsComeBack H K C }
+{}
+
+/// Each later state of such a run comes back too, after as many rounds.
+pub fn later_comes_back<H, K, C>()
+    ensures { LaterComesBack H K C }
+{}
+
+/// The state after any number of times these rounds and some further ones is like that after the further ones alone.
+pub fn runs_go_round<H, K, C>()
+    ensures { RunsGoRound H K C }
+{}
