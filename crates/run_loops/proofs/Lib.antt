@@ -1,2 +1,4 @@
 pub mod Forgetting
 pub mod Returning
+pub mod Tabling
+pub mod Words

@@ -16,44 +16,13 @@ use Rattle.round_schedule.specs.Events.{event_of, events_of}
 use Rattle.round_schedule.specs.Held.{held, held_after, held_from}
 use Rattle.round_schedule.specs.Schedule.{HartRound, Progress, State, Turn, Words, all_stores, began, by_answer, committed, ended, events_from, first_or_zero, hart_round_of, hart_rounds, joined, next_of, rest_of, round_from, round_of, run_of, serial_from, serial_next, turn_from, turn_of, turned, turn_went, went}
 use Rattle.round_schedule.proofs.Holding.{held-append}
-use Rattle.run_loops.specs.Asking.{asks_in_phase, asks_in_round, asks_in_run, asks_in_turn, asks_next}
+use Rattle.run_loops.specs.Asking.{asks_after, asks_in_phase, asks_in_round, asks_in_run, asks_in_turn}
 use Rattle.run_loops.specs.Forgetting.{Forgets, SameOutcome, SameSerial, placeless, placeless_answer}
+use Rattle.run_loops.proofs.Words.{both_no, choose, neither, pair, picked, picked_not}
 use Rattle.run_loops.specs.Returning.{Alike, ComesBack, LaterComesBack, RunsComeBack, RunsGoRound}
 
--- ---- words
+-- ---- answers that differ at most in places
 
-pair : {X Y Z : Type 0} (f : X → Y → Z) (x u : X) (y v : Y) → x ≡ u → y ≡ v → f x y ≡ f u v
-pair f x u y v e d = ap (λ (z : _). f z y) e ∙ ap (f u) d
-
-choose : {X Y : Type 0} (R : X → Y → Type 0) (a b : Bool) (x u : X) (y v : Y) → a ≡ b → R x y → R u v → R (if a then x else u) (if b then y else v)
-choose R true true x u y v e f g = f
-choose R false false x u y v e f g = g
-choose R true false x u y v e f g = absurd (false≢true (sym e))
-choose R false true x u y v e f g = absurd (false≢true e)
-
-choose_at : {X Y : Type 0} (R : X → Y → Type 0) (a b : Bool) (x u : X) (y v : Y) → a ≡ b → R x y → (a ≡ false → R u v) → R (if a then x else u) (if b then y else v)
-choose_at R true true x u y v e f g = f
-choose_at R false false x u y v e f g = g refl
-choose_at R true false x u y v e f g = absurd (false≢true (sym e))
-choose_at R false true x u y v e f g = absurd (false≢true e)
-
-picked : {A : Type 0} (b : Bool) (x y : A) → b ≡ true → (if b then x else y) ≡ x
-picked true x y e = refl
-picked false x y e = absurd (false≢true e)
-
-picked_not : {A : Type 0} (b : Bool) (x y : A) → b ≡ false → (if b then x else y) ≡ y
-picked_not true x y e = absurd (false≢true (sym e))
-picked_not false x y e = refl
-
-neither : (a b : Bool) → (a || b) ≡ false → (a ≡ false) × (b ≡ false)
-neither true b e = absurd (false≢true (sym e))
-neither false b e = (refl, e)
-
-both_no : (a b : Bool) → a ≡ false → b ≡ false → (a || b) ≡ false
-both_no true b e f = e
-both_no false b e f = f
-
--- two answers that differ at most in places
 by_both : (P : Stepped → Stepped → Type 0) (y z : Stepped) → placeless_answer y ≡ placeless_answer z →
     ((a b : Option Access) → map placeless (option_to_list a) ≡ map placeless (option_to_list b) → P (Done a) (Done b)) → P Waits Waits → ((c d : ℕ) → P (Stopped c) (Stopped d)) → P y z
 by_both P (Done None) (Done None) e f g h = f None None refl
@@ -121,7 +90,7 @@ module _ {H K C : Type 0} (w : Words H C) (kept : H → K) (asks : H → List �
   round_same bs (suc k) p q s =
       let o : SameOutcome kept (next_of w bs p) (next_of w bs q) = next_same bs p q s in
       choose SameRound (w.stopped p.hart) (w.stopped q.hart) _ _ _ _ (forgets.stopped p.hart q.hart s.hart) (record { last = s; waits = refl })
-      (by_both (λ (y z : Stepped). SameRound (by_answer y p (next_of w bs p) (round_from w bs k)) (by_answer z q (next_of w bs q) (round_from w bs k)))
+      (λ e. by_both (λ (y z : Stepped). SameRound (by_answer y p (next_of w bs p) (round_from w bs k)) (by_answer z q (next_of w bs q) (round_from w bs k)))
       (next_of w bs p).answer (next_of w bs q).answer o.answer
       (λ a b e. round_same bs k (went p (next_of w bs p) a) (went q (next_of w bs q) b) (record {
         hart = o.hart;
@@ -182,11 +151,6 @@ module _ {H K C : Type 0} (w : Words H C) (kept : H → K) (asks : H → List �
     console : p.console ≡ q.console
     holds : (h : ℕ) → h < b → held h p.trace ≡ held h q.trace
 
-  asks_same : (b : ℕ) (p q : Turn H C) → SameTurn b p q → asks_next w asks p ≡ asks_next w asks q
-  asks_same b p q s =
-      choose (λ (x y : Bool). x ≡ y) (w.stopped p.hart) (w.stopped q.hart) _ _ _ _ (forgets.stopped p.hart q.hart s.hart) refl
-      (forgets.asking p.hart q.hart p.bytes s.hart ∙ ap (asks q.hart) s.bytes)
-
   serial_same : (b n m i : ℕ) (p q : Turn H C) → i < b → SameTurn b p q → asks p.hart p.bytes ≡ false → SameSerial kept (serial_next w n i p) (serial_next w m i q)
   serial_same b n m i p q l s u =
       subst (λ (x : Option Span). SameSerial kept (serial_next w n i p) (w.serial_step m q.hart q.bytes q.console x)) (s.holds i l)
@@ -194,54 +158,60 @@ module _ {H K C : Type 0} (w : Words H C) (kept : H → K) (asks : H → List �
       (subst (λ (x : List ℕ). SameSerial kept (serial_next w n i p) (w.serial_step m q.hart x p.console (held i p.trace))) s.bytes
       (forgets.serial_steps n m p.hart q.hart p.bytes p.console (held i p.trace) s.hart u)))
 
-  -- none of the first k instructions of a turn asks
-  abbrev Unasked : ℕ → (ℕ → Turn H C) → Type 0
-  Unasked k f = (j : ℕ) → j < k → asks_next w asks (f j) ≡ false
+  -- whether an instruction after this one asks, of the next k
+  asks_later : (n i k : ℕ) (p : Turn H C) → Stepped → Bool
+  asks_later n i k p y = asks_after y (λ a. asks_in_turn w asks n i k (turn_went n i p (serial_next w n i p) a))
+
+  went_same : (b n m i : ℕ) (p q : Turn H C) (c d : Option Access) → SameTurn b p q → SameSerial kept (serial_next w n i p) (serial_next w m i q) →
+      map placeless (option_to_list c) ≡ map placeless (option_to_list d) → SameTurn b (turn_went n i p (serial_next w n i p) c) (turn_went m i q (serial_next w m i q) d)
+  went_same b n m i p q c d s o e = record {
+    hart = o.hart;
+    bytes = pair after p.bytes q.bytes (serial_next w n i p).stores (serial_next w m i q).stores s.bytes o.stores;
+    console = o.console;
+    holds = λ h l. held_same h n m i Serial p.trace q.trace (option_to_list c) (option_to_list d) (s.holds h l) e;
+  }
 
   turn_taken : (b n m i k : ℕ) (p q : Turn H C) → SameTurn b p q → SameSerial kept (serial_next w n i p) (serial_next w m i q) →
-      ((x y : Turn H C) → Unasked k (λ j. turn_from w n i j x) → SameTurn b x y → SameTurn b (turn_from w n i k x) (turn_from w m i k y)) →
-      Unasked k (λ j. turned n i (serial_next w n i p).answer p (serial_next w n i p) (turn_from w n i j)) →
+      ((x y : Turn H C) → asks_in_turn w asks n i k x ≡ false → SameTurn b x y → SameTurn b (turn_from w n i k x) (turn_from w m i k y)) →
+      asks_later n i k p (serial_next w n i p).answer ≡ false →
       SameTurn b (turned n i (serial_next w n i p).answer p (serial_next w n i p) (turn_from w n i k)) (turned m i (serial_next w m i q).answer q (serial_next w m i q) (turn_from w m i k))
+  unfolding asks_later
   turn_taken b n m i k p q s o rest u =
-      by_both (λ (y z : Stepped). Unasked k (λ j. turned n i y p (serial_next w n i p) (turn_from w n i j)) →
+      by_both (λ (y z : Stepped). asks_later n i k p y ≡ false →
       SameTurn b (turned n i y p (serial_next w n i p) (turn_from w n i k)) (turned m i z q (serial_next w m i q) (turn_from w m i k)))
       (serial_next w n i p).answer (serial_next w m i q).answer o.answer
-      (λ c d e v. rest (turn_went n i p (serial_next w n i p) c) (turn_went m i q (serial_next w m i q) d) v (record {
-        hart = o.hart;
-        bytes = pair after p.bytes q.bytes (serial_next w n i p).stores (serial_next w m i q).stores s.bytes o.stores;
-        console = o.console;
-        holds = λ h l. held_same h n m i Serial p.trace q.trace (option_to_list c) (option_to_list d) (s.holds h l) e;
-      }))
+      (λ c d e v. rest (turn_went n i p (serial_next w n i p) c) (turn_went m i q (serial_next w m i q) d) v (went_same b n m i p q c d s o e))
       (λ v. record { hart = o.hart; bytes = s.bytes; console = s.console; holds = s.holds })
       (λ c d v. record { hart = o.hart; bytes = s.bytes; console = s.console; holds = s.holds })
       u
 
-  turn_kept : (b n m i k : ℕ) (p q : Turn H C) → i < b → Unasked k (λ j. turn_from w n i j p) → SameTurn b p q → SameTurn b (turn_from w n i k p) (turn_from w m i k q)
+  -- where a hart isn't stopped
+  unasked_both : (n i k : ℕ) (p : Turn H C) → w.stopped p.hart ≡ false → asks_in_turn w asks n i (suc k) p ≡ false →
+      (asks p.hart p.bytes ≡ false) × (asks_later n i k p (serial_next w n i p).answer ≡ false)
+  unfolding asks_in_turn asks_later
+  unasked_both n i k p e u = neither _ _ (sym (picked_not (w.stopped p.hart) false _ e) ∙ u)
+
+  turn_kept : (b n m i k : ℕ) (p q : Turn H C) → i < b → asks_in_turn w asks n i k p ≡ false → SameTurn b p q → SameTurn b (turn_from w n i k p) (turn_from w m i k q)
   unfolding turn_from
   turn_kept b n m i zero p q l u s = s
   turn_kept b n m i (suc k) p q l u s =
-      choose_at (SameTurn b) (w.stopped p.hart) (w.stopped q.hart) _ _ _ _ (forgets.stopped p.hart q.hart s.hart) s
-      (λ e. turn_taken b n m i k p q s
-      (serial_same b n m i p q l s (sym (picked_not (w.stopped p.hart) false (asks p.hart p.bytes) e) ∙ u 0 (omega arith)))
-      (λ x y v t. turn_kept b n m i k x y l v t)
-      (λ j f. subst (λ (x : Turn H C). asks_next w asks x ≡ false)
-      (picked_not (w.stopped p.hart) p (turned n i (serial_next w n i p).answer p (serial_next w n i p) (turn_from w n i j)) e)
-      (u (suc j) (omega (arith, f)))))
-
-  unasked_each : (n i k : ℕ) (p : Turn H C) → asks_in_turn w asks n i k p ≡ false → Unasked k (λ j. turn_from w n i j p)
-  unfolding asks_in_turn
-  unasked_each n i zero p e j l = absurd (omega (arith, l))
-  unasked_each n i (suc k) p e j l =
-      let d : (asks_in_turn w asks n i k p ≡ false) × (asks_next w asks (turn_from w n i k p) ≡ false) = neither _ _ e in
-      below_more (λ (x : ℕ). asks_next w asks (turn_from w n i x p) ≡ false) k (unasked_each n i k p d.0) d.1 j (omega (arith, l))
+      choose (SameTurn b) (w.stopped p.hart) (w.stopped q.hart) _ _ _ _ (forgets.stopped p.hart q.hart s.hart) s
+      (λ e. let d : (asks p.hart p.bytes ≡ false) × (asks_later n i k p (serial_next w n i p).answer ≡ false) = unasked_both n i k p e u in
+      turn_taken b n m i k p q s (serial_same b n m i p q l s d.0) (λ x y v t. turn_kept b n m i k x y l v t) d.1)
 
   turn_unasked : (b n m i k : ℕ) (p q : Turn H C) → i < b → SameTurn b p q → asks_in_turn w asks n i k p ≡ false → asks_in_turn w asks m i k q ≡ false
-  unfolding asks_in_turn
-  turn_unasked b n m i zero p q l s e = refl
-  turn_unasked b n m i (suc k) p q l s e =
-      let d : (asks_in_turn w asks n i k p ≡ false) × (asks_next w asks (turn_from w n i k p) ≡ false) = neither _ _ e in
-      both_no _ _ (turn_unasked b n m i k p q l s d.0)
-      (sym (asks_same b (turn_from w n i k p) (turn_from w m i k q) (turn_kept b n m i k p q l (unasked_each n i k p d.0) s)) ∙ d.1)
+  unfolding asks_in_turn asks_later
+  turn_unasked b n m i zero p q l s u = refl
+  turn_unasked b n m i (suc k) p q l s u =
+      choose (λ (x y : Bool). x ≡ false → y ≡ false) (w.stopped p.hart) (w.stopped q.hart) _ _ _ _ (forgets.stopped p.hart q.hart s.hart) (λ v. v)
+      (λ e v.
+      let d : (asks p.hart p.bytes ≡ false) × (asks_later n i k p (serial_next w n i p).answer ≡ false) = neither _ _ v in
+      let o : SameSerial kept (serial_next w n i p) (serial_next w m i q) = serial_same b n m i p q l s d.0 in
+      both_no _ _ (sym (forgets.asking p.hart q.hart p.bytes s.hart ∙ ap (asks q.hart) s.bytes) ∙ d.0)
+      (by_both (λ (y z : Stepped). asks_later n i k p y ≡ false → asks_later m i k q z ≡ false) (serial_next w n i p).answer (serial_next w m i q).answer o.answer
+      (λ c f g x. turn_unasked b n m i k (turn_went n i p (serial_next w n i p) c) (turn_went m i q (serial_next w m i q) f) l (went_same b n m i p q c f s o g) x)
+      (λ x. refl) (λ c f x. refl) d.1))
+      u
 
   -- ---- the serial phase
 
@@ -278,7 +248,7 @@ module _ {H K C : Type 0} (w : Words H C) (kept : H → K) (asks : H → List �
       let start : SameTurn b (begun s r) q = record { hart = same.0.last.hart; bytes = a.bytes; console = a.console; holds = a.holds } in
       let turn : SameTurn b d f =
       subst (λ (x : Bool). SameTurn b d (turn_from w t.rounds i (if x then budget else 0) q)) same.0.waits
-      (turn_kept b s.rounds t.rounds i k (begun s r) q (omega (arith, l)) (unasked_each s.rounds i k (begun s r) e.0) start) in
+      (turn_kept b s.rounds t.rounds i k (begun s r) q (omega (arith, l)) e.0 start) in
       let rest = phase_kept b budget (suc i) rs vs (joined s d) (joined t f) (omega (arith, l)) same.1 (joined_alike b s t d f a turn) e.1 in (
         rest.0,
         both_no _ _

@@ -1,16 +1,28 @@
 -- Whether a hart asks for the number of a round: in a turn, a serial phase, a round, a run. `asks` says of a hart and memory whether
 -- its next instruction does, in a serial phase.
-use Rattle.std.specs.Prelude.{ℕ, zero, suc, ◌||◌, Bool, false, if◌then◌else◌, List, [], ◌∷◌}
-use Rattle.round_schedule.specs.Schedule.{HartRound, State, Turn, Words, committed, hart_rounds, joined, run_of, turn_from, turn_of}
+use Rattle.std.specs.Prelude.{◌≡◌, ℕ, zero, suc, ◌+◌, ◌||◌, Bool, false, if◌then◌else◌, List, [], ◌∷◌, ◌++◌, length, Option, option_to_list}
+use Rattle.pages.specs.Memory.{IsBytes, after}
+use Rattle.round_schedule.specs.declared.access.Access.{Access}
+use Rattle.round_schedule.specs.declared.access.Stepped.{Stepped}
+use Rattle.round_schedule.specs.declared.access.Stepped.TheVariants.{Done, Waits, Stopped}
+use Rattle.round_schedule.specs.ByTable.{Tabled, tabled_phase_of}
+use Rattle.round_schedule.specs.Schedule.{HartRound, SerialOutcome, State, Turn, Words, committed, hart_rounds, joined, run_of, serial_next, turn_of, turn_went}
+use Rattle.round_schedule.specs.Sound.{Sound}
+use Rattle.round_schedule.specs.TabledTurn.{TabledPhase, TabledTurn, tabled_phase_joined, tabled_turn_next, tabled_turn_of, updated_by}
+use Rattle.round_schedule.specs.Tables.{Tied}
 
--- whether the next instruction of a turn does
-abbrev pub asks_next : {H C : Type 0} → Words H C → (H → List ℕ → Bool) → Turn H C → Bool
-asks_next w asks p = if w.stopped p.hart then false else asks p.hart p.bytes
+-- by the answer of an instruction: where it is done, what is said of what comes after it
+abbrev pub asks_after : Stepped → (Option Access → Bool) → Bool
+asks_after (Done a) rest = rest a
+asks_after Waits rest = false
+asks_after (Stopped code) rest = false
 
--- whether one of the first k instructions of hart i's turn in round n does
+-- whether one of the next k instructions of hart i's turn in round n does
 unfoldable pub asks_in_turn : {H C : Type 0} → Words H C → (H → List ℕ → Bool) → ℕ → ℕ → ℕ → Turn H C → Bool
 asks_in_turn w asks n i zero p = false
-asks_in_turn w asks n i (suc k) p = asks_in_turn w asks n i k p || asks_next w asks (turn_from w n i k p)
+asks_in_turn w asks n i (suc k) p =
+    if w.stopped p.hart then false
+    else (asks p.hart p.bytes || asks_after (serial_next w n i p).answer (λ a. asks_in_turn w asks n i k (turn_went n i p (serial_next w n i p) a)))
 
 -- whether a hart does in the turns of a serial phase, from hart i on
 abbrev pub asks_in_phase : {H C : Type 0} → Words H C → (H → List ℕ → Bool) → ℕ → ℕ → List (HartRound H) → State H C → Bool
@@ -29,3 +41,33 @@ asks_in_round w asks budget quotas s =
 unfoldable pub asks_in_run : {H C : Type 0} → Words H C → (H → List ℕ → Bool) → ℕ → (ℕ → List ℕ) → ℕ → State H C → Bool
 asks_in_run w asks budget quotas zero s = false
 asks_in_run w asks budget quotas (suc n) s = asks_in_run w asks budget quotas n s || asks_in_round w asks budget quotas (run_of w budget quotas n s)
+
+-- ---- the same over a table of reservations
+
+-- the state of a turn after an instruction that is done
+abbrev pub tabled_turn_went : {H C : Type 0} → ℕ → TabledTurn H C → SerialOutcome H C → Option Access → TabledTurn H C
+tabled_turn_went i d o a = record { hart = o.hart; bytes = after d.bytes o.stores; console = o.console; table = updated_by i a d.table; log = d.log ++ option_to_list a }
+
+unfoldable pub asks_in_tabled_turn : {H C : Type 0} → Words H C → (H → List ℕ → Bool) → ℕ → ℕ → ℕ → TabledTurn H C → Bool
+asks_in_tabled_turn w asks n i zero d = false
+asks_in_tabled_turn w asks n i (suc k) d =
+    if w.stopped d.hart then false
+    else (asks d.hart d.bytes || asks_after (tabled_turn_next w n i d).answer (λ a. asks_in_tabled_turn w asks n i k (tabled_turn_went i d (tabled_turn_next w n i d) a)))
+
+abbrev pub asks_in_tabled_phase : {H C : Type 0} → Words H C → (H → List ℕ → Bool) → ℕ → ℕ → ℕ → List (HartRound H) → TabledPhase H C → Bool
+asks_in_tabled_phase w asks budget n i [] s = false
+asks_in_tabled_phase w asks budget n i (r ∷ rs) s =
+    asks_in_tabled_turn w asks n i (if r.waits then budget else 0) (record { hart = r.last.hart; bytes = s.bytes; console = s.console; table = s.table; log = [] })
+    || asks_in_tabled_phase w asks budget n (suc i) rs (tabled_phase_joined s (tabled_turn_of w budget n s i r.last.hart r.waits))
+
+unfoldable pub asks_in_tabled_round : {H C : Type 0} → Words H C → (H → List ℕ → Bool) → ℕ → (ℕ → List ℕ) → Tabled H C → Bool
+asks_in_tabled_round w asks budget quotas m =
+    let rs = hart_rounds w m.state.bytes (quotas m.state.rounds) m.state.harts in
+    asks_in_tabled_phase w asks budget (m.state.rounds + 1) 0 rs (tabled_phase_of m rs)
+
+-- where the table is what the trace says, it makes no difference which of the two is looked at
+abbrev pub AskingByTable : (H C : Type 0) → Type 0
+AskingByTable H C =
+    (w : Words H C) (asks : H → List ℕ → Bool) (budget : ℕ) (quotas : ℕ → List ℕ) (m : Tabled H C) →
+    Sound w → IsBytes m.state.bytes → Tied m.table m.state.trace → length m.table ≡ length m.state.harts →
+    asks_in_tabled_round w asks budget quotas m ≡ asks_in_round w asks budget quotas m.state

@@ -3,6 +3,7 @@
 //! The laws are the contracts of functions that do nothing.
 #![tactic(auto)]
 
+ghost use Rattle.run_loops.specs.Asking.{AskingByTable};
 ghost use Rattle.run_loops.specs.Forgetting.{CountsAreForgotten};
 ghost use Rattle.run_loops.specs.Returning.{LaterComesBack, RunsComeBack, RunsGoRound};
 
@@ -25,4 +26,10 @@ pub fn later_comes_back<H, K, C>()
 /// The state after any number of times these rounds and some further ones is like that after the further ones alone.
 pub fn runs_go_round<H, K, C>()
     ensures { RunsGoRound H K C }
+{}
+
+/// Where a table of reservations is what the trace says, a hart asks for a round's number over the table where it does over the
+/// trace.
+pub fn asking_by_table<H, C>()
+    ensures { AskingByTable H C }
 {}
