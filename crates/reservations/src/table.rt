@@ -90,6 +90,13 @@ impl Reservations {
         !self.any || no_others(&self.entries[..self.harts], hart as usize)
     }
 
+    /// Whether the two tables are equal.
+    pub fn is_same(&self, other: &Reservations) -> bool
+        ensures { IsTrue result ↔ (self.now ≡ other.now) }
+    {
+        are_same(&self.entries[..self.harts], &other.entries[..other.harts])
+    }
+
     /// An equal table.
     pub fn copy(&self) -> Reservations
         ensures { result ≡ self.now }
@@ -100,6 +107,12 @@ impl Reservations {
             any: self.any,
         }
     }
+}
+
+fn are_same(entries: &[Option<Span>], others: &[Option<Span>]) -> bool
+    ensures { IsTrue result ↔ (entries.now ≡ others.now) }
+{
+    entries == others
 }
 
 fn no_others(entries: &[Option<Span>], hart: usize) -> bool
