@@ -1,3 +1,4 @@
+pub mod Decided
 pub mod Forgetting
 pub mod Returning
 pub mod Tabling

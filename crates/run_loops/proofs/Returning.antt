@@ -309,17 +309,17 @@ module _ {H K C : Type 0} (w : Words H C) (kept : H → K) (asks : H → List �
     from_none : (n : ℕ) → n ≡ 0 + n
     from_none n = omega arith
 
-    run_harts : (n : ℕ) (s : State H C) → length (run_of w budget quotas n s).harts ≡ length s.harts
+    pub run_harts : (n : ℕ) (s : State H C) → length (run_of w budget quotas n s).harts ≡ length s.harts
     unfolding run_of
     run_harts zero s = refl
     run_harts (suc n) s = run_harts n (round_of w budget quotas s) ∙ round_harts s
 
-    run_counted : (n : ℕ) (s : State H C) → (run_of w budget quotas n s).rounds ≡ s.rounds + n
+    pub run_counted : (n : ℕ) (s : State H C) → (run_of w budget quotas n s).rounds ≡ s.rounds + n
     unfolding run_of
     run_counted zero s = omega arith
     run_counted (suc n) s = omega (arith, run_counted n (round_of w budget quotas s), round_counted s)
 
-    run_sum : (m n : ℕ) (s : State H C) → run_of w budget quotas (m + n) s ≡ run_of w budget quotas n (run_of w budget quotas m s)
+    pub run_sum : (m n : ℕ) (s : State H C) → run_of w budget quotas (m + n) s ≡ run_of w budget quotas n (run_of w budget quotas m s)
     unfolding run_of
     run_sum zero n s = ap (λ (k : ℕ). run_of w budget quotas k s) (sym (from_none n))
     run_sum (suc m) n s = ap (λ (k : ℕ). run_of w budget quotas k s) (carry m n) ∙ run_sum m n (round_of w budget quotas s)
@@ -439,7 +439,7 @@ module _ {H K C : Type 0} (w : Words H C) (kept : H → K) (asks : H → List �
         asks_first n (n * p - n) s (subst (λ (k : ℕ). asks_in_run w asks budget quotas k s ≡ false) (sym (whole n p (p - 1) (omega (arith, c.on)))) (never_in_times p n s c))
 
     -- and each later state comes back
-    comes_back_later : (p n : ℕ) (s : State H C) → ComesBack w kept asks budget quotas p s → ComesBack w kept asks budget quotas p (run_of w budget quotas n s)
+    pub comes_back_later : (p n : ℕ) (s : State H C) → ComesBack w kept asks budget quotas p s → ComesBack w kept asks budget quotas p (run_of w budget quotas n s)
     comes_back_later p n s c = record {
       on = c.on;
       again = c.again;

@@ -1,3 +1,4 @@
 pub mod Asking
+pub mod Decided
 pub mod Forgetting
 pub mod Returning

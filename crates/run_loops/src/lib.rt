@@ -4,6 +4,7 @@
 #![tactic(auto)]
 
 ghost use Rattle.run_loops.specs.Asking.{AskingByTable};
+ghost use Rattle.run_loops.specs.Decided.{AlikeIsDecided, EarlierGoesRound, GoingRoundComesBack};
 ghost use Rattle.run_loops.specs.Forgetting.{CountsAreForgotten};
 ghost use Rattle.run_loops.specs.Returning.{LaterComesBack, RunsComeBack, RunsGoRound};
 
@@ -32,4 +33,20 @@ pub fn runs_go_round<H, K, C>()
 /// trace.
 pub fn asking_by_table<H, C>()
     ensures { AskingByTable H C }
+{}
+
+/// `are_alike` answers whether all that later rounds depend on is the same in two states.
+pub fn alike_is_decided()
+    ensures { AlikeIsDecided }
+{}
+
+/// A run that `goes_round` says so of comes back from the middle of its rounds on.
+pub fn going_round_comes_back()
+    ensures { GoingRoundComesBack }
+{}
+
+/// A run that is found back anywhere on its way to the middle, after no more rounds than there are from there on, goes round. So
+/// where it is looked for makes no difference to what is said.
+pub fn earlier_goes_round()
+    ensures { EarlierGoesRound }
 {}
