@@ -183,6 +183,15 @@ impl Plan {
         self.harts
     }
 
+    /// How many rows there are.
+    pub fn row_count(&self) -> u32
+        ensures rows { result ≡ length self.now.rows }
+        ensures some_rows { 1 ≤ result }
+        ensures few_rows { result ≤ 256 }
+    {
+        self.rows.len() as u32
+    }
+
     /// How many instructions a hart may do in a serial turn.
     #[inline]
     pub fn budget(&self) -> u32

@@ -1,4 +1,4 @@
-ghost use Rattle.std.specs.Prelude.{◌≡◌, ℕ, ◌+◌, ◌-◌, ◌≤◌, ◌<◌, [], List, length, OnOk, OnErr, IfOk};
+ghost use Rattle.std.specs.Prelude.{◌≡◌, ◌↔◌, ℕ, ◌+◌, ◌-◌, ◌≤◌, ◌<◌, [], List, length, OnOk, OnErr, IfOk, IsTrue};
 ghost use Rattle.hart_step.specs.Console.{Answered, put_call, get_call, output_room};
 ghost use Rattle.serial_phase.specs.Roomed.{HasRoom};
 
@@ -95,6 +95,15 @@ impl Console {
         self.output.as_slice()
     }
 
+    /// Whether the two consoles are equal.
+    pub fn is_same(&self, other: &Console) -> bool
+        ensures { IsTrue result ↔ (self.now.console ≡ other.now.console) }
+    {
+        self.place == other.place
+            && are_same(&self.output, &other.output)
+            && are_same(&self.input, &other.input)
+    }
+
     /// An equal console.
     pub fn copy(&self, alloc: Global) -> Result<Console, OutOfMemory>
         ensures { IfOk result (λ c. c.console ≡ self.now.console) }
@@ -111,4 +120,10 @@ impl Console {
             _ => Err(OutOfMemory),
         }
     }
+}
+
+fn are_same(bytes: &[u8], others: &[u8]) -> bool
+    ensures { IsTrue result ↔ (bytes.now ≡ others.now) }
+{
+    bytes == others
 }
