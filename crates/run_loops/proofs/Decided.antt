@@ -177,7 +177,7 @@ module _ (code : List Range) (budget : ℕ) (quotas : ℕ → List ℕ) (rows : 
   abbrev Back : ℕ → State Hart ConsoleState → Type 0
   Back p s = ComesBack (words_of code) uncounted (asks_number code) budget quotas p s
 
-  back_found : (s : State Hart ConsoleState) (p : ℕ) → 1 ≤ p → is_back_in code budget quotas rows s p ≡ true → Back p s
+  pub back_found : (s : State Hart ConsoleState) (p : ℕ) → 1 ≤ p → is_back_in code budget quotas rows s p ≡ true → Back p s
   unfolding is_back_in
   back_found s p l e =
       let t : State Hart ConsoleState = run_of (words_of code) budget quotas p s in
