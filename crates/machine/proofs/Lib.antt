@@ -20,6 +20,7 @@ pub mod TracedMachine
 pub mod TracedRun
 pub mod AskedTurns
 pub mod Asked
+pub mod NumbersAsked
 pub mod Tallied
 pub mod GuestRounds
 pub mod KeptStarts

@@ -7,4 +7,5 @@ pub mod Held
 pub mod Rounds
 pub mod Settings
 pub mod Asked
+pub mod NumberAsked
 pub mod Untraced

@@ -108,7 +108,7 @@ fn take_turns(shared: &mut SharedState, ends: &[HartEnd], turn: Turn)
 }
 
 /// The turn of a hart: of no instruction where it does not wait.
-fn turn_of(end: &HartEnd, turn: Turn) -> Turn
+pub(crate) fn turn_of(end: &HartEnd, turn: Turn) -> Turn
     ensures { result ≡ record turn { budget = if end.now.waits then turn.budget else 0 } }
 {
     Turn {

@@ -81,6 +81,20 @@ impl GuestState {
         self.shared.console.output()
     }
 
+    /// The input and the output.
+    pub(crate) fn console(&self) -> &Console
+        ensures { result.now.console ≡ self.now.shared.console }
+    {
+        &self.shared.console
+    }
+
+    /// The reservations of the harts.
+    pub(crate) fn reservations(&self) -> &Reservations
+        ensures { result.now ≡ self.now.shared.table }
+    {
+        &self.shared.reservations
+    }
+
     /// There is one reservation's place for each hart.
     pub(crate) fn sizes_agree(&self)
         ensures { length self.now.shared.table ≡ length self.now.harts }

@@ -14,6 +14,7 @@ mod keeper;
 mod kept_crew;
 mod kept_running;
 mod machine;
+mod number_asked;
 mod observing;
 mod opening;
 mod parallel;

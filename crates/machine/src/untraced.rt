@@ -10,7 +10,9 @@ use elf_loader::Image;
 use hart_step::Hart;
 use host_io::RunError;
 use pages::Pages;
+use reservations::Reservations;
 use round_planner::Plan;
+use serial_phase::Console;
 use std::alloc::Global;
 use std::marker::Model;
 
@@ -107,6 +109,29 @@ impl UntracedMachine {
         ensures { result.now ≡ self.now.console.output }
     {
         self.guest.output()
+    }
+
+    /// The input and the output.
+    pub fn console(&self) -> &Console
+        ensures { result.now.console ≡ self.now.console }
+    {
+        self.guest.console()
+    }
+
+    /// The reservations of the harts, in hart order.
+    pub fn reservations(&self) -> &Reservations
+        ensures table { result.now ≡ self.now.table }
+        ensures count { length result.now ≡ length self.now.harts }
+    {
+        self.guest.sizes_agree();
+        self.guest.reservations()
+    }
+
+    /// The plan.
+    pub fn plan(&self) -> &Plan
+        ensures { result.now ≡ self.now.plan }
+    {
+        &self.plan
     }
 
     /// How many events the trace would have.
