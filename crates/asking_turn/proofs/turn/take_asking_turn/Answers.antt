@@ -18,7 +18,12 @@ returns-then-is_some c =
     let e = ends_off c.args.turn c.loop-left.left x y c.loop-left-test.true (sym c.if-is_some.ensures) c.requires.began u.under in
     record {
       asks = asks_whole c.args.turn x c.loop-left.asked c.requires.began (asks_off c.args.turn c.loop-left.left c.loop-left.asked x y c.loop-left-test.true (sym c.if-is_some.ensures) u);
-      turn = e.taken; pages = e.pages; console = e.console; log = e.log; table = e.table; shows = e.shows;
+      turn = e.taken;
+      pages = e.pages;
+      console = e.console;
+      log = e.log;
+      table = e.table;
+      shows = e.shows;
     }
 
 pub serve-requires-clause-pages : goal.serve-requires-clause-pages
@@ -44,7 +49,12 @@ returns-in-Waits c =
     record {
       asks = asks_whole c.args.turn x c.asked_by-asked.result c.requires.began
           (c.asked_by-asked.ensures ∙ asks_waiting c.args.turn c.loop-left.left c.loop-left.asked x y z c.loop-left-test.true (sym c.if-is_some.ensures) c.in-Waits.is (c.serve.ensures.answer, c.serve.ensures.serves) u);
-      turn = e.taken; pages = e.pages; console = e.console; log = e.log; table = e.table; shows = e.shows;
+      turn = e.taken;
+      pages = e.pages;
+      console = e.console;
+      log = e.log;
+      table = e.table;
+      shows = e.shows;
     }
 
 pub returns-in-Stopped : goal.returns-in-Stopped
@@ -58,7 +68,12 @@ returns-in-Stopped c =
     record {
       asks = asks_whole c.args.turn x c.asked_by-asked.result c.requires.began
           (c.asked_by-asked.ensures ∙ asks_stopped c.args.turn c.loop-left.left c.loop-left.asked x y z c.in-Stopped.field-0 c.loop-left-test.true (sym c.if-is_some.ensures) c.in-Stopped.is (c.serve.ensures.answer, c.serve.ensures.serves) u);
-      turn = e.taken; pages = e.pages; console = e.console; log = e.log; table = e.table; shows = e.shows;
+      turn = e.taken;
+      pages = e.pages;
+      console = e.console;
+      log = e.log;
+      table = e.table;
+      shows = e.shows;
     }
 
 pub loop-left-preserved : goal.loop-left-preserved
@@ -84,5 +99,10 @@ returns c =
     let e = ends_over c.args.turn c.loop-left.left x y (omega arith) c.requires.began u.under in
     record {
       asks = asks_whole c.args.turn x c.loop-left.asked c.requires.began (asks_over c.args.turn c.loop-left.left c.loop-left.asked x y none u);
-      turn = e.taken; pages = e.pages; console = e.console; log = e.log; table = e.table; shows = e.shows;
+      turn = e.taken;
+      pages = e.pages;
+      console = e.console;
+      log = e.log;
+      table = e.table;
+      shows = e.shows;
     }
