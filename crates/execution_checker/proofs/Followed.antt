@@ -29,5 +29,5 @@ followed_on image m ss place p q r l f like taken =
 
 pub judged : (v : Verdict) (image : Memory) (opening : ℕ → ℕ) (ss : List ScriptedStep) (g : List ℕ) (p q : Standing) → Follows image ss p q → IsJudged v opening q g → IsVerdict v image opening ss g p q
 judged Allowed image opening ss g p q f j = (f, j)
-judged Refused image opening ss g p q f j = (f, j)
+judged (Refused r) image opening ss g p q f j = (f, j.0, j.1)
 judged (Broken place fault) image opening ss g p q f j = absurd j

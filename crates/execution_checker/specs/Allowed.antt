@@ -7,6 +7,7 @@ use Rattle.execution.specs.declared.step.ScriptedStep.{ScriptedStep}
 use Rattle.execution.specs.declared.step_fault.StepFault.{StepFault}
 use Rattle.execution.specs.Executions.{Standing, Takes}
 use Rattle.execution.specs.Progressing.{HasNoStep}
+use Rattle.refusal_reasons.specs.Reasons.{IsTrueOf}
 use Rattle.execution_checker.specs.declared.verdict.Verdict.{Verdict}
 use Rattle.execution_checker.specs.declared.verdict.Verdict.TheVariants.{Allowed, Broken, Refused}
 
@@ -26,14 +27,14 @@ pub record BreaksAt (image : Memory) (ss : List ScriptedStep) (place : ℕ) (fau
   pub up_to : Follows image (take place ss) p q
   pub here : (s : ScriptedStep) → s ≡ slice_index_or ss place s → HasNoStep fault s.hart s.round q
 
--- the verdict on what was done, in an order
+-- the verdict on what was done, in an order: where it is refused, the reason is so
 abbrev pub IsJudged : Verdict → (ℕ → ℕ) → Standing → List ℕ → Type 0
 IsJudged Allowed opening q g = Allows opening q g
-IsJudged Refused opening q g = Allows opening q g → ⊥
+IsJudged (Refused r) opening q g = (Allows opening q g → ⊥) × IsTrueOf r q.instructions q.events opening g
 IsJudged (Broken place fault) opening q g = ⊥
 
 -- the verdict on a script and an order, where the script leads from p to q
 abbrev pub IsVerdict : Verdict → Memory → (ℕ → ℕ) → List ScriptedStep → List ℕ → Standing → Standing → Type 0
 IsVerdict Allowed image opening ss g p q = Follows image ss p q × Allows opening q g
-IsVerdict Refused image opening ss g p q = Follows image ss p q × (Allows opening q g → ⊥)
+IsVerdict (Refused r) image opening ss g p q = Follows image ss p q × (Allows opening q g → ⊥) × IsTrueOf r q.instructions q.events opening g
 IsVerdict (Broken place fault) image opening ss g p q = BreaksAt image ss place fault p q

@@ -6,15 +6,19 @@ use crate::verdict::Verdict;
 use execution::{Execution, ScriptedStep, StepFault};
 use memory_order::Order;
 use pages::OutOfMemory;
+use refusal_reasons::find_refusal;
 use rule_checker::check_instructions;
 use std::alloc::Global;
 use trace::Trace;
 
 /// Follows a script from an execution's start, and says whether RVWMO allows what this leads to, in an order of its memory
-/// operations, with all rules of the manual (section 14.1).
+/// operations, with all rules of the manual (section 14.1), or else why not.
 ///
 /// The order has the places of the operations in the list of steps, counted from 0. Whatever the script says, the harts'
 /// instructions are those of the image, as the instruction set has them. `opening` has the bytes that memory opened with.
+///
+/// The answer is found in a time nearly in line with the steps. The reason of a refusal is then looked for, by a plain search whose
+/// steps are at least as many as their square.
 ///
 /// # Errors
 ///
@@ -52,9 +56,11 @@ fn judge(
     let instructions = execution.instructions();
     let events = execution.events();
     if check_instructions(alloc, opening, instructions, events, order)? {
-        Ok(Verdict::Allowed)
-    } else {
-        Ok(Verdict::Refused)
+        return Ok(Verdict::Allowed);
+    }
+    match find_refusal(alloc, opening, instructions, events, order)? {
+        Some(refusal) => Ok(Verdict::Refused(refusal)),
+        None => unreachable!(),
     }
 }
 

@@ -8,4 +8,5 @@ mod verdict;
 pub use check::{check_execution, follow};
 pub use execution::{Execution, ScriptedStep, StepFault};
 pub use laws::orders_of_runs_are_allowed;
-pub use verdict::Verdict;
+pub use refusal_reasons::{OrderRule, Refusal, RefusalLine};
+pub use verdict::{Reason, Verdict};
