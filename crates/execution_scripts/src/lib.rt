@@ -1,0 +1,18 @@
+//! Executions of files, and runs as executions: from a file to the script of the checker, and from a run to a file.
+#![tactic(auto)]
+
+mod checking;
+mod fault;
+mod following;
+mod opening;
+mod ordering;
+mod paces;
+mod running;
+
+pub use checking::{Checked, Finding, check_file};
+pub use execution_checker::Verdict;
+pub use execution_file::{
+    Cause, ExecutionFile, HartPart, ReadError, Refusal, Turn, read_execution, write_execution,
+};
+pub use fault::{Fault, Misfit};
+pub use running::execution_of_run;

@@ -1,0 +1,236 @@
+ghost use Rattle.std.specs.Prelude.{◌≤◌};
+
+use crate::fault::Halt;
+use crate::following::{Follower, Taken, number_read};
+use crate::opening::open_execution;
+use crate::ordering::turns_of;
+use crate::paces::Paces;
+use elf_loader::Image;
+use execution_file::{ExecutionFile, HartPart, Turn};
+use hart_step::Hart;
+use host_io::RunError;
+use machine::{Format, Machine, Observer, Settings, load, prepare};
+use memory_order::memory_order;
+use pages::{MOST_PAGES, OutOfMemory};
+use round_schedule::Event;
+use std::alloc::Global;
+use std::sync::Wait;
+use std::thread::Threads;
+
+/// Runs a guest program for a number of rounds, and gives the run as an execution, in the order by rounds.
+///
+/// # Errors
+///
+/// The refusals of the settings, then of the image, then of the plan; `OutOfMemory`.
+pub fn execution_of_run<O: Observer, R: Threads + Wait + Sync>(
+    rt: &R,
+    alloc: Global,
+    image: &[u8],
+    input: &[u8],
+    settings: &Settings<'_>,
+    observer: &mut O,
+) -> Result<ExecutionFile, RunError> {
+    let mut machine = prepare(alloc, image, input, settings)?;
+    let ran = run_of(rt, alloc, &mut machine, settings, observer);
+    drop(machine);
+    file_of(alloc, image, input, settings, ran?)
+}
+
+/// What is kept of a run.
+#[derive(Drop)]
+struct Ran {
+    /// The numbers of its rounds.
+    rounds: Vec<u32>,
+    /// For each of them, how many instructions each hart had done.
+    done: Vec<u64>,
+    /// What the harts did.
+    parts: Vec<HartPart>,
+    /// Its order by rounds.
+    order: Vec<Turn>,
+}
+
+/// Runs a machine. Answers what is kept of the run.
+fn run_of<O: Observer, R: Threads + Wait + Sync>(
+    rt: &R,
+    alloc: Global,
+    machine: &mut Machine,
+    settings: &Settings<'_>,
+    observer: &mut O,
+) -> Result<Ran, RunError> {
+    let (rounds, done) = paces_of(rt, alloc, machine, settings, observer)?;
+    let (parts, order) = deeds_of(alloc, machine)?;
+    Ok(Ran {
+        rounds,
+        done,
+        parts,
+        order,
+    })
+}
+
+/// Runs a machine. Answers the numbers of the rounds, and for each how many instructions each hart had done.
+fn paces_of<O: Observer, R: Threads + Wait + Sync>(
+    rt: &R,
+    alloc: Global,
+    machine: &mut Machine,
+    settings: &Settings<'_>,
+    observer: &mut O,
+) -> Result<(Vec<u32>, Vec<u64>), RunError> {
+    let mut paces = Paces::new(alloc, observer);
+    let ended = machine.run_observed(rt, settings.rounds, settings.workers, &mut paces);
+    let Paces {
+        observer: _,
+        rounds,
+        done,
+        is_short,
+    } = paces;
+    ended?;
+    if is_short {
+        return Err(RunError::OutOfMemory);
+    }
+    Ok((rounds, done))
+}
+
+/// What the harts of a machine did, and the order by rounds of what they did.
+fn deeds_of(alloc: Global, machine: &Machine) -> Result<(Vec<HartPart>, Vec<Turn>), OutOfMemory> {
+    let events = machine.trace().to_vec(alloc)?;
+    let order = memory_order(alloc, machine.trace())?;
+    let order = turns_of(alloc, &events, machine.harts().len(), &order)?;
+    let parts = parts_of(alloc, machine.harts(), &events)?;
+    Ok((parts, order))
+}
+
+/// A run as an execution.
+fn file_of(
+    alloc: Global,
+    image: &[u8],
+    input: &[u8],
+    settings: &Settings<'_>,
+    ran: Ran,
+) -> Result<ExecutionFile, RunError> {
+    let calls = calls_in(alloc, image, input, settings, &ran)?;
+    let image = copied(alloc, image)?;
+    let input = copied(alloc, input)?;
+    Ok(ExecutionFile {
+        flat: settings.format == Format::Flat,
+        pages: settings.pages,
+        image,
+        input,
+        harts: ran.parts,
+        calls,
+        order: ran.order,
+    })
+}
+
+/// The calls of a run in their order.
+fn calls_in(
+    alloc: Global,
+    image: &[u8],
+    input: &[u8],
+    settings: &Settings<'_>,
+    ran: &Ran,
+) -> Result<Vec<Turn>, RunError> {
+    // `prepare` has refused other numbers.
+    if settings.pages < 1 || settings.pages > MOST_PAGES {
+        return Err(RunError::PagesOutOfRange);
+    }
+    let loaded = load(alloc, settings.format, image, settings.pages)?;
+    Ok(calls_of(alloc, &loaded, input, &ran.parts, &ran.rounds, &ran.done)?)
+}
+
+/// The same bytes.
+fn copied(alloc: Global, bytes: &[u8]) -> Result<Vec<u8>, OutOfMemory> {
+    Ok(Vec::from_slice(alloc, bytes)?)
+}
+
+/// What the harts did.
+fn parts_of(alloc: Global, harts: &[Hart], events: &[Event]) -> Result<Vec<HartPart>, OutOfMemory> {
+    let mut parts = Vec::new(alloc);
+    for hart in harts {
+        let (code, value) = match hart.stop {
+            Some(stop) if stop.code == 1 => (1, Some(stop.value)),
+            Some(stop) => (stop.code, None),
+            None => (0, None),
+        };
+        parts.push(HartPart {
+            steps: hart.done,
+            code,
+            value,
+            reads: Vec::new(alloc),
+        })?;
+    }
+    for event in events {
+        if let (Some(number), Some(part)) = (
+            number_read(&event.access),
+            parts.get_mut(usize::from(event.hart)),
+        ) {
+            part.reads.push(number)?;
+        }
+    }
+    Ok(parts)
+}
+
+/// The calls of a run in their order; none where one hart alone makes them and none asks for the round, as they have no other
+/// order then.
+fn calls_of(
+    alloc: Global,
+    image: &Image,
+    input: &[u8],
+    parts: &[HartPart],
+    rounds: &[u32],
+    done: &[u64],
+) -> Result<Vec<Turn>, OutOfMemory> {
+    let mut calls = Vec::new(alloc);
+    if parts.len() > 64 {
+        return Ok(calls);
+    }
+    let execution = open_execution(alloc, image, input, parts.len() as u32)?;
+    let mut follower = Follower::new(alloc, execution, parts)?;
+    let mut told = done.iter();
+    for round in rounds {
+        let mut hart = 0u8;
+        for _ in parts {
+            let count = told.next().copied().unwrap_or(0);
+            add_calls(&mut calls, &mut follower, hart, *round, count)?;
+            hart = hart.wrapping_add(1);
+        }
+    }
+    if is_plain(&calls) {
+        calls.clear();
+    }
+    Ok(calls)
+}
+
+/// Adds the calls that a hart makes in a round, after which it has done so many instructions.
+fn add_calls(
+    calls: &mut Vec<Turn>,
+    follower: &mut Follower<'_>,
+    hart: u8,
+    round: u32,
+    count: u64,
+) -> Result<(), OutOfMemory> {
+    for _ in follower.done(hart)..count {
+        follower.set_round(round);
+        match follower.step(hart) {
+            Ok(Taken::Called { round: true }) => calls.push(Turn {
+                hart,
+                number: Some(u64::from(round)),
+            })?,
+            Ok(Taken::Called { round: false }) => calls.push(Turn { hart, number: None })?,
+            Ok(_) => {}
+            Err(Halt::OutOfMemory) => return Err(OutOfMemory),
+            // A run is an execution, so that its harts have these steps.
+            Err(Halt::Fault(_)) => return Ok(()),
+        }
+    }
+    Ok(())
+}
+
+/// Whether one hart makes all calls, and none asks for the round.
+fn is_plain(calls: &[Turn]) -> bool {
+    match calls.first() {
+        Some(first) => calls
+            .iter()
+            .all(|turn| turn.hart == first.hart && turn.number.is_none()),
+        None => true,
+    }
+}
