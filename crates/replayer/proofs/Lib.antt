@@ -16,4 +16,5 @@ pub mod RoundCount
 pub mod Begun
 pub mod PlaceSought
 pub mod HitsAdded
+pub mod Located
 pub mod Refused

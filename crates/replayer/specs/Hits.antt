@@ -1,10 +1,10 @@
 -- The events of a trace that have a byte in one of some ranges.
-use Rattle.std.specs.Prelude.{ℕ, ◌&&◌, Bool, nat_le, List, filter, Option, Some, None}
+use Rattle.std.specs.Prelude.{ℕ, ◌&&◌, ◌||◌, ◌==◌, Bool, true, not, nat_le, List, filter, Option, Some, None}
 use Rattle.std.specs.List.{list_any}
 use Rattle.pages.specs.declared.access.Range.{Range}
 use Rattle.pages.specs.Memory.{in_range}
 use Rattle.round_schedule.specs.declared.event.Event.{Event}
-use Rattle.round_schedule.specs.Accesses.{address_of, bytes_of}
+use Rattle.round_schedule.specs.Accesses.{address_of, bytes_of, stores}
 use Rattle.round_schedule.specs.Held.{any_byte}
 use Rattle.replayer.specs.declared.rounds.Rounds.{Rounds}
 
@@ -19,6 +19,15 @@ is_hit ranges e = any_byte (is_watched ranges) (address_of e.access) (bytes_of e
 -- they are in the order of the trace
 abbrev pub hits : List Range → List Event → List Event
 hits ranges t = filter (is_hit ranges) t
+
+-- whether the event is of that hart, where one is told
+abbrev pub is_of_hart : Option ℕ → Event → Bool
+is_of_hart None e = true
+is_of_hart (Some h) e = e.hart == h
+
+-- and, where only those are sought, whether it wrote
+abbrev pub is_chosen : Option ℕ → Bool → Event → Bool
+is_chosen hart only_stores e = is_of_hart hart e && (not only_stores || stores e.access)
 
 -- whether the event is of a round from `from` to `to`, both counted
 abbrev pub is_within : ℕ → ℕ → Event → Bool

@@ -1,5 +1,8 @@
 -- What a hart was within a round of a run, how many instructions it did in it, and in which round it did one of its instructions.
-use Rattle.std.specs.Prelude.{◌≡◌, ℕ, zero, suc, ◌+◌, ◌<◌, ◌≤◌, nat_lt, if◌then◌else◌, length, slice_get, slice_index, Option, Some, None}
+use Rattle.std.specs.Prelude.{◌≡◌, ℕ, zero, suc, ◌+◌, ◌-◌, ◌<◌, ◌≤◌, nat_lt, if◌then◌else◌, length, slice_get, slice_index, Option, Some, None, option_map}
+use Rattle.std.specs.Option.{option_map_or}
+use Rattle.round_schedule.specs.declared.event.Event.{Event}
+use Rattle.round_schedule.specs.Accesses.{place_of}
 use Rattle.round_schedule.specs.Past.{hart_after}
 use Rattle.round_planner.specs.Quotas.{quotas_of}
 use Rattle.hart_step.specs.Words.{words_of}
@@ -38,6 +41,20 @@ IsStateBefore rounds m hart place None = (round count : ℕ) (h : Hart) → IsBe
 abbrev pub IsRoundOf : ℕ → Running → ℕ → ℕ → Option (ℕ × ℕ) → Type 0
 IsRoundOf rounds m hart place (Some x) = (h : Hart) × IsBefore rounds m hart place x.0 x.1 h
 IsRoundOf rounds m hart place None = (round count : ℕ) (h : Hart) → IsBefore rounds m hart place round count h → ⊥
+
+-- ---- by an event
+
+-- how many instructions a hart had done before a round
+abbrev pub done_before : Running → ℕ → ℕ → ℕ
+done_before m round hart = option_map_or (λ (h : Hart). h.done) (slice_get (after_rounds (round - 1) m).state.harts hart) 0
+
+-- the hart of an event before the event's instruction: its place says how many the hart had done
+abbrev pub hart_before : ℕ → Running → Event → Option Hart
+hart_before rounds m e = hart_at rounds m e.round e.hart (place_of e.access - done_before m e.round e.hart)
+
+-- the pc of that instruction
+abbrev pub pc_before : ℕ → Running → Event → Option ℕ
+pc_before rounds m e = option_map (λ (h : Hart). h.pc) (hart_before rounds m e)
 
 -- a run that begins with no instruction done has this hart, and its plan is in range
 pub record Begins (m : Running) (hart : ℕ) : Type 0 where

@@ -2,8 +2,10 @@
 #![tactic(auto)]
 
 mod checkpoints;
+mod choosing;
 mod counting;
 mod keeping;
+mod locating;
 mod opened;
 mod past;
 mod placing;
@@ -14,7 +16,9 @@ mod verdict;
 mod watching;
 
 pub use checkpoints::Replay;
+pub use choosing::choose;
 pub use counting::count_at;
+pub use locating::pcs_before;
 pub use past::state_at;
 pub use placing::state_before;
 pub use recorder::{record, record_observed, record_with};
