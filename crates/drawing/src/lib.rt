@@ -1,7 +1,9 @@
-//! Runs a guest program, and draws a picture of its run.
+//! Runs a guest program, and draws a picture of its run, or writes its trace for viewers of traces.
 #![tactic(auto)]
 
 mod drawing;
+mod tracing;
 
 pub use drawing::draw_run;
 pub use picture::View;
+pub use tracing::trace_run;
