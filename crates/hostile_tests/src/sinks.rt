@@ -9,7 +9,7 @@ use hunt_table::{Header, SeenRange, write_table};
 use machine::Trace;
 use pages::Width;
 use picture::{View, write_picture};
-use plan_hunt::{Ending, Row};
+use plan_hunt::{Ending, HartEnding, Row};
 use recording::{read_recording, write_recording};
 use report::{write_event, write_hart, write_order};
 use round_schedule::{Access, Event, Phase};
@@ -203,7 +203,7 @@ const TABLE: &str = "plans 0 5 seed 1\n\
     hart 0 exit 0000000000000000\n\
     see 00000100 2 0100\n\
     output 3 \"hi\\n\"\n\
-    ending 2 plans 2 first 1\n\
+    ending 2 bad plans 2 first 1\n\
     hart 0 stop 3\n\
     see 00000100 2 ff7f\n\
     output 0 \"\"\n\
@@ -212,7 +212,7 @@ const TABLE: &str = "plans 0 5 seed 1\n\
 /// An ending of one hart.
 fn ending(alloc: Global, stop: Stop, output: &[u8], seen: &[u8]) -> Result<Ending, AllocError> {
     let mut stops = Vec::new(alloc);
-    stops.push(Some(stop))?;
+    stops.push(HartEnding::Stopped(stop))?;
     Ok(Ending::new(stops, output.to_vec(alloc)?, seen.to_vec(alloc)?))
 }
 

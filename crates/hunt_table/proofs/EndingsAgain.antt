@@ -1,18 +1,18 @@
 -- An ending is read from what is written.
-use Rattle.std.proofs.Common.{◌≡◌, ℕ, suc, ◌+◌, ◌^◌, ◌<◌, ◌≤◌, true, false, List, [], ◌∷◌, ◌++◌, All, length, map, sum_by, take, drop, Option, inr, refl, sym, ◌∙◌, ap, append_assoc, arith}
+use Rattle.std.proofs.Common.{◌≡◌, ℕ, suc, ◌+◌, ◌^◌, ◌<◌, ◌≤◌, ◌&&◌, Bool, true, false, List, [], ◌∷◌, ◌++◌, All, length, map, sum_by, take, drop, inr, refl, sym, ◌∙◌, ap, append_assoc, arith}
 use Rattle.std.specs.Prelude.{codes}
 use Rattle.std.specs.Fmt.{decimal}
 use Rattle.std.proofs.lemmas.List.{length-drop, length-map, length-take-le, take-append-drop}
 use Rattle.std.proofs.lemmas.List.Elements.{All-drop, All-head, All-take}
 use Rattle.std.proofs.lemmas.List.Sums.{sum_by-cons}
-use Rattle.hart_step.specs.declared.hart.Stop.{Stop}
-use Rattle.hunt_table.specs.Text.{ending_line, ending_text, endings_text, output_line, quoted, seen_line, seen_lines, stop_line, stop_lines}
+use Rattle.plan_hunt.specs.declared.hart_ending.HartEnding.{HartEnding}
+use Rattle.hunt_table.specs.Text.{ending_line, ending_text, endings_text, is_bad, mark, output_line, quoted, seen_line, seen_lines, stop_line, stop_lines}
 use Rattle.hunt_table.specs.declared.header.SeenRange.{SeenRange}
 use Rattle.plan_hunt.specs.Adding.{row}
 use Rattle.plan_hunt.specs.Endings.{ended}
 use Rattle.plan_hunt.specs.declared.row.Row.{Row}
 use Rattle.report_lines.specs.Text.{bytes_text, hex}
-use Rattle.hunt_table.specs.Reading.{bytes_of, ending_at, ending_lines_at, endings_at, is_ending_line, is_seen_line, is_stop_line, output_line_at, ranges_of, seen_at, seen_line_at, stop_line_at, stops_at, word_at}
+use Rattle.hunt_table.specs.Reading.{after_mark, bytes_of, ending_at, ending_lines_at, endings_at, is_ending_line, is_seen_line, is_stop_line, number_at, output_line_at, ranges_of, seen_at, seen_line_at, stop_line_at, stops_at, word_at}
 use Rattle.hunt_table.specs.Told.{IsToldRange, IsToldRow, IsToldStop}
 use Rattle.hunt_table.proofs.Lines.{five, seen_line_again, seven, stop_line_again}
 use Rattle.hunt_table.proofs.Numbers.{number_again, word_again}
@@ -24,18 +24,18 @@ tail_all P x xs h = λ k d l. h (suc k) d (omega (arith, l))
 
 -- ---- harts
 
-abbrev IsStop : ℕ → Option Stop → Type 0
+abbrev IsStop : ℕ → HartEnding → Type 0
 IsStop i s = (i < 2 ^ 64) × IsToldStop s
 
-stop_texts : (i : ℕ) (ss : List (Option Stop)) → stop_lines i ss ≡ texts stop_line i ss
+stop_texts : (i : ℕ) (ss : List HartEnding) → stop_lines i ss ≡ texts stop_line i ss
 stop_texts i [] = refl
 stop_texts i (s ∷ ss) = ap (λ (t : List ℕ). stop_line i s ++ t) (stop_texts (i + 1) ss)
 
-all_stops : (i : ℕ) (ss : List (Option Stop)) → i + length ss ≤ 2 ^ 64 → All IsToldStop ss → AllFrom IsStop i ss
+all_stops : (i : ℕ) (ss : List HartEnding) → i + length ss ≤ 2 ^ 64 → All IsToldStop ss → AllFrom IsStop i ss
 all_stops i [] few h = tt
 all_stops i (s ∷ ss) few h = ((omega (arith, few), All-head IsToldStop s ss h), all_stops (i + 1) ss (omega (arith, few)) (tail_all IsToldStop s ss h))
 
-stops_again : (ss : List (Option Stop)) (rest : List ℕ) → length ss < 2 ^ 64 → All IsToldStop ss → is_stop_line rest ≡ false → stops_at (stop_lines 0 ss ++ rest) ≡ (ss, rest)
+stops_again : (ss : List HartEnding) (rest : List ℕ) → length ss < 2 ^ 64 → All IsToldStop ss → is_stop_line rest ≡ false → stops_at (stop_lines 0 ss ++ rest) ≡ (ss, rest)
 stops_again ss rest few h end =
     ap (λ (t : List ℕ). stops_at (t ++ rest)) (stop_texts 0 ss)
     ∙ lines_again is_stop_line stop_line_at stop_line IsStop (λ i s r k. stop_line_again i s r k.0 k.1) refl 0 ss rest end (all_stops 0 ss (omega (arith, few)) h)
@@ -125,7 +125,7 @@ lines_of_ending ranges r rest t h =
     let stops = stops_again r.ending.stops (seen_lines ranges r.ending.seen ++ tail) h.stops_length h.stops (no_stop_line ranges r.ending.seen r.ending.output rest) in
     let seen = seen_again ranges r.ending.seen tail h.seen_length t h.seen (output_is_no_seen_line r.ending.output rest) in
     let output = output_line_again r.ending.output rest h.output_length h.output in
-    ap (λ (p : List (Option Stop) × List ℕ). ((row (ended p.0 (output_line_at (seen_at p.1).1).0 (bytes_of (seen_at p.1).0)) r.first r.plans, ranges_of (seen_at p.1).0), (output_line_at (seen_at p.1).1).1)) stops
+    ap (λ (p : List HartEnding × List ℕ). ((row (ended p.0 (output_line_at (seen_at p.1).1).0 (bytes_of (seen_at p.1).0)) r.first r.plans, ranges_of (seen_at p.1).0), (output_line_at (seen_at p.1).1).1)) stops
     ∙ ap (λ (q : List (SeenRange × List ℕ) × List ℕ). ((row (ended r.ending.stops (output_line_at q.1).0 (bytes_of q.0)) r.first r.plans, ranges_of q.0), (output_line_at q.1).1)) seen
     ∙ ap (λ (o : List ℕ × List ℕ). ((row (ended r.ending.stops o.0 (bytes_of lines)) r.first r.plans, ranges_of lines), o.1)) output
     ∙ ap (λ (v : List ℕ). ((row (ended r.ending.stops r.ending.output v) r.first r.plans, ranges_of lines), rest)) (bytes-cut ranges r.ending.seen h.seen_length)
@@ -134,20 +134,29 @@ lines_of_ending ranges r rest t h =
 four : (a b c d r : List ℕ) → (a ++ b ++ c ++ d) ++ r ≡ a ++ (b ++ (c ++ (d ++ r)))
 four a b c d r = simp append_assoc
 
-ending_again : (ranges : List SeenRange) (k : ℕ) (r : Row) (rest : List ℕ) → k < 2 ^ 64 → All IsToldRange ranges → IsToldRow ranges r →
-    (is_ending_line (ending_text ranges k r ++ rest) ≡ true) × (ending_at (ending_text ranges k r ++ rest) ≡ ((r, ranges), rest))
+eight : (a b c d e f g h r : List ℕ) → ((a ++ b ++ c) ++ d ++ e ++ f ++ g ++ h) ++ r ≡ a ++ (b ++ (c ++ (d ++ (e ++ (f ++ (g ++ (h ++ r)))))))
+eight a b c d e f g h r = simp append_assoc
+
+-- marked or not, the plans follow
+mark_again : (k : ℕ) (bad : Bool) (tail : List ℕ) → k < 2 ^ 64 → after_mark (number_at (decimal k ++ (mark bad ++ (codes " plans " ++ tail)))).1 ≡ codes " plans " ++ tail
+mark_again k true tail small = ap (λ (p : ℕ × List ℕ). after_mark p.1) (number_again k 32 (drop 1 (codes " bad") ++ (codes " plans " ++ tail)) small refl)
+mark_again k false tail small = ap (λ (p : ℕ × List ℕ). after_mark p.1) (number_again k 32 (drop 1 (codes " plans ") ++ tail) small refl)
+
+ending_again : (marked : Bool) (ranges : List SeenRange) (k : ℕ) (r : Row) (rest : List ℕ) → k < 2 ^ 64 → All IsToldRange ranges → IsToldRow ranges r →
+    (is_ending_line (ending_text marked ranges k r ++ rest) ≡ true) × (ending_at (ending_text marked ranges k r ++ rest) ≡ ((r, ranges), rest))
 unfolding ending_text ending_line ending_at
-ending_again ranges k r rest small t h =
+ending_again marked ranges k r rest small t h =
+    let bad : Bool = marked && is_bad r in
     let after : List ℕ = stop_lines 0 r.ending.stops ++ (seen_lines ranges r.ending.seen ++ (output_line r.ending.output ++ rest)) in
     let parts =
-    four (ending_line k r) (stop_lines 0 r.ending.stops) (seen_lines ranges r.ending.seen) (output_line r.ending.output) rest
-    ∙ seven (codes "ending ") (decimal k) (codes " plans ") (decimal r.plans) (codes " first ") (decimal r.first) (codes "\n") after in
+    four (ending_line marked k r) (stop_lines 0 r.ending.stops) (seen_lines ranges r.ending.seen) (output_line r.ending.output) rest
+    ∙ eight (codes "ending ") (decimal k) (mark bad) (codes " plans ") (decimal r.plans) (codes " first ") (decimal r.first) (codes "\n") after in
     let first : List ℕ = decimal r.first ++ 10 ∷ after in
     let plans : List ℕ = decimal r.plans ++ (codes " first " ++ first) in (
       ap is_ending_line parts,
       ap ending_at parts
-          ∙ ap (λ (p : ℕ × List ℕ). ending_lines_at (word_at (drop 7 p.1)).0 (word_at (drop 7 (word_at (drop 7 p.1)).1)).0 (drop 1 (word_at (drop 7 (word_at (drop 7 p.1)).1)).1))
-          (number_again k 32 (drop 1 (codes " plans ") ++ plans) small refl)
+          ∙ ap (λ (v : List ℕ). ending_lines_at (word_at (drop 7 v)).0 (word_at (drop 7 (word_at (drop 7 v)).1)).0 (drop 1 (word_at (drop 7 (word_at (drop 7 v)).1)).1))
+          (mark_again k bad plans small)
           ∙ ap (λ (p : ℕ × List ℕ). ending_lines_at p.0 (word_at (drop 7 p.1)).0 (drop 1 (word_at (drop 7 p.1)).1)) (word_again r.plans 32 (drop 1 (codes " first ") ++ first) h.plans refl)
           ∙ ap (λ (p : ℕ × List ℕ). ending_lines_at r.plans p.0 (drop 1 p.1)) (word_again r.first 10 after h.first refl)
           ∙ lines_of_ending ranges r rest t h,
@@ -158,25 +167,25 @@ ending_again ranges k r rest small t h =
 abbrev pub with_ranges : List SeenRange → List Row → List (Row × List SeenRange)
 with_ranges ranges rows = map (λ (r : Row). (r, ranges)) rows
 
-abbrev one_ending : ℕ → Row × List SeenRange → List ℕ
-one_ending k e = ending_text e.1 k e.0
+abbrev one_ending : Bool → ℕ → Row × List SeenRange → List ℕ
+one_ending marked k e = ending_text marked e.1 k e.0
 
 abbrev IsEnding : ℕ → Row × List SeenRange → Type 0
 IsEnding k e = (k < 2 ^ 64) × All IsToldRange e.1 × IsToldRow e.1 e.0
 
-ending_texts : (ranges : List SeenRange) (k : ℕ) (rows : List Row) → endings_text ranges k rows ≡ texts one_ending k (with_ranges ranges rows)
-ending_texts ranges k [] = refl
-ending_texts ranges k (r ∷ rs) = ap (λ (t : List ℕ). ending_text ranges k r ++ t) (ending_texts ranges (k + 1) rs)
+ending_texts : (marked : Bool) (ranges : List SeenRange) (k : ℕ) (rows : List Row) → endings_text marked ranges k rows ≡ texts (one_ending marked) k (with_ranges ranges rows)
+ending_texts marked ranges k [] = refl
+ending_texts marked ranges k (r ∷ rs) = ap (λ (t : List ℕ). ending_text marked ranges k r ++ t) (ending_texts marked ranges (k + 1) rs)
 
 all_endings : (ranges : List SeenRange) (k : ℕ) (rows : List Row) → k + length rows ≤ 2 ^ 64 → All IsToldRange ranges → All (IsToldRow ranges) rows → AllFrom IsEnding k (with_ranges ranges rows)
 all_endings ranges k [] few t h = tt
 all_endings ranges k (r ∷ rs) few t h =
     ((omega (arith, few), t, All-head (IsToldRow ranges) r rs h), all_endings ranges (k + 1) rs (omega (arith, few)) t (tail_all (IsToldRow ranges) r rs h))
 
-pub endings_again : (ranges : List SeenRange) (rows : List Row) (rest : List ℕ) → length rows < 2 ^ 64 → All IsToldRange ranges → All (IsToldRow ranges) rows →
-    endings_at (length rows) (endings_text ranges 1 rows ++ rest) ≡ (with_ranges ranges rows, rest)
-endings_again ranges rows rest few t h =
+pub endings_again : (marked : Bool) (ranges : List SeenRange) (rows : List Row) (rest : List ℕ) → length rows < 2 ^ 64 → All IsToldRange ranges → All (IsToldRow ranges) rows →
+    endings_at (length rows) (endings_text marked ranges 1 rows ++ rest) ≡ (with_ranges ranges rows, rest)
+endings_again marked ranges rows rest few t h =
     let same : length (with_ranges ranges rows) ≡ length rows = length-map rows (λ (r : Row). (r, ranges)) in
-    ap (λ (v : List ℕ). endings_at (length rows) (v ++ rest)) (ending_texts ranges 1 rows)
-    ∙ many_again is_ending_line ending_at one_ending IsEnding (λ k e r p. ending_again e.1 k e.0 r p.0 p.1 p.2) (length rows) 1 (with_ranges ranges rows) rest
+    ap (λ (v : List ℕ). endings_at (length rows) (v ++ rest)) (ending_texts marked ranges 1 rows)
+    ∙ many_again is_ending_line ending_at (one_ending marked) IsEnding (λ k e r p. ending_again marked e.1 k e.0 r p.0 p.1 p.2) (length rows) 1 (with_ranges ranges rows) rest
     (omega (arith, same)) (inr (sym same)) (all_endings ranges 1 rows (omega (arith, few)) t h)

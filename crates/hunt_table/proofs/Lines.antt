@@ -1,32 +1,34 @@
 -- The lines of harts and of ranges are read from what is written.
-use Rattle.std.proofs.Common.{◌≡◌, ◌≢◌, ℕ, ◌*◌, ◌/◌, ◌-◌, ◌^◌, ◌<◌, ◌==◌, Bool, true, false, min, if◌then◌else◌, List, ◌∷◌, ◌++◌, All, length, drop, Option, Some, None, refl, sym, ◌∙◌, ap, append_assoc, arith}
+use Rattle.std.proofs.Common.{◌≡◌, ◌≢◌, ℕ, ◌*◌, ◌/◌, ◌-◌, ◌^◌, ◌<◌, ◌==◌, Bool, true, false, min, if◌then◌else◌, List, ◌∷◌, ◌++◌, All, length, drop, refl, sym, ◌∙◌, ap, append_assoc, arith}
 use Rattle.std.specs.Prelude.{codes}
 use Rattle.std.specs.Fmt.{decimal}
 use Rattle.std.proofs.lemmas.Bool.Decides.{nat_tests}
 use Rattle.std.proofs.lemmas.List.{drop-drop, length-append}
 use Rattle.hart_step.specs.declared.hart.Stop.{Stop}
-use Rattle.hunt_table.specs.Text.{seen_line, stop_line}
+use Rattle.plan_hunt.specs.declared.hart_ending.HartEnding.{HartEnding}
+use Rattle.plan_hunt.specs.declared.hart_ending.HartEnding.TheVariants.{Loops, Runs, Stopped}
+use Rattle.hunt_table.specs.Text.{hart_words, seen_line, stop_line}
 use Rattle.hunt_table.specs.declared.header.SeenRange.{SeenRange}
-use Rattle.report_lines.specs.Text.{bytes_text, hex, stop_text}
+use Rattle.report_lines.specs.Text.{bytes_text, hex}
 use Rattle.hunt_table.specs.Reading.{bytes_at, is_seen_line, is_stop_line, seen_bytes, seen_line_at, stop_at, stop_line_at, word_at}
 use Rattle.hunt_table.specs.Told.{IsToldRange, IsToldStop}
 use Rattle.hunt_table.proofs.Numbers.{after_bytes, bytes_again, hex_at_front, length-bytes_text, number_again, word_again}
 
 -- ---- harts
 
-exit_again : (v : ℕ) (rest : List ℕ) → v < 2 ^ 64 → stop_at ((codes "exit " ++ hex 16 v) ++ 10 ∷ rest) ≡ (Some (record { code = 1; value = v }), 10 ∷ rest)
+exit_again : (v : ℕ) (rest : List ℕ) → v < 2 ^ 64 → stop_at ((codes "exit " ++ hex 16 v) ++ 10 ∷ rest) ≡ (Stopped (record { code = 1; value = v }), 10 ∷ rest)
 exit_again v rest small =
     let front = hex_at_front 16 v (10 ∷ rest) (omega (arith, small)) small in
     ap stop_at (append_assoc (codes "exit ") (hex 16 v) (10 ∷ rest))
-    ∙ ap (λ (n : ℕ). (Some (record { code = 1; value = n }), drop 16 (hex 16 v ++ 10 ∷ rest))) front.0
-    ∙ ap (λ (t : List ℕ). (Some (record { code = 1; value = v }), t)) front.1
+    ∙ ap (λ (n : ℕ). (Stopped (record { code = 1; value = n }), drop 16 (hex 16 v ++ 10 ∷ rest))) front.0
+    ∙ ap (λ (t : List ℕ). (Stopped (record { code = 1; value = v }), t)) front.1
 
-code_again : (k : ℕ) (rest : List ℕ) → k < 2 ^ 8 → stop_at ((codes "stop " ++ decimal k) ++ 10 ∷ rest) ≡ (Some (record { code = k; value = 0 }), 10 ∷ rest)
+code_again : (k : ℕ) (rest : List ℕ) → k < 2 ^ 8 → stop_at ((codes "stop " ++ decimal k) ++ 10 ∷ rest) ≡ (Stopped (record { code = k; value = 0 }), 10 ∷ rest)
 code_again k rest small =
     let few : min k 255 ≡ k = omega (arith, small) in
     ap stop_at (append_assoc (codes "stop ") (decimal k) (10 ∷ rest))
-    ∙ ap (λ (p : ℕ × List ℕ). (Some (record { code = min p.0 255; value = 0 }), p.1)) (number_again k 10 rest (omega (arith, small)) refl)
-    ∙ ap (λ (n : ℕ). (Some (record { code = n; value = 0 }), 10 ∷ rest)) few
+    ∙ ap (λ (p : ℕ × List ℕ). (Stopped (record { code = min p.0 255; value = 0 }), p.1)) (number_again k 10 rest (omega (arith, small)) refl)
+    ∙ ap (λ (n : ℕ). (Stopped (record { code = n; value = 0 }), 10 ∷ rest)) few
 
 is_one : (n : ℕ) → (n == 1) ≡ true → n ≡ 1
 is_one n e = grind (arith, nat_tests)
@@ -34,28 +36,29 @@ is_one n e = grind (arith, nat_tests)
 not_one : (n : ℕ) → (n == 1) ≡ false → n ≢ 1
 not_one n e = grind (arith, nat_tests)
 
-stop_by : (s : Stop) (rest : List ℕ) (t : Bool) → (s.code == 1) ≡ t → IsToldStop (Some s) →
-    stop_at ((if t then codes "exit " ++ hex 16 s.value else codes "stop " ++ decimal s.code) ++ 10 ∷ rest) ≡ (Some s, 10 ∷ rest)
+stop_by : (s : Stop) (rest : List ℕ) (t : Bool) → (s.code == 1) ≡ t → IsToldStop (Stopped s) →
+    stop_at ((if t then codes "exit " ++ hex 16 s.value else codes "stop " ++ decimal s.code) ++ 10 ∷ rest) ≡ (Stopped s, 10 ∷ rest)
 stop_by s rest true e h =
-    exit_again s.value rest h.1 ∙ ap (λ (k : ℕ). (Some (record { code = k; value = s.value }), 10 ∷ rest)) (sym (is_one s.code e))
+    exit_again s.value rest h.1 ∙ ap (λ (k : ℕ). (Stopped (record { code = k; value = s.value }), 10 ∷ rest)) (sym (is_one s.code e))
 stop_by s rest false e h =
-    code_again s.code rest h.0 ∙ ap (λ (v : ℕ). (Some (record { code = s.code; value = v }), 10 ∷ rest)) (sym (h.2 (not_one s.code e)))
+    code_again s.code rest h.0 ∙ ap (λ (v : ℕ). (Stopped (record { code = s.code; value = v }), 10 ∷ rest)) (sym (h.2 (not_one s.code e)))
 
-stop_again : (s : Option Stop) (rest : List ℕ) → IsToldStop s → stop_at (stop_text s ++ 10 ∷ rest) ≡ (s, 10 ∷ rest)
-stop_again None rest h = refl
-stop_again (Some s) rest h = stop_by s rest (s.code == 1) refl h
+stop_again : (s : HartEnding) (rest : List ℕ) → IsToldStop s → stop_at (hart_words s ++ 10 ∷ rest) ≡ (s, 10 ∷ rest)
+stop_again Runs rest h = refl
+stop_again Loops rest h = refl
+stop_again (Stopped s) rest h = stop_by s rest (s.code == 1) refl h
 
 pub five : (a b c d e r : List ℕ) → (a ++ b ++ c ++ d ++ e) ++ r ≡ a ++ (b ++ (c ++ (d ++ (e ++ r))))
 five a b c d e r = simp append_assoc
 
-pub stop_line_again : (i : ℕ) (s : Option Stop) (rest : List ℕ) → i < 2 ^ 64 → IsToldStop s → (is_stop_line (stop_line i s ++ rest) ≡ true) × (stop_line_at (stop_line i s ++ rest) ≡ (s, rest))
+pub stop_line_again : (i : ℕ) (s : HartEnding) (rest : List ℕ) → i < 2 ^ 64 → IsToldStop s → (is_stop_line (stop_line i s ++ rest) ≡ true) × (stop_line_at (stop_line i s ++ rest) ≡ (s, rest))
 unfolding stop_line stop_line_at
 stop_line_again i s rest small h =
-    let parts = five (codes "hart ") (decimal i) (codes " ") (stop_text s) (codes "\n") rest in (
+    let parts = five (codes "hart ") (decimal i) (codes " ") (hart_words s) (codes "\n") rest in (
       ap is_stop_line parts,
       ap stop_line_at parts
-          ∙ ap (λ (p : ℕ × List ℕ). ((stop_at (drop 1 p.1)).0, drop 1 (stop_at (drop 1 p.1)).1)) (number_again i 32 (stop_text s ++ 10 ∷ rest) small refl)
-          ∙ ap (λ (q : Option Stop × List ℕ). (q.0, drop 1 q.1)) (stop_again s rest h),
+          ∙ ap (λ (p : ℕ × List ℕ). ((stop_at (drop 1 p.1)).0, drop 1 (stop_at (drop 1 p.1)).1)) (number_again i 32 (hart_words s ++ 10 ∷ rest) small refl)
+          ∙ ap (λ (q : HartEnding × List ℕ). (q.0, drop 1 q.1)) (stop_again s rest h),
     )
 
 -- ---- ranges

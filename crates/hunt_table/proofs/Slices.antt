@@ -5,7 +5,7 @@ use Rattle.std.proofs.lemmas.List.{get_or_append_left, get_or_at, length_push, t
 use Rattle.std.proofs.lemmas.List.Elements.{All-head}
 use Rattle.std.proofs.lemmas.List.Sums.{sum_by-cons, sum_by_push}
 use Rattle.plan_hunt.specs.declared.row.Row.{Row}
-use Rattle.hunt_table.specs.Text.{table_text}
+use Rattle.hunt_table.specs.Text.{IsTextOf}
 use Rattle.hunt_table.specs.declared.header.Header.{Header}
 use Rattle.hunt_table.specs.Told.{IsReadAs, IsSame, IsTold}
 use Rattle.hunt_table.specs.declared.read_error.ReadError.{ReadError}
@@ -62,7 +62,7 @@ slices_alike (a ∷ cs) (b ∷ bs) q h = (omega (arith, q.0.first, q.0.count, h.
 
 -- the text is that of the table, which is read of it whatever told table's it is
 abbrev pub IsReadOf : Vec ℕ → Table → Type 0
-IsReadOf x t = (x.items ≡ table_text t.header t.rows.items) × ((u : Table) → IsTold u.header u.rows.items → x.items ≡ table_text u.header u.rows.items → Alike u t)
+IsReadOf x t = IsTextOf t.header t.rows.items x.items × ((u : Table) → IsTold u.header u.rows.items → IsTextOf u.header u.rows.items x.items → Alike u t)
 
 abbrev pub AreReadOf : List (Vec ℕ) → List Table → Type 0
 AreReadOf [] [] = Unit {0}
@@ -100,11 +100,11 @@ pub first_text : (texts : List (Vec ℕ)) (x : Vec ℕ) (t : Table) → 0 < leng
 first_text texts x t l at e = next_text texts 0 x [] t l at tt e
 
 -- what a reader says of a text that it takes
-pub is_read : (x : Vec ℕ) (text : List ℕ) (r : Result Table ReadError) (t : Table) → text ≡ x.items → r ≡ Ok t → text ≡ table_text t.header t.rows.items →
-    ((h : Header) (rows : List Row) → IsTold h rows → text ≡ table_text h rows → IsReadAs h rows r) → IsReadOf x t
+pub is_read : (x : Vec ℕ) (text : List ℕ) (r : Result Table ReadError) (t : Table) → text ≡ x.items → r ≡ Ok t → IsTextOf t.header t.rows.items text →
+    ((h : Header) (rows : List Row) → IsTold h rows → IsTextOf h rows text → IsReadAs h rows r) → IsReadOf x t
 is_read x text r t is e found only = (
-  sym is ∙ found,
-  λ u told its. alike u (subst (IsReadAs u.header u.rows.items) e (only u.header u.rows.items told (is ∙ its))),
+  subst (IsTextOf t.header t.rows.items) is found,
+  λ u told its. alike u (subst (IsReadAs u.header u.rows.items) e (only u.header u.rows.items told (subst (IsTextOf u.header u.rows.items) (sym is) its))),
 )
   where
     alike : (u : Table) → IsSame u.header u.rows.items t → Alike u t
@@ -210,7 +210,7 @@ next_table t ts w n new m a j = record {
 -- ---- a text that is no table's
 
 -- what a reader says of a text that it refuses
-pub no_table : (text : List ℕ) (r : Result Table ReadError) → r ≡ Err NotATable → ((h : Header) (rows : List Row) → IsTold h rows → text ≡ table_text h rows → IsReadAs h rows r) → IsNoTable text
+pub no_table : (text : List ℕ) (r : Result Table ReadError) → r ≡ Err NotATable → ((h : Header) (rows : List Row) → IsTold h rows → IsTextOf h rows text → IsReadAs h rows r) → IsNoTable text
 no_table text r e only h rows good is = other (subst (IsReadAs h rows) e (only h rows good is))
   where
     other : NotATable ≡ OutOfMemory → ⊥

@@ -1,8 +1,8 @@
 -- A table is read from its text.
-use Rattle.std.proofs.Common.{◌≡◌, ◌≢◌, ℕ, List, [], ◌∷◌, ◌++◌, length, drop, refl, sym, ◌∙◌, ap, append_assoc}
+use Rattle.std.proofs.Common.{◌≡◌, ◌≢◌, ◌⊎◌, inl, inr, ℕ, Bool, true, false, List, [], ◌∷◌, ◌++◌, length, drop, refl, sym, ◌∙◌, ap, append_assoc}
 use Rattle.std.specs.Prelude.{codes}
 use Rattle.std.specs.Fmt.{decimal}
-use Rattle.hunt_table.specs.Text.{endings_text, header_text, table_text}
+use Rattle.hunt_table.specs.Text.{IsTextOf, endings_text, header_text, table_text, table_text_by}
 use Rattle.hunt_table.specs.declared.header.Header.{Header}
 use Rattle.hunt_table.specs.declared.header.SeenRange.{SeenRange}
 use Rattle.plan_hunt.specs.declared.row.Row.{Row}
@@ -30,16 +30,16 @@ nine a b c d e f g h i r = simp append_assoc
 abbrev told_of : Header → List Row → Told
 told_of h rows = record { seed = h.seed; first = h.first; count = h.count; ranges = h.ranges.items; rows = rows }
 
-table_again : (h : Header) (rows : List Row) → IsTold h rows → table_at (table_text h rows) ≡ told_of h rows
-unfolding table_text header_text table_at
-table_again h rows t =
+table_again : (marked : Bool) (h : Header) (rows : List Row) → IsTold h rows → table_at (table_text_by marked h rows) ≡ told_of h rows
+unfolding table_text_by header_text table_at
+table_again marked h rows t =
     let n : ℕ = length rows in
-    let after : List ℕ = endings_text h.ranges.items 1 rows ++ codes "end\n" in
+    let after : List ℕ = endings_text marked h.ranges.items 1 rows ++ codes "end\n" in
     let endings : List ℕ = decimal n ++ 10 ∷ after in
     let seed : List ℕ = decimal h.seed ++ (codes "\nendings " ++ endings) in
     let count : List ℕ = decimal h.count ++ (codes " seed " ++ seed) in
     let parts =
-    append_assoc (header_text h.seed h.first h.count n) (endings_text h.ranges.items 1 rows) (codes "end\n")
+    append_assoc (header_text h.seed h.first h.count n) (endings_text marked h.ranges.items 1 rows) (codes "end\n")
     ∙ nine (codes "plans ") (decimal h.first) (codes " ") (decimal h.count) (codes " seed ") (decimal h.seed) (codes "\nendings ") (decimal n) (codes "\n") after in
     let F : ℕ → ℕ → ℕ → ℕ × List ℕ → Told = λ first count seed p. told first count seed (endings_at p.0 (drop 1 p.1)).0 in
     let G : ℕ → ℕ → ℕ × List ℕ → Told = λ first count p. F first count p.0 (number_at (drop 9 p.1)) in
@@ -49,14 +49,18 @@ table_again h rows t =
     ∙ ap (H h.first) (word_again h.count 32 (drop 1 (codes " seed ") ++ seed) t.count refl)
     ∙ ap (G h.first h.count) (number_again h.seed 10 (drop 1 (codes "\nendings ") ++ endings) t.seed refl)
     ∙ ap (F h.first h.count h.seed) (number_again n 10 after t.few_endings refl)
-    ∙ ap (λ (p : List (Row × List SeenRange) × List ℕ). told h.first h.count h.seed p.0) (endings_again h.ranges.items rows (codes "end\n") t.few_endings t.ranges t.rows)
+    ∙ ap (λ (p : List (Row × List SeenRange) × List ℕ). told h.first h.count h.seed p.0) (endings_again marked h.ranges.items rows (codes "end\n") t.few_endings t.ranges t.rows)
     ∙ ap (λ (v : List SeenRange). record { seed = h.seed; first = h.first; count = h.count; ranges = v; rows = rows_of (with_ranges h.ranges.items rows) }) (last_is h.ranges.items rows t.no_ending)
     ∙ ap (λ (v : List Row). record { seed = h.seed; first = h.first; count = h.count; ranges = h.ranges.items; rows = v }) (rows-with h.ranges.items rows)
 
 -- what was read of a table's text is that table
-pub is_same : (h : Header) (rows : List Row) (t : Table) (text : List ℕ) → IsTold h rows → text ≡ table_text h rows → contents t ≡ table_at text → IsSame h rows t
+told_again : (h : Header) (rows : List Row) (t : Table) (text : List ℕ) → IsTold h rows → IsTextOf h rows text → contents t ≡ table_at text → contents t ≡ told_of h rows
+told_again h rows t text good (inl e) read = read ∙ ap table_at e ∙ table_again true h rows good
+told_again h rows t text good (inr e) read = read ∙ ap table_at e ∙ table_again false h rows good
+
+pub is_same : (h : Header) (rows : List Row) (t : Table) (text : List ℕ) → IsTold h rows → IsTextOf h rows text → contents t ≡ table_at text → IsSame h rows t
 is_same h rows t text good e read =
-    let same : contents t ≡ told_of h rows = read ∙ ap table_at e ∙ table_again h rows good in
+    let same : contents t ≡ told_of h rows = told_again h rows t text good e read in
     record {
       seed = ap (λ (c : Told). c.seed) same;
       first = ap (λ (c : Told). c.first) same;
@@ -65,15 +69,14 @@ is_same h rows t text good e read =
       rows = ap (λ (c : Told). c.rows) same;
     }
 
-abbrev text_of : Told → List ℕ
-text_of c = header_text c.seed c.first c.count (length c.rows) ++ endings_text c.ranges 1 c.rows ++ codes "end\n"
+abbrev text_of : Bool → Told → List ℕ
+text_of marked c = header_text c.seed c.first c.count (length c.rows) ++ endings_text marked c.ranges 1 c.rows ++ codes "end\n"
 
-same_text : (h : Header) (rows : List Row) (t : Table) → contents t ≡ told_of h rows → table_text t.header t.rows.items ≡ table_text h rows
-unfolding table_text
-same_text h rows t e = ap text_of e
+same_text : (marked : Bool) (h : Header) (rows : List Row) (t : Table) → contents t ≡ told_of h rows → table_text_by marked t.header t.rows.items ≡ table_text_by marked h rows
+unfolding table_text_by
+same_text marked h rows t e = ap (text_of marked) e
 
 -- a text that is not that of what was read is no table's
-pub is_none : (h : Header) (rows : List Row) (t : Table) (text : List ℕ) → IsTold h rows → text ≡ table_text h rows → contents t ≡ table_at text → text ≢ table_text t.header t.rows.items → ⊥
-is_none h rows t text good e read other =
-    let same : contents t ≡ told_of h rows = read ∙ ap table_at e ∙ table_again h rows good in
-    other (e ∙ sym (same_text h rows t same))
+pub is_none : (h : Header) (rows : List Row) (t : Table) (text : List ℕ) → IsTold h rows → IsTextOf h rows text → contents t ≡ table_at text → text ≢ table_text t.header t.rows.items → text ≢ table_text_by false t.header t.rows.items → ⊥
+is_none h rows t text good (inl e) read other plain = other (e ∙ sym (same_text true h rows t (told_again h rows t text good (inl e) read)))
+is_none h rows t text good (inr e) read other plain = plain (e ∙ sym (same_text false h rows t (told_again h rows t text good (inr e) read)))

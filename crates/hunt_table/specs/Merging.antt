@@ -4,7 +4,7 @@ use Rattle.std.specs.Global.{Vec}
 use Rattle.plan_hunt.specs.Endings.{Ended}
 use Rattle.plan_hunt.specs.Tables.{IsTable}
 use Rattle.plan_hunt.specs.declared.row.Row.{Row}
-use Rattle.hunt_table.specs.Text.{table_text}
+use Rattle.hunt_table.specs.Text.{IsTextOf}
 use Rattle.hunt_table.specs.Told.{IsTold}
 use Rattle.hunt_table.specs.declared.header.Header.{Header}
 use Rattle.hunt_table.specs.declared.header.SeenRange.{SeenRange}
@@ -12,12 +12,12 @@ use Rattle.hunt_table.specs.declared.table.Table.{Table}
 
 -- ---- texts
 
--- the texts are those of the tables
+-- the texts are those of the tables, each in one of the two forms
 abbrev pub AreTexts : List (Vec ℕ) → List Table → Type 0
 AreTexts [] [] = Unit {0}
 AreTexts [] (t ∷ ts) = ⊥
 AreTexts (x ∷ xs) [] = ⊥
-AreTexts (x ∷ xs) (t ∷ ts) = (x.items ≡ table_text t.header t.rows.items) × AreTexts xs ts
+AreTexts (x ∷ xs) (t ∷ ts) = IsTextOf t.header t.rows.items x.items × AreTexts xs ts
 
 -- the tables have texts that tell all of them
 abbrev pub AreTold : List Table → Type 0
@@ -92,7 +92,7 @@ pub record IsAppended (w t new : Table) : Type 0 where
 
 -- the text is not that of a table that it would tell all of
 abbrev pub IsNoTable : List ℕ → Type 0
-IsNoTable text = (h : Header) (rows : List Row) → IsTold h rows → text ≡ table_text h rows → ⊥
+IsNoTable text = (h : Header) (rows : List Row) → IsTold h rows → IsTextOf h rows text → ⊥
 
 -- tables that texts tell all of are slices, where these are their texts
 abbrev pub TellSlices : List (Vec ℕ) → Type 0

@@ -1,8 +1,9 @@
 -- What a reader makes of a text, whatever it is: each part is read from the front as if it were there. Where the text is a
 -- table's, that is the table.
-use Rattle.std.specs.Prelude.{ℕ, zero, suc, ◌+◌, ◌-◌, ◌*◌, ◌/◌, ◌%◌, ◌^◌, ◌==◌, ◌&&◌, min, nat_le, nat_lt, if◌then◌else◌, Bool, true, List, [], ◌∷◌, fold, length, map, take, drop, slice_index, Option, Some, None}
+use Rattle.std.specs.Prelude.{ℕ, zero, suc, ◌+◌, ◌-◌, ◌*◌, ◌/◌, ◌%◌, ◌^◌, ◌==◌, ◌&&◌, min, nat_le, nat_lt, if◌then◌else◌, Bool, true, List, [], ◌∷◌, fold, length, map, take, drop, slice_index}
 use Rattle.std.specs.List.{flat_map}
-use Rattle.hart_step.specs.declared.hart.Stop.{Stop}
+use Rattle.plan_hunt.specs.declared.hart_ending.HartEnding.{HartEnding}
+use Rattle.plan_hunt.specs.declared.hart_ending.HartEnding.TheVariants.{Loops, Runs, Stopped}
 use Rattle.hunt_table.specs.declared.header.SeenRange.{SeenRange}
 use Rattle.plan_hunt.specs.Adding.{row}
 use Rattle.plan_hunt.specs.Endings.{ended}
@@ -46,20 +47,21 @@ many there part (suc n) bs =
 
 -- ---- the lines of harts
 
-abbrev pub stop_at : List ℕ → Option Stop × List ℕ
+abbrev pub stop_at : List ℕ → HartEnding × List ℕ
 stop_at bs =
-    if slice_index bs 0 == 114 then (None, drop 7 bs)
-    else (if slice_index bs 0 == 101 then (Some (record { code = 1; value = hex_value (take 16 (drop 5 bs)) }), drop 16 (drop 5 bs))
-    else (Some (record { code = min (number_at (drop 5 bs)).0 255; value = 0 }), (number_at (drop 5 bs)).1))
+    if slice_index bs 0 == 114 then (Runs, drop 7 bs)
+    else (if slice_index bs 0 == 108 then (Loops, drop 5 bs)
+    else (if slice_index bs 0 == 101 then (Stopped (record { code = 1; value = hex_value (take 16 (drop 5 bs)) }), drop 16 (drop 5 bs))
+    else (Stopped (record { code = min (number_at (drop 5 bs)).0 255; value = 0 }), (number_at (drop 5 bs)).1)))
 
-unfoldable pub stop_line_at : List ℕ → Option Stop × List ℕ
+unfoldable pub stop_line_at : List ℕ → HartEnding × List ℕ
 stop_line_at bs = let s = stop_at (drop 1 (number_at (drop 5 bs)).1) in (s.0, drop 1 s.1)
 
 -- a line that begins with `h`
 abbrev pub is_stop_line : List ℕ → Bool
 is_stop_line bs = slice_index bs 0 == 104
 
-abbrev pub stops_at : List ℕ → List (Option Stop) × List ℕ
+abbrev pub stops_at : List ℕ → List HartEnding × List ℕ
 stops_at bs = many is_stop_line stop_line_at (length bs) bs
 
 -- ---- the lines of ranges
@@ -123,9 +125,13 @@ ending_lines_at plans first bs =
     let output = output_line_at seen.1 in
     ((row (ended stops.0 output.0 (bytes_of seen.0)) first plans, ranges_of seen.0), output.1)
 
+-- what follows the word that marks a bad ending, where it is there: it has a `b` where ` plans` has a `p`
+abbrev pub after_mark : List ℕ → List ℕ
+after_mark bs = if slice_index bs 1 == 98 then drop 4 bs else bs
+
 unfoldable pub ending_at : List ℕ → (Row × List SeenRange) × List ℕ
 ending_at bs =
-    let plans = word_at (drop 7 (number_at (drop 7 bs)).1) in
+    let plans = word_at (drop 7 (after_mark (number_at (drop 7 bs)).1)) in
     let first = word_at (drop 7 plans.1) in
     ending_lines_at plans.0 first.0 (drop 1 first.1)
 

@@ -1,7 +1,10 @@
 -- The text of a hunt's table: lines that end with LF.
-use Rattle.std.specs.Prelude.{ℕ, ◌+◌, ◌==◌, ◌&&◌, if◌then◌else◌, nat_le, nat_lt, List, [], ◌∷◌, ◌++◌, length, take, drop, codes, Option}
+use Rattle.std.specs.Prelude.{◌≡◌, ◌⊎◌, ℕ, ◌+◌, ◌==◌, ◌&&◌, not, if◌then◌else◌, nat_le, nat_lt, Bool, true, false, List, [], ◌∷◌, ◌++◌, length, take, drop, codes, Some}
 use Rattle.std.specs.Fmt.{decimal}
-use Rattle.hart_step.specs.declared.hart.Stop.{Stop}
+use Rattle.std.specs.List.{list_all}
+use Rattle.plan_hunt.specs.declared.hart_ending.HartEnding.{HartEnding}
+use Rattle.plan_hunt.specs.declared.hart_ending.HartEnding.TheVariants.{Loops, Runs, Stopped}
+use Rattle.plan_hunt.specs.Endings.{ends_well}
 use Rattle.plan_hunt.specs.declared.row.Row.{Row}
 use Rattle.report_lines.specs.Text.{bytes_text, hex, stop_text}
 use Rattle.hunt_table.specs.declared.header.Header.{Header}
@@ -23,12 +26,18 @@ quoted (b ∷ bs) = quoted_byte b ++ quoted bs
 unfoldable pub output_line : List ℕ → List ℕ
 output_line bs = codes "output " ++ decimal (length bs) ++ codes " \"" ++ quoted bs ++ codes "\"\n"
 
--- the line of a hart: why it stopped
-unfoldable pub stop_line : ℕ → Option Stop → List ℕ
-stop_line i s = codes "hart " ++ decimal i ++ codes " " ++ stop_text s ++ codes "\n"
+-- how a hart ended: why it stopped, or that it never does under this plan, or that it still ran
+abbrev pub hart_words : HartEnding → List ℕ
+hart_words Runs = codes "running"
+hart_words Loops = codes "loops"
+hart_words (Stopped s) = stop_text (Some s)
+
+-- the line of a hart
+unfoldable pub stop_line : ℕ → HartEnding → List ℕ
+stop_line i s = codes "hart " ++ decimal i ++ codes " " ++ hart_words s ++ codes "\n"
 
 -- the lines of harts i, i + 1, ..
-abbrev pub stop_lines : ℕ → List (Option Stop) → List ℕ
+abbrev pub stop_lines : ℕ → List HartEnding → List ℕ
 stop_lines i [] = []
 stop_lines i (s ∷ ss) = stop_line i s ++ stop_lines (i + 1) ss
 
@@ -41,18 +50,31 @@ abbrev pub seen_lines : List SeenRange → List ℕ → List ℕ
 seen_lines [] bs = []
 seen_lines (r ∷ rs) bs = seen_line r (take r.length bs) ++ seen_lines rs (drop r.length bs)
 
+-- whether a hart runs on, was stopped by a fault, or exited with another value than 0
+abbrev pub is_bad : Row → Bool
+is_bad r = not (list_all ends_well r.ending.stops)
+
+-- the word of its own that marks a bad ending
+abbrev pub mark : Bool → List ℕ
+mark bad = if bad then codes " bad" else []
+
+-- the number of an ending; where bad endings are marked, whether it is one
+abbrev pub ending_front : Bool → ℕ → Row → List ℕ
+ending_front marked k r = codes "ending " ++ decimal k ++ mark (marked && is_bad r)
+
 -- how many plans lead to an ending, and the first of them
-unfoldable pub ending_line : ℕ → Row → List ℕ
-ending_line k r = codes "ending " ++ decimal k ++ codes " plans " ++ decimal r.plans ++ codes " first " ++ decimal r.first ++ codes "\n"
+unfoldable pub ending_line : Bool → ℕ → Row → List ℕ
+ending_line marked k r =
+    ending_front marked k r ++ codes " plans " ++ decimal r.plans ++ codes " first " ++ decimal r.first ++ codes "\n"
 
 -- an ending: its plans, its harts, the bytes that are looked at, and the output
-unfoldable pub ending_text : List SeenRange → ℕ → Row → List ℕ
-ending_text ranges k r = ending_line k r ++ stop_lines 0 r.ending.stops ++ seen_lines ranges r.ending.seen ++ output_line r.ending.output
+unfoldable pub ending_text : Bool → List SeenRange → ℕ → Row → List ℕ
+ending_text marked ranges k r = ending_line marked k r ++ stop_lines 0 r.ending.stops ++ seen_lines ranges r.ending.seen ++ output_line r.ending.output
 
 -- endings k, k + 1, ..
-abbrev pub endings_text : List SeenRange → ℕ → List Row → List ℕ
-endings_text ranges k [] = []
-endings_text ranges k (r ∷ rs) = ending_text ranges k r ++ endings_text ranges (k + 1) rs
+abbrev pub endings_text : Bool → List SeenRange → ℕ → List Row → List ℕ
+endings_text marked ranges k [] = []
+endings_text marked ranges k (r ∷ rs) = ending_text marked ranges k r ++ endings_text marked ranges (k + 1) rs
 
 -- the plans of the hunt, and how many endings they have
 unfoldable pub header_text : ℕ → ℕ → ℕ → ℕ → List ℕ
@@ -60,6 +82,14 @@ header_text seed first count endings =
     codes "plans " ++ decimal first ++ codes " " ++ decimal count ++ codes " seed " ++ decimal seed ++ codes "\nendings "
     ++ decimal endings ++ codes "\n"
 
--- the table of a hunt, as text
-unfoldable pub table_text : Header → List Row → List ℕ
-table_text h rows = header_text h.seed h.first h.count (length rows) ++ endings_text h.ranges.items 1 rows ++ codes "end\n"
+-- the table of a hunt, as text: with bad endings marked, or, as it was once written, without
+unfoldable pub table_text_by : Bool → Header → List Row → List ℕ
+table_text_by marked h rows =
+    header_text h.seed h.first h.count (length rows) ++ endings_text marked h.ranges.items 1 rows ++ codes "end\n"
+
+abbrev pub table_text : Header → List Row → List ℕ
+table_text h rows = table_text_by true h rows
+
+-- it is the text of a table, in one of the two forms
+abbrev pub IsTextOf : Header → List Row → List ℕ → Type 0
+IsTextOf h rows text = (text ≡ table_text h rows) ⊎ (text ≡ table_text_by false h rows)

@@ -1,6 +1,7 @@
 -- Which tables have a text that tells all of them, and what a reader answers for it.
-use Rattle.std.specs.Prelude.{◌≡◌, ◌≢◌, ◌^◌, ◌<◌, List, [], All, length, sum_by, Option, Some, None, Result, MatchResult}
-use Rattle.hart_step.specs.declared.hart.Stop.{Stop}
+use Rattle.std.specs.Prelude.{◌≡◌, ◌≢◌, ◌^◌, ◌<◌, List, [], All, length, sum_by, Result, MatchResult}
+use Rattle.plan_hunt.specs.declared.hart_ending.HartEnding.{HartEnding}
+use Rattle.plan_hunt.specs.declared.hart_ending.HartEnding.TheVariants.{Loops, Runs, Stopped}
 use Rattle.hunt_table.specs.declared.header.Header.{Header}
 use Rattle.hunt_table.specs.declared.header.SeenRange.{SeenRange}
 use Rattle.plan_hunt.specs.declared.row.Row.{Row}
@@ -9,9 +10,10 @@ use Rattle.hunt_table.specs.declared.read_error.ReadError.TheVariants.{OutOfMemo
 use Rattle.hunt_table.specs.declared.table.Table.{Table}
 
 -- a stop's numbers fit their fields, and there is a value with the exit call alone
-abbrev pub IsToldStop : Option Stop → Type 0
-IsToldStop None = Unit {0}
-IsToldStop (Some s) = (s.code < 2 ^ 8) × (s.value < 2 ^ 64) × (s.code ≢ 1 → s.value ≡ 0)
+abbrev pub IsToldStop : HartEnding → Type 0
+IsToldStop Runs = Unit {0}
+IsToldStop Loops = Unit {0}
+IsToldStop (Stopped s) = (s.code < 2 ^ 8) × (s.value < 2 ^ 64) × (s.code ≢ 1 → s.value ≡ 0)
 
 -- a range's numbers fit their fields
 abbrev pub IsToldRange : SeenRange → Type 0

@@ -6,7 +6,7 @@ mod seen;
 mod stops;
 
 ghost use Rattle.std.specs.Prelude.{◌≡◌, ◌≢◌, ◌↔◌, IfErr, IfOk, IsTrue, List};
-ghost use Rattle.hunt_table.specs.Text.{table_text};
+ghost use Rattle.hunt_table.specs.Text.{IsTextOf, table_text_by};
 ghost use Rattle.hunt_table.specs.declared.header.Header.{Header as TableHeader};
 ghost use Rattle.plan_hunt.specs.declared.row.Row.{Row as TableRow};
 ghost use Rattle.hunt_table.specs.Reading.{contents, table_at};
@@ -49,25 +49,35 @@ fn is_same(text: &[u8], other: &[u8]) -> bool
     text == other
 }
 
-/// Reads the table of a hunt from its text.
+/// Whether a text is that of a table, with bad endings marked or without.
+fn is_text_of(alloc: Global, text: &[u8], marked: bool, table: &Table) -> Result<bool, OutOfMemory>
+    ensures { IfOk result (λ same. IsTrue same ↔
+        (text.now ≡ table_text_by marked table.now.header table.now.rows.items)) }
+{
+    let mut line = Line::new(alloc);
+    add_table(&mut line, marked, &table.header, &table.rows)?;
+    Ok(is_same(text, line.as_bytes()))
+}
+
+/// Reads the table of a hunt from its text: with bad endings marked, or, as it was once written, without.
 ///
 /// # Errors
 ///
 /// `NotATable` where the text is not that of a table, byte for byte, and `OutOfMemory`.
 pub fn read_table(alloc: Global, text: &[u8]) -> Result<Table, ReadError>
     // The text is that of the table.
-    ensures found { IfOk result (λ t. text.now ≡ table_text t.header t.rows.items) }
+    ensures found { IfOk result (λ t. IsTextOf t.header t.rows.items text.now) }
     // Each table is read from its text, unless memory runs out.
     ensures only { (h : TableHeader) (rows : List TableRow) → IsTold h rows →
-        text.now ≡ table_text h rows → IsReadAs h rows result }
+        IsTextOf h rows text.now → IsReadAs h rows result }
 {
     // Each part was read as if it were there: the text is a table's where it is the text of what was read.
     let table = table_at(alloc, text)?;
-    let mut line = Line::new(alloc);
-    add_table(&mut line, &table.header, &table.rows)?;
-    if is_same(text, line.as_bytes()) {
-        Ok(table)
-    } else {
-        Err(ReadError::NotATable)
+    if is_text_of(alloc, text, true, &table)? {
+        return Ok(table);
     }
+    if is_text_of(alloc, text, false, &table)? {
+        return Ok(table);
+    }
+    Err(ReadError::NotATable)
 }

@@ -2,7 +2,7 @@ mod endings;
 
 ghost use Rattle.std.specs.Prelude.{◌≡◌, ◌<◌, ◌++◌, Err, OnOk};
 ghost use Rattle.host_io.specs.Taken.{WritesText};
-ghost use Rattle.hunt_table.specs.Text.{endings_text, header_text, table_text};
+ghost use Rattle.hunt_table.specs.Text.{endings_text, header_text, table_text, table_text_by};
 
 use crate::header::{Header, SeenRange};
 use crate::writing::endings::add_ending;
@@ -28,21 +28,26 @@ pub fn write_table<S: Sink>(
     ensures memory { result ≡ Err RunError.OutOfMemory → S.took out.new ≡ S.took out.old }
 {
     let mut line = Line::new(alloc);
-    add_table(&mut line, header, rows)?;
+    add_table(&mut line, true, header, rows)?;
     put_all(out, line.as_bytes())
 }
 
-/// Adds the text of a table to a line.
+/// Adds the text of a table to a line, with bad endings marked or without.
 ///
 /// # Errors
 ///
 /// The line found no memory; what it holds then is of no use.
-#[tactic(auto, unfolding(crate::specs::Text::table_text))]
-pub fn add_table(line: &mut Line, header: &Header, rows: &[Row]) -> Result<(), OutOfMemory>
-    ensures { OnOk result (line.new ≡ line.old ++ table_text header.now rows.now) }
+#[tactic(auto, unfolding(crate::specs::Text::table_text_by))]
+pub fn add_table(
+    line: &mut Line,
+    marked: bool,
+    header: &Header,
+    rows: &[Row],
+) -> Result<(), OutOfMemory>
+    ensures { OnOk result (line.new ≡ line.old ++ table_text_by marked header.now rows.now) }
 {
     add_header(line, header, rows.len() as u64)?;
-    add_endings(line, &header.ranges, rows)?;
+    add_endings(line, marked, &header.ranges, rows)?;
     line.text("end\n")
 }
 
@@ -63,11 +68,16 @@ fn add_header(line: &mut Line, header: &Header, endings: u64) -> Result<(), OutO
     line.text("\n")
 }
 
-fn add_endings(line: &mut Line, ranges: &[SeenRange], rows: &[Row]) -> Result<(), OutOfMemory>
-    ensures { OnOk result (line.new ≡ line.old ++ endings_text ranges.now 1 rows.now) }
+fn add_endings(
+    line: &mut Line,
+    marked: bool,
+    ranges: &[SeenRange],
+    rows: &[Row],
+) -> Result<(), OutOfMemory>
+    ensures { OnOk result (line.new ≡ line.old ++ endings_text marked ranges.now 1 rows.now) }
 {
     for (place, row) in rows.iter().enumerate() {
-        add_ending(line, ranges, place as u64 + 1, row)?;
+        add_ending(line, marked, ranges, place as u64 + 1, row)?;
     }
     Ok(())
 }

@@ -1,6 +1,8 @@
 //! Tables that are read, through the public call of the crate `hunt_table`.
 
+use hart_step::Stop;
 use hunt_table::read_table;
+use plan_hunt::HartEnding;
 use std::alloc::Global;
 use std::test::Fail;
 
@@ -42,7 +44,7 @@ fn a_table_is_read(rt: HostRuntime) -> Result<(), Fail> {
     assert!(rt; row.ending.seen() == [0xab, 0, 7].as_slice());
     assert!(rt; row.ending.output() == b"a\"\\\n\x01~".as_slice());
     let stops = row.ending.stops();
-    assert!(rt; stops.len() == 2 && stops[1].is_none());
-    assert!(rt; stops[0].is_some_and(|stop| stop.code == 1 && stop.value == 255));
+    assert!(rt; stops.len() == 2 && stops[1] == HartEnding::Runs);
+    assert!(rt; stops[0] == HartEnding::Stopped(Stop { code: 1, value: 255 }));
     Ok(())
 }

@@ -12,7 +12,9 @@ use Rattle.machine.specs.Settings.{StandsIn, image_of}
 use Rattle.round_planner.specs.Quotas.{Planned}
 use Rattle.plan_family.specs.declared.family.Family.{Family}
 use Rattle.plan_family.specs.Families.{family_plan}
-use Rattle.plan_hunt.specs.Endings.{Ended, ended}
+use Rattle.plan_hunt.specs.Endings.{Ended, ended, ends_well}
+use Rattle.plan_hunt.specs.declared.hart_ending.HartEnding.{HartEnding}
+use Rattle.plan_hunt.specs.declared.hart_ending.HartEnding.TheVariants.{Loops, Runs, Stopped}
 use Rattle.plan_hunt.specs.Tables.{IsTable}
 use Rattle.plan_hunt.specs.declared.row.Row.{Row}
 use Rattle.hunt_table.specs.declared.header.SeenRange.{SeenRange}
@@ -74,9 +76,14 @@ abbrev pub seen_of : List SeenRange → List ℕ → List ℕ
 seen_of [] bytes = []
 seen_of (r ∷ rs) bytes = take r.length (drop r.address bytes) ++ seen_of rs bytes
 
+-- how a hart ended, by why it stopped
+abbrev pub ending_of_stop : Option Stop → HartEnding
+ending_of_stop None = Runs
+ending_of_stop (Some s) = Stopped s
+
 -- the ending of a run
 unfoldable pub ended_of : List SeenRange → Running → Ended
-ended_of ranges m = ended (map (λ (h : Hart). h.stop) m.state.harts) m.state.console.output (seen_of ranges m.state.bytes)
+ended_of ranges m = ended (map (λ (h : Hart). ending_of_stop h.stop) m.state.harts) m.state.console.output (seen_of ranges m.state.bytes)
 
 -- the family of the hunt's plans
 abbrev pub family_of : HuntSettings → Family
@@ -98,17 +105,14 @@ ends_after s file input n = ends_under s file input (family_plan (family_of s) n
 abbrev pub IsHunted : HuntSettings → List ℕ → List ℕ → List Row → Type 0
 IsHunted s file input rows = IsTable (ends_after s file input) s.header.first s.header.count rows
 
-abbrev pub has_exited : Option Stop → Bool
-has_exited None = false
-has_exited (Some s) = s.code == 1
+abbrev pub has_exited : HartEnding → Bool
+has_exited Runs = false
+has_exited Loops = false
+has_exited (Stopped s) = s.code == 1
 
 -- there is one ending, in which all harts exited
 abbrev pub is_one_exit : List Row → Bool
 is_one_exit rows = (length rows == 1) && list_all (λ (r : Row). list_all has_exited r.ending.stops) rows
-
-abbrev pub ends_well : Option Stop → Bool
-ends_well None = false
-ends_well (Some s) = (s.code == 1) && (s.value == 0)
 
 -- in each ending each hart exited with 0: none runs on, was stopped by a fault, or exited with another value
 abbrev pub all_end_well : List Row → Bool

@@ -4,7 +4,7 @@ ghost use Rattle.host_io.specs.declared.error.RunError.TheVariants as refusals;
 ghost use Rattle.machine.specs.Machine.{Running, opening};
 ghost use Rattle.machine.specs.Settings.{image_of};
 ghost use Rattle.machine.specs.Untraced.{IsUntraced};
-ghost use Rattle.hunter.specs.Hunts.{IsGuest, IsImageCause, ended_of, family_of, seen_of};
+ghost use Rattle.hunter.specs.Hunts.{IsGuest, IsImageCause, ended_of, ending_of_stop, family_of, seen_of};
 
 use crate::settings::HuntSettings;
 use elf_loader::Image;
@@ -14,7 +14,7 @@ use hunt_table::SeenRange;
 use machine::{UntracedMachine, load};
 use pages::OutOfMemory;
 use plan_family::Family;
-use plan_hunt::{Ending, Runs};
+use plan_hunt::{Ending, HartEnding, Runs};
 use plan_shrink::PlanRuns;
 use round_planner::Plan;
 use std::alloc::Global;
@@ -120,10 +120,24 @@ fn refused<T>(answer: Result<T, RunError>) -> Result<T, OutOfMemory>
     }
 }
 
-fn stops_of(alloc: Global, harts: &[Hart]) -> Result<Vec<Option<Stop>>, OutOfMemory>
-    ensures { IfOk result (λ v. v.items ≡ map (λ h. h.stop) harts.now) }
+/// How a hart ended, by why it stopped.
+fn ending_of_stop(stop: Option<Stop>) -> HartEnding
+    ensures { result ≡ ending_of_stop stop }
 {
-    match harts.iter().map(|hart| hart.stop).collect(alloc) {
+    match stop {
+        None => HartEnding::Runs,
+        Some(stop) => HartEnding::Stopped(stop),
+    }
+}
+
+fn stops_of(alloc: Global, harts: &[Hart]) -> Result<Vec<HartEnding>, OutOfMemory>
+    ensures { IfOk result (λ v. v.items ≡ map (λ h. ending_of_stop h.stop) harts.now) }
+{
+    match harts
+        .iter()
+        .map(|hart| ending_of_stop(hart.stop))
+        .collect(alloc)
+    {
         Ok(stops) => Ok(stops),
         Err(_) => Err(OutOfMemory),
     }

@@ -5,17 +5,16 @@ ghost use Rattle.host_io.specs.Taken.{BeganText};
 ghost use Rattle.host_io.specs.declared.error.RunError.TheVariants as refusals;
 ghost use Rattle.hunt_table.specs.Text.{table_text};
 ghost use Rattle.plan_hunt.specs.declared.row.Row.{Row as TableRow};
-ghost use Rattle.hunter.specs.Hunts.{IsHuntReason, IsHunted, IsImageCause, all_end_well, ends_well, has_bad_range, has_exited, hunt_fault, is_one_exit};
+ghost use Rattle.hunter.specs.Hunts.{IsHuntReason, IsHunted, IsImageCause, all_end_well, has_bad_range, has_exited, hunt_fault, is_one_exit};
 ghost use Rattle.hunter.specs.declared.error.HuntError.{HuntError as Refusal};
 ghost use Rattle.hunter.specs.declared.error.HuntError.TheVariants.{Run};
 
 use crate::error::HuntError;
 use crate::guest::Guest;
 use crate::settings::{HuntSettings, check_hunt, check_ranges};
-use hart_step::Stop;
 use host_io::Sink;
 use hunt_table::write_table;
-use plan_hunt::{HuntObserver, Row, tabulate};
+use plan_hunt::{HartEnding, HuntObserver, Row, are_well, tabulate};
 use std::alloc::Global;
 use std::sync::Wait;
 use std::thread::Threads;
@@ -57,16 +56,16 @@ pub fn tabulate_hunt<O: HuntObserver, R: Threads + Wait + Sync>(
     )?)
 }
 
-fn has_exited(stop: Option<Stop>) -> bool
-    ensures { result ≡ has_exited stop }
+fn has_exited(hart: HartEnding) -> bool
+    ensures { result ≡ has_exited hart }
 {
-    match stop {
-        None => false,
-        Some(stop) => stop.code == 1,
+    match hart {
+        HartEnding::Stopped(stop) => stop.code == 1,
+        _ => false,
     }
 }
 
-fn have_exited(stops: &[Option<Stop>]) -> bool
+fn have_exited(stops: &[HartEnding]) -> bool
     ensures { result ≡ list_all has_exited stops.now }
 {
     stops.iter().all(|stop| has_exited(*stop))
@@ -90,28 +89,13 @@ pub fn is_one_exit(rows: &[Row]) -> bool
     rows.len() == 1 && have_all_exited(rows)
 }
 
-fn ends_well(stop: Option<Stop>) -> bool
-    ensures { result ≡ ends_well stop }
-{
-    match stop {
-        None => false,
-        Some(stop) => stop.code == 1 && stop.value == 0,
-    }
-}
-
-fn end_well(stops: &[Option<Stop>]) -> bool
-    ensures { result ≡ list_all ends_well stops.now }
-{
-    stops.iter().all(|stop| ends_well(*stop))
-}
-
 /// Whether in each ending of a table each hart exited with 0: none runs on, was stopped by a fault, or exited with another
 /// value.
 pub fn all_end_well(rows: &[Row]) -> bool
     ensures { result ≡ all_end_well rows.now }
 {
     for row in rows {
-        if !end_well(row.ending.stops()) {
+        if !are_well(row.ending.stops()) {
             return false;
         }
     }

@@ -1,20 +1,13 @@
--- What `==` says of stops.
-use Rattle.std.proofs.Common.{◌≡◌, Bool, List, Option, Some, None, refl, ap, rules}
+-- What `==` says of the endings of harts.
+use Rattle.std.proofs.Common.{◌≡◌, Bool, List, refl, ap, rules}
 use Rattle.std.specs.Bool.{Decides}
-use Rattle.std.specs.Option.{option_eq}
 use Rattle.std.proofs.lemmas.Slice.Eq.{slice_eq-Decides}
-use Rattle.hart_step.specs.declared.hart.Stop.{Stop}
-use Rattle.hart_step.specs.contracts.hart.StopPartialEq.TheImpl.{eq-value}
+use Rattle.plan_hunt.specs.declared.hart_ending.HartEnding.{HartEnding}
+use Rattle.plan_hunt.specs.contracts.hart_ending.HartEndingPartialEq.TheImpl.{eq-value}
 use lib.Pointwise.{pointwise}
 
-same_stop : (a b : Stop) → Decides (eq-value.it a b) (a ≡ b)
-same_stop a b = search rules
+same_hart : (a b : HartEnding) → Decides (eq-value.it a b) (a ≡ b)
+same_hart a b = search rules
 
-same_option : (a b : Option Stop) → Decides (option_eq eq-value.it a b) (a ≡ b)
-same_option None None = (λ e. refl, λ e. refl)
-same_option None (Some b) = (λ e. cc, λ e. cc)
-same_option (Some a) None = (λ e. cc, λ e. cc)
-same_option (Some a) (Some b) = let s = same_stop a b in (λ e. ap (λ (x : Stop). Some x) (s.0 e), λ e. s.1 (let f : a ≡ b = cc in f))
-
-pub same_stops : (a b : List (Option Stop)) (r : Bool) → r ≡ pointwise (option_eq eq-value.it) a b → Decides r (a ≡ b)
-same_stops a b r e = slice_eq-Decides same_option a b r e
+pub same_stops : (a b : List HartEnding) (r : Bool) → r ≡ pointwise eq-value.it a b → Decides r (a ≡ b)
+same_stops a b r e = slice_eq-Decides same_hart a b r e

@@ -1,15 +1,15 @@
 ghost use Rattle.std.specs.Prelude.{◌≡◌, ◌↔◌, IsTrue};
 ghost use Rattle.plan_hunt.specs.Endings.{ended};
 
-use hart_step::Stop;
+use crate::hart_ending::HartEnding;
 use std::marker::Model;
 
-/// How a run ended: why each hart stopped, the output, and the bytes of memory that are looked at.
+/// How a run ended: how each hart did, the output, and the bytes of memory that are looked at.
 ///
 /// It has no registers and no counts of instructions: they differ from plan to plan where nothing else does.
 #[derive(Drop)]
 pub struct Ending {
-    stops: Vec<Option<Stop>>,
+    stops: Vec<HartEnding>,
     output: Vec<u8>,
     seen: Vec<u8>,
 }
@@ -25,7 +25,7 @@ impl Model for Ending {
 
 impl Ending {
     /// The ending with these stops, hart by hart, this output and these bytes.
-    pub fn new(stops: Vec<Option<Stop>>, output: Vec<u8>, seen: Vec<u8>) -> Self
+    pub fn new(stops: Vec<HartEnding>, output: Vec<u8>, seen: Vec<u8>) -> Self
         ensures { result ≡ ended stops.items output.items seen.items }
     {
         Ending {
@@ -35,8 +35,8 @@ impl Ending {
         }
     }
 
-    /// Why each hart stopped, or `None` for a hart that still ran when the rounds were over.
-    pub fn stops(&self) -> &[Option<Stop>]
+    /// How each hart ended.
+    pub fn stops(&self) -> &[HartEnding]
         ensures { result.now ≡ self.now.stops }
     {
         self.stops.as_slice()
@@ -66,7 +66,7 @@ impl Ending {
     }
 }
 
-fn are_same_stops(stops: &[Option<Stop>], others: &[Option<Stop>]) -> bool
+fn are_same_stops(stops: &[HartEnding], others: &[HartEnding]) -> bool
     ensures { IsTrue result ↔ (stops.now ≡ others.now) }
 {
     stops == others

@@ -4,6 +4,7 @@
 mod adding;
 mod block;
 mod ending;
+mod hart_ending;
 mod joining;
 mod observing;
 mod row;
@@ -12,6 +13,7 @@ mod tabulating;
 mod working;
 
 pub use ending::Ending;
+pub use hart_ending::{HartEnding, are_well};
 pub use joining::join;
 pub use observing::{HuntObserver, UnobservedHunt};
 pub use row::Row;

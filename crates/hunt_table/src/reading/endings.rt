@@ -1,5 +1,5 @@
 ghost use Rattle.std.specs.Prelude.{◌≡◌, [], IfOk};
-ghost use Rattle.hunt_table.specs.Reading.{ending_at, ending_lines_at, endings_at, last_ranges, rows_of};
+ghost use Rattle.hunt_table.specs.Reading.{after_mark, ending_at, ending_lines_at, endings_at, last_ranges, rows_of};
 
 use crate::header::SeenRange;
 use crate::reading::cursor::{byte_at, number_at, skip, word_at};
@@ -41,6 +41,17 @@ fn ending_lines_at(
     Ok((row, seen.ranges, rest))
 }
 
+/// What follows the word that marks a bad ending, where it is there.
+fn after_mark(text: &[u8]) -> &[u8]
+    ensures { result.now ≡ after_mark text.now }
+{
+    if byte_at(text, 1) == b'b' {
+        skip(text, " bad".len())
+    } else {
+        text
+    }
+}
+
 /// The same from its first line on.
 #[tactic(auto, unfolding(crate::specs::Reading::ending_at))]
 fn ending_at(alloc: Global, text: &[u8]) -> Result<(Row, Vec<SeenRange>, &[u8]), OutOfMemory>
@@ -49,7 +60,7 @@ fn ending_at(alloc: Global, text: &[u8]) -> Result<(Row, Vec<SeenRange>, &[u8]),
     ensures rest { IfOk result (λ r. r.2.now ≡ (ending_at text.now).1) }
 {
     let (_number, rest) = number_at(skip(text, "ending ".len()));
-    let (plans, rest) = word_at(skip(rest, " plans ".len()));
+    let (plans, rest) = word_at(skip(after_mark(rest), " plans ".len()));
     let (first, rest) = word_at(skip(rest, " first ".len()));
     ending_lines_at(alloc, skip(rest, 1), plans, first)
 }

@@ -5,31 +5,36 @@ use crate::reading::cursor::{byte_at, hex_at, number_at, skip};
 use crate::reading::growing::push;
 use hart_step::Stop;
 use pages::OutOfMemory;
+use plan_hunt::HartEnding;
 use std::alloc::Global;
 
-/// Why a hart stopped, and what follows. The first letter tells which it is.
-fn stop_at(text: &[u8]) -> (Option<Stop>, &[u8])
+/// How a hart ended, and what follows. The first letter tells which it is.
+fn stop_at(text: &[u8]) -> (HartEnding, &[u8])
     ensures stop { result.0 ≡ (stop_at text.now).0 }
     ensures rest { result.1.now ≡ (stop_at text.now).1 }
 {
     match byte_at(text, 0) {
-        b'r' => (None, skip(text, "running".len())),
+        b'r' => (HartEnding::Runs, skip(text, "running".len())),
+        b'l' => (HartEnding::Loops, skip(text, "loops".len())),
         b'e' => {
             let digits = skip(text, "exit ".len());
             let value = hex_at(digits, 16);
-            (Some(Stop { code: 1, value }), skip(digits, 16))
+            (
+                HartEnding::Stopped(Stop { code: 1, value }),
+                skip(digits, 16),
+            )
         }
         _ => {
             let (code, rest) = number_at(skip(text, "stop ".len()));
             let code = code.min(u64::from(u8::MAX)) as u8;
-            (Some(Stop { code, value: 0 }), rest)
+            (HartEnding::Stopped(Stop { code, value: 0 }), rest)
         }
     }
 }
 
 /// What a hart's line says, and the lines after it.
 #[tactic(auto, unfolding(crate::specs::Reading::stop_line_at))]
-fn stop_line_at(text: &[u8]) -> (Option<Stop>, &[u8])
+fn stop_line_at(text: &[u8]) -> (HartEnding, &[u8])
     ensures stop { result.0 ≡ (stop_line_at text.now).0 }
     ensures rest { result.1.now ≡ (stop_line_at text.now).1 }
 {
@@ -39,10 +44,7 @@ fn stop_line_at(text: &[u8]) -> (Option<Stop>, &[u8])
 }
 
 /// The lines of harts at the front, and the lines after them.
-pub(crate) fn stops_at(
-    alloc: Global,
-    text: &[u8],
-) -> Result<(Vec<Option<Stop>>, &[u8]), OutOfMemory>
+pub(crate) fn stops_at(alloc: Global, text: &[u8]) -> Result<(Vec<HartEnding>, &[u8]), OutOfMemory>
     ensures stops { IfOk result (λ r. r.0.items ≡ (stops_at text.now).0) }
     ensures rest { IfOk result (λ r. r.1.now ≡ (stops_at text.now).1) }
 {

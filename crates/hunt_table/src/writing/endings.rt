@@ -1,11 +1,10 @@
-ghost use Rattle.std.specs.Prelude.{◌≡◌, ◌+◌, ◌<◌, ◌≤◌, ◌++◌, codes, drop, OnOk, take};
+ghost use Rattle.std.specs.Prelude.{◌≡◌, ◌&&◌, ◌+◌, ◌<◌, ◌≤◌, ◌++◌, codes, drop, OnOk, take};
 ghost use Rattle.report_lines.specs.Text.{bytes_text};
-ghost use Rattle.hunt_table.specs.Text.{ending_line, ending_text, output_line, quoted, quoted_byte, seen_line, seen_lines, stop_line, stop_lines};
+ghost use Rattle.hunt_table.specs.Text.{ending_front, ending_line, ending_text, hart_words, is_bad, mark, output_line, quoted, quoted_byte, seen_line, seen_lines, stop_line, stop_lines};
 
 use crate::header::SeenRange;
-use hart_step::Stop;
 use pages::OutOfMemory;
-use plan_hunt::Row;
+use plan_hunt::{HartEnding, Row, are_well};
 use report_lines::{Line, add_stop};
 
 /// Adds a byte as it is written between quotes.
@@ -46,19 +45,30 @@ fn add_output(line: &mut Line, output: &[u8]) -> Result<(), OutOfMemory>
     line.text("\"\n")
 }
 
+/// Adds how a hart ended.
+fn add_hart_words(line: &mut Line, hart: HartEnding) -> Result<(), OutOfMemory>
+    ensures { OnOk result (line.new ≡ line.old ++ hart_words hart) }
+{
+    match hart {
+        HartEnding::Runs => line.text("running"),
+        HartEnding::Loops => line.text("loops"),
+        HartEnding::Stopped(stop) => add_stop(line, Some(stop)),
+    }
+}
+
 /// Adds the line of a hart.
 #[tactic(auto, unfolding(crate::specs::Text::stop_line))]
-fn add_hart(line: &mut Line, hart: u64, stop: Option<Stop>) -> Result<(), OutOfMemory>
+fn add_hart(line: &mut Line, hart: u64, stop: HartEnding) -> Result<(), OutOfMemory>
     ensures { OnOk result (line.new ≡ line.old ++ stop_line hart stop) }
 {
     line.text("hart ")?;
     line.decimal(hart)?;
     line.text(" ")?;
-    add_stop(line, stop)?;
+    add_hart_words(line, stop)?;
     line.text("\n")
 }
 
-fn add_stops(line: &mut Line, stops: &[Option<Stop>]) -> Result<(), OutOfMemory>
+fn add_stops(line: &mut Line, stops: &[HartEnding]) -> Result<(), OutOfMemory>
     ensures { OnOk result (line.new ≡ line.old ++ stop_lines 0 stops.now) }
 {
     for (hart, stop) in stops.iter().enumerate() {
@@ -102,13 +112,42 @@ fn add_ranges(line: &mut Line, ranges: &[SeenRange], seen: &[u8]) -> Result<(), 
     Ok(())
 }
 
-/// Adds how many plans lead to an ending, and the first of them.
-#[tactic(auto, unfolding(crate::specs::Text::ending_line))]
-fn add_plans(line: &mut Line, number: u64, row: &Row) -> Result<(), OutOfMemory>
-    ensures { OnOk result (line.new ≡ line.old ++ ending_line number row.now) }
+/// Whether a hart runs on, was stopped by a fault, or exited with another value than 0.
+fn is_bad(row: &Row) -> bool
+    ensures { result ≡ is_bad row.now }
+{
+    !are_well(row.ending.stops())
+}
+
+/// Whether an ending has the word that marks a bad one.
+fn is_marked(marked: bool, row: &Row) -> bool
+    ensures { result ≡ (marked && is_bad row.now) }
+{
+    marked && is_bad(row)
+}
+
+/// Adds the word that marks a bad ending.
+fn add_mark(line: &mut Line, bad: bool) -> Result<(), OutOfMemory>
+    ensures { OnOk result (line.new ≡ line.old ++ mark bad) }
+{
+    if bad { line.text(" bad") } else { Ok(()) }
+}
+
+/// Adds the number of an ending, and whether it is bad.
+fn add_front(line: &mut Line, marked: bool, number: u64, row: &Row) -> Result<(), OutOfMemory>
+    ensures { OnOk result (line.new ≡ line.old ++ ending_front marked number row.now) }
 {
     line.text("ending ")?;
     line.decimal(number)?;
+    add_mark(line, is_marked(marked, row))
+}
+
+/// Adds how many plans lead to an ending, and the first of them.
+#[tactic(auto, unfolding(crate::specs::Text::ending_line))]
+fn add_plans(line: &mut Line, marked: bool, number: u64, row: &Row) -> Result<(), OutOfMemory>
+    ensures { OnOk result (line.new ≡ line.old ++ ending_line marked number row.now) }
+{
+    add_front(line, marked, number, row)?;
     line.text(" plans ")?;
     line.decimal(u64::from(row.plans))?;
     line.text(" first ")?;
@@ -120,13 +159,14 @@ fn add_plans(line: &mut Line, number: u64, row: &Row) -> Result<(), OutOfMemory>
 #[tactic(auto, unfolding(crate::specs::Text::ending_text))]
 pub(crate) fn add_ending(
     line: &mut Line,
+    marked: bool,
     ranges: &[SeenRange],
     number: u64,
     row: &Row,
 ) -> Result<(), OutOfMemory>
-    ensures { OnOk result (line.new ≡ line.old ++ ending_text ranges.now number row.now) }
+    ensures { OnOk result (line.new ≡ line.old ++ ending_text marked ranges.now number row.now) }
 {
-    add_plans(line, number, row)?;
+    add_plans(line, marked, number, row)?;
     add_stops(line, row.ending.stops())?;
     add_ranges(line, ranges, row.ending.seen())?;
     add_output(line, row.ending.output())

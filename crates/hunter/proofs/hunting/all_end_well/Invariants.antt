@@ -1,6 +1,6 @@
 use Rattle.std.proofs.Common.{◌≡◌, drop}
 use Rattle.std.specs.List.{list_all}
-use Rattle.hunter.specs.Hunts.{ends_well}
+use Rattle.plan_hunt.specs.Endings.{ends_well}
 use Rattle.hunter.proofs.hunting.all_end_well.Given as goal
 
 -- in the rows so far all end well
