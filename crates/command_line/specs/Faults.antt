@@ -75,7 +75,7 @@ has_stray_how_many rows = is_set (codes "how-many") rows
 -- a subcommand of this name runs a guest program by one plan
 abbrev pub goes_by_one_plan : Text → Bool
 goes_by_one_plan name = bytes_eq name (codes "run") || (bytes_eq name (codes "order")
-    || (bytes_eq name (codes "record") || (bytes_eq name (codes "draw") || bytes_eq name (codes "trace"))))
+    || (bytes_eq name (codes "record") || (bytes_eq name (codes "draw") || (bytes_eq name (codes "trace") || bytes_eq name (codes "execution")))))
 
 -- --seed says of which family the one plan is, whose number isn't given
 abbrev pub has_stray_seed : Text → List Row → Bool

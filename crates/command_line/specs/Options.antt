@@ -213,6 +213,10 @@ watched_round_rules =
 abbrev pub migrate_rules : List Rule
 migrate_rules = positional_rule (codes "recording") ∷ positional_rule (codes "out") ∷ []
 
+-- what `check` takes
+abbrev pub check_rules : List Rule
+check_rules = positional_rule (codes "file") ∷ []
+
 -- the command with these arguments too, one after another
 abbrev pub with_rules : App → List Rule → App
 with_rules = fold with_rule
@@ -269,6 +273,12 @@ draw_app = with_rules (running (codes "draw")) draw_rules
 abbrev pub trace_app : App
 trace_app = with_rules (running (codes "trace")) trace_rules
 
+abbrev pub execution_app : App
+execution_app = running (codes "execution")
+
+abbrev pub check_app : App
+check_app = taking (codes "check") check_rules
+
 -- `dethart` without its subcommands, of which it must be given one where it isn't asked for its version
 abbrev pub bare_app : App
 bare_app = record {
@@ -296,6 +306,10 @@ hunting_commands = hunt_app ∷ shrink_app ∷ merge_app ∷ []
 abbrev pub other_commands : List App
 other_commands = plan_app ∷ draw_app ∷ trace_app ∷ []
 
+-- those of executions
+abbrev pub execution_commands : List App
+execution_commands = execution_app ∷ check_app ∷ []
+
 -- the command with these subcommands too
 abbrev pub with_commands : App → List App → App
 with_commands = fold (λ app sub. with_subcommand app sub.top)
@@ -303,5 +317,8 @@ with_commands = fold (λ app sub. with_subcommand app sub.top)
 abbrev pub with_recording_commands : App
 with_recording_commands = with_commands (with_commands bare_app run_commands) recording_commands
 
+abbrev pub with_other_commands : App
+with_other_commands = with_commands (with_commands with_recording_commands hunting_commands) other_commands
+
 abbrev pub dethart_app : App
-dethart_app = with_commands (with_commands with_recording_commands hunting_commands) other_commands
+dethart_app = with_commands with_other_commands execution_commands

@@ -16,6 +16,7 @@ use Rattle.command_line.specs.declared.settings.FailOn.TheVariants as fail_on
 use Rattle.command_line.specs.declared.settings.Hunt.{Hunt}
 use Rattle.command_line.specs.declared.settings.Merge.{Merge}
 use Rattle.command_line.specs.declared.settings.Migrate.{Migrate}
+use Rattle.command_line.specs.declared.settings.Check.{Check}
 use Rattle.command_line.specs.declared.settings.Plan.{Plan}
 use Rattle.command_line.specs.declared.settings.PlanChoice.{PlanChoice}
 use Rattle.command_line.specs.declared.settings.Print.{Print}
@@ -231,6 +232,9 @@ pub record HoldsDraw (rows : List Row) (draw : Draw) : Type 0 where
   pub from : draw.from ≡ number_given 32 (one_of (codes "from") rows)
   pub to : draw.to ≡ number_given 32 (one_of (codes "to") rows)
 
+pub record HoldsCheck (rows : List Row) (check : Check) : Type 0 where
+  pub file : check.file.now ≡ unwrap_or (first_of (codes "file") rows) []
+
 -- the line is of the subcommand of that name, and holds its values
 abbrev pub HoldsNamed : Text → List Row → Command → Type 0
 HoldsNamed name rows (command.Run print) = (name ≡ codes "run") × HoldsPrint rows print
@@ -245,6 +249,8 @@ HoldsNamed name rows (command.Merge merge) = (name ≡ codes "merge") × HoldsMe
 HoldsNamed name rows (command.Plan plan) = (name ≡ codes "plan") × HoldsPlan rows plan
 HoldsNamed name rows (command.Draw draw) = (name ≡ codes "draw") × HoldsDraw rows draw
 HoldsNamed name rows (command.Trace run) = (name ≡ codes "trace") × HoldsRun rows run
+HoldsNamed name rows (command.Execution run) = (name ≡ codes "execution") × HoldsRun rows run
+HoldsNamed name rows (command.Check check) = (name ≡ codes "check") × HoldsCheck rows check
 
 -- the subcommand is the one that the line is of, and the line holds its values
 abbrev pub HoldsLine : Option (Text × List Row) → Command → Type 0
@@ -256,4 +262,4 @@ abbrev pub IsSubcommand : Text → Type 0
 IsSubcommand name = (name ≡ codes "run") ⊎ (name ≡ codes "order") ⊎ (name ≡ codes "record")
     ⊎ (name ≡ codes "replay") ⊎ (name ≡ codes "watch") ⊎ (name ≡ codes "migrate")
     ⊎ (name ≡ codes "hunt") ⊎ (name ≡ codes "shrink") ⊎ (name ≡ codes "merge")
-    ⊎ (name ≡ codes "plan") ⊎ (name ≡ codes "draw") ⊎ (name ≡ codes "trace")
+    ⊎ (name ≡ codes "plan") ⊎ (name ≡ codes "draw") ⊎ (name ≡ codes "trace") ⊎ (name ≡ codes "execution") ⊎ (name ≡ codes "check")

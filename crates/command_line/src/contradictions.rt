@@ -112,6 +112,7 @@ fn goes_by_one_plan(name: &str) -> bool
         || name == "record"
         || name == "draw"
         || name == "trace"
+        || name == "execution"
 }
 
 /// Whether there is a seed of the one plan, and no number of the plan.

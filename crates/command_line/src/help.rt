@@ -17,15 +17,19 @@ Examples:
   dethart plan 35 --harts 4
   dethart draw guest.elf --harts 4 --to 8 > run.svg
   dethart trace guest.elf --harts 4 --as perfetto > run.json
+  dethart execution guest.elf --harts 2 > run.txt
+  dethart check run.txt
 
 dethart run --help lists the options of a run, why a hart stops, and what each
-error N means. dethart order, record, draw and trace take the same options, but
-for those that say what is printed. dethart help, dethart help COMMAND and dethart
-version print the same as --help, COMMAND --help and --version.
+error N means. dethart order, record, draw, trace and execution take the same
+options, but for those that say what is printed. dethart help, dethart help
+COMMAND and dethart version print the same as --help, COMMAND --help and
+--version.
 
 Exit status: 0 what was asked for was printed or written, 1 a refusal (error N),
 2 a bad command line, 3 dethart replay found another run than the recorded one,
-4 dethart hunt found more endings than one, or one in which not all harts
+or dethart check an execution that is none or that RVWMO doesn't allow, 4
+dethart hunt found more endings than one, or one in which not all harts
 exited (--fail-on says when else), or dethart run --strict found a hart that
 didn't exit with value 0.";
 
@@ -101,6 +105,12 @@ A refusal is the line 'error N' on standard error, with the exit status 1:
   73  a hunt has no plan, or one with a number over 4294967294
   74  a byte that is to be seen isn't in guest memory
   75  the image has no symbol of an object of that name
+  81  execution: the file doesn't begin as one
+  82  execution: another version than 1
+  83  execution: it ends before its parts do
+  84  execution: a part isn't written as it has to be
+  85  execution: a number is too large
+  86  execution: text is left after its parts
 
 Exit status: 0 what was asked for was printed, 1 a refusal, 2 a bad command
 line, and with --strict 4 where a hart runs on, was stopped by a fault or exited

@@ -4,6 +4,7 @@
 mod arguments;
 mod asking;
 mod contradictions;
+mod execution_help;
 mod families;
 mod family_help;
 mod family_options;
@@ -23,6 +24,6 @@ mod settings;
 pub use asking::asked_by_options;
 pub use parsing::parse_line;
 pub use settings::{
-    Bytes, Command, Draw, FailOn, Hunt, Merge, Migrate, Plan, PlanChoice, Print, Program, Record,
-    Replay, Run, Search, Shown, Shrink, Watch,
+    Bytes, Check, Command, Draw, FailOn, Hunt, Merge, Migrate, Plan, PlanChoice, Print, Program,
+    Record, Replay, Run, Search, Shown, Shrink, Watch,
 };

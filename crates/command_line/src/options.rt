@@ -2,14 +2,15 @@
 ghost use Rattle.std.specs.Prelude.{◌≡◌, IfOk, IsOkAnd, false};
 ghost use Rattle.clap.specs.Words.{AddsSubcommand, app_of};
 ghost use Rattle.clap.specs.declared.builder.command.Command.TheViews.{out-Command};
-ghost use Rattle.command_line.specs.Options.{bare_app, dethart_app, hunting_commands, run_commands, with_commands, with_recording_commands};
+ghost use Rattle.command_line.specs.Options.{bare_app, dethart_app, hunting_commands, run_commands, with_commands, with_other_commands, with_recording_commands};
 
 use crate::family_options::{hunt_command, merge_command, plan_command, shrink_command};
 use crate::help::{ABOUT, AFTER_HELP};
 use crate::program_options::named_command;
 use crate::recording_options::{migrate_command, replay_command, watch_command};
 use crate::run_options::{
-    draw_command, order_command, record_command, run_command, trace_command,
+    check_command, draw_command, execution_command, order_command, record_command, run_command,
+    trace_command,
 };
 use clap::Command;
 use std::alloc::{AllocError, Global};
@@ -20,6 +21,16 @@ const VERSION: &str = "1.0.0 (logic dac8208d650f15bf)";
 /// The command `dethart` with its subcommands.
 pub(crate) fn dethart_command<'a>(alloc: Global) -> Result<Command<'a>, AllocError>
     ensures app { IfOk result (λ command. app_of command ≡ dethart_app) }
+    ensures local { IfOk result (λ command. (out-Command command).has_globals ≡ false) }
+{
+    let others = with_other_commands(alloc);
+    let executing = with_subcommand(others, execution_command(alloc));
+    with_subcommand(executing, check_command(alloc))
+}
+
+/// The command without the subcommands of executions.
+fn with_other_commands<'a>(alloc: Global) -> Result<Command<'a>, AllocError>
+    ensures app { IfOk result (λ command. app_of command ≡ with_other_commands) }
     ensures local { IfOk result (λ command. (out-Command command).has_globals ≡ false) }
 {
     let hunting = with_hunting_commands(alloc);

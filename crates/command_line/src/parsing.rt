@@ -3,7 +3,7 @@ ghost use Rattle.std.specs.Prelude.{◌≡◌, IfOk, Some, is_some, map};
 ghost use Rattle.clap.specs.Words.{FailsBy, found_of, rows_of, subcommand_of};
 ghost use Rattle.command_line.specs.Options.{dethart_app};
 ghost use Rattle.command_line.specs.Faults.{has_bad_address, has_bad_word, has_no_bytes, line_fault, names_no_bytes, word_fault};
-ghost use Rattle.command_line.specs.Reading.{HoldsLine, HoldsMigrate, HoldsNamed, HoldsReplay, HoldsWatch, IsSubcommand, address_given, asks_of_a_hart, is_unread};
+ghost use Rattle.command_line.specs.Reading.{HoldsCheck, HoldsLine, HoldsMigrate, HoldsNamed, HoldsReplay, HoldsWatch, IsSubcommand, address_given, asks_of_a_hart, is_unread};
 
 use crate::contradictions::contradiction;
 use crate::families::{has_bad_fail_on, hunt_of, merge_of, plan_of, shrink_of};
@@ -12,7 +12,7 @@ use crate::numbers::{address_in, number_given, number_of, wide_given, wide_numbe
 use crate::options::dethart_command;
 use crate::runs::{draw_of, has_bad_form, has_bad_show, print_of, record_of, run_of};
 use crate::seen::{has_bad_bytes, seen_of, texts_of};
-use crate::settings::{Command, Migrate, Replay, Watch};
+use crate::settings::{Check, Command, Migrate, Replay, Watch};
 use clap::error::ErrorKind;
 use clap::{ArgMatches, Error};
 use std::alloc::{AllocError, Global};
@@ -96,8 +96,10 @@ fn command_of<'a>(
         "merge" => Command::Merge(merge_of(alloc, matches)?),
         "plan" => Command::Plan(plan_of(matches)),
         "draw" => Command::Draw(draw_of(alloc, matches)?),
-        // There is no other than `trace`.
-        _ => Command::Trace(run_of(matches)),
+        "trace" => Command::Trace(run_of(matches)),
+        "execution" => Command::Execution(run_of(matches)),
+        // There is no other than `check`.
+        _ => Command::Check(check_of(matches)),
     })
 }
 
@@ -219,5 +221,14 @@ fn migrate_of<'a>(matches: &ArgMatches<'a>) -> Migrate<'a>
     Migrate {
         recording: matches.get_str("recording").unwrap_or(""),
         out: matches.get_str("out").unwrap_or(""),
+    }
+}
+
+/// What the matches of `check` say.
+fn check_of<'a>(matches: &ArgMatches<'a>) -> Check<'a>
+    ensures { HoldsCheck (rows_of (found_of matches.now)) result }
+{
+    Check {
+        file: matches.get_str("file").unwrap_or(""),
     }
 }

@@ -2,16 +2,17 @@
 ghost use Rattle.std.specs.Prelude.{◌≡◌, IfOk, false};
 ghost use Rattle.clap.specs.Words.{app_of};
 ghost use Rattle.clap.specs.declared.builder.command.Command.TheViews.{out-Command};
-ghost use Rattle.command_line.specs.Options.{draw_app, order_app, record_app, run_app, running, trace_app};
+ghost use Rattle.command_line.specs.Options.{check_app, draw_app, execution_app, order_app, record_app, run_app, running, trace_app};
 
 use crate::arguments::{
     Argument, HARTS, NARROW, PROGRESS, SAME_OF_OBJECT, WIDE, WORKERS, with_arguments,
 };
+use crate::execution_help::{CHECK_ABOUT, CHECK_AFTER_HELP, EXECUTION_ABOUT, EXECUTION_AFTER_HELP};
 use crate::family_help::{DRAW_ABOUT, DRAW_AFTER_HELP};
 use crate::help::{
     ORDER_ABOUT, ORDER_AFTER_HELP, RUN_ABOUT, RUN_AFTER_HELP, TRACE_ABOUT, TRACE_AFTER_HELP,
 };
-use crate::program_options::{INPUT, guest_command};
+use crate::program_options::{INPUT, guest_command, named_command};
 use crate::recording_help::{RECORD_ABOUT, RECORD_AFTER_HELP};
 use clap::Command;
 use std::alloc::{AllocError, Global};
@@ -125,6 +126,30 @@ pub(crate) fn trace_command<'a>(alloc: Global) -> Result<Command<'a>, AllocError
 {
     let command = running_command(alloc, "trace", TRACE_ABOUT, TRACE_AFTER_HELP)?;
     with_arguments(alloc, command, TRACED.as_slice())
+}
+
+/// The subcommand `execution`: how the program is run.
+pub(crate) fn execution_command<'a>(alloc: Global) -> Result<Command<'a>, AllocError>
+    ensures app { IfOk result (λ command. app_of command ≡ execution_app) }
+    ensures local { IfOk result (λ command. (out-Command command).has_globals ≡ false) }
+{
+    running_command(alloc, "execution", EXECUTION_ABOUT, EXECUTION_AFTER_HELP)
+}
+
+/// An execution.
+static CHECK: [Argument<'static>; 1] = [Argument::Positional(
+    "file",
+    "FILE",
+    "An execution, as dethart execution prints it",
+)];
+
+/// The subcommand `check`: an execution.
+pub(crate) fn check_command<'a>(alloc: Global) -> Result<Command<'a>, AllocError>
+    ensures app { IfOk result (λ command. app_of command ≡ check_app) }
+    ensures local { IfOk result (λ command. (out-Command command).has_globals ≡ false) }
+{
+    let command = named_command(alloc, "check", CHECK_ABOUT, CHECK_AFTER_HELP);
+    with_arguments(alloc, command, CHECK.as_slice())
 }
 
 /// A subcommand that runs a guest program by one plan.

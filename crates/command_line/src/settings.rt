@@ -25,6 +25,10 @@ pub enum Command<'a> {
     Draw(Draw<'a>),
     /// `trace IMAGE`: run a guest program, and print the trace in the form that ui.perfetto.dev opens.
     Trace(Run<'a>),
+    /// `execution IMAGE`: run a guest program, and print the run as an execution.
+    Execution(Run<'a>),
+    /// `check FILE`: check the execution of a file.
+    Check(Check<'a>),
 }
 
 /// A guest program, and what it is run with. The numbers are as they were given: their ranges are not tested here.
@@ -175,6 +179,13 @@ pub struct Migrate<'a> {
     pub recording: &'a str,
     /// The path of the file that the new one is written to.
     pub out: &'a str,
+}
+
+/// The words after `check`.
+#[derive(Clone, Copy, PartialEq, Eq, Drop)]
+pub struct Check<'a> {
+    /// The path of the execution.
+    pub file: &'a str,
 }
 
 /// A range of bytes in guest memory: the two words after `--see`.
