@@ -85,16 +85,20 @@ fn reads_watch(rt: HostRuntime) -> Result<(), Fail> {
     };
     let given = Watch {
         recording: "guest.rec",
-        address: 18446744073709551615,
+        address: Some(18446744073709551615),
         length: 8,
         more: Vec::from_slice(rt.alloc(), &[more])?,
+        objects: Vec::from_slice(rt.alloc(), &["top", "count"])?,
+        hart: Some(1),
+        stores: true,
+        pc: true,
         from: Some(3),
         to: Some(9),
         workers: 2,
         progress: true,
     };
     let line =
-        "dethart watch guest.rec 18446744073709551615 --see 0x200 4 --workers=2 --from=3 8 --to=9 --progress";
+        "dethart watch guest.rec 18446744073709551615 --see 0x200 4 --see-object top --workers=2 --from=3 8 --hart 1 --stores --see-object=count --pc --to=9 --progress";
     assert!(rt; is_read(&rt, line, &Command::Watch(given)));
     Ok(())
 }
@@ -103,9 +107,13 @@ fn reads_watch(rt: HostRuntime) -> Result<(), Fail> {
 fn watch<'a>(alloc: Global, address: u64, length: u64) -> Watch<'a> {
     Watch {
         recording: "guest.rec",
-        address,
+        address: Some(address),
         length,
         more: Vec::new(alloc),
+        objects: Vec::new(alloc),
+        hart: None,
+        stores: false,
+        pc: false,
         from: None,
         to: None,
         workers: 4,

@@ -6,7 +6,7 @@ use Rattle.host_io.specs.declared.error.RunError.TheVariants as refusals
 use Rattle.hunter.specs.Hunts.{all_end_well, is_one_exit}
 use Rattle.plan_hunt.specs.declared.row.Row.{Row}
 use Rattle.dethart.specs.declared.failure.Failure.{Failure}
-use Rattle.dethart.specs.declared.failure.Failure.TheVariants.{Apart, Hunt, Line, Merge, NoFile, NoObject, NoSymbols, NotATable, NotText, Plan, ReaderGone, Refused, TooLarge, Unread, Unwritten}
+use Rattle.dethart.specs.declared.failure.Failure.TheVariants.{Apart, Hunt, Line, Merge, NoExecution, NoFile, NoObject, NoSymbols, NotATable, NotText, Plan, ReaderGone, Refused, TooLarge, Unread, Unwritten}
 use Rattle.dethart.specs.declared.printing.Answer.{Answer}
 use Rattle.dethart.specs.declared.printing.Answer.TheVariants.{Done, Differs, Doubtful}
 
@@ -18,6 +18,7 @@ status_of (NoFile path reason) = 1
 status_of (Unwritten path) = 1
 status_of (TooLarge path) = 1
 status_of (Unread error) = 1
+status_of (NoExecution cause line) = 1
 status_of (Hunt error) = 1
 status_of (Merge error) = 1
 status_of (NotATable path) = 1
@@ -35,7 +36,7 @@ IsNoFile (TooLarge path) = ⊤
 IsNoFile (Refused error) = error ≡ refusals.OutOfMemory
 IsNoFile failure = ⊥
 
--- 3 where a run is another than the recorded one, and 4 where a hart did not end well, or a guest has several endings
+-- 3 where a run is another than the recorded one or an execution isn't allowed, and 4 where a hart did not end well, or a guest has several endings
 abbrev pub answer_status : Answer → ℕ
 answer_status Done = 0
 answer_status Differs = 3

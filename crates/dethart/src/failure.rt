@@ -5,6 +5,7 @@ ghost use Rattle.dethart.specs.declared.failure.Failure.TheVariants as failures;
 
 use crate::merging::Apart;
 use crate::plan_lines::BadLine;
+use execution_scripts::Cause;
 use host_io::RunError;
 use hunt_table::MergeError;
 use hunter::HuntError;
@@ -44,6 +45,8 @@ pub(crate) enum Failure {
     Unwritten(String),
     /// The file is no recording.
     Unread(ReadError),
+    /// The file is no execution: why, and in which line.
+    NoExecution(Cause, usize),
     /// The hunt was refused.
     Hunt(HuntError),
     /// The tables weren't merged.
@@ -136,6 +139,7 @@ impl Failure {
             Failure::Unwritten(_) => Some(RunError::SinkFailed.number()),
             Failure::TooLarge(_) => Some(62),
             Failure::Unread(error) => Some(error.number()),
+            Failure::NoExecution(cause, _) => Some(cause.number()),
             Failure::Hunt(error) => Some(error.number()),
             Failure::Merge(error) => Some(error.number()),
             Failure::NotATable(_) => Some(MergeError::NotATable.number()),
@@ -171,6 +175,7 @@ impl Failure {
             }
             Failure::TooLarge(path) => eprintln!(rt; "the file {path} has more than 1 GiB"),
             Failure::Unread(error) => eprintln!(rt; "{error}"),
+            Failure::NoExecution(cause, line) => { eprintln!(rt; "{cause}: line {line}") }
             Failure::Hunt(error) => eprintln!(rt; "{error}"),
             Failure::Merge(error) => eprintln!(rt; "{error}"),
             Failure::NotATable(path) => eprintln!(rt; "the file {path} is no table of a hunt"),

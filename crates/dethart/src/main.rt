@@ -1,7 +1,8 @@
 //! Runs a guest program as the command line says, and prints the report or the order of its memory operations; records runs,
-//! replays recordings, and asks them about the past; hunts for a guest's endings, and draws runs.
+//! replays recordings, and asks them about the past; hunts for a guest's endings, draws runs, and checks executions.
 #![tactic(auto)]
 
+mod executions;
 mod failure;
 mod files;
 mod hunting;
@@ -24,8 +25,8 @@ use command_line::{Command, asked_by_options, parse_line};
 use failure::Failure;
 use line::{answer_line, arguments, texts_of};
 use printing::{
-    Answer, print_drawing, print_hunt, print_merged, print_order, print_plan, print_replay,
-    print_run, print_shrunk, print_watch,
+    Answer, print_check, print_drawing, print_execution, print_hunt, print_merged, print_order,
+    print_plan, print_replay, print_run, print_shrunk, print_trace, print_watch,
 };
 use recordings::{make_recording, migrate_file};
 use std::process::ExitCode;
@@ -85,5 +86,8 @@ fn obey<R: Threads + Wait + Sync>(
         Command::Merge(asked) => print_merged(rt, asked),
         Command::Plan(asked) => print_plan(rt, asked),
         Command::Draw(asked) => print_drawing(rt, threads, asked),
+        Command::Trace(run) => print_trace(rt, threads, run),
+        Command::Execution(run) => print_execution(rt, threads, run),
+        Command::Check(asked) => print_check(rt, asked),
     }
 }

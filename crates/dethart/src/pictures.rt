@@ -1,10 +1,10 @@
-//! The command that draws a run.
+//! The commands that draw a run, and that write its trace for viewers of traces.
 
 use crate::failure::Failure;
 use crate::ranges::{NamedBytes, access_ranges, named_bytes};
 use crate::run::{RunFiles, guest_files, progress_of, read_run, settings_of};
-use command_line::{Bytes, Draw, Program};
-use drawing::{View, draw_run};
+use command_line::{Bytes, Draw, Program, Run};
+use drawing::{View, draw_run, trace_run};
 use host_io::WriteSink;
 use machine::prepare;
 use std::alloc::Global;
@@ -65,6 +65,27 @@ fn draw_files<R: Threads + Wait + Sync, W: Write>(
     files
         .plan
         .explain(rt.alloc(), asked.run.program.harts, answer)
+}
+
+/// Reads the files of a run, runs the guest program, and writes its trace as JSON.
+pub(crate) fn write_trace<R: Threads + Wait + Sync, W: Write>(
+    rt: &HostRuntime,
+    threads: &R,
+    run: &Run<'_>,
+    out: &mut W,
+) -> Result<(), Failure> {
+    let files = read_run(rt, run)?;
+    let mut progress = progress_of(rt, &run.program);
+    let answer = trace_run(
+        threads,
+        rt.alloc(),
+        &guest_files(&files.program),
+        &settings_of(&run.program, &files.plan),
+        &mut progress,
+        &mut WriteSink::new(out),
+    );
+    progress.end();
+    files.plan.explain(rt.alloc(), run.program.harts, answer)
 }
 
 /// Refuses the settings of a run, then its image, then its plan.

@@ -2,16 +2,17 @@
 ghost use Rattle.std.specs.Prelude.{◌≡◌};
 ghost use Rattle.dethart.specs.Status.{answer_status, is_doubtful};
 
+use crate::executions::{write_check, write_execution_of};
 use crate::failure::Failure;
 use crate::hunting::{write_hunt, write_shrunk};
 use crate::merging::write_merged;
 use crate::output::{finish, standard_output};
-use crate::pictures::write_drawing;
+use crate::pictures::{write_drawing, write_trace};
 use crate::plans::write_plan;
 use crate::recordings::{Replayed, write_replay, write_watch};
 use crate::repeating::{tell_endings, tell_plan, tell_shrunk};
 use crate::run::{write_order_of, write_run};
-use command_line::{Draw, FailOn, Hunt, Merge, Plan, Print, Replay, Run, Shrink, Watch};
+use command_line::{Check, Draw, FailOn, Hunt, Merge, Plan, Print, Replay, Run, Shrink, Watch};
 use hunter::{all_end_well, is_one_exit};
 use plan_hunt::Row;
 use std::sync::Wait;
@@ -22,7 +23,7 @@ use std::thread::Threads;
 pub(crate) enum Answer {
     /// What was asked for is done.
     Done,
-    /// A replayed run is another than the recorded one.
+    /// A replayed run is another than the recorded one, or RVWMO doesn't allow an execution.
     Differs,
     /// A hart did not end well, or a guest has several endings.
     Doubtful,
@@ -163,4 +164,39 @@ pub(crate) fn print_drawing<R: Threads + Wait + Sync>(
     let written = write_drawing(rt, threads, asked, &mut out);
     finish(out, written)?;
     Ok(Answer::Done)
+}
+
+/// Runs the guest program, and prints its trace for viewers of traces.
+pub(crate) fn print_trace<R: Threads + Wait + Sync>(
+    rt: &HostRuntime,
+    threads: &R,
+    run: &Run<'_>,
+) -> Result<Answer, Failure> {
+    let mut out = standard_output(rt)?;
+    let written = write_trace(rt, threads, run, &mut out);
+    finish(out, written)?;
+    Ok(Answer::Done)
+}
+
+/// Runs the guest program, and prints the run as an execution.
+pub(crate) fn print_execution<R: Threads + Wait + Sync>(
+    rt: &HostRuntime,
+    threads: &R,
+    run: &Run<'_>,
+) -> Result<Answer, Failure> {
+    let mut out = standard_output(rt)?;
+    let written = write_execution_of(rt, threads, run, &mut out);
+    finish(out, written)?;
+    Ok(Answer::Done)
+}
+
+/// Checks the execution of a file, and prints whether RVWMO allows it.
+pub(crate) fn print_check(rt: &HostRuntime, asked: &Check<'_>) -> Result<Answer, Failure> {
+    let mut out = standard_output(rt)?;
+    let written = write_check(rt, asked, &mut out);
+    Ok(if finish(out, written)? {
+        Answer::Done
+    } else {
+        Answer::Differs
+    })
 }

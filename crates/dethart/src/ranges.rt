@@ -1,12 +1,13 @@
 //! The bytes of guest memory that a command line names, by address or by a symbol.
 
 use crate::failure::Failure;
-use command_line::Bytes;
+use command_line::{Bytes, Watch};
 use elf_symbols::{find_object, has_symbol_table};
 use host_io::RunError;
 use hunt_table::SeenRange;
 use hunter::HuntError;
 use pages::Range;
+use replayer::Recording;
 use std::alloc::{AllocError, Global};
 
 /// The bytes that a command line names, and why they can't be looked at, if that is so.
@@ -53,6 +54,35 @@ pub(crate) fn named_bytes(
         None
     };
     Ok(NamedBytes { bytes, fault })
+}
+
+/// The bytes that are watched: those that are named by addresses, and those of objects of the recording's image.
+///
+/// # Errors
+///
+/// `NoObject` and `NoSymbols`, and `OutOfMemory`.
+pub(crate) fn watched_bytes(
+    alloc: Global,
+    recording: &Recording,
+    asked: &Watch<'_>,
+) -> Result<Vec<Bytes>, Failure> {
+    let mut bytes = Vec::from_slice(alloc, &asked.more)?;
+    if let Some(address) = asked.address {
+        bytes.push(Bytes {
+            address,
+            length: asked.length,
+        })?;
+    }
+    for name in &asked.objects {
+        match find_object(recording.image(), name.as_bytes()) {
+            Some(object) => bytes.push(Bytes {
+                address: object.address,
+                length: object.length,
+            })?,
+            None => return Err(no_object(alloc, recording.image(), name)?),
+        }
+    }
+    Ok(bytes)
 }
 
 /// The failure of a name of no object.

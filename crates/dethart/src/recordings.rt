@@ -3,21 +3,23 @@
 use crate::failure::Failure;
 use crate::files::read_recording_of;
 use crate::progress::Progress;
-use crate::ranges::{access_ranges, is_in_memory};
+use crate::ranges::{access_ranges, is_in_memory, watched_bytes};
 use crate::run::{progress_of, read_run, settings_of};
 use crate::saving::save;
 use command_line::{Bytes, Migrate, Record, Replay, Watch};
 use hart_step::Hart;
 use host_io::{RunError, Sink, WriteSink, put_all};
+use machine::Unobserved;
 use replayer::{
-    Recording, Rounds, Verdict, count_at, migrate, record_observed, replay_observed, state_at,
-    state_before, watch_rounds,
+    Hit, Recording, Rounds, Verdict, choose, count_at, migrate, pcs_before, record_observed,
+    replay_observed, state_at, state_before, watch_rounds,
 };
 use report::{write_event, write_hart};
-use std::alloc::{AllocError, Global};
+use std::alloc::Global;
 use std::io::Write;
 use std::sync::Wait;
 use std::thread::Threads;
+use trace_events::write_event_with_pc;
 
 /// Runs the guest program, and writes its recording to a file.
 pub(crate) fn make_recording<R: Threads + Wait + Sync>(
@@ -178,16 +180,6 @@ fn put_number<S: Sink>(
     put_all(sink, line.as_bytes())
 }
 
-/// The bytes that are watched.
-fn watched_bytes(alloc: Global, asked: &Watch<'_>) -> Result<Vec<Bytes>, AllocError> {
-    let mut named = Vec::from_slice(alloc, &asked.more)?;
-    named.push(Bytes {
-        address: asked.address,
-        length: asked.length,
-    })?;
-    Ok(named)
-}
-
 /// Says on standard error that there are no such bytes, or that memory of so many pages doesn't have all of them: so that nobody
 /// takes a wrong address for one that is never touched.
 fn tell_of_bytes(rt: &HostRuntime, bytes: &Bytes, pages: u32) {
@@ -201,6 +193,26 @@ fn tell_of_bytes(rt: &HostRuntime, bytes: &Bytes, pages: u32) {
     }
 }
 
+/// Refuses a number of workers that is out of range, then a recording's image, then its plan.
+fn refuse_recording<R: Threads + Wait + Sync>(
+    alloc: Global,
+    threads: &R,
+    recording: &Recording,
+    workers: u32,
+) -> Result<(), RunError> {
+    let no_rounds = Rounds { first: 0, last: 0 };
+    let _no_hits = watch_rounds(
+        threads,
+        alloc,
+        recording,
+        &[],
+        no_rounds,
+        workers,
+        &mut Unobserved,
+    )?;
+    Ok(())
+}
+
 /// Runs the recording of a file anew, and writes `hits N` and the event lines of those that hit one of the ranges.
 pub(crate) fn write_watch<R: Threads + Wait + Sync, W: Write>(
     rt: &HostRuntime,
@@ -209,7 +221,13 @@ pub(crate) fn write_watch<R: Threads + Wait + Sync, W: Write>(
     out: &mut W,
 ) -> Result<(), Failure> {
     let recording = read_recording_of(rt, asked.recording)?;
-    let named = watched_bytes(rt.alloc(), asked)?;
+    let named = match watched_bytes(rt.alloc(), &recording, asked) {
+        Ok(named) => named,
+        Err(fault) => {
+            refuse_recording(rt.alloc(), threads, &recording, asked.workers)?;
+            return Err(fault);
+        }
+    };
     for bytes in &named {
         tell_of_bytes(rt, bytes, recording.pages());
     }
@@ -228,11 +246,28 @@ pub(crate) fn write_watch<R: Threads + Wait + Sync, W: Write>(
         &mut progress,
     );
     progress.end();
-    let hits = found?;
-    let mut sink = WriteSink::new(out);
-    put_number(rt.alloc(), "hits", hits.len() as u64, &mut sink)?;
-    for hit in &hits {
-        write_event(rt.alloc(), hit, &mut sink)?;
+    let hits = choose(rt.alloc(), found?, asked.hart, asked.stores)?;
+    let pcs = if asked.pc {
+        pcs_before(threads, rt.alloc(), &recording, &hits, asked.workers)?
+    } else {
+        Vec::new(rt.alloc())
+    };
+    Ok(put_hits(rt.alloc(), &hits, &pcs, &mut WriteSink::new(out))?)
+}
+
+/// Puts how many hits there are, and a line for each, with its pc where there is one.
+fn put_hits<S: Sink>(
+    alloc: Global,
+    hits: &[Hit],
+    pcs: &[Option<u64>],
+    sink: &mut S,
+) -> Result<(), RunError> {
+    put_number(alloc, "hits", hits.len() as u64, sink)?;
+    for (number, hit) in hits.iter().enumerate() {
+        match pcs.get(number) {
+            Some(Some(pc)) => write_event_with_pc(alloc, hit, *pc, sink)?,
+            _ => write_event(alloc, hit, sink)?,
+        }
     }
     Ok(())
 }

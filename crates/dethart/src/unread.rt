@@ -9,6 +9,7 @@ pub(crate) fn tell_unread(rt: &HostRuntime, command: &Command<'_>) {
         Command::Order(run) => tell_of_plan(rt, &run.plan),
         Command::Record(asked) => tell_of_plan(rt, &asked.run.plan),
         Command::Draw(asked) => tell_of_plan(rt, &asked.run.plan),
+        Command::Execution(run) => tell_of_plan(rt, &run.plan),
         Command::Replay(asked) => tell_of_replay(rt, asked),
         _ => {}
     }

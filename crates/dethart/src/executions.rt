@@ -1,0 +1,108 @@
+//! The commands of executions: a run as one, and whether RVWMO allows one.
+
+use crate::failure::Failure;
+use crate::files::read_file;
+use crate::run::{progress_of, read_run, settings_of};
+use command_line::{Check, Run};
+use execution_scripts::{
+    Checked, ExecutionFile, Finding, ReadError, Refusal, Verdict, check_file, execution_of_run,
+    read_execution, write_execution,
+};
+use host_io::{RunError, Sink, WriteSink, put_all};
+use report::write_hart;
+use std::alloc::{AllocError, Global};
+use std::io::Write;
+use std::sync::Wait;
+use std::thread::Threads;
+
+/// Runs the guest program, and writes the run as an execution.
+pub(crate) fn write_execution_of<R: Threads + Wait + Sync, W: Write>(
+    rt: &HostRuntime,
+    threads: &R,
+    run: &Run<'_>,
+    out: &mut W,
+) -> Result<(), Failure> {
+    let files = read_run(rt, run)?;
+    let mut progress = progress_of(rt, &run.program);
+    let made = execution_of_run(
+        threads,
+        rt.alloc(),
+        &files.program.image,
+        &files.program.input,
+        &settings_of(&run.program, &files.plan),
+        &mut progress,
+    );
+    progress.end();
+    let file = files.plan.explain(rt.alloc(), run.program.harts, made)?;
+    Ok(write_execution(rt.alloc(), &file, &mut WriteSink::new(out))?)
+}
+
+/// Checks the execution of a file, and writes whether RVWMO allows it. Answers that too.
+pub(crate) fn write_check<W: Write>(
+    rt: &HostRuntime,
+    asked: &Check<'_>,
+    out: &mut W,
+) -> Result<bool, Failure> {
+    let file = read_execution_of(rt, asked.file)?;
+    let checked = check_file(rt.alloc(), &file)?;
+    Ok(write_checked(rt.alloc(), &checked, &mut WriteSink::new(out))?)
+}
+
+/// The execution that a file holds.
+///
+/// # Errors
+///
+/// `NoFile`, `TooLarge`, `NoExecution`, and `OutOfMemory`.
+fn read_execution_of(rt: &HostRuntime, path: &str) -> Result<ExecutionFile, Failure> {
+    let text = read_file(rt, path)?;
+    match read_execution(rt.alloc(), &text) {
+        Ok(file) => Ok(file),
+        Err(ReadError::OutOfMemory) => Err(Failure::Refused(RunError::OutOfMemory)),
+        Err(ReadError::Refused(refusal)) => Err(Failure::NoExecution(
+            refusal.cause,
+            line_of(&text, &refusal),
+        )),
+    }
+}
+
+/// The number of the line where a text is refused, from 1 on.
+fn line_of(text: &[u8], refusal: &Refusal) -> usize {
+    let before = text.len().saturating_sub(refusal.left);
+    let mut line = 1usize;
+    for byte in &text[..before] {
+        if *byte == b'\n' {
+            line = line.wrapping_add(1);
+        }
+    }
+    line
+}
+
+/// Writes what was found of an execution. Answers whether RVWMO allows it.
+fn write_checked<S: Sink>(alloc: Global, checked: &Checked, out: &mut S) -> Result<bool, RunError> {
+    if checked.finding == Finding::Judged(Verdict::Allowed) {
+        put_all(out, b"allowed\n")?;
+        let mut number = 0u32;
+        for hart in checked.execution.harts() {
+            write_hart(alloc, number, hart, out)?;
+            number = number.wrapping_add(1);
+        }
+        return Ok(true);
+    }
+    put_all(out, b"refused\n")?;
+    let Ok(reason) = reason_of(alloc, checked) else {
+        return Err(RunError::OutOfMemory);
+    };
+    put_all(out, reason.as_bytes())?;
+    Ok(false)
+}
+
+/// The line that says why an execution is refused.
+fn reason_of(alloc: Global, checked: &Checked) -> Result<String, AllocError> {
+    match checked.finding {
+        Finding::Fault(fault) => format!(in alloc; "{fault}\n"),
+        Finding::Judged(verdict) => {
+            let why = verdict.reason(&checked.script, checked.execution.events());
+            format!(in alloc; "{why}\n")
+        }
+    }
+}
