@@ -45,6 +45,12 @@ fn a_table_is_read(rt: HostRuntime) -> Result<(), Fail> {
     assert!(rt; row.ending.output() == b"a\"\\\n\x01~".as_slice());
     let stops = row.ending.stops();
     assert!(rt; stops.len() == 2 && stops[1] == HartEnding::Runs);
-    assert!(rt; stops[0] == HartEnding::Stopped(Stop { code: 1, value: 255 }));
+    assert!(rt;
+        stops[0]
+            == HartEnding::Stopped(Stop {
+                code: 1,
+                value: 255
+            })
+    );
     Ok(())
 }
