@@ -16,7 +16,7 @@ fn is_refused(rt: &HostRuntime, line: &str, kind: ErrorKind, status: i32) -> boo
     }
 }
 
-static BAD_LINES: [(&str, ErrorKind); 6] = [
+static BAD_LINES: [(&str, ErrorKind); 8] = [
     ("dethart run a --harts x", ErrorKind::ValueValidation),
     (
         "dethart run a --budget=4294967296",
@@ -26,6 +26,9 @@ static BAD_LINES: [(&str, ErrorKind); 6] = [
     ("dethart run", ErrorKind::MissingRequiredArgument),
     ("dethart", ErrorKind::MissingSubcommand),
     ("dethart walk a", ErrorKind::InvalidSubcommand),
+    // It names no bytes, by ADDRESS and LENGTH or otherwise.
+    ("dethart watch a", ErrorKind::ValueValidation),
+    ("dethart watch a 1", ErrorKind::ValueValidation),
 ];
 
 #[test]
@@ -58,11 +61,9 @@ fn gives_texts_that_are_asked_for(rt: HostRuntime) {
     }
 }
 
-static ABSENT_WORDS: [&str; 11] = [
+static ABSENT_WORDS: [&str; 9] = [
     "dethart record a",
     "dethart replay --round 1",
-    "dethart watch a",
-    "dethart watch a 1",
     "dethart migrate a",
     "dethart shrink a",
     "dethart shrink a --plan-number 3",
