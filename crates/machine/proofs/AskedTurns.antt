@@ -13,6 +13,7 @@ use Rattle.hart_step.specs.Console.{ConsoleState}
 use Rattle.hart_step.specs.Numbers.{minus}
 use Rattle.hart_step.specs.Room.{HasSpares}
 use Rattle.hart_step.specs.Words.{words_of}
+use Rattle.moments.specs.Sights.{Sight}
 use Rattle.serial_phase.specs.Phase.{HasBytes, TakesTurn, turn_done}
 use Rattle.serial_phase.specs.Roomed.{HasRoom, Roomed}
 use Rattle.serial_phase.specs.Turns.{Turns}
@@ -121,27 +122,27 @@ first_ends logs m (suc i) (r ∷ rs) (o ∷ os) a = (a.0, first_ends logs m i rs
 
 -- ---- a hart in its own turn
 
-pub found_none : (budget count : ℕ) (h d e : Hart) → minus d.done h.done < count → found budget count h d e ≡ None
-found_none budget count h d e lt = let t : nat_lt (minus d.done h.done) count ≡ true = grind (arith, nat_tests) in rw t refl
+pub found_none : (budget count : ℕ) (h e : Hart) (d : Sight Hart) → minus d.hart.done h.done < count → found budget count h d e ≡ None
+found_none budget count h e d lt = let t : nat_lt (minus d.hart.done h.done) count ≡ true = grind (arith, nat_tests) in rw t refl
 
-pub found_all : (budget count : ℕ) (h d e : Hart) → count ≤ minus d.done h.done → count ≡ budget → found budget count h d e ≡ Some d
-found_all budget count h d e le all =
-    let t : nat_lt (minus d.done h.done) count ≡ false = grind (arith, nat_tests) in
+pub found_all : (budget count : ℕ) (h e : Hart) (d : Sight Hart) → count ≤ minus d.hart.done h.done → count ≡ budget → found budget count h d e ≡ Some d
+found_all budget count h e d le all =
+    let t : nat_lt (minus d.hart.done h.done) count ≡ false = grind (arith, nat_tests) in
     let u : nat_eq count budget ≡ true = grind (arith, nat_tests) in
     rw (t, u) refl
 
-pub found_end : (budget count : ℕ) (h d e : Hart) → count ≤ minus d.done h.done → (count ≡ budget → ⊥) → e.done ≡ d.done → found budget count h d e ≡ Some e
-found_end budget count h d e le less same =
-    let t : nat_lt (minus d.done h.done) count ≡ false = grind (arith, nat_tests) in
+pub found_end : (budget count : ℕ) (h e : Hart) (d : Sight Hart) → count ≤ minus d.hart.done h.done → (count ≡ budget → ⊥) → e.done ≡ d.hart.done → found budget count h d e ≡ Some (record d { hart = e })
+found_end budget count h e d le less same =
+    let t : nat_lt (minus d.hart.done h.done) count ≡ false = grind (arith, nat_tests) in
     let u : nat_eq count budget ≡ false = grind (arith, nat_tests) in
-    let v : nat_eq e.done d.done ≡ true = grind (arith, nat_tests) in
+    let v : nat_eq e.done d.hart.done ≡ true = grind (arith, nat_tests) in
     rw (t, u, v) refl
 
-pub found_further : (budget count : ℕ) (h d e : Hart) → count ≤ minus d.done h.done → (count ≡ budget → ⊥) → (e.done ≡ d.done → ⊥) → found budget count h d e ≡ Some d
-found_further budget count h d e le less differ =
-    let t : nat_lt (minus d.done h.done) count ≡ false = grind (arith, nat_tests) in
+pub found_further : (budget count : ℕ) (h e : Hart) (d : Sight Hart) → count ≤ minus d.hart.done h.done → (count ≡ budget → ⊥) → (e.done ≡ d.hart.done → ⊥) → found budget count h d e ≡ Some d
+found_further budget count h e d le less differ =
+    let t : nat_lt (minus d.hart.done h.done) count ≡ false = grind (arith, nat_tests) in
     let u : nat_eq count budget ≡ false = grind (arith, nat_tests) in
-    let v : nat_eq e.done d.done ≡ false = grind (arith, nat_tests) in
+    let v : nat_eq e.done d.hart.done ≡ false = grind (arith, nat_tests) in
     rw (t, u, v) refl
 
 -- ---- after a commit and the turns before it

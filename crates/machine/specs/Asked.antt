@@ -1,4 +1,4 @@
--- A hart within the next round, as it is found: from a shorter round of it, or from two short turns.
+-- What a hart is and sees within the next round, as it is found: from a shorter round of it, or from two short turns.
 use Rattle.std.specs.Prelude.{◌≡◌, ℕ, ◌==◌, nat_lt, Bool, if◌then◌else◌, List, [], take, Option, Some, None}
 use Rattle.pages.specs.declared.access.Range.{Range}
 use Rattle.pages.specs.Memory.{Memory, after}
@@ -10,6 +10,7 @@ use Rattle.hart_step.specs.declared.hart.Hart.{Hart}
 use Rattle.hart_step.specs.Console.{ConsoleState}
 use Rattle.hart_step.specs.Numbers.{minus}
 use Rattle.hart_step.specs.Words.{words_of}
+use Rattle.moments.specs.Sights.{Sight}
 use Rattle.serial_phase.specs.Phase.{HasBytes}
 use Rattle.serial_phase.specs.declared.shared.SharedState.{SharedState}
 use Rattle.serial_phase.specs.declared.shared.Turn.{Turn}
@@ -18,24 +19,27 @@ use Rattle.hart_rounds.specs.declared.hart_end.HartEnd.{HartEnd}
 use Rattle.machine.specs.Guests.{Shared}
 use Rattle.machine.specs.HartEnds.{AreEndsOf}
 
--- a hart that began a turn of at most `budget` instructions as h, after `count` of them: a turn of as many ends as d, and one more
--- instruction from there as e. It is none where d did fewer, and e where that one is not done, since it then ends the turn
-abbrev pub found : ℕ → ℕ → Hart → Hart → Hart → Option Hart
+-- what a hart sees that began a turn of at most `budget` instructions as h, after `count` of them: a turn of as many ends as d, and one more
+-- instruction from there leaves the hart as e. There is none where d did fewer. Where that one is not done, it ends the turn, and changes no byte
+abbrev pub found : ℕ → ℕ → Hart → Sight Hart → Hart → Option (Sight Hart)
 found budget count h d e =
-    if nat_lt (minus d.done h.done) count then None
+    if nat_lt (minus d.hart.done h.done) count then None
     else (if count == budget then Some d
-    else (if e.done == d.done then Some e
+    else (if e.done == d.hart.done then Some (record d { hart = e })
     else Some d))
 
-abbrev pub found_by : ℕ → ℕ → Hart → TabledTurn Hart ConsoleState → TabledTurn Hart ConsoleState → Option Hart
-found_by budget count h d e = found budget count h d.hart e.hart
+abbrev pub seen_at : TabledTurn Hart ConsoleState → Sight Hart
+seen_at d = record { hart = d.hart; bytes = d.bytes }
+
+abbrev pub found_by : ℕ → ℕ → Hart → TabledTurn Hart ConsoleState → TabledTurn Hart ConsoleState → Option (Sight Hart)
+found_by budget count h d e = found budget count h (seen_at d) e.hart
 
 -- the state after one more instruction of hart i's turn in round n
 abbrev pub one_further : List Range → ℕ → ℕ → TabledTurn Hart ConsoleState → TabledTurn Hart ConsoleState
 one_further code n i d = tabled_turn_from (words_of code) n i 1 (record d { log = [] })
 
 -- the same from the state in which the turn begins
-abbrev pub found_at : List Range → TurnPlace → TabledTurn Hart ConsoleState → Option Hart
+abbrev pub found_at : List Range → TurnPlace → TabledTurn Hart ConsoleState → Option (Sight Hart)
 found_at code place d =
     let e = tabled_turn_from (words_of code) place.round place.hart place.count d in
     found_by place.budget place.count d.hart e (one_further code place.round place.hart e)
@@ -58,8 +62,8 @@ ready_for_turns s rs = record {
 abbrev pub ready_for : Shared → TurnPlace → List (HartRound Hart) → TabledPhase Hart ConsoleState
 ready_for s place rs = tabled_phase_from (words_of s.memory.code) place.budget place.round 0 (take place.hart rs) (ready_for_turns s rs)
 
--- the hart at that place in its turn, where it begins the turn as h and these are the rounds of all harts
-abbrev pub found_in : Shared → TurnPlace → Hart → List (HartRound Hart) → Option Hart
+-- what the hart sees at that place in its turn, where it begins the turn as h and these are the rounds of all harts
+abbrev pub found_in : Shared → TurnPlace → Hart → List (HartRound Hart) → Option (Sight Hart)
 found_in s place h rs =
     let there = ready_for s place rs in
     found_at s.memory.code place (tabled_turn_begun h there.bytes there.console there.table)

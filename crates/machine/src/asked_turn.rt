@@ -5,7 +5,7 @@ ghost use Rattle.hart_step.specs.declared.hart.Hart.{Hart};
 ghost use Rattle.hart_step.specs.CodeTables.{Shows};
 ghost use Rattle.hart_step.specs.Room.{HasSpares};
 ghost use Rattle.serial_phase.specs.Roomed.{HasRoom};
-ghost use Rattle.machine.specs.Asked.{HadTurns, tabled_turn_begun, found_at, found_in};
+ghost use Rattle.machine.specs.Asked.{HadTurns, tabled_turn_begun, found_at, found_in, one_further};
 ghost use Rattle.machine.specs.Guests.{shared_of};
 ghost use Rattle.machine.specs.HartEnds.{AreFit, AreEndsOf, turns_of, waits_of};
 
@@ -16,6 +16,7 @@ use crate::room::make_turn_room;
 use hart_rounds::HartEnd;
 use hart_step::Hart;
 use pages::OutOfMemory;
+use seeing::Sight;
 use serial_phase::{SharedState, Turn, take_turn};
 use std::thread::Threads;
 
@@ -32,15 +33,15 @@ pub(crate) struct TurnPlace {
     pub count: u32,
 }
 
-/// A waiting hart at a place in its turn, for which it went out of its part of the round as `start`: after the commit and the turns
-/// of the harts before it. `None` where it does fewer instructions.
+/// What a waiting hart sees at a place in its turn, for which it went out of its part of the round as `start`: after the commit and
+/// the turns of the harts before it. `None` where it does fewer instructions.
 pub(crate) fn ask_turn<G, R: Threads + Sync>(
     crew: &Crew<'_, G, R>,
     shared: &mut SharedState,
     ends: &[HartEnd],
     start: Hart,
     place: TurnPlace,
-) -> Result<Option<Hart>, OutOfMemory>
+) -> Result<Option<Sight>, OutOfMemory>
     requires workers { 1 ≤ crew.now.workers }
     requires shows { Shows shared.old.pages.memory shared.old.code.first
         shared.old.code.instructions }
@@ -53,9 +54,9 @@ pub(crate) fn ask_turn<G, R: Threads + Sync>(
     requires hart { place.hart < length ends.now }
     requires budget { place.budget ≤ 1000 }
     requires count { place.count ≤ place.budget }
-    ensures { IfOk result (λ h. (logs : Bool) (rs : List (HartRound Hart)) →
+    ensures { IfOk result (λ s. (logs : Bool) (rs : List (HartRound Hart)) →
         AreEndsOf logs shared.old.pages.memory rs ends.now →
-        h ≡ found_in (shared_of shared.old) place start rs) }
+        s ≡ found_in (shared_of shared.old) place start rs) }
 {
     let earlier = &ends[..place.hart as usize];
     let turns = turns_needed(earlier, place.budget) + place.budget;
@@ -67,7 +68,7 @@ pub(crate) fn ask_turn<G, R: Threads + Sync>(
         budget: place.budget,
     };
     take_turns(shared, earlier, first);
-    Ok(hart_at(shared, start, place))
+    sight_at(shared, start, place)
 }
 
 /// Does the turns of the waiting ones among these harts, of which the first one's turn would be this.
@@ -117,8 +118,12 @@ pub(crate) fn turn_of(end: &HartEnd, turn: Turn) -> Turn
     }
 }
 
-/// A hart at a place in its turn, which begins here and now.
-fn hart_at(shared: &mut SharedState, start: Hart, place: TurnPlace) -> Option<Hart>
+/// What a hart sees at a place in its turn, which begins here and now.
+fn sight_at(
+    shared: &mut SharedState,
+    start: Hart,
+    place: TurnPlace,
+) -> Result<Option<Sight>, OutOfMemory>
     requires shows { Shows shared.old.pages.memory shared.old.code.first
         shared.old.code.instructions }
     requires hart { place.hart < length shared.old.reservations }
@@ -127,8 +132,8 @@ fn hart_at(shared: &mut SharedState, start: Hart, place: TurnPlace) -> Option<Ha
     requires console { HasRoom place.budget shared.old.console }
     requires log { place.budget ≤ shared.old.log.room }
     requires began { shared.old.log.current ≡ [] }
-    ensures { result ≡ found_at shared.old.pages.memory.code place (tabled_turn_begun start
-        shared.old.pages.memory.bytes shared.old.console.console shared.old.reservations) }
+    ensures { IfOk result (λ s. s ≡ found_at shared.old.pages.memory.code place (tabled_turn_begun start
+        shared.old.pages.memory.bytes shared.old.console.console shared.old.reservations)) }
 {
     let mut here = start;
     let turn = Turn {
@@ -138,18 +143,35 @@ fn hart_at(shared: &mut SharedState, start: Hart, place: TurnPlace) -> Option<Ha
     };
     take_turn(&mut here, shared, turn);
     if here.done.wrapping_sub(start.done) < u64::from(place.count) {
-        return None;
+        return Ok(None);
     }
+    let seen = shared.pages.share(shared.pages.allocator())?;
     if place.count == place.budget {
-        return Some(here);
+        return Ok(Some(Sight::of_memory(here, seen)));
     }
     // Where one more instruction is not done, the turn ends there, and the hart may have stopped.
-    shared.log.clear();
-    let mut next = here;
-    take_turn(&mut next, shared, Turn { budget: 1, ..turn });
+    let next = after_one_more(shared, here, turn)?;
     if next.done == here.done {
-        Some(next)
+        Ok(Some(Sight::of_memory(next, seen)))
     } else {
-        Some(here)
+        Ok(Some(Sight::of_memory(here, seen)))
     }
+}
+
+/// A hart after one more instruction of its turn.
+fn after_one_more(shared: &mut SharedState, hart: Hart, turn: Turn) -> Result<Hart, OutOfMemory>
+    requires shows { Shows shared.old.pages.memory shared.old.code.first
+        shared.old.code.instructions }
+    requires hart { turn.hart < length shared.old.reservations }
+    requires console { HasRoom 1 shared.old.console }
+    requires log { 1 ≤ shared.old.log.room }
+    ensures { IfOk result (λ h. h ≡ (one_further shared.old.pages.memory.code turn.round turn.hart
+        (tabled_turn_begun hart shared.old.pages.memory.bytes shared.old.console.console
+        shared.old.reservations)).hart) }
+{
+    shared.pages.prepare(shared.pages.allocator(), &[], 1)?;
+    shared.log.clear();
+    let mut next = hart;
+    take_turn(&mut next, shared, Turn { budget: 1, ..turn });
+    Ok(next)
 }

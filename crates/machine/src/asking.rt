@@ -1,12 +1,13 @@
-ghost use Rattle.std.specs.Prelude.{◌≡◌, ◌<◌, ◌≤◌, ◌+◌, ◌^◌, ◌⊎◌, length, Err, IfOk, IfErr};
+ghost use Rattle.std.specs.Prelude.{◌≡◌, ◌<◌, ◌≤◌, ◌+◌, ◌^◌, ◌⊎◌, length, Err, Some, IfOk, IfErr};
 ghost use Rattle.host_io.specs.declared.error.RunError.TheVariants as refusals;
-ghost use Rattle.round_schedule.specs.Past.{hart_after};
-ghost use Rattle.round_schedule.specs.Schedule.{hart_round_of};
+ghost use Rattle.moments.specs.Sights.{part_sights, sight_after};
+ghost use Rattle.round_schedule.specs.Past.{hart_after, last_of};
 ghost use Rattle.round_planner.specs.Quotas.{quotas_of};
 ghost use Rattle.hart_step.specs.CodeTables.{Shows};
 ghost use Rattle.hart_step.specs.Numbers.{minus};
 ghost use Rattle.hart_step.specs.Words.{words_of};
 ghost use Rattle.machine.specs.Machine.{Running};
+ghost use Rattle.seeing.specs.Bytes.{sight_of};
 ghost use Rattle.machine.specs.Untraced.{IsUntraced};
 
 use crate::asked_turn::{TurnPlace, ask_turn};
@@ -17,15 +18,43 @@ use crate::parallel::parallel;
 use crate::running::{MANY_LINES, MOST_WORKERS};
 use crate::untraced::UntracedMachine;
 use hart_rounds::LogForm;
-use hart_step::{AccessCount, Buffered, Hart, hart_round};
+use hart_step::Hart;
 use host_io::RunError;
 use pages::OutOfMemory;
 use parallel_phase::Open;
+use seeing::Sight;
 use serial_phase::SharedState;
 use std::sync::Wait;
 use std::thread::Threads;
 
 impl Machine {
+    /// What hart `hart` is and sees after the first `count` instructions that it does in the next round, serial ones counted: within
+    /// its part of the parallel phase memory as the round began under its own stores, and in its serial turn memory itself. With all
+    /// of them the hart is as at the round's end, its stop told. `None` where there is no such hart, or where it does fewer. It may
+    /// wait.
+    ///
+    /// # Errors
+    ///
+    /// `WorkersOutOfRange`, `RoundsExhausted` where 4,294,967,295 rounds were done before, and `OutOfMemory`.
+    pub fn sight_after<R: Threads + Wait + Sync>(
+        self,
+        rt: &R,
+        hart: u32,
+        count: u64,
+        workers: u32,
+    ) -> Result<Option<Sight>, RunError>
+        ensures sight { IfOk result (λ s. s ≡ sight_after (words_of self.code) self.plan.budget
+            (quotas_of self.plan) self.state hart count) }
+        ensures workers { (workers < 1) ⊎ (16 < workers) → result ≡ Err refusals.WorkersOutOfRange }
+        ensures exhausted { 1 ≤ workers → workers ≤ 16 → self.state.rounds + 1 ≡ 2 ^ 32 →
+            result ≡ Err refusals.RoundsExhausted }
+        ensures refused { 1 ≤ workers → workers ≤ 16 → self.state.rounds + 1 < 2 ^ 32 →
+            IfErr result (λ e. e ≡ refusals.OutOfMemory) }
+    {
+        let Machine { bare, .. } = self;
+        bare.sight_after(rt, hart, count, workers)
+    }
+
     /// Hart `hart` after the first `count` instructions that it does in the next round, serial ones counted; with all of them,
     /// the hart at the round's end, its stop told. `None` where there is no such hart, or where it does fewer. It may wait.
     ///
@@ -53,21 +82,21 @@ impl Machine {
 }
 
 impl UntracedMachine {
-    /// What `hart_after` of `Machine` gives of the run of which this is the machine without its trace. It may wait.
+    /// What `sight_after` of `Machine` gives of the run of which this is the machine without its trace. It may wait.
     ///
     /// # Errors
     ///
     /// `WorkersOutOfRange`, `RoundsExhausted` where 4,294,967,295 rounds were done before, and `OutOfMemory`.
-    pub fn hart_after<R: Threads + Wait + Sync>(
+    pub fn sight_after<R: Threads + Wait + Sync>(
         self,
         rt: &R,
         hart: u32,
         count: u64,
         workers: u32,
-    ) -> Result<Option<Hart>, RunError>
+    ) -> Result<Option<Sight>, RunError>
         requires run { (m : Running) × IsUntraced m self }
-        ensures hart { (m : Running) → IsUntraced m self → IfOk result (λ h. h ≡
-            hart_after (words_of m.code) m.plan.budget (quotas_of m.plan) m.state hart count) }
+        ensures sight { (m : Running) → IsUntraced m self → IfOk result (λ s. s ≡
+            sight_after (words_of m.code) m.plan.budget (quotas_of m.plan) m.state hart count) }
         ensures workers { (workers < 1) ⊎ (16 < workers) → result ≡ Err refusals.WorkersOutOfRange }
         ensures exhausted { 1 ≤ workers → workers ≤ 16 → self.rounds + 1 ≡ 2 ^ 32 →
             result ≡ Err refusals.RoundsExhausted }
@@ -93,19 +122,46 @@ impl UntracedMachine {
         Ok(self.ask(&crew, hart, count)?)
     }
 
-    /// The same of a hart that there is, where there is a next round.
+    /// What `hart_after` of `Machine` gives of the run of which this is the machine without its trace. It may wait.
+    ///
+    /// # Errors
+    ///
+    /// `WorkersOutOfRange`, `RoundsExhausted` where 4,294,967,295 rounds were done before, and `OutOfMemory`.
+    pub fn hart_after<R: Threads + Wait + Sync>(
+        self,
+        rt: &R,
+        hart: u32,
+        count: u64,
+        workers: u32,
+    ) -> Result<Option<Hart>, RunError>
+        requires run { (m : Running) × IsUntraced m self }
+        ensures hart { (m : Running) → IsUntraced m self → IfOk result (λ h. h ≡
+            hart_after (words_of m.code) m.plan.budget (quotas_of m.plan) m.state hart count) }
+        ensures workers { (workers < 1) ⊎ (16 < workers) → result ≡ Err refusals.WorkersOutOfRange }
+        ensures exhausted { 1 ≤ workers → workers ≤ 16 → self.rounds + 1 ≡ 2 ^ 32 →
+            result ≡ Err refusals.RoundsExhausted }
+        ensures refused { 1 ≤ workers → workers ≤ 16 → self.rounds + 1 < 2 ^ 32 →
+            IfErr result (λ e. e ≡ refusals.OutOfMemory) }
+    {
+        match self.sight_after(rt, hart, count, workers)? {
+            Some(sight) => Ok(Some(sight.hart())),
+            None => Ok(None),
+        }
+    }
+
+    /// What a hart that there is sees, where there is a next round.
     fn ask<R: Threads + Wait + Sync>(
         self,
         crew: &Crew<'_, Open, R>,
         hart: u32,
         count: u64,
-    ) -> Result<Option<Hart>, OutOfMemory>
+    ) -> Result<Option<Sight>, OutOfMemory>
         requires workers { (1 ≤ crew.now.workers) × (crew.now.workers ≤ 16) }
         requires rounds { self.rounds + 1 < 2 ^ 32 }
         requires hart { hart < length self.harts }
         requires run { (m : Running) × IsUntraced m self }
-        ensures { IfOk result (λ h. (m : Running) → IsUntraced m self →
-            h ≡ hart_after (words_of m.code) m.plan.budget (quotas_of m.plan) m.state hart count) }
+        ensures { IfOk result (λ s. (m : Running) → IsUntraced m self →
+            s ≡ sight_after (words_of m.code) m.plan.budget (quotas_of m.plan) m.state hart count) }
     {
         // The types keep: bytes in memory, at most 64 harts with quotas in range, and a budget of at most 1,000.
         self.guest.pages().bytes_fit();
@@ -129,13 +185,14 @@ impl UntracedMachine {
         let part = &parts[hart as usize];
         let done = done_since(before, part.hart);
         if count < done {
-            return Ok(Some(shorter_round(&shared, before, count as u32)?));
+            return Ok(Some(shorter_part(shared, before, count as u32)?));
         }
         if !part.waits {
             if count > done {
                 return Ok(None);
             }
-            return Ok(Some(part.hart));
+            let there = shorter_part(shared, before, count as u32)?;
+            return Ok(Some(there.with_hart(part.hart)));
         }
         if count - done > u64::from(budget) {
             return Ok(None);
@@ -158,16 +215,12 @@ fn done_since(before: Hart, after: Hart) -> u64
     after.done.wrapping_sub(before.done)
 }
 
-/// A hart after its part of the parallel phase, of so many instructions at most.
-fn shorter_round(shared: &SharedState, hart: Hart, quota: u32) -> Result<Hart, OutOfMemory>
-    requires { Shows shared.now.pages.memory shared.now.code.first shared.now.code.instructions }
-    ensures { IfOk result (λ h. h ≡ (hart_round_of (words_of shared.now.pages.memory.code)
-        shared.now.pages.memory.bytes quota hart).last.hart) }
+/// What a hart sees after its part of the parallel phase, of so many instructions at most.
+fn shorter_part(shared: SharedState, hart: Hart, quota: u32) -> Result<Sight, OutOfMemory>
+    requires { Shows shared.pages.memory shared.code.first shared.code.instructions }
+    ensures { IfOk result (λ s. last_of (part_sights (words_of shared.pages.memory.code) quota
+        (sight_of hart shared.pages.memory)) ≡ Some s) }
 {
-    let alloc = shared.pages.allocator();
-    let mut turned = hart;
-    let mut view = Buffered::new(alloc, &shared.pages);
-    let mut count = AccessCount { count: 0 };
-    let _waits = hart_round(&mut turned, &mut view, &shared.code, quota, &mut count)?;
-    Ok(turned)
+    let SharedState { pages, code, .. } = shared;
+    Sight::after_part(pages, &code, hart, quota)
 }

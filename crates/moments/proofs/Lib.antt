@@ -3,3 +3,4 @@ pub mod Seen
 pub mod Past
 pub mod Mine
 pub mod Ends
+pub mod Asked

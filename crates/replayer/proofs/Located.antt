@@ -1,6 +1,7 @@
 -- The pc of an event's instruction, from a machine before the event's round.
-use Rattle.std.proofs.Common.{◌≡◌, ℕ, zero, suc, ◌+◌, ◌-◌, ◌<◌, ◌≤◌, List, [], ◌∷◌, ◌++◌, length, get_or, map, take, slice_get, Option, None, option_map, refl, sym, ap, subst, ◌∙◌, arith}
+use Rattle.std.proofs.Common.{◌≡◌, ℕ, zero, suc, ◌+◌, ◌-◌, ◌<◌, ◌≤◌, List, [], ◌∷◌, ◌++◌, All, length, get_or, map, take, slice_get, Option, None, option_map, refl, sym, ap, subst, ◌∙◌, arith}
 use Rattle.std.specs.Option.{option_map_or}
+use Rattle.std.proofs.lemmas.List.Elements.{All-cons, All-get_or, All-nil}
 use Rattle.round_schedule.specs.declared.event.Event.{Event}
 use Rattle.round_schedule.specs.Accesses.{place_of}
 use Rattle.round_schedule.specs.Past.{hart_after}
@@ -10,7 +11,7 @@ use Rattle.hart_step.specs.Words.{words_of}
 use Rattle.machine.specs.Machine.{Running, after_rounds}
 use Rattle.machine.specs.Untraced.{IsAfter, IsUntraced, Untraced}
 use Rattle.machine.proofs.Repeated.{more_rounds, no_rounds}
-use Rattle.replayer.specs.Past.{done_before, hart_at, hart_before, pc_before}
+use Rattle.replayer.specs.Past.{IsAfterRounds, done_before, hart_at, pc_before}
 use Rattle.replayer.proofs.PastAt.{after_last, first_is_1, from_before}
 
 -- ---- a machine of a run
@@ -19,6 +20,19 @@ pub at_start : (m : Running) (u v : Untraced) → v ≡ u → u.rounds ≡ 0 →
 at_start m u v same none i =
     let e : 0 ≡ v.rounds = sym (ap (λ (x : Untraced). x.rounds) same ∙ none) in
     subst (λ (k : ℕ). IsUntraced (after_rounds k m) v) e (subst (λ (x : Running). IsUntraced x v) (no_rounds m) (subst (IsUntraced m) (sym same) i))
+
+pub at_same : (m : Running) (u v : Untraced) → v ≡ u → IsUntraced (after_rounds u.rounds m) u → IsUntraced (after_rounds v.rounds m) v
+at_same m u v same i = subst (λ (x : Untraced). IsUntraced (after_rounds x.rounds m) x) (sym same) i
+
+-- each event is after no rounds
+pub all_after : (n : ℕ) (es : List Event) → n ≡ 0 → All (IsAfterRounds n) es
+all_after n [] none = All-nil (IsAfterRounds n)
+all_after n (e ∷ es) none = All-cons (IsAfterRounds n) e es (omega (arith, none)) (all_after n es none)
+
+pub later_at : (u v : Untraced) (es : List Event) (i : ℕ) (d : Event) → u ≡ v → i < length es → All (IsAfterRounds v.rounds) es → u.rounds ≤ (get_or es i d).round - 1
+later_at u v es i d same lt later =
+    let after : IsAfterRounds v.rounds (get_or es i d) = All-get_or (IsAfterRounds v.rounds) es i d lt later in
+    subst (λ (n : ℕ). n ≤ (get_or es i d).round - 1) (sym (ap (λ (x : Untraced). x.rounds) same)) after
 
 pub after_more : (n k : ℕ) (m : Running) (u v : Untraced) → IsUntraced (after_rounds n m) u → IsAfter k u v → IsUntraced (after_rounds (n + k) m) v
 after_more n k m u v i a = subst (λ (x : Running). IsUntraced x v) (more_rounds n k m) (a (after_rounds n m) i)

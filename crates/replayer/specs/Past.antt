@@ -1,9 +1,10 @@
--- What a hart was within a round of a run, how many instructions it did in it, and in which round it did one of its instructions.
+-- What a hart was and saw within a round of a run, how many instructions it did in it, and in which round it did one of its instructions.
 use Rattle.std.specs.Prelude.{◌≡◌, ℕ, zero, suc, ◌+◌, ◌-◌, ◌<◌, ◌≤◌, nat_lt, if◌then◌else◌, length, slice_get, slice_index, Option, Some, None, option_map}
 use Rattle.std.specs.Option.{option_map_or}
 use Rattle.round_schedule.specs.declared.event.Event.{Event}
 use Rattle.round_schedule.specs.Accesses.{place_of}
 use Rattle.round_schedule.specs.Past.{hart_after}
+use Rattle.moments.specs.Sights.{Sight, sight_after}
 use Rattle.round_planner.specs.Quotas.{quotas_of}
 use Rattle.hart_step.specs.Words.{words_of}
 use Rattle.hart_step.specs.declared.hart.Hart.{Hart}
@@ -14,6 +15,11 @@ use Rattle.machine.specs.Machine.{Running, after_rounds}
 abbrev pub hart_at : ℕ → Running → ℕ → ℕ → ℕ → Option Hart
 hart_at rounds m zero hart count = None
 hart_at rounds m (suc n) hart count = if nat_lt n rounds then hart_after (words_of m.code) m.plan.budget (quotas_of m.plan) (after_rounds n m).state hart count else None
+
+-- the same, and memory as the hart saw it there
+abbrev pub sight_at : ℕ → Running → ℕ → ℕ → ℕ → Option (Sight Hart)
+sight_at rounds m zero hart count = None
+sight_at rounds m (suc n) hart count = if nat_lt n rounds then sight_after (words_of m.code) m.plan.budget (quotas_of m.plan) (after_rounds n m).state hart count else None
 
 -- it did at least so many in that round
 abbrev pub DidSoMany : ℕ → Running → ℕ → ℕ → ℕ → Type 0
@@ -47,6 +53,10 @@ IsRoundOf rounds m hart place None = (round count : ℕ) (h : Hart) → IsBefore
 -- how many instructions a hart had done before a round
 abbrev pub done_before : Running → ℕ → ℕ → ℕ
 done_before m round hart = option_map_or (λ (h : Hart). h.done) (slice_get (after_rounds (round - 1) m).state.harts hart) 0
+
+-- an event of a round that comes after so many
+abbrev pub IsAfterRounds : ℕ → Event → Type 0
+IsAfterRounds n e = n ≤ e.round - 1
 
 -- the hart of an event before the event's instruction: its place says how many the hart had done
 abbrev pub hart_before : ℕ → Running → Event → Option Hart

@@ -1,10 +1,10 @@
-ghost use Rattle.std.specs.Prelude.{◌≡◌, ◌≤◌, ◌-◌, ◌++◌, ◌∷◌, [], IfOk, IfErr, OnOk, map, option_map, slice_get};
+ghost use Rattle.std.specs.Prelude.{◌≡◌, ◌≤◌, ◌-◌, ◌++◌, ◌∷◌, [], All, IfOk, IfErr, OnOk, map, option_map, slice_get};
 ghost use Rattle.std.specs.Option.{option_map_or};
 ghost use Rattle.round_planner.specs.Quotas.{Planned};
 ghost use Rattle.host_io.specs.declared.error.RunError.TheVariants as refusals;
 ghost use Rattle.machine.specs.Machine.{Running, after_rounds};
 ghost use Rattle.machine.specs.Untraced.{IsUntraced};
-ghost use Rattle.replayer.specs.Past.{pc_before};
+ghost use Rattle.replayer.specs.Past.{IsAfterRounds, pc_before};
 ghost use Rattle.replayer.specs.Refusals.{RefusedInOrder};
 ghost use Rattle.replayer.specs.Replayed.{IsPlanFor, start_of};
 
@@ -37,11 +37,16 @@ pub fn pcs_before<R: Threads + Wait + Sync>(
     ensures in_order { RefusedInOrder workers recording.now result }
 {
     let mut start = opened_untraced(alloc, recording, workers)?;
-    pcs_from(rt, alloc, &mut start, recording.rounds(), events, workers)
+    pcs_of_run(rt, alloc, &mut start, recording.rounds(), events, workers)
 }
 
-/// The same of a run of so many rounds from a machine that was just opened.
-fn pcs_from<R: Threads + Wait + Sync>(
+/// The same of the events of a run of so many rounds, from a machine of the run that did none of their rounds. Where the events are in
+/// the order of the trace, it is run on once.
+///
+/// # Errors
+///
+/// `OutOfMemory` alone.
+pub fn pcs_of_run<R: Threads + Wait + Sync>(
     rt: &R,
     alloc: Global,
     start: &mut UntracedMachine,
@@ -50,10 +55,11 @@ fn pcs_from<R: Threads + Wait + Sync>(
     workers: u32,
 ) -> Result<Vec<Option<u64>>, RunError>
     requires workers { (1 ≤ workers) × (workers ≤ 16) }
-    requires opened { start.old.rounds ≡ 0 }
-    requires run { (m : Running) × IsUntraced m start.old }
-    ensures pcs { (m : Running) → IsUntraced m start.old →
+    requires run { (m : Running) × IsUntraced (after_rounds start.old.rounds m) start.old }
+    requires later { All (IsAfterRounds start.old.rounds) events.now }
+    ensures pcs { (m : Running) → IsUntraced (after_rounds start.old.rounds m) start.old →
         IfOk result (λ v. v.items ≡ map (pc_before rounds m) events.now) }
+    ensures stays { start.new ≡ start.old }
     ensures refused { IfErr result (λ e. e ≡ refusals.OutOfMemory) }
 {
     let mut machine = start.share()?;
@@ -66,16 +72,16 @@ fn pcs_from<R: Threads + Wait + Sync>(
     Ok(pcs)
 }
 
-/// Goes back to the start of the run where a machine of it has done this round already.
+/// Goes back to where the run was begun where a machine of it has done this round already.
 fn go_back(
     start: &mut UntracedMachine,
     machine: &mut UntracedMachine,
     round: u32,
 ) -> Result<(), RunError>
-    requires { start.old.rounds ≡ 0 }
+    requires { start.old.rounds ≤ round - 1 }
     ensures start { start.new ≡ start.old }
     ensures before { OnOk result (machine.new.rounds ≤ round - 1) }
-    ensures way { (m : Running) → IsUntraced m start.old →
+    ensures way { (m : Running) → IsUntraced (after_rounds start.old.rounds m) start.old →
         IsUntraced (after_rounds machine.old.rounds m) machine.old →
         OnOk result (IsUntraced (after_rounds machine.new.rounds m) machine.new) }
     ensures refused { IfErr result (λ e. e ≡ refusals.OutOfMemory) }

@@ -1,2 +1,2 @@
 pub mod Loaded
-pub mod PartEnds
+pub mod Parts

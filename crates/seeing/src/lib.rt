@@ -1,8 +1,6 @@
-//! What a hart is and sees at a count of the instructions of its part of a parallel phase, byte by byte.
+//! A hart at a moment of its run, and the bytes of memory that it sees there.
 #![tactic(auto)]
 
-mod parts;
-mod reading;
+mod sight;
 
-pub use parts::end_part;
-pub use reading::seen;
+pub use sight::Sight;

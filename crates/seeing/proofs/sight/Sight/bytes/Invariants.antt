@@ -1,0 +1,6 @@
+use Rattle.std.proofs.Common.{◌≡◌}
+use Rattle.seeing.specs.Bytes.{bytes_from}
+use Rattle.seeing.proofs.sight.Sight.bytes.Given as goal
+
+abbrev pub invariant-loop-place : goal.invariant-loop-place
+invariant-loop-place l = l.bytes.items ≡ bytes_from l.self.bytes l.address l.place
