@@ -72,9 +72,9 @@ symbol_at entries at = record {
   size = field entries (at + 16) 8;
 }
 
--- a symbol of type STT_OBJECT, 1, which has some bytes
-abbrev pub is_object : Symbol → Bool
-is_object s = (bit_and s.info 15 == 1) && nat_lt 0 s.size
+-- a symbol of a type, which has some bytes: 1, STT_OBJECT, is that of objects, and 2, STT_FUNC, that of functions
+abbrev pub is_of : ℕ → Symbol → Bool
+is_of kind s = (bit_and s.info 15 == kind) && nat_lt 0 s.size
 
 -- the string at a place is this name: its bytes stand there, and then the byte 0 that ends it
 abbrev pub is_name : List ℕ → ℕ → List ℕ → Bool
@@ -82,31 +82,39 @@ is_name strings at name =
     nat_lt (at + length name) (length strings) && bytes_eq (take (length name) (drop at strings)) name
     && (slice_index strings (at + length name) == 0)
 
-abbrev pub is_named_object : List ℕ → List ℕ → Symbol → Bool
-is_named_object strings name s = is_object s && is_name strings s.name name
+abbrev pub is_named : ℕ → List ℕ → List ℕ → Symbol → Bool
+is_named kind strings name s = is_of kind s && is_name strings s.name name
 
 abbrev pub object_at : Symbol → Object
 object_at s = record { address = s.value; length = s.size }
 
--- the first object of a name among n entries of 24 bytes from an offset on
-abbrev pub object_from : List ℕ → List ℕ → List ℕ → ℕ → ℕ → Option Object
-object_from entries strings name at zero = None
-object_from entries strings name at (suc n) =
-    if is_named_object strings name (symbol_at entries at) then Some (object_at (symbol_at entries at))
-    else object_from entries strings name (at + 24) n
+-- the first symbol of a type and a name among n entries of 24 bytes from an offset on
+abbrev pub object_from : ℕ → List ℕ → List ℕ → List ℕ → ℕ → ℕ → Option Object
+object_from kind entries strings name at zero = None
+object_from kind entries strings name at (suc n) =
+    if is_named kind strings name (symbol_at entries at) then Some (object_at (symbol_at entries at))
+    else object_from kind entries strings name (at + 24) n
 
-unfoldable pub object_among : List ℕ → List ℕ → List ℕ → Option Object
-object_among entries strings name = object_from entries strings name 0 (length entries / 24)
+unfoldable pub object_among : ℕ → List ℕ → List ℕ → List ℕ → Option Object
+object_among kind entries strings name = object_from kind entries strings name 0 (length entries / 24)
 
--- the object of a name in the symbol table, whose section is linked to that of the names
-abbrev pub object_in : List ℕ → List ℕ → Option Object
-object_in file name = do
+-- what a type and a name stand for in the symbol table, whose section is linked to that of the names
+abbrev pub object_in : ℕ → List ℕ → List ℕ → Option Object
+object_in kind file name = do
   symbols ← symbols_of file
   strings ← strings_of file symbols.link
   entries ← bytes_of file symbols
   names ← bytes_of file strings
-  object_among entries names name
+  object_among kind entries names name
 
--- the object of a name: none in what is no such file, nor where a table that is read passes the file's end
-unfoldable pub object_of : List ℕ → List ℕ → Option Object
-object_of file name = if has_sections file then object_in file name else None
+-- the same: none in what is no such file, nor where a table that is read passes the file's end
+unfoldable pub named_of : ℕ → List ℕ → List ℕ → Option Object
+named_of kind file name = if has_sections file then object_in kind file name else None
+
+-- the object of a name
+abbrev pub object_of : List ℕ → List ℕ → Option Object
+object_of file name = named_of 1 file name
+
+-- the function of a name
+abbrev pub function_of : List ℕ → List ℕ → Option Object
+function_of file name = named_of 2 file name

@@ -1,9 +1,9 @@
 ghost use Rattle.std.specs.Prelude.{◌≡◌};
-ghost use Rattle.elf_symbols.specs.Symbols.{has_symbol_table, object_of};
+ghost use Rattle.elf_symbols.specs.Symbols.{function_of, has_symbol_table, named_of, object_of};
 
 use crate::object::Object;
 use crate::section::{bytes_of, has_sections, strings_of, symbols_of};
-use crate::symbol::object_among;
+use crate::symbol::{FUNCTION, OBJECT, object_among};
 
 /// Whether an ELF64 file has a symbol table, as one that was stripped hasn't.
 pub fn has_symbol_table(file: &[u8]) -> bool
@@ -16,9 +16,23 @@ pub fn has_symbol_table(file: &[u8]) -> bool
 /// one or more bytes. The name is given without the byte 0 that ends it in the file.
 ///
 /// There is none where the file is no little-endian ELF64 file, or a table that is read passes its end.
-#[tactic(auto, unfolding(crate::specs::Symbols::object_of))]
 pub fn find_object(file: &[u8], name: &[u8]) -> Option<Object>
     ensures { result ≡ object_of file.now name.now }
+{
+    find_named(OBJECT, file, name)
+}
+
+/// The function of a name, likewise.
+pub fn find_function(file: &[u8], name: &[u8]) -> Option<Object>
+    ensures { result ≡ function_of file.now name.now }
+{
+    find_named(FUNCTION, file, name)
+}
+
+/// What a type and a name stand for.
+#[tactic(auto, unfolding(crate::specs::Symbols::named_of))]
+fn find_named(kind: u8, file: &[u8], name: &[u8]) -> Option<Object>
+    ensures { result ≡ named_of kind file.now name.now }
 {
     if !has_sections(file) {
         return None;
@@ -27,5 +41,5 @@ pub fn find_object(file: &[u8], name: &[u8]) -> Option<Object>
     let strings = strings_of(file, symbols.link)?;
     let entries = bytes_of(file, symbols)?;
     let names = bytes_of(file, strings)?;
-    object_among(entries, names, name)
+    object_among(kind, entries, names, name)
 }

@@ -1,11 +1,13 @@
-//! The objects that an ELF file's symbol table names.
+//! The objects and functions that an ELF file's symbol table names.
 #![tactic(auto)]
 
 mod field;
 mod finding;
 mod object;
+mod part;
 mod section;
 mod symbol;
 
-pub use finding::{find_object, has_symbol_table};
+pub use finding::{find_function, find_object, has_symbol_table};
 pub use object::Object;
+pub use part::{SymbolPart, find_object_part, function_at};

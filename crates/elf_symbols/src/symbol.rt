@@ -1,5 +1,6 @@
 ghost use Rattle.std.specs.Prelude.{◌≡◌, ◌+◌, ◌≤◌, length};
-ghost use Rattle.elf_symbols.specs.Symbols.{is_name, is_named_object, is_object, object_at, object_among, symbol_at};
+ghost use Rattle.elf_symbols.specs.Parts.{has_address, holder_among};
+ghost use Rattle.elf_symbols.specs.Symbols.{is_name, is_named, is_of, object_at, object_among, symbol_at};
 
 use crate::field::{double_at, word_at};
 use crate::object::Object;
@@ -8,7 +9,10 @@ use crate::object::Object;
 const ENTRY: usize = 24;
 
 /// The type of a symbol that is an object.
-const OBJECT: u8 = 1;
+pub(crate) const OBJECT: u8 = 1;
+
+/// The type of a symbol that is a function.
+pub(crate) const FUNCTION: u8 = 2;
 
 /// What an entry of a symbol table says.
 #[derive(Clone, Copy, Debug, PartialEq, Eq)]
@@ -48,16 +52,23 @@ impl Symbol {
         }
     }
 
-    fn is_object(&self) -> bool
-        ensures { result ≡ is_object self.now }
+    fn is_of(&self, kind: u8) -> bool
+        ensures { result ≡ is_of kind self.now }
     {
-        self.info & 15 == OBJECT && self.size > 0
+        self.info & 15 == kind && self.size > 0
     }
 
-    fn is_named_object(&self, strings: &[u8], name: &[u8]) -> bool
-        ensures { result ≡ is_named_object strings.now name.now self.now }
+    fn is_named(&self, kind: u8, strings: &[u8], name: &[u8]) -> bool
+        ensures { result ≡ is_named kind strings.now name.now self.now }
     {
-        self.is_object() && is_name(strings, self.name as usize, name)
+        self.is_of(kind) && is_name(strings, self.name as usize, name)
+    }
+
+    /// Whether it is of a type and has an address.
+    fn has_address(&self, kind: u8, address: u64) -> bool
+        ensures { result ≡ has_address kind address self.now }
+    {
+        self.is_of(kind) && self.value <= address && address - self.value < self.size
     }
 
     fn object(&self) -> Object
@@ -70,16 +81,32 @@ impl Symbol {
     }
 }
 
-/// The first object of a name among the entries of a symbol table.
+/// The first symbol of a type and a name among the entries of a symbol table.
 #[tactic(auto, unfolding(crate::specs::Symbols::object_among))]
-pub(crate) fn object_among(entries: &[u8], strings: &[u8], name: &[u8]) -> Option<Object>
-    ensures { result ≡ object_among entries.now strings.now name.now }
+pub(crate) fn object_among(kind: u8, entries: &[u8], strings: &[u8], name: &[u8]) -> Option<Object>
+    ensures { result ≡ object_among kind entries.now strings.now name.now }
 {
     let mut offset = 0;
     'entries: for _ in 0..entries.len() / ENTRY {
         let symbol = Symbol::at(entries, offset);
-        if symbol.is_named_object(strings, name) {
+        if symbol.is_named(kind, strings, name) {
             return Some(symbol.object());
+        }
+        offset += ENTRY;
+    }
+    None
+}
+
+/// The first symbol of a type that has an address among the entries of a symbol table.
+#[tactic(auto, unfolding(crate::specs::Parts::holder_among))]
+pub(crate) fn holder_among(kind: u8, entries: &[u8], address: u64) -> Option<Symbol>
+    ensures { result ≡ holder_among kind entries.now address }
+{
+    let mut offset = 0;
+    'entries: for _ in 0..entries.len() / ENTRY {
+        let symbol = Symbol::at(entries, offset);
+        if symbol.has_address(kind, address) {
+            return Some(symbol);
         }
         offset += ENTRY;
     }
