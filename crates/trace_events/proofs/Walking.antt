@@ -6,7 +6,7 @@ use Rattle.pages.specs.Memory.{in_range}
 use Rattle.round_schedule.specs.declared.event.Event.{Event}
 use Rattle.round_schedule.specs.Accesses.{address_of, bytes_of, stores, writes}
 use Rattle.round_schedule.specs.Positions.{event, writes_at}
-use Rattle.picture.specs.Sources.{gives, last_below, sees}
+use Rattle.byte_sources.specs.Sources.{gives, last_below, sees}
 use Rattle.trace_events.specs.Writers.{IndexesBy, LiesInWord, after_last, stores_word, word_at}
 
 -- what the place after the last one says

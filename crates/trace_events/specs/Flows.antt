@@ -5,7 +5,7 @@ use Rattle.std.specs.Fmt.{decimal}
 use Rattle.round_schedule.specs.declared.event.Event.{Event}
 use Rattle.round_schedule.specs.Positions.{event}
 use Rattle.report_lines.specs.Text.{hex}
-use Rattle.picture.specs.Sources.{is_place, sources}
+use Rattle.byte_sources.specs.Sources.{is_place, sources}
 
 -- the start of an end of a flow, of this kind
 unfoldable pub flow_start : List ℕ → ℕ → ℕ → List ℕ

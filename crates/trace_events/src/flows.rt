@@ -1,15 +1,15 @@
 //! The flows of a trace, as text.
 
 ghost use Rattle.std.specs.Prelude.{◌≡◌, ◌<◌, ◌^◌, ◌++◌, IfOk, OnOk, length, map};
-ghost use Rattle.std.specs.List.{list_any};
 ghost use Rattle.round_schedule.specs.Accesses.{address_of};
 ghost use Rattle.round_schedule.specs.Positions.{event};
-ghost use Rattle.picture.specs.Sources.{bytes, is_place, source, sources};
+ghost use Rattle.byte_sources.specs.Sources.{bytes, source, sources};
 ghost use Rattle.trace_events.specs.Flows.{flow_number, flow_start, flow_text, flow_to, flows_from, flows_text};
 ghost use Rattle.trace_events.specs.Writers.{Indexes};
 
 use crate::slices::track_of;
 use crate::writers::Writers;
+use byte_sources::has_place;
 use pages::OutOfMemory;
 use report_lines::Line;
 use round_schedule::{Access, Event};
@@ -72,22 +72,6 @@ fn add_flow(
     add_number(line, place as u64, byte as u64)
 }
 
-fn is_place(place: usize, found: Option<usize>) -> bool
-    ensures { result ≡ is_place place found }
-{
-    match found {
-        None => false,
-        Some(at) => at == place,
-    }
-}
-
-/// Whether one of the sources is the store at a place.
-fn has_place(found: &[Option<usize>], place: usize) -> bool
-    ensures { result ≡ list_any (is_place place) found.now }
-{
-    found.iter().any(|at| is_place(place, *at))
-}
-
 /// Adds the flow from the next byte's source, where no byte before has the same one.
 fn add_flow_to(
     line: &mut Line,
@@ -131,7 +115,7 @@ fn sources_at(
 }
 
 /// The sources of all bytes of the event at a place, where it reads any.
-#[tactic(auto, unfolding(picture::specs::Sources::sources))]
+#[tactic(auto, unfolding(byte_sources::specs::Sources::sources))]
 fn sources(
     alloc: Global,
     events: &[Event],

@@ -4,11 +4,12 @@ ghost use Rattle.std.specs.Prelude.{◌≡◌, ℕ, ◌<◌, ◌≤◌, ◌+◌,
 ghost use Rattle.round_schedule.specs.declared.event.Event.{Event};
 ghost use Rattle.round_schedule.specs.Accesses.{address_of, bytes_of, writes};
 ghost use Rattle.round_schedule.specs.Positions.{event};
-ghost use Rattle.picture.specs.Sources.{gives, last_below, sees, source};
+ghost use Rattle.byte_sources.specs.Sources.{gives, last_below, sees, source};
 ghost use Rattle.trace_events.specs.Writers.{Indexes, after_last, stores_word};
 
+use byte_sources::{sees, writes};
 use pages::OutOfMemory;
-use round_schedule::{Access, Event, Phase};
+use round_schedule::{Access, Event};
 use std::alloc::Global;
 
 /// The stores among the first events of a trace, by the words of 8 bytes that they write to. Places are counted from 1 here; 0 says
@@ -59,7 +60,7 @@ impl Writers {
     }
 
     /// The place of the store that a byte of the event at a place is from; `None` where it is as memory opened.
-    #[tactic(auto, unfolding(picture::specs::Sources::source))]
+    #[tactic(auto, unfolding(byte_sources::specs::Sources::source))]
     pub(crate) fn source(&self, events: &[Event], place: usize, byte: u64) -> Option<usize>
         requires place { place < length events.now }
         requires before { Indexes events.now place self.now }
@@ -133,20 +134,6 @@ fn stays_exact(exact: bool, access: &Access) -> bool
     ensures lies { IsTrue result → address_of access.now % 8 + bytes_of access.now ≤ 8 }
 {
     exact && access.address() % 8 + access.byte_count() <= 8
-}
-
-/// Whether an event may see what an earlier one wrote.
-fn sees(reader: &Event, writer: &Event) -> bool
-    ensures { result ≡ sees reader.now writer.now }
-{
-    reader.phase == Phase::Serial || writer.round < reader.round || writer.hart == reader.hart
-}
-
-/// Whether an access writes the byte at an address.
-fn writes(access: &Access, byte: u64) -> bool
-    ensures { result ≡ writes access.now byte }
-{
-    access.stores() && access.address() <= byte && byte - access.address() < access.byte_count()
 }
 
 /// Whether the one event writes a byte, and the other, which is later, may see it.

@@ -1,6 +1,6 @@
 use Rattle.std.proofs.Common.{◌≡◌, ◌-◌, ◌∙◌, ap, arith, false, suc, sym, true}
 use Rattle.round_schedule.specs.Positions.{event}
-use Rattle.picture.specs.Sources.{gives, last_below}
+use Rattle.byte_sources.specs.Sources.{gives, last_below}
 use Rattle.trace_events.proofs.Walking.{found_at, gives_is, not_at}
 use Rattle.trace_events.proofs.writers.look_back.Goals as goal
 

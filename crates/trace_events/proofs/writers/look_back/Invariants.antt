@@ -1,6 +1,6 @@
 use Rattle.std.proofs.Common.{◌≡◌, ◌≤◌}
 use Rattle.round_schedule.specs.Positions.{event}
-use Rattle.picture.specs.Sources.{gives, last_below}
+use Rattle.byte_sources.specs.Sources.{gives, last_below}
 use Rattle.trace_events.proofs.writers.look_back.Given as goal
 
 -- none of those that were looked at gives the byte

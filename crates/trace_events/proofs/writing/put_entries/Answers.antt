@@ -2,7 +2,7 @@ use Rattle.std.proofs.Common.{◌≡◌, ◌++◌, ◌+◌, [], Err, None, arith
 use Rattle.host_io.specs.declared.error.RunError.TheVariants.{OutOfMemory}
 use Rattle.report.specs.Pending.{way}
 use Rattle.report.proofs.Writing.{loop_stop, passed_on, same_text, wrote_none, wrote_refused, wrote_then}
-use Rattle.picture.proofs.Addresses.{low_address}
+use Rattle.byte_sources.proofs.Addresses.{low_address}
 use Rattle.trace_events.specs.TraceEvents.{entries_text}
 use Rattle.trace_events.proofs.Entries.{ends, entries_at, entry_at, goes_on}
 use Rattle.trace_events.proofs.writing.put_entries.Goals as goal

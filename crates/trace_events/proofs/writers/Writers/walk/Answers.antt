@@ -1,6 +1,6 @@
 use Rattle.std.proofs.Common.{◌≡◌, ◌-◌, ◌/◌, ◌<◌, ◌∙◌, false, true, arith, refl, subst, suc, sym}
 use Rattle.round_schedule.specs.Positions.{event}
-use Rattle.picture.specs.Sources.{gives}
+use Rattle.byte_sources.specs.Sources.{gives}
 use Rattle.trace_events.specs.Writers.{IndexesBy, after_last, stores_word}
 use Rattle.trace_events.proofs.Walking.{after_small, any_default, at_end, at_store, found_at, gives_is, goes_back, not_at}
 use Rattle.trace_events.proofs.writers.Writers.walk.Goals as goal

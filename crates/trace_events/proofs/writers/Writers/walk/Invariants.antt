@@ -1,6 +1,6 @@
 use Rattle.std.proofs.Common.{◌≡◌, ℕ, ◌/◌, ◌≤◌}
 use Rattle.round_schedule.specs.Positions.{event}
-use Rattle.picture.specs.Sources.{gives, last_below}
+use Rattle.byte_sources.specs.Sources.{gives, last_below}
 use Rattle.trace_events.specs.Writers.{after_last, stores_word}
 use Rattle.trace_events.proofs.writers.Writers.walk.Given as goal
 

@@ -1,0 +1,101 @@
+ghost use Rattle.std.specs.Prelude.{◌≡◌, ◌<◌, ◌^◌};
+ghost use Rattle.round_schedule.specs.Accesses.{address_of, byte_written, bytes_of, number_or_zero, reads, writes, written_of};
+ghost use Rattle.round_schedule.specs.Positions.{event, no_event};
+ghost use Rattle.pages.specs.Memory.{byte_of, in_range};
+
+use round_schedule::{Access, Event, Phase};
+use rv64_decode::{FenceMode, FenceSet};
+use trace::Trace;
+
+/// Whether the byte at an address is one of the bytes from another address on.
+pub fn is_in_range(start: u64, count: u64, address: u64) -> bool
+    ensures { result ≡ in_range start count address }
+{
+    start <= address && address - start < count
+}
+
+fn covers(access: &Access, byte: u64) -> bool
+    ensures { result ≡ in_range (address_of access.now) (bytes_of access.now) byte }
+{
+    is_in_range(access.address(), access.byte_count(), byte)
+}
+
+/// Whether an access reads the byte at an address.
+pub(crate) fn reads(access: &Access, byte: u64) -> bool
+    ensures { result ≡ reads access.now byte }
+{
+    access.loads() && covers(access, byte)
+}
+
+/// Whether an access writes the byte at an address.
+pub fn writes(access: &Access, byte: u64) -> bool
+    ensures { result ≡ writes access.now byte }
+{
+    access.stores() && covers(access, byte)
+}
+
+/// The event at a place of a trace; past its end a fence that orders nothing.
+pub fn event_at(trace: &Trace, place: usize) -> Event
+    ensures event { result ≡ event trace.now.events place }
+    ensures low { address_of result.access < 2 ^ 32 }
+{
+    if place < trace.len() {
+        trace.event(place)
+    } else {
+        no_event()
+    }
+}
+
+#[tactic(auto, unfolding(round_schedule::specs::Positions::no_event))]
+fn no_event() -> Event
+    ensures event { result ≡ no_event }
+    ensures low { address_of result.access ≡ 0 }
+{
+    let nothing = FenceSet {
+        reads: false,
+        writes: false,
+    };
+    Event {
+        access: Access::Fence {
+            before: nothing,
+            after: nothing,
+            mode: FenceMode::Normal,
+            place: 0,
+        },
+        round: 0,
+        hart: 0,
+        phase: Phase::Parallel,
+    }
+}
+
+/// The number that an access wrote; 0 where it wrote none.
+fn number_written(access: &Access) -> u64
+    ensures { result ≡ number_or_zero (written_of access.now) }
+{
+    match *access {
+        Access::Store { written, .. } | Access::Atomic { written, .. } => written,
+        Access::StoreConditional { written, .. } => written.unwrap_or(0),
+        _ => 0,
+    }
+}
+
+/// Byte `k` of a number, the least significant first.
+fn byte_of(number: u64, k: u64) -> u8
+    ensures { result ≡ byte_of number k }
+{
+    if k < 8 {
+        ((number >> (8 * k)) % 256) as u8
+    } else {
+        0
+    }
+}
+
+/// The byte that an access writes at an address.
+pub(crate) fn byte_written(access: &Access, address: u64) -> u8
+    ensures { result ≡ byte_written access.now address }
+{
+    byte_of(
+        number_written(access),
+        address.saturating_sub(access.address()),
+    )
+}
