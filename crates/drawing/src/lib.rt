@@ -2,6 +2,7 @@
 #![tactic(auto)]
 
 mod drawing;
+mod sites;
 mod tracing;
 
 pub use drawing::draw_run;

@@ -1,28 +1,29 @@
 -- One more box.
-use Rattle.std.proofs.Common.{◌≡◌, ℕ, ◌+◌, ◌<◌, List, [], ◌∷◌, ◌++◌, length, take, get_or, refl, sym, ap, ◌∙◌, subst, append_assoc, append-nil, arith}
+use Rattle.std.proofs.Common.{◌≡◌, ℕ, ◌+◌, ◌<◌, List, [], ◌∷◌, ◌++◌, length, take, get_or, refl, sym, ap, ◌∙◌, append_assoc, append-nil}
 use Rattle.std.proofs.lemmas.List.{take_more}
 use Rattle.round_schedule.specs.declared.event.Event.{Event}
 use Rattle.round_schedule.specs.Positions.{event}
 use Rattle.picture.specs.declared.event_box.EventBox.{EventBox}
+use Rattle.picture.specs.declared.rows.Row.{Row}
 use Rattle.picture.specs.Layout.{box_under, boxes_after, boxes_of, each_with_earlier, top_under}
 
-abbrev pub box_at : ℕ → Event → ℕ → EventBox
-box_at i e top = record { place = i; event = e; top = top }
+abbrev pub box_at : Row → Event → ℕ → EventBox
+box_at r e top = record { place = r.place; event = e; times = r.times; top = top }
 
-boxes_push : (t : List Event) (bs : List EventBox) (is : List ℕ) (i : ℕ) → boxes_after t bs (is ++ i ∷ []) ≡ boxes_after t bs is ++ box_under t (boxes_after t bs is) i ∷ []
-boxes_push t bs [] i = refl
-boxes_push t bs (j ∷ is) i = boxes_push t (bs ++ box_under t bs j ∷ []) is i
+boxes_push : (t : List Event) (bs : List EventBox) (rs : List Row) (r : Row) → boxes_after t bs (rs ++ r ∷ []) ≡ boxes_after t bs rs ++ box_under t (boxes_after t bs rs) r ∷ []
+boxes_push t bs [] r = refl
+boxes_push t bs (s ∷ rs) r = boxes_push t (bs ++ box_under t bs s ∷ []) rs r
 
-same_box : (t : List Event) (bs : List EventBox) (i : ℕ) (e : Event) (top : ℕ) → e ≡ event t i → top ≡ top_under bs e → box_at i e top ≡ box_under t bs i
-same_box t bs i e top f h = ap (λ (z : Event). box_at i z top) f ∙ ap (box_at i (event t i)) (h ∙ ap (top_under bs) f)
+same_box : (t : List Event) (bs : List EventBox) (r : Row) (e : Event) (top : ℕ) → e ≡ event t r.place → top ≡ top_under bs e → box_at r e top ≡ box_under t bs r
+same_box t bs r e top f h = ap (λ (z : Event). box_at r z top) f ∙ ap (box_at r (event t r.place)) (h ∙ ap (top_under bs) f)
 
--- one more box, of one more place
-pub boxes_more : (t : List Event) (is : List ℕ) (i d : ℕ) (bs new : List EventBox) (e : Event) (top : ℕ) → new ≡ bs ++ box_at (get_or is i d) e top ∷ [] →
-    e ≡ event t (get_or is i d) → top ≡ top_under bs e → bs ≡ boxes_of t (take i is) → i < length is → new ≡ boxes_of t (take (i + 1) is)
-boxes_more t is i d bs new e top n f h k l =
-    n ∙ ap (λ (b : EventBox). bs ++ b ∷ []) (same_box t bs (get_or is i d) e top f h)
-    ∙ ap (λ (z : List EventBox). z ++ box_under t z (get_or is i d) ∷ []) k
-    ∙ sym (ap (boxes_of t) (take_more is i d l) ∙ boxes_push t [] (take i is) (get_or is i d))
+-- one more box, of one more row
+pub boxes_more : (t : List Event) (rs : List Row) (i : ℕ) (d : Row) (bs new : List EventBox) (e : Event) (top : ℕ) → new ≡ bs ++ box_at (get_or rs i d) e top ∷ [] →
+    e ≡ event t (get_or rs i d).place → top ≡ top_under bs e → bs ≡ boxes_of t (take i rs) → i < length rs → new ≡ boxes_of t (take (i + 1) rs)
+boxes_more t rs i d bs new e top n f h k l =
+    n ∙ ap (λ (b : EventBox). bs ++ b ∷ []) (same_box t bs (get_or rs i d) e top f h)
+    ∙ ap (λ (z : List EventBox). z ++ box_under t z (get_or rs i d) ∷ []) k
+    ∙ sym (ap (boxes_of t) (take_more rs i d l) ∙ boxes_push t [] (take i rs) (get_or rs i d))
 
 each_push : (f : List EventBox → EventBox → List ℕ) (earlier bs : List EventBox) (b : EventBox) →
     each_with_earlier f earlier (bs ++ b ∷ []) ≡ each_with_earlier f earlier bs ++ f (earlier ++ bs) b

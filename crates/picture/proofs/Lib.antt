@@ -1,5 +1,5 @@
-pub mod Addresses
-pub mod Firsts
+pub mod Chains
 pub mod Growing
 pub mod Tops
-pub mod Sourcing
+pub mod Rowed
+pub mod Shown

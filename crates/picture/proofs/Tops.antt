@@ -3,9 +3,8 @@ use Rattle.std.proofs.Common.{ℕ, ◌+◌, ◌≤◌, Bool, true, false, if◌t
 use Rattle.std.specs.List.{All}
 use Rattle.std.proofs.lemmas.List.Elements.{All-head, All-tail}
 use Rattle.round_schedule.specs.declared.event.Event.{Event}
-use Rattle.round_schedule.specs.RoundTrace.{phase_number}
 use Rattle.picture.specs.declared.event_box.EventBox.{EventBox}
-use Rattle.picture.specs.Layout.{are_beside, same_part, step, top_under}
+use Rattle.picture.specs.Layout.{are_beside, step, top_under}
 
 -- the box stands at most so far down
 abbrev pub IsAbove : ℕ → EventBox → Type 0
@@ -24,7 +23,7 @@ lower_of true top s rest m h k l = l
 lower_of false top s rest m h k l = omega arith
 
 -- under boxes that stand at most so far down, a box stands at most 92 further down
-pub top_under_low : (m : ℕ) → 176 ≤ m → (bs : List EventBox) (e : Event) → All (IsAbove m) bs → top_under bs e ≤ m + 92
+pub top_under_low : (m : ℕ) → 236 ≤ m → (bs : List EventBox) (e : Event) → All (IsAbove m) bs → top_under bs e ≤ m + 92
 top_under_low m l [] e h = omega arith
 top_under_low m l (b ∷ bs) e h =
     lower_of (are_beside b.event e) b.top (step b.event e) (top_under bs e) m

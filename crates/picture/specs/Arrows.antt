@@ -2,11 +2,11 @@
 use Rattle.std.specs.Prelude.{ℕ, ◌+◌, ◌-◌, ◌==◌, Bool, true, false, if◌then◌else◌, nat_lt, List, [], ◌∷◌, ◌++◌, codes, Option}
 use Rattle.std.specs.List.{list_any}
 use Rattle.round_schedule.specs.declared.event.Event.{Event}
+use Rattle.byte_sources.specs.Sources.{is_opening, is_place, sources}
 use Rattle.picture.specs.declared.elements.Curve.{Curve}
 use Rattle.picture.specs.declared.event_box.EventBox.{EventBox}
 use Rattle.picture.specs.Elements.{curve_text, down_text}
 use Rattle.picture.specs.Layout.{left_of}
-use Rattle.picture.specs.Sources.{is_opening, is_place, sources}
 
 -- the right edge of a hart's boxes, and the middle of a box
 abbrev pub right_of : ℕ → ℕ

@@ -1,11 +1,11 @@
 -- The bands of rounds, each with its parallel part above its serial part, and the columns of harts.
-use Rattle.std.specs.Prelude.{ℕ, ◌+◌, ◌-◌, ◌==◌, if◌then◌else◌, List, [], ◌∷◌, ◌++◌, codes, Option, Some, None}
+use Rattle.std.specs.Prelude.{ℕ, ◌+◌, ◌-◌, if◌then◌else◌, List, [], ◌∷◌, ◌++◌, codes, Option, Some, None}
 use Rattle.std.specs.Fmt.{decimal}
-use Rattle.round_schedule.specs.declared.event.Event.{Event}
 use Rattle.round_schedule.specs.declared.event.Phase.{Phase}
 use Rattle.round_schedule.specs.declared.event.Phase.TheVariants.{Parallel, Serial}
 use Rattle.hart_step.specs.declared.hart.Hart.{Hart}
 use Rattle.hart_step.specs.declared.hart.Stop.{Stop}
+use Rattle.report_lines.specs.Text.{stop_text}
 use Rattle.picture.specs.declared.event_box.EventBox.{EventBox}
 use Rattle.picture.specs.Elements.{down_text, label_text, rectangle_text}
 use Rattle.picture.specs.Layout.{last_top_of_part, left_of, opens_part}
@@ -25,19 +25,24 @@ band_text width last b =
 abbrev pub band_at : ℕ → List EventBox → List EventBox → EventBox → List ℕ
 band_at width all earlier b = if opens_part earlier b.event then band_text width (last_top_of_part all b.event) b else []
 
--- why a hart has stopped; nothing where it runs
-abbrev pub stop_text : Option Stop → List ℕ
-stop_text None = []
-stop_text (Some s) = if s.code == 1 then codes "exit " ++ decimal s.value else codes "stop " ++ decimal s.code
+abbrev pub stopped_before_text : ℕ → List ℕ
+stopped_before_text from = codes "stopped before round " ++ decimal from
 
--- a hart's column: its number above it, a line, and below it how it stopped
-unfoldable pub column_text : ℕ → ℕ → Hart → List ℕ
-column_text bottom h hart =
-    label_text (codes "head") (record { x = left_of h; y = 142 }) (codes "hart " ++ decimal h)
-    ++ down_text (codes "column") (record { x = left_of h + 89; y = 150 }) (bottom + 18)
-    ++ label_text (codes "label") (record { x = left_of h; y = bottom + 34 }) (stop_text hart.stop)
+-- what a hart is at the end of the rounds that are drawn, of which `from` is the first: running, or why it stopped in one of them. One that
+-- had stopped before says so
+abbrev pub end_text : ℕ → Option Stop → Option Stop → List ℕ
+end_text from None end = stop_text end
+end_text from (Some s) end = stopped_before_text from
 
--- the columns of harts h, h + 1, ..
-abbrev pub columns_text : ℕ → ℕ → List Hart → List ℕ
-columns_text bottom h [] = []
-columns_text bottom h (hart ∷ harts) = column_text bottom h hart ++ columns_text bottom (h + 1) harts
+-- a hart's column: its number above it, a line, and below it what it is at the end
+unfoldable pub column_text : ℕ → ℕ → ℕ → Hart → Hart → List ℕ
+column_text bottom from h start end =
+    label_text (codes "head") (record { x = left_of h; y = 202 }) (codes "hart " ++ decimal h)
+    ++ down_text (codes "column") (record { x = left_of h + 89; y = 210 }) (bottom + 18)
+    ++ label_text (codes "label") (record { x = left_of h; y = bottom + 34 }) (end_text from start.stop end.stop)
+
+-- the columns of harts h, h + 1, .., as they are before round `from` and at the end
+abbrev pub columns_text : ℕ → ℕ → ℕ → List Hart → List Hart → List ℕ
+columns_text bottom from h [] ends = []
+columns_text bottom from h (s ∷ ss) [] = []
+columns_text bottom from h (s ∷ ss) (e ∷ es) = column_text bottom from h s e ++ columns_text bottom from (h + 1) ss es

@@ -1,11 +1,12 @@
 -- Where the boxes of a picture stand. All lengths are whole numbers of pixels.
-use Rattle.std.specs.Prelude.{ℕ, ◌+◌, ◌*◌, ◌==◌, ◌&&◌, Bool, not, max, if◌then◌else◌, List, [], ◌∷◌, ◌++◌, length}
+use Rattle.std.specs.Prelude.{ℕ, ◌+◌, ◌*◌, ◌==◌, ◌&&◌, Bool, not, max, if◌then◌else◌, List, [], ◌∷◌, ◌++◌}
 use Rattle.std.specs.List.{list_any}
 use Rattle.round_schedule.specs.declared.event.Event.{Event}
 use Rattle.round_schedule.specs.Events.{is_serial}
 use Rattle.round_schedule.specs.Positions.{event}
-use Rattle.round_schedule.specs.RoundTrace.{phase_number}
+use Rattle.byte_sources.specs.Parts.{same_part, same_turn}
 use Rattle.picture.specs.declared.event_box.EventBox.{EventBox}
+use Rattle.picture.specs.declared.rows.Row.{Row}
 
 -- the left edge of the column of hart h; columns are 230 apart, and boxes 178 wide and 48 high
 abbrev pub left_of : ℕ → ℕ
@@ -14,10 +15,6 @@ left_of h = 130 + 230 * h
 -- the picture is as wide as the columns of its harts, and two of them at least
 abbrev pub width_for : ℕ → ℕ
 width_for harts = left_of (max harts 2)
-
--- whether two events are of the same phase of the same round
-abbrev pub same_part : Event → Event → Bool
-same_part e f = e.round == f.round && phase_number e.phase == phase_number f.phase
 
 -- whether they may stand beside each other: the parallel parts of different harts in one round
 abbrev pub are_beside : Event → Event → Bool
@@ -29,20 +26,20 @@ step e f = if same_part e f then 68 else (if e.round == f.round then 78 else 92)
 
 -- the top of an event's box: as low as the boxes before it ask for, but for those that it stands beside
 abbrev pub top_under : List EventBox → Event → ℕ
-top_under [] e = 176
+top_under [] e = 236
 top_under (b ∷ bs) e = if are_beside b.event e then top_under bs e else max (b.top + step b.event e) (top_under bs e)
 
--- the box of the event at a place, under the boxes before it
-abbrev pub box_under : List Event → List EventBox → ℕ → EventBox
-box_under t bs i = record { place = i; event = event t i; top = top_under bs (event t i) }
+-- the box of a row, under the boxes before it
+abbrev pub box_under : List Event → List EventBox → Row → EventBox
+box_under t bs r = record { place = r.place; event = event t r.place; times = r.times; top = top_under bs (event t r.place) }
 
--- these boxes, and those of the events at these places
-abbrev pub boxes_after : List Event → List EventBox → List ℕ → List EventBox
+-- these boxes, and those of these rows
+abbrev pub boxes_after : List Event → List EventBox → List Row → List EventBox
 boxes_after t bs [] = bs
-boxes_after t bs (i ∷ is) = boxes_after t (bs ++ box_under t bs i ∷ []) is
+boxes_after t bs (r ∷ rs) = boxes_after t (bs ++ box_under t bs r ∷ []) rs
 
-abbrev pub boxes_of : List Event → List ℕ → List EventBox
-boxes_of t is = boxes_after t [] is
+abbrev pub boxes_of : List Event → List Row → List EventBox
+boxes_of t rs = boxes_after t [] rs
 
 -- the greatest top of the boxes of an event's part, and of all boxes
 abbrev pub last_top_of_part : List EventBox → Event → ℕ
@@ -50,12 +47,8 @@ last_top_of_part [] e = 0
 last_top_of_part (b ∷ bs) e = if same_part b.event e then max b.top (last_top_of_part bs e) else last_top_of_part bs e
 
 abbrev pub last_top : List EventBox → ℕ
-last_top [] = 176
+last_top [] = 236
 last_top (b ∷ bs) = max b.top (last_top bs)
-
--- whether two events are of the same hart too
-abbrev pub same_turn : Event → Event → Bool
-same_turn e f = same_part e f && e.hart == f.hart
 
 -- whether no box before an event's is of its part, and whether none is of its part and its hart
 abbrev pub opens_part : List EventBox → Event → Bool

@@ -1,6 +1,6 @@
 pub mod Views
-pub mod Sources
-pub mod Marks
+pub mod Rows
+pub mod Titles
 pub mod Layout
 pub mod Style
 pub mod Elements
@@ -8,4 +8,3 @@ pub mod Boxes
 pub mod Arrows
 pub mod Bands
 pub mod Picture
-pub mod Laws

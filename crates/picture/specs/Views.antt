@@ -1,5 +1,5 @@
 -- Which events of a trace a picture shows.
-use Rattle.std.specs.Prelude.{ℕ, ◌-◌, ◌==◌, ◌&&◌, ◌||◌, Bool, nat_le, nat_lt, List, filter, length, take}
+use Rattle.std.specs.Prelude.{ℕ, ◌==◌, ◌&&◌, ◌||◌, Bool, nat_le, nat_lt, List, filter, length}
 use Rattle.std.specs.List.{list_any, range_with_len}
 use Rattle.pages.specs.declared.access.Range.{Range}
 use Rattle.pages.specs.Memory.{in_range}
@@ -24,10 +24,3 @@ is_shown v e = nat_le v.from e.round && nat_le e.round v.to && is_seen v.ranges.
 -- the places of all such events, in rising order
 unfoldable pub places_seen : View → List Event → List ℕ
 places_seen v t = filter (λ i. is_shown v (event t i)) (range_with_len 0 (length t))
-
--- a picture shows the first 400 of them, and leaves the rest out
-abbrev pub places_shown : View → List Event → List ℕ
-places_shown v t = take 400 (places_seen v t)
-
-abbrev pub left_out : View → List Event → ℕ
-left_out v t = length (places_seen v t) - 400

@@ -4,7 +4,7 @@ ghost use Rattle.picture.specs.Arrows.{arrow_class, arrow_from, arrow_text, arro
 use crate::elements::{Curve, Point, add_curve, line_down};
 use crate::event_box::EventBox;
 use crate::layout::left_of;
-use crate::source::{has_opening, has_place, sources};
+use byte_sources::{has_opening, has_place, sources};
 use pages::OutOfMemory;
 use report_lines::Line;
 use std::alloc::Global;

@@ -1,12 +1,12 @@
 ghost use Rattle.std.specs.Prelude.{◌≡◌, ◌≤◌, ◌++◌, ◌+◌, ◌<◌, ◌^◌, OnOk, length};
-ghost use Rattle.picture.specs.Bands.{band_at, band_text, column_text, columns_text, phase_text, stop_text};
+ghost use Rattle.picture.specs.Bands.{band_at, band_text, column_text, columns_text, end_text, phase_text, stopped_before_text};
 
 use crate::elements::{Point, Rectangle, add_rectangle, line_down, start_label};
 use crate::event_box::EventBox;
 use crate::layout::{last_top_of_part, left_of, opens_part};
 use hart_step::{Hart, Stop};
 use pages::OutOfMemory;
-use report_lines::Line;
+use report_lines::{Line, add_stop};
 use round_schedule::Phase;
 
 fn phase_name(phase: Phase) -> &'static str
@@ -60,38 +60,52 @@ pub(crate) fn band_at(
     band(line, width, last_top_of_part(all, &shown.event), shown)
 }
 
-fn stopped(line: &mut Line, stop: Option<Stop>) -> Result<(), OutOfMemory>
-    ensures { OnOk result (line.new ≡ line.old ++ stop_text stop) }
+/// Adds that a hart had stopped before a round.
+fn stopped_before(line: &mut Line, round: u32) -> Result<(), OutOfMemory>
+    ensures { OnOk result (line.new ≡ line.old ++ stopped_before_text round) }
 {
-    match stop {
-        None => Ok(()),
-        Some(stop) => {
-            if stop.code == 1 {
-                line.text("exit ")?;
-                line.decimal(stop.value)
-            } else {
-                line.text("stop ")?;
-                line.decimal(stop.code as u64)
-            }
-        }
+    line.text("stopped before round ")?;
+    line.decimal(round as u64)
+}
+
+/// Adds what a hart is at the end of the rounds that are drawn.
+fn ending(
+    line: &mut Line,
+    from: u32,
+    start: Option<Stop>,
+    end: Option<Stop>,
+) -> Result<(), OutOfMemory>
+    ensures { OnOk result (line.new ≡ line.old ++ end_text from start end) }
+{
+    match start {
+        None => add_stop(line, end),
+        Some(_) => stopped_before(line, from),
     }
 }
 
-/// Adds the column of a hart.
+/// Adds the column of a hart, as it is before the rounds that are drawn, and at their end.
 #[tactic(auto, unfolding(crate::specs::Bands::column_text))]
-fn column(line: &mut Line, bottom: u64, number: u64, hart: &Hart) -> Result<(), OutOfMemory>
+fn column(
+    line: &mut Line,
+    bottom: u64,
+    from: u32,
+    number: u64,
+    start: &Hart,
+    end: &Hart,
+) -> Result<(), OutOfMemory>
     requires low { bottom < 2 ^ 33 }
     requires number { number ≤ 255 }
-    ensures { OnOk result (line.new ≡ line.old ++ column_text bottom number hart.now) }
+    ensures { OnOk result (line.new ≡
+        line.old ++ column_text bottom from number start.now end.now) }
 {
     let left = left_of(number);
-    start_label(line, "head", Point { x: left, y: 142 })?;
+    start_label(line, "head", Point { x: left, y: 202 })?;
     line.text("hart ")?;
     line.decimal(number)?;
     line.text("</text>\n")?;
     let top = Point {
         x: left + 89,
-        y: 150,
+        y: 210,
     };
     line_down(line, "column", top, bottom + 18)?;
     let below = Point {
@@ -99,7 +113,7 @@ fn column(line: &mut Line, bottom: u64, number: u64, hart: &Hart) -> Result<(), 
         y: bottom + 34,
     };
     start_label(line, "label", below)?;
-    stopped(line, hart.stop)?;
+    ending(line, from, start.stop, end.stop)?;
     line.text("</text>\n")
 }
 
@@ -107,18 +121,24 @@ fn column(line: &mut Line, bottom: u64, number: u64, hart: &Hart) -> Result<(), 
 pub(crate) fn columns(
     line: &mut Line,
     bottom: u64,
+    from: u32,
     number: u64,
-    harts: &[Hart],
+    starts: &[Hart],
+    ends: &[Hart],
 ) -> Result<(), OutOfMemory>
     requires low { bottom < 2 ^ 33 }
-    requires few { number + length harts.now ≤ 64 }
-    ensures { OnOk result (line.new ≡ line.old ++ columns_text bottom number harts.now) }
+    requires few { number + length starts.now ≤ 64 }
+    ensures { OnOk result (line.new ≡
+        line.old ++ columns_text bottom from number starts.now ends.now) }
 {
-    match harts {
+    match starts {
         [] => Ok(()),
-        [hart, rest @ ..] => {
-            column(line, bottom, number, hart)?;
-            columns(line, bottom, number + 1, rest)
-        }
+        [start, later_starts @ ..] => match ends {
+            [] => Ok(()),
+            [end, later_ends @ ..] => {
+                column(line, bottom, from, number, start, end)?;
+                columns(line, bottom, from, number + 1, later_starts, later_ends)
+            }
+        },
     }
 }

@@ -1,20 +1,27 @@
-ghost use Rattle.std.specs.Prelude.{◌≡◌, ◌≤◌, ◌++◌, OnOk};
-ghost use Rattle.picture.specs.Boxes.{box_class, box_text, line_at, lines_text, outline_text, waited_text};
+ghost use Rattle.std.specs.Prelude.{◌≡◌, ◌≤◌, ◌++◌, OnOk, map};
+ghost use Rattle.trace.specs.Traced.{opening_at};
+ghost use Rattle.picture.specs.Titles.{told};
+ghost use Rattle.picture.specs.Boxes.{box_class, box_text, last_text, line_at, lines_text, outline_text, waited_text};
 
-use crate::access::value_read as read_by;
 use crate::elements::{Point, Rectangle, add_rectangle, start_label, wait_mark};
 use crate::event_box::EventBox;
-use crate::labels::{access, value_read, written};
-use crate::layout::{is_serial, left_of, opens_turn};
-use crate::lost::is_lost;
+use crate::labels::{access, read, times, written};
+use crate::layout::{left_of, opens_turn};
+use crate::site::Site;
+use crate::titles::{site_at, title};
+use byte_sources::{Mark, is_serial, mark_of};
 use pages::OutOfMemory;
 use report_lines::Line;
 use trace::Trace;
 
-fn box_class(lost: bool) -> &'static str
-    ensures { result.now ≡ box_class lost }
+fn box_class(mark: Mark) -> &'static str
+    ensures { result.now ≡ box_class mark }
 {
-    if lost { "lost" } else { "box" }
+    match mark {
+        Mark::Lost => "lost",
+        Mark::Unread => "unread",
+        Mark::Plain => "box",
+    }
 }
 
 fn line_at(shown: &EventBox, down: u64) -> Point
@@ -28,8 +35,8 @@ fn line_at(shown: &EventBox, down: u64) -> Point
 }
 
 #[tactic(auto, unfolding(crate::specs::Boxes::outline_text))]
-fn outline(line: &mut Line, trace: &Trace, shown: &EventBox) -> Result<(), OutOfMemory>
-    ensures { OnOk result (line.new ≡ line.old ++ outline_text trace.now.events shown.now) }
+fn outline(line: &mut Line, mark: Mark, shown: &EventBox) -> Result<(), OutOfMemory>
+    ensures { OnOk result (line.new ≡ line.old ++ outline_text mark shown.now) }
 {
     let shape = Rectangle {
         x: left_of(shown.event.hart as u64),
@@ -37,7 +44,14 @@ fn outline(line: &mut Line, trace: &Trace, shown: &EventBox) -> Result<(), OutOf
         width: 178,
         height: 48,
     };
-    add_rectangle(line, box_class(is_lost(trace, shown.place)), shape)
+    add_rectangle(line, box_class(mark), shape)
+}
+
+fn last_line(line: &mut Line, shown: &EventBox) -> Result<(), OutOfMemory>
+    ensures { OnOk result (line.new ≡ line.old ++ last_text shown.now) }
+{
+    written(line, &shown.event.access)?;
+    times(line, shown.times)
 }
 
 /// Adds the three lines of a box.
@@ -50,11 +64,11 @@ fn lines(line: &mut Line, shown: &EventBox) -> Result<(), OutOfMemory>
     access(line, done)?;
     line.text("</text>\n")?;
     start_label(line, "line", line_at(shown, 28))?;
-    value_read(line, read_by(done))?;
+    read(line, done)?;
     line.text("</text>\n")?;
     let down = if done.loads() { 41 } else { 28 };
     start_label(line, "line", line_at(shown, down))?;
-    written(line, done)?;
+    last_line(line, shown)?;
     line.text("</text>\n")
 }
 
@@ -73,17 +87,22 @@ fn waited(line: &mut Line, earlier: &[EventBox], shown: &EventBox) -> Result<(),
     wait_mark(line, at)
 }
 
-/// Adds the box of an event, with its marks.
+/// Adds the box of an event, with its title and its marks.
 #[tactic(auto, unfolding(crate::specs::Boxes::box_text))]
 pub(crate) fn event_box(
     line: &mut Line,
     trace: &Trace,
+    sites: &[Site<'_>],
     earlier: &[EventBox],
     shown: &EventBox,
 ) -> Result<(), OutOfMemory>
-    ensures { OnOk result (line.new ≡ line.old ++ box_text trace.now.events earlier.now shown.now) }
+    ensures { OnOk result (line.new ≡ line.old ++ box_text trace.now.events
+        (opening_at trace.now.opening) (map told sites.now) earlier.now shown.now) }
 {
-    outline(line, trace, shown)?;
+    line.text("<g>\n")?;
+    title(line, &shown.event, &site_at(sites, earlier.len()))?;
+    outline(line, mark_of(trace, shown.place), shown)?;
     lines(line, shown)?;
-    waited(line, earlier, shown)
+    waited(line, earlier, shown)?;
+    line.text("</g>\n")
 }

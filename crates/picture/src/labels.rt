@@ -1,7 +1,7 @@
-ghost use Rattle.std.specs.Prelude.{◌≡◌, ◌++◌, [], OnOk, codes};
-ghost use Rattle.std.specs.Fmt.{decimal};
-ghost use Rattle.pages.specs.Memory.{width_bytes};
-ghost use Rattle.picture.specs.Boxes.{access_text, mode_text, operand_text, ordering_text, read_text, set_text, written_text};
+ghost use Rattle.std.specs.Prelude.{◌≡◌, ◌≤◌, ◌*◌, ◌++◌, OnOk, codes};
+ghost use Rattle.report_lines.specs.Text.{hex};
+ghost use Rattle.round_schedule.specs.Accesses.{bytes_of, read_of};
+ghost use Rattle.picture.specs.Boxes.{access_text, mode_text, operand_text, ordering_text, read_text, set_text, times_text, value_text, written_text};
 
 use pages::{OutOfMemory, Width};
 use report_lines::Line;
@@ -45,7 +45,7 @@ fn operand(line: &mut Line, width: Width, ordering: &str, address: u64) -> Resul
 {
     line.decimal(width.bytes())?;
     line.text(ordering)?;
-    line.text(" 0x")?;
+    line.text(" ")?;
     line.hex(address, 8)
 }
 
@@ -115,24 +115,52 @@ fn fence(
     line.text(fence_mode(mode))
 }
 
-/// Adds what was read.
-pub(crate) fn value_read(line: &mut Line, value: Option<u64>) -> Result<(), OutOfMemory>
-    ensures { OnOk result (line.new ≡ line.old ++ read_text value) }
+/// Adds a number of so many bytes.
+fn number(line: &mut Line, count: u64, value: u64) -> Result<(), OutOfMemory>
+    requires { count ≤ 8 }
+    ensures { OnOk result (line.new ≡ line.old ++ hex (2 * count) value) }
+{
+    line.hex(value, 2 * count as usize)
+}
+
+/// Adds what an access of so many bytes read.
+fn number_read(line: &mut Line, count: u64, value: Option<u64>) -> Result<(), OutOfMemory>
+    requires { count ≤ 8 }
+    ensures { OnOk result (line.new ≡ line.old ++ read_text count value) }
 {
     match value {
         None => Ok(()),
         Some(value) => {
             line.text("read ")?;
-            line.decimal(value)
+            number(line, count, value)
         }
     }
 }
 
-fn value_written(line: &mut Line, value: u64) -> Result<(), OutOfMemory>
-    ensures { OnOk result (line.new ≡ line.old ++ (codes "wrote " ++ decimal value)) }
+/// What an access read, where it is a load, an LR or an AMO.
+fn value_read(access: &Access) -> Option<u64>
+    ensures { result ≡ read_of access.now }
+{
+    match *access {
+        Access::Load { read, .. }
+        | Access::LoadReserved { read, .. }
+        | Access::Atomic { read, .. } => Some(read),
+        Access::Store { .. } | Access::StoreConditional { .. } | Access::Fence { .. } => None,
+    }
+}
+
+/// Adds what was read.
+pub(crate) fn read(line: &mut Line, access: &Access) -> Result<(), OutOfMemory>
+    ensures { OnOk result (line.new ≡ line.old ++ read_text (bytes_of access.now) (read_of access.now)) }
+{
+    number_read(line, access.byte_count(), value_read(access))
+}
+
+fn value_written(line: &mut Line, width: Width, value: u64) -> Result<(), OutOfMemory>
+    ensures { OnOk result (line.new ≡ line.old ++ value_text width value) }
 {
     line.text("wrote ")?;
-    line.decimal(value)
+    number(line, width.bytes(), value)
 }
 
 /// Adds what was written, or that an SC failed.
@@ -142,12 +170,23 @@ pub(crate) fn written(line: &mut Line, access: &Access) -> Result<(), OutOfMemor
 {
     match *access {
         Access::Load { .. } | Access::LoadReserved { .. } | Access::Fence { .. } => Ok(()),
-        Access::Store { written, .. } | Access::Atomic { written, .. } => {
-            value_written(line, written)
+        Access::Store { width, written, .. } | Access::Atomic { width, written, .. } => {
+            value_written(line, width, written)
         }
-        Access::StoreConditional { written, .. } => match written {
+        Access::StoreConditional { width, written, .. } => match written {
             None => line.text("failed"),
-            Some(value) => value_written(line, value),
+            Some(value) => value_written(line, width, value),
         },
     }
+}
+
+/// Adds how many in a row are the same load, where they are several.
+pub(crate) fn times(line: &mut Line, count: u64) -> Result<(), OutOfMemory>
+    ensures { OnOk result (line.new ≡ line.old ++ times_text count) }
+{
+    if count == 1 {
+        return Ok(());
+    }
+    line.decimal(count)?;
+    line.text(" times")
 }

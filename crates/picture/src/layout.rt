@@ -1,17 +1,15 @@
 ghost use Rattle.std.specs.Prelude.{◌≡◌, ◌+◌, ◌<◌, ◌≤◌, ◌^◌, IfOk, length};
 ghost use Rattle.std.specs.List.{list_any};
-ghost use Rattle.round_schedule.specs.Events.{is_serial};
-ghost use Rattle.picture.specs.Layout.{are_beside, boxes_of, last_top, last_top_of_part, left_of, opens_part, opens_turn, same_part, same_turn, step, top_under, width_for};
+ghost use Rattle.byte_sources.specs.Parts.{same_part, same_turn};
+ghost use Rattle.picture.specs.Layout.{are_beside, boxes_of, last_top, last_top_of_part, left_of, opens_part, opens_turn, step, top_under, width_for};
 
-use crate::access::event_at;
 use crate::event_box::EventBox;
+use crate::rows::Row;
+use byte_sources::{event_at, is_same_part, is_same_turn, is_serial};
 use pages::OutOfMemory;
-use round_schedule::{Event, Phase};
+use round_schedule::Event;
 use std::alloc::Global;
 use trace::Trace;
-
-/// The most events that a picture shows.
-pub(crate) const MOST: usize = 400;
 
 /// The left edge of a hart's column.
 pub(crate) fn left_of(hart: u64) -> u64
@@ -27,22 +25,6 @@ pub(crate) fn width_for(harts: usize) -> u64
     ensures { result ≡ width_for harts }
 {
     left_of(harts.max(2) as u64)
-}
-
-pub(crate) fn is_serial(phase: Phase) -> bool
-    ensures { result ≡ is_serial phase }
-{
-    match phase {
-        Phase::Parallel => false,
-        Phase::Serial => true,
-    }
-}
-
-/// Whether two events are of the same phase of the same round.
-pub(crate) fn is_same_part(one: &Event, other: &Event) -> bool
-    ensures { result ≡ same_part one.now other.now }
-{
-    one.round == other.round && is_serial(one.phase) == is_serial(other.phase)
 }
 
 fn are_beside(one: &Event, other: &Event) -> bool
@@ -70,7 +52,7 @@ fn top_under(boxes: &[EventBox], event: &Event) -> u64
     ensures low { result < 2 ^ 32 + 92 }
 {
     match boxes {
-        [] => 176,
+        [] => 236,
         [first, rest @ ..] => {
             let under_rest = top_under(rest, event);
             if are_beside(&first.event, event) {
@@ -82,22 +64,23 @@ fn top_under(boxes: &[EventBox], event: &Event) -> u64
     }
 }
 
-/// The boxes of the events at these places of a trace.
+/// The boxes of these rows of a trace.
 pub(crate) fn boxes_of(
     alloc: Global,
     trace: &Trace,
-    places: &[usize],
+    rows: &[Row],
 ) -> Result<Vec<EventBox>, OutOfMemory>
-    requires { length places.now ≤ 400 }
-    ensures { IfOk result (λ v. v.items ≡ boxes_of trace.now.events places.now) }
+    requires { length rows.now ≤ 400 }
+    ensures { IfOk result (λ v. v.items ≡ boxes_of trace.now.events rows.now) }
 {
     let mut boxes = Vec::new(alloc);
-    for place in places {
-        let event = event_at(trace, *place);
+    for row in rows {
+        let event = event_at(trace, row.place);
         let top = top_under(&boxes, &event);
         let next = EventBox {
-            place: *place,
+            place: row.place,
             event,
+            times: row.times,
             top: top as u32,
         };
         boxes.push(next)?;
@@ -129,15 +112,9 @@ pub(crate) fn last_top(boxes: &[EventBox]) -> u64
     ensures low { result < 2 ^ 32 }
 {
     match boxes {
-        [] => 176,
+        [] => 236,
         [first, rest @ ..] => last_top(rest).max(first.top as u64),
     }
-}
-
-fn is_same_turn(one: &Event, other: &Event) -> bool
-    ensures { result ≡ same_turn one.now other.now }
-{
-    is_same_part(one, other) && one.hart == other.hart
 }
 
 fn has_part(boxes: &[EventBox], event: &Event) -> bool

@@ -15,6 +15,7 @@ text{fill:#111;font:12px sans-serif}
 .column{fill:none;stroke:#bbb}
 .box{fill:#fff;stroke:#333}
 .lost{fill:#fff;stroke:#b30000;stroke-width:3;stroke-dasharray:7 3}
+.unread{fill:#fff;stroke:#8a6d3b;stroke-width:1.6;stroke-dasharray:2 3}
 .own{fill:none;stroke:#8a8a8a;stroke-width:1.2;marker-end:url(#grey)}
 .other{fill:none;stroke:#0061b5;stroke-width:2.6;marker-end:url(#blue)}
 .opening{fill:none;stroke:#555;stroke-dasharray:3 2;marker-start:url(#ring);marker-end:url(#dark)}
@@ -36,9 +37,14 @@ const LEGEND: &str = "<path class='own' d='M14 22H54'/>
 <path class='opening' d='M14 62H54'/>
 <text x='64' y='66'>a byte is as memory opened</text>
 <rect class='lost' x='14' y='75' width='40' height='13'/>
-<text x='64' y='86'>overwritten by another hart, and nobody read it</text>
-<use href='#wait' x='30' y='96'/>
-<text x='64' y='106'>the hart had waited for the serial part of the round</text>
+<text x='64' y='86'>a store that another hart overwrote, and nobody read: so a lost update looks</text>
+<rect class='unread' x='14' y='95' width='40' height='13'/>
+<text x='64' y='106'>a store that its own hart overwrote, and nobody read</text>
+<use href='#wait' x='30' y='116'/>
+<text x='64' y='126'>the hart had waited for the serial part of the round</text>
+<text class='line' x='10' y='146'>3 times</text>
+<text x='64' y='146'>so many equal loads in a row</text>
+<text x='14' y='166'>Point at a box for its place, its pc and the object that it touched.</text>
 ";
 
 /// The start of the mark of a hart that had waited.

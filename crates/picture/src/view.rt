@@ -3,7 +3,7 @@ ghost use Rattle.std.specs.List.{list_any};
 ghost use Rattle.round_schedule.specs.Positions.{event};
 ghost use Rattle.picture.specs.Views.{is_seen, is_shown, places_seen, touches};
 
-use crate::access::{event_at, is_in_range};
+use byte_sources::{event_at, is_in_range};
 use pages::{OutOfMemory, Range};
 use round_schedule::{Access, Event};
 use std::alloc::Global;

@@ -3,7 +3,7 @@ use Rattle.host_io.specs.declared.error.RunError.{RunError}
 use Rattle.host_io.specs.declared.error.RunError.TheVariants.{OutOfMemory, SinkFailed}
 use Rattle.host_io.specs.Taken.{BeganText}
 use Rattle.host_io.proofs.Written.{refused, where_done, where_refused}
-use Rattle.machine.specs.Machine.{Running, after_rounds}
+use Rattle.machine.specs.Machine.{Running}
 use Rattle.drawing.specs.Drawn.{picture_of}
 use Rattle.drawing.proofs.drawing.draw_run.Goals as goal
 
@@ -25,11 +25,11 @@ returns-clause-untouched g c = untouched c.draw_rounds-drawn.result _ c.draw_rou
 pub returns-clause-draws : goal.returns-clause-draws
 returns-clause-draws g c =
     let made = c.in_ok-machine.ensures.machine in
-    let same = ap (λ (m : Running). picture_of (after_rounds c.args.settings.now.rounds m) c.args.view.now) made.2 in
+    let same = ap (λ (m : Running). picture_of c.args.settings.now c.args.files.now.image.now m c.args.view.now) made.2 in
     where_done c.draw_rounds-drawn.result _ _ (λ h. (made.0, made.1, h ∙ ap (λ (text : List ℕ). g.S.Sink.took c.args.out.now ++ text) same)) c.draw_rounds-drawn.ensures.writes.ok
 
 pub returns-clause-begun : goal.returns-clause-begun
 returns-clause-begun g c =
     let made = c.in_ok-machine.ensures.machine in
-    let same = ap (λ (m : Running). picture_of (after_rounds c.args.settings.now.rounds m) c.args.view.now) made.2 in
+    let same = ap (λ (m : Running). picture_of c.args.settings.now c.args.files.now.image.now m c.args.view.now) made.2 in
     where_refused c.draw_rounds-drawn.result _ _ (λ h. inr (made.0, made.1, subst (λ (text : List ℕ). BeganText (g.S.Sink.took c.args.out.now) (g.S.Sink.took c.draw_rounds-drawn.new.out) text) same h)) c.draw_rounds-drawn.ensures.writes.begun

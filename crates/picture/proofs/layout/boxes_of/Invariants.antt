@@ -4,8 +4,8 @@ use Rattle.picture.specs.Layout.{boxes_of}
 use Rattle.picture.proofs.Tops.{IsAbove}
 use Rattle.picture.proofs.layout.boxes_of.Given as goal
 
-abbrev pub invariant-loop-place : goal.invariant-loop-place
-invariant-loop-place l = record {
-  boxes : l.boxes.items ≡ boxes_of l.trace.events (take l.place-index l.places);
-  above : All (IsAbove (176 + 92 * l.place-index)) l.boxes.items;
+abbrev pub invariant-loop-row : goal.invariant-loop-row
+invariant-loop-row l = record {
+  boxes : l.boxes.items ≡ boxes_of l.trace.events (take l.row-index l.rows);
+  above : All (IsAbove (236 + 92 * l.row-index)) l.boxes.items;
 }

@@ -1,0 +1,10 @@
+use elf_symbols::SymbolPart;
+
+/// What is known of an event beside the trace.
+#[derive(Clone, Copy, Debug, PartialEq, Eq)]
+pub struct Site<'a> {
+    /// The pc of its instruction.
+    pub pc: Option<u64>,
+    /// The object of the program that it touched, and where.
+    pub object: Option<SymbolPart<'a>>,
+}
