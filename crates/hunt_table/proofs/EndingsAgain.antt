@@ -6,15 +6,15 @@ use Rattle.std.proofs.lemmas.List.{length-drop, length-map, length-take-le, take
 use Rattle.std.proofs.lemmas.List.Elements.{All-drop, All-head, All-take}
 use Rattle.std.proofs.lemmas.List.Sums.{sum_by-cons}
 use Rattle.plan_hunt.specs.declared.hart_ending.HartEnding.{HartEnding}
-use Rattle.hunt_table.specs.Text.{ending_line, ending_text, endings_text, is_bad, mark, output_line, quoted, seen_line, seen_lines, stop_line, stop_lines}
-use Rattle.hunt_table.specs.declared.header.SeenRange.{SeenRange}
+use Rattle.hunt_table.specs.Text.{checked_word, ending_line, ending_text, endings_text, is_bad, mark, name_word, output_line, quoted, seen_line, seen_lines, stop_line, stop_lines}
+use Rattle.hunt_table.specs.declared.seen_range.SeenRange.{SeenRange}
 use Rattle.plan_hunt.specs.Adding.{row}
 use Rattle.plan_hunt.specs.Endings.{ended}
 use Rattle.plan_hunt.specs.declared.row.Row.{Row}
 use Rattle.report_lines.specs.Text.{bytes_text, hex}
-use Rattle.hunt_table.specs.Reading.{after_mark, bytes_of, ending_at, ending_lines_at, endings_at, is_ending_line, is_seen_line, is_stop_line, number_at, output_line_at, ranges_of, seen_at, seen_line_at, stop_line_at, stops_at, word_at}
+use Rattle.hunt_table.specs.Reading.{after_checked, after_mark, bytes_of, ending_at, ending_lines_at, endings_at, is_ending_line, is_seen_line, is_stop_line, number_at, output_line_at, ranges_of, seen_at, seen_line_at, stop_line_at, stops_at, word_at}
 use Rattle.hunt_table.specs.Told.{IsToldRange, IsToldRow, IsToldStop}
-use Rattle.hunt_table.proofs.Lines.{five, seen_line_again, seven, stop_line_again}
+use Rattle.hunt_table.proofs.Lines.{eight, five, seen_line_again, stop_line_again}
 use Rattle.hunt_table.proofs.Numbers.{number_again, word_again}
 use Rattle.hunt_table.proofs.Quotes.{output_line_again}
 use Rattle.hunt_table.proofs.Repeats.{AllFrom, lines_again, many_again, texts}
@@ -105,7 +105,7 @@ output_is_no_stop_line bs rest = ap is_stop_line (five (codes "output ") (decima
 
 seen_is_no_stop_line : (r : SeenRange) (bs rest : List ℕ) → is_stop_line (seen_line r bs ++ rest) ≡ false
 unfolding seen_line
-seen_is_no_stop_line r bs rest = ap is_stop_line (seven (codes "see ") (hex 8 r.address) (codes " ") (decimal r.length) (codes " ") (bytes_text bs) (codes "\n") rest)
+seen_is_no_stop_line r bs rest = ap is_stop_line (eight (codes "see ") (hex 8 r.address) (codes " ") (decimal r.length) (codes " ") (bytes_text bs) (name_word r.name) (codes "\n") rest)
 
 no_stop_line : (rs : List SeenRange) (bs out rest : List ℕ) → is_stop_line (seen_lines rs bs ++ (output_line out ++ rest)) ≡ false
 no_stop_line [] bs out rest = output_is_no_stop_line out rest
@@ -134,31 +134,40 @@ lines_of_ending ranges r rest t h =
 four : (a b c d r : List ℕ) → (a ++ b ++ c ++ d) ++ r ≡ a ++ (b ++ (c ++ (d ++ r)))
 four a b c d r = simp append_assoc
 
-eight : (a b c d e f g h r : List ℕ) → ((a ++ b ++ c) ++ d ++ e ++ f ++ g ++ h) ++ r ≡ a ++ (b ++ (c ++ (d ++ (e ++ (f ++ (g ++ (h ++ r)))))))
-eight a b c d e f g h r = simp append_assoc
+nine : (a b c d e f g h i r : List ℕ) → ((a ++ b ++ c) ++ (d ++ e ++ f ++ g) ++ h ++ i) ++ r ≡ a ++ (b ++ (c ++ (d ++ (e ++ (f ++ (g ++ (h ++ (i ++ r))))))))
+nine a b c d e f g h i r = simp append_assoc
 
 -- marked or not, the plans follow
 mark_again : (k : ℕ) (bad : Bool) (tail : List ℕ) → k < 2 ^ 64 → after_mark (number_at (decimal k ++ (mark bad ++ (codes " plans " ++ tail)))).1 ≡ codes " plans " ++ tail
 mark_again k true tail small = ap (λ (p : ℕ × List ℕ). after_mark p.1) (number_again k 32 (drop 1 (codes " bad") ++ (codes " plans " ++ tail)) small refl)
 mark_again k false tail small = ap (λ (p : ℕ × List ℕ). after_mark p.1) (number_again k 32 (drop 1 (codes " plans ") ++ tail) small refl)
 
-ending_again : (marked : Bool) (ranges : List SeenRange) (k : ℕ) (r : Row) (rest : List ℕ) → k < 2 ^ 64 → All IsToldRange ranges → IsToldRow ranges r →
-    (is_ending_line (ending_text marked ranges k r ++ rest) ≡ true) × (ending_at (ending_text marked ranges k r ++ rest) ≡ ((r, ranges), rest))
+-- the first plan, and what follows its line
+abbrev first_at : List ℕ → ℕ × List ℕ
+first_at bs = ((word_at bs).0, drop 1 (after_checked (word_at bs).1))
+
+-- checked or not, the harts follow
+first_again : (weak : Bool) (n : ℕ) (after : List ℕ) → n < 2 ^ 32 → first_at (decimal n ++ (checked_word weak ++ 10 ∷ after)) ≡ (n, after)
+first_again true n after small = ap (λ (p : ℕ × List ℕ). (p.0, drop 1 (after_checked p.1))) (word_again n 32 (drop 1 (codes " checked") ++ 10 ∷ after) small refl)
+first_again false n after small = ap (λ (p : ℕ × List ℕ). (p.0, drop 1 (after_checked p.1))) (word_again n 10 after small refl)
+
+ending_again : (weak marked : Bool) (ranges : List SeenRange) (k : ℕ) (r : Row) (rest : List ℕ) → k < 2 ^ 64 → All IsToldRange ranges → IsToldRow ranges r →
+    (is_ending_line (ending_text weak marked ranges k r ++ rest) ≡ true) × (ending_at (ending_text weak marked ranges k r ++ rest) ≡ ((r, ranges), rest))
 unfolding ending_text ending_line ending_at
-ending_again marked ranges k r rest small t h =
+ending_again weak marked ranges k r rest small t h =
     let bad : Bool = marked && is_bad r in
     let after : List ℕ = stop_lines 0 r.ending.stops ++ (seen_lines ranges r.ending.seen ++ (output_line r.ending.output ++ rest)) in
     let parts =
-    four (ending_line marked k r) (stop_lines 0 r.ending.stops) (seen_lines ranges r.ending.seen) (output_line r.ending.output) rest
-    ∙ eight (codes "ending ") (decimal k) (mark bad) (codes " plans ") (decimal r.plans) (codes " first ") (decimal r.first) (codes "\n") after in
-    let first : List ℕ = decimal r.first ++ 10 ∷ after in
+    four (ending_line weak marked k r) (stop_lines 0 r.ending.stops) (seen_lines ranges r.ending.seen) (output_line r.ending.output) rest
+    ∙ nine (codes "ending ") (decimal k) (mark bad) (codes " plans ") (decimal r.plans) (codes " first ") (decimal r.first) (checked_word weak) (codes "\n") after in
+    let first : List ℕ = decimal r.first ++ (checked_word weak ++ 10 ∷ after) in
     let plans : List ℕ = decimal r.plans ++ (codes " first " ++ first) in (
       ap is_ending_line parts,
       ap ending_at parts
-          ∙ ap (λ (v : List ℕ). ending_lines_at (word_at (drop 7 v)).0 (word_at (drop 7 (word_at (drop 7 v)).1)).0 (drop 1 (word_at (drop 7 (word_at (drop 7 v)).1)).1))
+          ∙ ap (λ (v : List ℕ). ending_lines_at (word_at (drop 7 v)).0 (first_at (drop 7 (word_at (drop 7 v)).1)).0 (first_at (drop 7 (word_at (drop 7 v)).1)).1)
           (mark_again k bad plans small)
-          ∙ ap (λ (p : ℕ × List ℕ). ending_lines_at p.0 (word_at (drop 7 p.1)).0 (drop 1 (word_at (drop 7 p.1)).1)) (word_again r.plans 32 (drop 1 (codes " first ") ++ first) h.plans refl)
-          ∙ ap (λ (p : ℕ × List ℕ). ending_lines_at r.plans p.0 (drop 1 p.1)) (word_again r.first 10 after h.first refl)
+          ∙ ap (λ (p : ℕ × List ℕ). ending_lines_at p.0 (first_at (drop 7 p.1)).0 (first_at (drop 7 p.1)).1) (word_again r.plans 32 (drop 1 (codes " first ") ++ first) h.plans refl)
+          ∙ ap (λ (p : ℕ × List ℕ). ending_lines_at r.plans p.0 p.1) (first_again weak r.first after h.first)
           ∙ lines_of_ending ranges r rest t h,
     )
 
@@ -167,25 +176,25 @@ ending_again marked ranges k r rest small t h =
 abbrev pub with_ranges : List SeenRange → List Row → List (Row × List SeenRange)
 with_ranges ranges rows = map (λ (r : Row). (r, ranges)) rows
 
-abbrev one_ending : Bool → ℕ → Row × List SeenRange → List ℕ
-one_ending marked k e = ending_text marked e.1 k e.0
+abbrev one_ending : Bool → Bool → ℕ → Row × List SeenRange → List ℕ
+one_ending weak marked k e = ending_text weak marked e.1 k e.0
 
 abbrev IsEnding : ℕ → Row × List SeenRange → Type 0
 IsEnding k e = (k < 2 ^ 64) × All IsToldRange e.1 × IsToldRow e.1 e.0
 
-ending_texts : (marked : Bool) (ranges : List SeenRange) (k : ℕ) (rows : List Row) → endings_text marked ranges k rows ≡ texts (one_ending marked) k (with_ranges ranges rows)
-ending_texts marked ranges k [] = refl
-ending_texts marked ranges k (r ∷ rs) = ap (λ (t : List ℕ). ending_text marked ranges k r ++ t) (ending_texts marked ranges (k + 1) rs)
+ending_texts : (weak marked : Bool) (ranges : List SeenRange) (k : ℕ) (rows : List Row) → endings_text weak marked ranges k rows ≡ texts (one_ending weak marked) k (with_ranges ranges rows)
+ending_texts weak marked ranges k [] = refl
+ending_texts weak marked ranges k (r ∷ rs) = ap (λ (t : List ℕ). ending_text weak marked ranges k r ++ t) (ending_texts weak marked ranges (k + 1) rs)
 
 all_endings : (ranges : List SeenRange) (k : ℕ) (rows : List Row) → k + length rows ≤ 2 ^ 64 → All IsToldRange ranges → All (IsToldRow ranges) rows → AllFrom IsEnding k (with_ranges ranges rows)
 all_endings ranges k [] few t h = tt
 all_endings ranges k (r ∷ rs) few t h =
     ((omega (arith, few), t, All-head (IsToldRow ranges) r rs h), all_endings ranges (k + 1) rs (omega (arith, few)) t (tail_all (IsToldRow ranges) r rs h))
 
-pub endings_again : (marked : Bool) (ranges : List SeenRange) (rows : List Row) (rest : List ℕ) → length rows < 2 ^ 64 → All IsToldRange ranges → All (IsToldRow ranges) rows →
-    endings_at (length rows) (endings_text marked ranges 1 rows ++ rest) ≡ (with_ranges ranges rows, rest)
-endings_again marked ranges rows rest few t h =
+pub endings_again : (weak marked : Bool) (ranges : List SeenRange) (rows : List Row) (rest : List ℕ) → length rows < 2 ^ 64 → All IsToldRange ranges → All (IsToldRow ranges) rows →
+    endings_at (length rows) (endings_text weak marked ranges 1 rows ++ rest) ≡ (with_ranges ranges rows, rest)
+endings_again weak marked ranges rows rest few t h =
     let same : length (with_ranges ranges rows) ≡ length rows = length-map rows (λ (r : Row). (r, ranges)) in
-    ap (λ (v : List ℕ). endings_at (length rows) (v ++ rest)) (ending_texts marked ranges 1 rows)
-    ∙ many_again is_ending_line ending_at (one_ending marked) IsEnding (λ k e r p. ending_again marked e.1 k e.0 r p.0 p.1 p.2) (length rows) 1 (with_ranges ranges rows) rest
+    ap (λ (v : List ℕ). endings_at (length rows) (v ++ rest)) (ending_texts weak marked ranges 1 rows)
+    ∙ many_again is_ending_line ending_at (one_ending weak marked) IsEnding (λ k e r p. ending_again weak marked e.1 k e.0 r p.0 p.1 p.2) (length rows) 1 (with_ranges ranges rows) rest
     (omega (arith, same)) (inr (sym same)) (all_endings ranges 1 rows (omega (arith, few)) t h)

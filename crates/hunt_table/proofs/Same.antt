@@ -1,13 +1,11 @@
--- What `==` says of ranges.
-use Rattle.std.proofs.Common.{◌≡◌, Bool, List, rules}
-use Rattle.std.specs.Bool.{Decides}
-use Rattle.std.proofs.lemmas.Slice.Eq.{slice_eq-Decides}
-use Rattle.hunt_table.specs.declared.header.SeenRange.{SeenRange}
-use Rattle.hunt_table.specs.contracts.header.SeenRangePartialEq.TheImpl.{eq-value}
-use lib.Pointwise.{pointwise}
+-- Two lists of ranges are the same where they are so place by place.
+use Rattle.std.proofs.Common.{◌≡◌, ℕ, ◌+◌, ◌<◌, List, [], ◌∷◌, ◌++◌, get_or, length, take, sym, ◌∙◌, ap}
+use Rattle.std.proofs.lemmas.List.{take_more}
+use Rattle.hunt_table.specs.declared.seen_range.SeenRange.{SeenRange}
 
-same_range : (a b : SeenRange) → Decides (eq-value.it a b) (a ≡ b)
-same_range a b = search rules
-
-pub same_ranges : (a b : List SeenRange) (r : Bool) → r ≡ pointwise eq-value.it a b → Decides r (a ≡ b)
-same_ranges a b r e = slice_eq-Decides same_range a b r e
+pub one_more_same : (a b : List SeenRange) (i : ℕ) (x y : SeenRange) → i < length a → i < length b → x ≡ get_or a i x → y ≡ get_or b i y → x ≡ y → take i a ≡ take i b → take (i + 1) a ≡ take (i + 1) b
+one_more_same a b i x y in_a in_b is_x is_y same before =
+    take_more a i x in_a
+    ∙ ap (λ (v : SeenRange). take i a ++ v ∷ []) (sym is_x ∙ same ∙ is_y)
+    ∙ ap (λ (v : List SeenRange). v ++ get_or b i y ∷ []) before
+    ∙ sym (take_more b i y in_b)

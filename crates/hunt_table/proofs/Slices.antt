@@ -18,6 +18,7 @@ use Rattle.hunt_table.specs.Merging.{Adjoins, AreSlices, AreTexts, AreTold, Foll
 -- ---- tables that are the same, whatever memory they take
 
 pub record Alike (a b : Table) : Type 0 where
+  is_weak : a.header.is_weak ≡ b.header.is_weak
   seed : a.header.seed ≡ b.header.seed
   first : a.header.first ≡ b.header.first
   count : a.header.count ≡ b.header.count
@@ -31,7 +32,7 @@ AreAlike (a ∷ cs) [] = ⊥
 AreAlike (a ∷ cs) (b ∷ bs) = Alike a b × AreAlike cs bs
 
 alike_back : (a b : Table) → Alike a b → Alike b a
-alike_back a b h = record { seed = sym h.seed; first = sym h.first; count = sym h.count; ranges = sym h.ranges; rows = sym h.rows }
+alike_back a b h = record { is_weak = sym h.is_weak; seed = sym h.seed; first = sym h.first; count = sym h.count; ranges = sym h.ranges; rows = sym h.rows }
 
 pub are_alike_back : (cs bs : List Table) → AreAlike cs bs → AreAlike bs cs
 are_alike_back [] [] h = tt
@@ -41,7 +42,12 @@ are_alike_back (a ∷ cs) (b ∷ bs) h = (alike_back a b h.0, are_alike_back cs 
 
 follows_alike : (a b s t : Table) → Alike a b → Alike s t → Follows a s → Follows b t
 follows_alike a b s t p q h = record {
-  hunt = (sym q.seed ∙ h.hunt.0 ∙ p.seed, sym q.ranges ∙ h.hunt.1 ∙ p.ranges, sym (ap harts_of q.rows) ∙ h.hunt.2 ∙ ap harts_of p.rows);
+  hunt = record {
+    is_weak = sym q.is_weak ∙ h.hunt.is_weak ∙ p.is_weak;
+    has_seed = sym q.seed ∙ h.hunt.has_seed ∙ p.seed;
+    has_ranges = sym q.ranges ∙ h.hunt.has_ranges ∙ p.ranges;
+    has_harts = sym (ap harts_of q.rows) ∙ h.hunt.has_harts ∙ ap harts_of p.rows;
+  };
   plans = omega (arith, p.first, p.count, q.first, h.plans);
   few_plans = omega (arith, q.first, q.count, h.few_plans);
 }
@@ -108,7 +114,7 @@ is_read x text r t is e found only = (
 )
   where
     alike : (u : Table) → IsSame u.header u.rows.items t → Alike u t
-    alike u s = record { seed = sym s.seed; first = sym s.first; count = sym s.count; ranges = sym s.ranges; rows = sym s.rows }
+    alike u s = record { is_weak = sym s.is_weak; seed = sym s.seed; first = sym s.first; count = sym s.count; ranges = sym s.ranges; rows = sym s.rows }
 
 -- ---- slices
 
@@ -133,12 +139,12 @@ last_follows t [] n h = h.0
 last_follows t (s ∷ ts) n h = last_follows s ts n h.1
 
 -- the last slice is of the same hunt
-hunt_of : (t : Table) (ts : List Table) → FollowOn t ts → IsOfHunt t.header.seed t.header.ranges.items (harts_of t.rows.items) (last_of t ts)
-hunt_of t [] h = (refl, refl, refl)
+hunt_of : (t : Table) (ts : List Table) → FollowOn t ts → IsOfHunt t.header.is_weak t.header.seed t.header.ranges.items (harts_of t.rows.items) (last_of t ts)
+hunt_of t [] h = record { is_weak = refl; has_seed = refl; has_ranges = refl; has_harts = refl }
 hunt_of t (n ∷ ts) h =
     let rest = hunt_of n ts h.1 in
     let next = h.0.hunt in
-    (rest.0 ∙ next.0, rest.1 ∙ next.1, rest.2 ∙ next.2)
+    record { is_weak = rest.is_weak ∙ next.is_weak; has_seed = rest.has_seed ∙ next.has_seed; has_ranges = rest.has_ranges ∙ next.has_ranges; has_harts = rest.has_harts ∙ next.has_harts }
 
 -- the plans of the slices end with those of the last
 end_of : (t : Table) (ts : List Table) → FollowOn t ts → t.header.first + sum_by (λ (s : Table). s.header.count) (t ∷ ts) ≡ (last_of t ts).header.first + (last_of t ts).header.count
@@ -149,7 +155,12 @@ follows_of : (t : Table) (ts : List Table) (w n : Table) → IsMerged t ts w →
 follows_of t ts w n m a =
     let hunt = hunt_of t ts m.slices.1 in
     let end = end_of t ts m.slices.1 in record {
-      hunt = (a.hunt.0 ∙ m.seed ∙ sym hunt.0, a.hunt.1 ∙ m.ranges ∙ sym hunt.1, a.hunt.2 ∙ sym hunt.2);
+      hunt = record {
+        is_weak = a.hunt.is_weak ∙ m.is_weak ∙ sym hunt.is_weak;
+        has_seed = a.hunt.has_seed ∙ m.seed ∙ sym hunt.has_seed;
+        has_ranges = a.hunt.has_ranges ∙ m.ranges ∙ sym hunt.has_ranges;
+        has_harts = a.hunt.has_harts ∙ sym hunt.has_harts;
+      };
       plans = omega (arith, end, m.first, m.count, a.next);
       few_plans = omega (arith, a.next, a.few_plans);
     }
@@ -159,7 +170,12 @@ adjoins_of t ts w n m f =
     let hunt = hunt_of t ts m.slices.1 in
     let end = end_of t ts m.slices.1 in
     let next : n.header.first ≡ w.header.first + w.header.count = omega (arith, end, m.first, m.count, f.plans) in record {
-      hunt = (f.hunt.0 ∙ hunt.0 ∙ sym m.seed, f.hunt.1 ∙ hunt.1 ∙ sym m.ranges, f.hunt.2 ∙ hunt.2);
+      hunt = record {
+        is_weak = f.hunt.is_weak ∙ hunt.is_weak ∙ sym m.is_weak;
+        has_seed = f.hunt.has_seed ∙ hunt.has_seed ∙ sym m.seed;
+        has_ranges = f.hunt.has_ranges ∙ hunt.has_ranges ∙ sym m.ranges;
+        has_harts = f.hunt.has_harts ∙ hunt.has_harts;
+      };
       next = next;
       few_plans = omega (arith, next, f.few_plans);
     }
@@ -187,6 +203,7 @@ end_of_all P ts t h = subst P (get_or_at ts t [] t (length ts) refl) (h (length 
 pub one_table : (t : Table) → HasFewPlans t → IsMerged t [] t
 one_table t few = record {
   slices = (few, tt);
+  is_weak = refl;
   seed = refl;
   ranges = refl;
   first = refl;
@@ -200,6 +217,7 @@ one_table t few = record {
 pub next_table : (t : Table) (ts : List Table) (w n new : Table) → IsMerged t ts w → Adjoins (harts_of t.rows.items) w n → IsAppended w n new → IsMerged t (ts ++ n ∷ []) new
 next_table t ts w n new m a j = record {
   slices = (m.slices.0, follow-push t ts n m.slices.1 (follows_of t ts w n m a));
+  is_weak = j.is_weak ∙ m.is_weak;
   seed = j.seed ∙ m.seed;
   ranges = j.ranges ∙ m.ranges;
   first = j.first ∙ m.first;

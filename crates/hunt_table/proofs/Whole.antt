@@ -1,12 +1,12 @@
 -- A table is read from its text.
-use Rattle.std.proofs.Common.{◌≡◌, ◌≢◌, ◌⊎◌, inl, inr, ℕ, Bool, true, false, List, [], ◌∷◌, ◌++◌, length, drop, refl, sym, ◌∙◌, ap, append_assoc}
+use Rattle.std.proofs.Common.{◌≡◌, ◌≢◌, inl, inr, ℕ, ◌^◌, ◌<◌, Bool, true, false, List, [], ◌∷◌, ◌++◌, length, drop, refl, sym, ◌∙◌, ap, append_assoc}
 use Rattle.std.specs.Prelude.{codes}
 use Rattle.std.specs.Fmt.{decimal}
-use Rattle.hunt_table.specs.Text.{IsTextOf, endings_text, header_text, table_text, table_text_by}
+use Rattle.hunt_table.specs.Text.{IsTextOf, endings_text, header_text, plans_line, table_text, table_text_by, weak_word}
 use Rattle.hunt_table.specs.declared.header.Header.{Header}
-use Rattle.hunt_table.specs.declared.header.SeenRange.{SeenRange}
+use Rattle.hunt_table.specs.declared.seen_range.SeenRange.{SeenRange}
 use Rattle.plan_hunt.specs.declared.row.Row.{Row}
-use Rattle.hunt_table.specs.Reading.{Told, contents, endings_at, last_ranges, number_at, rows_of, table_at, told, word_at}
+use Rattle.hunt_table.specs.Reading.{Told, contents, endings_at, last_ranges, number_at, rows_of, table_at, told, weak_at, word_at}
 use Rattle.hunt_table.specs.Told.{IsSame, IsTold}
 use Rattle.hunt_table.specs.declared.table.Table.{Table}
 use Rattle.hunt_table.proofs.EndingsAgain.{endings_again, with_ranges}
@@ -24,34 +24,43 @@ last_is : (ranges : List SeenRange) (rows : List Row) → (rows ≡ [] → range
 last_is ranges [] none = sym (none refl)
 last_is ranges (r ∷ rows) none = last-with [] ranges r rows
 
-nine : (a b c d e f g h i r : List ℕ) → (a ++ b ++ c ++ d ++ e ++ f ++ g ++ h ++ i) ++ r ≡ a ++ (b ++ (c ++ (d ++ (e ++ (f ++ (g ++ (h ++ (i ++ r))))))))
-nine a b c d e f g h i r = simp append_assoc
+eleven : (a b c d e f g h i j k r : List ℕ) → (((a ++ b ++ c ++ d) ++ e ++ f ++ g ++ h) ++ i ++ j ++ k) ++ r ≡ a ++ (b ++ (c ++ (d ++ (e ++ (f ++ (g ++ (h ++ (i ++ (j ++ (k ++ r))))))))))
+eleven a b c d e f g h i j k r = simp append_assoc
 
 abbrev told_of : Header → List Row → Told
-told_of h rows = record { seed = h.seed; first = h.first; count = h.count; ranges = h.ranges.items; rows = rows }
+told_of h rows = record { is_weak = h.is_weak; seed = h.seed; first = h.first; count = h.count; ranges = h.ranges.items; rows = rows }
+
+-- the seed, and whether the hunt is weak
+abbrev seed_at : List ℕ → ℕ × (Bool × List ℕ)
+seed_at bs = ((number_at bs).0, weak_at (number_at bs).1)
+
+-- weak or not, the number of endings follows
+seed_again : (weak : Bool) (seed : ℕ) (endings : List ℕ) → seed < 2 ^ 64 → seed_at (decimal seed ++ (weak_word weak ++ (codes "\nendings " ++ endings))) ≡ (seed, (weak, codes "\nendings " ++ endings))
+seed_again true seed endings small = ap (λ (p : ℕ × List ℕ). (p.0, weak_at p.1)) (number_again seed 32 (drop 1 (codes " weak") ++ (codes "\nendings " ++ endings)) small refl)
+seed_again false seed endings small = ap (λ (p : ℕ × List ℕ). (p.0, weak_at p.1)) (number_again seed 10 (drop 1 (codes "\nendings ") ++ endings) small refl)
 
 table_again : (marked : Bool) (h : Header) (rows : List Row) → IsTold h rows → table_at (table_text_by marked h rows) ≡ told_of h rows
-unfolding table_text_by header_text table_at
+unfolding table_text_by header_text plans_line table_at
 table_again marked h rows t =
     let n : ℕ = length rows in
-    let after : List ℕ = endings_text marked h.ranges.items 1 rows ++ codes "end\n" in
+    let after : List ℕ = endings_text h.is_weak marked h.ranges.items 1 rows ++ codes "end\n" in
     let endings : List ℕ = decimal n ++ 10 ∷ after in
-    let seed : List ℕ = decimal h.seed ++ (codes "\nendings " ++ endings) in
+    let seed : List ℕ = decimal h.seed ++ (weak_word h.is_weak ++ (codes "\nendings " ++ endings)) in
     let count : List ℕ = decimal h.count ++ (codes " seed " ++ seed) in
     let parts =
-    append_assoc (header_text h.seed h.first h.count n) (endings_text marked h.ranges.items 1 rows) (codes "end\n")
-    ∙ nine (codes "plans ") (decimal h.first) (codes " ") (decimal h.count) (codes " seed ") (decimal h.seed) (codes "\nendings ") (decimal n) (codes "\n") after in
-    let F : ℕ → ℕ → ℕ → ℕ × List ℕ → Told = λ first count seed p. told first count seed (endings_at p.0 (drop 1 p.1)).0 in
-    let G : ℕ → ℕ → ℕ × List ℕ → Told = λ first count p. F first count p.0 (number_at (drop 9 p.1)) in
-    let H : ℕ → ℕ × List ℕ → Told = λ first p. G first p.0 (number_at (drop 6 p.1)) in
+    append_assoc (header_text h.is_weak h.seed h.first h.count n) (endings_text h.is_weak marked h.ranges.items 1 rows) (codes "end\n")
+    ∙ eleven (codes "plans ") (decimal h.first) (codes " ") (decimal h.count) (codes " seed ") (decimal h.seed) (weak_word h.is_weak) (codes "\n") (codes "endings ") (decimal n) (codes "\n") after in
+    let F : ℕ → ℕ → ℕ → Bool → ℕ × List ℕ → Told = λ first count seed weak p. told first count seed weak (endings_at p.0 (drop 1 p.1)).0 in
+    let G : ℕ → ℕ → ℕ × (Bool × List ℕ) → Told = λ first count p. F first count p.0 p.1.0 (number_at (drop 9 p.1.1)) in
+    let H : ℕ → ℕ × List ℕ → Told = λ first p. G first p.0 (seed_at (drop 6 p.1)) in
     ap table_at parts
     ∙ ap (λ (p : ℕ × List ℕ). H p.0 (word_at (drop 1 p.1))) (word_again h.first 32 count t.first refl)
     ∙ ap (H h.first) (word_again h.count 32 (drop 1 (codes " seed ") ++ seed) t.count refl)
-    ∙ ap (G h.first h.count) (number_again h.seed 10 (drop 1 (codes "\nendings ") ++ endings) t.seed refl)
-    ∙ ap (F h.first h.count h.seed) (number_again n 10 after t.few_endings refl)
-    ∙ ap (λ (p : List (Row × List SeenRange) × List ℕ). told h.first h.count h.seed p.0) (endings_again marked h.ranges.items rows (codes "end\n") t.few_endings t.ranges t.rows)
-    ∙ ap (λ (v : List SeenRange). record { seed = h.seed; first = h.first; count = h.count; ranges = v; rows = rows_of (with_ranges h.ranges.items rows) }) (last_is h.ranges.items rows t.no_ending)
-    ∙ ap (λ (v : List Row). record { seed = h.seed; first = h.first; count = h.count; ranges = h.ranges.items; rows = v }) (rows-with h.ranges.items rows)
+    ∙ ap (G h.first h.count) (seed_again h.is_weak h.seed endings t.seed)
+    ∙ ap (F h.first h.count h.seed h.is_weak) (number_again n 10 after t.few_endings refl)
+    ∙ ap (λ (p : List (Row × List SeenRange) × List ℕ). told h.first h.count h.seed h.is_weak p.0) (endings_again h.is_weak marked h.ranges.items rows (codes "end\n") t.few_endings t.ranges t.rows)
+    ∙ ap (λ (v : List SeenRange). record { is_weak = h.is_weak; seed = h.seed; first = h.first; count = h.count; ranges = v; rows = rows_of (with_ranges h.ranges.items rows) }) (last_is h.ranges.items rows t.no_ending)
+    ∙ ap (λ (v : List Row). record { is_weak = h.is_weak; seed = h.seed; first = h.first; count = h.count; ranges = h.ranges.items; rows = v }) (rows-with h.ranges.items rows)
 
 -- what was read of a table's text is that table
 told_again : (h : Header) (rows : List Row) (t : Table) (text : List ℕ) → IsTold h rows → IsTextOf h rows text → contents t ≡ table_at text → contents t ≡ told_of h rows
@@ -62,6 +71,7 @@ pub is_same : (h : Header) (rows : List Row) (t : Table) (text : List ℕ) → I
 is_same h rows t text good e read =
     let same : contents t ≡ told_of h rows = told_again h rows t text good e read in
     record {
+      is_weak = ap (λ (c : Told). c.is_weak) same;
       seed = ap (λ (c : Told). c.seed) same;
       first = ap (λ (c : Told). c.first) same;
       count = ap (λ (c : Told). c.count) same;
@@ -70,7 +80,7 @@ is_same h rows t text good e read =
     }
 
 abbrev text_of : Bool → Told → List ℕ
-text_of marked c = header_text c.seed c.first c.count (length c.rows) ++ endings_text marked c.ranges 1 c.rows ++ codes "end\n"
+text_of marked c = header_text c.is_weak c.seed c.first c.count (length c.rows) ++ endings_text c.is_weak marked c.ranges 1 c.rows ++ codes "end\n"
 
 same_text : (marked : Bool) (h : Header) (rows : List Row) (t : Table) → contents t ≡ told_of h rows → table_text_by marked t.header t.rows.items ≡ table_text_by marked h rows
 unfolding table_text_by

@@ -1,3 +1,4 @@
+pub mod Names
 pub mod Text
 pub mod Reading
 pub mod Told

@@ -1,5 +1,5 @@
 -- The tables of slices of one hunt, and the table that they are merged to.
-use Rattle.std.specs.Prelude.{◌≡◌, ◌⊎◌, ℕ, ◌+◌, ◌^◌, ◌<◌, List, [], ◌∷◌, All, get_or, length, sum_by, take}
+use Rattle.std.specs.Prelude.{◌≡◌, ◌⊎◌, ℕ, ◌+◌, ◌^◌, ◌<◌, Bool, List, [], ◌∷◌, All, get_or, length, sum_by, take}
 use Rattle.std.specs.Global.{Vec}
 use Rattle.plan_hunt.specs.Endings.{Ended}
 use Rattle.plan_hunt.specs.Tables.{IsTable}
@@ -7,7 +7,7 @@ use Rattle.plan_hunt.specs.declared.row.Row.{Row}
 use Rattle.hunt_table.specs.Text.{IsTextOf}
 use Rattle.hunt_table.specs.Told.{IsTold}
 use Rattle.hunt_table.specs.declared.header.Header.{Header}
-use Rattle.hunt_table.specs.declared.header.SeenRange.{SeenRange}
+use Rattle.hunt_table.specs.declared.seen_range.SeenRange.{SeenRange}
 use Rattle.hunt_table.specs.declared.table.Table.{Table}
 
 -- ---- texts
@@ -31,9 +31,12 @@ abbrev pub harts_of : List Row → ℕ
 harts_of [] = 0
 harts_of (r ∷ rs) = length r.ending.stops
 
--- the table is of a hunt with this seed, these ranges and so many harts
-abbrev pub IsOfHunt : ℕ → List SeenRange → ℕ → Table → Type 0
-IsOfHunt seed ranges harts t = (t.header.seed ≡ seed) × (t.header.ranges.items ≡ ranges) × (harts_of t.rows.items ≡ harts)
+-- the table is of a hunt with this seed, these ranges and so many harts, and both are weak or neither is
+pub record IsOfHunt (weak : Bool) (seed : ℕ) (ranges : List SeenRange) (harts : ℕ) (t : Table) : Type 0 where
+  pub is_weak : t.header.is_weak ≡ weak
+  pub has_seed : t.header.seed ≡ seed
+  pub has_ranges : t.header.ranges.items ≡ ranges
+  pub has_harts : harts_of t.rows.items ≡ harts
 
 -- the numbers of its plans are below 2^32
 abbrev pub HasFewPlans : Table → Type 0
@@ -41,7 +44,7 @@ HasFewPlans t = t.header.first + t.header.count < 2 ^ 32
 
 -- a table has the plans that follow those of another, in the same hunt
 pub record Follows (t next : Table) : Type 0 where
-  pub hunt : IsOfHunt t.header.seed t.header.ranges.items (harts_of t.rows.items) next
+  pub hunt : IsOfHunt t.header.is_weak t.header.seed t.header.ranges.items (harts_of t.rows.items) next
   pub plans : next.header.first ≡ t.header.first + t.header.count
   pub few_plans : HasFewPlans next
 
@@ -64,6 +67,7 @@ TellsPlans ends t = IsTable ends t.header.first t.header.count t.rows.items
 -- a table of the plans of all these slices: where each of them tells how its plans end, it does so too
 pub record IsMerged (t : Table) (ts : List Table) (w : Table) : Type 0 where
   pub slices : AreSlices (t ∷ ts)
+  pub is_weak : w.header.is_weak ≡ t.header.is_weak
   pub seed : w.header.seed ≡ t.header.seed
   pub ranges : w.header.ranges.items ≡ t.header.ranges.items
   pub first : w.header.first ≡ t.header.first
@@ -76,12 +80,13 @@ AreMerged texts w = (t : Table) × (ts : List Table) × AreTexts texts (t ∷ ts
 
 -- a table has the plans that follow those of a merged one, in the same hunt of so many harts
 pub record Adjoins (harts : ℕ) (w t : Table) : Type 0 where
-  pub hunt : IsOfHunt w.header.seed w.header.ranges.items harts t
+  pub hunt : IsOfHunt w.header.is_weak w.header.seed w.header.ranges.items harts t
   pub next : t.header.first ≡ w.header.first + w.header.count
   pub few_plans : w.header.first + w.header.count + t.header.count < 2 ^ 32
 
 -- a table with that of the plans which follow
 pub record IsAppended (w t new : Table) : Type 0 where
+  pub is_weak : new.header.is_weak ≡ w.header.is_weak
   pub seed : new.header.seed ≡ w.header.seed
   pub ranges : new.header.ranges.items ≡ w.header.ranges.items
   pub first : new.header.first ≡ w.header.first

@@ -1,10 +1,11 @@
 -- What a reader makes of a text, whatever it is: each part is read from the front as if it were there. Where the text is a
 -- table's, that is the table.
-use Rattle.std.specs.Prelude.{ℕ, zero, suc, ◌+◌, ◌-◌, ◌*◌, ◌/◌, ◌%◌, ◌^◌, ◌==◌, ◌&&◌, min, nat_le, nat_lt, if◌then◌else◌, Bool, true, List, [], ◌∷◌, fold, length, map, take, drop, slice_index}
-use Rattle.std.specs.List.{flat_map}
+use Rattle.std.specs.Prelude.{ℕ, zero, suc, ◌+◌, ◌-◌, ◌*◌, ◌/◌, ◌%◌, ◌^◌, ◌==◌, ◌&&◌, min, nat_le, nat_lt, if◌then◌else◌, Bool, true, false, List, [], ◌∷◌, fold, length, map, take, drop, slice_index, Option, None}
+use Rattle.std.specs.List.{flat_map, prefix_len}
 use Rattle.plan_hunt.specs.declared.hart_ending.HartEnding.{HartEnding}
 use Rattle.plan_hunt.specs.declared.hart_ending.HartEnding.TheVariants.{Loops, Runs, Stopped}
-use Rattle.hunt_table.specs.declared.header.SeenRange.{SeenRange}
+use Rattle.hunt_table.specs.Names.{is_name_byte, name_of}
+use Rattle.hunt_table.specs.declared.seen_range.SeenRange.{SeenRange}
 use Rattle.plan_hunt.specs.Adding.{row}
 use Rattle.plan_hunt.specs.Endings.{ended}
 use Rattle.plan_hunt.specs.declared.row.Row.{Row}
@@ -71,15 +72,28 @@ unfoldable pub bytes_at : ℕ → List ℕ → List ℕ
 bytes_at zero bs = []
 bytes_at (suc n) bs = hex_value (take 2 bs) % 2 ^ 8 ∷ bytes_at n (drop 2 bs)
 
+-- what stands behind a blank, as far as a name may, and what follows
+abbrev pub name_after : List ℕ → Option (List ℕ) × List ℕ
+name_after bs = let n = prefix_len is_name_byte bs in (name_of (take n bs), drop n bs)
+
+-- the name at the front, if there is a blank
+unfoldable pub name_at : List ℕ → Option (List ℕ) × List ℕ
+name_at bs = if slice_index bs 0 == 32 then name_after (drop 1 bs) else (None, bs)
+
+-- a range with its name, and its bytes
+abbrev pub named_at : ℕ → ℕ → List ℕ → List ℕ → (SeenRange × List ℕ) × List ℕ
+named_at address length seen bs =
+    let name = name_at bs in ((record { address = address; length = length; name = name.0 }, seen), drop 1 name.1)
+
 -- as many bytes as the line tells, if the text has two digits for each
-abbrev pub seen_bytes : SeenRange → List ℕ → (SeenRange × List ℕ) × List ℕ
-seen_bytes r bs = let n = min r.length (length bs / 2) in ((r, bytes_at n bs), drop 1 (drop (2 * n) bs))
+abbrev pub seen_bytes : ℕ → ℕ → List ℕ → (SeenRange × List ℕ) × List ℕ
+seen_bytes address size bs = let n = min size (length bs / 2) in named_at address size (bytes_at n bs) (drop (2 * n) bs)
 
 -- a range, and its bytes
 unfoldable pub seen_line_at : List ℕ → (SeenRange × List ℕ) × List ℕ
 seen_line_at bs =
     let size = word_at (drop 9 (drop 4 bs)) in
-    seen_bytes (record { address = min (hex_value (take 8 (drop 4 bs))) (2 ^ 32 - 1); length = size.0 }) (drop 1 size.1)
+    seen_bytes (min (hex_value (take 8 (drop 4 bs))) (2 ^ 32 - 1)) size.0 (drop 1 size.1)
 
 -- a line that begins with `s`
 abbrev pub is_seen_line : List ℕ → Bool
@@ -129,11 +143,15 @@ ending_lines_at plans first bs =
 abbrev pub after_mark : List ℕ → List ℕ
 after_mark bs = if slice_index bs 1 == 98 then drop 4 bs else bs
 
+-- what follows the word ` checked`, where it is there
+abbrev pub after_checked : List ℕ → List ℕ
+after_checked bs = if slice_index bs 0 == 32 then drop 8 bs else bs
+
 unfoldable pub ending_at : List ℕ → (Row × List SeenRange) × List ℕ
 ending_at bs =
     let plans = word_at (drop 7 (after_mark (number_at (drop 7 bs)).1)) in
     let first = word_at (drop 7 plans.1) in
-    ending_lines_at plans.0 first.0 (drop 1 first.1)
+    ending_lines_at plans.0 first.0 (drop 1 (after_checked first.1))
 
 -- a line that begins as `endi` does, and not as the last, which is `end`
 abbrev pub is_ending_line : List ℕ → Bool
@@ -153,23 +171,30 @@ last_ranges ranges (e ∷ es) = last_ranges e.1 es
 -- ---- a table
 
 pub record Told : Type 0 where
+  pub is_weak : Bool
   pub seed : ℕ
   pub first : ℕ
   pub count : ℕ
   pub ranges : List SeenRange
   pub rows : List Row
 
-abbrev pub told : ℕ → ℕ → ℕ → List (Row × List SeenRange) → Told
-told first count seed es = record { seed = seed; first = first; count = count; ranges = last_ranges [] es; rows = rows_of es }
+abbrev pub told : ℕ → ℕ → ℕ → Bool → List (Row × List SeenRange) → Told
+told first count seed weak es =
+    record { is_weak = weak; seed = seed; first = first; count = count; ranges = last_ranges [] es; rows = rows_of es }
+
+-- whether the word ` weak` is there, and what follows
+abbrev pub weak_at : List ℕ → Bool × List ℕ
+weak_at bs = if slice_index bs 0 == 32 then (true, drop 5 bs) else (false, bs)
 
 unfoldable pub table_at : List ℕ → Told
 table_at bs =
     let first = word_at (drop 6 bs) in
     let count = word_at (drop 1 first.1) in
     let seed = number_at (drop 6 count.1) in
-    let endings = number_at (drop 9 seed.1) in
-    told first.0 count.0 seed.0 (endings_at endings.0 (drop 1 endings.1)).0
+    let weak = weak_at seed.1 in
+    let endings = number_at (drop 9 weak.1) in
+    told first.0 count.0 seed.0 weak.0 (endings_at endings.0 (drop 1 endings.1)).0
 
 -- a table in memory as its contents
 abbrev pub contents : Table → Told
-contents t = record { seed = t.header.seed; first = t.header.first; count = t.header.count; ranges = t.header.ranges.items; rows = t.rows.items }
+contents t = record { is_weak = t.header.is_weak; seed = t.header.seed; first = t.header.first; count = t.header.count; ranges = t.header.ranges.items; rows = t.rows.items }

@@ -1,5 +1,5 @@
 -- The text of a hunt's table: lines that end with LF.
-use Rattle.std.specs.Prelude.{◌≡◌, ◌⊎◌, ℕ, ◌+◌, ◌==◌, ◌&&◌, not, if◌then◌else◌, nat_le, nat_lt, Bool, true, false, List, [], ◌∷◌, ◌++◌, length, take, drop, codes, Some}
+use Rattle.std.specs.Prelude.{◌≡◌, ◌⊎◌, ℕ, ◌+◌, ◌==◌, ◌&&◌, not, if◌then◌else◌, nat_le, nat_lt, Bool, true, false, List, [], ◌∷◌, ◌++◌, length, take, drop, codes, Option, Some, None}
 use Rattle.std.specs.Fmt.{decimal}
 use Rattle.std.specs.List.{list_all}
 use Rattle.plan_hunt.specs.declared.hart_ending.HartEnding.{HartEnding}
@@ -8,7 +8,7 @@ use Rattle.plan_hunt.specs.Endings.{ends_well}
 use Rattle.plan_hunt.specs.declared.row.Row.{Row}
 use Rattle.report_lines.specs.Text.{bytes_text, hex, stop_text}
 use Rattle.hunt_table.specs.declared.header.Header.{Header}
-use Rattle.hunt_table.specs.declared.header.SeenRange.{SeenRange}
+use Rattle.hunt_table.specs.declared.seen_range.SeenRange.{SeenRange}
 
 -- a byte between quotes: a character that can be printed stands for itself
 unfoldable pub quoted_byte : ℕ → List ℕ
@@ -41,9 +41,18 @@ abbrev pub stop_lines : ℕ → List HartEnding → List ℕ
 stop_lines i [] = []
 stop_lines i (s ∷ ss) = stop_line i s ++ stop_lines (i + 1) ss
 
--- the line of a range: its bytes in rising address, two digits each
+-- the name of a range, where it has one
+abbrev pub name_word : Option (List ℕ) → List ℕ
+name_word None = []
+name_word (Some name) = 32 ∷ name
+
+-- the numbers of a range
+abbrev pub range_front : ℕ → ℕ → List ℕ
+range_front address size = codes "see " ++ hex 8 address ++ codes " " ++ decimal size ++ codes " "
+
+-- the line of a range: its bytes in rising address, two digits each, and its name
 unfoldable pub seen_line : SeenRange → List ℕ → List ℕ
-seen_line r bs = codes "see " ++ hex 8 r.address ++ codes " " ++ decimal r.length ++ codes " " ++ bytes_text bs ++ codes "\n"
+seen_line r bs = range_front r.address r.length ++ bytes_text bs ++ name_word r.name ++ codes "\n"
 
 -- the lines of the ranges, whose bytes stand one after the other
 abbrev pub seen_lines : List SeenRange → List ℕ → List ℕ
@@ -62,30 +71,49 @@ mark bad = if bad then codes " bad" else []
 abbrev pub ending_front : Bool → ℕ → Row → List ℕ
 ending_front marked k r = codes "ending " ++ decimal k ++ mark (marked && is_bad r)
 
+-- the word of a weak hunt behind an ending's first plan: RVWMO allows that execution
+abbrev pub checked_word : Bool → List ℕ
+checked_word weak = if weak then codes " checked" else []
+
+-- how many plans there are, and the first of them
+abbrev pub plans_words : ℕ → ℕ → List ℕ
+plans_words plans first = codes " plans " ++ decimal plans ++ codes " first " ++ decimal first
+
 -- how many plans lead to an ending, and the first of them
-unfoldable pub ending_line : Bool → ℕ → Row → List ℕ
-ending_line marked k r =
-    ending_front marked k r ++ codes " plans " ++ decimal r.plans ++ codes " first " ++ decimal r.first ++ codes "\n"
+unfoldable pub ending_line : Bool → Bool → ℕ → Row → List ℕ
+ending_line weak marked k r =
+    ending_front marked k r ++ plans_words r.plans r.first ++ checked_word weak ++ codes "\n"
 
 -- an ending: its plans, its harts, the bytes that are looked at, and the output
-unfoldable pub ending_text : Bool → List SeenRange → ℕ → Row → List ℕ
-ending_text marked ranges k r = ending_line marked k r ++ stop_lines 0 r.ending.stops ++ seen_lines ranges r.ending.seen ++ output_line r.ending.output
+unfoldable pub ending_text : Bool → Bool → List SeenRange → ℕ → Row → List ℕ
+ending_text weak marked ranges k r =
+    ending_line weak marked k r ++ stop_lines 0 r.ending.stops ++ seen_lines ranges r.ending.seen ++ output_line r.ending.output
 
 -- endings k, k + 1, ..
-abbrev pub endings_text : Bool → List SeenRange → ℕ → List Row → List ℕ
-endings_text marked ranges k [] = []
-endings_text marked ranges k (r ∷ rs) = ending_text marked ranges k r ++ endings_text marked ranges (k + 1) rs
+abbrev pub endings_text : Bool → Bool → List SeenRange → ℕ → List Row → List ℕ
+endings_text weak marked ranges k [] = []
+endings_text weak marked ranges k (r ∷ rs) = ending_text weak marked ranges k r ++ endings_text weak marked ranges (k + 1) rs
+
+-- the word of a weak hunt behind its seed
+abbrev pub weak_word : Bool → List ℕ
+weak_word weak = if weak then codes " weak" else []
+
+-- the numbers of the plans
+abbrev pub plans_front : ℕ → ℕ → List ℕ
+plans_front first count = codes "plans " ++ decimal first ++ codes " " ++ decimal count
+
+-- the line of the plans
+unfoldable pub plans_line : Bool → ℕ → ℕ → ℕ → List ℕ
+plans_line weak seed first count = plans_front first count ++ codes " seed " ++ decimal seed ++ weak_word weak ++ codes "\n"
 
 -- the plans of the hunt, and how many endings they have
-unfoldable pub header_text : ℕ → ℕ → ℕ → ℕ → List ℕ
-header_text seed first count endings =
-    codes "plans " ++ decimal first ++ codes " " ++ decimal count ++ codes " seed " ++ decimal seed ++ codes "\nendings "
-    ++ decimal endings ++ codes "\n"
+unfoldable pub header_text : Bool → ℕ → ℕ → ℕ → ℕ → List ℕ
+header_text weak seed first count endings = plans_line weak seed first count ++ codes "endings " ++ decimal endings ++ codes "\n"
 
 -- the table of a hunt, as text: with bad endings marked, or, as it was once written, without
 unfoldable pub table_text_by : Bool → Header → List Row → List ℕ
 table_text_by marked h rows =
-    header_text h.seed h.first h.count (length rows) ++ endings_text marked h.ranges.items 1 rows ++ codes "end\n"
+    header_text h.is_weak h.seed h.first h.count (length rows) ++ endings_text h.is_weak marked h.ranges.items 1 rows ++ codes "end\n"
 
 abbrev pub table_text : Header → List Row → List ℕ
 table_text h rows = table_text_by true h rows

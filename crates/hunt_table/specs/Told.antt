@@ -1,9 +1,10 @@
 -- Which tables have a text that tells all of them, and what a reader answers for it.
-use Rattle.std.specs.Prelude.{◌≡◌, ◌≢◌, ◌^◌, ◌<◌, List, [], All, length, sum_by, Result, MatchResult}
+use Rattle.std.specs.Prelude.{◌≡◌, ◌≢◌, ℕ, ◌^◌, ◌<◌, List, [], All, length, sum_by, Option, Some, None, Result, MatchResult}
 use Rattle.plan_hunt.specs.declared.hart_ending.HartEnding.{HartEnding}
 use Rattle.plan_hunt.specs.declared.hart_ending.HartEnding.TheVariants.{Loops, Runs, Stopped}
 use Rattle.hunt_table.specs.declared.header.Header.{Header}
-use Rattle.hunt_table.specs.declared.header.SeenRange.{SeenRange}
+use Rattle.hunt_table.specs.declared.seen_range.SeenRange.{SeenRange}
+use Rattle.hunt_table.specs.Names.{name_of}
 use Rattle.plan_hunt.specs.declared.row.Row.{Row}
 use Rattle.hunt_table.specs.declared.read_error.ReadError.{ReadError}
 use Rattle.hunt_table.specs.declared.read_error.ReadError.TheVariants.{OutOfMemory}
@@ -15,9 +16,14 @@ IsToldStop Runs = Unit {0}
 IsToldStop Loops = Unit {0}
 IsToldStop (Stopped s) = (s.code < 2 ^ 8) × (s.value < 2 ^ 64) × (s.code ≢ 1 → s.value ≡ 0)
 
+-- a range has no name, or one that can be told
+abbrev pub IsToldName : Option (List ℕ) → Type 0
+IsToldName None = Unit {0}
+IsToldName (Some name) = name_of name ≡ Some name
+
 -- a range's numbers fit their fields
 abbrev pub IsToldRange : SeenRange → Type 0
-IsToldRange r = (r.address < 2 ^ 32) × (r.length < 2 ^ 32)
+IsToldRange r = (r.address < 2 ^ 32) × (r.length < 2 ^ 32) × IsToldName r.name
 
 -- numbers that fit their fields, and as many bytes that are looked at as the ranges have
 pub record IsToldRow (ranges : List SeenRange) (r : Row) : Type 0 where
@@ -42,6 +48,7 @@ pub record IsTold (h : Header) (endings : List Row) : Type 0 where
 
 -- two tables are the same, whatever memory they take
 pub record IsSame (h : Header) (endings : List Row) (t : Table) : Type 0 where
+  pub is_weak : t.header.is_weak ≡ h.is_weak
   pub seed : t.header.seed ≡ h.seed
   pub first : t.header.first ≡ h.first
   pub count : t.header.count ≡ h.count

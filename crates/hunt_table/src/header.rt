@@ -1,15 +1,10 @@
-/// Bytes of memory that are looked at when a run ends.
-#[derive(Clone, Copy, Debug, PartialEq, Eq)]
-pub struct SeenRange {
-    /// The address of the first byte.
-    pub address: u32,
-    /// How many bytes there are.
-    pub length: u32,
-}
+use crate::seen_range::SeenRange;
 
 /// What a hunt was asked for: its plans are `count` of a family's, from `first` on.
 #[derive(Drop)]
 pub struct Header {
+    /// A weak hunt: each number stands for an execution in which loads read old values and stores come late.
+    pub is_weak: bool,
     pub seed: u64,
     pub first: u32,
     pub count: u32,

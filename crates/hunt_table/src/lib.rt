@@ -5,15 +5,19 @@
 mod header;
 mod merge_error;
 mod merging;
+mod range_name;
 mod read_error;
 mod reading;
+mod seen_range;
 mod table;
 mod writing;
 
-pub use header::{Header, SeenRange};
+pub use header::Header;
 pub use merge_error::MergeError;
 pub use merging::merge;
+pub use range_name::RangeName;
 pub use read_error::ReadError;
 pub use reading::read_table;
+pub use seen_range::{SeenRange, are_same_ranges};
 pub use table::Table;
-pub use writing::{add_table, write_table};
+pub use writing::{add_table, write_seen, write_table};

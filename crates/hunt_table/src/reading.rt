@@ -9,18 +9,30 @@ ghost use Rattle.std.specs.Prelude.{◌≡◌, ◌≢◌, ◌↔◌, IfErr, IfOk
 ghost use Rattle.hunt_table.specs.Text.{IsTextOf, table_text_by};
 ghost use Rattle.hunt_table.specs.declared.header.Header.{Header as TableHeader};
 ghost use Rattle.plan_hunt.specs.declared.row.Row.{Row as TableRow};
-ghost use Rattle.hunt_table.specs.Reading.{contents, table_at};
+ghost use Rattle.hunt_table.specs.Reading.{contents, table_at, weak_at};
 ghost use Rattle.hunt_table.specs.Told.{IsReadAs, IsTold};
 
 use crate::header::Header;
 use crate::read_error::ReadError;
-use crate::reading::cursor::{number_at, skip, word_at};
+use crate::reading::cursor::{byte_at, number_at, skip, word_at};
 use crate::reading::endings::endings_at;
 use crate::table::Table;
 use crate::writing::add_table;
 use pages::OutOfMemory;
 use report_lines::Line;
 use std::alloc::Global;
+
+/// Whether the word of a weak hunt is there, and what follows.
+fn weak_at(text: &[u8]) -> (bool, &[u8])
+    ensures is_weak { result.0 ≡ (weak_at text.now).0 }
+    ensures rest { result.1.now ≡ (weak_at text.now).1 }
+{
+    if byte_at(text, 0) == b' ' {
+        (true, skip(text, " weak".len()))
+    } else {
+        (false, text)
+    }
+}
 
 /// What a text would be as a table. Whether it is one is not looked at: each part is read as if it were there.
 #[tactic(auto, unfolding(crate::specs::Reading::table_at))]
@@ -30,10 +42,12 @@ fn table_at(alloc: Global, text: &[u8]) -> Result<Table, OutOfMemory>
     let (first, rest) = word_at(skip(text, "plans ".len()));
     let (count, rest) = word_at(skip(rest, 1));
     let (seed, rest) = number_at(skip(rest, " seed ".len()));
+    let (is_weak, rest) = weak_at(rest);
     let (endings, rest) = number_at(skip(rest, "\nendings ".len()));
     let endings = endings_at(alloc, skip(rest, 1), endings)?;
     Ok(Table {
         header: Header {
+            is_weak,
             seed,
             first,
             count,

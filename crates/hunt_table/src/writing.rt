@@ -2,10 +2,11 @@ mod endings;
 
 ghost use Rattle.std.specs.Prelude.{◌≡◌, ◌<◌, ◌++◌, Err, OnOk};
 ghost use Rattle.host_io.specs.Taken.{WritesText};
-ghost use Rattle.hunt_table.specs.Text.{endings_text, header_text, table_text, table_text_by};
+ghost use Rattle.hunt_table.specs.Text.{endings_text, header_text, plans_front, plans_line, seen_line, table_text, table_text_by, weak_word};
 
-use crate::header::{Header, SeenRange};
-use crate::writing::endings::add_ending;
+use crate::header::Header;
+use crate::seen_range::SeenRange;
+use crate::writing::endings::{EndingForm, add_ending, add_range};
 use host_io::{RunError, Sink, put_all};
 use pages::OutOfMemory;
 use plan_hunt::Row;
@@ -32,6 +33,25 @@ pub fn write_table<S: Sink>(
     put_all(out, line.as_bytes())
 }
 
+/// Writes the line of a range of memory that holds these bytes.
+///
+/// # Errors
+///
+/// As `write_table`.
+pub fn write_seen<S: Sink>(
+    alloc: Global,
+    range: &SeenRange,
+    bytes: &[u8],
+    out: &mut S,
+) -> Result<(), RunError>
+    ensures writes { WritesText (seen_line range.now bytes.now) (S.took out.old) (S.failures out.old) result (S.took out.new) (S.failures out.new) }
+    ensures memory { result ≡ Err RunError.OutOfMemory → S.took out.new ≡ S.took out.old }
+{
+    let mut line = Line::new(alloc);
+    add_range(&mut line, range, bytes)?;
+    put_all(out, line.as_bytes())
+}
+
 /// Adds the text of a table to a line, with bad endings marked or without.
 ///
 /// # Errors
@@ -47,37 +67,69 @@ pub fn add_table(
     ensures { OnOk result (line.new ≡ line.old ++ table_text_by marked header.now rows.now) }
 {
     add_header(line, header, rows.len() as u64)?;
-    add_endings(line, marked, &header.ranges, rows)?;
+    add_endings(line, marked, header, rows)?;
     line.text("end\n")
+}
+
+/// Adds the numbers of the plans.
+fn add_plans_front(line: &mut Line, first: u32, count: u32) -> Result<(), OutOfMemory>
+    ensures { OnOk result (line.new ≡ line.old ++ plans_front first count) }
+{
+    line.text("plans ")?;
+    line.decimal(u64::from(first))?;
+    line.text(" ")?;
+    line.decimal(u64::from(count))
+}
+
+/// Adds the line of the plans.
+#[tactic(auto, unfolding(crate::specs::Text::plans_line))]
+fn add_plans_line(line: &mut Line, header: &Header) -> Result<(), OutOfMemory>
+    ensures { OnOk result (line.new ≡ line.old ++
+        plans_line header.now.is_weak header.now.seed header.now.first header.now.count) }
+{
+    add_plans_front(line, header.first, header.count)?;
+    line.text(" seed ")?;
+    line.decimal(header.seed)?;
+    add_weak_word(line, header.is_weak)?;
+    line.text("\n")
 }
 
 /// Adds the lines of the plans and of the number of endings.
 #[tactic(auto, unfolding(crate::specs::Text::header_text))]
 fn add_header(line: &mut Line, header: &Header, endings: u64) -> Result<(), OutOfMemory>
     ensures { OnOk result (line.new ≡
-        line.old ++ header_text header.now.seed header.now.first header.now.count endings) }
+        line.old ++ header_text header.now.is_weak header.now.seed header.now.first
+        header.now.count endings) }
 {
-    line.text("plans ")?;
-    line.decimal(u64::from(header.first))?;
-    line.text(" ")?;
-    line.decimal(u64::from(header.count))?;
-    line.text(" seed ")?;
-    line.decimal(header.seed)?;
-    line.text("\nendings ")?;
+    add_plans_line(line, header)?;
+    line.text("endings ")?;
     line.decimal(endings)?;
     line.text("\n")
+}
+
+/// Adds the word of a weak hunt.
+fn add_weak_word(line: &mut Line, is_weak: bool) -> Result<(), OutOfMemory>
+    ensures { OnOk result (line.new ≡ line.old ++ weak_word is_weak) }
+{
+    if is_weak { line.text(" weak") } else { Ok(()) }
 }
 
 fn add_endings(
     line: &mut Line,
     marked: bool,
-    ranges: &[SeenRange],
+    header: &Header,
     rows: &[Row],
 ) -> Result<(), OutOfMemory>
-    ensures { OnOk result (line.new ≡ line.old ++ endings_text marked ranges.now 1 rows.now) }
+    ensures { OnOk result (line.new ≡ line.old ++
+        endings_text header.now.is_weak marked header.now.ranges.items 1 rows.now) }
 {
+    let form = EndingForm {
+        is_weak: header.is_weak,
+        is_marked: marked,
+        ranges: &header.ranges,
+    };
     for (place, row) in rows.iter().enumerate() {
-        add_ending(line, marked, ranges, place as u64 + 1, row)?;
+        add_ending(line, &form, place as u64 + 1, row)?;
     }
     Ok(())
 }

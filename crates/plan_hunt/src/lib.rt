@@ -18,4 +18,4 @@ pub use joining::join;
 pub use observing::{HuntObserver, UnobservedHunt};
 pub use row::Row;
 pub use runs::Runs;
-pub use tabulating::{tables_are_unique, tabulate};
+pub use tabulating::{block_size, tables_are_unique, tabulate};

@@ -46,7 +46,7 @@ pub fn tabulate<Q: Runs + Sync, O: HuntObserver, R: Threads + Wait + Sync>(
         let block = Block {
             first,
             done,
-            count: block_size(observer.before_block(done), count - done),
+            count: block_size(observer.before_block(done, &rows), count - done),
         };
         tabulate_block(rt, alloc, runs, block, workers, &mut rows)?;
         done += block.count;
@@ -55,7 +55,7 @@ pub fn tabulate<Q: Runs + Sync, O: HuntObserver, R: Threads + Wait + Sync>(
 }
 
 /// How many plans are in a block for which so many are asked, where so many are left.
-fn block_size(asked: u32, left: u32) -> u32
+pub fn block_size(asked: u32, left: u32) -> u32
     requires { 1 ≤ left }
     ensures some { 1 ≤ result }
     ensures few { result ≤ left }

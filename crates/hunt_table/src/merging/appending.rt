@@ -3,8 +3,9 @@ ghost use Rattle.host_io.specs.declared.error.RunError.TheVariants as refusals;
 ghost use Rattle.hunt_table.specs.Merging.{Adjoins, IsAppended, harts_of};
 ghost use Rattle.hunt_table.specs.declared.merge_error.MergeError.TheVariants.{Apart, Run};
 
-use crate::header::{Header, SeenRange};
+use crate::header::Header;
 use crate::merge_error::MergeError;
+use crate::seen_range::are_same_ranges;
 use crate::table::Table;
 use plan_hunt::{Row, join};
 
@@ -16,12 +17,6 @@ pub(crate) fn harts_of(rows: &[Row]) -> usize
         [] => 0,
         [first, ..] => first.ending.stops().len(),
     }
-}
-
-fn are_same(ranges: &[SeenRange], others: &[SeenRange]) -> bool
-    ensures { IsTrue result ↔ (ranges.now ≡ others.now) }
-{
-    ranges == others
 }
 
 /// Whether a number of plans from a plan on stays below 2^32.
@@ -44,8 +39,9 @@ fn follows(header: &Header, next: &Header) -> bool
 fn adjoins(whole: &Table, table: &Table, harts: usize) -> bool
     ensures { IsTrue result ↔ Adjoins harts whole.now table.now }
 {
-    table.header.seed == whole.header.seed
-        && are_same(&table.header.ranges, &whole.header.ranges)
+    table.header.is_weak == whole.header.is_weak
+        && table.header.seed == whole.header.seed
+        && are_same_ranges(&table.header.ranges, &whole.header.ranges)
         && harts_of(&table.rows) == harts
         && follows(&whole.header, &table.header)
 }

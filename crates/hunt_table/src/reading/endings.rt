@@ -1,12 +1,12 @@
 ghost use Rattle.std.specs.Prelude.{◌≡◌, [], IfOk};
-ghost use Rattle.hunt_table.specs.Reading.{after_mark, ending_at, ending_lines_at, endings_at, last_ranges, rows_of};
+ghost use Rattle.hunt_table.specs.Reading.{after_checked, after_mark, ending_at, ending_lines_at, endings_at, last_ranges, rows_of};
 
-use crate::header::SeenRange;
 use crate::reading::cursor::{byte_at, number_at, skip, word_at};
 use crate::reading::growing::push;
 use crate::reading::output::output_line_at;
 use crate::reading::seen::seen_at;
 use crate::reading::stops::stops_at;
+use crate::seen_range::SeenRange;
 use pages::OutOfMemory;
 use plan_hunt::{Ending, Row};
 use std::alloc::Global;
@@ -52,6 +52,17 @@ fn after_mark(text: &[u8]) -> &[u8]
     }
 }
 
+/// What follows the word of a checked ending, where it is there.
+fn after_checked(text: &[u8]) -> &[u8]
+    ensures { result.now ≡ after_checked text.now }
+{
+    if byte_at(text, 0) == b' ' {
+        skip(text, " checked".len())
+    } else {
+        text
+    }
+}
+
 /// The same from its first line on.
 #[tactic(auto, unfolding(crate::specs::Reading::ending_at))]
 fn ending_at(alloc: Global, text: &[u8]) -> Result<(Row, Vec<SeenRange>, &[u8]), OutOfMemory>
@@ -62,7 +73,7 @@ fn ending_at(alloc: Global, text: &[u8]) -> Result<(Row, Vec<SeenRange>, &[u8]),
     let (_number, rest) = number_at(skip(text, "ending ".len()));
     let (plans, rest) = word_at(skip(after_mark(rest), " plans ".len()));
     let (first, rest) = word_at(skip(rest, " first ".len()));
-    ending_lines_at(alloc, skip(rest, 1), plans, first)
+    ending_lines_at(alloc, skip(after_checked(rest), 1), plans, first)
 }
 
 /// At most so many endings.

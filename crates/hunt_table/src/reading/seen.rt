@@ -1,9 +1,12 @@
-ghost use Rattle.std.specs.Prelude.{◌≡◌, ◌++◌, [], ◌∷◌, IfOk, OnOk};
-ghost use Rattle.hunt_table.specs.Reading.{bytes_at, bytes_of, ranges_of, seen_at, seen_line_at};
+ghost use Rattle.std.specs.Prelude.{◌≡◌, ◌≤◌, ◌++◌, [], ◌∷◌, IfOk, OnOk, length};
+ghost use Rattle.std.specs.List.{prefix_len};
+ghost use Rattle.hunt_table.specs.Names.{is_name_byte};
+ghost use Rattle.hunt_table.specs.Reading.{bytes_at, bytes_of, name_after, name_at, ranges_of, seen_at, seen_line_at};
 
-use crate::header::SeenRange;
+use crate::range_name::{RangeName, is_name_byte};
 use crate::reading::cursor::{byte_at, hex_at, skip, word_at};
 use crate::reading::growing::push;
+use crate::seen_range::SeenRange;
 use pages::OutOfMemory;
 use std::alloc::Global;
 
@@ -26,10 +29,45 @@ fn add_bytes(bytes: &mut Vec<u8>, text: &[u8], count: usize) -> Result<(), OutOf
     Ok(())
 }
 
+/// How many bytes at the front may stand in a name.
+fn name_len(text: &[u8]) -> usize
+    ensures count { result ≡ prefix_len is_name_byte text.now }
+    ensures within { result ≤ length text.now }
+{
+    for (place, byte) in text.iter().enumerate() {
+        if !is_name_byte(*byte) {
+            return place;
+        }
+    }
+    text.len()
+}
+
+/// What stands behind a blank, as far as a name may, and what follows.
+fn name_after(alloc: Global, text: &[u8]) -> Result<(Option<RangeName>, &[u8]), OutOfMemory>
+    ensures name { IfOk result (λ r. r.0 ≡ (name_after text.now).0) }
+    ensures rest { IfOk result (λ r. r.1.now ≡ (name_after text.now).1) }
+{
+    let (name, rest) = text.split_at(name_len(text));
+    Ok((RangeName::of(Vec::from_slice(alloc, name)?), rest))
+}
+
+/// The name at the front, if there is a blank.
+#[tactic(auto, unfolding(crate::specs::Reading::name_at))]
+fn name_at(alloc: Global, text: &[u8]) -> Result<(Option<RangeName>, &[u8]), OutOfMemory>
+    ensures name { IfOk result (λ r. r.0 ≡ (name_at text.now).0) }
+    ensures rest { IfOk result (λ r. r.1.now ≡ (name_at text.now).1) }
+{
+    if byte_at(text, 0) == b' ' {
+        name_after(alloc, skip(text, 1))
+    } else {
+        Ok((None, text))
+    }
+}
+
 impl Seen {
     /// Adds what the line of a range says, and gives the lines after it.
     #[tactic(auto, unfolding(crate::specs::Reading::seen_line_at))]
-    fn add_line<'a>(&mut self, text: &'a [u8]) -> Result<&'a [u8], OutOfMemory>
+    fn add_line<'a>(&mut self, alloc: Global, text: &'a [u8]) -> Result<&'a [u8], OutOfMemory>
         ensures ranges { OnOk result (self.new.ranges.items ≡
             self.old.ranges.items ++ (seen_line_at text.now).0.0 ∷ []) }
         ensures bytes { OnOk result (self.new.bytes.items ≡
@@ -41,9 +79,15 @@ impl Seen {
         let (length, rest) = word_at(skip(digits, 9));
         let rest = skip(rest, 1);
         let count = (length as usize).min(rest.len() / 2);
-        push(&mut self.ranges, SeenRange { address, length })?;
         add_bytes(&mut self.bytes, rest, count)?;
-        Ok(skip(skip(rest, 2 * count), 1))
+        let (name, rest) = name_at(alloc, skip(rest, 2 * count))?;
+        let range = SeenRange {
+            address,
+            length,
+            name,
+        };
+        push(&mut self.ranges, range)?;
+        Ok(skip(rest, 1))
     }
 }
 
@@ -63,7 +107,7 @@ pub(crate) fn seen_at(alloc: Global, text: &[u8]) -> Result<(Seen, &[u8]), OutOf
         if byte_at(rest, 0) != b's' {
             break;
         }
-        rest = seen.add_line(rest)?;
+        rest = seen.add_line(alloc, rest)?;
     }
     Ok((seen, rest))
 }

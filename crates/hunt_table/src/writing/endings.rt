@@ -1,11 +1,23 @@
 ghost use Rattle.std.specs.Prelude.{◌≡◌, ◌&&◌, ◌+◌, ◌<◌, ◌≤◌, ◌++◌, codes, drop, OnOk, take};
 ghost use Rattle.report_lines.specs.Text.{bytes_text};
-ghost use Rattle.hunt_table.specs.Text.{ending_front, ending_line, ending_text, hart_words, is_bad, mark, output_line, quoted, quoted_byte, seen_line, seen_lines, stop_line, stop_lines};
+ghost use Rattle.hunt_table.specs.Text.{checked_word, ending_front, ending_line, ending_text, hart_words, is_bad, mark, name_word, output_line, plans_words, quoted, quoted_byte, range_front, seen_line, seen_lines, stop_line, stop_lines};
 
-use crate::header::SeenRange;
+use crate::range_name::RangeName;
+use crate::seen_range::SeenRange;
 use pages::OutOfMemory;
 use plan_hunt::{HartEnding, Row, are_well};
 use report_lines::{Line, add_stop};
+
+/// How endings are written.
+#[derive(Clone, Copy)]
+pub(crate) struct EndingForm<'a> {
+    /// Behind the first plan of each it is told that RVWMO allows that execution.
+    pub is_weak: bool,
+    /// Bad ones are marked.
+    pub is_marked: bool,
+    /// The ranges whose bytes are told.
+    pub ranges: &'a [SeenRange],
+}
 
 /// Adds a byte as it is written between quotes.
 #[tactic(auto, unfolding(crate::specs::Text::quoted_byte))]
@@ -86,17 +98,38 @@ fn add_bytes(line: &mut Line, bytes: &[u8]) -> Result<(), OutOfMemory>
     Ok(())
 }
 
-/// Adds the line of a range.
-#[tactic(auto, unfolding(crate::specs::Text::seen_line))]
-fn add_range(line: &mut Line, range: SeenRange, bytes: &[u8]) -> Result<(), OutOfMemory>
-    ensures { OnOk result (line.new ≡ line.old ++ seen_line range bytes.now) }
+/// Adds the name of a range, where it has one.
+fn add_name(line: &mut Line, name: &Option<RangeName>) -> Result<(), OutOfMemory>
+    ensures { OnOk result (line.new ≡ line.old ++ name_word name.now) }
+{
+    match name {
+        None => Ok(()),
+        Some(name) => {
+            line.text(" ")?;
+            line.bytes(name.as_bytes())
+        }
+    }
+}
+
+/// Adds the numbers of a range.
+fn add_range_front(line: &mut Line, address: u32, length: u32) -> Result<(), OutOfMemory>
+    ensures { OnOk result (line.new ≡ line.old ++ range_front address length) }
 {
     line.text("see ")?;
-    line.hex(u64::from(range.address), 8)?;
+    line.hex(u64::from(address), 8)?;
     line.text(" ")?;
-    line.decimal(u64::from(range.length))?;
-    line.text(" ")?;
+    line.decimal(u64::from(length))?;
+    line.text(" ")
+}
+
+/// Adds the line of a range.
+#[tactic(auto, unfolding(crate::specs::Text::seen_line))]
+pub(crate) fn add_range(line: &mut Line, range: &SeenRange, bytes: &[u8]) -> Result<(), OutOfMemory>
+    ensures { OnOk result (line.new ≡ line.old ++ seen_line range.now bytes.now) }
+{
+    add_range_front(line, range.address, range.length)?;
     add_bytes(line, bytes)?;
+    add_name(line, &range.name)?;
     line.text("\n")
 }
 
@@ -106,7 +139,7 @@ fn add_ranges(line: &mut Line, ranges: &[SeenRange], seen: &[u8]) -> Result<(), 
     let mut rest = seen;
     for range in ranges {
         let length = rest.len().min(range.length as usize);
-        add_range(line, *range, &rest[..length])?;
+        add_range(line, range, &rest[..length])?;
         rest = &rest[length..];
     }
     Ok(())
@@ -142,16 +175,41 @@ fn add_front(line: &mut Line, marked: bool, number: u64, row: &Row) -> Result<()
     add_mark(line, is_marked(marked, row))
 }
 
+/// Adds the word of a checked ending.
+fn add_checked_word(line: &mut Line, is_weak: bool) -> Result<(), OutOfMemory>
+    ensures { OnOk result (line.new ≡ line.old ++ checked_word is_weak) }
+{
+    if is_weak {
+        line.text(" checked")
+    } else {
+        Ok(())
+    }
+}
+
+/// Adds how many plans there are, and the first of them.
+fn add_plans_words(line: &mut Line, plans: u32, first: u32) -> Result<(), OutOfMemory>
+    ensures { OnOk result (line.new ≡ line.old ++ plans_words plans first) }
+{
+    line.text(" plans ")?;
+    line.decimal(u64::from(plans))?;
+    line.text(" first ")?;
+    line.decimal(u64::from(first))
+}
+
 /// Adds how many plans lead to an ending, and the first of them.
 #[tactic(auto, unfolding(crate::specs::Text::ending_line))]
-fn add_plans(line: &mut Line, marked: bool, number: u64, row: &Row) -> Result<(), OutOfMemory>
-    ensures { OnOk result (line.new ≡ line.old ++ ending_line marked number row.now) }
+fn add_plans(
+    line: &mut Line,
+    form: &EndingForm<'_>,
+    number: u64,
+    row: &Row,
+) -> Result<(), OutOfMemory>
+    ensures { OnOk result (line.new ≡
+        line.old ++ ending_line form.now.is_weak form.now.is_marked number row.now) }
 {
-    add_front(line, marked, number, row)?;
-    line.text(" plans ")?;
-    line.decimal(u64::from(row.plans))?;
-    line.text(" first ")?;
-    line.decimal(u64::from(row.first))?;
+    add_front(line, form.is_marked, number, row)?;
+    add_plans_words(line, row.plans, row.first)?;
+    add_checked_word(line, form.is_weak)?;
     line.text("\n")
 }
 
@@ -159,15 +217,15 @@ fn add_plans(line: &mut Line, marked: bool, number: u64, row: &Row) -> Result<()
 #[tactic(auto, unfolding(crate::specs::Text::ending_text))]
 pub(crate) fn add_ending(
     line: &mut Line,
-    marked: bool,
-    ranges: &[SeenRange],
+    form: &EndingForm<'_>,
     number: u64,
     row: &Row,
 ) -> Result<(), OutOfMemory>
-    ensures { OnOk result (line.new ≡ line.old ++ ending_text marked ranges.now number row.now) }
+    ensures { OnOk result (line.new ≡ line.old ++
+        ending_text form.now.is_weak form.now.is_marked form.now.ranges.now number row.now) }
 {
-    add_plans(line, marked, number, row)?;
+    add_plans(line, form, number, row)?;
     add_stops(line, row.ending.stops())?;
-    add_ranges(line, ranges, row.ending.seen())?;
+    add_ranges(line, form.ranges, row.ending.seen())?;
     add_output(line, row.ending.output())
 }

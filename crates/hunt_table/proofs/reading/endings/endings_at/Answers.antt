@@ -1,6 +1,6 @@
 use Rattle.std.proofs.Common.{◌+◌, ◌-◌, List, [], ◌∷◌, ◌++◌, get_or, refl, sym, ap, ◌∙◌, arith}
 use Rattle.std.proofs.lemmas.List.{map_push}
-use Rattle.hunt_table.specs.declared.header.SeenRange.{SeenRange}
+use Rattle.hunt_table.specs.declared.seen_range.SeenRange.{SeenRange}
 use Rattle.plan_hunt.specs.declared.row.Row.{Row}
 use Rattle.hunt_table.specs.Reading.{ending_at, endings_at, is_ending_line, last_ranges, rows_of}
 use Rattle.hunt_table.proofs.Loops.{goes_end, goes_none, goes_on, is_there, last_push, not_there}

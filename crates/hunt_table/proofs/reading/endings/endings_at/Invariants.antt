@@ -1,5 +1,5 @@
 use Rattle.std.proofs.Common.{◌≡◌, ◌-◌, List, []}
-use Rattle.hunt_table.specs.declared.header.SeenRange.{SeenRange}
+use Rattle.hunt_table.specs.declared.seen_range.SeenRange.{SeenRange}
 use Rattle.plan_hunt.specs.declared.row.Row.{Row}
 use Rattle.hunt_table.specs.Reading.{ending_at, endings_at, is_ending_line, last_ranges, rows_of}
 use Rattle.hunt_table.proofs.Loops.{Goes}

@@ -1,6 +1,6 @@
 use Rattle.std.proofs.Common.{ℕ, ◌+◌, ◌-◌, List, [], ◌∷◌, ◌++◌, length, get_or, refl, sym, ap, ◌∙◌, arith}
 use Rattle.std.proofs.lemmas.List.{flat_map_more, map_push}
-use Rattle.hunt_table.specs.declared.header.SeenRange.{SeenRange}
+use Rattle.hunt_table.specs.declared.seen_range.SeenRange.{SeenRange}
 use Rattle.hunt_table.specs.Reading.{bytes_of, is_seen_line, ranges_of, seen_at, seen_line_at}
 use Rattle.hunt_table.proofs.Loops.{goes_end, goes_none, goes_on, is_there, not_there}
 use Rattle.hunt_table.proofs.reading.seen.seen_at.Goals as goal

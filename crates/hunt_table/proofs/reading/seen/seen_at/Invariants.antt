@@ -1,5 +1,5 @@
 use Rattle.std.proofs.Common.{◌≡◌, ℕ, ◌-◌, List, length}
-use Rattle.hunt_table.specs.declared.header.SeenRange.{SeenRange}
+use Rattle.hunt_table.specs.declared.seen_range.SeenRange.{SeenRange}
 use Rattle.hunt_table.specs.Reading.{bytes_of, is_seen_line, ranges_of, seen_at, seen_line_at}
 use Rattle.hunt_table.proofs.Loops.{Goes}
 use Rattle.hunt_table.proofs.reading.seen.seen_at.Given as goal

@@ -1,0 +1,40 @@
+ghost use Rattle.std.specs.Prelude.{◌≡◌, ◌↔◌, ◌<◌, IsTrue};
+
+use crate::range_name::{RangeName, are_same_names};
+
+/// Bytes of memory that are looked at when a run ends.
+#[derive(Drop)]
+pub struct SeenRange {
+    /// The address of the first byte.
+    pub address: u32,
+    /// How many bytes there are.
+    pub length: u32,
+    /// The object that they are, where it was asked for by its name.
+    pub name: Option<RangeName>,
+}
+
+impl SeenRange {
+    /// Whether two ranges have the same bytes and the same name.
+    pub fn is_same(&self, other: &SeenRange) -> bool
+        ensures { IsTrue result ↔ (self.now ≡ other.now) }
+    {
+        self.address == other.address
+            && self.length == other.length
+            && are_same_names(&self.name, &other.name)
+    }
+}
+
+/// Whether two lists have the same ranges, in one order.
+pub fn are_same_ranges(ranges: &[SeenRange], others: &[SeenRange]) -> bool
+    ensures { IsTrue result ↔ (ranges.now ≡ others.now) }
+{
+    if ranges.len() != others.len() {
+        return false;
+    }
+    for (place, range) in ranges.iter().enumerate() {
+        if !range.is_same(&others[place]) {
+            return false;
+        }
+    }
+    true
+}
