@@ -1,34 +1,77 @@
 -- The run of a guest under a plan ends as the definitions say.
-use Rattle.std.proofs.Common.{◌≡◌, ℕ, List, Result, Ok, Err, IfOk, OnOk, subst}
-use Rattle.host_io.specs.declared.error.RunError.{RunError}
+use Rattle.std.proofs.Common.{◌≡◌, ℕ, ◌&&◌, ◌||◌, not, is_some, Bool, true, false, List, [], ◌∷◌, map, Option, Some, None, Result, IfOk, refl, sym, ◌∙◌, ap, subst}
+use Rattle.std.proofs.lemmas.Bool.{false≢true}
 use Rattle.pages.specs.declared.out_of_memory.OutOfMemory.{OutOfMemory}
 use Rattle.elf_loader.specs.Image.{Loaded}
-use Rattle.hunt_table.specs.declared.header.SeenRange.{SeenRange}
+use Rattle.hart_step.specs.declared.hart.Hart.{Hart}
+use Rattle.hart_step.specs.declared.hart.Stop.{Stop}
+use Rattle.hart_step.specs.Console.{ConsoleState}
+use Rattle.run_loops.specs.Forgetting.{uncounted}
+use Rattle.hunt_table.specs.declared.seen_range.SeenRange.{SeenRange}
+use Rattle.loop_finder.specs.Finding.{IsLike, is_round, loops_in, some_run}
 use Rattle.machine.specs.Machine.{Running, after_rounds, opening}
 use Rattle.machine.specs.Settings.{image_of}
-use Rattle.machine.specs.Untraced.{IsAfter, IsUntraced, Untraced}
+use Rattle.machine.specs.Untraced.{IsUntraced, Untraced}
 use Rattle.round_planner.specs.Quotas.{Planned}
 use Rattle.plan_family.specs.Families.{family_plan}
-use Rattle.plan_hunt.specs.Endings.{Ended}
+use Rattle.plan_hunt.specs.Endings.{Ended, ended}
+use Rattle.plan_hunt.specs.declared.hart_ending.HartEnding.{HartEnding}
+use Rattle.plan_hunt.specs.declared.hart_ending.HartEnding.TheVariants.{Stopped}
 use Rattle.plan_hunt.specs.Tables.{IsTable}
 use Rattle.plan_hunt.specs.declared.row.Row.{Row}
 use Rattle.plan_shrink.specs.Steps.{IsShrunk}
-use Rattle.hunter.specs.Hunts.{IsHunted, ended_of, ends_after, ends_from, ends_under, family_of}
+use Rattle.hunter.specs.Hunts.{IsHunted, ended_of, ending_by, ends_after, ends_from, ends_under, family_of, seen_of}
 use Rattle.hunter.specs.declared.settings.HuntSettings.{HuntSettings}
 
-on_ok : (r : Result (Unit {0}) RunError) (v : Unit {0}) (P : Type 0) → r ≡ Ok v → OnOk r P → P
-on_ok (Ok x) v P e h = h
-on_ok (Err x) v P e h = cc
+head_is : {X : Type 0} (x y : X) (xs ys : List X) → x ∷ xs ≡ y ∷ ys → (x ≡ y) × (xs ≡ ys)
+head_is x y xs ys e = (cc, cc)
 
--- the machine is run from its opening, and is looked at
-pub ends_so : (s : HuntSettings) (image : Loaded) (input : List ℕ) (p : Planned) (u v : Untraced) (ranges : List SeenRange) (ran : Result (Unit {0}) RunError) (w : Unit {0}) (r : Result Ended OutOfMemory) →
-    IsUntraced (opening image input p) u → OnOk ran (IsAfter s.rounds u v) → ran ≡ Ok w → ranges ≡ s.header.ranges.items →
-    ((m : Running) → IsUntraced m v → IfOk r (λ e. e ≡ ended_of ranges m)) → IfOk r (λ e. e ≡ ends_from s image input p)
-unfolding ends_from
-ends_so s image input p u v ranges ran w r is runs was same h =
-    let first : Running = opening image input p in
-    let last : Running = after_rounds s.rounds first in
-    subst (λ (x : List SeenRange). IfOk r (λ e. e ≡ ended_of x last)) same (h last (on_ok ran w (IsAfter s.rounds u v) was runs first is))
+-- what harts have done makes no difference to their words
+same_harts : (f : Option Stop → HartEnding) (hs gs : List Hart) → map uncounted hs ≡ map uncounted gs → map (λ (h : Hart). f h.stop) hs ≡ map (λ (h : Hart). f h.stop) gs
+same_harts f [] [] e = refl
+same_harts f [] (g ∷ gs) e = cc
+same_harts f (h ∷ hs) [] e = cc
+same_harts f (h ∷ hs) (g ∷ gs) e =
+    let d = head_is (uncounted h) (uncounted g) (map uncounted hs) (map uncounted gs) e in
+    ap (λ (x : Hart). f x.stop ∷ map (λ (h : Hart). f h.stop) hs) d.0 ∙ ap (λ (ws : List HartEnding). f g.stop ∷ ws) (same_harts f hs gs d.1)
+
+-- and where none runs, nor does whether the run goes round
+none_run : (a b : Bool) (hs : List Hart) → some_run hs ≡ false → map (λ (h : Hart). ending_by a h.stop) hs ≡ map (λ (h : Hart). ending_by b h.stop) hs
+none_run a b [] e = refl
+none_run a b (h ∷ hs) e = by_stop h.stop e (λ f. none_run a b hs f)
+  where
+    by_stop : (s : Option Stop) → (not (is_some s) || some_run hs) ≡ false →
+        (some_run hs ≡ false → map (λ (h : Hart). ending_by a h.stop) hs ≡ map (λ (h : Hart). ending_by b h.stop) hs) →
+        ending_by a s ∷ map (λ (h : Hart). ending_by a h.stop) hs ≡ ending_by b s ∷ map (λ (h : Hart). ending_by b h.stop) hs
+    by_stop None f rest = absurd (false≢true (sym f))
+    by_stop (Some s) f rest = ap (λ (ws : List HartEnding). Stopped s ∷ ws) (rest f)
+
+same_words : (round : Bool) (hs : List Hart) (b : Bool) → some_run hs ≡ b →
+    map (λ (h : Hart). ending_by (b && round) h.stop) hs ≡ map (λ (h : Hart). ending_by round h.stop) hs
+same_words round hs true e = refl
+same_words round hs false e = none_run false round hs e
+
+-- the machine is run from its opening, or cut short, and is looked at
+pub ends_so : (s : HuntSettings) (image : Loaded) (input : List ℕ) (p : Planned) (u v : Untraced) (ranges : List SeenRange) (l : Bool) (r : Result Ended OutOfMemory) →
+    IsUntraced (opening image input p) u → l ≡ loops_in s.rounds (opening image input p) → IsLike (after_rounds s.rounds (opening image input p)) v → ranges ≡ s.header.ranges.items →
+    ((m : Running) → IsUntraced m v → IfOk r (λ e. e ≡ ended_of ranges l m)) → IfOk r (λ e. e ≡ ends_from s image input p)
+unfolding ends_from ended_of
+ends_so s image input p u v ranges l r is loops like same h =
+    let m : Running = opening image input p in
+    let last : Running = after_rounds s.rounds m in
+    let there : Running = like.there in
+    let round : Bool = is_round s.rounds m in
+    let words : List HartEnding = map (λ (g : Hart). ending_by round g.stop) last.state.harts in
+    let stops : map (λ (g : Hart). ending_by l g.stop) there.state.harts ≡ words =
+    ap (λ (b : Bool). map (λ (g : Hart). ending_by b g.stop) there.state.harts) loops
+    ∙ same_harts (ending_by (some_run last.state.harts && round)) there.state.harts last.state.harts like.alike.harts
+    ∙ same_words round last.state.harts (some_run last.state.harts) refl in
+    let is_so : ended_of ranges l there ≡ ends_from s image input p =
+    ap (λ (ws : List HartEnding). ended ws there.state.console.output (seen_of ranges there.state.bytes)) stops
+    ∙ ap (λ (c : ConsoleState). ended words c.output (seen_of ranges there.state.bytes)) like.alike.console
+    ∙ ap (λ (bs : List ℕ). ended words last.state.console.output (seen_of ranges bs)) like.alike.bytes
+    ∙ ap (λ (rs : List SeenRange). ended words last.state.console.output (seen_of rs last.state.bytes)) same in
+    subst (λ (x : Ended). IfOk r (λ e. e ≡ x)) is_so (h there like.is)
 
 -- the table of the runs of a guest that was loaded from a file is the table of the file's hunt
 pub hunted_so : (s t : HuntSettings) (file input u : List ℕ) (image : Loaded) (rows : List Row) → t ≡ s → u ≡ input → image ≡ image_of s.format file s.pages →

@@ -7,6 +7,7 @@ use Rattle.host_io.specs.declared.load_error.LoadError.{LoadError as ImageCause}
 use Rattle.hart_step.specs.declared.hart.Hart.{Hart}
 use Rattle.hart_step.specs.declared.hart.Stop.{Stop}
 use Rattle.host_io.specs.declared.error.RunError.TheVariants as refusals
+use Rattle.loop_finder.specs.Finding.{is_round}
 use Rattle.machine.specs.Machine.{Running, after_rounds, opening}
 use Rattle.machine.specs.Settings.{StandsIn, image_of}
 use Rattle.round_planner.specs.Quotas.{Planned}
@@ -17,7 +18,7 @@ use Rattle.plan_hunt.specs.declared.hart_ending.HartEnding.{HartEnding}
 use Rattle.plan_hunt.specs.declared.hart_ending.HartEnding.TheVariants.{Loops, Runs, Stopped}
 use Rattle.plan_hunt.specs.Tables.{IsTable}
 use Rattle.plan_hunt.specs.declared.row.Row.{Row}
-use Rattle.hunt_table.specs.declared.header.SeenRange.{SeenRange}
+use Rattle.hunt_table.specs.declared.seen_range.SeenRange.{SeenRange}
 use Rattle.hunter.specs.declared.error.HuntError.{HuntError}
 use Rattle.hunter.specs.declared.error.HuntError.TheVariants.{Run, PlansOutOfRange, SeenOutside}
 use Rattle.hunter.specs.declared.settings.HuntSettings.{HuntSettings}
@@ -76,22 +77,29 @@ abbrev pub seen_of : List SeenRange → List ℕ → List ℕ
 seen_of [] bytes = []
 seen_of (r ∷ rs) bytes = take r.length (drop r.address bytes) ++ seen_of rs bytes
 
--- how a hart ended, by why it stopped
-abbrev pub ending_of_stop : Option Stop → HartEnding
-ending_of_stop None = Runs
-ending_of_stop (Some s) = Stopped s
+-- how a hart ended, by whether its run goes round and why it stopped
+abbrev pub ending_by : Bool → Option Stop → HartEnding
+ending_by round None = if round then Loops else Runs
+ending_by round (Some s) = Stopped s
 
--- the ending of a run
-unfoldable pub ended_of : List SeenRange → Running → Ended
-ended_of ranges m = ended (map (λ (h : Hart). ending_of_stop h.stop) m.state.harts) m.state.console.output (seen_of ranges m.state.bytes)
+-- the same of a run that isn't said to go round
+abbrev pub ending_of_stop : Option Stop → HartEnding
+ending_of_stop stop = ending_by false stop
+
+-- the ending of a run, by whether it goes round
+unfoldable pub ended_of : List SeenRange → Bool → Running → Ended
+ended_of ranges round m = ended (map (λ (h : Hart). ending_by round h.stop) m.state.harts) m.state.console.output (seen_of ranges m.state.bytes)
 
 -- the family of the hunt's plans
 abbrev pub family_of : HuntSettings → Family
 family_of s = record { seed = s.header.seed; harts = s.harts }
 
--- the ending of the run under a plan, from an image and an input
+-- the ending of the run under a plan, from an image and an input: a hart that runs when the rounds are over loops where the run
+-- is found to go round
 unfoldable pub ends_from : HuntSettings → Loaded → List ℕ → Planned → Ended
-ends_from s image input p = ended_of s.header.ranges.items (after_rounds s.rounds (opening image input p))
+ends_from s image input p =
+    let m = opening image input p in
+    ended_of s.header.ranges.items (is_round s.rounds m) (after_rounds s.rounds m)
 
 -- the same from a file
 unfoldable pub ends_under : HuntSettings → List ℕ → List ℕ → Planned → Ended

@@ -4,13 +4,14 @@ ghost use Rattle.host_io.specs.declared.error.RunError.TheVariants as refusals;
 ghost use Rattle.machine.specs.Machine.{Running, opening};
 ghost use Rattle.machine.specs.Settings.{image_of};
 ghost use Rattle.machine.specs.Untraced.{IsUntraced};
-ghost use Rattle.hunter.specs.Hunts.{IsGuest, IsImageCause, ended_of, ending_of_stop, family_of, seen_of};
+ghost use Rattle.hunter.specs.Hunts.{IsGuest, IsImageCause, ended_of, ending_by, ending_of_stop, family_of, seen_of};
 
 use crate::settings::HuntSettings;
 use elf_loader::Image;
 use hart_step::{Hart, Stop};
 use host_io::RunError;
 use hunt_table::SeenRange;
+use loop_finder::run_or_loop;
 use machine::{UntracedMachine, load};
 use pages::OutOfMemory;
 use plan_family::Family;
@@ -53,8 +54,8 @@ impl PlanRuns for Guest<'_> {
         plan: Plan,
     ) -> Result<Ending, OutOfMemory> {
         let mut machine = self.opening(plan)?;
-        refused(machine.run(rt, self.settings.rounds, 1))?;
-        ending_of(self.alloc, &machine, &self.settings.header.ranges)
+        let loops = run_or_loop(rt, self.alloc, &mut machine, self.settings.rounds)?;
+        ending_of(self.alloc, &machine, loops, &self.settings.header.ranges)
     }
 }
 
@@ -120,22 +121,23 @@ fn refused<T>(answer: Result<T, RunError>) -> Result<T, OutOfMemory>
     }
 }
 
-/// How a hart ended, by why it stopped.
-fn ending_of_stop(stop: Option<Stop>) -> HartEnding
-    ensures { result ≡ ending_of_stop stop }
+/// How a hart ended, by whether its run goes round, and why it stopped.
+fn ending_by(round: bool, stop: Option<Stop>) -> HartEnding
+    ensures { result ≡ ending_by round stop }
 {
     match stop {
+        None if round => HartEnding::Loops,
         None => HartEnding::Runs,
         Some(stop) => HartEnding::Stopped(stop),
     }
 }
 
-fn stops_of(alloc: Global, harts: &[Hart]) -> Result<Vec<HartEnding>, OutOfMemory>
-    ensures { IfOk result (λ v. v.items ≡ map (λ h. ending_of_stop h.stop) harts.now) }
+fn stops_by(alloc: Global, round: bool, harts: &[Hart]) -> Result<Vec<HartEnding>, OutOfMemory>
+    ensures { IfOk result (λ v. v.items ≡ map (λ h. ending_by round h.stop) harts.now) }
 {
     match harts
         .iter()
-        .map(|hart| ending_of_stop(hart.stop))
+        .map(|hart| ending_by(round, hart.stop))
         .collect(alloc)
     {
         Ok(stops) => Ok(stops),
@@ -143,11 +145,29 @@ fn stops_of(alloc: Global, harts: &[Hart]) -> Result<Vec<HartEnding>, OutOfMemor
     }
 }
 
+/// How a hart ended, by why it stopped.
+pub fn ending_of_stop(stop: Option<Stop>) -> HartEnding
+    ensures { result ≡ ending_of_stop stop }
+{
+    ending_by(false, stop)
+}
+
+/// How each hart ended.
+///
+/// # Errors
+///
+/// `OutOfMemory` alone.
+pub fn stops_of(alloc: Global, harts: &[Hart]) -> Result<Vec<HartEnding>, OutOfMemory>
+    ensures { IfOk result (λ v. v.items ≡ map (λ h. ending_of_stop h.stop) harts.now) }
+{
+    stops_by(alloc, false, harts)
+}
+
 /// Adds the bytes of a range.
 #[tactic(auto, using(crate::proofs::Seen::next_byte, crate::proofs::Seen::no_more_bytes))]
-fn look(machine: &UntracedMachine, range: SeenRange, seen: &mut Vec<u8>) -> Result<(), OutOfMemory>
+fn look(machine: &UntracedMachine, range: &SeenRange, seen: &mut Vec<u8>) -> Result<(), OutOfMemory>
     ensures { OnOk result (seen.new.items ≡
-        seen.old.items ++ take range.length (drop range.address machine.now.bytes)) }
+        seen.old.items ++ take range.now.length (drop range.now.address machine.now.bytes)) }
 {
     for offset in 0..range.length {
         let Some(byte) = machine.byte(u64::from(range.address) + u64::from(offset)) else {
@@ -169,22 +189,23 @@ fn seen_of(
 {
     let mut seen = Vec::new(alloc);
     for range in ranges {
-        look(machine, *range, &mut seen)?;
+        look(machine, range, &mut seen)?;
     }
     Ok(seen)
 }
 
-/// The ending of a run.
+/// The ending of a run, by whether it goes round.
 #[tactic(auto, unfolding(crate::specs::Hunts::ended_of))]
 fn ending_of(
     alloc: Global,
     machine: &UntracedMachine,
+    round: bool,
     ranges: &[SeenRange],
 ) -> Result<Ending, OutOfMemory>
     ensures { (m : Running) → IsUntraced m machine.now →
-        IfOk result (λ e. e ≡ ended_of ranges.now m) }
+        IfOk result (λ e. e ≡ ended_of ranges.now round m) }
 {
-    let stops = stops_of(alloc, machine.harts())?;
+    let stops = stops_by(alloc, round, machine.harts())?;
     let Ok(output) = Vec::from_slice(alloc, machine.output()) else {
         return Err(OutOfMemory);
     };

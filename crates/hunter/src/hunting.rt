@@ -118,6 +118,8 @@ pub fn hunt<S: Sink, O: HuntObserver, R: Threads + Wait + Sync>(
     observer: &mut O,
     out: &mut S,
 ) -> Result<Vec<Row>, HuntError>
+    // The text says of no ending that it was checked.
+    requires { settings.now.header.is_weak ≡ false }
     // The rows are the table of the runs that the definitions name, and the sink took its text.
     ensures hunts { IfOk result (λ rows. IsHunted settings.now image.now input.now rows.items ×
         (S.took out.new ≡ S.took out.old ++ table_text settings.now.header rows.items)) }

@@ -8,8 +8,9 @@ mod settings;
 mod shrinking;
 
 pub use error::HuntError;
+pub use guest::{ending_of_stop, stops_of};
 pub use hunting::{all_end_well, hunt, is_one_exit, tabulate_hunt};
 pub use plan_hunt::{HuntObserver, UnobservedHunt};
 pub use plan_shrink::{ShrinkObserver, UnobservedShrink};
-pub use settings::HuntSettings;
+pub use settings::{HuntSettings, check_guest, check_hunt, check_ranges};
 pub use shrinking::shrink;

@@ -36,7 +36,7 @@ fn has_bad_range(ranges: &[SeenRange], pages: u32) -> bool
 }
 
 /// Refuses an empty range, and one that has a byte outside memory.
-pub(crate) fn check_ranges(settings: &HuntSettings) -> Result<(), HuntError>
+pub fn check_ranges(settings: &HuntSettings) -> Result<(), HuntError>
     ensures ok { IfOk result (λ _. has_bad_range settings.now ≡ false) }
     ensures err { IfErr result (λ e. (has_bad_range settings.now ≡ true) × (e ≡ SeenOutside)) }
 {
@@ -46,8 +46,8 @@ pub(crate) fn check_ranges(settings: &HuntSettings) -> Result<(), HuntError>
     Ok(())
 }
 
-/// Refuses harts, pages or workers that are out of range.
-fn check_guest(settings: &HuntSettings) -> Result<(), HuntError>
+/// Refuses harts, pages or workers that are out of range; of several, the one of the least number.
+pub fn check_guest(settings: &HuntSettings) -> Result<(), HuntError>
     ensures ok { IfOk result (λ _. IsGuest settings.now) }
     ensures err { IfErr result (λ e. (hunt_fault settings.now ≡ Some e) ×
         (shrink_fault settings.now ≡ Some e)) }
@@ -65,7 +65,7 @@ fn check_guest(settings: &HuntSettings) -> Result<(), HuntError>
 }
 
 /// Refuses what is out of range; of several, the one of the least number.
-pub(crate) fn check_hunt(settings: &HuntSettings) -> Result<(), HuntError>
+pub fn check_hunt(settings: &HuntSettings) -> Result<(), HuntError>
     ensures ok { IfOk result (λ _. hunt_fault settings.now ≡ None) }
     ensures range { IfOk result (λ _. IsHunt settings.now) }
     ensures err { IfErr result (λ e. hunt_fault settings.now ≡ Some e) }

@@ -1,0 +1,6 @@
+pub mod Alike
+pub mod Ends
+pub mod Found
+pub mod Pagewise
+pub mod Rounds
+pub mod Turns
