@@ -1,7 +1,8 @@
+use crate::departure::{Departure, Listed, Way};
 use crate::draws::Draws;
-use crate::history::History;
 use crate::memory::Memory;
-use crate::record::Record;
+use crate::record::{Deed, Record};
+use access_times::History;
 use execution::ScriptedStep;
 use pages::OutOfMemory;
 
@@ -10,7 +11,12 @@ use pages::OutOfMemory;
 pub(crate) struct Common {
     pub(crate) memory: Memory,
     pub(crate) history: History,
+    /// What departs, where nothing is listed.
     pub(crate) draws: Draws,
+    /// What departs.
+    pub(crate) listed: Listed,
+    /// Before the instruction of which address a full fence is assumed.
+    pub(crate) fence_at: Option<u64>,
     /// How many memory operations all harts have done.
     pub(crate) operations: u64,
     /// How many steps they have taken.
@@ -22,6 +28,30 @@ pub(crate) struct Common {
 }
 
 impl Common {
+    /// How many stores back a hart's load reads at a step, or `None` where it reads the newest.
+    #[inline]
+    pub(crate) fn old(&mut self, hart: u8, step: u64) -> Option<u32> {
+        if self.listed.is_empty() {
+            return self.draws.old();
+        }
+        match self.listed.at(hart, step) {
+            Some(Way::Old(back)) => Some(back),
+            _ => None,
+        }
+    }
+
+    /// For how many operations of the other harts a hart's store is held at a step, or `None` where it goes to memory at once.
+    #[inline]
+    pub(crate) fn late(&mut self, hart: u8, step: u64) -> Option<u64> {
+        if self.listed.is_empty() {
+            return self.draws.late();
+        }
+        match self.listed.at(hart, step) {
+            Some(Way::Late(operations)) => Some(operations),
+            _ => None,
+        }
+    }
+
     /// A hart took a step.
     #[inline]
     pub(crate) fn note_step(&mut self, step: ScriptedStep) -> Result<(), OutOfMemory> {
@@ -41,16 +71,26 @@ impl Common {
         }
     }
 
-    /// The memory operation of an event has a time.
+    /// The step did a memory operation. Gives its number.
     #[inline]
-    pub(crate) fn note_time(
-        &mut self,
-        event: usize,
-        time: u32,
-        is_load: bool,
-    ) -> Result<(), OutOfMemory> {
+    pub(crate) fn note_deed(&mut self, deed: Deed) -> Result<usize, OutOfMemory> {
         match &mut self.record {
-            Some(record) => record.add_place(event, time, is_load),
+            Some(record) => record.add_deed(deed),
+            None => Ok(0),
+        }
+    }
+
+    /// A store that was held is in memory.
+    pub(crate) fn note_time(&mut self, deed: usize, time: u32) {
+        if let Some(record) = &mut self.record {
+            record.set_time(deed, time);
+        }
+    }
+
+    /// An operation departed from the order of its hart's program.
+    pub(crate) fn note_departure(&mut self, departure: Departure) -> Result<(), OutOfMemory> {
+        match &mut self.record {
+            Some(record) => record.add_departure(departure),
             None => Ok(()),
         }
     }

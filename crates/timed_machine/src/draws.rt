@@ -52,6 +52,15 @@ impl Draws {
         }
     }
 
+    /// The same executions without departures.
+    pub fn without_departures(self) -> Draws {
+        Draws {
+            old_rate: 0,
+            late_rate: 0,
+            ..self
+        }
+    }
+
     /// Which hart begins a round, modulo the number of harts.
     pub(crate) fn first(&self) -> u64 {
         self.first

@@ -1,9 +1,7 @@
 //! Stores that harts hold, and how they get to memory.
 use crate::common::Common;
-use crate::held::{HeldStore, MOST_HELD};
-use crate::history::Maker;
-use crate::operation::Operation;
 use crate::timed_hart::Timing;
+use access_times::{HeldStore, MOST_HELD, Maker, Operation};
 use pages::OutOfMemory;
 
 /// How many steps of the others a hart waits at most until a store that it holds is in memory.
@@ -121,5 +119,6 @@ fn put(timing: &mut Timing, common: &mut Common, held: &HeldStore) -> Result<(),
     timing
         .views
         .keep_behind(held.before_reads, held.before_writes, time);
-    common.note_time(held.event, time, false)
+    common.note_time(held.deed, time);
+    Ok(())
 }

@@ -6,21 +6,19 @@
 #![tactic(auto)]
 
 mod common;
-mod doubleword;
+mod departure;
 mod draws;
-mod held;
-mod history;
 mod holding;
+mod loading;
 mod machine;
 mod memory;
-mod operation;
 mod record;
 mod serving;
 mod stepping;
-mod time_table;
+mod storing;
 mod timed_hart;
-mod views;
 
+pub use departure::{Departure, Way};
 pub use draws::Draws;
-pub use machine::TimedMachine;
-pub use record::Record;
+pub use machine::{Bounds, TimedMachine};
+pub use record::{Deed, Placing, Record};

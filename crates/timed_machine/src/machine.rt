@@ -2,17 +2,29 @@ ghost use Rattle.std.specs.Prelude.{◌≤◌, ◌<◌, length};
 ghost use Rattle.hart_step.specs.CodeTables.{Shows};
 
 use crate::common::Common;
+use crate::departure::{Departure, Listed};
 use crate::draws::Draws;
-use crate::history::History;
 use crate::holding::{Ripe, put_ripe};
 use crate::memory::Memory;
 use crate::record::Record;
 use crate::stepping::{Outcome, step};
 use crate::timed_hart::TimedHart;
+use access_times::History;
 use hart_step::Hart;
 use pages::{OutOfMemory, Pages};
 use serial_phase::SharedState;
 use std::alloc::Global;
+
+/// How far the harts go.
+#[derive(Clone, Copy, Debug, PartialEq, Eq)]
+pub struct Bounds {
+    /// So many rounds at most.
+    pub rounds: u32,
+    /// Until they have taken so many steps in all, or a round more.
+    pub steps: u64,
+    /// Whether none goes on once one has stopped otherwise than by exit 0.
+    pub until_fault: bool,
+}
 
 /// An image's harts over one memory that keeps its history.
 ///
@@ -24,6 +36,8 @@ use std::alloc::Global;
 pub struct TimedMachine {
     harts: Vec<TimedHart>,
     common: Common,
+    /// The number of the last round.
+    round: u32,
 }
 
 impl TimedMachine {
@@ -57,12 +71,27 @@ impl TimedMachine {
                 memory,
                 history,
                 draws,
+                listed: Listed::new(Vec::new(alloc)),
+                fence_at: None,
                 operations: 0,
                 steps: 0,
                 held: 0,
                 record,
             },
+            round: 0,
         })
+    }
+
+    /// From now on just these departures are made, as far as they can be, and none is drawn. There is at most one for each step
+    /// of a hart.
+    pub fn depart(&mut self, departures: Vec<Departure>) {
+        self.common.draws = self.common.draws.without_departures();
+        self.common.listed = Listed::new(departures);
+    }
+
+    /// From now on a full fence is assumed before each instruction at an address.
+    pub fn assume_fence(&mut self, pc: u64) {
+        self.common.fence_at = Some(pc);
     }
 
     /// A hart, by its number.
@@ -96,6 +125,11 @@ impl TimedMachine {
         }
     }
 
+    /// How many memory operations the harts have done.
+    pub fn operations(&self) -> u64 {
+        self.common.operations
+    }
+
     /// Has the harts go through so many rounds, or until all of them have stopped. In a round each does as many instructions as
     /// the next row of the plan says, one hart after another, from the one on that is drawn. At the end no store is held.
     ///
@@ -103,16 +137,35 @@ impl TimedMachine {
     ///
     /// `OutOfMemory` alone.
     pub fn run(&mut self, rows: &[Vec<u32>], rounds: u32) -> Result<(), OutOfMemory> {
+        self.run_within(
+            rows,
+            Bounds {
+                rounds,
+                steps: u64::MAX,
+                until_fault: false,
+            },
+        )
+    }
+
+    /// The same within some bounds. It goes on where an earlier call ended.
+    ///
+    /// # Errors
+    ///
+    /// `OutOfMemory` alone.
+    pub fn run_within(&mut self, rows: &[Vec<u32>], bounds: Bounds) -> Result<(), OutOfMemory> {
         let mut row = 0;
-        for round in 0..rounds {
-            if self.have_stopped() {
+        for _ in 0..bounds.rounds {
+            if self.common.steps >= bounds.steps || self.have_stopped() {
                 break;
             }
             if row >= rows.len() {
                 row = 0;
             }
             if row < rows.len() {
-                self.do_round(&rows[row], round.saturating_add(1))?;
+                self.round = self.round.saturating_add(1);
+                if self.do_round(&rows[row], bounds.until_fault)? {
+                    break;
+                }
                 row += 1;
             }
         }
@@ -131,8 +184,20 @@ impl TimedMachine {
         (self.common.draws.first() % (self.harts.len() as u64).max(1)) as usize
     }
 
-    /// One round. Where each hart that runs waits, the first goes on.
-    fn do_round(&mut self, quotas: &[u32], round: u32) -> Result<(), OutOfMemory> {
+    /// Whether a hart has stopped otherwise than by exit 0.
+    fn has_failed(&self, index: usize) -> bool {
+        match self.harts.get(index) {
+            Some(hart) => match hart.state.stop {
+                Some(stop) => stop.code != 1 || stop.value != 0,
+                None => false,
+            },
+            None => false,
+        }
+    }
+
+    /// One round. Where each hart that runs waits, the first goes on. Says whether it ends at a hart that has stopped otherwise
+    /// than by exit 0, as it does where that is wanted.
+    fn do_round(&mut self, quotas: &[u32], until_fault: bool) -> Result<bool, OutOfMemory> {
         let mut went = false;
         let count = self.harts.len();
         let mut index = self.first_hart();
@@ -144,21 +209,24 @@ impl TimedMachine {
                 Some(quota) => *quota,
                 None => quotas.first().copied().unwrap_or(1),
             };
-            if self.do_turn(index, quota, round, false)? {
+            if self.do_turn(index, quota, false)? {
                 went = true;
+            }
+            if until_fault && self.has_failed(index) {
+                return Ok(true);
             }
             index += 1;
         }
         if !went {
-            self.force_one(round)?;
+            self.force_one()?;
         }
-        Ok(())
+        Ok(false)
     }
 
     /// The first hart that runs does one instruction.
-    fn force_one(&mut self, round: u32) -> Result<(), OutOfMemory> {
+    fn force_one(&mut self) -> Result<(), OutOfMemory> {
         for index in 0..self.harts.len() {
-            if self.do_turn(index, 1, round, true)? {
+            if self.do_turn(index, 1, true)? {
                 break;
             }
         }
@@ -166,13 +234,8 @@ impl TimedMachine {
     }
 
     /// A hart does so many instructions, or less where it stops or waits. Says whether it did one.
-    fn do_turn(
-        &mut self,
-        index: usize,
-        quota: u32,
-        round: u32,
-        forced: bool,
-    ) -> Result<bool, OutOfMemory> {
+    fn do_turn(&mut self, index: usize, quota: u32, forced: bool) -> Result<bool, OutOfMemory> {
+        let round = self.round;
         let mut went = false;
         for _ in 0..quota {
             let Some(hart) = self.harts.get_mut(index) else {

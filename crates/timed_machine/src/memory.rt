@@ -2,8 +2,8 @@ ghost use Rattle.std.specs.Prelude.{◌≡◌, ◌<◌, ℕ, List, length, None}
 ghost use Rattle.hart_step.specs.CodeTables.{Shows};
 ghost use Rattle.rv64_decode.specs.declared.instruction.Instr.{Instr};
 
-use crate::doubleword::shift_of;
 use crate::serving::{lay, serve_next};
+use access_times::shift_of;
 use hart_step::{Buffered, Hart, step};
 use pages::{OutOfMemory, Pages, Store, Width};
 use reservations::Reservations;

@@ -1,9 +1,9 @@
 ghost use Rattle.std.specs.Prelude.{◌<◌, IfSome};
 
-use crate::held::{HeldStore, MOST_HELD};
-use crate::views::Views;
+use access_times::{HeldStore, MOST_HELD, Views};
 use hart_step::Hart;
 use pages::OutOfMemory;
+use rv64_decode::{FenceMode, FenceSet};
 use std::alloc::Global;
 
 /// A hart of the machine.
@@ -50,6 +50,16 @@ impl TimedHart {
 }
 
 impl Timing {
+    /// The hart passes a fence.
+    pub(crate) fn pass_fence(&mut self, before: FenceSet, after: FenceSet, mode: FenceMode) {
+        self.views.fence(before, after, mode);
+        for place in 0..MOST_HELD {
+            if let Some(held) = self.held[place] {
+                self.held[place] = Some(held.behind_fence(before, after, mode));
+            }
+        }
+    }
+
     /// A place where a store can be held, if there is one.
     pub(crate) fn free_place(&self) -> Option<usize>
         ensures { IfSome result (λ place. place < MOST_HELD) }

@@ -9,7 +9,7 @@ use std::alloc::Global;
 /// The times of a hart. A time is a number of stores in memory; what has a time stands behind the store of that number in the
 /// global memory order.
 #[derive(Drop)]
-pub(crate) struct Views {
+pub struct Views {
     /// Of each register, the latest operation that it depends on. That of x0 is 0.
     registers: [u32; 32],
     /// The latest of its loads.
@@ -30,7 +30,7 @@ pub(crate) struct Views {
 
 impl Views {
     /// The times of a hart that has done nothing, in a memory of so many pages.
-    pub(crate) fn new(alloc: Global, pages: u32) -> Result<Views, OutOfMemory> {
+    pub fn new(alloc: Global, pages: u32) -> Result<Views, OutOfMemory> {
         Ok(Views {
             registers: [0; 32],
             reads: 0,
@@ -45,7 +45,7 @@ impl Views {
 
     /// The time of a register.
     #[inline]
-    pub(crate) fn of(&self, register: Reg) -> u32 {
+    pub fn of(&self, register: Reg) -> u32 {
         self.registers[register.index()]
     }
 
@@ -59,7 +59,7 @@ impl Views {
 
     /// The latest store that the hart has met at an access's bytes.
     #[inline]
-    pub(crate) fn met_at(&self, address: u64, width: Width) -> u32 {
+    pub fn met_at(&self, address: u64, width: Width) -> u32 {
         let here = self.met.get(address / 4);
         match width {
             Width::W8 => here.max(self.met.get(address / 4 + 1)),
@@ -87,7 +87,7 @@ impl Views {
 
     /// Before which time a load or an LR cannot be, but for what it reads.
     #[inline]
-    pub(crate) fn least_of_load(&self, address: Reg, operation: &Operation) -> u32 {
+    pub fn least_of_load(&self, address: Reg, operation: &Operation) -> u32 {
         let mut least = self.of(address).max(self.next_read);
         if operation.releases() {
             least = least.max(self.reads).max(self.writes);
@@ -98,18 +98,9 @@ impl Views {
         least
     }
 
-    /// Before which time a store cannot be in memory.
-    pub(crate) fn least_of_store(&self, registers: &Registers, operation: &Operation) -> u32 {
-        self.of(registers.address)
-            .max(self.of(registers.value))
-            .max(self.next_write)
-            .max(self.control)
-            .max(self.met_at(operation.address, operation.width))
-    }
-
     /// An instruction without a memory operation was done.
     #[inline]
-    pub(crate) fn compute(&mut self, registers: &Registers) {
+    pub fn compute(&mut self, registers: &Registers) {
         let time = self.of(registers.first).max(self.of(registers.second));
         if registers.steers {
             self.control = self.control.max(time);
@@ -121,7 +112,7 @@ impl Views {
     }
 
     /// A fence was done.
-    pub(crate) fn fence(&mut self, before: FenceSet, after: FenceSet, mode: FenceMode) {
+    pub fn fence(&mut self, before: FenceSet, after: FenceSet, mode: FenceMode) {
         let reads = if before.reads { self.reads } else { 0 };
         let writes = if before.writes { self.writes } else { 0 };
         let is_normal = matches!(mode, FenceMode::Normal);
@@ -138,7 +129,7 @@ impl Views {
 
     /// A load or an LR was done at a time; the latest store to its bytes that it met.
     #[inline]
-    pub(crate) fn load(
+    pub fn load(
         &mut self,
         registers: &Registers,
         operation: &Operation,
@@ -154,7 +145,7 @@ impl Views {
 
     /// What the address of an operation depends on holds later stores back.
     #[inline]
-    pub(crate) fn address(&mut self, address: Reg) {
+    pub fn address(&mut self, address: Reg) {
         self.control = self.control.max(self.of(address));
     }
 
@@ -172,18 +163,13 @@ impl Views {
 
     /// A store of the hart went to memory.
     #[inline]
-    pub(crate) fn store(
-        &mut self,
-        address: u64,
-        width: Width,
-        time: u32,
-    ) -> Result<(), OutOfMemory> {
+    pub fn store(&mut self, address: u64, width: Width, time: u32) -> Result<(), OutOfMemory> {
         self.writes = self.writes.max(time);
         self.meet(address, width, time)
     }
 
     /// An AMO, or an SC that wrote, was done.
-    pub(crate) fn exchange(
+    pub fn exchange(
         &mut self,
         registers: &Registers,
         operation: &Operation,
@@ -199,7 +185,7 @@ impl Views {
     }
 
     /// A held store went to memory, behind which fences of then keep later operations.
-    pub(crate) fn keep_behind(&mut self, reads: bool, writes: bool, time: u32) {
+    pub fn keep_behind(&mut self, reads: bool, writes: bool, time: u32) {
         if reads {
             self.next_read = self.next_read.max(time);
         }

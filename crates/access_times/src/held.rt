@@ -4,33 +4,34 @@ use pages::Store;
 use rv64_decode::{FenceMode, FenceSet};
 
 /// How many stores a hart holds at most.
-pub(crate) const MOST_HELD: usize = 4;
+pub const MOST_HELD: usize = 4;
 
 /// A plain store that its hart has done, and that is not in memory yet.
 #[derive(Clone, Copy)]
-pub(crate) struct HeldStore {
-    pub(crate) store: Store,
+pub struct HeldStore {
+    /// The store.
+    pub store: Store,
     /// The time that its address and its data depend on.
-    pub(crate) depends: u32,
+    pub depends: u32,
     /// It goes to memory once the other harts have done so many operations.
-    pub(crate) until: u64,
+    pub until: u64,
     /// A fence keeps it before later loads of its hart.
-    pub(crate) before_reads: bool,
+    pub before_reads: bool,
     /// A fence keeps it before later stores of its hart.
-    pub(crate) before_writes: bool,
-    /// The place of its event.
-    pub(crate) event: usize,
+    pub before_writes: bool,
+    /// The number of its deed in the record.
+    pub deed: usize,
 }
 
 impl HeldStore {
     /// Its bytes.
     #[inline]
-    pub(crate) fn bytes(&self) -> Bytes {
+    pub fn bytes(&self) -> Bytes {
         Bytes::of(self.store.address, self.store.width)
     }
 
     /// Whether it has to be in memory before an operation of its hart is done.
-    pub(crate) fn goes_before(&self, operation: &Operation) -> bool {
+    pub fn goes_before(&self, operation: &Operation) -> bool {
         operation.releases()
             || self.before_reads && operation.loads()
             || operation.stores()
@@ -41,12 +42,7 @@ impl HeldStore {
     }
 
     /// The same store where its hart has done a fence.
-    pub(crate) fn behind_fence(
-        self,
-        before: FenceSet,
-        after: FenceSet,
-        mode: FenceMode,
-    ) -> HeldStore {
+    pub fn behind_fence(self, before: FenceSet, after: FenceSet, mode: FenceMode) -> HeldStore {
         let is_normal = matches!(mode, FenceMode::Normal);
         HeldStore {
             before_reads: self.before_reads || before.writes && after.reads && is_normal,
@@ -56,7 +52,7 @@ impl HeldStore {
     }
 
     /// A doubleword as its hart sees it.
-    pub(crate) fn over(&self, bytes: Bytes, doubleword: u64) -> u64 {
+    pub fn over(&self, bytes: Bytes, doubleword: u64) -> u64 {
         if self.store.address / 8 == bytes.doubleword {
             laid_over(
                 doubleword,

@@ -4,17 +4,17 @@ use pages::Width;
 
 /// Some bytes of an aligned doubleword of memory.
 #[derive(Clone, Copy, Debug, PartialEq, Eq)]
-pub(crate) struct Bytes {
+pub struct Bytes {
     /// The number of the doubleword: its address divided by 8.
-    pub(crate) doubleword: u64,
+    pub doubleword: u64,
     /// Bit k says that byte k of it is one of them.
-    pub(crate) mask: u8,
+    pub mask: u8,
 }
 
 impl Bytes {
     /// The bytes of an aligned access.
     #[inline]
-    pub(crate) fn of(address: u64, width: Width) -> Bytes {
+    pub fn of(address: u64, width: Width) -> Bytes {
         let first = match width {
             Width::W1 => 0x01u8,
             Width::W2 => 0x03,
@@ -29,7 +29,7 @@ impl Bytes {
 
     /// Those of them that are not among others.
     #[inline]
-    pub(crate) fn without(self, other: Bytes) -> Bytes {
+    pub fn without(self, other: Bytes) -> Bytes {
         let mask = if self.doubleword == other.doubleword {
             self.mask & (other.mask ^ 0xff)
         } else {
@@ -40,14 +40,14 @@ impl Bytes {
 
     /// Whether they have a byte in common.
     #[inline]
-    pub(crate) fn meet(self, other: Bytes) -> bool {
+    pub fn meet(self, other: Bytes) -> bool {
         self.doubleword == other.doubleword && self.mask & other.mask != 0
     }
 }
 
 /// How many bits of a doubleword stand below the first byte of an access.
 #[inline]
-pub(crate) fn shift_of(address: u64) -> u32
+pub fn shift_of(address: u64) -> u32
     ensures { result < 64 }
 {
     8 * (address % 8) as u32

@@ -4,7 +4,7 @@ use rv64_decode::{AcquireRelease, Atomic, AtomicWidth, Instr, Reg};
 
 /// The kinds of memory operations (manual, section 14.1).
 #[derive(Clone, Copy, Debug, PartialEq, Eq)]
-pub(crate) enum Kind {
+pub enum Kind {
     /// A plain load.
     Load,
     /// A plain store.
@@ -19,11 +19,15 @@ pub(crate) enum Kind {
 
 /// What a hart's next instruction is about to do to memory.
 #[derive(Clone, Copy)]
-pub(crate) struct Operation {
-    pub(crate) kind: Kind,
-    pub(crate) address: u64,
-    pub(crate) width: Width,
-    pub(crate) ordering: AcquireRelease,
+pub struct Operation {
+    /// Its kind.
+    pub kind: Kind,
+    /// The address of its first byte.
+    pub address: u64,
+    /// How many bytes it is of.
+    pub width: Width,
+    /// Its annotations.
+    pub ordering: AcquireRelease,
 }
 
 /// The ordering of what is neither LR, SC nor AMO.
@@ -34,7 +38,7 @@ const PLAIN: AcquireRelease = AcquireRelease {
 
 impl Operation {
     /// Whether it has an acquire annotation: an LR or AMO with aq, and an SC with both bits.
-    pub(crate) fn acquires(&self) -> bool {
+    pub fn acquires(&self) -> bool {
         match self.kind {
             Kind::StoreConditional => self.ordering.acquire && self.ordering.release,
             _ => self.ordering.acquire,
@@ -42,7 +46,7 @@ impl Operation {
     }
 
     /// Whether it has a release annotation: an SC or AMO with rl, and an LR with both bits.
-    pub(crate) fn releases(&self) -> bool {
+    pub fn releases(&self) -> bool {
         match self.kind {
             Kind::LoadReserved => self.ordering.acquire && self.ordering.release,
             _ => self.ordering.release,
@@ -50,12 +54,12 @@ impl Operation {
     }
 
     /// Whether it is a load, an LR or an AMO.
-    pub(crate) fn loads(&self) -> bool {
+    pub fn loads(&self) -> bool {
         matches!(self.kind, Kind::Load | Kind::LoadReserved | Kind::Atomic)
     }
 
     /// Whether it is a store, an SC or an AMO.
-    pub(crate) fn stores(&self) -> bool {
+    pub fn stores(&self) -> bool {
         matches!(
             self.kind,
             Kind::Store | Kind::StoreConditional | Kind::Atomic
@@ -64,7 +68,7 @@ impl Operation {
 }
 
 /// What an instruction is about to do to memory, where it is a memory operation.
-pub(crate) fn operation_of(h: &Hart, i: &Instr) -> Option<Operation> {
+pub fn operation_of(h: &Hart, i: &Instr) -> Option<Operation> {
     match *i {
         Instr::Lb { rs1, imm, .. } | Instr::Lbu { rs1, imm, .. } => {
             Some(plain(h, Kind::Load, rs1, imm, Width::W1))

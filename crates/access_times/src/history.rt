@@ -11,40 +11,40 @@ const LOOK_BACK: u32 = 64;
 #[derive(Clone, Copy)]
 pub(crate) struct MadeStore {
     /// Which hart made it.
-    pub(crate) hart: u8,
+    pub hart: u8,
     /// Whether it is neither an SC's nor an AMO's.
-    pub(crate) is_plain: bool,
+    pub is_plain: bool,
     /// Its bytes of its doubleword.
-    pub(crate) mask: u8,
+    pub mask: u8,
     /// The time that its address and its data depend on.
-    pub(crate) depends: u32,
+    pub depends: u32,
     /// The time of the store before it to its doubleword, 0 where there is none.
-    pub(crate) previous: u32,
+    pub previous: u32,
     /// The doubleword before it.
-    pub(crate) before: u64,
+    pub before: u64,
 }
 
 /// What a load sees at a time.
 #[derive(Clone, Copy)]
-pub(crate) struct Sight {
+pub struct Sight {
     /// The doubleword.
-    pub(crate) value: u64,
+    pub value: u64,
     /// Before which time the load cannot be, by what it reads.
-    pub(crate) time: u32,
+    pub time: u32,
     /// The latest store to its bytes.
-    pub(crate) latest: u32,
+    pub latest: u32,
 }
 
 /// The stores that are in memory, so that memory as it was at an earlier time can be read.
 #[derive(Drop)]
-pub(crate) struct History {
+pub struct History {
     stores: Vec<MadeStore>,
     last: TimeTable,
 }
 
 impl History {
     /// No store yet, to a memory of so many pages.
-    pub(crate) fn new(alloc: Global, pages: u32) -> Result<History, OutOfMemory> {
+    pub fn new(alloc: Global, pages: u32) -> Result<History, OutOfMemory> {
         Ok(History {
             stores: Vec::new(alloc),
             last: TimeTable::new(alloc, pages)?,
@@ -53,7 +53,7 @@ impl History {
 
     /// The time now: how many stores there are.
     #[inline]
-    pub(crate) fn now(&self) -> u32 {
+    pub fn now(&self) -> u32 {
         (self.stores.len() as u64).min(u64::from(u32::MAX)) as u32
     }
 
@@ -71,12 +71,7 @@ impl History {
     /// # Errors
     ///
     /// `OutOfMemory`, also where there is no further time.
-    pub(crate) fn add(
-        &mut self,
-        bytes: Bytes,
-        before: u64,
-        maker: Maker,
-    ) -> Result<u32, OutOfMemory> {
+    pub fn add(&mut self, bytes: Bytes, before: u64, maker: Maker) -> Result<u32, OutOfMemory> {
         if self.stores.len() as u64 >= u64::from(u32::MAX) {
             return Err(OutOfMemory);
         }
@@ -98,7 +93,7 @@ impl History {
     ///
     /// Past the newest stores it is taken for granted that the load met the next one, which can only hold it back.
     #[inline]
-    pub(crate) fn look(&self, hart: u8, bytes: Bytes, at: u32, known: u32, value: u64) -> Sight {
+    pub fn look(&self, hart: u8, bytes: Bytes, at: u32, known: u32, value: u64) -> Sight {
         let mut sight = Sight {
             value,
             time: 0,
@@ -131,7 +126,7 @@ impl History {
 
     /// The time before the `back`-th newest store to some bytes that is later than `floor`, or before the oldest such that is
     /// looked at.
-    pub(crate) fn time_before(&self, bytes: Bytes, floor: u32, back: u32) -> Option<u32> {
+    pub fn time_before(&self, bytes: Bytes, floor: u32, back: u32) -> Option<u32> {
         let mut found = None;
         let mut left = back;
         let mut time = self.last.get(bytes.doubleword);
@@ -154,10 +149,13 @@ impl History {
 
 /// Who makes a store, and how.
 #[derive(Clone, Copy)]
-pub(crate) struct Maker {
-    pub(crate) hart: u8,
-    pub(crate) is_plain: bool,
-    pub(crate) depends: u32,
+pub struct Maker {
+    /// The hart.
+    pub hart: u8,
+    /// Whether it is neither an SC's nor an AMO's.
+    pub is_plain: bool,
+    /// The time that its address and its data depend on.
+    pub depends: u32,
 }
 
 /// Before which time a hart's load cannot be that reads from a store of a time. From a plain store of its own it may read before
