@@ -1,4 +1,7 @@
-ghost use Rattle.std.specs.Prelude.{◌≤◌};
+ghost use Rattle.std.specs.Prelude.{◌≡◌, ◌≤◌, if◌then◌else◌, length, IfOk};
+ghost use Rattle.machine.specs.Guests.{opening_guest};
+ghost use Rattle.execution_file.specs.Views.{as_recorded};
+ghost use Rattle.execution_scripts.specs.Findings.{IsFound, guest_in, image_in};
 
 use crate::fault::{Fault, Halt};
 use crate::following::Follower;
@@ -37,10 +40,15 @@ pub struct Checked {
 
 /// Checks the execution of a file: whether its harts do what the file says, and whether RVWMO allows it in the file's order.
 ///
+/// The verdict is on the script and the execution that are handed back: on the file's image and its input, from its harts at the
+/// entry. That the script has the file's numbers, and the order its turns, is no part of the contract.
+///
 /// # Errors
 ///
 /// The refusals of the numbers of harts and pages, then of the image; `OutOfMemory`.
-pub fn check_file(alloc: Global, file: &ExecutionFile) -> Result<Checked, RunError> {
+pub fn check_file(alloc: Global, file: &ExecutionFile) -> Result<Checked, RunError>
+    ensures { IfOk result (λ c. IsFound (guest_in (as_recorded file.now)) c.finding c.script.items c.execution.standing) }
+{
     let harts = file.harts.len();
     if harts < 1 || harts > MOST_HARTS as usize {
         return Err(RunError::HartsOutOfRange);
@@ -48,9 +56,33 @@ pub fn check_file(alloc: Global, file: &ExecutionFile) -> Result<Checked, RunErr
     if file.pages < 1 || file.pages > MOST_PAGES {
         return Err(RunError::PagesOutOfRange);
     }
-    let format = if file.flat { Format::Flat } else { Format::Elf };
-    let image = load(alloc, format, &file.image, file.pages)?;
-    check_over(alloc, file, image, harts as u32)
+    let image = load_image(alloc, file)?;
+    let harts = count_harts(file);
+    check_over(alloc, file, image, harts)
+}
+
+/// The image of a file.
+fn load_image(alloc: Global, file: &ExecutionFile) -> Result<Image, RunError>
+    requires some_pages { 1 ≤ file.now.pages }
+    requires few_pages { file.now.pages ≤ 16384 }
+    ensures { IfOk result (λ i. i ≡ image_in (as_recorded file.now)) }
+{
+    load(alloc, format_of(file), &file.image, file.pages)
+}
+
+fn format_of(file: &ExecutionFile) -> Format
+    ensures { result ≡ (if file.now.flat then Format.Flat else Format.Elf) }
+{
+    if file.flat { Format::Flat } else { Format::Elf }
+}
+
+/// How many harts a file has, of which there are few.
+fn count_harts(file: &ExecutionFile) -> u32
+    requires { length file.now.harts.items ≤ 64 }
+    ensures count { result ≡ length (as_recorded file.now).harts }
+    ensures few { result ≤ 64 }
+{
+    file.harts.len() as u32
 }
 
 /// The same, over the file's image.
@@ -61,6 +93,7 @@ fn check_over(
     harts: u32,
 ) -> Result<Checked, RunError>
     requires { harts ≤ 64 }
+    ensures { IfOk result (λ c. IsFound (opening_guest image file.now.input.items harts) c.finding c.script.items c.execution.standing) }
 {
     let execution = open_execution(alloc, &image, &file.input, harts)?;
     let mut follower = Follower::new(alloc, execution, &file.harts)?;
@@ -71,7 +104,11 @@ fn check_over(
         Err(halt) => Err(halt),
     };
     match order {
-        Ok(order) => judge(alloc, file, image, script, &order, harts),
+        Ok(order) => {
+            // The checker follows the script anew: what was followed here is as large.
+            drop(execution);
+            judge(alloc, file, image, script, &order, harts)
+        }
         Err(Halt::Fault(fault)) => Ok(Checked {
             finding: Finding::Fault(fault),
             execution,
@@ -91,6 +128,7 @@ fn judge(
     harts: u32,
 ) -> Result<Checked, RunError>
     requires { harts ≤ 64 }
+    ensures { IfOk result (λ c. IsFound (opening_guest image file.now.input.items harts) c.finding c.script.items c.execution.standing) }
 {
     let mut execution = open_execution(alloc, &image, &file.input, harts)?;
     let opening = Trace::new(alloc, image.into_pieces());

@@ -8,6 +8,7 @@ mod opening;
 mod ordering;
 mod paces;
 mod running;
+mod scripted;
 
 pub use checking::{Checked, Finding, check_file};
 pub use execution_checker::Verdict;
@@ -16,3 +17,4 @@ pub use execution_file::{
 };
 pub use fault::{Fault, Misfit};
 pub use running::execution_of_run;
+pub use scripted::{ScriptedGuest, execution_of_script};

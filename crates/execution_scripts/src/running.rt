@@ -138,12 +138,16 @@ fn calls_in(
 }
 
 /// The same bytes.
-fn copied(alloc: Global, bytes: &[u8]) -> Result<Vec<u8>, OutOfMemory> {
+pub(crate) fn copied(alloc: Global, bytes: &[u8]) -> Result<Vec<u8>, OutOfMemory> {
     Ok(Vec::from_slice(alloc, bytes)?)
 }
 
 /// What the harts did.
-fn parts_of(alloc: Global, harts: &[Hart], events: &[Event]) -> Result<Vec<HartPart>, OutOfMemory> {
+pub(crate) fn parts_of(
+    alloc: Global,
+    harts: &[Hart],
+    events: &[Event],
+) -> Result<Vec<HartPart>, OutOfMemory> {
     let mut parts = Vec::new(alloc);
     for hart in harts {
         let (code, value) = match hart.stop {
@@ -226,7 +230,7 @@ fn add_calls(
 }
 
 /// Whether one hart makes all calls, and none asks for the round.
-fn is_plain(calls: &[Turn]) -> bool {
+pub(crate) fn is_plain(calls: &[Turn]) -> bool {
     match calls.first() {
         Some(first) => calls
             .iter()

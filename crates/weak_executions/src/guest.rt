@@ -37,16 +37,38 @@ impl<'a> WeakGuest<'a> {
     ///
     /// `OutOfMemory` alone.
     pub fn execute(&self, number: u32, is_recorded: bool) -> Result<TimedMachine, OutOfMemory> {
+        let rows = self.rows(number)?;
+        let mut machine = self.machine(number, is_recorded)?;
+        machine.run(&rows, self.rounds)?;
+        Ok(machine)
+    }
+
+    /// What each execution begins with.
+    pub fn opening(&self) -> &Opening<'a> {
+        &self.opening
+    }
+
+    /// The rows of the plan of a number.
+    ///
+    /// # Errors
+    ///
+    /// `OutOfMemory` alone.
+    pub fn rows(&self, number: u32) -> Result<Vec<Vec<u32>>, OutOfMemory> {
         let family = Family {
             seed: self.seed,
             harts: self.opening.harts.len() as u32,
         };
-        let rows = family.rows_of(self.alloc, number)?;
+        family.rows_of(self.alloc, number)
+    }
+
+    /// The machine of the execution of a number, which has done nothing.
+    ///
+    /// # Errors
+    ///
+    /// `OutOfMemory` alone.
+    pub fn machine(&self, number: u32, is_recorded: bool) -> Result<TimedMachine, OutOfMemory> {
         let draws = Draws::of_number(self.seed, number);
         let shared = shared(self.alloc, &self.opening)?;
-        let harts = self.opening.harts;
-        let mut machine = TimedMachine::new(self.alloc, harts, shared, draws, is_recorded)?;
-        machine.run(&rows, self.rounds)?;
-        Ok(machine)
+        TimedMachine::new(self.alloc, self.opening.harts, shared, draws, is_recorded)
     }
 }

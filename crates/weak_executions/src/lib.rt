@@ -5,7 +5,7 @@ mod checking;
 mod guest;
 mod opening;
 
-pub use checking::{Finding, check};
+pub use checking::{Finding, check, check_by, is_allowed};
 pub use execution_checker::Verdict;
 pub use guest::WeakGuest;
 pub use opening::Opening;

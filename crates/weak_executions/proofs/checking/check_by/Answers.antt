@@ -1,6 +1,6 @@
 use Rattle.std.proofs.Common.{◌∙◌}
 use Rattle.weak_executions.proofs.Judged.{allowed_end}
-use Rattle.weak_executions.proofs.checking.check.Goals as goal
+use Rattle.weak_executions.proofs.checking.check_by.Goals as goal
 
 pub returns : goal.returns
 returns c = λ allowed.

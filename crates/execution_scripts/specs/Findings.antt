@@ -1,0 +1,30 @@
+-- What is found of a file.
+use Rattle.std.specs.Prelude.{ℕ, if◌then◌else◌, List, length, slice_index}
+use Rattle.elf_loader.specs.Image.{Loaded}
+use Rattle.machine.specs.declared.settings.Format.TheVariants.{Elf, Flat}
+use Rattle.machine.specs.Settings.{image_of}
+use Rattle.machine.specs.Guests.{Guest, opening_guest}
+use Rattle.execution.specs.declared.step.ScriptedStep.{ScriptedStep}
+use Rattle.execution.specs.Executions.{Standing}
+use Rattle.execution.specs.Progressing.{at_start}
+use Rattle.execution_checker.specs.Allowed.{IsVerdict}
+use Rattle.execution_file.specs.Recorded.{Recorded}
+use Rattle.execution_scripts.specs.declared.checking.Finding.{Finding}
+use Rattle.execution_scripts.specs.declared.checking.Finding.TheVariants.{Fault, Judged}
+
+-- the image of a file
+abbrev pub image_in : Recorded → Loaded
+image_in r = image_of (if r.flat then Flat else Elf) r.image r.pages
+
+-- its guest before the first instruction: memory as the image opens it, the input, and as many harts as it has, at the entry
+abbrev pub guest_in : Recorded → Guest
+guest_in r = opening_guest (image_in r) r.input (length r.harts)
+
+-- where a guest's executions begin
+abbrev pub start_of : Guest → Standing
+start_of g = at_start g.harts g.shared.console
+
+-- a verdict is on the execution of a guest that a script leads to, in some order of its memory operations
+abbrev pub IsFound : Guest → Finding → List ScriptedStep → Standing → Type 0
+IsFound g (Judged v) ss q = (order : List ℕ) × IsVerdict v g.shared.memory (λ x. slice_index g.shared.memory.bytes x) ss order (start_of g) q
+IsFound g (Fault f) ss q = Unit {0}
