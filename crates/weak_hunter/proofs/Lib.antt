@@ -1,0 +1,2 @@
+pub mod Hunted
+pub mod Tabled

@@ -1,0 +1,123 @@
+-- The table of one more ending.
+use Rattle.std.proofs.Common.{◌≡◌, ◌≢◌, ℕ, zero, suc, ◌+◌, ◌^◌, ◌<◌, ◌≤◌, nat_lt, Bool, true, false, if◌then◌else◌, inl, inr, List, [], ◌∷◌, ◌++◌, All, length, get_or, take, refl, sym, ◌∙◌, ap, subst, arith}
+use Rattle.std.specs.Bool.{OnTrue}
+use Rattle.std.specs.List.{Any}
+use Rattle.std.proofs.lemmas.List.{take_more}
+use Rattle.std.proofs.lemmas.List.Elements.{All-push}
+use Rattle.std.proofs.lemmas.Bool.Decides.{nat_tests}
+use Rattle.plan_hunt.specs.Adding.{row}
+use Rattle.plan_hunt.specs.Endings.{Ended, ended}
+use Rattle.plan_hunt.specs.Joining.{JoinIsTable}
+use Rattle.plan_hunt.specs.Tables.{IsCount, IsRow, IsTable}
+use Rattle.plan_hunt.specs.declared.row.Row.{Row}
+use Rattle.weak_hunter.specs.WeakHunts.{IsSomeTable}
+
+-- the same endings at the numbers of a table
+Agree : (ℕ → Ended) → (ℕ → Ended) → ℕ → ℕ → Type 0
+Agree f g first n = (i : ℕ) → first ≤ i → i < first + n → f i ≡ g i
+
+fewer : (f g : ℕ → Ended) (first n : ℕ) → Agree f g first (suc n) → Agree f g first n
+unfolding Agree
+fewer f g first n h i low high = h i low (omega (arith, high))
+
+last_agrees : (f g : ℕ → Ended) (first n : ℕ) → Agree f g first (suc n) → f (first + n) ≡ g (first + n)
+unfolding Agree
+last_agrees f g first n h = h (first + n) (omega arith) (omega arith)
+
+count_by : (f g : ℕ → Ended) (first : ℕ) (e : Ended) (n k : ℕ) → Agree f g first n → IsCount f first e n k → IsCount g first e n k
+count_by f g first e zero k h c = c
+count_by f g first e (suc n) k h (inl c) = inl (sym (last_agrees f g first n h) ∙ c.0, (c.1.0, c.1.1, count_by f g first e n c.1.0 (fewer f g first n h) c.1.2))
+count_by f g first e (suc n) k h (inr c) = inr (λ q. c.0 (last_agrees f g first n h ∙ q), count_by f g first e n k (fewer f g first n h) c.1)
+
+row_by : (f g : ℕ → Ended) (first n : ℕ) (r : Row) → Agree f g first n → IsRow f first n r → IsRow g first n r
+unfolding Agree
+row_by f g first n r h t = record {
+  from = t.from;
+  below = t.below;
+  ending = t.ending ∙ h r.first t.from t.below;
+  none_before = λ i low high q. t.none_before i low high (h i low (omega (arith, high, t.below)) ∙ q);
+  plans = count_by f g first r.ending n r.plans h t.plans;
+}
+
+table_by : (f g : ℕ → Ended) (first n : ℕ) (rows : List Row) → Agree f g first n → IsTable f first n rows → IsTable g first n rows
+unfolding Agree
+table_by f g first n rows h t = record {
+  each = λ k d l. row_by f g first n (get_or rows k d) h (t.each k d l);
+  complete = λ i low high. subst (λ (e : Ended). Any (λ (r : Row). r.ending ≡ e) rows) (h i low high) (t.complete i low high);
+  rising = t.rising;
+}
+
+-- ---- tables of no ending and of one
+
+pub no_endings : (first : ℕ) → IsSomeTable first 0 []
+no_endings first = record {
+  ends = λ _. ended [] [] [];
+  table = record {
+    each = λ k d l. absurd (omega (arith, l));
+    complete = λ i low high. absurd (omega (arith, low, high));
+    rising = λ i j d l m. absurd (omega (arith, m));
+  };
+}
+
+one_item : (P : Row → Type 0) (x : Row) → P x → All P (x ∷ [])
+one_item P x p zero d l = p
+one_item P x p (suc k) d l = absurd (omega (arith, l))
+
+one_table : (e : Ended) (n : ℕ) → IsTable (λ _. e) n 1 (row e n 1 ∷ [])
+one_table e n = record {
+  each =
+      one_item (IsRow (λ _. e) n 1) (row e n 1)
+      (record {
+        from = omega arith;
+        below = omega arith;
+        ending = refl;
+        none_before = λ i low high. absurd (omega (arith, low, high));
+        plans = inl (refl, (0, refl, refl));
+      });
+  complete = λ i low high. (0, row e n 1, omega arith, refl, refl);
+  rising = λ i j d l m. absurd (omega (arith, l, m));
+}
+
+-- ---- one more
+
+below : (i m : ℕ) → i < m → nat_lt i m ≡ true
+below i m l = grind (arith, nat_tests)
+
+beyond : (i m : ℕ) → m ≤ i → nat_lt i m ≡ false
+beyond i m l = grind (arith, nat_tests)
+
+-- the endings so far, and behind them another one
+abbrev and_then : (ℕ → Ended) → ℕ → Ended → ℕ → Ended
+and_then ends m e i = if nat_lt i m then ends i else e
+
+agrees_before : (ends : ℕ → Ended) (first n : ℕ) (e : Ended) → Agree ends (and_then ends (first + n) e) first n
+unfolding Agree
+agrees_before ends first n e i low high = ap (λ (t : Bool). if t then ends i else e) (sym (below i (first + n) high))
+
+agrees_behind : (ends : ℕ → Ended) (first n : ℕ) (e : Ended) → Agree (λ _. e) (and_then ends (first + n) e) (first + n) 1
+unfolding Agree
+agrees_behind ends first n e i low high = ap (λ (t : Bool). if t then ends i else e) (sym (beyond i (first + n) low))
+
+pub next_ending : (first n : ℕ) (rows others new : List Row) (e : Ended) → others ≡ row e (first + n) 1 ∷ [] → first + (n + 1) < 2 ^ 32 → IsSomeTable first n rows →
+    JoinIsTable rows others new → IsSomeTable first (n + 1) new
+next_ending first n rows others new e one few t joins =
+    let fs : ℕ → Ended = and_then t.ends (first + n) e in
+    let behind : IsTable fs (first + n) 1 (row e (first + n) 1 ∷ []) = table_by (λ _. e) fs (first + n) 1 (row e (first + n) 1 ∷ []) (agrees_behind t.ends first n e) (one_table e (first + n)) in
+    record {
+      ends = fs;
+      table =
+          joins fs first n 1 (table_by t.ends fs first n rows (agrees_before t.ends first n e) t.table)
+          (subst (λ (rs : List Row). IsTable fs (first + n) 1 rs) (sym one) behind) (omega (arith, few));
+    }
+
+pub as_one : (first m n : ℕ) (rows : List Row) → m ≡ n → IsSomeTable first m rows → IsSomeTable first n rows
+as_one first m n rows e t = subst (λ (k : ℕ). IsSomeTable first k rows) e t
+
+-- ---- what is confirmed
+
+pub one_more : (P : Row → Type 0) (rows : List Row) (i : ℕ) (x : Row) → i < length rows → x ≡ get_or rows i x → All P (take i rows) → P x → All P (take (i + 1) rows)
+one_more P rows i x l is h p = subst (All P) (ap (λ (r : Row). take i rows ++ r ∷ []) is ∙ sym (take_more rows i x l)) (All-push P (take i rows) x h p)
+
+pub on_true : (t : Bool) (P : Type 0) → OnTrue t P → t ≡ true → P
+on_true true P h e = h
+on_true false P h e = absurd cc

@@ -1,0 +1,14 @@
+use Rattle.std.proofs.Common.{◌∙◌}
+use Rattle.std.proofs.lemmas.Result.{err_from_is_err_and}
+use Rattle.weak_hunter.proofs.Hunted.{hunted_so}
+use Rattle.weak_hunter.proofs.hunting.tabulate_weakly.Goals as goal
+
+pub returns-clause-table : goal.returns-clause-table
+returns-clause-table g c =
+    hunted_so c.args.settings.now c.args.image.now c.args.input.now c.in_ok-image.image c.deref.result.now c.in_ok-rows.rows.items c.in_ok-image.ensures.image
+    (c.deref.ensures.value ∙ c.in_ok-harts.ensures.harts) c.in_ok-rows.ensures.table
+
+pub returns-in_err-rows-clause-errors : goal.returns-in_err-rows-clause-errors
+returns-in_err-rows-clause-errors g c = λ _.
+    let p = err_from_is_err_and c.from_residual-in_err-rows.result c.from_residual-in_err-rows.ensures.1 in
+    rw (p.1, p.2) (c.in_err-rows.ensures.errors c.args.settings.now c.args.image.now)

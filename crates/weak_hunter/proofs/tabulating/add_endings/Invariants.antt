@@ -1,0 +1,7 @@
+use Rattle.std.proofs.Common.{◌+◌}
+use Rattle.weak_hunter.specs.WeakHunts.{IsSomeTable}
+use Rattle.weak_hunter.proofs.tabulating.add_endings.Given as goal
+
+-- the table of the endings so far
+abbrev pub invariant-loop-place : goal.invariant-loop-place
+invariant-loop-place l = IsSomeTable l.first (l.done + l.place) l.rows.items

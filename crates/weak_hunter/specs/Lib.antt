@@ -1,0 +1,2 @@
+pub mod WeakHunts
+pub mod Refusals

@@ -1,0 +1,117 @@
+ghost use Rattle.std.specs.Prelude.{◌≡◌, ◌+◌, ◌<◌, ◌^◌, IfOk, length};
+
+use crate::guest::Guest;
+use crate::looking::seen_of;
+use hunter::ending_of_stop;
+use pages::OutOfMemory;
+use plan_hunt::{Ending, HartEnding};
+use std::alloc::Global;
+use std::sync::atomic::{AtomicU64, Ordering};
+use std::thread::{self, Threads};
+use timed_machine::TimedMachine;
+
+/// The ending of an execution, which is told by its place in the block.
+#[derive(Drop)]
+struct Found {
+    place: u32,
+    ending: Ending,
+}
+
+/// The endings of `count` executions from number `first` on, found by workers that make executions at the same time, a slot for each
+/// number. A slot is empty where they left the execution out, for want of memory.
+///
+/// # Errors
+///
+/// `OutOfMemory` alone.
+pub(crate) fn execute_block<R: Threads + Sync>(
+    rt: &R,
+    guest: &Guest<'_>,
+    first: u32,
+    count: u32,
+    workers: u32,
+) -> Result<Vec<Option<Ending>>, OutOfMemory>
+    requires few { first + count < 2 ^ 32 }
+    ensures { IfOk result (λ v. length v.items ≡ count) }
+{
+    let mut slots = empty_slots(guest.alloc, count)?;
+    let next = AtomicU64::new(0);
+    let work = |_worker: usize|
+        requires { first + count < 2 ^ 32 }
+    { work(guest, first, count, &next) };
+    let lists = thread::map_indices(rt, guest.alloc, workers as usize, &work)?;
+    for list in lists {
+        put(&mut slots, list);
+    }
+    Ok(slots)
+}
+
+/// A slot for each execution, with nothing in it.
+fn empty_slots(alloc: Global, count: u32) -> Result<Vec<Option<Ending>>, OutOfMemory>
+    ensures { IfOk result (λ v. length v.items ≡ count) }
+{
+    let mut slots = Vec::new(alloc);
+    for _ in 0..count {
+        slots.push(None)?;
+    }
+    Ok(slots)
+}
+
+/// Puts what was found into the slots of the executions.
+fn put(slots: &mut [Option<Ending>], found: Vec<Found>) {
+    for one in found {
+        let place = one.place as usize;
+        if place < slots.len() {
+            slots[place] = Some(one.ending);
+        }
+    }
+}
+
+/// Claims executions of a block and makes them until none is left, or until memory is refused.
+fn work(guest: &Guest<'_>, first: u32, count: u32, next: &AtomicU64) -> Vec<Found>
+    requires { first + count < 2 ^ 32 }
+{
+    let mut found = Vec::new(guest.alloc);
+    for _ in 0..count {
+        let place = next.fetch_add(1, Ordering::SeqCst);
+        if place >= u64::from(count) {
+            break;
+        }
+        let place = place as u32;
+        let Ok(ending) = executed(guest, first + place) else {
+            break;
+        };
+        if found.push(Found { place, ending }).is_err() {
+            break;
+        }
+    }
+    found
+}
+
+/// The ending of the execution of a number.
+pub(crate) fn executed(guest: &Guest<'_>, number: u32) -> Result<Ending, OutOfMemory> {
+    let machine = guest.maker.execute(number, false)?;
+    ending_of(guest, &machine)
+}
+
+/// The ending that a machine has come to.
+fn ending_of(guest: &Guest<'_>, machine: &TimedMachine) -> Result<Ending, OutOfMemory> {
+    let stops = stops_of(guest.alloc, machine, guest.opening.harts.len())?;
+    let output = Vec::from_slice(guest.alloc, machine.output())?;
+    let seen = seen_of(guest.alloc, machine.pages(), guest.ranges)?;
+    Ok(Ending::new(stops, output, seen))
+}
+
+/// How each of so many harts ended.
+fn stops_of(
+    alloc: Global,
+    machine: &TimedMachine,
+    harts: usize,
+) -> Result<Vec<HartEnding>, OutOfMemory> {
+    let mut stops = Vec::new(alloc);
+    for number in 0..harts {
+        if let Some(hart) = machine.hart(number) {
+            stops.push(ending_of_stop(hart.stop))?;
+        }
+    }
+    Ok(stops)
+}

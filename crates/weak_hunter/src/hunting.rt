@@ -1,0 +1,140 @@
+ghost use Rattle.std.specs.Prelude.{◌≡◌, ◌⊎◌, ◌<◌, ◌≤◌, ◌++◌, Err, IfErr, IfOk, ℕ, List, None, OnErr, Some, false, length, true};
+ghost use Rattle.elf_loader.specs.Image.{Loaded};
+ghost use Rattle.host_io.specs.Taken.{BeganText};
+ghost use Rattle.host_io.specs.declared.load_error.LoadError.{LoadError as ImageCause};
+ghost use Rattle.host_io.specs.declared.error.RunError.TheVariants as refusals;
+ghost use Rattle.hunt_table.specs.Text.{table_text};
+ghost use Rattle.hunter.specs.Hunts.{IsHunt, IsImageCause, has_bad_range, hunt_fault};
+ghost use Rattle.hunter.specs.declared.error.HuntError.{HuntError as Refusal};
+ghost use Rattle.hunter.specs.declared.settings.HuntSettings.{HuntSettings as AskedFor};
+ghost use Rattle.hunter.specs.declared.error.HuntError.TheVariants as hunting;
+ghost use Rattle.plan_hunt.specs.declared.row.Row.{Row as TableRow};
+ghost use Rattle.weak_hunter.specs.WeakHunts.{IsTabled, IsWeakReason, IsWeaklyHunted};
+ghost use Rattle.weak_hunter.specs.declared.error.WeakHuntError.TheVariants.{Hunt};
+
+use crate::confirming::confirm;
+use crate::error::WeakHuntError;
+use crate::guest::Guest;
+use crate::opening::opening_harts;
+use crate::tabulating::tabulate;
+use host_io::Sink;
+use hunt_table::write_table;
+use hunter::{HuntSettings, check_hunt, check_ranges};
+use machine::load;
+use plan_hunt::{HuntObserver, Row};
+use std::alloc::Global;
+use std::sync::Wait;
+use std::thread::Threads;
+use weak_executions::{Opening, WeakGuest};
+
+/// Makes a guest's executions of the numbers that a hunt names, writes the table of the endings that they lead to, and answers its
+/// rows. The first execution of each ending was put to the checker of executions. The observer looks on between two blocks of
+/// executions.
+///
+/// # Errors
+///
+/// The refusals of the settings, then of the image, then of the ranges; `OutOfMemory`; `Unconfirmed` where the checker doesn't find
+/// the ending of an execution as it was made, or RVWMO doesn't allow that execution; `SinkFailed`. Nothing is written before all
+/// executions are made and checked.
+pub fn hunt_weakly<S: Sink, O: HuntObserver, R: Threads + Wait + Sync>(
+    rt: &R,
+    alloc: Global,
+    image: &[u8],
+    input: &[u8],
+    settings: &HuntSettings,
+    observer: &mut O,
+    out: &mut S,
+) -> Result<Vec<Row>, WeakHuntError>
+    requires weak { settings.now.header.is_weak ≡ true }
+    // The rows are the table of endings each of which RVWMO allows, and the sink took its text.
+    ensures hunts { IfOk result (λ rows. IsWeaklyHunted settings.now image.now input.now rows.items ×
+        (S.took out.new ≡ S.took out.old ++ table_text settings.now.header rows.items)) }
+    // Else it took nothing, or a beginning of that table.
+    ensures begun { OnErr result ((S.took out.new ≡ S.took out.old) ⊎
+        ((rows : List TableRow) × IsWeaklyHunted settings.now image.now input.now rows ×
+        BeganText (S.took out.old) (S.took out.new) (table_text settings.now.header rows))) }
+    // Where anything else than the sink refuses, it took nothing.
+    ensures untouched { IfErr result (λ e. (e ≡ Hunt (hunting.Run refusals.SinkFailed)) ⊎
+        (S.took out.new ≡ S.took out.old)) }
+    // Settings out of range are refused first, and then an image.
+    ensures settings { (e : Refusal) → hunt_fault settings.now ≡ Some e → result ≡ Err (Hunt e) }
+    // What is refused then is for a reason that stands, or since an execution isn't confirmed.
+    ensures errors { hunt_fault settings.now ≡ None →
+        IfErr result (λ e. IsWeakReason settings.now image.now e ⊎
+        ((e ≡ Hunt (hunting.Run refusals.SinkFailed)) × (S.failures out.old < S.failures out.new))) }
+    ensures image { (cause : ImageCause) → hunt_fault settings.now ≡ None →
+        IsImageCause settings.now image.now cause →
+        (result ≡ Err (Hunt (hunting.Run (refusals.Image cause)))) ⊎
+        (result ≡ Err (Hunt (hunting.Run refusals.OutOfMemory))) }
+    // No hunt looks at a range that is empty, or not all in memory.
+    ensures ranges { IfOk result (λ _. has_bad_range settings.now ≡ false) }
+{
+    let rows = tabulate_weakly(rt, alloc, image, input, settings, observer)?;
+    write_table(alloc, &settings.header, &rows, out)?;
+    Ok(rows)
+}
+
+/// The table of a weak hunt. The image is loaded once.
+fn tabulate_weakly<O: HuntObserver, R: Threads + Wait + Sync>(
+    rt: &R,
+    alloc: Global,
+    image: &[u8],
+    input: &[u8],
+    settings: &HuntSettings,
+    observer: &mut O,
+) -> Result<Vec<Row>, WeakHuntError>
+    ensures table { IfOk result (λ rows. IsWeaklyHunted settings.now image.now input.now rows.items) }
+    ensures settings { (e : Refusal) → hunt_fault settings.now ≡ Some e → result ≡ Err (Hunt e) }
+    ensures errors { hunt_fault settings.now ≡ None →
+        IfErr result (λ e. IsWeakReason settings.now image.now e) }
+    ensures image { (cause : ImageCause) → hunt_fault settings.now ≡ None →
+        IsImageCause settings.now image.now cause →
+        (result ≡ Err (Hunt (hunting.Run (refusals.Image cause)))) ⊎
+        (result ≡ Err (Hunt (hunting.Run refusals.OutOfMemory))) }
+    ensures ranges { IfOk result (λ _. has_bad_range settings.now ≡ false) }
+{
+    check_hunt(settings)?;
+    let image = load(alloc, settings.format, image, settings.pages)?;
+    check_ranges(settings)?;
+    let harts = opening_harts(alloc, &image, settings.harts)?;
+    let opening = Opening {
+        image: &image,
+        input,
+        harts: &harts,
+    };
+    let rows = table_of(rt, alloc, opening, settings, observer)?;
+    Ok(rows)
+}
+
+/// The table of the executions that begin so, each ending of which was confirmed.
+fn table_of<O: HuntObserver, R: Threads + Wait + Sync>(
+    rt: &R,
+    alloc: Global,
+    opening: Opening<'_>,
+    settings: &HuntSettings,
+    observer: &mut O,
+) -> Result<Vec<Row>, WeakHuntError>
+    requires hunt { IsHunt settings.now }
+    requires harts { length opening.harts.now ≡ settings.now.harts }
+    ensures table { IfOk result (λ rows. IsTabled opening.entry.image.now opening.entry.input.now
+        opening.entry.harts.now settings.now.header.first settings.now.header.count rows.items) }
+    ensures errors { (s : AskedFor) (file : List ℕ) → IfErr result (λ e. IsWeakReason s file e) }
+{
+    let header = &settings.header;
+    let guest = Guest {
+        alloc,
+        opening,
+        maker: WeakGuest::new(alloc, opening, header.seed, settings.rounds),
+        ranges: &header.ranges,
+    };
+    let rows = tabulate(
+        rt,
+        &guest,
+        header.first,
+        header.count,
+        settings.workers,
+        observer,
+    )?;
+    confirm(&guest, &rows)?;
+    Ok(rows)
+}
