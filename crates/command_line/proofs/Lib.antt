@@ -1,4 +1,3 @@
-mod Chains
 mod Lines
 mod Numerals
 mod Pairs

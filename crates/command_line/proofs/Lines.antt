@@ -7,7 +7,7 @@ use Rattle.clap.specs.Kinds.{HasKind, Kinds, or_else}
 use Rattle.clap.specs.declared.error.Error.{Error}
 use Rattle.clap.specs.Walk.{answers_to, finished, nothing_held, rows_after, settled, walk, walk_from}
 use Rattle.clap.specs.Words.{Row, Text, subcommand_of}
-use Rattle.command_line.specs.Options.{dethart_app}
+use Rattle.command_options.specs.Options.{dethart_app}
 use Rattle.command_line.specs.Faults.{line_fault, word_fault}
 use Rattle.command_line.specs.Reading.{IsSubcommand}
 

@@ -7,7 +7,7 @@ use Rattle.std.specs.Str.{bytes_eq}
 use Rattle.clap.specs.Kinds.{or_else}
 use Rattle.clap.specs.Words.{Kinds, Row, Text, fault_of, first_of, one_of, subcommand_of}
 use Rattle.clap.specs.declared.error.kind.ErrorKind.TheVariants.{ArgumentConflict, ValueValidation}
-use Rattle.command_line.specs.Options.{dethart_app}
+use Rattle.command_options.specs.Options.{dethart_app}
 use Rattle.command_line.specs.Reading.{address_given, address_in, fail_on_in, is_given, is_set, number_given, number_in, seen_given, shown_in}
 
 -- ---- words that clap takes as texts
@@ -67,10 +67,17 @@ alternatives =
 abbrev pub are_given : List Row → Text × Text → Bool
 are_given rows options = is_given options.0 rows && is_given options.1 rows
 
--- --how-many stands beside a round, and beside neither a count nor a place
+-- --how-many stands beside a round, and beside neither a count nor a place nor bytes, which a hart sees at a count
 abbrev pub has_stray_how_many : List Row → Bool
 has_stray_how_many rows = is_set (codes "how-many") rows
-    && (is_given (codes "place") rows || (is_given (codes "count") rows || not (is_given (codes "round") rows)))
+    && (is_given (codes "place") rows || (is_given (codes "count") rows
+    || (is_given (codes "see") rows || (is_given (codes "see-object") rows || not (is_given (codes "round") rows)))))
+
+-- --weak says that the number of `execution` is that of an execution, and there is no number. Beside a number there is neither
+-- --quota nor --plan nor --budget, so that --weak stands beside none of them
+abbrev pub has_stray_weak : Text → List Row → Bool
+has_stray_weak name rows = bytes_eq name (codes "execution")
+    && (is_set (codes "weak") rows && not (is_given (codes "plan-number") rows))
 
 -- a subcommand of this name runs a guest program by one plan
 abbrev pub goes_by_one_plan : Text → Bool
@@ -94,7 +101,7 @@ has_turned_rounds rows =
 -- two of the options contradict each other
 abbrev pub has_contradiction : Text → List Row → Bool
 has_contradiction name rows = list_any (are_given rows) alternatives
-    || (has_stray_how_many rows || (has_stray_seed name rows || has_turned_rounds rows))
+    || (has_stray_how_many rows || (has_stray_weak name rows || (has_stray_seed name rows || has_turned_rounds rows)))
 
 -- ---- both
 

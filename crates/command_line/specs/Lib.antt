@@ -1,5 +1,3 @@
-pub mod Arguments
 pub mod Asking
 pub mod Faults
-pub mod Options
 pub mod Reading

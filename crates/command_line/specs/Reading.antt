@@ -11,6 +11,7 @@ use Rattle.command_line.specs.declared.settings.Command.{Command}
 use Rattle.command_line.specs.declared.settings.Command.TheVariants as command
 use Rattle.command_line.specs.declared.settings.Bytes.{Bytes}
 use Rattle.command_line.specs.declared.settings.Draw.{Draw}
+use Rattle.command_line.specs.declared.settings.Execution.{Execution}
 use Rattle.command_line.specs.declared.settings.FailOn.{FailOn}
 use Rattle.command_line.specs.declared.settings.FailOn.TheVariants as fail_on
 use Rattle.command_line.specs.declared.settings.Hunt.{Hunt}
@@ -166,7 +167,7 @@ pub record HoldsRecord (rows : List Row) (r : Record) : Type 0 where
 abbrev pub asks_of_a_hart : List Row → Bool
 asks_of_a_hart rows = is_given (codes "round") rows || is_given (codes "place") rows
 
--- the line gives an option of `replay` that says of which hart and where, and doesn't ask of a hart
+-- the line gives an option of `replay` that says of which hart, where and what, and doesn't ask of a hart
 abbrev pub is_unread : Text → List Row → Bool
 is_unread id rows = is_given id rows && not (asks_of_a_hart rows)
 
@@ -178,10 +179,14 @@ pub record HoldsReplay (rows : List Row) (replay : Replay) : Type 0 where
   pub count : replay.count ≡ wide_number_or 0 (one_of (codes "count") rows)
   pub how_many : replay.how_many ≡ is_set (codes "how-many") rows
   pub place : replay.place ≡ number_given 64 (one_of (codes "place") rows)
+  pub seen : replay.seen.items ≡ map bytes_of (seen_given rows)
+  pub objects : map (λ s. s.now) replay.objects.items ≡ texts_given (codes "see-object") rows
   pub every : replay.every ≡ number_or 64 (one_of (codes "every") rows)
   pub progress : HoldsFlag (one_of (codes "progress") rows) replay.progress
   pub hart_is_unread : replay.hart_is_unread ≡ is_unread (codes "hart") rows
   pub count_is_unread : replay.count_is_unread ≡ is_unread (codes "count") rows
+  pub seen_is_unread : replay.seen_is_unread ≡ is_unread (codes "see") rows
+  pub object_is_unread : replay.object_is_unread ≡ is_unread (codes "see-object") rows
 
 pub record HoldsWatch (rows : List Row) (watch : Watch) : Type 0 where
   pub recording : watch.recording.now ≡ unwrap_or (first_of (codes "recording") rows) []
@@ -212,6 +217,7 @@ pub record HoldsHunt (rows : List Row) (hunt : Hunt) : Type 0 where
   pub plans : hunt.plans ≡ number_or 1000 (one_of (codes "plans") rows)
   pub first : hunt.first ≡ number_or 0 (one_of (codes "first") rows)
   pub fail_on : hunt.fail_on ≡ unwrap_or (fail_on_given rows) fail_on.Differ
+  pub weak : hunt.weak ≡ is_set (codes "weak") rows
 
 pub record HoldsShrink (rows : List Row) (shrink : Shrink) : Type 0 where
   pub search : HoldsSearch rows shrink.search
@@ -232,6 +238,10 @@ pub record HoldsDraw (rows : List Row) (draw : Draw) : Type 0 where
   pub from : draw.from ≡ number_given 32 (one_of (codes "from") rows)
   pub to : draw.to ≡ number_given 32 (one_of (codes "to") rows)
 
+pub record HoldsExecution (rows : List Row) (execution : Execution) : Type 0 where
+  pub run : HoldsRun rows execution.run
+  pub weak : execution.weak ≡ is_set (codes "weak") rows
+
 pub record HoldsCheck (rows : List Row) (check : Check) : Type 0 where
   pub file : check.file.now ≡ unwrap_or (first_of (codes "file") rows) []
 
@@ -249,7 +259,7 @@ HoldsNamed name rows (command.Merge merge) = (name ≡ codes "merge") × HoldsMe
 HoldsNamed name rows (command.Plan plan) = (name ≡ codes "plan") × HoldsPlan rows plan
 HoldsNamed name rows (command.Draw draw) = (name ≡ codes "draw") × HoldsDraw rows draw
 HoldsNamed name rows (command.Trace run) = (name ≡ codes "trace") × HoldsRun rows run
-HoldsNamed name rows (command.Execution run) = (name ≡ codes "execution") × HoldsRun rows run
+HoldsNamed name rows (command.Execution execution) = (name ≡ codes "execution") × HoldsExecution rows execution
 HoldsNamed name rows (command.Check check) = (name ≡ codes "check") × HoldsCheck rows check
 
 -- the subcommand is the one that the line is of, and the line holds its values

@@ -2,7 +2,7 @@
 ghost use Rattle.std.specs.Prelude.{◌≡◌, is_some, map};
 ghost use Rattle.std.specs.List.{list_any};
 ghost use Rattle.clap.specs.Words.{found_of, rows_of};
-ghost use Rattle.command_line.specs.Faults.{are_given, goes_by_one_plan, has_contradiction, has_stray_how_many, has_stray_seed, has_turned_rounds, is_after};
+ghost use Rattle.command_line.specs.Faults.{are_given, goes_by_one_plan, has_contradiction, has_stray_how_many, has_stray_seed, has_stray_weak, has_turned_rounds, is_after};
 
 use crate::given::{is_given, is_set};
 use crate::numbers::number_given;
@@ -59,6 +59,8 @@ pub(crate) fn contradiction(name: &str, matches: &ArgMatches<'_>) -> Option<&'st
         Some(text)
     } else if let Some(text) = stray_how_many(matches) {
         Some(text)
+    } else if let Some(text) = stray_weak(name, matches) {
+        Some(text)
     } else if has_stray_seed(name, matches) {
         Some(STRAY_SEED)
     } else if has_turned_rounds(matches) {
@@ -86,7 +88,7 @@ fn alternative_given(
     None
 }
 
-/// What is said of `--how-many` without a round, or beside a count or a place.
+/// What is said of `--how-many` without a round, or beside a count, a place or bytes.
 fn stray_how_many(matches: &ArgMatches<'_>) -> Option<&'static str>
     ensures { is_some result ≡ has_stray_how_many (rows_of (found_of matches.now)) }
 {
@@ -96,11 +98,33 @@ fn stray_how_many(matches: &ArgMatches<'_>) -> Option<&'static str>
         Some("the argument '--place <N>' cannot be used with '--how-many'")
     } else if is_given(matches, "count") {
         Some("the argument '--count <N>' cannot be used with '--how-many'")
+    } else if is_given(matches, "see") {
+        Some("the argument '--see <ADDRESS> <LENGTH>' cannot be used with '--how-many'")
+    } else if is_given(matches, "see-object") {
+        Some("the argument '--see-object <NAME>' cannot be used with '--how-many'")
     } else if !is_given(matches, "round") {
         Some("the argument '--how-many' asks for '--round <N>', which isn't there")
     } else {
         None
     }
+}
+
+/// What is said of `--weak` of `execution` without a number of a plan.
+fn stray_weak(name: &str, matches: &ArgMatches<'_>) -> Option<&'static str>
+    ensures { is_some result ≡ has_stray_weak name.now (rows_of (found_of matches.now)) }
+{
+    if name != "execution" || !is_set(matches, "weak") || is_given(matches, "plan-number") {
+        return None;
+    }
+    Some(if is_given(matches, "quota") {
+        "the argument '--weak' cannot be used with '--quota <PLAN>'"
+    } else if is_given(matches, "plan") {
+        "the argument '--weak' cannot be used with '--plan <FILE>'"
+    } else if is_given(matches, "budget") {
+        "the argument '--weak' cannot be used with '--budget <N>'"
+    } else {
+        "the argument '--weak' asks for '--plan-number <N>', which isn't there"
+    })
 }
 
 /// Whether a subcommand of this name runs a guest program by one plan.

@@ -4,6 +4,7 @@ ghost use Rattle.clap.specs.Words.{found_of, rows_of};
 ghost use Rattle.command_line.specs.Faults.{has_bad_fail_on};
 ghost use Rattle.command_line.specs.Reading.{HoldsHunt, HoldsMerge, HoldsPlan, HoldsSearch, HoldsShrink, fail_on_given, fail_on_in};
 
+use crate::given::is_set;
 use crate::numbers::{number_of, wide_number_of};
 use crate::runs::program_of;
 use crate::seen::{seen_of, texts_of};
@@ -35,6 +36,7 @@ pub(crate) fn hunt_of<'a>(alloc: Global, matches: &ArgMatches<'a>) -> Result<Hun
         plans: number_of(matches, "plans", 1000),
         first: number_of(matches, "first", 0),
         fail_on: fail_on_given(matches).unwrap_or(FailOn::Differ),
+        weak: is_set(matches, "weak"),
     })
 }
 

@@ -1,7 +1,7 @@
 //! What the words of a command line say.
 ghost use Rattle.std.specs.Prelude.{◌≡◌, IfOk, Some, is_some, map};
 ghost use Rattle.clap.specs.Words.{FailsBy, found_of, rows_of, subcommand_of};
-ghost use Rattle.command_line.specs.Options.{dethart_app};
+ghost use Rattle.command_options.specs.Options.{dethart_app};
 ghost use Rattle.command_line.specs.Faults.{has_bad_address, has_bad_word, has_no_bytes, line_fault, names_no_bytes, word_fault};
 ghost use Rattle.command_line.specs.Reading.{HoldsCheck, HoldsLine, HoldsMigrate, HoldsNamed, HoldsReplay, HoldsWatch, IsSubcommand, address_given, asks_of_a_hart, is_unread};
 
@@ -9,12 +9,12 @@ use crate::contradictions::contradiction;
 use crate::families::{has_bad_fail_on, hunt_of, merge_of, plan_of, shrink_of};
 use crate::given::{is_given, is_set};
 use crate::numbers::{address_in, number_given, number_of, wide_given, wide_number_of};
-use crate::options::dethart_command;
-use crate::runs::{draw_of, has_bad_form, has_bad_show, print_of, record_of, run_of};
+use crate::runs::{draw_of, execution_of, has_bad_form, has_bad_show, print_of, record_of, run_of};
 use crate::seen::{has_bad_bytes, seen_of, texts_of};
 use crate::settings::{Check, Command, Migrate, Replay, Watch};
 use clap::error::ErrorKind;
 use clap::{ArgMatches, Error};
+use command_options::dethart_command;
 use std::alloc::{AllocError, Global};
 
 /// What is said of an ADDRESS that is none.
@@ -88,7 +88,7 @@ fn command_of<'a>(
         "run" => Command::Run(print_of(matches)),
         "order" => Command::Order(run_of(matches)),
         "record" => Command::Record(record_of(matches)),
-        "replay" => Command::Replay(replay_of(matches)),
+        "replay" => Command::Replay(replay_of(alloc, matches)?),
         "watch" => Command::Watch(watch_of(alloc, matches)?),
         "migrate" => Command::Migrate(migrate_of(matches)),
         "hunt" => Command::Hunt(hunt_of(alloc, matches)?),
@@ -97,17 +97,19 @@ fn command_of<'a>(
         "plan" => Command::Plan(plan_of(matches)),
         "draw" => Command::Draw(draw_of(alloc, matches)?),
         "trace" => Command::Trace(run_of(matches)),
-        "execution" => Command::Execution(run_of(matches)),
+        "execution" => Command::Execution(execution_of(matches)),
         // There is no other than `check`.
         _ => Command::Check(check_of(matches)),
     })
 }
 
 /// What the matches of `replay` say.
-fn replay_of<'a>(matches: &ArgMatches<'a>) -> Replay<'a>
-    ensures { HoldsReplay (rows_of (found_of matches.now)) result }
+fn replay_of<'a>(alloc: Global, matches: &ArgMatches<'a>) -> Result<Replay<'a>, AllocError>
+    ensures { IfOk result (HoldsReplay (rows_of (found_of matches.now))) }
 {
-    Replay {
+    let seen = seen_of(alloc, matches)?;
+    let objects = texts_of(alloc, matches, "see-object")?;
+    Ok(Replay {
         recording: matches.get_str("recording").unwrap_or(""),
         workers: number_of(matches, "workers", 4),
         round: number_given(matches, "round"),
@@ -115,11 +117,15 @@ fn replay_of<'a>(matches: &ArgMatches<'a>) -> Replay<'a>
         count: wide_number_of(matches, "count", 0),
         how_many: is_set(matches, "how-many"),
         place: wide_given(matches, "place"),
+        seen,
+        objects,
         every: number_of(matches, "every", 64),
         progress: matches.get_flag("progress"),
         hart_is_unread: is_unread(matches, "hart"),
         count_is_unread: is_unread(matches, "count"),
-    }
+        seen_is_unread: is_unread(matches, "see"),
+        object_is_unread: is_unread(matches, "see-object"),
+    })
 }
 
 /// Whether `replay` is asked of a hart.
@@ -129,7 +135,7 @@ fn asks_of_a_hart(matches: &ArgMatches<'_>) -> bool
     is_given(matches, "round") || is_given(matches, "place")
 }
 
-/// Whether the line gives the option `id`, which says of which hart and where, and doesn't ask of a hart.
+/// Whether the line gives the option `id`, which says of which hart, where and what, and doesn't ask of a hart.
 fn is_unread(matches: &ArgMatches<'_>, id: &str) -> bool
     ensures { result ≡ is_unread id.now (rows_of (found_of matches.now)) }
 {

@@ -2,12 +2,12 @@
 ghost use Rattle.std.specs.Prelude.{◌≡◌, IfOk};
 ghost use Rattle.clap.specs.Words.{found_of, rows_of};
 ghost use Rattle.command_line.specs.Faults.{has_bad_form, has_bad_show};
-ghost use Rattle.command_line.specs.Reading.{HoldsDraw, HoldsPlanChoice, HoldsPrint, HoldsProgram, HoldsRecord, HoldsRun, quota_is_unread, shown_given, shown_in};
+ghost use Rattle.command_line.specs.Reading.{HoldsDraw, HoldsExecution, HoldsPlanChoice, HoldsPrint, HoldsProgram, HoldsRecord, HoldsRun, quota_is_unread, shown_given, shown_in};
 
-use crate::given::is_given;
+use crate::given::{is_given, is_set};
 use crate::numbers::{number_given, number_of, wide_number_of};
 use crate::seen::{seen_of, texts_of};
-use crate::settings::{Draw, PlanChoice, Print, Program, Record, Run, Shown};
+use crate::settings::{Draw, Execution, PlanChoice, Print, Program, Record, Run, Shown};
 use clap::ArgMatches;
 use std::alloc::{AllocError, Global};
 
@@ -123,6 +123,16 @@ pub(crate) fn record_of<'a>(matches: &ArgMatches<'a>) -> Record<'a>
         run: run_of(matches),
         out: matches.get_str("out").unwrap_or(""),
         every: number_of(matches, "every", 0),
+    }
+}
+
+/// What the matches of `execution` say.
+pub(crate) fn execution_of<'a>(matches: &ArgMatches<'a>) -> Execution<'a>
+    ensures { HoldsExecution (rows_of (found_of matches.now)) result }
+{
+    Execution {
+        run: run_of(matches),
+        weak: is_set(matches, "weak"),
     }
 }
 

@@ -26,7 +26,7 @@ pub enum Command<'a> {
     /// `trace IMAGE`: run a guest program, and print the trace in the form that ui.perfetto.dev opens.
     Trace(Run<'a>),
     /// `execution IMAGE`: run a guest program, and print the run as an execution.
-    Execution(Run<'a>),
+    Execution(Execution<'a>),
     /// `check FILE`: check the execution of a file.
     Check(Check<'a>),
 }
@@ -69,7 +69,7 @@ pub struct PlanChoice<'a> {
     pub quota_is_unread: bool,
 }
 
-/// One run: the words after `order` and `trace`, and a part of those after `run`, `record` and `draw`.
+/// One run: the words after `order` and `trace`, and a part of those after `run`, `record`, `draw` and `execution`.
 #[derive(Clone, Copy, PartialEq, Eq, Drop)]
 pub struct Run<'a> {
     /// The program that is run.
@@ -114,7 +114,7 @@ pub struct Record<'a> {
 }
 
 /// The words after `replay`.
-#[derive(Clone, Copy, PartialEq, Eq, Drop)]
+#[derive(PartialEq, Eq, Drop)]
 pub struct Replay<'a> {
     /// The path of the recording.
     pub recording: &'a str,
@@ -127,12 +127,16 @@ pub struct Replay<'a> {
     /// After how many of the instructions that the hart did in the round it is printed. Where there is no round, it isn't
     /// looked at.
     pub count: u64,
-    /// How many instructions the hart did in the round is printed, and not the hart. The line gives a round then, and no
-    /// count.
+    /// How many instructions the hart did in the round is printed, and not the hart. The line gives a round then, and neither
+    /// a count nor bytes.
     pub how_many: bool,
     /// The place of an instruction among all that the hart did, before which it is printed. The line gives neither a round
     /// nor a count beside it.
     pub place: Option<u64>,
+    /// The bytes that are printed as the hart sees them. Where there is neither a round nor a place, they aren't looked at.
+    pub seen: Vec<Bytes>,
+    /// The names of objects whose bytes are printed too, likewise.
+    pub objects: Vec<&'a str>,
     /// A machine to go on from is kept after each round whose number is a multiple of this; 0: only the first.
     pub every: u32,
     /// It is told between rounds how far the run is.
@@ -141,6 +145,10 @@ pub struct Replay<'a> {
     pub hart_is_unread: bool,
     /// The line gives a count, which isn't looked at.
     pub count_is_unread: bool,
+    /// The line gives bytes by their address, which aren't looked at.
+    pub seen_is_unread: bool,
+    /// The line gives an object, which isn't looked at.
+    pub object_is_unread: bool,
 }
 
 /// The words after `watch`.
@@ -179,6 +187,15 @@ pub struct Migrate<'a> {
     pub recording: &'a str,
     /// The path of the file that the new one is written to.
     pub out: &'a str,
+}
+
+/// The words after `execution`.
+#[derive(Clone, Copy, PartialEq, Eq, Drop)]
+pub struct Execution<'a> {
+    /// The run.
+    pub run: Run<'a>,
+    /// The plan's number is that of an execution, as in a hunt over these. The line gives a number then.
+    pub weak: bool,
 }
 
 /// The words after `check`.
@@ -232,6 +249,8 @@ pub struct Hunt<'a> {
     pub first: u32,
     /// Which tables give another exit status.
     pub fail_on: FailOn,
+    /// The numbers are those of executions that RVWMO allows, in which loads come early and stores late, and not of plans.
+    pub weak: bool,
 }
 
 /// The words after `shrink`.

@@ -40,7 +40,7 @@ static SEEN: [Bytes; 2] = [
 ];
 
 const HUNT_WITH_EVERY_OPTION: &str =
-    "dethart hunt --see 0x20000 8 guest.elf --plans=200 --first 7 --seed=9 --see-object=counter --harts 2 --see 24 1 --fail-on never";
+    "dethart hunt --see 0x20000 8 guest.elf --plans=200 --first 7 --seed=9 --see-object=counter --harts 2 --see 24 1 --fail-on never --weak";
 
 /// What is read after `--fail-on`.
 static FAILURES: [(&str, FailOn); 3] = [
@@ -62,6 +62,7 @@ fn reads_hunt(rt: HostRuntime) -> Result<(), Fail> {
         plans: 200,
         first: 7,
         fail_on: FailOn::Never,
+        weak: true,
     };
     assert!(rt; is_read(&rt, HUNT_WITH_EVERY_OPTION, &Command::Hunt(given)));
     for (line, fail_on) in &FAILURES {
@@ -70,6 +71,7 @@ fn reads_hunt(rt: HostRuntime) -> Result<(), Fail> {
             plans: 1000,
             first: 0,
             fail_on: *fail_on,
+            weak: false,
         };
         assert!(rt; is_read(&rt, line, &Command::Hunt(defaults)));
     }

@@ -2,62 +2,24 @@
 
 use crate::harness::is_read;
 use command_line::{Bytes, Command, Migrate, Replay, Watch};
-use std::alloc::Global;
+use std::alloc::{AllocError, Global};
 use std::test::Fail;
 
-/// Lines of `replay`, with every option and with none, and what they say.
-static REPLAYS: [(&str, Replay<'static>); 6] = [
-    ("dethart replay guest.rec", REPLAY),
-    (
-        "dethart replay --workers 2 guest.rec --round 4294967295 --hart=3 --count 18446744073709551615 --every=0 --progress",
-        Replay {
-            workers: 2,
-            round: Some(4294967295),
-            hart: 3,
-            count: 18446744073709551615,
-            every: 0,
-            progress: true,
-            ..REPLAY
-        },
-    ),
-    (
-        "dethart replay guest.rec --round 5",
-        Replay {
-            round: Some(5),
-            ..REPLAY
-        },
-    ),
-    (
-        "dethart replay guest.rec --round 5 --how-many",
-        Replay {
-            round: Some(5),
-            how_many: true,
-            ..REPLAY
-        },
-    ),
-    (
-        "dethart replay guest.rec --place=7 --hart 2",
-        Replay {
-            hart: 2,
-            place: Some(7),
-            ..REPLAY
-        },
-    ),
-    (
-        "dethart replay guest.rec --count 1 --hart 2",
-        Replay {
-            hart: 2,
-            count: 1,
-            hart_is_unread: true,
-            count_is_unread: true,
-            ..REPLAY
-        },
-    ),
-];
+/// What a line of `replay` says beside the recording and bytes.
+#[derive(Clone, Copy, Drop)]
+struct Asked {
+    workers: u32,
+    round: Option<u32>,
+    hart: u32,
+    count: u64,
+    how_many: bool,
+    place: Option<u64>,
+    every: u32,
+    progress: bool,
+}
 
 /// What a line of `replay` says that has no option.
-const REPLAY: Replay<'static> = Replay {
-    recording: "guest.rec",
+const NOTHING_ASKED: Asked = Asked {
     workers: 4,
     round: None,
     hart: 0,
@@ -66,15 +28,119 @@ const REPLAY: Replay<'static> = Replay {
     place: None,
     every: 64,
     progress: false,
-    hart_is_unread: false,
-    count_is_unread: false,
 };
 
+/// What `replay` of `guest.rec` is asked, with these bytes and objects; whether what says of a hart isn't looked at.
+fn replay<'a>(
+    alloc: Global,
+    asked: Asked,
+    seen: &[Bytes],
+    objects: &[&'a str],
+    is_unread: bool,
+) -> Result<Replay<'a>, AllocError> {
+    let seen = Vec::from_slice(alloc, seen)?;
+    let objects = Vec::from_slice(alloc, objects)?;
+    Ok(Replay {
+        recording: "guest.rec",
+        workers: asked.workers,
+        round: asked.round,
+        hart: asked.hart,
+        count: asked.count,
+        how_many: asked.how_many,
+        place: asked.place,
+        seen,
+        objects,
+        every: asked.every,
+        progress: asked.progress,
+        hart_is_unread: is_unread,
+        count_is_unread: is_unread,
+        seen_is_unread: is_unread,
+        object_is_unread: is_unread,
+    })
+}
+
+/// Lines of `replay`, with every option and with none, and what they say.
+static REPLAYS: [(&str, Asked); 5] = [
+    ("dethart replay guest.rec", NOTHING_ASKED),
+    (
+        "dethart replay --workers 2 guest.rec --round 4294967295 --hart=3 --count 18446744073709551615 --every=0 --progress",
+        Asked {
+            workers: 2,
+            round: Some(4294967295),
+            hart: 3,
+            count: 18446744073709551615,
+            every: 0,
+            progress: true,
+            ..NOTHING_ASKED
+        },
+    ),
+    (
+        "dethart replay guest.rec --round 5",
+        Asked {
+            round: Some(5),
+            ..NOTHING_ASKED
+        },
+    ),
+    (
+        "dethart replay guest.rec --round 5 --how-many",
+        Asked {
+            round: Some(5),
+            how_many: true,
+            ..NOTHING_ASKED
+        },
+    ),
+    (
+        "dethart replay guest.rec --place=7 --hart 2",
+        Asked {
+            hart: 2,
+            place: Some(7),
+            ..NOTHING_ASKED
+        },
+    ),
+];
+
 #[test]
-fn reads_replay(rt: HostRuntime) {
-    for (line, replay) in &REPLAYS {
-        assert!(rt; is_read(&rt, line, &Command::Replay(*replay)));
+fn reads_replay(rt: HostRuntime) -> Result<(), Fail> {
+    for (line, asked) in &REPLAYS {
+        let given = replay(rt.alloc(), *asked, &[], &[], false)?;
+        assert!(rt; is_read(&rt, line, &Command::Replay(given)), "{line}");
     }
+    Ok(())
+}
+
+/// The bytes that the lines below look at.
+static SEEN: [Bytes; 2] = [
+    Bytes {
+        address: 131072,
+        length: 8,
+    },
+    Bytes {
+        address: 24,
+        length: 1,
+    },
+];
+
+#[test]
+fn reads_what_a_hart_is_to_see(rt: HostRuntime) -> Result<(), Fail> {
+    let placed = Asked {
+        hart: 2,
+        place: Some(7),
+        ..NOTHING_ASKED
+    };
+    let line =
+        "dethart replay guest.rec --see 0x20000 8 --place 7 --see-object=count --hart 2 --see 24 1";
+    let given = replay(rt.alloc(), placed, SEEN.as_slice(), &["count"], false)?;
+    assert!(rt; is_read(&rt, line, &Command::Replay(given)));
+    let unread = Asked {
+        hart: 2,
+        count: 1,
+        ..NOTHING_ASKED
+    };
+    let line =
+        "dethart replay guest.rec --see 0x20000 8 --count 1 --see-object=count --hart 2 --see 24 1";
+    let given = replay(rt.alloc(), unread, SEEN.as_slice(), &["count"], true)?;
+    assert!(rt; is_read(&rt, line, &Command::Replay(given)));
+    Ok(())
 }
 
 #[test]

@@ -149,7 +149,7 @@ fn refuses_bad_words(rt: HostRuntime) {
 }
 
 /// Lines with options that contradict each other, and one with each but the other.
-static CONTRADICTIONS: [(&str, &str); 16] = [
+static CONTRADICTIONS: [(&str, &str); 21] = [
     (
         "dethart run a --plan-number 3 --quota 5",
         "dethart run a --quota 5",
@@ -201,6 +201,26 @@ static CONTRADICTIONS: [(&str, &str); 16] = [
     (
         "dethart replay a --how-many",
         "dethart replay a --round 1 --how-many",
+    ),
+    (
+        "dethart replay a --round 1 --how-many --see 0 1",
+        "dethart replay a --round 1 --see 0 1",
+    ),
+    (
+        "dethart replay a --round 1 --how-many --see-object b",
+        "dethart replay a --round 1 --see-object b",
+    ),
+    (
+        "dethart execution a --weak",
+        "dethart execution a --weak --plan-number 3",
+    ),
+    (
+        "dethart execution a --weak --quota 5",
+        "dethart execution a --quota 5",
+    ),
+    (
+        "dethart execution a --weak --plan-number 3 --budget 1",
+        "dethart hunt a --harts 2 --weak",
     ),
     (
         "dethart draw a --from 3 --to 2",

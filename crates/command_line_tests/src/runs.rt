@@ -1,7 +1,7 @@
 //! Lines that run a program by one plan.
 
 use crate::harness::{DEFAULT_PLAN, DEFAULTS, are_read, is_read};
-use command_line::{Command, Draw, PlanChoice, Print, Program, Record, Run, Shown};
+use command_line::{Command, Draw, Execution, PlanChoice, Print, Program, Record, Run, Shown};
 use std::test::Fail;
 
 /// Lines of `run`, with the options beside each other that go together and with none, and what they say.
@@ -102,6 +102,41 @@ fn reads_run(rt: HostRuntime) {
 #[test]
 fn reads_order(rt: HostRuntime) {
     assert!(rt; is_read(&rt, "dethart order guest.elf", &Command::Order(DEFAULTS)));
+}
+
+/// Lines of `execution`, and what they say of the plan.
+static EXECUTIONS: [(&str, Execution<'static>); 2] = [
+    (
+        "dethart execution guest.elf",
+        Execution {
+            run: DEFAULTS,
+            weak: false,
+        },
+    ),
+    (
+        "dethart execution guest.elf --plan-number 7 --weak --seed=9",
+        Execution {
+            run: Run {
+                plan: PlanChoice {
+                    number: Some(7),
+                    seed: 9,
+                    ..DEFAULT_PLAN
+                },
+                ..DEFAULTS
+            },
+            weak: true,
+        },
+    ),
+];
+
+#[test]
+fn reads_execution(rt: HostRuntime) {
+    for (line, execution) in &EXECUTIONS {
+        assert!(rt;
+            is_read(&rt, line, &Command::Execution(*execution)),
+            "{line}"
+        );
+    }
 }
 
 #[test]

@@ -3,7 +3,7 @@ use Rattle.clap.specs.Simple.{built, is_simple}
 use Rattle.clap.specs.Faults.{is_simple_and_free}
 use Rattle.std.specs.Prelude.{IfOk}
 use Rattle.clap.specs.Words.{App, FailsBy, HasKind, Kinds, Row, Text, fault_of, found_of, rows_of, subcommand_name_of, subcommand_of, subcommand_rows_of}
-use Rattle.command_line.specs.Options.{dethart_app}
+use Rattle.command_options.specs.Options.{dethart_app}
 use Rattle.command_line.specs.Faults.{line_fault}
 use Rattle.command_line.specs.Reading.{HoldsLine, IsSubcommand}
 use Rattle.command_line.proofs.Lines.{Met, after_clap, is_known, kept_first, name_of, simple, simple_and_free, some_is, takes_one}

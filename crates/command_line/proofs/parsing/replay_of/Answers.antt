@@ -16,8 +16,12 @@ returns c =
       count = c.wide_number_of.ensures ∙ ap (wide_number_or 0) (one_text-rows f (codes "count"));
       how_many = c.is_set.ensures;
       place = c.wide_given.ensures ∙ ap (number_given 64) (one_text-rows f (codes "place"));
+      seen = c.in_ok-seen.ensures;
+      objects = c.in_ok-objects.ensures;
       every = c.number_of-3.ensures ∙ ap (number_or 64) (one_text-rows f (codes "every"));
       progress = (λ e. c.get_flag.ensures.value (one_text-rows f (codes "progress") ∙ e), λ e. c.get_flag.ensures.other (one_text-rows f (codes "progress") ∙ e), λ e. c.get_flag.ensures.none (one_text-rows f (codes "progress") ∙ e));
       hart_is_unread = c.is_unread.ensures;
       count_is_unread = c.is_unread-2.ensures;
+      seen_is_unread = c.is_unread-3.ensures;
+      object_is_unread = c.is_unread-4.ensures;
     }

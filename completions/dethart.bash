@@ -1,0 +1,38 @@
+# Completes the words of dethart in bash that has read it: . completions/dethart.bash. Made by checks/completions of docs/help.
+
+_dethart() {
+    local word=${COMP_WORDS[COMP_CWORD]} before=${COMP_WORDS[COMP_CWORD - 1]} command=${COMP_WORDS[1]} words=
+    COMPREPLY=()
+    case "$COMP_CWORD:$command $before" in
+        1:*) words='run order record replay watch migrate hunt shrink merge plan draw trace execution check help version --help --version' ;;
+        2:'help help') words='run order record replay watch migrate hunt shrink merge plan draw trace execution check' ;;
+        *:'run --show') words='report output harts' ;;
+        *:'hunt --fail-on') words='differ bad never' ;;
+        *:'trace --as') words='perfetto' ;;
+        *:*' --harts' | *:*' --pages' | *:*' --rounds' | *:*' --workers' | *:*' --quota' | *:*' --budget' | *:*' --plan-number' | *:*' --seed' | *:*' --every' | *:*' --round' | *:*' --hart' | *:*' --count' | *:*' --place' | *:*' --see' | *:*' --see-object' | *:*' --from' | *:*' --to' | *:*' --plans' | *:*' --first') return ;;
+        *) [ "${COMP_WORDS[COMP_CWORD - 2]}" != --see ] || return ;;
+    esac
+    [[ $word == -* && -z $words ]] && case $command in
+        run) words='--flat --harts --pages --rounds --workers --input --progress --quota --plan --budget --plan-number --seed --show --no-trace --strict --help' ;;
+        order) words='--flat --harts --pages --rounds --workers --input --progress --quota --plan --budget --plan-number --seed --help' ;;
+        record) words='--flat --harts --pages --rounds --workers --input --progress --quota --plan --budget --plan-number --seed --every --help' ;;
+        replay) words='--workers --progress --every --round --hart --count --how-many --place --see --see-object --help' ;;
+        watch) words='--see --see-object --hart --stores --pc --from --to --workers --progress --help' ;;
+        migrate) words='--help' ;;
+        hunt) words='--flat --harts --pages --rounds --workers --input --progress --seed --see --see-object --plans --first --fail-on --weak --help' ;;
+        shrink) words='--flat --harts --pages --rounds --workers --input --progress --seed --see --see-object --plan-number --help' ;;
+        merge) words='--help' ;;
+        plan) words='--harts --seed --help' ;;
+        draw) words='--flat --harts --pages --rounds --workers --input --progress --quota --plan --budget --plan-number --seed --see --see-object --from --to --help' ;;
+        trace) words='--flat --harts --pages --rounds --workers --input --progress --quota --plan --budget --plan-number --seed --as --help' ;;
+        execution) words='--flat --harts --pages --rounds --workers --input --progress --quota --plan --budget --plan-number --seed --weak --help' ;;
+        check) words='--help' ;;
+    esac
+    if [ -n "$words" ]; then
+        COMPREPLY=($(compgen -W "$words" -- "$word"))
+    elif [[ $word != -* ]]; then
+        COMPREPLY=($(compgen -f -- "$word"))
+    fi
+}
+
+complete -o filenames -F _dethart dethart ./dethart
