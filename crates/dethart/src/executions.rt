@@ -1,9 +1,10 @@
 //! The commands of executions: a run as one, and whether RVWMO allows one.
 
 use crate::failure::Failure;
-use crate::files::read_file;
+use crate::files::{read_file, read_program};
+use crate::hunting::program_settings;
 use crate::run::{progress_of, read_run, settings_of};
-use command_line::{Check, Run};
+use command_line::{Check, Execution, Run};
 use execution_scripts::{
     Checked, ExecutionFile, Finding, ReadError, Refusal, Verdict, check_file, execution_of_run,
     read_execution, write_execution,
@@ -14,9 +15,37 @@ use std::alloc::{AllocError, Global};
 use std::io::Write;
 use std::sync::Wait;
 use std::thread::Threads;
+use weak_hunter::weak_execution;
+
+/// Writes an execution of a guest program: that of a number, or a run.
+pub(crate) fn write_execution_of<R: Threads + Wait + Sync, W: Write>(
+    rt: &HostRuntime,
+    threads: &R,
+    asked: &Execution<'_>,
+    out: &mut W,
+) -> Result<(), Failure> {
+    match (asked.weak, asked.run.plan.number) {
+        (true, Some(number)) => write_weak_execution(rt, &asked.run, number, out),
+        _ => write_run_as_execution(rt, threads, &asked.run, out),
+    }
+}
+
+/// Writes the execution of a number, in which loads come early and stores late.
+fn write_weak_execution<W: Write>(
+    rt: &HostRuntime,
+    run: &Run<'_>,
+    number: u32,
+    out: &mut W,
+) -> Result<(), Failure> {
+    let program = &run.program;
+    let files = read_program(rt, program)?;
+    let settings = program_settings(rt.alloc(), program, run.plan.seed);
+    let file = weak_execution(rt.alloc(), &files.image, &files.input, &settings, number)?;
+    Ok(write_execution(rt.alloc(), &file, &mut WriteSink::new(out))?)
+}
 
 /// Runs the guest program, and writes the run as an execution.
-pub(crate) fn write_execution_of<R: Threads + Wait + Sync, W: Write>(
+fn write_run_as_execution<R: Threads + Wait + Sync, W: Write>(
     rt: &HostRuntime,
     threads: &R,
     run: &Run<'_>,

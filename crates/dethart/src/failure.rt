@@ -12,6 +12,7 @@ use hunter::HuntError;
 use replayer::ReadError;
 use std::alloc::{AllocError, AllocFailed};
 use std::io;
+use weak_hunter::WeakHuntError;
 
 /// Why a file couldn't be opened or read.
 #[derive(Clone, Copy, Debug, PartialEq, Eq, Drop)]
@@ -49,6 +50,8 @@ pub(crate) enum Failure {
     NoExecution(Cause, usize),
     /// The hunt was refused.
     Hunt(HuntError),
+    /// The weak hunt was refused.
+    WeakHunt(WeakHuntError),
     /// The tables weren't merged.
     Merge(MergeError),
     /// The file of this path has no table.
@@ -84,6 +87,15 @@ impl From<HuntError> for Failure {
 
     fn from(error: HuntError) -> Failure {
         Failure::Hunt(error)
+    }
+}
+
+impl From<WeakHuntError> for Failure {
+    fn from(error: WeakHuntError) -> Failure {
+        match error {
+            WeakHuntError::Hunt(error) => Failure::Hunt(error),
+            error => Failure::WeakHunt(error),
+        }
     }
 }
 
@@ -141,6 +153,7 @@ impl Failure {
             Failure::Unread(error) => Some(error.number()),
             Failure::NoExecution(cause, _) => Some(cause.number()),
             Failure::Hunt(error) => Some(error.number()),
+            Failure::WeakHunt(error) => Some(error.number()),
             Failure::Merge(error) => Some(error.number()),
             Failure::NotATable(_) => Some(MergeError::NotATable.number()),
             Failure::Apart(_, _, _) => Some(MergeError::Apart.number()),
@@ -177,6 +190,7 @@ impl Failure {
             Failure::Unread(error) => eprintln!(rt; "{error}"),
             Failure::NoExecution(cause, line) => { eprintln!(rt; "{cause}: line {line}") }
             Failure::Hunt(error) => eprintln!(rt; "{error}"),
+            Failure::WeakHunt(error) => eprintln!(rt; "{error}"),
             Failure::Merge(error) => eprintln!(rt; "{error}"),
             Failure::NotATable(path) => eprintln!(rt; "the file {path} is no table of a hunt"),
             Failure::Apart(last, path, apart) => {

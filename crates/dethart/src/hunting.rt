@@ -1,19 +1,21 @@
 //! The commands that run a guest by many plans.
+ghost use Rattle.std.specs.Prelude.{◌≡◌, IfOk, false};
 
 use crate::failure::Failure;
 use crate::files::{ProgramFiles, read_program};
 use crate::progress::Progress;
 use crate::ranges::{NamedBytes, named_bytes, seen_ranges};
 use crate::run::format_of;
-use command_line::{Hunt, Search, Shrink};
+use command_line::{Hunt, Program, Search, Shrink};
 use host_io::{WriteSink, put_all};
-use hunt_table::{Header, SeenRange};
-use hunter::{HuntSettings, hunt, shrink};
+use hunt_table::Header;
+use hunter::{HuntObserver, HuntSettings, hunt, shrink};
 use plan_hunt::Row;
 use std::alloc::{AllocError, Global};
 use std::io::Write;
 use std::sync::Wait;
 use std::thread::Threads;
+use weak_hunter::hunt_weakly;
 
 /// Hunts, and writes the table of endings. Answers its rows.
 pub(crate) fn write_hunt<R: Threads + Wait + Sync, W: Write>(
@@ -24,20 +26,29 @@ pub(crate) fn write_hunt<R: Threads + Wait + Sync, W: Write>(
 ) -> Result<Vec<Row>, Failure> {
     let files = read_program(rt, &asked.search.program)?;
     let named = named_in(rt.alloc(), &asked.search, &files)?;
-    let ranges = seen_ranges(rt.alloc(), &named.bytes)?;
-    let settings = settings_of(&asked.search, ranges, asked.first, asked.plans);
+    let mut settings = settings_of(rt.alloc(), &asked.search, &named, asked.first, asked.plans)?;
+    settings.header.is_weak = asked.weak;
     let mut progress = Progress::new(rt, asked.search.program.progress, asked.plans);
-    let answer = hunt(
-        threads,
-        rt.alloc(),
-        &files.image,
-        &files.input,
-        &settings,
-        &mut progress,
-        &mut WriteSink::new(out),
-    );
+    let answer = rows_of(threads, rt.alloc(), &files, &settings, &mut progress, out);
     progress.end();
     named.explain(answer)
+}
+
+/// Hunts by plans or, where the table is to be a weak one, by executions, and writes the table of endings. Answers its rows.
+fn rows_of<R: Threads + Wait + Sync, O: HuntObserver, W: Write>(
+    threads: &R,
+    alloc: Global,
+    files: &ProgramFiles,
+    settings: &HuntSettings,
+    observer: &mut O,
+    out: &mut W,
+) -> Result<Vec<Row>, Failure> {
+    let mut sink = WriteSink::new(out);
+    let (image, input) = (files.image.as_slice(), files.input.as_slice());
+    if settings.header.is_weak {
+        return Ok(hunt_weakly(threads, alloc, image, input, settings, observer, &mut sink)?);
+    }
+    Ok(hunt(threads, alloc, image, input, settings, observer, &mut sink)?)
 }
 
 /// Looks for a smaller plan that leads to the same ending, and writes it. Answers its budget, which is no part of the text.
@@ -49,8 +60,7 @@ pub(crate) fn write_shrunk<R: Threads + Wait + Sync, W: Write>(
 ) -> Result<u32, Failure> {
     let files = read_program(rt, &asked.search.program)?;
     let named = named_in(rt.alloc(), &asked.search, &files)?;
-    let ranges = seen_ranges(rt.alloc(), &named.bytes)?;
-    let settings = settings_of(&asked.search, ranges, asked.plan_number, 1);
+    let settings = settings_of(rt.alloc(), &asked.search, &named, asked.plan_number, 1)?;
     let mut progress = Progress::new(rt, asked.search.program.progress, 0);
     let answer = shrink(
         threads,
@@ -62,7 +72,7 @@ pub(crate) fn write_shrunk<R: Threads + Wait + Sync, W: Write>(
         &mut progress,
     );
     progress.end();
-    let plan = named.explain(answer)?;
+    let plan = named.explain(answer.map_err(Failure::Hunt))?;
     put_all(&mut WriteSink::new(out), plan.text(rt.alloc())?.as_slice())?;
     Ok(plan.budget())
 }
@@ -82,14 +92,27 @@ fn named_in(
     )
 }
 
-/// What the line says of a hunt by so many plans from a first one on, with the ranges that are looked at when a run ends.
+/// What the line says of a hunt by so many plans from a first one on, with the bytes that are looked at when a run ends.
 fn settings_of(
+    alloc: Global,
     search: &Search<'_>,
-    ranges: Vec<SeenRange>,
+    named: &NamedBytes,
     first: u32,
     count: u32,
-) -> HuntSettings {
-    let program = &search.program;
+) -> Result<HuntSettings, AllocError>
+    ensures { IfOk result (λ s. s.header.is_weak ≡ false) }
+{
+    let mut settings = program_settings(alloc, &search.program, search.seed);
+    settings.header.first = first;
+    settings.header.count = count;
+    settings.header.ranges = seen_ranges(alloc, &named.bytes, &search.objects)?;
+    Ok(settings)
+}
+
+/// What the line says of a program, as settings of a hunt by no plan of a seed, in which no bytes are looked at.
+pub(crate) fn program_settings(alloc: Global, program: &Program<'_>, seed: u64) -> HuntSettings
+    ensures { result.header.is_weak ≡ false }
+{
     HuntSettings {
         format: format_of(program),
         harts: program.harts,
@@ -97,10 +120,11 @@ fn settings_of(
         rounds: program.rounds,
         workers: program.workers,
         header: Header {
-            seed: search.seed,
-            first,
-            count,
-            ranges,
+            is_weak: false,
+            seed,
+            first: 0,
+            count: 0,
+            ranges: Vec::new(alloc),
         },
     }
 }

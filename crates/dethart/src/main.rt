@@ -87,7 +87,7 @@ fn obey<R: Threads + Wait + Sync>(
         Command::Plan(asked) => print_plan(rt, asked),
         Command::Draw(asked) => print_drawing(rt, threads, asked),
         Command::Trace(run) => print_trace(rt, threads, run),
-        Command::Execution(run) => print_execution(rt, threads, run),
+        Command::Execution(asked) => print_execution(rt, threads, asked),
         Command::Check(asked) => print_check(rt, asked),
     }
 }

@@ -4,7 +4,7 @@ use crate::failure::Failure;
 use crate::files::read_file;
 use command_line::Merge;
 use host_io::WriteSink;
-use hunt_table::{MergeError, ReadError, SeenRange, Table, merge, read_table};
+use hunt_table::{MergeError, ReadError, Table, are_same_ranges, merge, read_table};
 use std::alloc::{AllocError, Global};
 use std::io::Write;
 
@@ -19,6 +19,8 @@ struct Slice<'a> {
 /// How a table isn't that of the slice which follows on another one.
 #[derive(Clone, Copy, Debug, PartialEq, Eq, Drop)]
 pub(crate) enum Apart {
+    /// Its executions are made otherwise.
+    Kind,
     /// Its hunt has another seed.
     Seed,
     /// Its hunt looks at other bytes.
@@ -35,6 +37,7 @@ impl Apart {
     /// What is said of it.
     pub(crate) fn words(self) -> &'static str {
         match self {
+            Apart::Kind => "one hunt is weak, and the other isn't",
             Apart::Seed => "it has another seed",
             Apart::Bytes => "it has other bytes that are seen",
             Apart::Harts => "it has another number of harts",
@@ -98,9 +101,11 @@ fn first_apart(alloc: Global, slices: &[Slice<'_>]) -> Result<Option<Failure>, A
 fn apart_from(last: &Table, next: &Table) -> Option<Apart> {
     let end = u64::from(last.header.first) + u64::from(last.header.count);
     let first = u64::from(next.header.first);
-    if last.header.seed != next.header.seed {
+    if last.header.is_weak != next.header.is_weak {
+        Some(Apart::Kind)
+    } else if last.header.seed != next.header.seed {
         Some(Apart::Seed)
-    } else if !are_same(&last.header.ranges, &next.header.ranges) {
+    } else if !are_same_ranges(&last.header.ranges, &next.header.ranges) {
         Some(Apart::Bytes)
     } else if harts_of(last) != harts_of(next) {
         Some(Apart::Harts)
@@ -111,11 +116,6 @@ fn apart_from(last: &Table, next: &Table) -> Option<Apart> {
     } else {
         None
     }
-}
-
-/// Whether two tables tell of the same ranges of bytes.
-fn are_same(ranges: &[SeenRange], others: &[SeenRange]) -> bool {
-    ranges == others
 }
 
 /// How many harts the runs of a table have.

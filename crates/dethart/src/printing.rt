@@ -12,7 +12,9 @@ use crate::plans::write_plan;
 use crate::recordings::{Replayed, write_replay, write_watch};
 use crate::repeating::{tell_endings, tell_plan, tell_shrunk};
 use crate::run::{write_order_of, write_run};
-use command_line::{Check, Draw, FailOn, Hunt, Merge, Plan, Print, Replay, Run, Shrink, Watch};
+use command_line::{
+    Check, Draw, Execution, FailOn, Hunt, Merge, Plan, Print, Replay, Run, Shrink, Watch,
+};
 use hunter::{all_end_well, is_one_exit};
 use plan_hunt::Row;
 use std::sync::Wait;
@@ -178,14 +180,14 @@ pub(crate) fn print_trace<R: Threads + Wait + Sync>(
     Ok(Answer::Done)
 }
 
-/// Runs the guest program, and prints the run as an execution.
+/// Prints an execution of the guest program.
 pub(crate) fn print_execution<R: Threads + Wait + Sync>(
     rt: &HostRuntime,
     threads: &R,
-    run: &Run<'_>,
+    asked: &Execution<'_>,
 ) -> Result<Answer, Failure> {
     let mut out = standard_output(rt)?;
-    let written = write_execution_of(rt, threads, run, &mut out);
+    let written = write_execution_of(rt, threads, asked, &mut out);
     finish(out, written)?;
     Ok(Answer::Done)
 }

@@ -2,6 +2,7 @@
 
 use hunter::{HuntObserver, ShrinkObserver};
 use machine::{Observer, UntracedMachine};
+use plan_hunt::{Row, are_well};
 use std::time::Instant;
 
 /// How many plans the first block of a hunt has, where it is told how far that is.
@@ -110,10 +111,16 @@ impl Observer for Progress<'_> {
 }
 
 impl HuntObserver for Progress<'_> {
-    fn before_block(&mut self, done: u32) -> u32 {
+    fn before_block(&mut self, done: u32, rows: &[Row]) -> u32 {
         if let Some(seconds) = self.next_second() {
-            let all = self.all;
-            let _unwritten = eprint!(self.rt; "\rplan {done} of {all}, {seconds} s\x1b[K");
+            let (all, endings) = (self.all, rows.len());
+            let bad = rows
+                .iter()
+                .filter(|row| !are_well(row.ending.stops()))
+                .count();
+            let _unwritten = eprint!(self.rt;
+                "\rplan {done} of {all}, {endings} endings, {bad} of them bad, {seconds} s\x1b[K"
+            );
         }
         self.next_block()
     }

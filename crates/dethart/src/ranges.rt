@@ -4,7 +4,7 @@ use crate::failure::Failure;
 use command_line::{Bytes, Watch};
 use elf_symbols::{find_object, has_symbol_table};
 use host_io::RunError;
-use hunt_table::SeenRange;
+use hunt_table::{RangeName, SeenRange};
 use hunter::HuntError;
 use pages::Range;
 use replayer::Recording;
@@ -110,10 +110,10 @@ fn numbered_names(alloc: Global, image: &[u8], name: &str) -> Result<String, All
 
 impl NamedBytes {
     /// What came of a hunt that was asked to look at the bytes.
-    pub(crate) fn explain<T: Drop>(self, answer: Result<T, HuntError>) -> Result<T, Failure> {
+    pub(crate) fn explain<T: Drop>(self, answer: Result<T, Failure>) -> Result<T, Failure> {
         match (answer, self.fault) {
-            (Err(HuntError::SeenOutside), Some(fault)) => Err(fault),
-            (answer, _) => Ok(answer?),
+            (Err(Failure::Hunt(HuntError::SeenOutside)), Some(fault)) => Err(fault),
+            (answer, _) => answer,
         }
     }
 }
@@ -124,17 +124,35 @@ pub(crate) fn is_in_memory(bytes: &Bytes, pages: u32) -> bool {
     bytes.length >= 1 && end <= 4096 * u128::from(pages)
 }
 
-/// The ranges that are looked at when a run ends. A number of more than 32 bits stands as the greatest of 32: memory has
-/// neither.
-pub(crate) fn seen_ranges(alloc: Global, named: &[Bytes]) -> Result<Vec<SeenRange>, AllocError> {
+/// The ranges that are looked at when a run ends, of which the last are the objects of these names. A number of more than 32 bits
+/// stands as the greatest of 32: memory has neither.
+pub(crate) fn seen_ranges(
+    alloc: Global,
+    named: &[Bytes],
+    objects: &[&str],
+) -> Result<Vec<SeenRange>, AllocError> {
     let mut ranges = Vec::new(alloc);
-    for bytes in named {
+    let unnamed = named.len().saturating_sub(objects.len());
+    for (place, bytes) in named.iter().enumerate() {
+        let object = match place.checked_sub(unnamed) {
+            Some(number) => objects.get(number),
+            None => None,
+        };
         ranges.push(SeenRange {
             address: u32::try_from(bytes.address).unwrap_or(u32::MAX),
             length: u32::try_from(bytes.length).unwrap_or(u32::MAX),
+            name: name_of(alloc, object)?,
         })?;
     }
     Ok(ranges)
+}
+
+/// The name of an object as a table has it; none where it has a character that stands in no name there.
+fn name_of(alloc: Global, object: Option<&&str>) -> Result<Option<RangeName>, AllocError> {
+    match object {
+        Some(name) => Ok(RangeName::of(Vec::from_slice(alloc, name.as_bytes())?)),
+        None => Ok(None),
+    }
 }
 
 /// The ranges whose accesses are looked at.

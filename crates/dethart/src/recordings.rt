@@ -3,16 +3,18 @@
 use crate::failure::Failure;
 use crate::files::read_recording_of;
 use crate::progress::Progress;
-use crate::ranges::{access_ranges, is_in_memory, watched_bytes};
+use crate::ranges::{
+    NamedBytes, access_ranges, is_in_memory, named_bytes, seen_ranges, watched_bytes,
+};
 use crate::run::{progress_of, read_run, settings_of};
 use crate::saving::save;
 use command_line::{Bytes, Migrate, Record, Replay, Watch};
-use hart_step::Hart;
 use host_io::{RunError, Sink, WriteSink, put_all};
+use hunt_table::{SeenRange, write_seen};
 use machine::Unobserved;
 use replayer::{
-    Hit, Recording, Rounds, Verdict, choose, count_at, migrate, pcs_before, record_observed,
-    replay_observed, state_at, state_before, watch_rounds,
+    Hit, Recording, Rounds, Sight, Verdict, choose, count_at, migrate, pcs_before, record_observed,
+    replay_observed, sight_at, state_before, watch_rounds,
 };
 use report::{write_event, write_hart};
 use std::alloc::Global;
@@ -117,10 +119,10 @@ fn write_verdict<W: Write>(
 enum Told {
     /// How many instructions it did in the round.
     Count(u64),
-    /// The hart itself, within the round that was asked for.
-    Hart(Hart),
-    /// The round in which it did an instruction, and the hart before it.
-    Before(u32, Hart),
+    /// The hart itself and what it saw, within the round that was asked for.
+    Within(Sight),
+    /// The round in which it did an instruction, and the hart before it and what it saw.
+    Before(u32, Sight),
     /// There is no such round, hart, count or place.
     None,
 }
@@ -132,18 +134,67 @@ fn write_answer<R: Threads + Wait + Sync, W: Write>(
     recording: &Recording,
     asked: &Replay<'_>,
     out: &mut W,
-) -> Result<(), RunError> {
-    let told = tell(alloc, threads, recording, asked)?;
-    let mut sink = WriteSink::new(out);
-    match told {
-        Told::Count(count) => put_number(alloc, "count", count, &mut sink),
-        Told::Hart(hart) => write_hart(alloc, asked.hart, &hart, &mut sink),
-        Told::Before(round, hart) => {
-            put_number(alloc, "round", u64::from(round), &mut sink)?;
-            write_hart(alloc, asked.hart, &hart, &mut sink)
-        }
-        Told::None => put_all(&mut sink, b"none\n"),
+) -> Result<(), Failure> {
+    let NamedBytes { bytes, fault } = named_bytes(
+        alloc,
+        recording.image(),
+        recording.pages(),
+        &asked.seen,
+        &asked.objects,
+    )?;
+    if let Some(fault) = fault {
+        refuse_recording(alloc, threads, recording, asked.workers)?;
+        return Err(fault);
     }
+    let seen = seen_ranges(alloc, &bytes, &asked.objects)?;
+    let told = tell(alloc, threads, recording, asked)?;
+    write_told(alloc, asked.hart, &told, &seen, out)
+}
+
+/// Writes what was found of a hart's past.
+fn write_told<W: Write>(
+    alloc: Global,
+    hart: u32,
+    told: &Told,
+    seen: &[SeenRange],
+    out: &mut W,
+) -> Result<(), Failure> {
+    Ok(put_told(alloc, hart, told, seen, &mut WriteSink::new(out))?)
+}
+
+/// Puts what was found of a hart's past.
+fn put_told<S: Sink>(
+    alloc: Global,
+    hart: u32,
+    told: &Told,
+    seen: &[SeenRange],
+    sink: &mut S,
+) -> Result<(), RunError> {
+    match told {
+        Told::Count(count) => put_number(alloc, "count", *count, sink),
+        Told::Within(sight) => put_sight(alloc, hart, sight, seen, sink),
+        Told::Before(round, sight) => {
+            put_number(alloc, "round", u64::from(*round), sink)?;
+            put_sight(alloc, hart, sight, seen, sink)
+        }
+        Told::None => put_all(sink, b"none\n"),
+    }
+}
+
+/// Puts a hart's lines, and a line for each of these ranges of memory as it sees them.
+fn put_sight<S: Sink>(
+    alloc: Global,
+    number: u32,
+    sight: &Sight,
+    seen: &[SeenRange],
+    sink: &mut S,
+) -> Result<(), RunError> {
+    write_hart(alloc, number, &sight.hart(), sink)?;
+    for range in seen {
+        let bytes = sight.bytes(alloc, u64::from(range.address), u64::from(range.length))?;
+        write_seen(alloc, range, &bytes, sink)?;
+    }
+    Ok(())
 }
 
 /// Runs the recording anew as far as a question needs it.
@@ -155,16 +206,36 @@ fn tell<R: Threads + Wait + Sync>(
 ) -> Result<Told, RunError> {
     let (hart, workers) = (asked.hart, asked.workers);
     if let Some(place) = asked.place {
-        let before = state_before(threads, alloc, recording, hart, place, workers)?;
-        return Ok(before.map_or(Told::None, |(round, hart)| Told::Before(round, hart)));
+        return tell_before(alloc, threads, recording, hart, place, workers);
     }
     let round = asked.round.unwrap_or(0);
     if asked.how_many {
         let count = count_at(threads, alloc, recording, round, hart, workers)?;
         return Ok(count.map_or(Told::None, Told::Count));
     }
-    let state = state_at(threads, alloc, recording, round, hart, asked.count, workers)?;
-    Ok(state.map_or(Told::None, Told::Hart))
+    let sight = sight_at(threads, alloc, recording, round, hart, asked.count, workers)?;
+    Ok(sight.map_or(Told::None, Told::Within))
+}
+
+/// What a hart was and saw before its instruction at a place of the run: in the round of that instruction, after as many instructions as
+/// lie between the round's start and the place.
+fn tell_before<R: Threads + Wait + Sync>(
+    alloc: Global,
+    threads: &R,
+    recording: &Recording,
+    hart: u32,
+    place: u64,
+    workers: u32,
+) -> Result<Told, RunError> {
+    let Some((round, _)) = state_before(threads, alloc, recording, hart, place, workers)? else {
+        return Ok(Told::None);
+    };
+    let Some(start) = sight_at(threads, alloc, recording, round, hart, 0, workers)? else {
+        return Ok(Told::None);
+    };
+    let count = place.saturating_sub(start.hart().done);
+    let sight = sight_at(threads, alloc, recording, round, hart, count, workers)?;
+    Ok(sight.map_or(Told::None, |sight| Told::Before(round, sight)))
 }
 
 /// Puts a line of a word and a number.

@@ -5,18 +5,24 @@ use command_line::{Hunt, Plan, Program, Shrink};
 use plan_hunt::Row;
 use std::alloc::{AllocError, Global};
 
-/// Says on standard error, for each ending of a table, the line that runs the program by its first plan.
+/// Says on standard error, for each ending of a table, the line that runs the program by its first plan, or that writes its first
+/// execution.
 pub(crate) fn tell_endings(
     rt: &HostRuntime,
     asked: &Hunt<'_>,
     rows: &[Row],
 ) -> Result<(), AllocError> {
-    let program = line_of(rt.alloc(), &asked.search.program)?;
+    let (command, weak) = if asked.weak {
+        ("execution", " --weak")
+    } else {
+        ("run", "")
+    };
+    let program = line_of(rt.alloc(), command, &asked.search.program)?;
     let seed = asked.search.seed;
     for (place, row) in rows.iter().enumerate() {
         let (number, first) = (place.saturating_add(1), row.first);
         let _unwritten = eprintln!(rt;
-            "ending {number}: {program} --plan-number {first} --seed {seed}"
+            "ending {number}: {program}{weak} --plan-number {first} --seed {seed}"
         );
     }
     Ok(())
@@ -29,7 +35,7 @@ pub(crate) fn tell_shrunk(
     asked: &Shrink<'_>,
     budget: u32,
 ) -> Result<(), AllocError> {
-    let program = line_of(rt.alloc(), &asked.search.program)?;
+    let program = line_of(rt.alloc(), "run", &asked.search.program)?;
     let _unwritten = eprintln!(rt; "budget {budget}\n{program} --plan FILE --budget {budget}");
     Ok(())
 }
@@ -42,13 +48,13 @@ pub(crate) fn tell_plan(rt: &HostRuntime, asked: &Plan, budget: u32) {
     );
 }
 
-/// The line that runs a program, but for its plan: each option that the outcome depends on.
-fn line_of(alloc: Global, program: &Program<'_>) -> Result<String, AllocError> {
+/// The line of a command on a program, but for its plan: each option that the outcome depends on.
+fn line_of(alloc: Global, command: &str, program: &Program<'_>) -> Result<String, AllocError> {
     let image = quoted(alloc, program.image)?;
     let flat = if program.flat { " --flat" } else { "" };
     let (harts, pages, rounds) = (program.harts, program.pages, program.rounds);
     let mut line = format!(in alloc;
-        "dethart run {image}{flat} --harts {harts} --pages {pages} --rounds {rounds}"
+        "dethart {command} {image}{flat} --harts {harts} --pages {pages} --rounds {rounds}"
     )?;
     if let Some(path) = program.input {
         let input = quoted(alloc, path)?;

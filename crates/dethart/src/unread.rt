@@ -9,7 +9,7 @@ pub(crate) fn tell_unread(rt: &HostRuntime, command: &Command<'_>) {
         Command::Order(run) => tell_of_plan(rt, &run.plan),
         Command::Record(asked) => tell_of_plan(rt, &asked.run.plan),
         Command::Draw(asked) => tell_of_plan(rt, &asked.run.plan),
-        Command::Execution(run) => tell_of_plan(rt, &run.plan),
+        Command::Execution(asked) => tell_of_plan(rt, &asked.run.plan),
         Command::Replay(asked) => tell_of_replay(rt, asked),
         _ => {}
     }
@@ -27,5 +27,11 @@ fn tell_of_replay(rt: &HostRuntime, asked: &Replay<'_>) {
     }
     if asked.count_is_unread {
         let _unwritten = eprintln!(rt; "--count isn't looked at without --round");
+    }
+    if asked.seen_is_unread {
+        let _unwritten = eprintln!(rt; "--see isn't looked at without --round or --place");
+    }
+    if asked.object_is_unread {
+        let _unwritten = eprintln!(rt; "--see-object isn't looked at without --round or --place");
     }
 }

@@ -8,7 +8,7 @@ use host_io::{RunError, WriteSink};
 use hunt_table::{Header, SeenRange, write_table};
 use machine::Trace;
 use pages::Width;
-use picture::{View, write_picture};
+use picture::{Scene, View, write_picture};
 use plan_hunt::{Ending, HartEnding, Row};
 use recording::{read_recording, write_recording};
 use report::{write_event, write_hart, write_order};
@@ -221,8 +221,10 @@ fn header(alloc: Global) -> Result<Header, AllocError> {
     ranges.push(SeenRange {
         address: 0x100,
         length: 2,
+        name: None,
     })?;
     Ok(Header {
+        is_weak: false,
         seed: 1,
         first: 0,
         count: 5,
@@ -260,10 +262,10 @@ fn tables(rt: HostRuntime) -> Result<(), Fail> {
     Ok(())
 }
 
-/// The whole picture of a trace.
-fn picture_of(alloc: Global, trace: &Trace, view: &View<'_>) -> Result<Vec<u8>, RunError> {
+/// The whole picture of what is drawn.
+fn picture_of(alloc: Global, scene: &Scene<'_>, view: &View<'_>) -> Result<Vec<u8>, RunError> {
     let mut text = Vec::new(alloc);
-    write_picture(alloc, trace, &[], view, &mut WriteSink::new(&mut text))?;
+    write_picture(alloc, scene, view, &mut WriteSink::new(&mut text))?;
     Ok(text)
 }
 
@@ -276,9 +278,15 @@ fn pictures(rt: HostRuntime) -> Result<(), Fail> {
         from: 1,
         to: 1,
     };
-    let text = picture_of(alloc, &trace, &view)?;
+    let scene = Scene {
+        trace: &trace,
+        starts: &[],
+        ends: &[],
+        sites: &[],
+    };
+    let text = picture_of(alloc, &scene, &view)?;
     assert!(rt; text.starts_with(b"<svg") && text.ends_with(b"</svg>\n"));
-    let draw = |tray: &mut Tray| write_picture(alloc, &trace, &[], &view, tray);
+    let draw = |tray: &mut Tray| write_picture(alloc, &scene, &view, tray);
     assert!(rt; calls_to_write(alloc, &text, Stride::One, &draw) == Some(text.len()));
     assert!(rt; writes(alloc, &text, &[Stride::Hundred, Stride::All], &draw));
     Ok(())
