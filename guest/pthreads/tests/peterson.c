@@ -1,5 +1,5 @@
 // Peterson's algorithm for two, by plain loads and stores: without a fence between its own stores and the look at the other's
-// flag, both may come in. Mended, it has one. For 3 harts.
+// flag, both may come in. Mended, it has that one and all others that it needs. For 3 harts.
 #include <assert.h>
 #include <pthread.h>
 #include <stdio.h>
@@ -20,6 +20,7 @@ static void *enters(void *number)
     int me = (int)(long)number, other = 1 - me;
     for (int i = 0; i < TURNS; i++) {
         wants[me] = 1;
+        fence();
         turn = other;
         fence();
         while (wants[other] && turn == other)
