@@ -33,6 +33,7 @@ class Line:
     out: list = dataclasses.field(default_factory=list)
     out_file: str = ""
     counts: list = dataclasses.field(default_factory=list)
+    kept: str = ""
     told: list | None = dataclasses.field(default_factory=list)
     until: bytes = b""
     is_full: bool = False
@@ -236,6 +237,8 @@ def wanted(lines, mark, rest):
         elif mark == ">+":
             count, _, beginning = rest.partition(" ")
             line.counts.append((int(count), beginning.encode()))
+        elif mark == "keep":
+            line.kept = rest
         elif mark == "!":
             line.told = [*(line.told or []), GAP if rest == "..." else rest.encode() + b"\n"]
         elif mark == "status":
