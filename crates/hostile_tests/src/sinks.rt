@@ -4,7 +4,7 @@ use crate::devices::{Stride, Tray, calls_to_write, writes};
 use crate::harness::settings;
 use emulation::emulate;
 use hart_step::{Hart, Stop};
-use host_io::{RunError, WriteSink};
+use host_io::{RunError, Sink, WriteSink};
 use hunt_table::{Header, SeenRange, write_table};
 use machine::Trace;
 use pages::Width;
@@ -262,10 +262,26 @@ fn tables(rt: HostRuntime) -> Result<(), Fail> {
     Ok(())
 }
 
-/// The whole picture of what is drawn.
-fn picture_of(alloc: Global, scene: &Scene<'_>, view: &View<'_>) -> Result<Vec<u8>, RunError> {
+/// Writes the picture of a trace, of whose harts nothing is known.
+fn draw_trace<S: Sink>(
+    alloc: Global,
+    trace: &Trace,
+    view: &View<'_>,
+    out: &mut S,
+) -> Result<(), RunError> {
+    let scene = Scene {
+        trace,
+        starts: &[],
+        ends: &[],
+        sites: &[],
+    };
+    write_picture(alloc, &scene, view, out)
+}
+
+/// The whole picture of a trace.
+fn picture_of(alloc: Global, trace: &Trace, view: &View<'_>) -> Result<Vec<u8>, RunError> {
     let mut text = Vec::new(alloc);
-    write_picture(alloc, scene, view, &mut WriteSink::new(&mut text))?;
+    draw_trace(alloc, trace, view, &mut WriteSink::new(&mut text))?;
     Ok(text)
 }
 
@@ -278,15 +294,9 @@ fn pictures(rt: HostRuntime) -> Result<(), Fail> {
         from: 1,
         to: 1,
     };
-    let scene = Scene {
-        trace: &trace,
-        starts: &[],
-        ends: &[],
-        sites: &[],
-    };
-    let text = picture_of(alloc, &scene, &view)?;
+    let text = picture_of(alloc, &trace, &view)?;
     assert!(rt; text.starts_with(b"<svg") && text.ends_with(b"</svg>\n"));
-    let draw = |tray: &mut Tray| write_picture(alloc, &scene, &view, tray);
+    let draw = |tray: &mut Tray| draw_trace(alloc, &trace, &view, tray);
     assert!(rt; calls_to_write(alloc, &text, Stride::One, &draw) == Some(text.len()));
     assert!(rt; writes(alloc, &text, &[Stride::Hundred, Stride::All], &draw));
     Ok(())
