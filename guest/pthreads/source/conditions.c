@@ -54,8 +54,7 @@ static int await_signal(pthread_cond_t *cond, struct __waiter *waiter, const str
     __kit_lets_others_begin();
     while (!waiter->woken) {
         int reason = 0;
-        uint64_t now = round_number();
-        __kit_end_with_others();
+        uint64_t now = __kit_wait_till(until);
         if (__kit_is_cancelled())
             reason = ECANCELED;
         else if (until && now >= __kit_round_of(until))

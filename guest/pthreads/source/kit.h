@@ -67,11 +67,28 @@ static inline void __kit_end_with_others(void)
 
 // Waits.
 
-// One turn of a loop that waits for another hart. The call ends the hart's part of the round, is no event and orders nothing.
+// Ends the hart's part of the round: the call of a number that stands for nothing. It is no event, orders nothing, and leaves the
+// hart as it was, so that a hunt can tell a wait that never ends.
+enum { NO_CALL = -1, CALL_FOR_ROUND = 3 };
+
+static inline void __kit_end_part(void)
+{
+    call((uint64_t)NO_CALL, 0);
+}
+
+// One turn of a loop that waits for another hart.
 static inline void __kit_wait_a_round(void)
 {
-    round_number();
+    __kit_end_part();
     __kit_end_with_others();
+}
+
+// The same of a wait that may have an end by the clock, with the number of the round. It isn't asked for where there is no such end.
+static inline uint64_t __kit_wait_till(const struct timespec *until)
+{
+    uint64_t now = call(until ? CALL_FOR_ROUND : (uint64_t)NO_CALL, 0);
+    __kit_end_with_others();
+    return now;
 }
 
 // Comes before a loop that waits: the threads that this one created may begin now (threads.c says what for).

@@ -143,7 +143,7 @@ static struct __kit_thread *next_job(struct __kit_hart *hart)
 {
     struct __kit_thread *job;
     while (!(job = hart->job))
-        round_number(); // as __kit_wait_a_round, with one load less: __kit_end_all gives idle harts a job
+        __kit_end_part(); // as __kit_wait_a_round, with one load less: __kit_end_all gives idle harts a job
     acquire_fence();
     __kit_end_with_others();
     return job;

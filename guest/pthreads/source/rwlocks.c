@@ -47,8 +47,7 @@ static __attribute__((noinline)) int await_no_writer(pthread_rwlock_t *lock, con
         return EINVAL;
     __kit_lets_others_begin();
     do {
-        uint64_t now = round_number();
-        __kit_end_with_others();
+        uint64_t now = __kit_wait_till(until);
         error = try_read(lock);
         if (error == EBUSY && until && now >= __kit_round_of(until))
             return ETIMEDOUT;

@@ -52,8 +52,7 @@ static int await_one(sem_t *sem, const struct timespec *until)
     __kit_lets_others_begin();
     add_relaxed(&sem->waiting, 1);
     while (!reason && !take_one(sem)) {
-        uint64_t now = round_number();
-        __kit_end_with_others();
+        uint64_t now = __kit_wait_till(until);
         if (__kit_is_cancelled())
             reason = ECANCELED;
         else if (until && now >= __kit_round_of(until))

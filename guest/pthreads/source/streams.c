@@ -29,7 +29,7 @@ void __kit_flush_output(void)
 {
     enum { PATIENCE = 30000 }; // rounds: printf of a double has some 20,000 instructions
     for (int left = PATIENCE; left > 0 && __kit_kept_bytes && ftrylockfile(stdout); left--)
-        round_number();
+        __kit_end_part();
     put_out();
 }
 

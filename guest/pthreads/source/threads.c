@@ -218,8 +218,7 @@ int pthread_timedjoin_np(pthread_t handle, void **result, const struct timespec 
         return give_join_up(thread, EINVAL);
     __kit_lets_others_begin();
     while (!thread->done) {
-        uint64_t now = round_number();
-        __kit_end_with_others();
+        uint64_t now = __kit_wait_till(until);
         if (until && now >= __kit_round_of(until))
             return give_join_up(thread, ETIMEDOUT);
     }
