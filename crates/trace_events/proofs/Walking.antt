@@ -1,13 +1,14 @@
 -- The stores to a word, from the last one back.
-use Rattle.std.proofs.Common.{◌≡◌, ℕ, zero, suc, ◌+◌, ◌/◌, ◌%◌, ◌<◌, ◌≤◌, ◌==◌, ◌&&◌, Bool, true, false, inl, inr, List, [], ◌∷◌, length, get_or, Some, None, refl, sym, ap, subst, ◌∙◌, arith}
+use Rattle.std.proofs.Common.{◌≡◌, ℕ, zero, suc, ◌+◌, ◌/◌, ◌%◌, ◌<◌, ◌≤◌, ◌==◌, ◌&&◌, ◌||◌, nat_lt, Bool, true, false, inl, inr, List, [], ◌∷◌, length, get_or, Some, None, refl, sym, ap, subst, ◌∙◌, arith}
 use Rattle.std.proofs.lemmas.Bool.{cases_lt}
 use Rattle.std.proofs.lemmas.Bool.Decides.{nat_tests}
 use Rattle.pages.specs.Memory.{in_range}
 use Rattle.round_schedule.specs.declared.event.Event.{Event}
 use Rattle.round_schedule.specs.Accesses.{address_of, bytes_of, stores, writes}
+use Rattle.round_schedule.specs.Events.{is_serial}
 use Rattle.round_schedule.specs.Positions.{event, writes_at}
 use Rattle.byte_sources.specs.Sources.{gives, last_below, sees}
-use Rattle.trace_events.specs.Writers.{IndexesBy, LiesInWord, after_last, stores_word, word_at}
+use Rattle.trace_events.specs.Writers.{IndexesBy, IsPast, LiesInWord, after_last, is_same_bytes, is_same_doer, stores_word, word_at}
 
 -- what the place after the last one says
 pub record IsLast (test : ℕ → Bool) (n w : ℕ) : Type 0 where
@@ -83,7 +84,7 @@ any_default (x ∷ xs) (suc i) d e lt = any_default xs i d e (omega (arith, lt))
 
 -- ---- who gives a byte stores to its word
 
-both : (a b : Bool) → (a && b) ≡ true → (a ≡ true) × (b ≡ true)
+pub both : (a b : Bool) → (a && b) ≡ true → (a ≡ true) × (b ≡ true)
 both true b e = (refl, e)
 both false b e = cc
 
@@ -114,9 +115,49 @@ pub gives_is : (t : List Event) (place x v : ℕ) (a b : Event) (g is : Bool) �
 gives_is t place x v a b g is ea eb eg e =
     sym (eg ∙ ap (λ (z : Event). writes z.access x && sees b z) ea ∙ ap (λ (z : Event). writes (event t v).access x && sees z (event t v)) eb) ∙ e
 
+-- ---- events that don't give the byte for the same reason
+
+pub eq_of : (a b : ℕ) → (a == b) ≡ true → a ≡ b
+eq_of a b e = grind (arith, nat_tests)
+
+pub is_eq : (a b : ℕ) → a ≡ b → (a == b) ≡ true
+is_eq a b e = grind (arith, nat_tests)
+
+right_false : (a b : Bool) → b ≡ false → (a && b) ≡ false
+right_false true b e = e
+right_false false b e = refl
+
+left_false : (a b : Bool) → a ≡ false → (a && b) ≡ false
+left_false a b e = rw e refl
+
+rest_false : (a b : Bool) → a ≡ true → (a && b) ≡ false → b ≡ false
+rest_false a b t e = let f : (true && b) ≡ false = subst (λ (z : Bool). (z && b) ≡ false) t e in f
+
+sees_same : (r e f : Event) → e.round ≡ f.round → e.hart ≡ f.hart → sees r e ≡ sees r f
+sees_same r e f a b =
+    ap (λ (n : ℕ). is_serial r.phase || nat_lt n r.round || e.hart == r.hart) a ∙ ap (λ (h : ℕ). is_serial r.phase || nat_lt f.round r.round || h == r.hart) b
+
+pub unseen_too : (t : List Event) (r : Event) (x u v : ℕ) → sees r (event t v) ≡ false → is_same_doer (event t u) (event t v) ≡ true → gives t r x u ≡ false
+unseen_too t r x u v isnt same =
+    let d = both ((event t u).round == (event t v).round) ((event t u).hart == (event t v).hart) same in
+    right_false (writes_at t u x) (sees r (event t u))
+    (sees_same r (event t u) (event t v) (eq_of (event t u).round (event t v).round d.0) (eq_of (event t u).hart (event t v).hart d.1) ∙ isnt)
+
+pub unwritten_too : (t : List Event) (r : Event) (x u v : ℕ) → stores (event t v).access ≡ true → writes (event t v).access x ≡ false →
+    is_same_bytes (event t u) (event t v) ≡ true → gives t r x u ≡ false
+unwritten_too t r x u v s isnt same =
+    let au : ℕ = address_of (event t u).access in
+    let av : ℕ = address_of (event t v).access in
+    let nu : ℕ = bytes_of (event t u).access in
+    let nv : ℕ = bytes_of (event t v).access in
+    let d = both (au == av) (nu == nv) same in
+    let outside : in_range av nv x ≡ false = rest_false (stores (event t v).access) (in_range av nv x) s isnt in
+    let moved : in_range au nu x ≡ in_range av nv x = ap (λ (a : ℕ). in_range a nu x) (eq_of au av d.0) ∙ ap (λ (n : ℕ). in_range av n x) (eq_of nu nv d.1) in
+    left_false (writes_at t u x) (sees r (event t u)) (right_false (stores (event t u).access) (in_range au nu x) (moved ∙ outside))
+
 -- ---- one step back
 
-module _ (t : List Event) (place x b : ℕ) (latest before : List ℕ) (w : IndexesBy t place latest before true) (r : Event) (le : b ≤ place) where
+module _ (t : List Event) (place x b : ℕ) (latest others other_bytes : List ℕ) (w : IndexesBy t place latest others other_bytes true) (r : Event) (le : b ≤ place) where
   abbrev G : ℕ → Bool
   G = gives t r x
 
@@ -134,10 +175,43 @@ module _ (t : List Event) (place x b : ℕ) (latest before : List ℕ) (w : Inde
       let l : IsLast P b v = last_is P b v e in
       passed_over G (suc v) b (omega (arith, l.below)) (λ u lo hi. off u hi (l.none u (omega (arith, lo)) hi))
 
-  pub goes_back : (v : ℕ) → after_last P b ≡ suc v → x / 8 < length latest → get_or before v 0 ≡ after_last P v
-  goes_back v e low =
+  -- the store before a place
+  pub record IsStore (v : ℕ) : Type 0 where
+    pub below : v < b
+    pub stores_some : stores (event t v).access ≡ true
+    pub word : word_at t v ≡ x / 8
+
+  pub store_is : (v : ℕ) → after_last P b ≡ suc v → IsStore v
+  store_is v e =
       let l : IsLast P b v = last_is P b v e in
       let s = both (stores (event t v).access) (word_at t v == x / 8) l.passes in
-      let test = s.1 in
-      let same : word_at t v ≡ x / 8 = grind (arith, nat_tests, test) in
-      w.stores_before v (omega (arith, l.below, le)) s.0 (omega (arith, same, low)) ∙ ap (λ (k : ℕ). after_last (stores_word t k) v) same
+      record { below = l.below; stores_some = s.0; word = eq_of (word_at t v) (x / 8) s.1 }
+
+  -- from a store that doesn't give the byte to what stands past those that don't either
+  pub goes_back : (same : Event → Event → Bool) (v s : ℕ) → after_last P b ≡ suc v → IsPast same t v s → G v ≡ false →
+      ((u : ℕ) → same (event t u) (event t v) ≡ true → G u ≡ false) → (s ≤ v) × (after_last P s ≡ s) × (last_below G b ≡ last_below G s)
+  goes_back same v s e p isnt too =
+      let i : IsStore v = store_is v e in
+      let test : (u : ℕ) → stores_word t (word_at t v) u ≡ P u = λ u. ap (λ (k : ℕ). stores_word t k u) i.word in
+      let none : (u : ℕ) → s ≤ u → u < v → G u ≡ false = λ u lo hi. by_test u lo hi (P u) refl in
+      (p.before, ap (λ (k : ℕ). after_last (stores_word t k) s) (sym i.word) ∙ p.at_store, at_store v e ∙ not_at G v isnt ∙ passed_over G s v p.before none)
+    where
+      by_test : (u : ℕ) → s ≤ u → u < v → (c : Bool) → P u ≡ c → G u ≡ false
+      by_test u lo hi true is = too u (p.alike u lo hi (ap (λ (k : ℕ). stores_word t k u) (store_is v e).word ∙ is))
+      by_test u lo hi false is = off u (omega (arith, hi, (store_is v e).below)) is
+
+  -- past those that another hart did in the same round
+  pub past_unseen : (v : ℕ) → after_last P b ≡ suc v → x / 8 < length latest → sees r (event t v) ≡ false →
+      (get_or others v 0 ≤ v) × (after_last P (get_or others v 0) ≡ get_or others v 0) × (last_below G b ≡ last_below G (get_or others v 0))
+  past_unseen v e low isnt =
+      let i : IsStore v = store_is v e in
+      goes_back is_same_doer v (get_or others v 0) e (w.past_own v (omega (arith, i.below, le)) i.stores_some (omega (arith, i.word, low)))
+      (right_false (writes_at t v x) (sees r (event t v)) isnt) (λ u same. unseen_too t r x u v isnt same)
+
+  -- past those of other bytes of the word
+  pub past_unwritten : (v : ℕ) → after_last P b ≡ suc v → x / 8 < length latest → writes (event t v).access x ≡ false →
+      (get_or other_bytes v 0 ≤ v) × (after_last P (get_or other_bytes v 0) ≡ get_or other_bytes v 0) × (last_below G b ≡ last_below G (get_or other_bytes v 0))
+  past_unwritten v e low isnt =
+      let i : IsStore v = store_is v e in
+      goes_back is_same_bytes v (get_or other_bytes v 0) e (w.past_bytes v (omega (arith, i.below, le)) i.stores_some (omega (arith, i.word, low)))
+      (left_false (writes_at t v x) (sees r (event t v)) isnt) (λ u same. unwritten_too t r x u v i.stores_some isnt same)

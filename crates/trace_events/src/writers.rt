@@ -5,7 +5,7 @@ ghost use Rattle.round_schedule.specs.declared.event.Event.{Event};
 ghost use Rattle.round_schedule.specs.Accesses.{address_of, bytes_of, writes};
 ghost use Rattle.round_schedule.specs.Positions.{event};
 ghost use Rattle.byte_sources.specs.Sources.{gives, last_below, sees, source};
-ghost use Rattle.trace_events.specs.Writers.{Indexes, after_last, stores_word};
+ghost use Rattle.trace_events.specs.Writers.{Indexes, after_last, is_same_bytes, is_same_doer, past, stores_word};
 
 use byte_sources::{sees, writes};
 use pages::OutOfMemory;
@@ -14,12 +14,18 @@ use std::alloc::Global;
 
 /// The stores among the first events of a trace, by the words of 8 bytes that they write to. Places are counted from 1 here; 0 says
 /// that there is none.
+///
+/// From a store that doesn't give a byte one goes back past all that don't for the same reason. So a hart that polls a word which
+/// another one stores over and over costs no walk over these stores.
 #[derive(Drop)]
 pub(crate) struct Writers {
     /// For each word the last store to it.
     pub(crate) last: Vec<usize>,
-    /// For each event that is a store the one before it to the same word.
-    pub(crate) earlier: Vec<usize>,
+    /// For each event that is a store the last one before it to the same word that another hart did, or the same one in another
+    /// round.
+    pub(crate) of_others: Vec<usize>,
+    /// For each event that is a store the last one before it to the same word, but not of the same bytes.
+    pub(crate) of_other_bytes: Vec<usize>,
     /// Each store lies in one word.
     pub(crate) exact: bool,
 }
@@ -34,7 +40,8 @@ impl Writers {
         };
         Ok(Writers {
             last,
-            earlier: Vec::new(alloc),
+            of_others: Vec::new(alloc),
+            of_other_bytes: Vec::new(alloc),
             exact: true,
         })
     }
@@ -47,16 +54,31 @@ impl Writers {
     {
         let access = &event_at(events, place).access;
         if !access.stores() {
-            return push(&mut self.earlier, 0);
+            return self.note(0, 0);
         }
         self.exact = stays_exact(self.exact, access);
         let word = (access.address() / 8) as usize;
         if word >= self.last.len() {
-            return push(&mut self.earlier, 0);
+            return self.note(0, 0);
         }
         let before = self.last[word];
+        let of_others = past_own(&self.of_others, events, place, before);
+        let of_other_bytes = past_same_bytes(&self.of_other_bytes, events, place, before);
         self.last[word] = place + 1;
-        push(&mut self.earlier, before)
+        self.note(of_others, of_other_bytes)
+    }
+
+    /// Notes what stands before one more event.
+    fn note(&mut self, of_others: usize, of_other_bytes: usize) -> Result<(), OutOfMemory>
+        ensures last { self.new.last ≡ self.old.last }
+        ensures exact { self.new.exact ≡ self.old.exact }
+        ensures others { OnOk result (self.new.of_others.items ≡
+            self.old.of_others.items ++ of_others ∷ []) }
+        ensures other_bytes { OnOk result (self.new.of_other_bytes.items ≡
+            self.old.of_other_bytes.items ++ of_other_bytes ∷ []) }
+    {
+        push(&mut self.of_others, of_others)?;
+        push(&mut self.of_other_bytes, of_other_bytes)
     }
 
     /// The place of the store that a byte of the event at a place is from; `None` where it is as memory opened.
@@ -74,7 +96,7 @@ impl Writers {
         }
     }
 
-    /// The same, from the last store to the word on, and from each to the one before it.
+    /// The same, from the last store to the word on, and from each past those that don't give the byte for the same reason.
     fn walk(&self, events: &[Event], place: usize, byte: u64, last: usize) -> Option<usize>
         requires place { place < length events.now }
         requires before { Indexes events.now place self.now }
@@ -86,13 +108,60 @@ impl Writers {
         let mut next = last;
         while next > 0 {
             let writer = next - 1;
-            if gives(event_at(events, writer), event_at(events, place), byte) {
+            let store = event_at(events, writer);
+            if !sees(event_at(events, place), store) {
+                next = self.of_others[writer];
+            } else if !writes(&store.access, byte) {
+                next = self.of_other_bytes[writer];
+            } else {
                 return Some(writer);
             }
-            next = self.earlier[writer];
         }
         None
     }
+}
+
+/// From an event past the stores before it to the same word, of which the last is `before`, that its hart did in its round.
+fn past_own(of_others: &[usize], events: &[Event], place: usize, before: usize) -> usize
+    requires place { place < length events.now }
+    requires before { before ≤ place }
+    requires size { length of_others.now ≡ place }
+    ensures { result ≡ past is_same_doer events.now of_others.now place before }
+{
+    if before > 0 && is_same_doer(event_at(events, before - 1), event_at(events, place)) {
+        of_others[before - 1]
+    } else {
+        before
+    }
+}
+
+/// The same past those of the same bytes.
+fn past_same_bytes(of_other_bytes: &[usize], events: &[Event], place: usize, before: usize) -> usize
+    requires place { place < length events.now }
+    requires before { before ≤ place }
+    requires size { length of_other_bytes.now ≡ place }
+    ensures { result ≡ past is_same_bytes events.now of_other_bytes.now place before }
+{
+    if before > 0 && is_same_bytes(event_at(events, before - 1), event_at(events, place)) {
+        of_other_bytes[before - 1]
+    } else {
+        before
+    }
+}
+
+/// Whether two events are of one hart and one round.
+fn is_same_doer(one: &Event, other: &Event) -> bool
+    ensures { result ≡ is_same_doer one.now other.now }
+{
+    one.round == other.round && one.hart == other.hart
+}
+
+/// Whether two events are of the same bytes.
+fn is_same_bytes(one: &Event, other: &Event) -> bool
+    ensures { result ≡ is_same_bytes one.now other.now }
+{
+    one.access.address() == other.access.address()
+        && one.access.byte_count() == other.access.byte_count()
 }
 
 /// Adds a number to a list.
