@@ -70,7 +70,7 @@ fn make_room(shared: &mut SharedState, number: Option<Store>) -> Result<(), OutO
     shared.console.reserve(1)
 }
 
-/// Lays a number on memory, where it may be stored.
+/// Lays a number on memory: where it may not be stored as a whole, those of its bytes that may be.
 fn lay(pages: &mut Pages, number: Option<Store>) -> Result<(), OutOfMemory>
     ensures like { (image : Memory) → IsLike image pages.old.memory → IsLike image pages.new.memory }
     ensures shows { (first : ℕ) (words : List Instr) →
@@ -78,11 +78,40 @@ fn lay(pages: &mut Pages, number: Option<Store>) -> Result<(), OutOfMemory>
 {
     match number {
         Some(number) => {
-            let _fault = Bus::store(pages, number)?;
+            if !is_laid(pages, number)? {
+                lay_bytes(pages, number)?;
+            }
             Ok(())
         }
         None => Ok(()),
     }
+}
+
+/// Lays each byte of a number that may be stored: not those that are code.
+fn lay_bytes(pages: &mut Pages, number: Store) -> Result<(), OutOfMemory>
+    ensures like { (image : Memory) → IsLike image pages.old.memory → IsLike image pages.new.memory }
+    ensures shows { (first : ℕ) (words : List Instr) →
+        Shows pages.old.memory first words → Shows pages.new.memory first words }
+{
+    for k in 0..number.width.bytes() {
+        let byte = Store {
+            address: number.address.wrapping_add(k),
+            width: Width::W1,
+            value: number.value.wrapping_shr(8 * k as u32) % 256,
+        };
+        is_laid(pages, byte)?;
+    }
+    Ok(())
+}
+
+/// Lays a number on memory, and answers whether it may be stored.
+fn is_laid(pages: &mut Pages, number: Store) -> Result<bool, OutOfMemory>
+    ensures like { (image : Memory) → IsLike image pages.old.memory → IsLike image pages.new.memory }
+    ensures shows { (first : ℕ) (words : List Instr) →
+        Shows pages.old.memory first words → Shows pages.new.memory first words }
+{
+    let fault = Bus::store(pages, number)?;
+    Ok(fault.is_ok())
 }
 
 /// Gives a hart its own reservation or none.
