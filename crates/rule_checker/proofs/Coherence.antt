@@ -11,7 +11,7 @@ use Rattle.memory_order.specs.Orders.{ListsOperations, place}
 use Rattle.memory_order.specs.Rvwmo.{IsSource, MaySee}
 use Rattle.memory_order.proofs.Sources.{load_at, one_place, store_at}
 use Rattle.order_checker.specs.Checking.{Earlier, IsMax}
-use Rattle.rule_checker.specs.Bytes.{BytesKeptAt, IsForwarded, KeptByByte, MayLoad, RuleByByte, byte-atomic, byte-different, byte-overlap}
+use Rattle.rule_checker.specs.Bytes.{BytesKeptAt, IsForwarded, MayLoad, RuleByByte, byte-atomic, byte-different, byte-overlap}
 use Rattle.order_checker.proofs.Bounding.{below_max, earlier_none, earlier_step, max_below, max_join_if, max_none}
 use Rattle.rule_checker.proofs.Carrying.{bound_of_source, listed_at, source_of_bound, split_place}
 use Rattle.order_checker.proofs.Sourcing.{same_number}
@@ -181,14 +181,14 @@ bytes_from_tests t g i p e touched seen sources lists is at touch see max storin
 -- ---- from the rules to the tests
 
 pub touched_from_kept : (t : List Event) (g : List ℕ) (i p : ℕ) (e : Event) (touched : ℕ → ℕ → ℕ) → e ≡ event t i → p ≡ place g i → Touched t (place g) i touched →
-    KeptByByte t (place g) → (x : ℕ) → writes e.access x ≡ true → touched e.hart x ≤ p
+    (is_operation (event t i) ≡ true → BytesKeptAt t (place g) i) → (x : ℕ) → writes e.access x ≡ true → touched e.hart x ≤ p
 touched_from_kept t g i p e touched is at touch kept x w =
     let here : writes_at t i x ≡ true = sym (ap (λ (f : Event). writes f.access x) is) ∙ w in
     max_below (place g) (Earlier (is_touching x) t e.hart i) (touched e.hart x) p (touch e.hart x)
     (λ a q.
     let parts = and_parts (is_operation (event t a)) (covers (event t a).access x) q.2 in
     let both = and_parts (stores (event t i).access) (covers (event t i).access x) here in
-    let k = kept i (store_at t i x here) a parts.0 (record { earlier = q.0; same_hart = q.1 ∙ ap (λ (f : Event). f.hart) is }) (byte-overlap x both.0 parts.1 both.1) in
+    let k = kept (store_at t i x here) a parts.0 (record { earlier = q.0; same_hart = q.1 ∙ ap (λ (f : Event). f.hart) is }) (byte-overlap x both.0 parts.1 both.1) in
     omega (arith, k, at))
 
 -- a store of the hart between two places, or none
@@ -229,9 +229,12 @@ any_source t g b x s lists max = elim (cases_eq s 0) [
     below : (w : ℕ) → Some (get_or g (s - 1) 0) ≡ Some w → IsSource t (place g) b x (Some (get_or g (s - 1) 0)) → place g w < s
     below w e k = let q = subst (IsSource t (place g) b x) e k in max.upper w q.0
 
-seen_below : (t : List Event) (g : List ℕ) (a b x w : ℕ) (sources : ℕ → ℕ → ℕ) → ListsOperations t g → KeptByByte t (place g) → ProgramBefore t a b → reads_at t a x ≡ true → reads_at t b x ≡ true →
+abbrev pub KeptBefore : List Event → (ℕ → ℕ) → ℕ → Type 0
+KeptBefore t pos i = (b : ℕ) → b < i → is_operation (event t b) ≡ true → BytesKeptAt t pos b
+
+seen_below : (t : List Event) (g : List ℕ) (a b x w : ℕ) (sources : ℕ → ℕ → ℕ) → ListsOperations t g → KeptBefore t (place g) b → BytesKeptAt t (place g) b → ProgramBefore t a b → reads_at t a x ≡ true → reads_at t b x ≡ true →
     ((r y : ℕ) → reads_at t r y ≡ true → IsMax (place g) (MaySee t (place g) r y) (sources r y)) → MaySee t (place g) a x w → place g w < sources b x
-seen_below t g a b x w sources lists kept before ra rb max m = elim (store_between t (event t b).hart x a b) [
+seen_below t g a b x w sources lists earlier kept before ra rb max m = elim (store_between t (event t b).hart x a b) [
   | inl k ↦ past k
   | inr none ↦ beside none
 ]
@@ -247,7 +250,7 @@ seen_below t g a b x w sources lists kept before ra rb max m = elim (store_betwe
         let q = and_parts (stores (event t k.0).access) (covers (event t k.0).access x) k.4 in
         let here = up k.0 (k.4, inr (record { earlier = k.2; same_hart = k.3 })) in
         let order : (v : ℕ) → v < k.0 → (event t v).hart ≡ (event t b).hart → is_operation (event t v) ≡ true → covers (event t v).access x ≡ true → pos v < pos k.0 =
-        λ v l s op c. kept k.0 (store_at t k.0 x k.4) v op (record { earlier = l; same_hart = s ∙ sym k.3 }) (byte-overlap x q.0 c q.1) in
+        λ v l s op c. earlier k.0 k.2 (store_at t k.0 x k.4) v op (record { earlier = l; same_hart = s ∙ sym k.3 }) (byte-overlap x q.0 c q.1) in
         elim m.1 [
           | inl l ↦
               let o = order a k.1 before.same_hart (load_at t a x ra) (and_parts (loads (event t a).access) (covers (event t a).access x) ra).1 in
@@ -273,7 +276,7 @@ seen_below t g a b x w sources lists kept before ra rb max m = elim (store_betwe
           let sa = any_source t g a x (sources a x) lists (max a x ra) in
           let sb = any_source t g b x (sources b x) lists (max b x rb) in
           let wa = (max a x ra).upper w m in
-          ahead (kept b (load_at t b x rb) a (load_at t a x ra) before (byte-different x sa.0 sb.0 ra rb none sa.1 sb.1 (differ sa.0 sb.0 sa.1 sb.2 n)))
+          ahead (kept a (load_at t a x ra) before (byte-different x sa.0 sb.0 ra rb none sa.1 sb.1 (differ sa.0 sb.0 sa.1 sb.2 n)))
     ]
       where
         -- the store that a's byte is from is none that b's byte may be from
@@ -283,10 +286,10 @@ seen_below t g a b x w sources lists kept before ra rb max m = elim (store_betwe
 
 pub load_from_kept : (t : List Event) (g : List ℕ) (i p : ℕ) (e : Event) (seen sources : ℕ → ℕ → ℕ) → ListsOperations t g → e ≡ event t i → p ≡ place g i →
     Seen t (place g) i seen → ((r x : ℕ) → reads_at t r x ≡ true → IsMax (place g) (MaySee t (place g) r x) (sources r x)) →
-    KeptByByte t (place g) → MayLoad t g (seen e.hart) (sources i) i p
-load_from_kept t g i p e seen sources lists is at see max kept x reads = (
+    KeptBefore t (place g) i → (is_operation (event t i) ≡ true → BytesKeptAt t (place g) i) → MayLoad t g (seen e.hart) (sources i) i p
+load_from_kept t g i p e seen sources lists is at see max earlier kept x reads = (
   max_below (place g) (SeenBy t (place g) e.hart i x) (seen e.hart x) (sources i x) (see e.hart x)
-      (λ w q. seen_below t g q.0 i x w sources lists kept (record { earlier = q.1; same_hart = q.2 ∙ ap (λ (f : Event). f.hart) is }) q.3 reads max q.4),
+      (λ w q. seen_below t g q.0 i x w sources lists earlier (kept (load_at t i x reads)) (record { earlier = q.1; same_hart = q.2 ∙ ap (λ (f : Event). f.hart) is }) q.3 reads max q.4),
   elim (cases_lt p (sources i x)) [
     | inr l ↦ inl l
     | inl l ↦
@@ -304,5 +307,5 @@ load_from_kept t g i p e seen sources lists is at see max kept x reads = (
     forward : (a : ℕ) → IsSource t (place g) i x (Some a) → (is_amo (event t a).access || is_sc (event t a).access) ≡ true → place g i ≤ place g a → ⊥
     forward a source atomic l = elim source.0.1 [
       | inl k ↦ omega (arith, k, l)
-      | inr q ↦ let k = kept i (load_at t i x reads) a (store_at t a x source.0.0) q (byte-atomic x atomic reads source) in omega (arith, k, l)
+      | inr q ↦ let k = kept (load_at t i x reads) a (store_at t a x source.0.0) q (byte-atomic x atomic reads source) in omega (arith, k, l)
     ]

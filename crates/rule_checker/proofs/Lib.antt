@@ -1,4 +1,5 @@
 mod Carrying
 mod Coherence
 mod Exactness
+mod Firsts
 mod KindBounds

@@ -1,3 +1,4 @@
 pub mod Bytes
 pub mod CarriedBounds
 pub mod Kinds
+pub mod Unkept

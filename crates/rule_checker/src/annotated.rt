@@ -1,9 +1,10 @@
-ghost use Rattle.std.specs.Prelude.{◌≡◌, ◌↔◌, All, IsTrue, IfOk};
+ghost use Rattle.std.specs.Prelude.{◌≡◌, ◌↔◌, All, IsTrue, IfOk, MatchOption};
 ghost use Rattle.trace.specs.Traced.{HasForm};
 ghost use Rattle.memory_order.specs.Operations.{is_acquire};
 ghost use Rattle.memory_order.specs.Orders.{place};
 ghost use Rattle.order_checker.specs.Checking.{IsRanking};
-ghost use Rattle.rule_checker.specs.Kinds.{AllowedByKind, KeptByKind, is_annotated, kinds_after, loads_loads, loads_stores};
+ghost use Rattle.rule_checker.specs.Kinds.{AllowedByKind, KeptByKind, KindsKeptAt, is_annotated, kinds_after, loads_loads, loads_stores};
+ghost use Rattle.rule_checker.specs.Unkept.{IsFirstUnkept};
 
 use memory_order::is_operation;
 use order_checker::{
@@ -42,16 +43,18 @@ const NO_KINDS: KindBounds = KindBounds {
     store_store: 0,
 };
 
-/// Whether an order keeps program order where fences and annotations ask for it: the rules 4 to 7 (manual, section 14.1.3).
-pub fn keeps_kinds(
+/// The first operation that an order has before one that fences or annotations ask to be before it: the rules 4 to 7 (manual,
+/// section 14.1.3).
+pub(crate) fn first_by_kind(
     alloc: Global,
     events: &[Event],
     order: &[usize],
     ranks: &[usize],
-) -> Result<bool, OutOfMemory>
+) -> Result<Option<usize>, OutOfMemory>
     requires formed { All HasForm events.now }
     requires ranked { IsRanking events.now order.now ranks.now }
-    ensures { IfOk result (λ yes. IsTrue yes ↔ KeptByKind events.now (place order.now)) }
+    ensures { IfOk result (λ first. MatchOption first (KeptByKind events.now (place order.now))
+        (IsFirstUnkept events.now (KindsKeptAt events.now (place order.now)))) }
 {
     let mut harts = vec![in alloc; NO_KINDS; 256]?;
     for i in 0..events.len() {
@@ -60,12 +63,12 @@ pub fn keeps_kinds(
         let bounds = of_hart(&harts, event.hart);
         let operation = is_operation(&event);
         if operation && !allows(&bounds, &event.access, position) {
-            return Ok(false);
+            return Ok(Some(i));
         }
         let next = kinds_after(&bounds, &event.access, operation, position + 1);
         set_of_hart(&mut harts, event.hart, next);
     }
-    Ok(true)
+    Ok(None)
 }
 
 /// Whether the bounds let an operation stand at a position.

@@ -1,11 +1,12 @@
-ghost use Rattle.std.specs.Prelude.{◌≡◌, ◌<◌, ◌↔◌, All, IsTrue, IfOk, length};
+ghost use Rattle.std.specs.Prelude.{◌≡◌, ◌<◌, ◌↔◌, All, IsTrue, IfOk, MatchOption, length};
 ghost use Rattle.trace.specs.Traced.{HasForm};
 ghost use Rattle.memory_order.specs.Orders.{ListsOperations, place};
 ghost use Rattle.memory_order.specs.Rvwmo.{MaySee};
-ghost use Rattle.dependencies.specs.Dependencies.{KeepsDependencies, has_failed};
+ghost use Rattle.dependencies.specs.Dependencies.{KeepsDependencies, KeptAt, has_failed};
 ghost use Rattle.hart_step.specs.Registers.{reg, set_reg};
 ghost use Rattle.order_checker.specs.Checking.{AreSources, IsRanking, source_of};
 ghost use Rattle.rule_checker.specs.CarriedBounds.{AllowedBy, AreRegisters, MayForward, MayForwardAll, carried_after, operand_bound, sources_bound};
+ghost use Rattle.rule_checker.specs.Unkept.{IsFirstUnkept};
 
 use dependencies::{Registers, used_registers};
 use memory_order::is_operation;
@@ -32,21 +33,22 @@ const NONE_CARRIED: Carried = Carried {
     addressed: 0,
 };
 
-/// Whether an order keeps the dependencies between memory operations: the rules 9 to 13 (manual, section 14.1.3).
-pub fn keeps_dependencies(
+/// The first operation that an order has before one that it depends on: the rules 9 to 13 (manual, section 14.1.3).
+pub(crate) fn first_by_dependency(
     alloc: Global,
     instructions: &[Instr],
     events: &[Event],
     order: &[usize],
     ranks: &[usize],
     sources: &Sources,
-) -> Result<bool, OutOfMemory>
+) -> Result<Option<usize>, OutOfMemory>
     requires formed { All HasForm events.now }
     requires lists { ListsOperations events.now order.now }
     requires ranked { IsRanking events.now order.now ranks.now }
     requires along { length instructions.now ≡ length events.now }
     requires sourced { AreSources events.now order.now (MaySee events.now (place order.now)) sources.now.items }
-    ensures { IfOk result (λ yes. IsTrue yes ↔ KeepsDependencies instructions.now events.now (place order.now)) }
+    ensures { IfOk result (λ first. MatchOption first (KeepsDependencies instructions.now events.now (place order.now))
+        (IsFirstUnkept events.now (KeptAt instructions.now events.now (place order.now)))) }
 {
     let mut harts = vec![in alloc; NONE_CARRIED; 256]?;
     // of each event so far, what its address and data depend on
@@ -61,13 +63,13 @@ pub fn keeps_dependencies(
             && !(allows(&carried, &used, &event.access, position)
                 && may_forward(events, order, &operands, sources, i, position))
         {
-            return Ok(false);
+            return Ok(Some(i));
         }
         operands.push(operand_bound(&carried, &used))?;
         let next = carried_after(&carried, &used, &event, position + 1);
         set_of_hart(&mut harts, event.hart, next);
     }
-    Ok(true)
+    Ok(None)
 }
 
 /// Registers are registers.

@@ -5,12 +5,10 @@ ghost use Rattle.memory_order.specs.Rvwmo.{AtomicityAxiom, LoadValueAxiom, Meets
 ghost use Rattle.dependencies.specs.Dependencies.{DependencyRule};
 ghost use Rattle.order_checker.specs.Checking.{IsRanking};
 
-use crate::annotated::keeps_kinds;
-use crate::carried::keeps_dependencies;
-use crate::coherent::keeps_bytes_of;
-use crate::paired_order::keeps_pairs;
+use crate::own::sources_of_loads;
+use crate::unkept::first_unkept;
 use memory_order::Order;
-use order_checker::{all_sources, loads_are_right, own_stores, pairs_are_atomic, positions};
+use order_checker::{loads_are_right, pairs_are_atomic, positions};
 use pages::OutOfMemory;
 use round_schedule::Event;
 use rv64_decode::Instr;
@@ -76,25 +74,13 @@ fn meets_all(
         LoadValueAxiom events.now (opening_at opening.now.opening) (place order.now) ×
         AtomicityAxiom events.now (place order.now))) }
 {
-    let own = match own_stores(alloc, events, order, ranks)? {
-        Some(own) => own,
-        None => return Ok(false),
-    };
-    let sources = all_sources(alloc, events, order, own)?;
+    let sources = sources_of_loads(alloc, events, order, ranks)?;
     if !loads_are_right(opening, events, order, ranks, &sources) {
         return Ok(false);
     }
-    if !keeps_kinds(alloc, events, order, ranks)? {
-        return Ok(false);
+    let broken = first_unkept(alloc, instructions, events, order, ranks, &sources)?;
+    match broken {
+        Some(_) => Ok(false),
+        None => Ok(pairs_are_atomic(alloc, events, order, ranks, &sources)?),
     }
-    if !keeps_bytes_of(alloc, events, order, ranks, &sources)? {
-        return Ok(false);
-    }
-    if !keeps_pairs(alloc, events, order, ranks)? {
-        return Ok(false);
-    }
-    if !keeps_dependencies(alloc, instructions, events, order, ranks, &sources)? {
-        return Ok(false);
-    }
-    Ok(pairs_are_atomic(alloc, events, order, ranks, &sources)?)
 }

@@ -1,11 +1,12 @@
-ghost use Rattle.std.specs.Prelude.{◌≡◌, ◌+◌, ◌==◌, ◌&&◌, ◌≤◌, ◌<◌, ◌^◌, ◌↔◌, ℕ, All, max, true, if◌then◌else◌, length, IsTrue, IfOk, OnOk};
+ghost use Rattle.std.specs.Prelude.{◌≡◌, ◌+◌, ◌==◌, ◌&&◌, ◌≤◌, ◌<◌, ◌^◌, ◌↔◌, ℕ, All, max, true, if◌then◌else◌, length, IsTrue, IfOk, MatchOption, OnOk};
 ghost use Rattle.round_schedule.specs.Accesses.{address_of, bytes_of, loads, reads};
 ghost use Rattle.trace.specs.Traced.{HasForm};
 ghost use Rattle.memory_order.specs.Operations.{covers, is_operation};
 ghost use Rattle.memory_order.specs.Orders.{ListsOperations, place};
 ghost use Rattle.memory_order.specs.Rvwmo.{MaySee};
 ghost use Rattle.order_checker.specs.Checking.{AreSources, IsRanking, bound, source_at, source_of};
-ghost use Rattle.rule_checker.specs.Bytes.{IsForwarded, KeptByByte, MayLoad, MayLoadByte};
+ghost use Rattle.rule_checker.specs.Bytes.{BytesKeptAt, IsForwarded, KeptByByte, MayLoad, MayLoadByte};
+ghost use Rattle.rule_checker.specs.Unkept.{IsFirstUnkept};
 
 use memory_order::is_operation;
 use order_checker::{
@@ -17,21 +18,23 @@ use round_schedule::{Access, Event};
 use std::alloc::Global;
 use std::collections::BTreeMap;
 
-/// Whether an order keeps program order between operations of common bytes: the rules 1 to 3 (manual, section 14.1.3).
+/// The first operation that an order has before one of common bytes that is to be before it: the rules 1 to 3 (manual, section
+/// 14.1.3).
 ///
 /// `sources` has the bounds of the sources of loads.
-pub fn keeps_bytes_of(
+pub(crate) fn first_by_byte(
     alloc: Global,
     events: &[Event],
     order: &[usize],
     ranks: &[usize],
     sources: &Sources,
-) -> Result<bool, OutOfMemory>
+) -> Result<Option<usize>, OutOfMemory>
     requires formed { All HasForm events.now }
     requires lists { ListsOperations events.now order.now }
     requires ranked { IsRanking events.now order.now ranks.now }
     requires sourced { AreSources events.now order.now (MaySee events.now (place order.now)) sources.now.items }
-    ensures { IfOk result (λ yes. IsTrue yes ↔ KeptByByte events.now (place order.now)) }
+    ensures { IfOk result (λ first. MatchOption first (KeptByByte events.now (place order.now))
+        (IsFirstUnkept events.now (BytesKeptAt events.now (place order.now)))) }
 {
     let mut touched = BTreeMap::new(alloc);
     let mut seen = BTreeMap::new(alloc);
@@ -40,15 +43,15 @@ pub fn keeps_bytes_of(
         let hart = u64::from(event.hart);
         let position = position_of(events, order, ranks, i);
         if !may_store(&touched, hart, &event.access, position) {
-            return Ok(false);
+            return Ok(Some(i));
         }
         if !may_load(events, order, &seen, sources, hart, i, position) {
-            return Ok(false);
+            return Ok(Some(i));
         }
         note_seen(&mut seen, hart, &event.access, sources, position)?;
         note_operation(&mut touched, hart, &event, position + 1)?;
     }
-    Ok(true)
+    Ok(None)
 }
 
 /// Raises the owner's bound of each byte of an operation to `next`.

@@ -5,6 +5,10 @@ mod annotated;
 mod carried;
 mod check;
 mod coherent;
+mod own;
 mod paired_order;
+mod unkept;
 
 pub use check::check_instructions;
+pub use own::sources_of_loads;
+pub use unkept::first_unkept;

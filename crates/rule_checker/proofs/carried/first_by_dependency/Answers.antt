@@ -13,9 +13,10 @@ use Rattle.rule_checker.specs.declared.carried.Carried.{Carried}
 use Rattle.order_checker.specs.Checking.{source_of}
 use Rattle.rule_checker.specs.CarriedBounds.{AreOperands, MayForwardAll, carried_of, none_carried}
 use Rattle.order_checker.proofs.Harts.{alike_at_first}
+use Rattle.rule_checker.proofs.Firsts.{first_at}
 use Rattle.rule_checker.proofs.Carrying.{Carries, allowed_from_kept, carries_none, carries_step, forwards_from_kept, kept_from_allowed, operands_step}
-use Rattle.rule_checker.proofs.carried.keeps_dependencies.Goals as goal
-use Rattle.rule_checker.proofs.carried.keeps_dependencies.Goals.{else-is_operation-via-then-is_operation+else-not-may_forward, then-allows, else-allows, else-is_operation-via-else-is_operation}
+use Rattle.rule_checker.proofs.carried.first_by_dependency.Goals as goal
+use Rattle.rule_checker.proofs.carried.first_by_dependency.Goals.{else-is_operation-via-then-is_operation+else-not-may_forward, then-allows, else-allows, else-is_operation-via-else-is_operation}
 
 -- the registers of the instruction that is read
 registers_read : (is : List Instr) (i : ℕ) (x : Registers) (j : Instr) → i < length is → x ≡ registers_of j → j ≡ get_or is i j → x ≡ registers_at is i
@@ -35,30 +36,27 @@ loop-i-init c =
     }
 
 pub returns-then-not-may_forward : goal.returns-then-not-may_forward
-returns-then-not-may_forward c = (
-  λ h. cc,
-  λ kept.
-      let is = c.args.instructions.now in
-      let t = c.args.events.now in
-      let g = c.args.order.now in
-      let i = c.loop-i.i in
-      let inside : i < length is = omega (arith, c.requires.along, c.loop-i-test.true) in
-      let e = c.event_at-event.result in
-      let op : is_operation (event t i) ≡ true = ap is_operation (sym c.event_at-event.ensures.at) ∙ sym c.is_operation.ensures ∙ c.if-is_operation.true in
-      let used = registers_read is i c.used_registers-used.result c.index-instructions-i.result inside c.used_registers-used.ensures c.index-instructions-i.is in
-      let known = subst (Carries is t (place g) e.hart i) (sym (c.of_hart-carried.ensures none_carried)) (c.loop-i.invariant.carries e.hart) in
-      elim c.if-allows.branch [
-        | then-allows w ↦
-            let f = forwards_from_kept is t g i c.position_of-position.result c.loop-i.operands.items (λ x. source_of g c.args.sources.now.items i x) c.position_of-position.ensures.at c.requires.lists
-            c.loop-i.invariant.operands (λ x h. c.requires.sourced.max i x h) (kept i op) in
-            let yes : IsTrue w.may_forward.result = w.may_forward.ensures.1 (subst (λ v. MayForwardAll t g v (λ x. source_of g c.args.sources.now.items i x) i c.position_of-position.result) (sym w.deref.ensures.value) f) in
-            cc
-        | else-allows w ↦
-            let yes : IsTrue c.allows.result = c.allows.ensures.1 (allowed_from_kept is t g i c.position_of-position.result e c.used_registers-used.result c.of_hart-carried.result
-            c.event_at-event.ensures.at used c.are_registers.ensures c.position_of-position.ensures.at known (kept i op)) in
-            cc
-      ],
-)
+returns-then-not-may_forward c = first_at c.args.events.now (KeptAt c.args.instructions.now c.args.events.now (place c.args.order.now)) c.loop-i.i c.loop-i.invariant.kept (λ kept.
+    let is = c.args.instructions.now in
+    let t = c.args.events.now in
+    let g = c.args.order.now in
+    let i = c.loop-i.i in
+    let inside : i < length is = omega (arith, c.requires.along, c.loop-i-test.true) in
+    let e = c.event_at-event.result in
+    let op : is_operation (event t i) ≡ true = ap is_operation (sym c.event_at-event.ensures.at) ∙ sym c.is_operation.ensures ∙ c.if-is_operation.true in
+    let used = registers_read is i c.used_registers-used.result c.index-instructions-i.result inside c.used_registers-used.ensures c.index-instructions-i.is in
+    let known = subst (Carries is t (place g) e.hart i) (sym (c.of_hart-carried.ensures none_carried)) (c.loop-i.invariant.carries e.hart) in
+    elim c.if-allows.branch [
+      | then-allows w ↦
+          let f = forwards_from_kept is t g i c.position_of-position.result c.loop-i.operands.items (λ x. source_of g c.args.sources.now.items i x) c.position_of-position.ensures.at c.requires.lists
+          c.loop-i.invariant.operands (λ x h. c.requires.sourced.max i x h) (kept op) in
+          let yes : IsTrue w.may_forward.result = w.may_forward.ensures.1 (subst (λ v. MayForwardAll t g v (λ x. source_of g c.args.sources.now.items i x) i c.position_of-position.result) (sym w.deref.ensures.value) f) in
+          cc
+      | else-allows w ↦
+          let yes : IsTrue c.allows.result = c.allows.ensures.1 (allowed_from_kept is t g i c.position_of-position.result e c.used_registers-used.result c.of_hart-carried.result
+          c.event_at-event.ensures.at used c.are_registers.ensures c.position_of-position.ensures.at known (kept op)) in
+          cc
+    ])
 
 pub loop-i-preserved : goal.loop-i-preserved
 loop-i-preserved c =
@@ -99,4 +97,4 @@ loop-i-preserved c =
     }
 
 pub returns : goal.returns
-returns c = (λ h b op. c.loop-i.invariant.kept b (let l = within c.args.events.now b op in omega (arith, l)) op, λ kept. search rules)
+returns c = λ b op. c.loop-i.invariant.kept b (let l = within c.args.events.now b op in omega (arith, l)) op

@@ -4,7 +4,7 @@ use Rattle.memory_order.specs.Operations.{is_operation}
 use Rattle.memory_order.specs.Orders.{place}
 use Rattle.rule_checker.specs.Kinds.{KindsKeptAt, kinds_of}
 use Rattle.rule_checker.proofs.KindBounds.{Kinds}
-use Rattle.rule_checker.proofs.annotated.keeps_kinds.Given as goal
+use Rattle.rule_checker.proofs.annotated.first_by_kind.Given as goal
 
 abbrev pub invariant-loop-i : goal.invariant-loop-i
 invariant-loop-i l = record {

@@ -1,25 +1,23 @@
-use Rattle.std.proofs.Common.{◌≡◌, ℕ, ◌+◌, ◌≤◌, ◌==◌, ◌&&◌, max, if◌then◌else◌, ap, arith, below_more, rules, subst, sym, true, IsTrue}
+use Rattle.std.proofs.Common.{◌≡◌, ℕ, ◌+◌, ◌≤◌, ◌==◌, ◌&&◌, max, if◌then◌else◌, ap, arith, below_more, subst, sym, true, IsTrue}
 use Rattle.round_schedule.specs.Accesses.{reads, writes}
 use Rattle.memory_order.specs.Operations.{covers, is_operation}
 use Rattle.memory_order.specs.Orders.{place}
 use Rattle.memory_order.proofs.Facts.{within}
 use Rattle.order_checker.specs.Checking.{bound, source_at, source_of}
-use Rattle.rule_checker.specs.Bytes.{MayLoad}
+use Rattle.rule_checker.specs.Bytes.{BytesKeptAt, MayLoad}
+use Rattle.rule_checker.proofs.Firsts.{first_at}
 use Rattle.rule_checker.proofs.Coherence.{bytes_from_tests, load_from_kept, seen_by_step, touched_from_kept, touched_step}
 use Rattle.order_checker.proofs.Sourcing.{load_within}
 use Rattle.round_schedule.specs.declared.event.Event.{Event}
-use Rattle.rule_checker.proofs.coherent.keeps_bytes_of.Goals as goal
+use Rattle.rule_checker.proofs.coherent.first_by_byte.Goals as goal
 
 pub returns-then-not-may_store : goal.returns-then-not-may_store
-returns-then-not-may_store c = (
-  λ h. cc,
-  λ kept.
-      let yes : IsTrue c.may_store.result = c.may_store.ensures.1
-      (subst (λ k. (x : ℕ) → writes c.event_at-event.result.access x ≡ true → bound c.loop-i.touched k x ≤ c.position_of-position.result) (sym c.from-hart.ensures)
-      (touched_from_kept c.args.events.now c.args.order.now c.loop-i.i c.position_of-position.result c.event_at-event.result (λ h x. bound c.loop-i.touched h x)
-      c.event_at-event.ensures.at c.position_of-position.ensures.at c.loop-i.invariant.touched kept)) in
-      cc,
-)
+returns-then-not-may_store c = first_at c.args.events.now (BytesKeptAt c.args.events.now (place c.args.order.now)) c.loop-i.i c.loop-i.invariant.kept (λ kept.
+    let yes : IsTrue c.may_store.result = c.may_store.ensures.1
+    (subst (λ k. (x : ℕ) → writes c.event_at-event.result.access x ≡ true → bound c.loop-i.touched k x ≤ c.position_of-position.result) (sym c.from-hart.ensures)
+    (touched_from_kept c.args.events.now c.args.order.now c.loop-i.i c.position_of-position.result c.event_at-event.result (λ h x. bound c.loop-i.touched h x)
+    c.event_at-event.ensures.at c.position_of-position.ensures.at c.loop-i.invariant.touched kept)) in
+    cc)
 
 pub note_seen-requires-clause-within : goal.note_seen-requires-clause-within
 note_seen-requires-clause-within c = λ l.
@@ -28,15 +26,12 @@ note_seen-requires-clause-within c = λ l.
     omega (arith, k, c.requires.sourced.len)
 
 pub returns-then-not-may_load : goal.returns-then-not-may_load
-returns-then-not-may_load c = (
-  λ h. cc,
-  λ kept.
-      let yes : IsTrue c.may_load.result = c.may_load.ensures.1
-      (subst (λ k. MayLoad c.args.events.now c.args.order.now (λ x. bound c.loop-i.seen k x) (λ x. source_of c.args.order.now c.args.sources.now.items c.loop-i.i x) c.loop-i.i c.position_of-position.result) (sym c.from-hart.ensures)
-      (load_from_kept c.args.events.now c.args.order.now c.loop-i.i c.position_of-position.result c.event_at-event.result (λ h x. bound c.loop-i.seen h x) (λ r x. source_of c.args.order.now c.args.sources.now.items r x)
-      c.requires.lists c.event_at-event.ensures.at c.position_of-position.ensures.at c.loop-i.invariant.seen c.requires.sourced.max kept)) in
-      cc,
-)
+returns-then-not-may_load c = first_at c.args.events.now (BytesKeptAt c.args.events.now (place c.args.order.now)) c.loop-i.i c.loop-i.invariant.kept (λ kept.
+    let yes : IsTrue c.may_load.result = c.may_load.ensures.1
+    (subst (λ k. MayLoad c.args.events.now c.args.order.now (λ x. bound c.loop-i.seen k x) (λ x. source_of c.args.order.now c.args.sources.now.items c.loop-i.i x) c.loop-i.i c.position_of-position.result) (sym c.from-hart.ensures)
+    (load_from_kept c.args.events.now c.args.order.now c.loop-i.i c.position_of-position.result c.event_at-event.result (λ h x. bound c.loop-i.seen h x) (λ r x. source_of c.args.order.now c.args.sources.now.items r x)
+    c.requires.lists c.event_at-event.ensures.at c.position_of-position.ensures.at c.loop-i.invariant.seen c.requires.sourced.max c.loop-i.invariant.kept kept)) in
+    cc)
 
 pub loop-i-preserved : goal.loop-i-preserved
 loop-i-preserved c =
@@ -67,4 +62,4 @@ loop-i-preserved c =
     }
 
 pub returns : goal.returns
-returns c = (λ h b op. c.loop-i.invariant.kept b (let l = within c.args.events.now b op in omega (arith, l)) op, λ kept. search rules)
+returns c = λ b op. c.loop-i.invariant.kept b (let l = within c.args.events.now b op in omega (arith, l)) op

@@ -5,7 +5,7 @@ use Rattle.memory_order.specs.Orders.{place}
 use Rattle.dependencies.specs.Dependencies.{KeptAt}
 use Rattle.rule_checker.specs.CarriedBounds.{AreOperands, carried_of}
 use Rattle.rule_checker.proofs.Carrying.{Carries}
-use Rattle.rule_checker.proofs.carried.keeps_dependencies.Given as goal
+use Rattle.rule_checker.proofs.carried.first_by_dependency.Given as goal
 
 abbrev pub invariant-loop-i : goal.invariant-loop-i
 invariant-loop-i l = record {

@@ -7,9 +7,10 @@ use Rattle.memory_order.proofs.Facts.{within}
 use Rattle.rule_checker.specs.declared.annotated.KindBounds.{KindBounds}
 use Rattle.rule_checker.specs.Kinds.{KindsKeptAt, kinds_after, kinds_of, no_kinds}
 use Rattle.order_checker.proofs.Harts.{alike_at_first}
+use Rattle.rule_checker.proofs.Firsts.{first_at}
 use Rattle.rule_checker.proofs.KindBounds.{Kinds, allowed_from_kinds, kinds_from_allowed, kinds_none, kinds_step}
-use Rattle.rule_checker.proofs.annotated.keeps_kinds.Goals as goal
-use Rattle.rule_checker.proofs.annotated.keeps_kinds.Goals.{else-operation-via-then-operation+else-not-allows, else-operation-via-else-operation}
+use Rattle.rule_checker.proofs.annotated.first_by_kind.Goals as goal
+use Rattle.rule_checker.proofs.annotated.first_by_kind.Goals.{else-operation-via-then-operation+else-not-allows, else-operation-via-else-operation}
 
 pub loop-i-init : goal.loop-i-init
 loop-i-init c =
@@ -23,17 +24,14 @@ loop-i-init c =
     }
 
 pub returns-then-not-allows : goal.returns-then-not-allows
-returns-then-not-allows c = (
-  λ h. cc,
-  λ kept.
-      let op : is_operation (event c.args.events.now c.loop-i.i) ≡ true = ap is_operation (sym c.event_at-event.ensures.at) ∙ sym c.is_operation-operation.ensures ∙ c.if-operation.true in
-      let a = allowed_from_kinds c.args.events.now (place c.args.order.now) c.loop-i.i c.position_of-position.result c.event_at-event.result c.of_hart-bounds.result
-      c.event_at-event.ensures.at c.position_of-position.ensures.at
-      (subst (Kinds c.args.events.now (place c.args.order.now) c.event_at-event.result.hart c.loop-i.i) (sym (c.of_hart-bounds.ensures no_kinds)) (c.loop-i.invariant.bounded c.event_at-event.result.hart))
-      (kept c.loop-i.i op) in
-      let yes : IsTrue c.allows.result = c.allows.ensures.1 a in
-      cc,
-)
+returns-then-not-allows c = first_at c.args.events.now (KindsKeptAt c.args.events.now (place c.args.order.now)) c.loop-i.i c.loop-i.invariant.kept (λ kept.
+    let op : is_operation (event c.args.events.now c.loop-i.i) ≡ true = ap is_operation (sym c.event_at-event.ensures.at) ∙ sym c.is_operation-operation.ensures ∙ c.if-operation.true in
+    let a = allowed_from_kinds c.args.events.now (place c.args.order.now) c.loop-i.i c.position_of-position.result c.event_at-event.result c.of_hart-bounds.result
+    c.event_at-event.ensures.at c.position_of-position.ensures.at
+    (subst (Kinds c.args.events.now (place c.args.order.now) c.event_at-event.result.hart c.loop-i.i) (sym (c.of_hart-bounds.ensures no_kinds)) (c.loop-i.invariant.bounded c.event_at-event.result.hart))
+    (kept op) in
+    let yes : IsTrue c.allows.result = c.allows.ensures.1 a in
+    cc)
 
 pub loop-i-preserved : goal.loop-i-preserved
 loop-i-preserved c =
@@ -60,4 +58,4 @@ loop-i-preserved c =
     }
 
 pub returns : goal.returns
-returns c = (λ h b op. c.loop-i.invariant.kept b (let l = within c.args.events.now b op in omega (arith, l)) op, λ kept. search rules)
+returns c = λ b op. c.loop-i.invariant.kept b (let l = within c.args.events.now b op in omega (arith, l)) op

@@ -5,7 +5,7 @@ use Rattle.memory_order.specs.Orders.{place}
 use Rattle.order_checker.specs.Checking.{bound}
 use Rattle.rule_checker.specs.Bytes.{BytesKeptAt}
 use Rattle.rule_checker.proofs.Coherence.{Seen, Touched}
-use Rattle.rule_checker.proofs.coherent.keeps_bytes_of.Given as goal
+use Rattle.rule_checker.proofs.coherent.first_by_byte.Given as goal
 
 abbrev pub invariant-loop-i : goal.invariant-loop-i
 invariant-loop-i l = record {
