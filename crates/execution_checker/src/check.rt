@@ -17,8 +17,7 @@ use trace::Trace;
 /// The order has the places of the operations in the list of steps, counted from 0. Whatever the script says, the harts'
 /// instructions are those of the image, as the instruction set has them. `opening` has the bytes that memory opened with.
 ///
-/// The answer is found in a time nearly in line with the steps. The reason of a refusal is then looked for, by a plain search whose
-/// steps are at least as many as their square.
+/// The answer is found in a time nearly in line with the steps. The reason of a refusal is then looked for, as `find_refusal` says.
 ///
 /// # Errors
 ///

@@ -1,13 +1,14 @@
 -- The first two operations that break a rule of preserved program order.
-use Rattle.std.proofs.Common.{◌≡◌, ℕ, ◌+◌, ◌<◌, List, length, Option, Some, None, MatchOption, refl, sym, subst, inl, inr, arith}
+use Rattle.std.proofs.Common.{◌≡◌, ℕ, ◌+◌, List, Option, Some, None, MatchOption, true, refl, sym, subst, inl, inr, arith}
 use Rattle.std.proofs.lemmas.Bool.{cases_eq, cases_lt}
 use Rattle.rv64_decode.specs.declared.instruction.Instr.{Instr}
 use Rattle.round_schedule.specs.declared.event.Event.{Event}
+use Rattle.round_schedule.specs.Positions.{event}
 use Rattle.memory_order.specs.Orders.{ListsOperations, place}
-use Rattle.memory_order.specs.Rvwmo.{PreservedOrderBy}
-use Rattle.memory_order.proofs.Facts.{within}
+use Rattle.memory_order.specs.Operations.{is_operation}
 use Rattle.memory_order.proofs.Sources.{one_place}
 use Rattle.dependencies.specs.Dependencies.{DependencyRule}
+use Rattle.rule_checker.specs.Unkept.{IsFirstUnkept, PreservedAt}
 use Rattle.refusal_reasons.specs.declared.rule.OrderRule.{OrderRule}
 use Rattle.refusal_reasons.specs.Orders.{IsFirstRule, NoneAsks, rule_of}
 use Rattle.refusal_reasons.specs.Reasons.{IsBroken, IsFirstBroken, IsFirstBrokenAt, IsTurned, NoneBroken, NoneBrokenAt}
@@ -40,33 +41,33 @@ first_broken rule is t pos a b turned first none = record {
   least = λ k l o. first.least k l (asked_by k is t pos a b o);
 }
 
+-- what preserved program order keeps is broken by none
+pub none_if_kept : (is : List Instr) (t : List Event) (pos : ℕ → ℕ) (a b : ℕ) (rule : OrderRule) → PreservedAt (DependencyRule is t pos) t pos b → IsBroken rule is t pos a b → ⊥
+none_if_kept is t pos a b rule kept h =
+    let l = kept a h.first h.before h.ordered.0 in
+    omega (arith, l, h.broken)
+
 -- the first of all second places
 pub first_of_all : (rule : OrderRule) (is : List Instr) (t : List Event) (pos : ℕ → ℕ) (a b second : ℕ) → b ≡ second → IsFirstBrokenAt rule is t pos a second →
-    ((d : ℕ) → d < second → NoneBrokenAt is t pos d d) → IsFirstBroken rule is t pos a b
-first_of_all rule is t pos a b second at first none =
+    IsFirstUnkept t (PreservedAt (DependencyRule is t pos) t pos) second → IsFirstBroken rule is t pos a b
+first_of_all rule is t pos a b second at first unkept =
     subst (λ n. IsFirstBroken rule is t pos a n) (sym at) (record { broken = first.broken; none = before; least = first.least })
   where
     before : NoneBroken is t pos a second
     before k c d o = elim o [
-      | inl l ↦ λ h. none d l k c h.before.earlier h
+      | inl l ↦ λ h. none_if_kept is t pos c d k (unkept.kept d l h.second) h
       | inr e ↦ λ h. first.none k c e.1 (subst (λ n. IsBroken k is t pos c n) e.0 h)
     ]
 
-pub none_below_next : (is : List Instr) (t : List Event) (pos : ℕ → ℕ) (second : ℕ) → ((d : ℕ) → d < second → NoneBrokenAt is t pos d d) → NoneBrokenAt is t pos second second →
-    (d : ℕ) → d < second + 1 → NoneBrokenAt is t pos d d
-none_below_next is t pos second old here d l = elim (cases_lt d second) [
-  | inl low ↦ old d low
-  | inr high ↦ let e : second ≡ d = omega (arith, l, high) in subst (λ n. NoneBrokenAt is t pos n n) e here
-]
-
-pub preserved_from_none : (is : List Instr) (t : List Event) (g : List ℕ) → ListsOperations t g → ((b : ℕ) → b < length t → NoneBrokenAt is t (place g) b b) →
-    PreservedOrderBy (DependencyRule is t (place g)) t (place g)
-preserved_from_none is t g lists none a b oa ob before r = elim (cases_lt (place g a) (place g b)) [
+-- what is broken by none is kept
+pub unbroken : (is : List Instr) (t : List Event) (g : List ℕ) (b : ℕ) → ListsOperations t g → is_operation (event t b) ≡ true → NoneBrokenAt is t (place g) b b →
+    PreservedAt (DependencyRule is t (place g)) t (place g) b
+unbroken is t g b lists ob none a oa before r = elim (cases_lt (place g a) (place g b)) [
   | inl l ↦ l
   | inr n ↦ elim (cases_eq (place g a) (place g b)) [
     | inl same ↦ absurd (let e = one_place t g a b lists oa ob same in let l = before.earlier in omega (arith, e, l))
     | inr other ↦ absurd (
-        none b (within t b ob) (rule_of is t (place g) a b r) a before.earlier
+        none (rule_of is t (place g) a b r) a before.earlier
         (record { first = oa; second = ob; before = before; ordered = (r, refl); broken = omega (arith, n, other) }))
   ]
 ]

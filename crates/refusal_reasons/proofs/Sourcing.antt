@@ -1,67 +1,53 @@
--- The source of a byte, found along the events.
-use Rattle.std.proofs.Common.{◌≡◌, ℕ, ◌+◌, ◌<◌, ◌≤◌, ◌⊎◌, Option, Some, None, MatchOption, sym, subst, inl, inr, arith}
-use Rattle.std.proofs.lemmas.Bool.{cases_lt}
-use Rattle.round_schedule.specs.Positions.{IsLatest}
+-- The source of a byte by its bound.
+use Rattle.std.proofs.Common.{◌≡◌, ◌≢◌, ℕ, ◌+◌, ◌-◌, ◌<◌, true, List, length, get_or, Some, None, inl, inr, refl, sym, ap, ◌∙◌, subst, arith}
+use Rattle.std.proofs.lemmas.Bool.{and_parts, cases_lt}
+use Rattle.round_schedule.specs.declared.event.Event.{Event}
+use Rattle.round_schedule.specs.Accesses.{loads}
+use Rattle.round_schedule.specs.Positions.{event, reads_at}
+use Rattle.memory_order.specs.Orders.{ListsOperations, place}
+use Rattle.memory_order.specs.Rvwmo.{IsSource, MaySee}
+use Rattle.memory_order.proofs.Placing.{place_of_contained}
+use Rattle.memory_order.proofs.Sources.{store_at}
+use Rattle.order_checker.specs.Checking.{IsMax, source_at, source_of}
+use Rattle.order_checker.proofs.Sourcing.{load_within}
+use Rattle.order_checker.proofs.Valuing.{source_listed}
+use Rattle.refusal_reasons.specs.Orders.{HasSources}
 
--- of the first n places those that P holds of
-abbrev pub So : (ℕ → Type 0) → ℕ → ℕ → Type 0
-So P n w = (w < n) × P w
+-- the place of a load in the order is one of the table
+pub reader_within : (t : List Event) (g : List ℕ) (s : List (List ℕ)) (r x p : ℕ) → ListsOperations t g → HasSources t g s → p ≡ place g r → reads_at t r x ≡ true → p < length s
+reader_within t g s r x p lists sourced at reads =
+    let l = load_within t g r p (event t r).access lists refl at (and_parts (loads (event t r).access) _ reads).0 in
+    omega (arith, l, sourced.len)
 
--- what holds of a place below the next holds of one below, or of this one
-split : (P : ℕ → Type 0) (n w : ℕ) → So P (n + 1) w → So P n w ⊎ ((w ≡ n) × P n)
-split P n w h = elim (cases_lt w n) [
-  | inl l ↦ inl (l, h.1)
-  | inr g ↦ let e : w ≡ n = omega (arith, g, h.0) in inr (e, subst P e h.1)
-]
+pub source_within : (t : List Event) (g : List ℕ) (s : List (List ℕ)) (r x p v : ℕ) → ListsOperations t g → HasSources t g s → p ≡ place g r → reads_at t r x ≡ true →
+    v ≡ source_at s p x → v ≢ 0 → v - 1 < length g
+source_within t g s r x p v lists sourced at reads is nonzero =
+    let here : v ≡ source_of g s r x = subst (λ q. v ≡ source_at s q x) at is in
+    let low = source_listed t g r x (source_of g s r x) lists (sourced.max r x reads) in
+    omega (arith, low, here, nonzero)
 
-pub latest_none : (pos : ℕ → ℕ) (P : ℕ → Type 0) → IsLatest pos (So P 0) None
-latest_none pos P = λ w h. omega (arith, h.0)
+pub is_opening : (t : List Event) (g : List ℕ) (s : List (List ℕ)) (r x p v : ℕ) → HasSources t g s → p ≡ place g r → reads_at t r x ≡ true →
+    v ≡ source_at s p x → v ≡ 0 → IsSource t (place g) r x None
+is_opening t g s r x p v sourced at reads is none w sees =
+    let here : v ≡ source_of g s r x = subst (λ q. v ≡ source_at s q x) at is in
+    let up = (sourced.max r x reads).upper w sees in
+    omega (arith, up, here, none)
 
--- the place itself
-pub latest_taken : (pos : ℕ → ℕ) (P : ℕ → Type 0) (n : ℕ) (o : Option ℕ) → P n → MatchOption o (Unit {0}) (λ s. pos s ≤ pos n) →
-    IsLatest pos (So P n) o → IsLatest pos (So P (n + 1)) (Some n)
-latest_taken pos P n None p later l = (
-  (omega arith, p),
-  λ v h. elim (split P n v h) [
-    | inl old ↦ absurd (l v old)
-    | inr new ↦ subst (λ m. pos m ≤ pos n) (sym new.0) (omega arith)
-  ],
-)
-latest_taken pos P n (Some s) p later l = (
-  (omega arith, p),
-  λ v h. elim (split P n v h) [
-    | inl old ↦ let up = l.1 v old in omega (arith, up, later)
-    | inr new ↦ subst (λ m. pos m ≤ pos n) (sym new.0) (omega arith)
-  ],
-)
-
--- or it stays as it was: nothing is there
-pub latest_kept : (pos : ℕ → ℕ) (P : ℕ → Type 0) (n : ℕ) (o : Option ℕ) → (P n → ⊥) → IsLatest pos (So P n) o → IsLatest pos (So P (n + 1)) o
-latest_kept pos P n None none l = λ w h. elim (split P n w h) [ inl old ↦ l w old | inr new ↦ none new.1 ]
-latest_kept pos P n (Some s) none l = (
-  (omega (arith, l.0.0), l.0.1),
-  λ v h. elim (split P n v h) [ inl old ↦ l.1 v old | inr new ↦ absurd (none new.1) ],
-)
-
--- or what is there stands earlier
-pub latest_stays : (pos : ℕ → ℕ) (P : ℕ → Type 0) (n : ℕ) (o : Option ℕ) → (MatchOption o (Unit {0}) (λ s. pos s ≤ pos n) → ⊥) →
-    IsLatest pos (So P n) o → IsLatest pos (So P (n + 1)) o
-latest_stays pos P n None earlier l = absurd (earlier tt)
-latest_stays pos P n (Some s) earlier l = (
-  (omega (arith, l.0.0), l.0.1),
-  λ v h. elim (split P n v h) [
-    | inl old ↦ l.1 v old
-    | inr new ↦ elim (cases_lt (pos s) (pos n)) [
-      | inl less ↦ absurd (earlier (omega (arith, less)))
-      | inr more ↦ subst (λ m. pos m ≤ pos s) (sym new.0) more
+pub is_listed : (t : List Event) (g : List ℕ) (s : List (List ℕ)) (r x p v w : ℕ) → ListsOperations t g → HasSources t g s → p ≡ place g r → reads_at t r x ≡ true →
+    v ≡ source_at s p x → v ≢ 0 → w ≡ get_or g (v - 1) 0 → IsSource t (place g) r x (Some w)
+is_listed t g s r x p v w lists sourced at reads is nonzero listed =
+    let here : v ≡ source_of g s r x = subst (λ q. v ≡ source_at s q x) at is in
+    let m = subst (λ n. IsMax (place g) (MaySee t (place g) r x) n) (sym here) (sourced.max r x reads) in
+    subst (λ n. IsSource t (place g) r x (Some n)) (sym listed) (by_attained m)
+  where
+    by_attained : IsMax (place g) (MaySee t (place g) r x) v → IsSource t (place g) r x (Some (get_or g (v - 1) 0))
+    by_attained k = elim k.attained [
+      | inl z ↦ absurd (nonzero z)
+      | inr a ↦
+          let at : get_or g (v - 1) 0 ≡ a.0 =
+          ap (λ n. get_or g n 0) (let n : v - 1 ≡ place g a.0 = omega (arith, a.2) in n) ∙ (place_of_contained g a.0 (lists.each a.0 (store_at t a.0 x a.1.0))).1 in
+          subst (λ n. IsSource t (place g) r x (Some n)) (sym at) (a.1, λ w h. let u = k.upper w h in omega (arith, u, a.2))
     ]
-  ],
-)
-
--- past the last place
-pub latest_all : (pos : ℕ → ℕ) (P : ℕ → Type 0) (n : ℕ) (o : Option ℕ) → ((w : ℕ) → P w → w < n) → IsLatest pos (So P n) o → IsLatest pos P o
-latest_all pos P n None within l = λ w h. l w (within w h, h)
-latest_all pos P n (Some s) within l = (l.0.1, λ v h. l.1 v (within v h, h))
 
 -- what holds of each place below one, and of it, holds below the next
 pub below_next : (P : ℕ → Type 0) (n : ℕ) → ((k : ℕ) → k < n → P k) → P n → (k : ℕ) → k < n + 1 → P k

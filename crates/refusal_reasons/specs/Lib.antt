@@ -1,4 +1,5 @@
 pub mod Dependents
+pub mod Listing
 pub mod Orders
 pub mod Reasons
 pub mod Rules

@@ -6,11 +6,11 @@ ghost use Rattle.round_schedule.specs.Accesses.{address_of, bytes_of};
 ghost use Rattle.round_schedule.specs.Positions.{ProgramBefore, event, reads_at};
 ghost use Rattle.memory_order.specs.Orders.{place};
 ghost use Rattle.memory_order.specs.Rvwmo.{IsSource};
-ghost use Rattle.refusal_reasons.specs.Orders.{AreRanked, Differs, DiffersAt, IsFrom, NoStoreBetween, Overlaps, Returns};
+ghost use Rattle.refusal_reasons.specs.Orders.{AreRanked, Differs, DiffersAt, HasSources, IsFrom, NoStoreBetween, Overlaps, Returns};
 
 use crate::access::{covers, is_same_hart, reads_at, writes_at};
 use crate::sources::source_of;
-use order_checker::event_at;
+use order_checker::{Sources, event_at};
 use round_schedule::{Access, Event};
 
 /// Whether two accesses have a byte in common.
@@ -28,8 +28,16 @@ pub(crate) fn overlap(a: &Access, b: &Access) -> bool
 }
 
 /// Whether two loads have a common byte from different stores, and no store of their hart to it lies between (rule 2).
-pub(crate) fn differ(events: &[Event], order: &[usize], ranks: &[usize], a: usize, b: usize) -> bool
+pub(crate) fn differ(
+    events: &[Event],
+    order: &[usize],
+    ranks: &[usize],
+    sources: &Sources,
+    a: usize,
+    b: usize,
+) -> bool
     requires ranked { AreRanked events.now order.now ranks.now }
+    requires sourced { HasSources events.now order.now sources.now.items }
     requires within { b < length events.now }
     requires before { ProgramBefore events.now a b }
     ensures { IsTrue result ↔ Differs events.now (place order.now) a b }
@@ -37,7 +45,7 @@ pub(crate) fn differ(events: &[Event], order: &[usize], ranks: &[usize], a: usiz
     let event = event_at(events, b);
     let start = event.access.address();
     for k in 0..event.access.byte_count() {
-        if differ_at(events, order, ranks, a, b, start + k) {
+        if differ_at(events, order, ranks, sources, a, b, start + k) {
             return true;
         }
     }
@@ -45,8 +53,17 @@ pub(crate) fn differ(events: &[Event], order: &[usize], ranks: &[usize], a: usiz
 }
 
 /// The same of one byte.
-fn differ_at(events: &[Event], order: &[usize], ranks: &[usize], a: usize, b: usize, x: u64) -> bool
+fn differ_at(
+    events: &[Event],
+    order: &[usize],
+    ranks: &[usize],
+    sources: &Sources,
+    a: usize,
+    b: usize,
+    x: u64,
+) -> bool
     requires ranked { AreRanked events.now order.now ranks.now }
+    requires sourced { HasSources events.now order.now sources.now.items }
     requires within { b < length events.now }
     requires before { ProgramBefore events.now a b }
     ensures { IsTrue result ↔ DiffersAt events.now (place order.now) a b x }
@@ -57,8 +74,8 @@ fn differ_at(events: &[Event], order: &[usize], ranks: &[usize], a: usize, b: us
     if !is_unstored_between(events, a, b, x) {
         return false;
     }
-    let first = source_of(events, order, ranks, a, x);
-    let second = source_of(events, order, ranks, b, x);
+    let first = source_of(events, order, ranks, sources, a, x);
+    let second = source_of(events, order, ranks, sources, b, x);
     are_apart(first, second)
 }
 
@@ -104,17 +121,19 @@ pub(crate) fn returns(
     events: &[Event],
     order: &[usize],
     ranks: &[usize],
+    sources: &Sources,
     a: usize,
     b: usize,
 ) -> bool
     requires ranked { AreRanked events.now order.now ranks.now }
+    requires sourced { HasSources events.now order.now sources.now.items }
     requires within { b < length events.now }
     ensures { IsTrue result ↔ Returns events.now (place order.now) a b }
 {
     let event = event_at(events, b);
     let start = event.access.address();
     for k in 0..event.access.byte_count() {
-        if is_from(events, order, ranks, a, b, start + k) {
+        if is_from(events, order, ranks, sources, a, b, start + k) {
             return true;
         }
     }
@@ -122,14 +141,23 @@ pub(crate) fn returns(
 }
 
 /// Whether the byte at an address that the load at `b` reads is from the store at `a`.
-fn is_from(events: &[Event], order: &[usize], ranks: &[usize], a: usize, b: usize, x: u64) -> bool
+fn is_from(
+    events: &[Event],
+    order: &[usize],
+    ranks: &[usize],
+    sources: &Sources,
+    a: usize,
+    b: usize,
+    x: u64,
+) -> bool
     requires ranked { AreRanked events.now order.now ranks.now }
+    requires sourced { HasSources events.now order.now sources.now.items }
     requires within { b < length events.now }
     ensures { IsTrue result ↔ IsFrom events.now (place order.now) b a x }
 {
     if !reads_at(events, b, x) {
         return false;
     }
-    let source = source_of(events, order, ranks, b, x);
+    let source = source_of(events, order, ranks, sources, b, x);
     are_one(source, Some(a))
 }

@@ -5,13 +5,13 @@ ghost use Rattle.trace.specs.Traced.{HasForm};
 ghost use Rattle.round_schedule.specs.Positions.{ProgramBefore};
 ghost use Rattle.memory_order.specs.Orders.{place};
 ghost use Rattle.dependencies.specs.Dependencies.{AddressDependency, ControlDependency, DataDependency};
-ghost use Rattle.refusal_reasons.specs.Orders.{AddressedBetween, AreRanked, DependsBefore, Forwards, ForwardsAt};
+ghost use Rattle.refusal_reasons.specs.Orders.{AddressedBetween, AreRanked, DependsBefore, Forwards, ForwardsAt, HasSources};
 
 use crate::access::{is_same_hart, reads_at};
 use crate::dependents::{dependents_before, is_dependent};
 use crate::sources::source_of;
 use dependencies::used_registers;
-use order_checker::event_at;
+use order_checker::{Sources, event_at};
 use round_schedule::Event;
 use rv64_decode::Instr;
 
@@ -66,11 +66,13 @@ pub(crate) fn forwards(
     events: &[Event],
     order: &[usize],
     ranks: &[usize],
+    sources: &Sources,
     a: usize,
     b: usize,
 ) -> bool
     requires along { length instructions.now ≡ length events.now }
     requires ranked { AreRanked events.now order.now ranks.now }
+    requires sourced { HasSources events.now order.now sources.now.items }
     requires within { b < length events.now }
     requires before { ProgramBefore events.now a b }
     ensures { IsTrue result ↔ Forwards instructions.now events.now (place order.now) a b }
@@ -78,7 +80,7 @@ pub(crate) fn forwards(
     let event = event_at(events, b);
     let start = event.access.address();
     for k in 0..event.access.byte_count() {
-        if forwards_at(instructions, events, order, ranks, a, b, start + k) {
+        if forwards_at(instructions, events, order, ranks, sources, a, b, start + k) {
             return true;
         }
     }
@@ -91,12 +93,14 @@ fn forwards_at(
     events: &[Event],
     order: &[usize],
     ranks: &[usize],
+    sources: &Sources,
     a: usize,
     b: usize,
     x: u64,
 ) -> bool
     requires along { length instructions.now ≡ length events.now }
     requires ranked { AreRanked events.now order.now ranks.now }
+    requires sourced { HasSources events.now order.now sources.now.items }
     requires within { b < length events.now }
     requires before { ProgramBefore events.now a b }
     ensures { IsTrue result ↔ ForwardsAt instructions.now events.now (place order.now) a b x }
@@ -104,7 +108,7 @@ fn forwards_at(
     if !reads_at(events, b, x) {
         return false;
     }
-    match source_of(events, order, ranks, b, x) {
+    match source_of(events, order, ranks, sources, b, x) {
         Some(m) => depends_before(instructions, events, a, m, b),
         None => false,
     }

@@ -7,7 +7,7 @@ ghost use Rattle.dependencies.specs.Dependencies.{DependencyRule};
 ghost use Rattle.refusal_reasons.specs.Orders.{AreRanked};
 ghost use Rattle.refusal_reasons.specs.Reasons.{IsTrueOf};
 
-use crate::listing::{first_left_out, first_stranger, first_twice};
+use crate::listing::{first_left_out, first_positions, first_stranger, first_twice};
 use crate::pairs::find_broken;
 use crate::refusal::Refusal;
 use crate::torn::find_torn;
@@ -16,6 +16,7 @@ use memory_order::Order;
 use order_checker::positions;
 use pages::OutOfMemory;
 use round_schedule::Event;
+use rule_checker::sources_of_loads;
 use rv64_decode::Instr;
 use std::alloc::Global;
 use trace::Trace;
@@ -23,9 +24,9 @@ use trace::Trace;
 /// Why RVWMO refuses an order of the memory operations of instructions, over the bytes that a trace's memory opened with, if it does.
 ///
 /// It looks first at what the order lists, then for two operations of a hart that break a rule of preserved program order, then for
-/// a byte that a load did not get from its source, and then for an LR and an SC with another hart's store between. This is a
-/// plain search for a line that people read, whose steps are at least as many as the square of the events: whether an order is
-/// allowed is for `check_instructions` to say.
+/// a byte that a load did not get from its source, and then for an LR and an SC with another hart's store between. Each is found in a
+/// time nearly in line with the events, but for the first of the two operations: of those that the order has behind the second,
+/// each is compared with all between.
 ///
 /// # Errors
 ///
@@ -61,58 +62,63 @@ fn find_in(
         (λ r. IsTrueOf r instructions.now events.now (opening_at opening.now.opening) order.now)) }
 {
     match positions(alloc, events, order)? {
-        Some(ranks) => Ok(find_unmet(opening, instructions, events, order, &ranks)),
-        None => Ok(Some(find_unlisted(events, order))),
+        Some(ranks) => Ok(find_unmet(alloc, opening, instructions, events, order, &ranks)?),
+        None => Ok(Some(find_unlisted(alloc, events, order)?)),
     }
 }
 
 /// What an order lists amiss that doesn't list each memory operation once and nothing else.
-fn find_unlisted(events: &[Event], order: &[usize]) -> Refusal
+fn find_unlisted(alloc: Global, events: &[Event], order: &[usize]) -> Result<Refusal, OutOfMemory>
     requires { ListsOperations events.now order.now → ⊥ }
-    ensures { (is : List Instr) (opening : ℕ → ℕ) → IsTrueOf result is events.now opening order.now }
+    ensures { IfOk result (λ r. (is : List Instr) (opening : ℕ → ℕ) → IsTrueOf r is events.now opening order.now) }
 {
     if let Some(position) = first_stranger(events, order) {
-        return Refusal::NoOperation { position };
+        return Ok(Refusal::NoOperation { position });
     }
-    if let Some(place) = first_twice(order) {
-        return Refusal::Twice { place };
+    let firsts = first_positions(alloc, events, order)?;
+    if let Some(place) = first_twice(events, order, &firsts) {
+        return Ok(Refusal::Twice { place });
     }
-    match first_left_out(events, order) {
-        Some(place) => Refusal::LeftOut { place },
+    match first_left_out(events, order, &firsts) {
+        Some(place) => Ok(Refusal::LeftOut { place }),
         None => unreachable!(),
     }
 }
 
 /// The same of an order that lists each memory operation once, each at its rank.
 fn find_unmet(
+    alloc: Global,
     opening: &Trace,
     instructions: &[Instr],
     events: &[Event],
     order: &[usize],
     ranks: &[usize],
-) -> Option<Refusal>
+) -> Result<Option<Refusal>, OutOfMemory>
     requires along { length instructions.now ≡ length events.now }
     requires ranked { AreRanked events.now order.now ranks.now }
-    ensures { MatchOption result
+    ensures { IfOk result (λ o. MatchOption o
         (MeetsRvwmoBy (DependencyRule instructions.now events.now) events.now (opening_at opening.now.opening) order.now)
-        (λ r. IsTrueOf r instructions.now events.now (opening_at opening.now.opening) order.now) }
+        (λ r. IsTrueOf r instructions.now events.now (opening_at opening.now.opening) order.now)) }
 {
-    if let Some(pair) = find_broken(instructions, events, order, ranks) {
-        return Some(Refusal::OutOfOrder {
+    let sources = sources_of_loads(alloc, events, order, ranks)?;
+    if let Some(pair) = find_broken(alloc, instructions, events, order, ranks, &sources)? {
+        return Ok(Some(Refusal::OutOfOrder {
             rule: pair.rule,
             first: pair.first,
             second: pair.second,
-        });
+        }));
     }
-    if let Some(byte) = find_wrong(opening, events, order, ranks) {
-        return Some(Refusal::WrongByte {
+    if let Some(byte) = find_wrong(opening, events, order, ranks, &sources) {
+        return Ok(Some(Refusal::WrongByte {
             load: byte.load,
             address: byte.address,
-        });
+        }));
     }
-    let torn = find_torn(events, order, ranks)?;
-    Some(Refusal::NotAtomic {
-        reserve: torn.reserve,
-        conditional: torn.conditional,
-    })
+    match find_torn(alloc, events, order, ranks, &sources)? {
+        Some(torn) => Ok(Some(Refusal::NotAtomic {
+            reserve: torn.reserve,
+            conditional: torn.conditional,
+        })),
+        None => Ok(None),
+    }
 }

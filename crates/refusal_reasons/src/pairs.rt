@@ -1,17 +1,21 @@
-ghost use Rattle.std.specs.Prelude.{◌≡◌, ◌↔◌, ◌<◌, IsTrue, MatchOption, length};
+ghost use Rattle.std.specs.Prelude.{◌≡◌, ◌↔◌, ◌<◌, IfOk, IsTrue, MatchOption, length};
 ghost use Rattle.memory_order.specs.Orders.{place};
 ghost use Rattle.memory_order.specs.Rvwmo.{PreservedOrderBy};
 ghost use Rattle.dependencies.specs.Dependencies.{DependencyRule};
-ghost use Rattle.refusal_reasons.specs.Orders.{AreRanked, IsFirstRule};
+ghost use Rattle.rule_checker.specs.Unkept.{IsFirstUnkept, PreservedAt};
+ghost use Rattle.refusal_reasons.specs.Orders.{AreRanked, HasSources, IsFirstRule};
 ghost use Rattle.refusal_reasons.specs.declared.rule.OrderRule.{OrderRule};
 ghost use Rattle.refusal_reasons.specs.Reasons.{IsBroken, IsFirstBroken, IsFirstBrokenAt, IsTurned, NoneBrokenAt};
 
 use crate::asking::first_rule;
 use crate::rule::OrderRule;
 use memory_order::is_operation;
-use order_checker::position_of;
+use order_checker::{Sources, position_of};
+use pages::OutOfMemory;
 use round_schedule::Event;
+use rule_checker::first_unkept;
 use rv64_decode::Instr;
+use std::alloc::Global;
 
 /// Two operations of a hart that break a rule of preserved program order.
 #[derive(Clone, Copy)]
@@ -24,24 +28,49 @@ pub(crate) struct BrokenPair {
 /// The first two operations that break a rule: of the least second place, of these the ones of the least first place, and the first
 /// rule that they break.
 pub(crate) fn find_broken(
+    alloc: Global,
     instructions: &[Instr],
     events: &[Event],
     order: &[usize],
     ranks: &[usize],
-) -> Option<BrokenPair>
+    sources: &Sources,
+) -> Result<Option<BrokenPair>, OutOfMemory>
     requires along { length instructions.now ≡ length events.now }
     requires ranked { AreRanked events.now order.now ranks.now }
-    ensures { MatchOption result
+    requires sourced { HasSources events.now order.now sources.now.items }
+    ensures { IfOk result (λ pair. MatchOption pair
         (PreservedOrderBy (DependencyRule instructions.now events.now (place order.now)) events.now (place order.now))
-        (λ p. IsFirstBroken p.rule instructions.now events.now (place order.now) p.first p.second) }
+        (λ p. IsFirstBroken p.rule instructions.now events.now (place order.now) p.first p.second)) }
 {
-    for second in 0..events.len() {
-        match find_broken_at(instructions, events, order, ranks, second) {
-            Some(pair) => return Some(pair),
-            None => {}
+    let unkept = first_unkept(alloc, instructions, events, order, ranks, sources)?;
+    match unkept {
+        Some(second) => {
+            let pair = first_broken_at(instructions, events, order, ranks, sources, second);
+            Ok(Some(pair))
         }
+        None => Ok(None),
     }
-    None
+}
+
+/// The first two operations that break a rule, where the second is known.
+fn first_broken_at(
+    instructions: &[Instr],
+    events: &[Event],
+    order: &[usize],
+    ranks: &[usize],
+    sources: &Sources,
+    second: usize,
+) -> BrokenPair
+    requires along { length instructions.now ≡ length events.now }
+    requires ranked { AreRanked events.now order.now ranks.now }
+    requires sourced { HasSources events.now order.now sources.now.items }
+    requires second { IsFirstUnkept events.now (PreservedAt (DependencyRule instructions.now events.now (place order.now)) events.now (place order.now)) second }
+    ensures { IsFirstBroken result.rule instructions.now events.now (place order.now) result.first result.second }
+{
+    match find_broken_at(instructions, events, order, ranks, sources, second) {
+        Some(pair) => pair,
+        None => unreachable!(),
+    }
 }
 
 /// The same with a given second place.
@@ -50,17 +79,19 @@ fn find_broken_at(
     events: &[Event],
     order: &[usize],
     ranks: &[usize],
+    sources: &Sources,
     second: usize,
 ) -> Option<BrokenPair>
     requires along { length instructions.now ≡ length events.now }
     requires ranked { AreRanked events.now order.now ranks.now }
+    requires sourced { HasSources events.now order.now sources.now.items }
     requires within { second < length events.now }
     ensures at { MatchOption result (Unit {0}) (λ p. p.second ≡ second) }
     ensures first { MatchOption result (NoneBrokenAt instructions.now events.now (place order.now) second second)
         (λ p. IsFirstBrokenAt p.rule instructions.now events.now (place order.now) p.first second) }
 {
     for first in 0..second {
-        match broken_rule(instructions, events, order, ranks, first, second) {
+        match broken_rule(instructions, events, order, ranks, sources, first, second) {
             Some(rule) => {
                 return Some(BrokenPair {
                     rule,
@@ -80,11 +111,13 @@ fn broken_rule(
     events: &[Event],
     order: &[usize],
     ranks: &[usize],
+    sources: &Sources,
     first: usize,
     second: usize,
 ) -> Option<OrderRule>
     requires along { length instructions.now ≡ length events.now }
     requires ranked { AreRanked events.now order.now ranks.now }
+    requires sourced { HasSources events.now order.now sources.now.items }
     requires within { second < length events.now }
     requires earlier { first < second }
     ensures { MatchOption result
@@ -95,7 +128,7 @@ fn broken_rule(
     if !is_turned(events, order, ranks, first, second) {
         return None;
     }
-    first_rule(instructions, events, order, ranks, first, second)
+    first_rule(instructions, events, order, ranks, sources, first, second)
 }
 
 /// Whether these are memory operations of one hart, and the order has the second first.

@@ -1,16 +1,18 @@
-ghost use Rattle.std.specs.Prelude.{◌≡◌, ◌↔◌, ◌<◌, IsTrue, MatchOption, length, true, false};
+ghost use Rattle.std.specs.Prelude.{◌≡◌, ◌↔◌, ◌+◌, ◌<◌, IfOk, IsTrue, MatchOption, length, true, false};
 ghost use Rattle.round_schedule.specs.Positions.{event};
 ghost use Rattle.memory_order.specs.Operations.{is_store};
 ghost use Rattle.memory_order.specs.Orders.{place};
 ghost use Rattle.memory_order.specs.Rvwmo.{AtomicityAxiom, IsPaired, KeepsByte};
-ghost use Rattle.refusal_reasons.specs.Orders.{AreRanked};
+ghost use Rattle.order_checker.specs.Checking.{AreReserved};
+ghost use Rattle.refusal_reasons.specs.Orders.{AreRanked, HasSources};
 ghost use Rattle.refusal_reasons.specs.Reasons.{AtomicFor, IsTorn, KeepsBytes, LiesBetween};
 
 use crate::access::writes;
-use crate::between::are_paired;
 use crate::sources::source_of;
-use order_checker::{event_at, position_of};
+use order_checker::{Sources, event_at, last_reserved, listed, paired, position_of};
+use pages::OutOfMemory;
 use round_schedule::Event;
+use std::alloc::Global;
 
 /// An LR and the SC that it is paired with.
 #[derive(Clone, Copy)]
@@ -20,23 +22,31 @@ pub(crate) struct Pair {
 }
 
 /// The first SC that succeeded where another hart stored between the LR that it is paired with and itself, with that LR.
-pub(crate) fn find_torn(events: &[Event], order: &[usize], ranks: &[usize]) -> Option<Pair>
+pub(crate) fn find_torn(
+    alloc: Global,
+    events: &[Event],
+    order: &[usize],
+    ranks: &[usize],
+    sources: &Sources,
+) -> Result<Option<Pair>, OutOfMemory>
     requires ranked { AreRanked events.now order.now ranks.now }
-    ensures { MatchOption result (AtomicityAxiom events.now (place order.now))
-        (λ p. IsTorn events.now (place order.now) p.reserve p.conditional) }
+    requires sourced { HasSources events.now order.now sources.now.items }
+    ensures { IfOk result (λ pair. MatchOption pair (AtomicityAxiom events.now (place order.now))
+        (λ p. IsTorn events.now (place order.now) p.reserve p.conditional)) }
 {
+    let reserved = last_reserved(alloc, events)?;
     for conditional in 0..events.len() {
-        match find_torn_at(events, order, ranks, conditional) {
+        match find_torn_at(events, order, ranks, sources, &reserved, conditional) {
             Some(reserve) => {
-                return Some(Pair {
+                return Ok(Some(Pair {
                     reserve,
                     conditional,
-                });
+                }));
             }
             None => {}
         }
     }
-    None
+    Ok(None)
 }
 
 /// The LR of one SC.
@@ -44,9 +54,13 @@ fn find_torn_at(
     events: &[Event],
     order: &[usize],
     ranks: &[usize],
+    sources: &Sources,
+    reserved: &[usize],
     conditional: usize,
 ) -> Option<usize>
     requires ranked { AreRanked events.now order.now ranks.now }
+    requires sourced { HasSources events.now order.now sources.now.items }
+    requires reserved { AreReserved events.now (length events.now) reserved.now }
     requires within { conditional < length events.now }
     ensures { MatchOption result (AtomicFor events.now (place order.now) conditional)
         (λ l. IsTorn events.now (place order.now) l conditional) }
@@ -54,20 +68,29 @@ fn find_torn_at(
     if !events[conditional].access.stores() {
         return None;
     }
-    for l in 0..conditional {
-        if events[l].hart == events[conditional].hart
-            && are_paired(events, l, conditional)
-            && !keeps_bytes(events, order, ranks, l, conditional)
-        {
-            return Some(l);
+    match paired(events, reserved, conditional) {
+        Some(reserve) => {
+            if keeps_bytes(events, order, ranks, sources, reserve, conditional) {
+                None
+            } else {
+                Some(reserve)
+            }
         }
+        None => None,
     }
-    None
 }
 
 /// Whether no other hart stores to a byte of the load at `l` between its source and the SC at `c`.
-fn keeps_bytes(events: &[Event], order: &[usize], ranks: &[usize], l: usize, c: usize) -> bool
+fn keeps_bytes(
+    events: &[Event],
+    order: &[usize],
+    ranks: &[usize],
+    sources: &Sources,
+    l: usize,
+    c: usize,
+) -> bool
     requires ranked { AreRanked events.now order.now ranks.now }
+    requires sourced { HasSources events.now order.now sources.now.items }
     requires reserve { l < length events.now }
     requires within { c < length events.now }
     requires paired { IsPaired events.now l c }
@@ -81,7 +104,7 @@ fn keeps_bytes(events: &[Event], order: &[usize], ranks: &[usize], l: usize, c: 
     }
     let start = event.access.address();
     for k in 0..event.access.byte_count() {
-        let source = source_of(events, order, ranks, l, start + k);
+        let source = source_of(events, order, ranks, sources, l, start + k);
         if !keeps_byte(events, order, ranks, c, start + k, source) {
             return false;
         }
@@ -106,12 +129,30 @@ fn keeps_byte(
     if !precedes(events, order, ranks, source, c) {
         return false;
     }
-    for v in 0..events.len() {
-        if lies_between(events, order, ranks, c, x, source, v) {
+    let start = position_after(events, order, ranks, source);
+    for p in start..position_of(events, order, ranks, c) {
+        if lies_between(events, order, ranks, c, x, source, listed(events, order, p)) {
             return false;
         }
     }
     true
+}
+
+/// The position after that of a store, or the first one.
+fn position_after(
+    events: &[Event],
+    order: &[usize],
+    ranks: &[usize],
+    source: Option<usize>,
+) -> usize
+    requires ranked { AreRanked events.now order.now ranks.now }
+    requires source { MatchOption source (Unit {0}) (λ s. s < length events.now) }
+    ensures { MatchOption source (result ≡ 0) (λ s. result ≡ place order.now s + 1) }
+{
+    match source {
+        Some(s) => position_of(events, order, ranks, s) + 1,
+        None => 0,
+    }
 }
 
 /// Whether a store stands before a place, or there is no store.

@@ -5,11 +5,11 @@ ghost use Rattle.round_schedule.specs.Positions.{reads_at, source_byte};
 ghost use Rattle.trace.specs.Traced.{opening_at};
 ghost use Rattle.memory_order.specs.Orders.{place};
 ghost use Rattle.memory_order.specs.Rvwmo.{LoadValueAxiom};
-ghost use Rattle.refusal_reasons.specs.Orders.{AreRanked};
+ghost use Rattle.refusal_reasons.specs.Orders.{AreRanked, HasSources};
 ghost use Rattle.refusal_reasons.specs.Reasons.{IsRight, IsWrong, IsRightLoad};
 
 use crate::sources::source_of;
-use order_checker::event_at;
+use order_checker::{Sources, event_at};
 use round_schedule::{Access, Event};
 use trace::Trace;
 
@@ -26,13 +26,15 @@ pub(crate) fn find_wrong(
     events: &[Event],
     order: &[usize],
     ranks: &[usize],
+    sources: &Sources,
 ) -> Option<ByteRead>
     requires ranked { AreRanked events.now order.now ranks.now }
+    requires sourced { HasSources events.now order.now sources.now.items }
     ensures { MatchOption result (LoadValueAxiom events.now (opening_at opening.now.opening) (place order.now))
         (λ w. IsWrong events.now (opening_at opening.now.opening) (place order.now) w.load w.address) }
 {
     for load in 0..events.len() {
-        match find_wrong_at(opening, events, order, ranks, load) {
+        match find_wrong_at(opening, events, order, ranks, sources, load) {
             Some(address) => return Some(ByteRead { load, address }),
             None => {}
         }
@@ -46,9 +48,11 @@ fn find_wrong_at(
     events: &[Event],
     order: &[usize],
     ranks: &[usize],
+    sources: &Sources,
     load: usize,
 ) -> Option<u64>
     requires ranked { AreRanked events.now order.now ranks.now }
+    requires sourced { HasSources events.now order.now sources.now.items }
     requires within { load < length events.now }
     ensures { MatchOption result (IsRightLoad events.now (opening_at opening.now.opening) (place order.now) load)
         (λ x. IsWrong events.now (opening_at opening.now.opening) (place order.now) load x) }
@@ -59,7 +63,7 @@ fn find_wrong_at(
     }
     let start = event.access.address();
     for k in 0..event.access.byte_count() {
-        if !is_right(opening, events, order, ranks, load, start + k) {
+        if !is_right(opening, events, order, ranks, sources, load, start + k) {
             return Some(start + k);
         }
     }
@@ -72,16 +76,18 @@ fn is_right(
     events: &[Event],
     order: &[usize],
     ranks: &[usize],
+    sources: &Sources,
     load: usize,
     x: u64,
 ) -> bool
     requires ranked { AreRanked events.now order.now ranks.now }
+    requires sourced { HasSources events.now order.now sources.now.items }
     requires within { load < length events.now }
     requires reads { reads_at events.now load x ≡ true }
     ensures right { result ≡ true → IsRight events.now (opening_at opening.now.opening) (place order.now) load x }
     ensures wrong { result ≡ false → IsWrong events.now (opening_at opening.now.opening) (place order.now) load x }
 {
-    let source = source_of(events, order, ranks, load, x);
+    let source = source_of(events, order, ranks, sources, load, x);
     byte_read(&events[load].access, x) == byte_left(opening, events, source, x)
 }
 

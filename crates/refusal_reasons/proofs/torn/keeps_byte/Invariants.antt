@@ -3,5 +3,5 @@ use Rattle.memory_order.specs.Orders.{place}
 use Rattle.refusal_reasons.specs.Reasons.{LiesBetween}
 use Rattle.refusal_reasons.proofs.torn.keeps_byte.Given as goal
 
-abbrev pub invariant-loop-v : goal.invariant-loop-v
-invariant-loop-v l = (w : ℕ) → w < l.v → LiesBetween l.events (place l.order) l.c l.x l.source w → ⊥
+abbrev pub invariant-loop-p : goal.invariant-loop-p
+invariant-loop-p l = (v : ℕ) → place l.order v < l.p → LiesBetween l.events (place l.order) l.c l.x l.source v → ⊥
