@@ -20,7 +20,7 @@ use Rattle.plan_hunt.specs.declared.hart_ending.HartEnding.TheVariants.{Stopped}
 use Rattle.plan_hunt.specs.Tables.{IsTable}
 use Rattle.plan_hunt.specs.declared.row.Row.{Row}
 use Rattle.plan_shrink.specs.Steps.{IsShrunk}
-use Rattle.hunter.specs.Hunts.{IsHunted, ended_of, ending_by, ends_after, ends_from, ends_under, family_of, seen_of}
+use Rattle.hunter.specs.Hunts.{IsHunted, ended_of, ending_by, ends_after, ends_from, ends_under, family_of, run_endings, seen_of}
 use Rattle.hunter.specs.declared.settings.HuntSettings.{HuntSettings}
 
 head_is : {X : Type 0} (x y : X) (xs ys : List X) → x ∷ xs ≡ y ∷ ys → (x ≡ y) × (xs ≡ ys)
@@ -51,6 +51,22 @@ same_words : (round : Bool) (hs : List Hart) (b : Bool) → some_run hs ≡ b �
 same_words round hs true e = refl
 same_words round hs false e = none_run false round hs e
 
+-- the harts of a machine that was run, or cut short, ended as those of the run
+pub endings_so : (n : ℕ) (m : Running) (v : Untraced) (l : Bool) (like : IsLike (after_rounds n m) v) → l ≡ loops_in n m →
+    map (λ (g : Hart). ending_by l g.stop) like.there.state.harts ≡ run_endings n m
+endings_so n m v l like loops =
+    let last : Running = after_rounds n m in
+    let round : Bool = is_round n m in
+    ap (λ (b : Bool). map (λ (g : Hart). ending_by b g.stop) like.there.state.harts) loops
+    ∙ same_harts (ending_by (some_run last.state.harts && round)) like.there.state.harts last.state.harts like.alike.harts
+    ∙ same_words round last.state.harts (some_run last.state.harts) refl
+
+-- the same, as they are told
+pub told_so : (n : ℕ) (m : Running) (v : Untraced) (l : Bool) (words : List HartEnding) → l ≡ loops_in n m → IsLike (after_rounds n m) v →
+    words ≡ map (λ (g : Hart). ending_by l g.stop) v.harts → words ≡ run_endings n m
+told_so n m v l words loops like told =
+    told ∙ ap (λ (hs : List Hart). map (λ (g : Hart). ending_by l g.stop) hs) like.is.harts ∙ endings_so n m v l like loops
+
 -- the machine is run from its opening, or cut short, and is looked at
 pub ends_so : (s : HuntSettings) (image : Loaded) (input : List ℕ) (p : Planned) (u v : Untraced) (ranges : List SeenRange) (l : Bool) (r : Result Ended OutOfMemory) →
     IsUntraced (opening image input p) u → l ≡ loops_in s.rounds (opening image input p) → IsLike (after_rounds s.rounds (opening image input p)) v → ranges ≡ s.header.ranges.items →
@@ -60,12 +76,8 @@ ends_so s image input p u v ranges l r is loops like same h =
     let m : Running = opening image input p in
     let last : Running = after_rounds s.rounds m in
     let there : Running = like.there in
-    let round : Bool = is_round s.rounds m in
-    let words : List HartEnding = map (λ (g : Hart). ending_by round g.stop) last.state.harts in
-    let stops : map (λ (g : Hart). ending_by l g.stop) there.state.harts ≡ words =
-    ap (λ (b : Bool). map (λ (g : Hart). ending_by b g.stop) there.state.harts) loops
-    ∙ same_harts (ending_by (some_run last.state.harts && round)) there.state.harts last.state.harts like.alike.harts
-    ∙ same_words round last.state.harts (some_run last.state.harts) refl in
+    let words : List HartEnding = run_endings s.rounds m in
+    let stops : map (λ (g : Hart). ending_by l g.stop) there.state.harts ≡ words = endings_so s.rounds m v l like loops in
     let is_so : ended_of ranges l there ≡ ends_from s image input p =
     ap (λ (ws : List HartEnding). ended ws there.state.console.output (seen_of ranges there.state.bytes)) stops
     ∙ ap (λ (c : ConsoleState). ended words c.output (seen_of ranges there.state.bytes)) like.alike.console

@@ -82,6 +82,10 @@ abbrev pub ending_by : Bool → Option Stop → HartEnding
 ending_by round None = if round then Loops else Runs
 ending_by round (Some s) = Stopped s
 
+-- how the harts of a run of so many rounds ended: one that runs when they are over loops where the run is found to go round
+abbrev pub run_endings : ℕ → Running → List HartEnding
+run_endings n m = map (λ (h : Hart). ending_by (is_round n m) h.stop) (after_rounds n m).state.harts
+
 -- the same of a run that isn't said to go round
 abbrev pub ending_of_stop : Option Stop → HartEnding
 ending_of_stop stop = ending_by false stop

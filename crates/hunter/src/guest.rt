@@ -132,7 +132,12 @@ fn ending_by(round: bool, stop: Option<Stop>) -> HartEnding
     }
 }
 
-fn stops_by(alloc: Global, round: bool, harts: &[Hart]) -> Result<Vec<HartEnding>, OutOfMemory>
+/// How each hart ended, by whether its run goes round.
+pub(crate) fn stops_by(
+    alloc: Global,
+    round: bool,
+    harts: &[Hart],
+) -> Result<Vec<HartEnding>, OutOfMemory>
     ensures { IfOk result (λ v. v.items ≡ map (λ h. ending_by round h.stop) harts.now) }
 {
     match harts

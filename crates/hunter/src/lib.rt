@@ -4,6 +4,7 @@
 mod error;
 mod guest;
 mod hunting;
+mod run_endings;
 mod settings;
 mod shrinking;
 
@@ -12,5 +13,6 @@ pub use guest::{ending_of_stop, stops_of};
 pub use hunting::{all_end_well, hunt, is_one_exit, tabulate_hunt};
 pub use plan_hunt::{HuntObserver, UnobservedHunt};
 pub use plan_shrink::{ShrinkObserver, UnobservedShrink};
+pub use run_endings::find_run_endings;
 pub use settings::{HuntSettings, check_guest, check_hunt, check_ranges};
 pub use shrinking::shrink;
