@@ -1,0 +1,82 @@
+-- What each reply says, byte by byte.
+use Rattle.std.specs.Prelude.{ℕ, ◌+◌, ◌==◌, nat_lt, if◌then◌else◌, List, [], ◌∷◌, ◌++◌, length, take, drop, codes, Option, Some, None}
+use Rattle.std.specs.Fmt.{decimal}
+use Rattle.std.specs.Int.{w64, to_be_bytes}
+use Rattle.hex.specs.Hex.{encode_lower}
+use Rattle.round_schedule.specs.declared.event.Phase.{Phase}
+use Rattle.round_schedule.specs.declared.event.Phase.TheVariants.{Parallel, Serial}
+use Rattle.gdb_replies.specs.declared.note.ThreadNote.{ThreadNote}
+use Rattle.gdb_replies.specs.declared.reply.Reply.{Reply}
+use Rattle.gdb_replies.specs.declared.reply.Reply.TheVariants as replies
+use Rattle.gdb_replies.specs.declared.stop_reply.Reason.{Reason}
+use Rattle.gdb_replies.specs.declared.stop_reply.Reason.TheVariants.{AccessWatch, Begin, Breakpoint, End, HardwareBreakpoint, ReadWatch, Signal, Step, Watch}
+use Rattle.gdb_replies.specs.declared.stop_reply.StopReply.{StopReply}
+use Rattle.gdb_replies.specs.declared.window.Window.{Window}
+use Rattle.gdb_replies.specs.Words.{address_text, register_text, registers_text, thread_text, threads_text}
+
+-- ---- why the run stands: a signal, and what is more to be said of it
+
+abbrev pub reason_text : Reason → List ℕ
+reason_text Step = codes "T05"
+reason_text Breakpoint = codes "T05swbreak:;"
+reason_text HardwareBreakpoint = codes "T05hwbreak:;"
+reason_text (Watch a) = codes "T05watch:" ++ address_text a ++ codes ";"
+reason_text (ReadWatch a) = codes "T05rwatch:" ++ address_text a ++ codes ";"
+reason_text (AccessWatch a) = codes "T05awatch:" ++ address_text a ++ codes ";"
+reason_text (Signal n) = codes "T" ++ encode_lower (n ∷ [])
+reason_text Begin = codes "T05replaylog:begin;"
+reason_text End = codes "T05replaylog:end;"
+
+-- a register's value behind its number
+abbrev pub named : List ℕ → ℕ → List ℕ
+named number value = number ++ register_text value
+
+-- the reason, registers pc (32, in hexadecimal 20), sp and fp, and the thread
+abbrev pub stop_text : StopReply → List ℕ
+stop_text s =
+    reason_text s.reason
+    ++ named (codes "20:") s.pc
+    ++ named (codes ";02:") s.sp
+    ++ named (codes ";08:") s.fp
+    ++ (codes ";thread:" ++ thread_text s.thread ++ codes ";")
+
+-- ---- what is said of a hart
+
+abbrev pub phase_word : Phase → List ℕ
+phase_word Parallel = codes "parallel"
+phase_word Serial = codes "serial"
+
+-- a hart that runs is somewhere in a round; one that has stopped did so by the exit call with a value, or with a code
+abbrev pub state_text : ThreadNote → Option (ℕ × ℕ) → List ℕ
+state_text n None = codes "round " ++ decimal n.round ++ codes ", " ++ phase_word n.phase ++ codes ", place " ++ decimal n.place
+state_text n (Some s) = if s.0 == 1 then codes "exit " ++ decimal s.1 else codes "stop " ++ decimal s.0
+
+abbrev pub note_text : ThreadNote → List ℕ
+note_text n = codes "hart " ++ decimal n.hart ++ codes ", " ++ state_text n n.stop
+
+-- ---- documents in parts: `m` where more follows, `l` with the last part
+
+abbrev pub part_text : Window → List ℕ
+part_text w = (if nat_lt (w.offset + w.count) (length w.text.now) then codes "m" else codes "l") ++ take w.count (drop w.offset w.text.now)
+
+-- ---- all of them
+
+abbrev pub payload_of : Reply → List ℕ
+payload_of replies.Unknown = []
+payload_of replies.Done = codes "OK"
+payload_of replies.Missing = codes "E01"
+payload_of (replies.Refused n) = codes "E.error " ++ decimal n
+payload_of replies.PastStands = codes "E.the past of a recording cannot be changed"
+payload_of replies.Features = codes "PacketSize=10000;qXfer:features:read+;ReverseStep+;ReverseContinue+;swbreak+;hwbreak+;vContSupported+"
+payload_of replies.Actions = codes "vCont;c;C;s;S;r"
+payload_of replies.Attached = codes "1"
+payload_of (replies.Registers r) = registers_text r.now
+payload_of (replies.Register v) = register_text v
+payload_of (replies.Memory bs) = encode_lower bs.now
+payload_of (replies.Stopped s) = stop_text s
+payload_of (replies.Threads n) = threads_text n
+payload_of replies.NoMoreThreads = codes "l"
+payload_of (replies.Thread t) = codes "QC" ++ thread_text t
+payload_of (replies.Note n) = encode_lower (note_text n)
+payload_of (replies.Console text) = codes "O" ++ encode_lower text.now
+payload_of (replies.Part w) = part_text w

@@ -1,0 +1,20 @@
+//! Replies of gdb's remote serial protocol: what a debugger is told of a recorded run, and the bytes that say it.
+#![tactic(auto, using(crate::proofs::Texts::assoc))]
+
+mod description;
+mod note;
+mod payload;
+mod registers;
+mod reply;
+mod stop_reply;
+mod text;
+mod window;
+mod writing;
+
+pub use description::target_description;
+pub use note::ThreadNote;
+pub use registers::Registers;
+pub use reply::Reply;
+pub use stop_reply::{Reason, StopReply};
+pub use window::Window;
+pub use writing::write_reply;

@@ -1,0 +1,45 @@
+use crate::note::ThreadNote;
+use crate::registers::Registers;
+use crate::stop_reply::StopReply;
+use crate::window::Window;
+
+/// What a debugger is told.
+#[derive(Clone, Copy)]
+pub enum Reply<'a> {
+    /// The request isn't one of those that are answered.
+    Unknown,
+    /// It is done.
+    Done,
+    /// There is no such thing.
+    Missing,
+    /// A refusal, by its number.
+    Refused(u32),
+    /// Registers and memory of a recording can't be written.
+    PastStands,
+    /// What of the protocol is offered.
+    Features,
+    /// The ways in which the run can be resumed.
+    Actions,
+    /// The run was there before the debugger came.
+    Attached,
+    /// All registers.
+    Registers(&'a Registers),
+    /// One register.
+    Register(u64),
+    /// Bytes of memory, of which there is at least one.
+    Memory(&'a [u8]),
+    /// The run stands.
+    Stopped(StopReply),
+    /// As many threads as these, from 1 on.
+    Threads(u32),
+    /// There are no more threads.
+    NoMoreThreads,
+    /// The present thread.
+    Thread(u32),
+    /// What is said of a thread.
+    Note(ThreadNote),
+    /// A text for the debugger's terminal.
+    Console(&'a [u8]),
+    /// A part of a document.
+    Part(Window<'a>),
+}
