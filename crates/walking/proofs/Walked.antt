@@ -45,7 +45,7 @@ by_outcome : {H C : Type 0} (w : Words H C) (n : ℕ) (s : Sight H) (o : Outcome
 unfolding part_moves
 by_outcome w n s o e hs = rw (hs, e) refl
 
-is_next : (code : List Range) (h : Hart) (m : Memory) → m.code ≡ code → next_seen (words_of code) (sight_of h m) ≡ stepped h m
+pub is_next : (code : List Range) (h : Hart) (m : Memory) → m.code ≡ code → next_seen (words_of code) (sight_of h m) ≡ stepped h m
 is_next code h m e = ap (λ (c : List Range). stepped h (record { bytes = m.bytes; code = c })) (sym e)
 
 place_by : (code : List Range) (stops : List ℕ) (n : ℕ) (h : Hart) (m : Memory) (a : Stepped) → m.code ≡ code → h.stop ≡ None → (stepped h m).answer ≡ a →
@@ -59,7 +59,7 @@ unfolding part_moves
 stopped_place code stops zero h m hs = refl
 stopped_place code stops (suc n) h m hs = rw hs refl
 
-suc_left : (quota k : ℕ) → k < quota → quota - k ≡ suc (quota - (k + 1))
+pub suc_left : (quota k : ℕ) → k < quota → quota - k ≡ suc (quota - (k + 1))
 suc_left quota k lt = omega (arith, lt)
 
 module _ (m₀ : Memory) (h₀ : Hart) (stops : List ℕ) (quota k : ℕ) (m : Memory) (h : Hart) (on : On m₀ h₀ stops quota k m h) where

@@ -1,0 +1,46 @@
+-- Of the harts that a hart is after 0, 1, 2, .. of its instructions, those at which something is told.
+use Rattle.std.specs.Prelude.{◌≡◌, ℕ, suc, ◌+◌, ◌==◌, ◌||◌, ◌&&◌, not, Bool, true, false, if◌then◌else◌, List, [], ◌∷◌, ◌++◌, map, length, is_some, Option, Some, None}
+use Rattle.hart_step.specs.declared.hart.Hart.{Hart}
+use Rattle.hart_step.specs.declared.hart.Stop.{Stop}
+use Rattle.hart_step.specs.Words.{words_of}
+use Rattle.pages.specs.declared.access.Range.{Range}
+use Rattle.round_schedule.specs.Past.{last_of}
+use Rattle.moments.specs.Sights.{Sight, part_sights}
+use Rattle.walking.specs.declared.asked.Asked.{Asked}
+use Rattle.walking.specs.Stops.{is_one_of}
+
+-- any stop but the exit call is a fault
+abbrev pub is_fault : Option Stop → Bool
+is_fault None = false
+is_fault (Some s) = not (s.code == 1)
+
+-- something is told at each hart, at one whose pc is one of these addresses, or at one that a fault stopped
+abbrev pub tells : Asked → Hart → Bool
+tells a h = a.every || (a.faults && is_fault h.stop) || is_one_of a.stops.items h.pc
+
+-- a moment of a hart is one before an instruction that it does, or behind the one that stops it
+abbrev pub is_moment : Hart → List Hart → Bool
+is_moment h [] = is_some h.stop
+is_moment h (g ∷ gs) = true
+
+-- the counts of instructions after which it is at a moment that tells something, where the first of them has this count
+abbrev pub hit_at : Asked → ℕ → Hart → List Hart → List ℕ
+hit_at a c h hs = if is_moment h hs && tells a h then c ∷ [] else []
+
+abbrev pub hits_from : Asked → ℕ → List Hart → List ℕ
+hits_from a c [] = []
+hits_from a c (h ∷ hs) = hit_at a c h hs ++ hits_from a (suc c) hs
+
+-- the harts of some sights
+abbrev pub harts_of : List (Sight Hart) → List Hart
+harts_of seen = map (λ (x : Sight Hart). x.hart) seen
+
+-- a hart after 0, 1, 2, .. of at most n further instructions of its part of the parallel phase
+abbrev pub harts_in_part : List Range → ℕ → Sight Hart → List Hart
+harts_in_part code n s = harts_of (part_sights (words_of code) n s)
+
+-- all but the last of these harts were walked over: those counts tell something, and the last is this hart, after so many instructions
+pub record Walked (a : Asked) (hs : List Hart) (counts : List ℕ) (done : ℕ) (h : Hart) : Type 0 where
+  pub hits : hits_from a 0 hs ≡ counts ++ hits_from a done (h ∷ [])
+  pub size : length hs ≡ done + 1
+  pub end : last_of hs ≡ Some h

@@ -1,0 +1,119 @@
+ghost use Rattle.std.specs.Prelude.{◌≡◌, ◌++◌, ◌+◌, [], ◌∷◌, IfOk, OnOk, Some, None, length};
+ghost use Rattle.hart_step.specs.CodeTables.{Shows};
+ghost use Rattle.hart_step.specs.Step.{stepped};
+ghost use Rattle.hart_step.specs.Performs.{Performs};
+ghost use Rattle.round_schedule.specs.Past.{last_of};
+ghost use Rattle.walking.specs.Hits.{Walked, harts_in_part, hits_from};
+ghost use Rattle.walking.specs.Stops.{sight_of};
+
+use crate::asked::Asked;
+use hart_step::{Bus, CodeTable, Hart, step, step_decoded};
+use pages::OutOfMemory;
+use round_schedule::Stepped;
+use std::alloc::Global;
+
+/// What a walk over a hart's part of the parallel phase came by.
+#[derive(Drop)]
+pub struct PartHits {
+    /// After how many instructions of the part something is told, in rising order.
+    pub counts: Vec<u32>,
+    /// How many instructions the part has.
+    pub done: u32,
+}
+
+/// Walks over a hart's part of the parallel phase, and notes where something is told. The part may begin anywhere: it is that of the
+/// hart and the bytes that it sees now, of at most `quota` instructions. The hart is left as the part leaves it.
+///
+/// # Errors
+///
+/// `OutOfMemory`: the walk is given up, with some of the part done.
+pub fn hits_in_part<B: Bus>(
+    alloc: Global,
+    h: &mut Hart,
+    b: &mut B,
+    table: &CodeTable,
+    quota: u32,
+    asked: &Asked,
+) -> Result<PartHits, OutOfMemory>
+    requires { Shows (B.memory b.old) table.now.first table.now.instructions }
+    ensures counts { IfOk result (λ p. p.counts.items ≡ hits_from asked.now 0
+        (harts_in_part (B.memory b.old).code quota (sight_of h.old (B.memory b.old)))) }
+    ensures done { IfOk result (λ p. length (harts_in_part (B.memory b.old).code quota
+        (sight_of h.old (B.memory b.old))) ≡ p.done + 1) }
+    ensures end { OnOk result (last_of (harts_in_part (B.memory b.old).code quota
+        (sight_of h.old (B.memory b.old))) ≡ Some h.new) }
+{
+    let mut counts = Vec::new(alloc);
+    let done = walk(h, b, table, quota, asked, &mut counts)?;
+    note_end(h, done, asked, &mut counts)?;
+    Ok(PartHits { counts, done })
+}
+
+/// Notes the end of a part, after so many instructions, where the hart is stopped there and something is told.
+fn note_end(
+    h: &Hart,
+    done: u32,
+    asked: &Asked,
+    counts: &mut Vec<u32>,
+) -> Result<(), OutOfMemory>
+    ensures { OnOk result (counts.new.items ≡
+        counts.old.items ++ hits_from asked.now done (h.now ∷ [])) }
+{
+    let told = h.stop.is_some() && asked.tells(h);
+    if told {
+        counts.push(done)?;
+    }
+    Ok(())
+}
+
+/// Walks to the end of the part, and notes all but the end. Answers how many instructions are done.
+fn walk<B: Bus>(
+    h: &mut Hart,
+    b: &mut B,
+    table: &CodeTable,
+    quota: u32,
+    asked: &Asked,
+    counts: &mut Vec<u32>,
+) -> Result<u32, OutOfMemory>
+    requires shows { Shows (B.memory b.old) table.now.first table.now.instructions }
+    requires none { counts.old.items ≡ [] }
+    ensures { IfOk result (λ done. Walked asked.now (harts_in_part (B.memory b.old).code quota
+        (sight_of h.old (B.memory b.old))) counts.new.items done h.new) }
+{
+    let mut done = 0;
+    while done < quota {
+        if h.stop.is_some() {
+            return Ok(done);
+        }
+        let told = asked.tells(h);
+        match step_by(h, b, table)? {
+            Stepped::Waits => return Ok(done),
+            Stepped::Stopped(_) => return Ok(done),
+            Stepped::Done(_) => {}
+        }
+        if told {
+            counts.push(done)?;
+        }
+        done += 1;
+    }
+    Ok(done)
+}
+
+/// Does the hart's next instruction, decoded by a table where it has it.
+#[inline(always)]
+fn step_by<B: Bus>(h: &mut Hart, b: &mut B, table: &CodeTable) -> Result<Stepped, OutOfMemory>
+    requires running { h.old.stop ≡ None }
+    requires shows { Shows (B.memory b.old) table.now.first table.now.instructions }
+    ensures { Performs (λ s. s) (B.has_room b.old) (B.takes b.old)
+        (record { hart = h.old; memory = B.memory b.old }) (stepped h.old (B.memory b.old)) (record {
+          result = result;
+          hart = h.new;
+          memory = B.memory b.new;
+          bus = b.new;
+        }) }
+{
+    match table.get(h.pc) {
+        Some(i) => step_decoded(h, b, i),
+        None => step(h, b),
+    }
+}
