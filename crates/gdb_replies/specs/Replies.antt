@@ -67,8 +67,8 @@ payload_of replies.Done = codes "OK"
 payload_of replies.Missing = codes "E01"
 payload_of (replies.Refused n) = codes "E.error " ++ decimal n
 payload_of replies.PastStands = codes "E.the past of a recording cannot be changed"
-payload_of replies.Features = codes "PacketSize=10000;qXfer:features:read+;ReverseStep+;ReverseContinue+;swbreak+;hwbreak+;vContSupported+"
-payload_of replies.Actions = codes "vCont;c;C;s;S;r"
+payload_of replies.Features = codes "PacketSize=10000;qXfer:features:read+;ReverseStep+;ReverseContinue+;swbreak+;vContSupported+"
+payload_of replies.Actions = codes "vCont;c;C;s;S"
 payload_of replies.Attached = codes "1"
 payload_of (replies.Registers r) = registers_text r.now
 payload_of (replies.Register v) = register_text v

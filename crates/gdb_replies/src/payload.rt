@@ -28,7 +28,7 @@ pub(crate) fn payload_of(alloc: Global, reply: &Reply<'_>) -> Result<Vec<u8>, Ou
         Reply::Refused(number) => put_refusal(&mut text, *number)?,
         Reply::PastStands => put(&mut text, b"E.the past of a recording cannot be changed")?,
         Reply::Features => put(&mut text, FEATURES)?,
-        Reply::Actions => put(&mut text, b"vCont;c;C;s;S;r")?,
+        Reply::Actions => put(&mut text, b"vCont;c;C;s;S")?,
         Reply::Attached => put(&mut text, b"1")?,
         Reply::Registers(registers) => put_registers(&mut text, registers)?,
         Reply::Register(value) => put_register(&mut text, *value)?,
@@ -46,7 +46,7 @@ pub(crate) fn payload_of(alloc: Global, reply: &Reply<'_>) -> Result<Vec<u8>, Ou
 
 /// What of the protocol is offered. A packet is of 65,536 bytes at most.
 const FEATURES: &[u8] =
-    b"PacketSize=10000;qXfer:features:read+;ReverseStep+;ReverseContinue+;swbreak+;hwbreak+;vContSupported+";
+    b"PacketSize=10000;qXfer:features:read+;ReverseStep+;ReverseContinue+;swbreak+;vContSupported+";
 
 fn put_refusal(text: &mut Vec<u8>, number: u32) -> Result<(), OutOfMemory>
     ensures { OnOk result (text.new.items ≡

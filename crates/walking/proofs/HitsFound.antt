@@ -15,8 +15,7 @@ use Rattle.hart_step.specs.Step.{stepped}
 use Rattle.hart_step.specs.Words.{words_of}
 use Rattle.hart_step.proofs.Shown.{shows_step}
 use Rattle.moments.specs.Sights.{Sight, next_seen, part_by, part_sights}
-use Rattle.walking.specs.declared.asked.Asked.{Asked}
-use Rattle.walking.specs.Hits.{Walked, harts_in_part, harts_of, hit_at, hits_from, is_moment, tells}
+use Rattle.walking.specs.Hits.{Walked, harts_in_part, harts_of, hit_at, hits_from, is_moment}
 use Rattle.walking.specs.Stops.{sight_of}
 use Rattle.walking.proofs.Walked.{is_next, suc_left}
 
@@ -70,80 +69,80 @@ last_more h [] le = absurd (omega (arith, le))
 last_more h (g ∷ gs) le = refl
 
 -- a hart before which something may be told
-noted : (a : Asked) (k : ℕ) (h : Hart) (hs : List Hart) (t : Bool) (old new : List ℕ) → 1 ≤ length hs → tells a h ≡ t → new ≡ cond t (old ++ k ∷ []) old →
-    old ++ hits_from a k (h ∷ hs) ≡ new ++ hits_from a (k + 1) hs
-noted a k h hs true old new le ht e =
+noted : (f : Hart → Bool) (k : ℕ) (h : Hart) (hs : List Hart) (t : Bool) (old new : List ℕ) → 1 ≤ length hs → f h ≡ t → new ≡ cond t (old ++ k ∷ []) old →
+    old ++ hits_from f k (h ∷ hs) ≡ new ++ hits_from f (k + 1) hs
+noted f k h hs true old new le ht e =
     rw (is_before h hs le, ht) (
-      sym (append_assoc old (k ∷ []) (hits_from a (suc k) hs))
-      ∙ ap (λ (xs : List ℕ). xs ++ hits_from a (suc k) hs) (sym e)
-      ∙ ap (λ (n : ℕ). new ++ hits_from a n hs) (sym (add-one k)))
-noted a k h hs false old new le ht e =
+      sym (append_assoc old (k ∷ []) (hits_from f (suc k) hs))
+      ∙ ap (λ (xs : List ℕ). xs ++ hits_from f (suc k) hs) (sym e)
+      ∙ ap (λ (n : ℕ). new ++ hits_from f n hs) (sym (add-one k)))
+noted f k h hs false old new le ht e =
     rw (is_before h hs le, ht) (
-      ap (λ (xs : List ℕ). xs ++ hits_from a (suc k) hs) (sym e)
-      ∙ ap (λ (n : ℕ). new ++ hits_from a n hs) (sym (add-one k)))
+      ap (λ (xs : List ℕ). xs ++ hits_from f (suc k) hs) (sym e)
+      ∙ ap (λ (n : ℕ). new ++ hits_from f n hs) (sym (add-one k)))
 
 -- the last hart, at which something may be told
-pub end_noted : (a : Asked) (k : ℕ) (h : Hart) (t : Bool) (old new : List ℕ) → (is_moment h [] && tells a h) ≡ t → new ≡ cond t (old ++ k ∷ []) old → new ≡ old ++ hits_from a k (h ∷ [])
-end_noted a k h true old new ht e = rw ht e
-end_noted a k h false old new ht e = rw ht (e ∙ sym (append-nil old))
+pub end_noted : (f : Hart → Bool) (k : ℕ) (h : Hart) (t : Bool) (old new : List ℕ) → (is_moment h [] && f h) ≡ t → new ≡ cond t (old ++ k ∷ []) old → new ≡ old ++ hits_from f k (h ∷ [])
+end_noted f k h true old new ht e = rw ht e
+end_noted f k h false old new ht e = rw ht (e ∙ sym (append-nil old))
 
 -- ---- the walk
 
 -- k instructions were done, and these counts tell something
-pub record On (a : Asked) (m₀ : Memory) (h₀ : Hart) (quota first : ℕ) (words : List Instr) (counts : List ℕ) (k : ℕ) (m : Memory) (h : Hart) : Type 0 where
+pub record On (f : Hart → Bool) (m₀ : Memory) (h₀ : Hart) (quota first : ℕ) (words : List Instr) (counts : List ℕ) (k : ℕ) (m : Memory) (h : Hart) : Type 0 where
   pub code : m.code ≡ m₀.code
   pub within : k ≤ quota
   pub shows : Shows m first words
-  pub hits : hits_from a 0 (rest m₀.code quota h₀ m₀) ≡ counts ++ hits_from a k (rest m₀.code (quota - k) h m)
+  pub hits : hits_from f 0 (rest m₀.code quota h₀ m₀) ≡ counts ++ hits_from f k (rest m₀.code (quota - k) h m)
   pub size : length (rest m₀.code quota h₀ m₀) ≡ k + length (rest m₀.code (quota - k) h m)
   pub end : last_of (rest m₀.code quota h₀ m₀) ≡ last_of (rest m₀.code (quota - k) h m)
 
-pub begins : (a : Asked) (m : Memory) (h : Hart) (quota first : ℕ) (words : List Instr) (counts : List ℕ) → Shows m first words → counts ≡ [] → On a m h quota first words counts 0 m h
-begins a m h quota first words counts s none =
+pub begins : (f : Hart → Bool) (m : Memory) (h : Hart) (quota first : ℕ) (words : List Instr) (counts : List ℕ) → Shows m first words → counts ≡ [] → On f m h quota first words counts 0 m h
+begins f m h quota first words counts s none =
     let all : quota - 0 ≡ quota = omega arith in
     record {
       code = refl;
       within = omega arith;
       shows = s;
-      hits = ap (λ (n : ℕ). hits_from a 0 (rest m.code n h m)) (sym all) ∙ ap (λ (xs : List ℕ). xs ++ hits_from a 0 (rest m.code (quota - 0) h m)) (sym none);
+      hits = ap (λ (n : ℕ). hits_from f 0 (rest m.code n h m)) (sym all) ∙ ap (λ (xs : List ℕ). xs ++ hits_from f 0 (rest m.code (quota - 0) h m)) (sym none);
       size = (let same : length (rest m.code quota h m) ≡ length (rest m.code (quota - 0) h m) = ap (λ (n : ℕ). length (rest m.code n h m)) (sym all) in omega (arith, same));
       end = ap (λ (n : ℕ). last_of (rest m.code n h m)) (sym all);
     }
 
-module _ (a : Asked) (m₀ : Memory) (h₀ : Hart) (quota first : ℕ) (words : List Instr) (counts : List ℕ) (k : ℕ) (m : Memory) (h : Hart) (on : On a m₀ h₀ quota first words counts k m h) where
+module _ (f : Hart → Bool) (m₀ : Memory) (h₀ : Hart) (quota first : ℕ) (words : List Instr) (counts : List ℕ) (k : ℕ) (m : Memory) (h : Hart) (on : On f m₀ h₀ quota first words counts k m h) where
   abbrev all : List Hart
   all = rest m₀.code quota h₀ m₀
 
   abbrev left : List Hart
   left = rest m₀.code (quota - k) h m
 
-  finished : (g : Hart) → left ≡ g ∷ [] → Walked a all counts k g
+  finished : (g : Hart) → left ≡ g ∷ [] → Walked f all counts k g
   finished g e = record {
-    hits = on.hits ∙ ap (λ (hs : List Hart). counts ++ hits_from a k hs) e;
+    hits = on.hits ∙ ap (λ (hs : List Hart). counts ++ hits_from f k hs) e;
     size = on.size ∙ ap (λ (hs : List Hart). k + length hs) e;
     end = on.end ∙ ap last_of e;
   }
 
-  pub at_end : quota ≤ k → Walked a all counts k h
+  pub at_end : quota ≤ k → Walked f all counts k h
   at_end le =
       let z : quota - k ≡ 0 = omega (arith, le) in
       finished h (ap (λ (n : ℕ). rest m₀.code n h m) z ∙ rest_none m₀.code h m)
 
-  pub is_stopped : is_some h.stop ≡ true → Walked a all counts k h
+  pub is_stopped : is_some h.stop ≡ true → Walked f all counts k h
   is_stopped hs = finished h (rest_stopped m₀.code (quota - k) h m hs)
 
   here : (x : Stepped) → k < quota → h.stop ≡ None → (stepped h m).answer ≡ x →
       left ≡ harts_of (part_by x (sight_of h m) (stepped h m) (part_sights (words_of m₀.code) (quota - (k + 1))))
   here x lt hs ha = ap (λ (n : ℕ). rest m₀.code n h m) (suc_left quota k lt) ∙ rest_by m₀.code (quota - (k + 1)) h m x on.code hs ha
 
-  pub waits : (h₁ : Hart) → k < quota → h.stop ≡ None → (stepped h m).answer ≡ Waits → h₁ ≡ (stepped h m).hart → Walked a all counts k h₁
+  pub waits : (h₁ : Hart) → k < quota → h.stop ≡ None → (stepped h m).answer ≡ Waits → h₁ ≡ (stepped h m).hart → Walked f all counts k h₁
   waits h₁ lt hs ha e = finished h₁ (here Waits lt hs ha ∙ ap (λ (g : Hart). g ∷ []) (sym e))
 
-  pub stops : (code : ℕ) (h₁ : Hart) → k < quota → h.stop ≡ None → (stepped h m).answer ≡ Stopped code → h₁ ≡ (stepped h m).hart → Walked a all counts k h₁
+  pub stops : (code : ℕ) (h₁ : Hart) → k < quota → h.stop ≡ None → (stepped h m).answer ≡ Stopped code → h₁ ≡ (stepped h m).hart → Walked f all counts k h₁
   stops code h₁ lt hs ha e = finished h₁ (here (Stopped code) lt hs ha ∙ ap (λ (g : Hart). g ∷ []) (sym e))
 
-  pub goes_on : (x : Option Access) (t : Bool) (m₁ : Memory) (h₁ : Hart) (new : List ℕ) → k < quota → h.stop ≡ None → (stepped h m).answer ≡ Done x → tells a h ≡ t →
-      new ≡ cond t (counts ++ k ∷ []) counts → h₁ ≡ (stepped h m).hart → m₁ ≡ stored m (stepped h m).stores → On a m₀ h₀ quota first words new (k + 1) m₁ h₁
+  pub goes_on : (x : Option Access) (t : Bool) (m₁ : Memory) (h₁ : Hart) (new : List ℕ) → k < quota → h.stop ≡ None → (stepped h m).answer ≡ Done x → f h ≡ t →
+      new ≡ cond t (counts ++ k ∷ []) counts → h₁ ≡ (stepped h m).hart → m₁ ≡ stored m (stepped h m).stores → On f m₀ h₀ quota first words new (k + 1) m₁ h₁
   goes_on x t m₁ h₁ new lt hs ha ht e he me =
       let n : ℕ = quota - (k + 1) in
       let next : left ≡ h ∷ rest m₀.code n h₁ m₁ =
@@ -155,7 +154,7 @@ module _ (a : Asked) (m₀ : Memory) (h₀ : Hart) (quota first : ℕ) (words : 
         code = ap (λ (z : Memory). z.code) me ∙ on.code;
         within = omega (arith, lt);
         shows = shows_step m m₁ h first words me on.shows;
-        hits = on.hits ∙ ap (λ (hs : List Hart). counts ++ hits_from a k hs) next ∙ noted a k h (rest m₀.code n h₁ m₁) t counts new some ht e;
+        hits = on.hits ∙ ap (λ (hs : List Hart). counts ++ hits_from f k hs) next ∙ noted f k h (rest m₀.code n h₁ m₁) t counts new some ht e;
         size = on.size ∙ ap (λ (hs : List Hart). k + length hs) next ∙ omega arith;
         end = on.end ∙ ap last_of next ∙ last_more h (rest m₀.code n h₁ m₁) some;
       }

@@ -14,9 +14,14 @@ abbrev pub is_fault : Option Stop → Bool
 is_fault None = false
 is_fault (Some s) = not (s.code == 1)
 
--- something is told at each hart, at one whose pc is one of these addresses, or at one that a fault stopped
-abbrev pub tells : Asked → Hart → Bool
-tells a h = a.every || (a.faults && is_fault h.stop) || is_one_of a.stops.items h.pc
+-- whether all moments of hart i are told
+abbrev pub is_hart : Option ℕ → ℕ → Bool
+is_hart None i = false
+is_hart (Some k) i = k == i
+
+-- hart i, where it is as h, is told of if all its moments are, if its pc is one of these addresses, or if a fault stopped it
+abbrev pub tells : Asked → ℕ → Hart → Bool
+tells a i h = is_hart a.each i || (a.faults && is_fault h.stop) || is_one_of a.stops.items h.pc
 
 -- a moment of a hart is one before an instruction that it does, or behind the one that stops it
 abbrev pub is_moment : Hart → List Hart → Bool
@@ -24,12 +29,12 @@ is_moment h [] = is_some h.stop
 is_moment h (g ∷ gs) = true
 
 -- the counts of instructions after which it is at a moment that tells something, where the first of them has this count
-abbrev pub hit_at : Asked → ℕ → Hart → List Hart → List ℕ
-hit_at a c h hs = if is_moment h hs && tells a h then c ∷ [] else []
+abbrev pub hit_at : (Hart → Bool) → ℕ → Hart → List Hart → List ℕ
+hit_at f c h hs = if is_moment h hs && f h then c ∷ [] else []
 
-abbrev pub hits_from : Asked → ℕ → List Hart → List ℕ
-hits_from a c [] = []
-hits_from a c (h ∷ hs) = hit_at a c h hs ++ hits_from a (suc c) hs
+abbrev pub hits_from : (Hart → Bool) → ℕ → List Hart → List ℕ
+hits_from f c [] = []
+hits_from f c (h ∷ hs) = hit_at f c h hs ++ hits_from f (suc c) hs
 
 -- the harts of some sights
 abbrev pub harts_of : List (Sight Hart) → List Hart
@@ -40,7 +45,7 @@ abbrev pub harts_in_part : List Range → ℕ → Sight Hart → List Hart
 harts_in_part code n s = harts_of (part_sights (words_of code) n s)
 
 -- all but the last of these harts were walked over: those counts tell something, and the last is this hart, after so many instructions
-pub record Walked (a : Asked) (hs : List Hart) (counts : List ℕ) (done : ℕ) (h : Hart) : Type 0 where
-  pub hits : hits_from a 0 hs ≡ counts ++ hits_from a done (h ∷ [])
+pub record Walked (f : Hart → Bool) (hs : List Hart) (counts : List ℕ) (done : ℕ) (h : Hart) : Type 0 where
+  pub hits : hits_from f 0 hs ≡ counts ++ hits_from f done (h ∷ [])
   pub size : length hs ≡ done + 1
   pub end : last_of hs ≡ Some h

@@ -1,13 +1,13 @@
 ghost use Rattle.std.specs.Prelude.{◌≡◌};
-ghost use Rattle.walking.specs.Hits.{is_fault, tells};
+ghost use Rattle.walking.specs.Hits.{is_fault, is_hart, tells};
 
 use hart_step::{Hart, Stop};
 
 /// At which moments of a hart something is told.
 #[derive(Drop)]
 pub struct Asked {
-    /// At each of them.
-    pub every: bool,
+    /// At each moment of this hart.
+    pub each: Option<u32>,
     /// Where a fault has stopped the hart. The exit call is none.
     pub faults: bool,
     /// Where the hart's pc is one of these addresses.
@@ -15,12 +15,23 @@ pub struct Asked {
 }
 
 impl Asked {
-    /// Whether something is told where a hart is as this one.
+    /// Whether something is told where hart `number` is as this one.
     #[inline(always)]
-    pub fn tells(&self, hart: &Hart) -> bool
-        ensures { result ≡ tells self.now hart.now }
+    pub fn tells(&self, number: u32, hart: &Hart) -> bool
+        ensures { result ≡ tells self.now number hart.now }
     {
-        self.every || (self.faults && is_fault(hart.stop)) || self.stops.contains(&hart.pc)
+        is_hart(self.each, number) || (self.faults && is_fault(hart.stop)) || self.stops.contains(&hart.pc)
+    }
+}
+
+/// Whether this is the hart, where there is one.
+#[inline(always)]
+fn is_hart(hart: Option<u32>, number: u32) -> bool
+    ensures { result ≡ is_hart hart number }
+{
+    match hart {
+        Some(hart) => hart == number,
+        None => false,
     }
 }
 

@@ -3,7 +3,7 @@ ghost use Rattle.hart_step.specs.CodeTables.{Shows};
 ghost use Rattle.hart_step.specs.Step.{stepped};
 ghost use Rattle.hart_step.specs.Performs.{Performs};
 ghost use Rattle.round_schedule.specs.Past.{last_of};
-ghost use Rattle.walking.specs.Hits.{Walked, harts_in_part, hits_from};
+ghost use Rattle.walking.specs.Hits.{Walked, harts_in_part, hits_from, tells};
 ghost use Rattle.walking.specs.Stops.{sight_of};
 
 use crate::asked::Asked;
@@ -21,7 +21,7 @@ pub struct PartHits {
     pub done: u32,
 }
 
-/// Walks over a hart's part of the parallel phase, and notes where something is told. The part may begin anywhere: it is that of the
+/// Walks over the part of the parallel phase of hart `number`, and notes where something is told. The part may begin anywhere: it is that of the
 /// hart and the bytes that it sees now, of at most `quota` instructions. The hart is left as the part leaves it.
 ///
 /// # Errors
@@ -29,6 +29,7 @@ pub struct PartHits {
 /// `OutOfMemory`: the walk is given up, with some of the part done.
 pub fn hits_in_part<B: Bus>(
     alloc: Global,
+    number: u32,
     h: &mut Hart,
     b: &mut B,
     table: &CodeTable,
@@ -36,7 +37,7 @@ pub fn hits_in_part<B: Bus>(
     asked: &Asked,
 ) -> Result<PartHits, OutOfMemory>
     requires { Shows (B.memory b.old) table.now.first table.now.instructions }
-    ensures counts { IfOk result (λ p. p.counts.items ≡ hits_from asked.now 0
+    ensures counts { IfOk result (λ p. p.counts.items ≡ hits_from (tells asked.now number) 0
         (harts_in_part (B.memory b.old).code quota (sight_of h.old (B.memory b.old)))) }
     ensures done { IfOk result (λ p. length (harts_in_part (B.memory b.old).code quota
         (sight_of h.old (B.memory b.old))) ≡ p.done + 1) }
@@ -44,22 +45,23 @@ pub fn hits_in_part<B: Bus>(
         (sight_of h.old (B.memory b.old))) ≡ Some h.new) }
 {
     let mut counts = Vec::new(alloc);
-    let done = walk(h, b, table, quota, asked, &mut counts)?;
-    note_end(h, done, asked, &mut counts)?;
+    let done = walk(number, h, b, table, quota, asked, &mut counts)?;
+    note_end(number, h, done, asked, &mut counts)?;
     Ok(PartHits { counts, done })
 }
 
 /// Notes the end of a part, after so many instructions, where the hart is stopped there and something is told.
 fn note_end(
+    number: u32,
     h: &Hart,
     done: u32,
     asked: &Asked,
     counts: &mut Vec<u32>,
 ) -> Result<(), OutOfMemory>
     ensures { OnOk result (counts.new.items ≡
-        counts.old.items ++ hits_from asked.now done (h.now ∷ [])) }
+        counts.old.items ++ hits_from (tells asked.now number) done (h.now ∷ [])) }
 {
-    let told = h.stop.is_some() && asked.tells(h);
+    let told = h.stop.is_some() && asked.tells(number, h);
     if told {
         counts.push(done)?;
     }
@@ -68,6 +70,7 @@ fn note_end(
 
 /// Walks to the end of the part, and notes all but the end. Answers how many instructions are done.
 fn walk<B: Bus>(
+    number: u32,
     h: &mut Hart,
     b: &mut B,
     table: &CodeTable,
@@ -77,7 +80,7 @@ fn walk<B: Bus>(
 ) -> Result<u32, OutOfMemory>
     requires shows { Shows (B.memory b.old) table.now.first table.now.instructions }
     requires none { counts.old.items ≡ [] }
-    ensures { IfOk result (λ done. Walked asked.now (harts_in_part (B.memory b.old).code quota
+    ensures { IfOk result (λ done. Walked (tells asked.now number) (harts_in_part (B.memory b.old).code quota
         (sight_of h.old (B.memory b.old))) counts.new.items done h.new) }
 {
     let mut done = 0;
@@ -85,7 +88,7 @@ fn walk<B: Bus>(
         if h.stop.is_some() {
             return Ok(done);
         }
-        let told = asked.tells(h);
+        let told = asked.tells(number, h);
         match step_by(h, b, table)? {
             Stepped::Waits => return Ok(done),
             Stepped::Stopped(_) => return Ok(done),

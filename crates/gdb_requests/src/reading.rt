@@ -1,0 +1,183 @@
+ghost use Rattle.std.specs.Prelude.{◌≡◌};
+ghost use Rattle.gdb_requests.specs.Grammar.{change_of, moving_of, query_of, reading_of, request_of, resume_of, signalled_by, step_of};
+
+use crate::parts::{behind, number_from, thread_of, two_numbers};
+use crate::request::Request;
+
+/// What a packet's payload asks for.
+pub fn request_of(text: &[u8]) -> Request
+    ensures { result ≡ request_of text.now }
+{
+    if let Some(rest) = behind(b"q", text) {
+        return query_of(rest);
+    }
+    if let Some(rest) = behind(b"v", text) {
+        return resume_of(rest);
+    }
+    change_of(text)
+}
+
+/// A query, behind its `q`.
+fn query_of(text: &[u8]) -> Request
+    ensures { result ≡ query_of text.now }
+{
+    if let Some(_) = behind(b"Supported", text) {
+        return Request::Features;
+    }
+    if let Some(rest) = behind(b"Xfer:features:read:target.xml:", text) {
+        return match two_numbers(rest) {
+            Some((offset, count)) => Request::Description(offset, count),
+            None => Request::Unknown,
+        };
+    }
+    if let Some(_) = behind(b"fThreadInfo", text) {
+        return Request::FirstThreads;
+    }
+    if let Some(_) = behind(b"sThreadInfo", text) {
+        return Request::MoreThreads;
+    }
+    if let Some(rest) = behind(b"ThreadExtraInfo,", text) {
+        return match thread_of(rest) {
+            Some(thread) => Request::Note(thread),
+            None => Request::Unknown,
+        };
+    }
+    if let Some(_) = behind(b"Attached", text) {
+        return Request::Attached;
+    }
+    if let Some(_) = behind(b"C", text) {
+        return Request::PresentThread;
+    }
+    Request::Unknown
+}
+
+/// A way to go on, behind its `v`.
+fn resume_of(text: &[u8]) -> Request
+    ensures { result ≡ resume_of text.now }
+{
+    if let Some(_) = behind(b"Cont?", text) {
+        return Request::Actions;
+    }
+    if let Some(rest) = behind(b"Cont;s", text) {
+        return step_of(rest);
+    }
+    if let Some(rest) = behind(b"Cont;S", text) {
+        return match number_from(0, rest) {
+            Some((_, rest)) => step_of(rest),
+            None => Request::Unknown,
+        };
+    }
+    if let Some(_) = behind(b"Cont;c", text) {
+        return Request::Continue;
+    }
+    if let Some(_) = behind(b"Cont;C", text) {
+        return Request::Continue;
+    }
+    if let Some(_) = behind(b"Kill", text) {
+        return Request::Detach;
+    }
+    Request::Unknown
+}
+
+/// A step, by its thread.
+fn step_of(text: &[u8]) -> Request
+    ensures { result ≡ step_of text.now }
+{
+    let Some(rest) = behind(b":", text) else {
+        return Request::Unknown;
+    };
+    let Some((thread, rest)) = number_from(0, rest) else {
+        return Request::Unknown;
+    };
+    match behind(b";", rest) {
+        Some(_) => Request::Step(thread),
+        None => Request::StepAlone(thread),
+    }
+}
+
+/// A request that is no query and no way to go on: one to change something, or one of the others.
+fn change_of(text: &[u8]) -> Request
+    ensures { result ≡ change_of text.now }
+{
+    if let Some(_) = behind(b"G", text) {
+        return Request::Change;
+    }
+    if let Some(_) = behind(b"P", text) {
+        return Request::Change;
+    }
+    if let Some(_) = behind(b"M", text) {
+        return Request::Change;
+    }
+    if let Some(_) = behind(b"X", text) {
+        return Request::Change;
+    }
+    reading_of(text)
+}
+
+/// A request to read something, or one of the others.
+fn reading_of(text: &[u8]) -> Request
+    ensures { result ≡ reading_of text.now }
+{
+    if let Some(_) = behind(b"?", text) {
+        return Request::WhyStopped;
+    }
+    if let Some(rest) = behind(b"Hg", text) {
+        return Request::SelectGeneral(thread_of(rest));
+    }
+    if let Some(rest) = behind(b"Hc", text) {
+        return Request::SelectMoving(thread_of(rest));
+    }
+    if let Some(rest) = behind(b"T", text) {
+        return match thread_of(rest) {
+            Some(thread) => Request::IsAlive(thread),
+            None => Request::Unknown,
+        };
+    }
+    if let Some(_) = behind(b"g", text) {
+        return Request::ReadRegisters;
+    }
+    if let Some(rest) = behind(b"p", text) {
+        return match number_from(0, rest) {
+            Some((register, _)) => Request::ReadRegister(register),
+            None => Request::Unknown,
+        };
+    }
+    if let Some(rest) = behind(b"m", text) {
+        return match two_numbers(rest) {
+            Some((address, count)) => Request::ReadMemory(address, count),
+            None => Request::Unknown,
+        };
+    }
+    moving_of(text)
+}
+
+/// A breakpoint, a way back or an end, or nothing that is known.
+fn moving_of(text: &[u8]) -> Request
+    ensures { result ≡ moving_of text.now }
+{
+    if let Some(rest) = behind(b"Z0,", text) {
+        return match number_from(0, rest) {
+            Some((address, _)) => Request::AddStop(address),
+            None => Request::Unknown,
+        };
+    }
+    if let Some(rest) = behind(b"z0,", text) {
+        return match number_from(0, rest) {
+            Some((address, _)) => Request::RemoveStop(address),
+            None => Request::Unknown,
+        };
+    }
+    if let Some(_) = behind(b"bs", text) {
+        return Request::StepBack;
+    }
+    if let Some(_) = behind(b"bc", text) {
+        return Request::ContinueBack;
+    }
+    if let Some(_) = behind(b"D", text) {
+        return Request::Detach;
+    }
+    if let Some(_) = behind(b"k", text) {
+        return Request::Kill;
+    }
+    Request::Unknown
+}
