@@ -7,16 +7,16 @@ ghost use Rattle.gdb_requests.specs.Grammar.{behind, number_from, thread_of, two
 pub(crate) fn behind<'a>(word: &[u8], text: &'a [u8]) -> Option<&'a [u8]>
     ensures { option_map (λ rest. rest.now) result ≡ behind word.now text.now }
 {
-    match (word, text) {
-        ([], rest) => Some(rest),
-        ([first, others @ ..], [byte, rest @ ..]) => {
-            if first == byte {
-                behind(others, rest)
-            } else {
-                None
-            }
-        }
-        _ => None,
+    let [first, others @ ..] = word else {
+        return Some(text);
+    };
+    let [byte, rest @ ..] = text else {
+        return None;
+    };
+    if first == byte {
+        behind(others, rest)
+    } else {
+        None
     }
 }
 
