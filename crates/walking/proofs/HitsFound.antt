@@ -73,13 +73,13 @@ noted : (f : Hart → Bool) (k : ℕ) (h : Hart) (hs : List Hart) (t : Bool) (ol
     old ++ hits_from f k (h ∷ hs) ≡ new ++ hits_from f (k + 1) hs
 noted f k h hs true old new le ht e =
     rw (is_before h hs le, ht) (
-      sym (append_assoc old (k ∷ []) (hits_from f (suc k) hs))
-      ∙ ap (λ (xs : List ℕ). xs ++ hits_from f (suc k) hs) (sym e)
-      ∙ ap (λ (n : ℕ). new ++ hits_from f n hs) (sym (add-one k)))
+    sym (append_assoc old (k ∷ []) (hits_from f (suc k) hs))
+    ∙ ap (λ (xs : List ℕ). xs ++ hits_from f (suc k) hs) (sym e)
+    ∙ ap (λ (n : ℕ). new ++ hits_from f n hs) (sym (add-one k)))
 noted f k h hs false old new le ht e =
     rw (is_before h hs le, ht) (
-      ap (λ (xs : List ℕ). xs ++ hits_from f (suc k) hs) (sym e)
-      ∙ ap (λ (n : ℕ). new ++ hits_from f n hs) (sym (add-one k)))
+    ap (λ (xs : List ℕ). xs ++ hits_from f (suc k) hs) (sym e)
+    ∙ ap (λ (n : ℕ). new ++ hits_from f n hs) (sym (add-one k)))
 
 -- the last hart, at which something may be told
 pub end_noted : (f : Hart → Bool) (k : ℕ) (h : Hart) (t : Bool) (old new : List ℕ) → (is_moment h [] && f h) ≡ t → new ≡ cond t (old ++ k ∷ []) old → new ≡ old ++ hits_from f k (h ∷ [])
@@ -146,9 +146,9 @@ module _ (f : Hart → Bool) (m₀ : Memory) (h₀ : Hart) (quota first : ℕ) (
   goes_on x t m₁ h₁ new lt hs ha ht e he me =
       let n : ℕ = quota - (k + 1) in
       let next : left ≡ h ∷ rest m₀.code n h₁ m₁ =
-          here (Done x) lt hs ha
-          ∙ ap (λ (g : Hart). h ∷ rest m₀.code n g (stored m (stepped h m).stores)) (sym he)
-          ∙ ap (λ (z : Memory). h ∷ rest m₀.code n h₁ z) (sym me) in
+      here (Done x) lt hs ha
+      ∙ ap (λ (g : Hart). h ∷ rest m₀.code n g (stored m (stepped h m).stores)) (sym he)
+      ∙ ap (λ (z : Memory). h ∷ rest m₀.code n h₁ z) (sym me) in
       let some = some_rest m₀.code n h₁ m₁ in
       record {
         code = ap (λ (z : Memory). z.code) me ∙ on.code;

@@ -20,7 +20,9 @@ impl Asked {
     pub fn tells(&self, number: u32, hart: &Hart) -> bool
         ensures { result ≡ tells self.now number hart.now }
     {
-        is_hart(self.each, number) || (self.faults && is_fault(hart.stop)) || self.stops.contains(&hart.pc)
+        is_hart(self.each, number)
+            || (self.faults && is_fault(hart.stop))
+            || self.stops.contains(&hart.pc)
     }
 }
 

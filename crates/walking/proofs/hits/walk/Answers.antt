@@ -20,10 +20,10 @@ pub loop-done-preserved : goal.loop-done-preserved
 loop-done-preserved g c =
     let at = c.in_ok-step_by.ensures.did in
     let noted : c.if-told.counts.items ≡ cond c.tells-told.result (c.loop-done.counts.items ++ c.loop-done.done ∷ []) c.loop-done.counts.items =
-        elim c.if-told.branch [
-        | then-told+in_ok-push w ↦ rw w.if-told.true (grind (arith, common_steps))
-        | else-told w ↦ rw w.if-told.false (grind (arith, common_steps))
-        ] in
+    elim c.if-told.branch [
+      | then-told+in_ok-push w ↦ rw w.if-told.true (grind (arith, common_steps))
+      | else-told w ↦ rw w.if-told.false (grind (arith, common_steps))
+    ] in
     goes_on _ _ _ _ _ _ _ _ _ _ c.loop-done.invariant _ _ _ _ _ (omega arith) (running _ (cc (c.if-is_some.false, c.is_some.ensures))) (sym at.answer ∙ c.in-Done.is) (sym c.tells-told.ensures) noted at.hart at.bytes
 
 pub returns : goal.returns

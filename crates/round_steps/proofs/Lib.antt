@@ -1,0 +1,4 @@
+pub mod Turning
+pub mod Searching
+pub mod RoundParts
+pub mod ShownThere

@@ -1,0 +1,138 @@
+-- The parts of a round, as they are walked over.
+use Rattle.std.proofs.Common.{◌≡◌, ℕ, zero, suc, ◌+◌, ◌-◌, ◌<◌, ◌==◌, ◌||◌, Bool, true, false, cond, List, [], ◌∷◌, ◌++◌, length, get_or, inl, inr, length-append, append_assoc, append-nil, add-one, slice_get, slice_index, is_some, Option, Some, None, refl, sym, ◌∙◌, ap, subst, arith}
+use Rattle.std.specs.Prelude.{◌⊎◌}
+use Rattle.std.proofs.Math.ListN.{get_or-append}
+use Rattle.std.proofs.Math.Seq.{get_or-append_seam}
+use Rattle.std.proofs.lemmas.Bool.{cases_eq}
+use Rattle.pages.specs.declared.access.Range.{Range}
+use Rattle.pages.specs.Memory.{Memory}
+use Rattle.round_schedule.specs.Past.{last_of}
+use Rattle.round_planner.specs.Quotas.{Planned, quota_of, quotas_of}
+use Rattle.hart_step.specs.declared.hart.Hart.{Hart}
+use Rattle.hart_step.specs.Buffered.{Overlay, seen_through}
+use Rattle.machine.specs.Machine.{Running}
+use Rattle.machine.specs.Untraced.{IsUntraced, Untraced}
+use Rattle.walking.specs.Hits.{harts_in_part, hits_from}
+use Rattle.walking.specs.Stops.{sight_of}
+use Rattle.walking.specs.declared.asked.Asked.{Asked}
+use Rattle.round_steps.specs.declared.place.Place.{Place}
+use Rattle.round_steps.specs.Places.{Begun, begun_of, parallel_places, part_counts, part_places, past_at, serial_places, turn_at, turn_comes, turn_of, turn_places, turns_of}
+
+-- the item that stands at a place
+pub got : {A : Type 0} (xs : List A) (i : ℕ) (x d : A) → i < length xs → x ≡ get_or xs i d → slice_get xs i ≡ Some x
+got [] i x d lt e = absurd (omega (arith, lt))
+got {A} (y ∷ ys) zero x d lt e = let there : A → Option A = λ z. Some z in ap there (sym e)
+got (y ∷ ys) (suc i) x d lt e = got ys i x d (omega (arith, lt)) e
+
+get_or-append_seam_at : {A : Type 0} (xs : List A) (x : A) (i : ℕ) (d : A) → i ≡ length xs → get_or (xs ++ x ∷ []) i d ≡ x
+get_or-append_seam_at xs x i d e = ap (λ (k : ℕ). get_or (xs ++ x ∷ []) k d) e ∙ get_or-append_seam xs x [] d
+
+-- through an empty buffer the part is that on memory
+pub part_through : (v : Overlay) (m : Memory) (q : ℕ) (h : Hart) → v ≡ record { base = m; bytes = [] } →
+    harts_in_part (seen_through v).code q (sight_of h (seen_through v)) ≡ harts_in_part m.code q (sight_of h m)
+part_through v m q h e = ap (λ (y : Overlay). harts_in_part (seen_through y).code q (sight_of h (seen_through y))) e
+
+pub counts_are : (f : Hart → Bool) (h : Hart) (part : List Hart) (counts : List ℕ) → is_some h.stop ≡ false → counts ≡ hits_from f 0 part → counts ≡ part_counts f h part
+counts_are f h part counts hs e = rw hs e
+
+pub stopped_counts : (f : Hart → Bool) (h : Hart) (part : List Hart) → is_some h.stop ≡ true → part_counts f h part ≡ []
+stopped_counts f h part hs = rw hs refl
+
+pub stopped_turn : (quota : ℕ) (h : Hart) (part : List Hart) → is_some h.stop ≡ true → None ≡ turn_comes quota h part
+stopped_turn quota h part hs = rw hs refl
+
+-- where a part ended as g after so many
+pub turn_is : (quota done : ℕ) (h g : Hart) (part : List Hart) (t : Option ℕ) → is_some h.stop ≡ false → last_of part ≡ Some g → length part ≡ done + 1 →
+    t ≡ cond (is_some g.stop || (done == quota)) None (Some done) → t ≡ turn_comes quota h part
+turn_is quota done h g part t hs last size e =
+    let n : length part - 1 ≡ done = omega (arith, size) in
+    rw (hs, last, n) e
+
+-- what a machine without its trace begins a round with
+abbrev pub begun_by : Untraced → List Range → Begun
+begun_by u code = record { harts = u.harts; bytes = u.bytes; code = code; quotas = quotas_of u.plan u.rounds }
+
+pub begun_same : (m : Running) (u : Untraced) (code : List Range) → IsUntraced m u → m.code ≡ code → begun_by u code ≡ begun_of m
+begun_same m u code is c =
+    ap (λ (hs : List Hart). record { harts = hs; bytes = u.bytes; code = code; quotas = quotas_of u.plan u.rounds }) is.harts
+    ∙ ap (λ (bs : List ℕ). record { harts = m.state.harts; bytes = bs; code = code; quotas = quotas_of u.plan u.rounds }) is.bytes
+    ∙ ap (λ (rs : List Range). record { harts = m.state.harts; bytes = m.state.bytes; code = rs; quotas = quotas_of u.plan u.rounds }) (sym c)
+    ∙ ap (λ (p : Planned). record { harts = m.state.harts; bytes = m.state.bytes; code = m.code; quotas = quotas_of p u.rounds }) is.plan
+    ∙ ap (λ (n : ℕ). record { harts = m.state.harts; bytes = m.state.bytes; code = m.code; quotas = quotas_of m.plan n }) is.rounds
+
+-- a part by other names of its code, quota and bytes
+pub same_part : (code code2 : List Range) (q q2 : ℕ) (h : Hart) (bs bs2 : List ℕ) → code ≡ code2 → q ≡ q2 → bs ≡ bs2 →
+    harts_in_part code q (record { hart = h; bytes = bs }) ≡ harts_in_part code2 q2 (record { hart = h; bytes = bs2 })
+same_part code code2 q q2 h bs bs2 ec eq eb =
+    ap (λ (c : List Range). harts_in_part c q (record { hart = h; bytes = bs })) ec
+    ∙ ap (λ (n : ℕ). harts_in_part code2 n (record { hart = h; bytes = bs })) eq
+    ∙ ap (λ (b : List ℕ). harts_in_part code2 q2 (record { hart = h; bytes = b })) eb
+
+pub same_quota : (p : Planned) (n i q : ℕ) → q ≡ quota_of p (n + 1) i → q ≡ slice_index (quotas_of p n) i
+same_quota p n i q e = let back : (n + 1) - 1 ≡ n = omega arith in e ∙ ap (λ (k : ℕ). slice_index (quotas_of p k) i) back
+
+pub no_parts : (a : Asked) (b : Begun) (xs : List Place) → xs ≡ [] → xs ≡ parallel_places a b 0
+unfolding parallel_places
+no_parts a b xs e = e
+
+pub no_turns : (b : Begun) (xs : List (Option ℕ)) → xs ≡ [] → xs ≡ turns_of b 0
+unfolding turns_of
+no_turns b xs e = e
+
+-- ---- turns, hart by hart
+
+turns_size : (b : Begun) (n : ℕ) → length (turns_of b n) ≡ n
+unfolding turns_of
+turns_size b zero = refl
+turns_size b (suc n) = omega (arith, turns_size b n, length-append (turns_of b n) (turn_at b n (slice_get b.harts n) ∷ []))
+
+turn_by : (b : Begun) (n i : ℕ) (d : Option ℕ) → (i ≡ n) ⊎ (i ≡ n → ⊥) → i < suc n → (i < n → get_or (turns_of b n) i d ≡ turn_at b i (slice_get b.harts i)) → get_or (turns_of b (suc n)) i d ≡ turn_at b i (slice_get b.harts i)
+unfolding turns_of
+turn_by b n i d (inl e) lt ih =
+    let here : i ≡ length (turns_of b n) = omega (arith, e, turns_size b n) in
+    get_or-append_seam_at (turns_of b n) (turn_at b n (slice_get b.harts n)) i d here ∙ ap (λ (k : ℕ). turn_at b k (slice_get b.harts k)) (sym e)
+turn_by b n i d (inr ne) lt ih =
+    let less : i < length (turns_of b n) = omega (arith, lt, ne, turns_size b n) in
+    get_or-append (turns_of b n) (turn_at b n (slice_get b.harts n) ∷ []) d i less ∙ ih (omega (arith, lt, ne))
+
+pub turns_at : (b : Begun) (n i : ℕ) (d : Option ℕ) → i < n → get_or (turns_of b n) i d ≡ turn_at b i (slice_get b.harts i)
+turns_at b zero i d lt = absurd (omega (arith, lt))
+turns_at b (suc n) i d lt = turn_by b n i d (cases_eq i n) lt (turns_at b n i d)
+
+pub turns_count : (b : Begun) (n k : ℕ) (ts : List (Option ℕ)) → ts ≡ turns_of b n → k ≡ length ts → k ≡ n
+turns_count b n k ts e f = f ∙ ap length e ∙ turns_size b n
+
+-- one more turn
+pub serial_more : (a : Asked) (m : Running) (i : ℕ) (front old new : List Place) (t : Option ℕ) → old ≡ front ++ serial_places a m i → t ≡ turn_of m i → new ≡ old ++ turn_places a i (past_at m i) t →
+    new ≡ front ++ serial_places a m (i + 1)
+unfolding serial_places
+serial_more a m i front old new t eo et en =
+    en
+    ∙ ap (λ (xs : List Place). xs ++ turn_places a i (past_at m i) t) eo
+    ∙ append_assoc front (serial_places a m i) (turn_places a i (past_at m i) t)
+    ∙ ap (λ (u : Option ℕ). front ++ (serial_places a m i ++ turn_places a i (past_at m i) u)) et
+    ∙ ap (λ (n : ℕ). front ++ serial_places a m n) (sym (add-one i))
+
+pub serial_first : (a : Asked) (m : Running) (front : List Place) → front ≡ front ++ serial_places a m 0
+unfolding serial_places
+serial_first a m front = sym (append-nil front)
+
+-- one more part
+pub parallel_more : (a : Asked) (b : Begun) (i : ℕ) (h d : Hart) (old new more : List Place) → i < length b.harts → h ≡ get_or b.harts i d → old ≡ parallel_places a b i → new ≡ old ++ more → more ≡ part_places a b i (Some h) →
+    new ≡ parallel_places a b (i + 1)
+unfolding parallel_places
+parallel_more a b i h d old new more lt is eo en em =
+    en
+    ∙ ap (λ (xs : List Place). xs ++ more) eo
+    ∙ ap (λ (xs : List Place). parallel_places a b i ++ xs) em
+    ∙ ap (λ (o : Option Hart). parallel_places a b i ++ part_places a b i o) (sym (got b.harts i h d lt is))
+    ∙ ap (parallel_places a b) (sym (add-one i))
+
+pub turns_more : (b : Begun) (i : ℕ) (h d : Hart) (old new : List (Option ℕ)) (t : Option ℕ) → i < length b.harts → h ≡ get_or b.harts i d → old ≡ turns_of b i → new ≡ old ++ t ∷ [] → t ≡ turn_at b i (Some h) → new ≡ turns_of b (i + 1)
+unfolding turns_of
+turns_more b i h d old new t lt is eo en et =
+    en
+    ∙ ap (λ (xs : List (Option ℕ)). xs ++ t ∷ []) eo
+    ∙ ap (λ (u : Option ℕ). turns_of b i ++ u ∷ []) et
+    ∙ ap (λ (o : Option Hart). turns_of b i ++ turn_at b i o ∷ []) (sym (got b.harts i h d lt is))
+    ∙ ap (turns_of b) (sym (add-one i))

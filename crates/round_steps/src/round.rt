@@ -1,0 +1,128 @@
+ghost use Rattle.std.specs.Prelude.{◌≡◌, ◌≤◌, ◌+◌, ◌<◌, ◌^◌, true, length, IfOk, IfErr};
+ghost use Rattle.host_io.specs.declared.error.RunError.TheVariants as refusals;
+ghost use Rattle.round_planner.specs.Quotas.{quotas_of};
+ghost use Rattle.hart_step.specs.CodeTables.{Shows};
+ghost use Rattle.machine.specs.Machine.{Running};
+ghost use Rattle.machine.specs.Untraced.{IsUntraced};
+ghost use Rattle.round_steps.specs.Places.{begun_of, parallel_places, round_places, turns_of};
+
+use crate::part::{Before, add_part};
+use crate::place::Place;
+use crate::turn::add_turn;
+use hart_step::CodeTable;
+use host_io::RunError;
+use machine::UntracedMachine;
+use pages::{OutOfMemory, Pages, Range};
+use std::alloc::Global;
+use std::sync::Wait;
+use std::thread::Threads;
+use walking::Asked;
+
+/// The most words that are decoded beforehand. They take 4 MiB.
+const MOST_WORDS: u64 = 1 << 18;
+
+/// What the parts of the parallel phase of a round came to.
+#[derive(Drop)]
+struct Parts {
+    /// Where something is told in them.
+    found: Vec<Place>,
+    /// After how many instructions of each hart its turn comes, where it does.
+    turns: Vec<Option<u32>>,
+}
+
+/// Where something is told in the next round of a run, in the order of the trace. Of the run there is the machine without its trace,
+/// and its code. It may wait.
+///
+/// # Errors
+///
+/// `OutOfMemory` alone.
+pub fn places_in_round<R: Threads + Wait + Sync>(
+    rt: &R,
+    machine: &mut UntracedMachine,
+    code: &[Range],
+    asked: &Asked,
+) -> Result<Vec<Place>, RunError>
+    requires run { (m : Running) × IsUntraced m machine.old }
+    requires rounds { machine.old.rounds + 1 < 2 ^ 32 }
+    ensures stays { machine.new ≡ machine.old }
+    ensures places { (m : Running) → IsUntraced m machine.old → m.code ≡ code.now →
+        IfOk result (λ v. v.items ≡ round_places asked.now m) }
+    ensures refused { IfErr result (λ e. e ≡ refusals.OutOfMemory) }
+{
+    // At most 64, as many as the plan says.
+    let _harts = machine.plan().harts();
+    let _count = machine.harts();
+    let Parts { mut found, turns } = parts_in_round(machine, code, asked)?;
+    for number in 0..turns.len() {
+        add_turn(rt, machine, number as u32, turns[number], asked, &mut found)?;
+    }
+    Ok(found)
+}
+
+/// The same of its parallel phase.
+fn parts_in_round(
+    machine: &UntracedMachine,
+    code: &[Range],
+    asked: &Asked,
+) -> Result<Parts, OutOfMemory>
+    requires rounds { machine.now.rounds + 1 < 2 ^ 32 }
+    ensures found { IfOk result (λ p. p.found.items ≡ parallel_places asked.now (record {
+      harts = machine.now.harts;
+      bytes = machine.now.bytes;
+      code = code.now;
+      quotas = quotas_of machine.now.plan machine.now.rounds;
+    }) (length machine.now.harts)) }
+    ensures turns { IfOk result (λ p. p.turns.items ≡ turns_of (record {
+      harts = machine.now.harts;
+      bytes = machine.now.bytes;
+      code = code.now;
+      quotas = quotas_of machine.now.plan machine.now.rounds;
+    }) (length machine.now.harts)) }
+{
+    let pages = machine.pages();
+    if !are_same(pages.code(), code) {
+        // A run keeps its code.
+        return Err(OutOfMemory);
+    }
+    let table = decoded(pages)?;
+    let mut found = Vec::new(pages.allocator());
+    let mut turns = Vec::new(pages.allocator());
+    // At most 64.
+    let _harts = machine.plan().harts();
+    let harts = machine.harts();
+    for number in 0..harts.len() {
+        let before = Before {
+            number: number as u32,
+            hart: harts[number],
+            quota: machine.plan().quota(machine.rounds() + 1, number as u32),
+        };
+        turns.push(add_part(before, pages, &table, asked, &mut found)?)?;
+    }
+    Ok(Parts { found, turns })
+}
+
+/// The decoded words of the first range of code.
+pub(crate) fn decoded(pages: &Pages) -> Result<CodeTable, OutOfMemory>
+    ensures { IfOk result (λ t. Shows pages.now.memory t.first t.instructions) }
+{
+    match pages.code() {
+        [] => CodeTable::new(pages.allocator(), pages, 0, 0),
+        [range, ..] => {
+            let count = (range.len / 4).min(MOST_WORDS);
+            CodeTable::new(pages.allocator(), pages, range.start, count as usize)
+        }
+    }
+}
+
+/// Whether these are the same ranges.
+pub(crate) fn are_same(ranges: &[Range], others: &[Range]) -> bool
+    ensures { result ≡ true → ranges.now ≡ others.now }
+{
+    match (ranges, others) {
+        ([], []) => true,
+        ([range, rest @ ..], [other, more @ ..]) => {
+            range.start == other.start && range.len == other.len && are_same(rest, more)
+        }
+        _ => false,
+    }
+}
