@@ -9,10 +9,10 @@ use Rattle.memory_order.specs.Operations.{is_operation}
 use Rattle.memory_order.proofs.Sources.{one_place}
 use Rattle.dependencies.specs.Dependencies.{DependencyRule}
 use Rattle.rule_checker.specs.Unkept.{IsFirstUnkept, PreservedAt}
-use Rattle.refusal_reasons.specs.declared.rule.OrderRule.{OrderRule}
-use Rattle.refusal_reasons.specs.Orders.{IsFirstRule, NoneAsks, rule_of}
+use Rattle.order_rules.specs.declared.rule.OrderRule.{OrderRule}
+use Rattle.order_rules.specs.Orders.{IsFirstRule, NoneAsks, rule_of}
 use Rattle.refusal_reasons.specs.Reasons.{IsBroken, IsFirstBroken, IsFirstBrokenAt, IsTurned, NoneBroken, NoneBrokenAt}
-use Rattle.refusal_reasons.proofs.Naming.{asked_by, ordered_by}
+use Rattle.order_rules.proofs.Naming.{asked_by, ordered_by}
 
 pub none_more : (is : List Instr) (t : List Event) (pos : ℕ → ℕ) (a b : ℕ) → NoneBrokenAt is t pos a b → ((rule : OrderRule) → IsBroken rule is t pos a b → ⊥) → NoneBrokenAt is t pos (a + 1) b
 none_more is t pos a b old here rule c l = elim (cases_lt c a) [

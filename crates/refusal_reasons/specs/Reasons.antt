@@ -7,11 +7,11 @@ use Rattle.round_schedule.specs.Positions.{ProgramBefore, event, reads_at, sourc
 use Rattle.memory_order.specs.Operations.{is_operation, is_store}
 use Rattle.memory_order.specs.Orders.{place}
 use Rattle.memory_order.specs.Rvwmo.{IsPaired, IsSource, KeepsByte}
-use Rattle.refusal_reasons.specs.declared.rule.OrderRule.{OrderRule}
+use Rattle.order_rules.specs.declared.rule.OrderRule.{OrderRule}
 use Rattle.refusal_reasons.specs.declared.refusal.Refusal.{Refusal}
 use Rattle.refusal_reasons.specs.declared.refusal.Refusal.TheVariants.{LeftOut, NoOperation, NotAtomic, OutOfOrder, Twice, WrongByte}
-use Rattle.refusal_reasons.specs.Orders.{IsOrderedBy}
-use Rattle.refusal_reasons.specs.Rules.{number_of}
+use Rattle.order_rules.specs.Orders.{IsOrderedBy}
+use Rattle.order_rules.specs.Rules.{number_of}
 
 -- a place stands in an order at two positions
 abbrev pub IsTwice : List ℕ → ℕ → Type 0

@@ -4,7 +4,7 @@ ghost use Rattle.rv64_decode.specs.declared.instruction.Instr.{Instr};
 ghost use Rattle.memory_order.specs.Orders.{ListsOperations};
 ghost use Rattle.memory_order.specs.Rvwmo.{MeetsRvwmoBy};
 ghost use Rattle.dependencies.specs.Dependencies.{DependencyRule};
-ghost use Rattle.refusal_reasons.specs.Orders.{AreRanked};
+ghost use Rattle.order_rules.specs.Orders.{AreRanked};
 ghost use Rattle.refusal_reasons.specs.Reasons.{IsTrueOf};
 
 use crate::listing::{first_left_out, first_positions, first_stranger, first_twice};

@@ -1,5 +1,5 @@
 use crate::refusal::Refusal;
-use crate::rule::OrderRule;
+use order_rules::OrderRule;
 use round_schedule::Event;
 use std::fmt;
 

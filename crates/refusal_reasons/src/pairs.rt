@@ -3,14 +3,13 @@ ghost use Rattle.memory_order.specs.Orders.{place};
 ghost use Rattle.memory_order.specs.Rvwmo.{PreservedOrderBy};
 ghost use Rattle.dependencies.specs.Dependencies.{DependencyRule};
 ghost use Rattle.rule_checker.specs.Unkept.{IsFirstUnkept, PreservedAt};
-ghost use Rattle.refusal_reasons.specs.Orders.{AreRanked, HasSources, IsFirstRule};
-ghost use Rattle.refusal_reasons.specs.declared.rule.OrderRule.{OrderRule};
+ghost use Rattle.order_rules.specs.Orders.{AreRanked, HasSources, IsFirstRule};
+ghost use Rattle.order_rules.specs.declared.rule.OrderRule.{OrderRule};
 ghost use Rattle.refusal_reasons.specs.Reasons.{IsBroken, IsFirstBroken, IsFirstBrokenAt, IsTurned, NoneBrokenAt};
 
-use crate::asking::first_rule;
-use crate::rule::OrderRule;
 use memory_order::is_operation;
 use order_checker::{Sources, position_of};
+use order_rules::{OrderRule, first_rule};
 use pages::OutOfMemory;
 use round_schedule::Event;
 use rule_checker::first_unkept;

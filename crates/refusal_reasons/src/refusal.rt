@@ -1,4 +1,4 @@
-use crate::rule::OrderRule;
+use order_rules::OrderRule;
 
 /// Why RVWMO refuses what was done, in an order of its memory operations.
 ///

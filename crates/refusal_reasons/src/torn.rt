@@ -4,12 +4,11 @@ ghost use Rattle.memory_order.specs.Operations.{is_store};
 ghost use Rattle.memory_order.specs.Orders.{place};
 ghost use Rattle.memory_order.specs.Rvwmo.{AtomicityAxiom, IsPaired, KeepsByte};
 ghost use Rattle.order_checker.specs.Checking.{AreReserved};
-ghost use Rattle.refusal_reasons.specs.Orders.{AreRanked, HasSources};
+ghost use Rattle.order_rules.specs.Orders.{AreRanked, HasSources};
 ghost use Rattle.refusal_reasons.specs.Reasons.{AtomicFor, IsTorn, KeepsBytes, LiesBetween};
 
-use crate::access::writes;
-use crate::sources::source_of;
 use order_checker::{Sources, event_at, last_reserved, listed, paired, position_of};
+use order_rules::{source_of, writes};
 use pages::OutOfMemory;
 use round_schedule::Event;
 use std::alloc::Global;

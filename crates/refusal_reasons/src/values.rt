@@ -5,11 +5,11 @@ ghost use Rattle.round_schedule.specs.Positions.{reads_at, source_byte};
 ghost use Rattle.trace.specs.Traced.{opening_at};
 ghost use Rattle.memory_order.specs.Orders.{place};
 ghost use Rattle.memory_order.specs.Rvwmo.{LoadValueAxiom};
-ghost use Rattle.refusal_reasons.specs.Orders.{AreRanked, HasSources};
+ghost use Rattle.order_rules.specs.Orders.{AreRanked, HasSources};
 ghost use Rattle.refusal_reasons.specs.Reasons.{IsRight, IsWrong, IsRightLoad};
 
-use crate::sources::source_of;
 use order_checker::{Sources, event_at};
+use order_rules::source_of;
 use round_schedule::{Access, Event};
 use trace::Trace;
 

@@ -4,7 +4,7 @@ use Rattle.memory_order.specs.Orders.{place}
 use Rattle.memory_order.proofs.Facts.{within}
 use Rattle.memory_order.proofs.Sources.{load_at}
 use Rattle.refusal_reasons.specs.Reasons.{IsRightLoad}
-use Rattle.refusal_reasons.proofs.Sourcing.{below_next}
+use Rattle.order_rules.proofs.Sourcing.{below_next}
 use Rattle.refusal_reasons.proofs.values.find_wrong.Goals as goal
 
 pub loop-load-preserved : goal.loop-load-preserved

@@ -1,0 +1,3 @@
+mod Following
+pub mod Naming
+pub mod Sourcing

@@ -1,0 +1,3 @@
+pub mod Dependents
+pub mod Orders
+pub mod Rules

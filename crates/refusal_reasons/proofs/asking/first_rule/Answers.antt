@@ -1,6 +1,0 @@
-use Rattle.std.proofs.Common.{arith}
-use Rattle.refusal_reasons.proofs.Naming.{at_most_thirteen}
-use Rattle.refusal_reasons.proofs.asking.first_rule.Goals as goal
-
-pub returns : goal.returns
-returns c = λ k a. c.loop-rule.invariant k (let l = at_most_thirteen k in omega (arith, l, c.loop-rule-test.false)) a

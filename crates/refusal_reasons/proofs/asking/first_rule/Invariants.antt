@@ -1,9 +1,0 @@
-use Rattle.std.proofs.Common.{◌≤◌}
-use Rattle.memory_order.specs.Orders.{place}
-use Rattle.refusal_reasons.specs.declared.rule.OrderRule.{OrderRule}
-use Rattle.refusal_reasons.specs.Orders.{Asks}
-use Rattle.refusal_reasons.specs.Rules.{number_of}
-use Rattle.refusal_reasons.proofs.asking.first_rule.Given as goal
-
-abbrev pub invariant-loop-rule : goal.invariant-loop-rule
-invariant-loop-rule l = (k : OrderRule) → number_of k ≤ l.rule-index → Asks k l.instructions l.events (place l.order) l.a l.b → ⊥
