@@ -1,0 +1,17 @@
+/// Memory operations on one side of a fence.
+#[derive(Clone, Copy, Debug, PartialEq, Eq)]
+pub enum Side {
+    /// Loads, LRs and AMOs.
+    Loads,
+    /// Stores, SCs and AMOs.
+    Stores,
+    /// All of them.
+    Both,
+}
+
+/// What a fence orders: the operations of one side that are before it, before those of the other side that are after it.
+#[derive(Clone, Copy, Debug, PartialEq, Eq)]
+pub struct FenceKind {
+    pub before: Side,
+    pub after: Side,
+}

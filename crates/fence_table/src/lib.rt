@@ -1,0 +1,20 @@
+//! What a search for missing fences tells: the places where one is missing, each with an execution that shows it, and their text.
+#![tactic(auto)]
+
+mod failure;
+mod fence_kind;
+mod fence_table;
+mod missing;
+mod moved;
+mod place;
+mod site;
+mod tally;
+
+pub use failure::Failure;
+pub use fence_kind::{FenceKind, Side};
+pub use fence_table::FenceTable;
+pub use missing::{Missing, Shown};
+pub use moved::{Direction, Moved, Operation, Passed};
+pub use place::Place;
+pub use site::{Site, SiteName};
+pub use tally::Tally;

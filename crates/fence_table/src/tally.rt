@@ -1,0 +1,7 @@
+/// Numbers of executions, by how many they are and the first of them.
+#[derive(Clone, Copy, Debug, PartialEq, Eq)]
+pub struct Tally {
+    pub plans: u32,
+    /// 0 where they are none.
+    pub first: u32,
+}
