@@ -3,6 +3,7 @@
 
 mod executions;
 mod families;
+mod fences;
 mod overview;
 mod recordings;
 mod runs;
@@ -12,6 +13,7 @@ pub use families::{
     HUNT_ABOUT, HUNT_AFTER_HELP, MERGE_ABOUT, MERGE_AFTER_HELP, PLAN_ABOUT, PLAN_AFTER_HELP,
     SHRINK_ABOUT, SHRINK_AFTER_HELP,
 };
+pub use fences::{FENCES_ABOUT, FENCES_AFTER_HELP};
 pub use overview::{ABOUT, AFTER_HELP};
 pub use recordings::{
     MIGRATE_ABOUT, MIGRATE_AFTER_HELP, REPLAY_ABOUT, REPLAY_AFTER_HELP, WATCH_ABOUT,

@@ -16,6 +16,7 @@ Examples:
   dethart hunt guest.elf --harts 4 > table.txt
   dethart shrink guest.elf --harts 4 --plan-number 35
   dethart merge table.txt next.txt
+  dethart fences guest.elf --harts 4
   dethart plan 35 --harts 4
   dethart draw guest.elf --harts 4 --to 8 > run.svg
   dethart trace guest.elf --harts 4 --as perfetto > run.json
@@ -33,4 +34,5 @@ Exit status: 0 what was asked for was printed or written, 1 a refusal (error N),
 or dethart check an execution that is none or that RVWMO doesn't allow, 4
 dethart hunt found more endings than one, or one in which not all harts
 exited (--fail-on says when else), or dethart run --strict found a hart that
-didn't exit with value 0.";
+didn't exit with value 0, or an ordinary run of dethart fences failed, 5 dethart
+fences found a missing fence.";

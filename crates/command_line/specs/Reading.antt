@@ -14,6 +14,9 @@ use Rattle.command_line.specs.declared.settings.Draw.{Draw}
 use Rattle.command_line.specs.declared.settings.Execution.{Execution}
 use Rattle.command_line.specs.declared.settings.FailOn.{FailOn}
 use Rattle.command_line.specs.declared.settings.FailOn.TheVariants as fail_on
+use Rattle.command_line.specs.declared.settings.Fences.{Fences}
+use Rattle.command_line.specs.declared.settings.FencesFailOn.{FencesFailOn}
+use Rattle.command_line.specs.declared.settings.FencesFailOn.TheVariants as fences_fail_on
 use Rattle.command_line.specs.declared.settings.Hunt.{Hunt}
 use Rattle.command_line.specs.declared.settings.Merge.{Merge}
 use Rattle.command_line.specs.declared.settings.Migrate.{Migrate}
@@ -112,6 +115,19 @@ fail_on_in text = if bytes_eq text (codes "differ") then Some fail_on.Differ
 -- what `hunt` is given after --fail-on
 abbrev pub fail_on_given : List Row → Option FailOn
 fail_on_given rows = option_and_then fail_on_in (first_of (codes "fail-on") rows)
+
+-- the word after --fail-on says which tables of missing fences give another exit status
+abbrev pub fences_fail_on_in : Text → Option FencesFailOn
+fences_fail_on_in text = if bytes_eq text (codes "missing") then Some fences_fail_on.Missing
+    else if bytes_eq text (codes "never") then Some fences_fail_on.Never else None
+
+-- what `fences` is given after --fail-on
+abbrev pub fences_fail_on_given : List Row → Option FencesFailOn
+fences_fail_on_given rows = option_and_then fences_fail_on_in (first_of (codes "fail-on") rows)
+
+-- what `fences` is given after --as-if-fence
+abbrev pub pc_given : List Row → Option ℕ
+pc_given rows = option_and_then address_in (first_of (codes "as-if-fence") rows)
 
 -- the line gives the option
 abbrev pub is_given : Text → List Row → Bool
@@ -219,6 +235,15 @@ pub record HoldsHunt (rows : List Row) (hunt : Hunt) : Type 0 where
   pub fail_on : hunt.fail_on ≡ unwrap_or (fail_on_given rows) fail_on.Differ
   pub weak : hunt.weak ≡ is_set (codes "weak") rows
 
+pub record HoldsFences (rows : List Row) (fences : Fences) : Type 0 where
+  pub search : HoldsSearch rows fences.search
+  pub plans : fences.plans ≡ number_or 1000 (one_of (codes "plans") rows)
+  pub first : fences.first ≡ number_or 0 (one_of (codes "first") rows)
+  pub fail_on : fences.fail_on ≡ unwrap_or (fences_fail_on_given rows) fences_fail_on.Missing
+  pub keep : option_map (λ s. s.now) fences.keep ≡ first_of (codes "keep") rows
+  pub accept : option_map (λ s. s.now) fences.accept ≡ first_of (codes "accept") rows
+  pub as_if_fence : fences.as_if_fence ≡ pc_given rows
+
 pub record HoldsShrink (rows : List Row) (shrink : Shrink) : Type 0 where
   pub search : HoldsSearch rows shrink.search
   pub plan_number : shrink.plan_number ≡ number_or 0 (one_of (codes "plan-number") rows)
@@ -256,6 +281,7 @@ HoldsNamed name rows (command.Migrate migrate) = (name ≡ codes "migrate") × H
 HoldsNamed name rows (command.Hunt hunt) = (name ≡ codes "hunt") × HoldsHunt rows hunt
 HoldsNamed name rows (command.Shrink shrink) = (name ≡ codes "shrink") × HoldsShrink rows shrink
 HoldsNamed name rows (command.Merge merge) = (name ≡ codes "merge") × HoldsMerge rows merge
+HoldsNamed name rows (command.Fences fences) = (name ≡ codes "fences") × HoldsFences rows fences
 HoldsNamed name rows (command.Plan plan) = (name ≡ codes "plan") × HoldsPlan rows plan
 HoldsNamed name rows (command.Draw draw) = (name ≡ codes "draw") × HoldsDraw rows draw
 HoldsNamed name rows (command.Trace run) = (name ≡ codes "trace") × HoldsRun rows run
@@ -271,5 +297,5 @@ HoldsLine (Some met) line = HoldsNamed met.0 met.1 line
 abbrev pub IsSubcommand : Text → Type 0
 IsSubcommand name = (name ≡ codes "run") ⊎ (name ≡ codes "order") ⊎ (name ≡ codes "record")
     ⊎ (name ≡ codes "replay") ⊎ (name ≡ codes "watch") ⊎ (name ≡ codes "migrate")
-    ⊎ (name ≡ codes "hunt") ⊎ (name ≡ codes "shrink") ⊎ (name ≡ codes "merge")
+    ⊎ (name ≡ codes "hunt") ⊎ (name ≡ codes "shrink") ⊎ (name ≡ codes "merge") ⊎ (name ≡ codes "fences")
     ⊎ (name ≡ codes "plan") ⊎ (name ≡ codes "draw") ⊎ (name ≡ codes "trace") ⊎ (name ≡ codes "execution") ⊎ (name ≡ codes "check")

@@ -1,7 +1,6 @@
 //! What the matches of the subcommands that go over plans of a family say.
 ghost use Rattle.std.specs.Prelude.{◌≡◌, IfOk};
 ghost use Rattle.clap.specs.Words.{found_of, rows_of};
-ghost use Rattle.command_line.specs.Faults.{has_bad_fail_on};
 ghost use Rattle.command_line.specs.Reading.{HoldsHunt, HoldsMerge, HoldsPlan, HoldsSearch, HoldsShrink, fail_on_given, fail_on_in};
 
 use crate::given::is_set;
@@ -12,8 +11,11 @@ use crate::settings::{FailOn, Hunt, Merge, Plan, Search, Shrink};
 use clap::ArgMatches;
 use std::alloc::{AllocError, Global};
 
-/// What the matches of `hunt` and `shrink` say of the runs.
-fn search_of<'a>(alloc: Global, matches: &ArgMatches<'a>) -> Result<Search<'a>, AllocError>
+/// What the matches of `hunt`, `shrink` and `fences` say of the runs.
+pub(crate) fn search_of<'a>(
+    alloc: Global,
+    matches: &ArgMatches<'a>,
+) -> Result<Search<'a>, AllocError>
     ensures { IfOk result (HoldsSearch (rows_of (found_of matches.now))) }
 {
     let seen = seen_of(alloc, matches)?;
@@ -40,16 +42,6 @@ pub(crate) fn hunt_of<'a>(alloc: Global, matches: &ArgMatches<'a>) -> Result<Hun
     })
 }
 
-/// Whether the matches have a word after `--fail-on` that says of no endings.
-pub(crate) fn has_bad_fail_on(matches: &ArgMatches<'_>) -> bool
-    ensures { result ≡ has_bad_fail_on (rows_of (found_of matches.now)) }
-{
-    match matches.get_str("fail-on") {
-        Some(text) => fail_on_in(text).is_none(),
-        None => false,
-    }
-}
-
 /// What `hunt` is given after `--fail-on`.
 fn fail_on_given(matches: &ArgMatches<'_>) -> Option<FailOn>
     ensures { result ≡ fail_on_given (rows_of (found_of matches.now)) }
@@ -60,8 +52,8 @@ fn fail_on_given(matches: &ArgMatches<'_>) -> Option<FailOn>
     }
 }
 
-/// Which endings the word after `--fail-on` says.
-fn fail_on_in(text: &str) -> Option<FailOn>
+/// Which endings the word after `--fail-on` of `hunt` says.
+pub(crate) fn fail_on_in(text: &str) -> Option<FailOn>
     ensures { result ≡ fail_on_in text.now }
 {
     if text == "differ" {

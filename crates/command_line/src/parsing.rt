@@ -6,7 +6,8 @@ ghost use Rattle.command_line.specs.Faults.{has_bad_address, has_bad_word, has_n
 ghost use Rattle.command_line.specs.Reading.{HoldsCheck, HoldsLine, HoldsMigrate, HoldsNamed, HoldsReplay, HoldsWatch, IsSubcommand, address_given, asks_of_a_hart, is_unread};
 
 use crate::contradictions::contradiction;
-use crate::families::{has_bad_fail_on, hunt_of, merge_of, plan_of, shrink_of};
+use crate::families::{hunt_of, merge_of, plan_of, shrink_of};
+use crate::fences::{fences_of, has_bad_fail_on, has_bad_pc};
 use crate::given::{is_given, is_set};
 use crate::numbers::{address_in, number_given, number_of, wide_given, wide_number_of};
 use crate::runs::{draw_of, execution_of, has_bad_form, has_bad_show, print_of, record_of, run_of};
@@ -30,6 +31,13 @@ const BAD_SHOW: &str = "invalid value for '--show <WHAT>': it is report, output 
 
 /// What is said of a WHAT after `--fail-on` that is none.
 const BAD_FAIL_ON: &str = "invalid value for '--fail-on <WHAT>': it is differ, bad or never";
+
+/// What is said of a WHAT after `--fail-on` of `fences` that is none.
+const BAD_FENCES_FAIL_ON: &str = "invalid value for '--fail-on <WHAT>': it is missing or never";
+
+/// What is said of a PC that is none.
+const BAD_PC: &str =
+    "invalid value for '--as-if-fence <PC>': it is a number of 64 bits, in hexadecimal or in decimal: begin it with 0x, or write it without leading zeros";
 
 /// What is said of a FORM that is none.
 const BAD_FORM: &str = "invalid value for '--as <FORM>': it is perfetto";
@@ -94,6 +102,7 @@ fn command_of<'a>(
         "hunt" => Command::Hunt(hunt_of(alloc, matches)?),
         "shrink" => Command::Shrink(shrink_of(alloc, matches)?),
         "merge" => Command::Merge(merge_of(alloc, matches)?),
+        "fences" => Command::Fences(fences_of(alloc, matches)?),
         "plan" => Command::Plan(plan_of(matches)),
         "draw" => Command::Draw(draw_of(alloc, matches)?),
         "trace" => Command::Trace(run_of(matches)),
@@ -176,12 +185,23 @@ fn bad_word(name: &str, matches: &ArgMatches<'_>) -> Option<&'static str>
         Some(BAD_BYTES)
     } else if has_bad_show(matches) {
         Some(BAD_SHOW)
-    } else if has_bad_fail_on(matches) {
-        Some(BAD_FAIL_ON)
+    } else if has_bad_fail_on(name, matches) {
+        Some(bad_fail_on(name))
+    } else if has_bad_pc(matches) {
+        Some(BAD_PC)
     } else if has_bad_form(matches) {
         Some(BAD_FORM)
     } else {
         None
+    }
+}
+
+/// What is said of a word after `--fail-on` that the subcommand of this name doesn't take.
+fn bad_fail_on(name: &str) -> &'static str {
+    if name == "fences" {
+        BAD_FENCES_FAIL_ON
+    } else {
+        BAD_FAIL_ON
     }
 }
 

@@ -19,6 +19,8 @@ pub enum Command<'a> {
     Shrink(Shrink<'a>),
     /// `merge TABLE..`: make one table of those of hunts that adjoin.
     Merge(Merge<'a>),
+    /// `fences IMAGE`: look for missing fences.
+    Fences(Fences<'a>),
     /// `plan N`: print a plan of the family.
     Plan(Plan),
     /// `draw IMAGE`: run a guest program, and draw the run.
@@ -214,7 +216,7 @@ pub struct Bytes {
     pub length: u64,
 }
 
-/// Runs of a program by plans of a family: a part of the words after `hunt` and `shrink`.
+/// Runs of a program by plans of a family: a part of the words after `hunt`, `shrink` and `fences`.
 #[derive(PartialEq, Eq, Drop)]
 pub struct Search<'a> {
     /// The program that is run.
@@ -251,6 +253,34 @@ pub struct Hunt<'a> {
     pub fail_on: FailOn,
     /// The numbers are those of executions that RVWMO allows, in which loads come early and stores late, and not of plans.
     pub weak: bool,
+}
+
+/// Which tables of missing fences give another exit status.
+#[derive(Clone, Copy, PartialEq, Eq, Drop)]
+pub enum FencesFailOn {
+    /// Those with a missing fence, and those with an ordinary run that failed.
+    Missing,
+    /// None.
+    Never,
+}
+
+/// The words after `fences`.
+#[derive(PartialEq, Eq, Drop)]
+pub struct Fences<'a> {
+    /// The executions.
+    pub search: Search<'a>,
+    /// How many executions are looked at.
+    pub plans: u32,
+    /// The number of the first of these.
+    pub first: u32,
+    /// Which tables give another exit status.
+    pub fail_on: FencesFailOn,
+    /// The path of the folder that the executions which are told are written to; none is written where there is none.
+    pub keep: Option<&'a str>,
+    /// The path of the file that has the places to leave out.
+    pub accept: Option<&'a str>,
+    /// The address of a word before which a fence is thought of.
+    pub as_if_fence: Option<u64>,
 }
 
 /// The words after `shrink`.

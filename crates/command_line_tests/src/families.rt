@@ -1,7 +1,9 @@
 //! Lines that go over plans of a family.
 
 use crate::harness::{DEFAULTS, is_read};
-use command_line::{Bytes, Command, FailOn, Hunt, Merge, Plan, Program, Search, Shrink};
+use command_line::{
+    Bytes, Command, FailOn, Fences, FencesFailOn, Hunt, Merge, Plan, Program, Search, Shrink,
+};
 use std::alloc::{AllocError, Global};
 use std::test::Fail;
 
@@ -74,6 +76,39 @@ fn reads_hunt(rt: HostRuntime) -> Result<(), Fail> {
             weak: false,
         };
         assert!(rt; is_read(&rt, line, &Command::Hunt(defaults)));
+    }
+    Ok(())
+}
+
+const FENCES_WITH_EVERY_OPTION: &str =
+    "dethart fences --keep found guest.elf --plans=200 --accept known --first 7 --seed=9 --see-object=counter --harts 2 --as-if-fence 0x1134 --fail-on never";
+
+#[test]
+fn reads_fences(rt: HostRuntime) -> Result<(), Fail> {
+    let given = Fences {
+        search: search(rt.alloc(), 9, &[], &["counter"])?,
+        plans: 200,
+        first: 7,
+        fail_on: FencesFailOn::Never,
+        keep: Some("found"),
+        accept: Some("known"),
+        as_if_fence: Some(4404),
+    };
+    assert!(rt; is_read(&rt, FENCES_WITH_EVERY_OPTION, &Command::Fences(given)));
+    for line in &[
+        "dethart fences guest.elf --harts=2",
+        "dethart fences guest.elf --harts=2 --fail-on=missing",
+    ] {
+        let defaults = Fences {
+            search: search(rt.alloc(), 1, &[], &[])?,
+            plans: 1000,
+            first: 0,
+            fail_on: FencesFailOn::Missing,
+            keep: None,
+            accept: None,
+            as_if_fence: None,
+        };
+        assert!(rt; is_read(&rt, line, &Command::Fences(defaults)));
     }
     Ok(())
 }

@@ -38,7 +38,7 @@ fn refuses_bad_lines(rt: HostRuntime) {
     }
 }
 
-static ASKED: [(&str, ErrorKind); 13] = [
+static ASKED: [(&str, ErrorKind); 14] = [
     ("dethart --help", ErrorKind::DisplayHelp),
     ("dethart --version", ErrorKind::DisplayVersion),
     ("dethart run --help", ErrorKind::DisplayHelp),
@@ -48,6 +48,7 @@ static ASKED: [(&str, ErrorKind); 13] = [
     ("dethart watch --help", ErrorKind::DisplayHelp),
     ("dethart migrate --help", ErrorKind::DisplayHelp),
     ("dethart hunt --help", ErrorKind::DisplayHelp),
+    ("dethart fences --help", ErrorKind::DisplayHelp),
     ("dethart shrink --help", ErrorKind::DisplayHelp),
     ("dethart merge --help", ErrorKind::DisplayHelp),
     ("dethart plan --help", ErrorKind::DisplayHelp),
@@ -61,13 +62,14 @@ fn gives_texts_that_are_asked_for(rt: HostRuntime) {
     }
 }
 
-static ABSENT_WORDS: [&str; 9] = [
+static ABSENT_WORDS: [&str; 10] = [
     "dethart record a",
     "dethart replay --round 1",
     "dethart migrate a",
     "dethart shrink a",
     "dethart shrink a --plan-number 3",
     "dethart hunt a",
+    "dethart fences a",
     "dethart shrink a --harts 2",
     "dethart merge",
     "dethart plan",
@@ -116,7 +118,7 @@ fn refuses_bad_numbers(rt: HostRuntime) {
 }
 
 /// Lines with a word that is none of those that may stand there, or too few. The third has an empty LENGTH.
-static BAD_WORDS: [(&str, ErrorKind); 7] = [
+static BAD_WORDS: [(&str, ErrorKind); 12] = [
     (
         "dethart hunt a --harts 2 --see 0 1 --see ff 1",
         ErrorKind::ValueValidation,
@@ -136,6 +138,26 @@ static BAD_WORDS: [(&str, ErrorKind); 7] = [
     (
         "dethart hunt a --harts 2 --fail-on=ever",
         ErrorKind::ValueValidation,
+    ),
+    (
+        "dethart hunt a --harts 2 --fail-on=missing",
+        ErrorKind::ValueValidation,
+    ),
+    (
+        "dethart fences a --harts 2 --fail-on=differ",
+        ErrorKind::ValueValidation,
+    ),
+    (
+        "dethart fences a --harts 2 --see ff 1",
+        ErrorKind::ValueValidation,
+    ),
+    (
+        "dethart fences a --harts 2 --as-if-fence 0000000000001134",
+        ErrorKind::ValueValidation,
+    ),
+    (
+        "dethart fences a --harts 2 --as-if-fence 0x1134 --as-if-fence 0x1138",
+        ErrorKind::ArgumentConflict,
     ),
     ("dethart run a --show=trace", ErrorKind::ValueValidation),
     ("dethart draw a --see 1", ErrorKind::WrongNumberOfValues),

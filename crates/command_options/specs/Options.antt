@@ -147,6 +147,18 @@ hunt_rules =
     ∷ defaulted_rule (codes "fail-on") (codes "differ")
     ∷ []
 
+-- which executions are looked at for missing fences, which tables the exit status tells of, where the executions that are told go, which
+-- places are left out, and where a fence is thought of
+abbrev pub fence_rules : List Rule
+fence_rules =
+    number_rule (codes "plans") (codes "1000")
+    ∷ number_rule (codes "first") (codes "0")
+    ∷ defaulted_rule (codes "fail-on") (codes "missing")
+    ∷ text_rule (codes "keep")
+    ∷ text_rule (codes "accept")
+    ∷ text_rule (codes "as-if-fence")
+    ∷ []
+
 -- the numbers are of executions in which loads come early and stores late
 abbrev pub weak_rules : List Rule
 weak_rules = flag_rule (codes "weak") ∷ []
@@ -270,6 +282,9 @@ shrink_app = with_rules (searching (codes "shrink")) shrink_rules
 abbrev pub merge_app : App
 merge_app = taking (codes "merge") merge_rules
 
+abbrev pub fences_app : App
+fences_app = with_rules (searching (codes "fences")) fence_rules
+
 abbrev pub plan_app : App
 plan_app = taking (codes "plan") family_rules
 
@@ -306,7 +321,7 @@ recording_commands = replay_app ∷ watch_app ∷ migrate_app ∷ []
 
 -- those that hunt
 abbrev pub hunting_commands : List App
-hunting_commands = hunt_app ∷ shrink_app ∷ merge_app ∷ []
+hunting_commands = hunt_app ∷ shrink_app ∷ merge_app ∷ fences_app ∷ []
 
 -- the others
 abbrev pub other_commands : List App

@@ -2,7 +2,7 @@
 ghost use Rattle.std.specs.Prelude.{◌≡◌, IfOk, false};
 ghost use Rattle.clap.specs.Words.{app_of};
 ghost use Rattle.clap.specs.declared.builder.command.Command.TheViews.{out-Command};
-ghost use Rattle.command_options.specs.Options.{hunt_app, merge_app, plan_app, searching, shrink_app};
+ghost use Rattle.command_options.specs.Options.{fences_app, hunt_app, merge_app, plan_app, searching, shrink_app};
 
 use crate::arguments::{
     Argument, HARTS, NARROW, PROGRESS, SAME_OF_OBJECT, SEED, WEAK, WORKERS, with_arguments,
@@ -10,8 +10,8 @@ use crate::arguments::{
 use crate::program_options::{INPUT, guest_command, named_command};
 use clap::Command;
 use command_help::{
-    HUNT_ABOUT, HUNT_AFTER_HELP, MERGE_ABOUT, MERGE_AFTER_HELP, PLAN_ABOUT, PLAN_AFTER_HELP,
-    SHRINK_ABOUT, SHRINK_AFTER_HELP,
+    FENCES_ABOUT, FENCES_AFTER_HELP, HUNT_ABOUT, HUNT_AFTER_HELP, MERGE_ABOUT, MERGE_AFTER_HELP,
+    PLAN_ABOUT, PLAN_AFTER_HELP, SHRINK_ABOUT, SHRINK_AFTER_HELP,
 };
 use std::alloc::{AllocError, Global};
 
@@ -40,6 +40,29 @@ static HUNT: [Argument<'static>; 4] = [
         "Exit with 4 on: differ, bad or never",
     ),
     WEAK,
+];
+
+/// Which executions are looked at, and what of the missing fences is told.
+static FENCES: [Argument<'static>; 6] = [
+    Argument::Number(NARROW, "plans", "1000", "Executions: 1 to 4294967295"),
+    Argument::Number(NARROW, "first", "0", "Number of the first execution"),
+    Argument::Defaulted(
+        "fail-on",
+        "WHAT",
+        "missing",
+        "Exit with 5 or 4 on: missing or never",
+    ),
+    Argument::Text(
+        "keep",
+        "DIR",
+        "Write each execution that is told to a file in DIR",
+    ),
+    Argument::File("accept", "Places that are known, and left out"),
+    Argument::Text(
+        "as-if-fence",
+        "PC",
+        "Search as if a fence stood before this word",
+    ),
 ];
 
 /// The plan of the family that is made smaller.
@@ -74,6 +97,15 @@ pub(crate) fn hunt_command<'a>(alloc: Global) -> Result<Command<'a>, AllocError>
 {
     let command = searching_command(alloc, "hunt", HUNT_ABOUT, HUNT_AFTER_HELP)?;
     with_arguments(alloc, command, HUNT.as_slice())
+}
+
+/// The subcommand `fences`: how the program is run, and by which executions of the family.
+pub(crate) fn fences_command<'a>(alloc: Global) -> Result<Command<'a>, AllocError>
+    ensures app { IfOk result (λ command. app_of command ≡ fences_app) }
+    ensures local { IfOk result (λ command. (out-Command command).has_globals ≡ false) }
+{
+    let command = searching_command(alloc, "fences", FENCES_ABOUT, FENCES_AFTER_HELP)?;
+    with_arguments(alloc, command, FENCES.as_slice())
 }
 
 /// The subcommand `shrink`: how the program is run, and by which plan of the family.

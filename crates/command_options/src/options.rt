@@ -4,7 +4,9 @@ ghost use Rattle.clap.specs.Words.{AddsSubcommand, app_of};
 ghost use Rattle.clap.specs.declared.builder.command.Command.TheViews.{out-Command};
 ghost use Rattle.command_options.specs.Options.{bare_app, dethart_app, hunting_commands, run_commands, with_commands, with_other_commands, with_recording_commands};
 
-use crate::family_options::{hunt_command, merge_command, plan_command, shrink_command};
+use crate::family_options::{
+    fences_command, hunt_command, merge_command, plan_command, shrink_command,
+};
 use crate::program_options::named_command;
 use crate::recording_options::{migrate_command, replay_command, watch_command};
 use crate::run_options::{
@@ -48,7 +50,8 @@ fn with_hunting_commands<'a>(alloc: Global) -> Result<Command<'a>, AllocError>
     let recording = with_recording_commands(alloc);
     let hunting = with_subcommand(recording, hunt_command(alloc));
     let shrinking = with_subcommand(hunting, shrink_command(alloc));
-    with_subcommand(shrinking, merge_command(alloc))
+    let merging = with_subcommand(shrinking, merge_command(alloc));
+    with_subcommand(merging, fences_command(alloc))
 }
 
 /// The command with the subcommands of runs and recordings.

@@ -9,6 +9,7 @@ mod moved;
 mod place;
 mod site;
 mod tally;
+mod writing;
 
 pub use failure::Failure;
 pub use fence_kind::{FenceKind, Side};
@@ -18,3 +19,4 @@ pub use moved::{Direction, Moved, Operation, Passed};
 pub use place::Place;
 pub use site::{Site, SiteName};
 pub use tally::Tally;
+pub use writing::write_fences;

@@ -1,5 +1,7 @@
 mod endings;
 
+pub use endings::{add_output, add_ranges};
+
 ghost use Rattle.std.specs.Prelude.{◌≡◌, ◌<◌, ◌++◌, Err, OnOk};
 ghost use Rattle.host_io.specs.Taken.{WritesText};
 ghost use Rattle.hunt_table.specs.Text.{endings_text, header_text, plans_front, plans_line, seen_line, table_text, table_text_by, weak_word};

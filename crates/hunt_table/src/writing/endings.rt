@@ -46,8 +46,12 @@ fn add_quoted(line: &mut Line, bytes: &[u8]) -> Result<(), OutOfMemory>
 }
 
 /// Adds the line of the output.
+///
+/// # Errors
+///
+/// As `add_table`.
 #[tactic(auto, unfolding(crate::specs::Text::output_line))]
-fn add_output(line: &mut Line, output: &[u8]) -> Result<(), OutOfMemory>
+pub fn add_output(line: &mut Line, output: &[u8]) -> Result<(), OutOfMemory>
     ensures { OnOk result (line.new ≡ line.old ++ output_line output.now) }
 {
     line.text("output ")?;
@@ -133,7 +137,12 @@ pub(crate) fn add_range(line: &mut Line, range: &SeenRange, bytes: &[u8]) -> Res
     line.text("\n")
 }
 
-fn add_ranges(line: &mut Line, ranges: &[SeenRange], seen: &[u8]) -> Result<(), OutOfMemory>
+/// Adds the lines of ranges whose bytes stand one after the other.
+///
+/// # Errors
+///
+/// As `add_table`.
+pub fn add_ranges(line: &mut Line, ranges: &[SeenRange], seen: &[u8]) -> Result<(), OutOfMemory>
     ensures { OnOk result (line.new ≡ line.old ++ seen_lines ranges.now seen.now) }
 {
     let mut rest = seen;

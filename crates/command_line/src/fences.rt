@@ -1,0 +1,92 @@
+//! What the matches of the subcommand that looks for missing fences say, and the words after `--fail-on`.
+ghost use Rattle.std.specs.Prelude.{◌≡◌, IfOk};
+ghost use Rattle.clap.specs.Words.{found_of, rows_of};
+ghost use Rattle.command_line.specs.Faults.{has_bad_fail_on, has_bad_pc, is_fail_on};
+ghost use Rattle.command_line.specs.Reading.{HoldsFences, fences_fail_on_given, fences_fail_on_in, pc_given};
+
+use crate::families::{fail_on_in, search_of};
+use crate::given::is_given;
+use crate::numbers::{address_in, number_of};
+use crate::settings::{Fences, FencesFailOn};
+use clap::ArgMatches;
+use std::alloc::{AllocError, Global};
+
+/// What the matches of `fences` say.
+pub(crate) fn fences_of<'a>(
+    alloc: Global,
+    matches: &ArgMatches<'a>,
+) -> Result<Fences<'a>, AllocError>
+    ensures { IfOk result (HoldsFences (rows_of (found_of matches.now))) }
+{
+    let search = search_of(alloc, matches)?;
+    Ok(Fences {
+        search,
+        plans: number_of(matches, "plans", 1000),
+        first: number_of(matches, "first", 0),
+        fail_on: fences_fail_on_given(matches).unwrap_or(FencesFailOn::Missing),
+        keep: matches.get_str("keep"),
+        accept: matches.get_str("accept"),
+        as_if_fence: pc_given(matches),
+    })
+}
+
+/// Whether the matches have a word after `--fail-on` that is none of this subcommand.
+pub(crate) fn has_bad_fail_on(name: &str, matches: &ArgMatches<'_>) -> bool
+    ensures { result ≡ has_bad_fail_on name.now (rows_of (found_of matches.now)) }
+{
+    match matches.get_str("fail-on") {
+        Some(text) => !is_fail_on(name, text),
+        None => false,
+    }
+}
+
+/// Whether the subcommand of this name takes the word after `--fail-on`.
+fn is_fail_on(name: &str, text: &str) -> bool
+    ensures { result ≡ is_fail_on name.now text.now }
+{
+    if name == "fences" {
+        fences_fail_on_in(text).is_some()
+    } else {
+        fail_on_in(text).is_some()
+    }
+}
+
+/// What `fences` is given after `--fail-on`.
+fn fences_fail_on_given(matches: &ArgMatches<'_>) -> Option<FencesFailOn>
+    ensures { result ≡ fences_fail_on_given (rows_of (found_of matches.now)) }
+{
+    match matches.get_str("fail-on") {
+        Some(text) => fences_fail_on_in(text),
+        None => None,
+    }
+}
+
+/// Which tables the word after `--fail-on` of `fences` says.
+fn fences_fail_on_in(text: &str) -> Option<FencesFailOn>
+    ensures { result ≡ fences_fail_on_in text.now }
+{
+    if text == "missing" {
+        Some(FencesFailOn::Missing)
+    } else if text == "never" {
+        Some(FencesFailOn::Never)
+    } else {
+        None
+    }
+}
+
+/// What `fences` is given after `--as-if-fence`.
+fn pc_given(matches: &ArgMatches<'_>) -> Option<u64>
+    ensures { result ≡ pc_given (rows_of (found_of matches.now)) }
+{
+    match matches.get_str("as-if-fence") {
+        Some(text) => address_in(text),
+        None => None,
+    }
+}
+
+/// Whether the matches have a word after `--as-if-fence` that is no address.
+pub(crate) fn has_bad_pc(matches: &ArgMatches<'_>) -> bool
+    ensures { result ≡ has_bad_pc (rows_of (found_of matches.now)) }
+{
+    is_given(matches, "as-if-fence") && pc_given(matches).is_none()
+}

@@ -1,0 +1,145 @@
+ghost use Rattle.std.specs.Prelude.{◌≡◌, ◌++◌, OnOk, codes};
+ghost use Rattle.std.specs.Fmt.{digits};
+ghost use Rattle.std.specs.List.{flat_map};
+ghost use Rattle.fence_table.specs.Text.{direction_word, fence_words, name_word, passed_words, place_text, side_word, site_words};
+
+use crate::fence_kind::{FenceKind, Side};
+use crate::moved::{Direction, Moved, Passed};
+use crate::place::Place;
+use crate::site::{Site, SiteName};
+use crate::writing::operations::add_operation;
+use pages::OutOfMemory;
+use report_lines::Line;
+use std::alloc::Global;
+
+/// Adds one side of a fence.
+fn add_side(line: &mut Line, side: Side) -> Result<(), OutOfMemory>
+    ensures { OnOk result (line.new ≡ line.old ++ side_word side) }
+{
+    line.text(match side {
+        Side::Loads => "r",
+        Side::Stores => "w",
+        Side::Both => "rw",
+    })
+}
+
+/// Adds a fence.
+fn add_fence(line: &mut Line, fence: FenceKind) -> Result<(), OutOfMemory>
+    ensures { OnOk result (line.new ≡ line.old ++ fence_words fence) }
+{
+    line.text(" fence ")?;
+    add_side(line, fence.before)?;
+    line.text(",")?;
+    add_side(line, fence.after)
+}
+
+/// Adds the fences of some places.
+pub(crate) fn add_fences(line: &mut Line, places: &[Place]) -> Result<(), OutOfMemory>
+    ensures { OnOk result (line.new ≡ line.old ++ flat_map (λ p. fence_words p.fence) places.now) }
+{
+    for place in places {
+        add_fence(line, place.fence)?;
+    }
+    Ok(())
+}
+
+/// Adds how far an instruction is from the first byte of its function.
+fn add_offset(alloc: Global, line: &mut Line, offset: u64) -> Result<(), OutOfMemory>
+    ensures { OnOk result (line.new ≡ line.old ++ (codes "+0x" ++ digits 16 false offset)) }
+{
+    match format!(in alloc; "+0x{offset:x}") {
+        Ok(text) => line.text(&text),
+        Err(_) => Err(OutOfMemory),
+    }
+}
+
+/// Adds where an instruction stands in a function, if that is known.
+fn add_name(alloc: Global, line: &mut Line, name: &Option<SiteName>) -> Result<(), OutOfMemory>
+    ensures { OnOk result (line.new ≡ line.old ++ name_word name.now) }
+{
+    match name {
+        None => Ok(()),
+        Some(name) => {
+            line.text(" ")?;
+            line.bytes(&name.function)?;
+            add_offset(alloc, line, name.offset)
+        }
+    }
+}
+
+/// Adds an instruction.
+#[tactic(auto, unfolding(crate::specs::Text::site_words))]
+fn add_site(alloc: Global, line: &mut Line, site: &Site) -> Result<(), OutOfMemory>
+    ensures { OnOk result (line.new ≡ line.old ++ site_words site.now) }
+{
+    line.text(" ")?;
+    line.hex(site.pc, 16)?;
+    add_name(alloc, line, &site.name)
+}
+
+/// Adds on which side of another operation one stands.
+fn add_direction(line: &mut Line, direction: Direction) -> Result<(), OutOfMemory>
+    ensures { OnOk result (line.new ≡ line.old ++ direction_word direction) }
+{
+    line.text(match direction {
+        Direction::Before => " before",
+        Direction::Behind => " behind",
+    })
+}
+
+/// Adds the operation that another one moved past, if it is known.
+fn add_passed(
+    alloc: Global,
+    line: &mut Line,
+    direction: Direction,
+    passed: &Option<Passed>,
+) -> Result<(), OutOfMemory>
+    ensures { OnOk result (line.new ≡ line.old ++ passed_words direction passed.now) }
+{
+    match passed {
+        None => Ok(()),
+        Some(passed) => {
+            add_direction(line, direction)?;
+            add_operation(line, &passed.operation)?;
+            line.text(" at")?;
+            add_site(alloc, line, &passed.site)
+        }
+    }
+}
+
+/// Adds the operation that is out of order.
+fn add_moved(alloc: Global, line: &mut Line, moved: &Moved) -> Result<(), OutOfMemory>
+    ensures { OnOk result (line.new ≡ line.old ++ (operation_words moved.now.operation ++
+        passed_words moved.now.direction moved.now.passed)) }
+{
+    add_operation(line, &moved.operation)?;
+    add_passed(alloc, line, moved.direction, &moved.passed)
+}
+
+/// Adds a place.
+#[tactic(auto, unfolding(crate::specs::Text::place_text))]
+fn add_place(alloc: Global, line: &mut Line, place: &Place) -> Result<(), OutOfMemory>
+    ensures { OnOk result (line.new ≡ line.old ++ place_text place.now) }
+{
+    line.text("between")?;
+    add_site(alloc, line, &place.earlier)?;
+    line.text("\nand")?;
+    add_site(alloc, line, &place.later)?;
+    line.text("\nmoved")?;
+    add_moved(alloc, line, &place.moved)?;
+    line.text("\n")
+}
+
+/// Adds some places.
+pub(crate) fn add_places(
+    alloc: Global,
+    line: &mut Line,
+    places: &[Place],
+) -> Result<(), OutOfMemory>
+    ensures { OnOk result (line.new ≡ line.old ++ flat_map place_text places.now) }
+{
+    for place in places {
+        add_place(alloc, line, place)?;
+    }
+    Ok(())
+}
