@@ -40,9 +40,12 @@ abbrev pub fence_words : FenceKind → List ℕ
 fence_words f = codes " fence " ++ side_word f.before ++ codes "," ++ side_word f.after
 
 -- where an instruction stands in a function: `hart_main+0x3c`
+abbrev pub function_place : SiteName → List ℕ
+function_place n = n.function.items ++ codes "+0x" ++ digits 16 false n.offset
+
 abbrev pub name_word : Option SiteName → List ℕ
 name_word None = []
-name_word (Some n) = codes " " ++ n.function.items ++ codes "+0x" ++ digits 16 false n.offset
+name_word (Some n) = codes " " ++ function_place n
 
 -- an instruction: its address, and its place in a function where one is known
 unfoldable pub site_words : Site → List ℕ

@@ -1,6 +1,8 @@
 //! What a search for missing fences tells: the places where one is missing, each with an execution that shows it, and their text.
 #![tactic(auto)]
 
+mod accept_error;
+mod accepted;
 mod failure;
 mod fence_kind;
 mod fence_table;
@@ -11,6 +13,8 @@ mod site;
 mod tally;
 mod writing;
 
+pub use accept_error::AcceptError;
+pub use accepted::Accepted;
 pub use failure::Failure;
 pub use fence_kind::{FenceKind, Side};
 pub use fence_table::FenceTable;

@@ -9,6 +9,7 @@ ghost use Rattle.fence_table.specs.Text.{fences_text, header_text, numbers_line,
 use crate::fence_table::FenceTable;
 use crate::tally::Tally;
 use crate::writing::failures::add_faults;
+pub(crate) use crate::writing::places::add_function_place;
 use host_io::{RunError, Sink, put_all};
 use pages::OutOfMemory;
 use report_lines::Line;

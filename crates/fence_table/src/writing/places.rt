@@ -1,7 +1,7 @@
 ghost use Rattle.std.specs.Prelude.{◌≡◌, ◌++◌, OnOk, codes};
 ghost use Rattle.std.specs.Fmt.{digits};
 ghost use Rattle.std.specs.List.{flat_map};
-ghost use Rattle.fence_table.specs.Text.{direction_word, fence_words, name_word, passed_words, place_text, side_word, site_words};
+ghost use Rattle.fence_table.specs.Text.{direction_word, fence_words, function_place, name_word, passed_words, place_text, side_word, site_words};
 
 use crate::fence_kind::{FenceKind, Side};
 use crate::moved::{Direction, Moved, Passed};
@@ -53,7 +53,19 @@ fn add_offset(alloc: Global, line: &mut Line, offset: u64) -> Result<(), OutOfMe
     }
 }
 
-/// Adds where an instruction stands in a function, if that is known.
+/// Adds where an instruction stands in a function.
+pub(crate) fn add_function_place(
+    alloc: Global,
+    line: &mut Line,
+    name: &SiteName,
+) -> Result<(), OutOfMemory>
+    ensures { OnOk result (line.new ≡ line.old ++ function_place name.now) }
+{
+    line.bytes(&name.function)?;
+    add_offset(alloc, line, name.offset)
+}
+
+/// Adds the same behind a blank, if it is known.
 fn add_name(alloc: Global, line: &mut Line, name: &Option<SiteName>) -> Result<(), OutOfMemory>
     ensures { OnOk result (line.new ≡ line.old ++ name_word name.now) }
 {
@@ -61,8 +73,7 @@ fn add_name(alloc: Global, line: &mut Line, name: &Option<SiteName>) -> Result<(
         None => Ok(()),
         Some(name) => {
             line.text(" ")?;
-            line.bytes(&name.function)?;
-            add_offset(alloc, line, name.offset)
+            add_function_place(alloc, line, name)
         }
     }
 }

@@ -1,0 +1,40 @@
+use std::alloc::{AllocError, AllocFailed};
+use thiserror::Error;
+
+/// Why a list of places was not read.
+#[derive(Clone, Copy, Debug, PartialEq, Eq, Error)]
+pub enum AcceptError {
+    /// Memory was refused.
+    #[error("a request for memory was refused")]
+    OutOfMemory,
+    /// A line, counted from 1, is neither empty nor a comment, and has not two words with one blank between them.
+    #[error("line {0} of the places to accept has not two words")]
+    NotAPlace(u64),
+}
+
+impl AcceptError {
+    ghost use Rattle.std.specs.Prelude.{◌≡◌};
+    ghost use Rattle.fence_table.specs.Accepting.{accept_number};
+
+    /// The number of the refusal, as the program prints it.
+    pub fn number(self) -> u32
+        ensures { result ≡ accept_number self }
+    {
+        match self {
+            AcceptError::OutOfMemory => 20,
+            AcceptError::NotAPlace(_) => 76,
+        }
+    }
+}
+
+impl From<AllocError> for AcceptError {
+    fn from(_refused: AllocError) -> AcceptError {
+        AcceptError::OutOfMemory
+    }
+}
+
+impl<T: Drop> From<AllocFailed<T>> for AcceptError {
+    fn from(_refused: AllocFailed<T>) -> AcceptError {
+        AcceptError::OutOfMemory
+    }
+}
