@@ -1,7 +1,6 @@
 -- The text of what a search for missing fences found: lines that end with LF.
 use Rattle.std.specs.Prelude.{ℕ, ◌+◌, ◌==◌, false, if◌then◌else◌, List, [], ◌∷◌, ◌++◌, codes, Option, Some, None}
 use Rattle.std.specs.Fmt.{decimal, digits}
-use Rattle.std.specs.List.{flat_map}
 use Rattle.pages.specs.declared.access.Width.{Width}
 use Rattle.pages.specs.Memory.{width_bytes}
 use Rattle.round_schedule.specs.declared.access.Access.{Access}
@@ -75,18 +74,21 @@ abbrev pub direction_word : Direction → List ℕ
 direction_word Before = codes " before"
 direction_word Behind = codes " behind"
 
--- the operation of another hart that it moved past, and its instruction
-abbrev pub passed_words : Direction → Option Passed → List ℕ
-passed_words d None = []
-passed_words d (Some p) = direction_word d ++ operation_words p.operation ++ codes " at" ++ site_words p.site
+-- the operation of another hart that one moved past, and its instruction
+abbrev pub passed_words : Passed → List ℕ
+passed_words p = operation_words p.operation ++ codes " at" ++ site_words p.site
 
--- ---- a fault
+-- ---- a missing fence
 
--- a place where a fence is missing: between two instructions, the earlier one in the program first; and which of the two moved past what
+-- the place: between two instructions, the earlier one in the program first
 unfoldable pub place_text : Place → List ℕ
-place_text p =
-    codes "between" ++ site_words p.earlier ++ codes "\nand" ++ site_words p.later
-    ++ codes "\nmoved" ++ operation_words p.moved.operation ++ passed_words p.moved.direction p.moved.passed ++ codes "\n"
+place_text p = codes "between" ++ site_words p.earlier ++ codes "\nand" ++ site_words p.later ++ codes "\n"
+
+-- the operation that is out of order, its instruction, and what it moved past
+unfoldable pub moved_line : Moved → List ℕ
+moved_line m =
+    codes "moved" ++ operation_words m.operation ++ codes " at" ++ site_words m.site
+    ++ direction_word m.direction ++ passed_words m.passed ++ codes "\n"
 
 -- how the execution fails: how a hart stops; or the bytes that are looked at, and those that are put out, where ordinary runs have others;
 -- or that it goes on where ordinary runs have ended
@@ -101,20 +103,19 @@ shown_line s =
     codes "execution " ++ decimal s.number ++ codes " departures " ++ decimal s.departures
     ++ codes " steps " ++ decimal s.steps ++ codes " operations " ++ decimal s.operations ++ codes "\n"
 
--- the number of a fault, the fences that are missing, and the numbers that fail for want of them
-unfoldable pub missing_line : ℕ → Missing → List ℕ
-missing_line k m =
-    codes "missing " ++ decimal k ++ flat_map (λ p. fence_words p.fence) m.places.items
-    ++ plans_words m.numbers.plans m.numbers.first ++ codes "\n"
+-- its number, the fence, and the numbers that fail for want of it
+unfoldable pub missing_line : ℕ → FenceKind → Tally → List ℕ
+missing_line k f t = codes "missing " ++ decimal k ++ fence_words f ++ plans_words t.plans t.first ++ codes "\n"
 
 unfoldable pub missing_text : List SeenRange → ℕ → Missing → List ℕ
 missing_text ranges k m =
-    missing_line k m ++ flat_map place_text m.places.items ++ failure_text ranges m.failure ++ shown_line m.shown
+    missing_line k m.place.fence m.numbers ++ place_text m.place ++ moved_line m.moved
+    ++ failure_text ranges m.failure ++ shown_line m.shown
 
--- faults k, k + 1, ..
-abbrev pub faults_text : List SeenRange → ℕ → List Missing → List ℕ
-faults_text ranges k [] = []
-faults_text ranges k (m ∷ ms) = missing_text ranges k m ++ faults_text ranges (k + 1) ms
+-- missing fences k, k + 1, ..
+abbrev pub missing_texts : List SeenRange → ℕ → List Missing → List ℕ
+missing_texts ranges k [] = []
+missing_texts ranges k (m ∷ ms) = missing_text ranges k m ++ missing_texts ranges (k + 1) ms
 
 -- ---- the whole
 
@@ -133,4 +134,4 @@ header_text t =
 
 -- what the search found, as text
 unfoldable pub fences_text : FenceTable → List ℕ
-fences_text t = header_text t ++ faults_text t.ranges.items 1 t.missing.items ++ codes "end\n"
+fences_text t = header_text t ++ missing_texts t.ranges.items 1 t.missing.items ++ codes "end\n"

@@ -12,11 +12,10 @@ pub struct FenceTable {
     pub ranges: Vec<SeenRange>,
     /// Numbers that fail without any departure too: their faults are no matter of fences.
     pub ordinary: Tally,
-    /// Numbers that fail with departures alone, of which no place is told: the failing execution has no operation out of order, or the
-    /// checker of executions refuses it.
+    /// Numbers that fail with departures alone, but whose executions are interleavings all the same: no fence would forbid them.
     pub unnamed: Tally,
-    /// Numbers all of whose places were to be left out.
+    /// Numbers that fail for want of a fence at a place that was to be left out.
     pub accepted: Tally,
-    /// In the order of their first numbers.
+    /// Beginning with the fence for want of which the most numbers fail.
     pub missing: Vec<Missing>,
 }

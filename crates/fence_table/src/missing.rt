@@ -1,4 +1,5 @@
 use crate::failure::Failure;
+use crate::moved::Moved;
 use crate::place::Place;
 use crate::tally::Tally;
 
@@ -14,15 +15,15 @@ pub struct Shown {
     pub operations: u64,
 }
 
-/// One fault: the places that fences are missing at, and an execution that shows it.
+/// A missing fence, and an execution that shows it.
 #[derive(Drop)]
 pub struct Missing {
-    /// Mostly one. Where there are several, the execution needs an operation out of order at each of them: one fence at any of them
-    /// keeps this execution away.
-    pub places: Vec<Place>,
-    /// The numbers whose executions fail for want of a fence at these places.
+    pub place: Place,
+    /// The numbers whose executions fail for want of this fence, and of none that is told before it.
     pub numbers: Tally,
-    /// How the execution fails.
+    /// The operation that is out of order across the place in the execution that is shown.
+    pub moved: Moved,
+    /// How that execution fails.
     pub failure: Failure,
     pub shown: Shown,
 }

@@ -30,7 +30,9 @@ pub struct Passed {
 #[derive(Drop)]
 pub struct Moved {
     pub operation: Operation,
+    /// The instruction that did it.
+    pub site: Site,
     pub direction: Direction,
-    /// What it moved past, where that is known: of a load the first store to its bytes that it missed.
-    pub passed: Option<Passed>,
+    /// What it moved past: of a load the first store to its bytes that it missed.
+    pub passed: Passed,
 }

@@ -1,4 +1,4 @@
-mod failures;
+mod missing;
 mod operations;
 mod places;
 
@@ -8,7 +8,7 @@ ghost use Rattle.fence_table.specs.Text.{fences_text, header_text, numbers_line,
 
 use crate::fence_table::FenceTable;
 use crate::tally::Tally;
-use crate::writing::failures::add_faults;
+use crate::writing::missing::add_each_missing;
 pub(crate) use crate::writing::places::add_function_place;
 use host_io::{RunError, Sink, put_all};
 use pages::OutOfMemory;
@@ -37,7 +37,7 @@ fn add_fences(alloc: Global, line: &mut Line, table: &FenceTable) -> Result<(), 
     ensures { OnOk result (line.new ≡ line.old ++ fences_text table.now) }
 {
     add_header(line, table)?;
-    add_faults(alloc, line, &table.ranges, &table.missing)?;
+    add_each_missing(alloc, line, &table.ranges, &table.missing)?;
     line.text("end\n")
 }
 

@@ -1,7 +1,6 @@
 ghost use Rattle.std.specs.Prelude.{◌≡◌, ◌++◌, OnOk, codes};
 ghost use Rattle.std.specs.Fmt.{digits};
-ghost use Rattle.std.specs.List.{flat_map};
-ghost use Rattle.fence_table.specs.Text.{direction_word, fence_words, function_place, name_word, passed_words, place_text, side_word, site_words};
+ghost use Rattle.fence_table.specs.Text.{direction_word, fence_words, function_place, moved_line, name_word, passed_words, place_text, side_word, site_words};
 
 use crate::fence_kind::{FenceKind, Side};
 use crate::moved::{Direction, Moved, Passed};
@@ -24,23 +23,13 @@ fn add_side(line: &mut Line, side: Side) -> Result<(), OutOfMemory>
 }
 
 /// Adds a fence.
-fn add_fence(line: &mut Line, fence: FenceKind) -> Result<(), OutOfMemory>
+pub(crate) fn add_fence(line: &mut Line, fence: FenceKind) -> Result<(), OutOfMemory>
     ensures { OnOk result (line.new ≡ line.old ++ fence_words fence) }
 {
     line.text(" fence ")?;
     add_side(line, fence.before)?;
     line.text(",")?;
     add_side(line, fence.after)
-}
-
-/// Adds the fences of some places.
-pub(crate) fn add_fences(line: &mut Line, places: &[Place]) -> Result<(), OutOfMemory>
-    ensures { OnOk result (line.new ≡ line.old ++ flat_map (λ p. fence_words p.fence) places.now) }
-{
-    for place in places {
-        add_fence(line, place.fence)?;
-    }
-    Ok(())
 }
 
 /// Adds how far an instruction is from the first byte of its function.
@@ -98,59 +87,37 @@ fn add_direction(line: &mut Line, direction: Direction) -> Result<(), OutOfMemor
     })
 }
 
-/// Adds the operation that another one moved past, if it is known.
-fn add_passed(
-    alloc: Global,
-    line: &mut Line,
-    direction: Direction,
-    passed: &Option<Passed>,
-) -> Result<(), OutOfMemory>
-    ensures { OnOk result (line.new ≡ line.old ++ passed_words direction passed.now) }
+/// Adds the operation that another one moved past.
+fn add_passed(alloc: Global, line: &mut Line, passed: &Passed) -> Result<(), OutOfMemory>
+    ensures { OnOk result (line.new ≡ line.old ++ passed_words passed.now) }
 {
-    match passed {
-        None => Ok(()),
-        Some(passed) => {
-            add_direction(line, direction)?;
-            add_operation(line, &passed.operation)?;
-            line.text(" at")?;
-            add_site(alloc, line, &passed.site)
-        }
-    }
+    add_operation(line, &passed.operation)?;
+    line.text(" at")?;
+    add_site(alloc, line, &passed.site)
 }
 
-/// Adds the operation that is out of order.
-fn add_moved(alloc: Global, line: &mut Line, moved: &Moved) -> Result<(), OutOfMemory>
-    ensures { OnOk result (line.new ≡ line.old ++ (operation_words moved.now.operation ++
-        passed_words moved.now.direction moved.now.passed)) }
+/// Adds the line of an operation that is out of order.
+#[tactic(auto, unfolding(crate::specs::Text::moved_line))]
+pub(crate) fn add_moved(alloc: Global, line: &mut Line, moved: &Moved) -> Result<(), OutOfMemory>
+    ensures { OnOk result (line.new ≡ line.old ++ moved_line moved.now) }
 {
+    line.text("moved")?;
     add_operation(line, &moved.operation)?;
-    add_passed(alloc, line, moved.direction, &moved.passed)
+    line.text(" at")?;
+    add_site(alloc, line, &moved.site)?;
+    add_direction(line, moved.direction)?;
+    add_passed(alloc, line, &moved.passed)?;
+    line.text("\n")
 }
 
-/// Adds a place.
+/// Adds the lines of a place.
 #[tactic(auto, unfolding(crate::specs::Text::place_text))]
-fn add_place(alloc: Global, line: &mut Line, place: &Place) -> Result<(), OutOfMemory>
+pub(crate) fn add_place(alloc: Global, line: &mut Line, place: &Place) -> Result<(), OutOfMemory>
     ensures { OnOk result (line.new ≡ line.old ++ place_text place.now) }
 {
     line.text("between")?;
     add_site(alloc, line, &place.earlier)?;
     line.text("\nand")?;
     add_site(alloc, line, &place.later)?;
-    line.text("\nmoved")?;
-    add_moved(alloc, line, &place.moved)?;
     line.text("\n")
-}
-
-/// Adds some places.
-pub(crate) fn add_places(
-    alloc: Global,
-    line: &mut Line,
-    places: &[Place],
-) -> Result<(), OutOfMemory>
-    ensures { OnOk result (line.new ≡ line.old ++ flat_map place_text places.now) }
-{
-    for place in places {
-        add_place(alloc, line, place)?;
-    }
-    Ok(())
 }

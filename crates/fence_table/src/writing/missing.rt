@@ -1,11 +1,12 @@
 ghost use Rattle.std.specs.Prelude.{◌≡◌, ◌++◌, OnOk, codes};
-ghost use Rattle.fence_table.specs.Text.{failure_text, faults_text, missing_line, missing_text, shown_line};
+ghost use Rattle.fence_table.specs.Text.{failure_text, missing_line, missing_text, missing_texts, shown_line};
 ghost use Rattle.hunt_table.specs.Text.{plans_words};
 
 use crate::failure::Failure;
+use crate::fence_kind::FenceKind;
 use crate::missing::{Missing, Shown};
 use crate::tally::Tally;
-use crate::writing::places::{add_fences, add_places};
+use crate::writing::places::{add_fence, add_moved, add_place};
 use hunt_table::{SeenRange, add_output, add_ranges};
 use pages::OutOfMemory;
 use report_lines::{Line, add_stop};
@@ -58,19 +59,24 @@ fn add_numbers(line: &mut Line, numbers: Tally) -> Result<(), OutOfMemory>
     line.decimal(u64::from(numbers.first))
 }
 
-/// Adds the first line of a fault.
+/// Adds the first line of a missing fence.
 #[tactic(auto, unfolding(crate::specs::Text::missing_line))]
-fn add_front(line: &mut Line, number: u64, missing: &Missing) -> Result<(), OutOfMemory>
-    ensures { OnOk result (line.new ≡ line.old ++ missing_line number missing.now) }
+fn add_front(
+    line: &mut Line,
+    number: u64,
+    fence: FenceKind,
+    numbers: Tally,
+) -> Result<(), OutOfMemory>
+    ensures { OnOk result (line.new ≡ line.old ++ missing_line number fence numbers) }
 {
     line.text("missing ")?;
     line.decimal(number)?;
-    add_fences(line, &missing.places)?;
-    add_numbers(line, missing.numbers)?;
+    add_fence(line, fence)?;
+    add_numbers(line, numbers)?;
     line.text("\n")
 }
 
-/// Adds a fault.
+/// Adds a missing fence.
 #[tactic(auto, unfolding(crate::specs::Text::missing_text))]
 fn add_missing(
     alloc: Global,
@@ -81,22 +87,23 @@ fn add_missing(
 ) -> Result<(), OutOfMemory>
     ensures { OnOk result (line.new ≡ line.old ++ missing_text ranges.now number missing.now) }
 {
-    add_front(line, number, missing)?;
-    add_places(alloc, line, &missing.places)?;
+    add_front(line, number, missing.place.fence, missing.numbers)?;
+    add_place(alloc, line, &missing.place)?;
+    add_moved(alloc, line, &missing.moved)?;
     add_failure(line, ranges, &missing.failure)?;
     add_shown(line, &missing.shown)
 }
 
-/// Adds faults, counted from 1.
-pub(crate) fn add_faults(
+/// Adds missing fences, counted from 1.
+pub(crate) fn add_each_missing(
     alloc: Global,
     line: &mut Line,
     ranges: &[SeenRange],
-    faults: &[Missing],
+    all: &[Missing],
 ) -> Result<(), OutOfMemory>
-    ensures { OnOk result (line.new ≡ line.old ++ faults_text ranges.now 1 faults.now) }
+    ensures { OnOk result (line.new ≡ line.old ++ missing_texts ranges.now 1 all.now) }
 {
-    for (place, missing) in faults.iter().enumerate() {
+    for (place, missing) in all.iter().enumerate() {
         add_missing(alloc, line, ranges, place as u64 + 1, missing)?;
     }
     Ok(())
