@@ -1,12 +1,11 @@
 //! The texts of the subcommand that looks for missing fences.
 
 /// What `fences` does.
-pub const FENCES_ABOUT: &str = "Looks for missing fences in the program in IMAGE.";
+pub const FENCES_ABOUT: &str = "Looks for missing fences; claims nothing of what isn't printed.";
 
 /// What `fences --help` says after the options.
 pub const FENCES_AFTER_HELP: &str = "\
-Nothing is claimed of what isn't printed: where no fence is told to be missing,
-one may still be missing.
+Where no fence is told to be missing, one may still be missing.
 
 Examples:
   dethart fences guest.elf --harts 2
@@ -29,34 +28,36 @@ between which instructions a fence is missing. What is printed is
   missing K fence P,S plans N first NUMBER
   between PC NAME
   and PC NAME
-  moved hart H OPERATION before hart H OPERATION at PC NAME
+  moved hart H OPERATION at PC NAME before hart H OPERATION at PC NAME
   ends hart H exit VALUE, ends hart H stop CODE, ends otherwise, or stuck
   execution NUMBER departures N steps N operations N
   end
 
-'ordinary' counts numbers that fail without any operation out of order too: that
-is a matter for dethart hunt. 'unnamed' counts numbers of which no place is
-told. The lines from 'missing' to 'execution' are there for each place: nothing
-keeps what the instruction at the first PC does before what that at the second
-PC does, and a fence P,S between them would, of r for loads and w for stores.
-'moved' says which of the two was early (before) or late (behind), and what
-another hart did that it moved past. After 'ends otherwise' there are the lines
-'see' and 'output' of dethart hunt. 'stuck' says no more than that the limit of
-rounds was reached where ordinary runs end. RVWMO allows each execution that is
-told: the checker of dethart check accepted it.
+'ordinary' counts numbers that fail without any operation out of order too, and
+'unnamed' those that no fence would mend: both are for dethart hunt. The lines
+from 'missing' to 'execution' are there for each missing fence, that of most
+numbers first: a fence P,S between the instructions at the two PCs, of r for
+loads and w for stores, would forbid the execution that is told. 'moved' has the
+operation that is early (before) or late (behind), and one of another hart that
+it moved past. After 'ends otherwise' there are the lines 'see' and 'output' of
+dethart hunt. 'stuck' says no more than that the limit of rounds was reached
+where ordinary runs end. RVWMO allows each execution that is told: the checker
+of dethart check accepted it. Standard error has for each the line that prints
+all that its number does:
+  missing K: dethart execution IMAGE .. --weak --plan-number NUMBER --seed S
 
 --keep DIR writes execution K to DIR/K.execution, for dethart check. --accept
-FILE has two words a line, the places between which a fence is known to be
-missing, as hart_main+0x3c or as a PC: what fails at such places alone isn't
-told, but counted as 'accepted'. --as-if-fence PC asks whether one fence is
-enough: the program is run as if a fence rw,rw stood before the word at PC. PC
-is hexadecimal after 0x, or decimal without leading zeros.
+FILE has two words a line, as hart_main+0x3c or as a PC: the instructions
+between which a fence is known to be missing. What fails there isn't told, but
+counted as 'accepted'. --as-if-fence PC asks whether one fence is enough: the
+program is run as if a fence rw,rw stood before the word at PC. PC is
+hexadecimal after 0x, or decimal without leading zeros.
 
 A refusal is the line 'error N' on standard error, with the exit status 1;
 dethart run --help lists what each N means.
 
 Exit status: 1 a refusal, 2 a bad command line. Where the table was printed, 0
 or, as --fail-on says, 5 or 4:
-  missing  5 where a fence is told to be missing, else 4 where an ordinary run
-           failed
+  missing  5 where a fence is told to be missing, else 4 where numbers fail as
+           ordinary runs do
   never    in no case";

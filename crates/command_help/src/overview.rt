@@ -34,5 +34,5 @@ Exit status: 0 what was asked for was printed or written, 1 a refusal (error N),
 or dethart check an execution that is none or that RVWMO doesn't allow, 4
 dethart hunt found more endings than one, or one in which not all harts
 exited (--fail-on says when else), or dethart run --strict found a hart that
-didn't exit with value 0, or an ordinary run of dethart fences failed, 5 dethart
-fences found a missing fence.";
+didn't exit with value 0, or dethart fences found a fault that no fence mends,
+5 dethart fences found a missing fence.";

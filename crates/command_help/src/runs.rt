@@ -82,7 +82,6 @@ A refusal is the line 'error N' on standard error, with the exit status 1:
   84  execution: a part isn't written as it has to be
   85  execution: a number is too large
   86  execution: text is left after its parts
-  87  the checker refuses what dethart made: a fault of dethart
 
 Exit status: 0 what was asked for was printed, 1 a refusal, 2 a bad command
 line, and with --strict 4 where a hart runs on, was stopped by a fault or exited
