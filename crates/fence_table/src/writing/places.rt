@@ -1,4 +1,4 @@
-ghost use Rattle.std.specs.Prelude.{◌≡◌, ◌++◌, OnOk, codes};
+ghost use Rattle.std.specs.Prelude.{◌≡◌, ◌++◌, OnOk, codes, false};
 ghost use Rattle.std.specs.Fmt.{digits};
 ghost use Rattle.fence_table.specs.Text.{direction_word, fence_words, function_place, moved_line, name_word, passed_words, place_text, side_word, site_words};
 
