@@ -90,18 +90,25 @@ moved_line m =
     codes "moved" ++ operation_words m.operation ++ codes " at" ++ site_words m.site
     ++ direction_word m.direction ++ passed_words m.passed ++ codes "\n"
 
--- how the execution fails: how a hart stops; or the bytes that are looked at, and those that are put out, where ordinary runs have others;
--- or that it goes on where ordinary runs have ended
+-- the bytes that are looked at, and those that are put out, where ordinary runs have others
+unfoldable pub otherwise_text : List SeenRange → List ℕ → List ℕ → List ℕ
+otherwise_text ranges seen output = codes "ends otherwise\n" ++ seen_lines ranges seen ++ output_line output
+
+-- how the execution fails: how a hart stops; or that what comes of it is another; or that it goes on where ordinary runs have ended
 abbrev pub failure_text : List SeenRange → Failure → List ℕ
 failure_text ranges (Stopped h s) = codes "ends hart " ++ decimal h ++ codes " " ++ stop_text (Some s) ++ codes "\n"
-failure_text ranges (Otherwise seen output) = codes "ends otherwise\n" ++ seen_lines ranges seen.items ++ output_line output.items
+failure_text ranges (Otherwise seen output) = otherwise_text ranges seen.items output.items
 failure_text ranges Stuck = codes "stuck\n"
+
+-- two counts behind their words
+unfoldable pub two_counts : List ℕ → ℕ → List ℕ → ℕ → List ℕ
+two_counts first m second n = first ++ decimal m ++ second ++ decimal n
 
 -- the execution that shows it: its number, the departures that it has, and how long it is
 unfoldable pub shown_line : Shown → List ℕ
 shown_line s =
-    codes "execution " ++ decimal s.number ++ codes " departures " ++ decimal s.departures
-    ++ codes " steps " ++ decimal s.steps ++ codes " operations " ++ decimal s.operations ++ codes "\n"
+    two_counts (codes "execution ") s.number (codes " departures ") s.departures
+    ++ two_counts (codes " steps ") s.steps (codes " operations ") s.operations ++ codes "\n"
 
 -- its number, the fence, and the numbers that fail for want of it
 unfoldable pub missing_line : ℕ → FenceKind → Tally → List ℕ

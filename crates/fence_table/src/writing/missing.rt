@@ -1,5 +1,5 @@
 ghost use Rattle.std.specs.Prelude.{◌≡◌, ◌++◌, OnOk, codes};
-ghost use Rattle.fence_table.specs.Text.{failure_text, missing_line, missing_text, missing_texts, shown_line};
+ghost use Rattle.fence_table.specs.Text.{failure_text, missing_line, missing_text, missing_texts, otherwise_text, shown_line, two_counts};
 ghost use Rattle.hunt_table.specs.Text.{plans_words};
 
 use crate::failure::Failure;
@@ -11,6 +11,21 @@ use hunt_table::{SeenRange, add_output, add_ranges};
 use pages::OutOfMemory;
 use report_lines::{Line, add_stop};
 use std::alloc::Global;
+
+/// Adds what is put out, and what is seen, in place of what ordinary runs have.
+#[tactic(auto, unfolding(crate::specs::Text::otherwise_text))]
+fn add_otherwise(
+    line: &mut Line,
+    ranges: &[SeenRange],
+    seen: &[u8],
+    output: &[u8],
+) -> Result<(), OutOfMemory>
+    ensures { OnOk result (line.new ≡ line.old ++ otherwise_text ranges.now seen.now output.now) }
+{
+    line.text("ends otherwise\n")?;
+    add_ranges(line, ranges, seen)?;
+    add_output(line, output)
+}
 
 /// Adds how an execution fails.
 fn add_failure(line: &mut Line, ranges: &[SeenRange], failure: &Failure) -> Result<(), OutOfMemory>
@@ -24,13 +39,25 @@ fn add_failure(line: &mut Line, ranges: &[SeenRange], failure: &Failure) -> Resu
             add_stop(line, Some(*stop))?;
             line.text("\n")
         }
-        Failure::Otherwise { seen, output } => {
-            line.text("ends otherwise\n")?;
-            add_ranges(line, ranges, seen)?;
-            add_output(line, output)
-        }
+        Failure::Otherwise { seen, output } => add_otherwise(line, ranges, seen, output),
         Failure::Stuck => line.text("stuck\n"),
     }
+}
+
+/// Adds two counts behind their words.
+#[tactic(auto, unfolding(crate::specs::Text::two_counts))]
+fn add_two_counts(
+    line: &mut Line,
+    first: (&str, u64),
+    second: (&str, u64),
+) -> Result<(), OutOfMemory>
+    ensures { OnOk result (line.new ≡ line.old ++ two_counts first.entry.0.now first.entry.1
+        second.entry.0.now second.entry.1) }
+{
+    line.text(first.0)?;
+    line.decimal(first.1)?;
+    line.text(second.0)?;
+    line.decimal(second.1)
 }
 
 /// Adds the line of an execution.
@@ -38,14 +65,13 @@ fn add_failure(line: &mut Line, ranges: &[SeenRange], failure: &Failure) -> Resu
 fn add_shown(line: &mut Line, shown: &Shown) -> Result<(), OutOfMemory>
     ensures { OnOk result (line.new ≡ line.old ++ shown_line shown.now) }
 {
-    line.text("execution ")?;
-    line.decimal(u64::from(shown.number))?;
-    line.text(" departures ")?;
-    line.decimal(u64::from(shown.departures))?;
-    line.text(" steps ")?;
-    line.decimal(shown.steps)?;
-    line.text(" operations ")?;
-    line.decimal(shown.operations)?;
+    let (number, departures) = (u64::from(shown.number), u64::from(shown.departures));
+    add_two_counts(line, ("execution ", number), (" departures ", departures))?;
+    add_two_counts(
+        line,
+        (" steps ", shown.steps),
+        (" operations ", shown.operations),
+    )?;
     line.text("\n")
 }
 
