@@ -40,8 +40,8 @@ numbers first: a fence P,S between the instructions at the two PCs, of r for
 loads and w for stores, would forbid the execution that is told. 'moved' has the
 operation that is early (before) or late (behind), and one of another hart that
 it moved past. After 'ends otherwise' there are the lines 'see' and 'output' of
-dethart hunt. 'stuck' says no more than that the limit of rounds was reached
-where ordinary runs end. RVWMO allows each execution that is told: the checker
+dethart hunt. 'stuck' says no more than that harts still run after ten times the
+steps of any ordinary run. RVWMO allows each execution that is told: the checker
 of dethart check accepted it. Standard error has for each the line that prints
 all that its number does:
   missing K: dethart execution IMAGE .. --weak --plan-number NUMBER --seed S
