@@ -1,3 +1,7 @@
+ghost use Rattle.std.specs.Prelude.{◌≡◌};
+ghost use Rattle.fence_table.specs.Accepting.{accept_number};
+ghost use Rattle.fence_table.specs.declared.accept_error.AcceptError.TheVariants.{OutOfMemory};
+
 use std::alloc::{AllocError, AllocFailed};
 use thiserror::Error;
 
@@ -13,9 +17,6 @@ pub enum AcceptError {
 }
 
 impl AcceptError {
-    ghost use Rattle.std.specs.Prelude.{◌≡◌};
-    ghost use Rattle.fence_table.specs.Accepting.{accept_number};
-
     /// The number of the refusal, as the program prints it.
     pub fn number(self) -> u32
         ensures { result ≡ accept_number self }
@@ -28,13 +29,25 @@ impl AcceptError {
 }
 
 impl From<AllocError> for AcceptError {
+    ghost from_gives = { λ _ e. e ≡ OutOfMemory };
+
     fn from(_refused: AllocError) -> AcceptError {
         AcceptError::OutOfMemory
     }
 }
 
 impl<T: Drop> From<AllocFailed<T>> for AcceptError {
+    ghost from_gives = { λ _ e. e ≡ OutOfMemory };
+
     fn from(_refused: AllocFailed<T>) -> AcceptError {
+        AcceptError::OutOfMemory
+    }
+}
+
+impl From<pages::OutOfMemory> for AcceptError {
+    ghost from_gives = { λ _ e. e ≡ OutOfMemory };
+
+    fn from(_refused: pages::OutOfMemory) -> AcceptError {
         AcceptError::OutOfMemory
     }
 }

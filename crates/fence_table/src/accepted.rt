@@ -1,7 +1,9 @@
-ghost use Rattle.std.specs.Prelude.{◌≡◌, ◌&&◌, IfOk};
-ghost use Rattle.std.specs.List.{list_any};
+ghost use Rattle.std.specs.Prelude.{◌≡◌, ◌⊎◌, ◌+◌, ◌≤◌, ◌==◌, ◌++◌, [], ◌∷◌, if◌then◌else◌, not, drop, length, IfErr, IfOk, None, OnOk, Some, option_map};
+ghost use Rattle.std.specs.List.{list_all, prefix_len};
+ghost use Rattle.hunt_table.specs.Names.{is_name_byte};
 ghost use Rattle.std.specs.Str.{bytes_eq};
-ghost use Rattle.fence_table.specs.Accepting.{has_place, is_name, is_of, names};
+ghost use Rattle.fence_table.specs.Accepting.{accepted_in, has_place, is_name, is_of, is_word, names, said_in, to_blank, words_at};
+ghost use Rattle.fence_table.specs.declared.accept_error.AcceptError.TheVariants as refusals;
 
 use crate::accept_error::AcceptError;
 use crate::place::Place;
@@ -49,19 +51,18 @@ impl Accepted {
     /// # Errors
     ///
     /// `NotAPlace` for the first line that is none of these; `OutOfMemory`.
-    pub fn read(alloc: Global, text: &[u8]) -> Result<Accepted, AcceptError> {
+    pub fn read(alloc: Global, text: &[u8]) -> Result<Accepted, AcceptError>
+        ensures found { IfOk result (λ a. accepted_in text.now ≡ Some a) }
+        ensures errors { IfErr result (λ e. (e ≡ refusals.OutOfMemory) ⊎ (accepted_in text.now ≡ None)) }
+    {
         let mut pairs = Vec::new(alloc);
-        for (place, line) in text.split(|byte| *byte == b'\n').enumerate() {
-            if line.is_empty() || line.starts_with(b"#") {
-                continue;
-            }
-            let Some((earlier, later)) = words_of(line) else {
+        let mut rest = text;
+        for place in 0..text.len() {
+            let end = length_before(rest, b'\n');
+            if !add_line(alloc, &mut pairs, &rest[..end])? {
                 return Err(AcceptError::NotAPlace(place as u64 + 1));
-            };
-            pairs.push(Pair {
-                earlier: Vec::from_slice(alloc, earlier)?,
-                later: Vec::from_slice(alloc, later)?,
-            })?;
+            }
+            rest = after(rest, end);
         }
         Ok(Accepted { pairs })
     }
@@ -85,11 +86,49 @@ impl Accepted {
     }
 }
 
+/// Adds what a line says. False: it has other words than two.
+fn add_line(alloc: Global, pairs: &mut Vec<Pair>, line: &[u8]) -> Result<bool, OutOfMemory>
+    ensures { IfOk result (λ ok. option_map (λ said. pairs.old.items ++ said) (said_in line.now) ≡
+        (if ok then Some pairs.new.items else None)) }
+{
+    if line.is_empty() || line[0] == b'#' {
+        return Ok(true);
+    }
+    match words_of(line) {
+        None => Ok(false),
+        Some((earlier, later)) => {
+            add_pair(alloc, pairs, earlier, later)?;
+            Ok(true)
+        }
+    }
+}
+
+/// Adds a place.
+fn add_pair(
+    alloc: Global,
+    pairs: &mut Vec<Pair>,
+    earlier: &[u8],
+    later: &[u8],
+) -> Result<(), OutOfMemory>
+    ensures { OnOk result (pairs.new.items ≡ pairs.old.items ++ (earlier.now, later.now) ∷ []) }
+{
+    let pair = Pair {
+        earlier: Vec::from_slice(alloc, earlier)?,
+        later: Vec::from_slice(alloc, later)?,
+    };
+    match pairs.push(pair) {
+        Ok(()) => Ok(()),
+        Err(_) => Err(OutOfMemory),
+    }
+}
+
 /// The two words of a line, if it has two.
-fn words_of(line: &[u8]) -> Option<(&[u8], &[u8])> {
-    let blank = line.iter().position(|byte| *byte == b' ')?;
-    let (earlier, later) = (&line[..blank], &line[blank + 1..]);
-    if are_marks(earlier) && are_marks(later) {
+fn words_of(line: &[u8]) -> Option<(&[u8], &[u8])>
+    ensures { option_map (λ w. (w.0.now, w.1.now)) result ≡ words_at (to_blank line.now) line.now }
+{
+    let blank = length_before(line, b' ');
+    let (earlier, later) = (&line[..blank], after(line, blank));
+    if is_word(earlier) && is_word(later) {
         Some((earlier, later))
     } else {
         None
@@ -97,8 +136,48 @@ fn words_of(line: &[u8]) -> Option<(&[u8], &[u8])> {
 }
 
 /// Whether bytes are some characters that can be printed, and no blank.
-fn are_marks(bytes: &[u8]) -> bool {
-    !bytes.is_empty() && bytes.iter().all(|byte| (b'!'..=b'~').contains(byte))
+fn is_word(bytes: &[u8]) -> bool
+    ensures { result ≡ is_word bytes.now }
+{
+    !bytes.is_empty() && are_name_bytes(bytes)
+}
+
+/// Whether a byte is a character that can be printed, and no blank.
+fn is_name_byte(byte: u8) -> bool
+    ensures { result ≡ is_name_byte byte }
+{
+    (b'!'..=b'~').contains(&byte)
+}
+
+fn are_name_bytes(bytes: &[u8]) -> bool
+    ensures { result ≡ list_all is_name_byte bytes.now }
+{
+    bytes.iter().all(|byte| is_name_byte(*byte))
+}
+
+/// How many bytes stand before the first one of a value.
+fn length_before(bytes: &[u8], end: u8) -> usize
+    ensures count { result ≡ prefix_len (λ b. not (b == end)) bytes.now }
+    ensures within { result ≤ length bytes.now }
+{
+    for (place, byte) in bytes.iter().enumerate() {
+        if *byte == end {
+            return place;
+        }
+    }
+    bytes.len()
+}
+
+/// What stands behind the byte at a place.
+fn after(bytes: &[u8], place: usize) -> &[u8]
+    requires { place ≤ length bytes.now }
+    ensures { result.now ≡ drop (place + 1) bytes.now }
+{
+    if place < bytes.len() {
+        &bytes[place + 1..]
+    } else {
+        &[]
+    }
 }
 
 /// Whether the words name the instructions of a place.
