@@ -14,4 +14,6 @@ mod writing;
 
 pub use error::WeakHuntError;
 pub use hunting::hunt_weakly;
+pub use looking::seen_of;
+pub use opening::opening_harts;
 pub use writing::weak_execution;

@@ -3,11 +3,7 @@ use pages::{OutOfMemory, Pages, Width};
 use std::alloc::Global;
 
 /// The bytes of the ranges in guest memory, one range after the other.
-pub(crate) fn seen_of(
-    alloc: Global,
-    pages: &Pages,
-    ranges: &[SeenRange],
-) -> Result<Vec<u8>, OutOfMemory> {
+pub fn seen_of(alloc: Global, pages: &Pages, ranges: &[SeenRange]) -> Result<Vec<u8>, OutOfMemory> {
     let mut seen = Vec::new(alloc);
     for range in ranges {
         for offset in 0..range.length {

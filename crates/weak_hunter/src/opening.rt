@@ -9,11 +9,7 @@ use plan_family::Family;
 use std::alloc::Global;
 
 /// The harts of an image before their first instructions: those of a machine before its first round, whatever its plan.
-pub(crate) fn opening_harts(
-    alloc: Global,
-    image: &Image,
-    harts: u32,
-) -> Result<Vec<Hart>, OutOfMemory>
+pub fn opening_harts(alloc: Global, image: &Image, harts: u32) -> Result<Vec<Hart>, OutOfMemory>
     requires some { 1 ≤ harts }
     requires few { harts ≤ 64 }
     ensures harts { IfOk result (λ hs. hs.items ≡ opening_harts image.now.entry harts 0 harts) }
