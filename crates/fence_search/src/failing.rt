@@ -1,0 +1,27 @@
+use hart_step::Stop;
+
+/// How an execution fails.
+#[derive(Clone, Copy, Debug, PartialEq, Eq)]
+pub enum Failing {
+    /// This hart stopped so, which is otherwise than by exit 0.
+    Stopped(u8, Stop),
+    /// All harts exit with 0, and the output is another than that of the ordinary runs.
+    Output,
+    /// The same of the bytes that are looked at.
+    Seen,
+    /// A hart runs on under two plans, where the ordinary runs end.
+    Stuck,
+}
+
+impl Failing {
+    /// Whether two executions fail in one way, whichever hart it is that stops, and how.
+    pub(crate) fn is_like(self, other: Failing) -> bool {
+        matches!(
+            (self, other),
+            (Failing::Stopped(_, _), Failing::Stopped(_, _))
+                | (Failing::Output, Failing::Output)
+                | (Failing::Seen, Failing::Seen)
+                | (Failing::Stuck, Failing::Stuck)
+        )
+    }
+}

@@ -1,0 +1,314 @@
+//! Places at which fences forbid all executions that fail.
+
+use crate::naming::{Gap, Move, Sides};
+use crate::trying::Found;
+use fence_table::{FenceKind, Side, Tally};
+use pages::OutOfMemory;
+use std::alloc::Global;
+
+/// A place at which a fence is missing: it would forbid some executions that fail.
+#[derive(Drop)]
+pub struct Weakness {
+    /// The address of the instruction before it.
+    pub earlier: u64,
+    /// The address of the instruction behind it.
+    pub later: u64,
+    /// The fence.
+    pub fence: FenceKind,
+    /// The numbers of these executions.
+    pub numbers: Tally,
+    /// Of these executions one in which an operation moved past just the two instructions, if there is one; of several one with the fewest
+    /// departures; of several one with the fewest steps, and of these the one with the least number.
+    pub shown: Found,
+    /// The operation that the fence would have kept in it.
+    pub moved: Move,
+}
+
+/// Where a fence may stand.
+#[derive(Clone, Copy, Debug, PartialEq, Eq, PartialOrd, Ord)]
+enum Spot {
+    /// Right behind the instruction at an address.
+    Behind(u64),
+    /// Right before it.
+    Before(u64),
+    /// Anywhere between two instructions.
+    Between(u64, u64),
+}
+
+/// That a fence at a spot forbids an execution.
+#[derive(Clone, Copy)]
+struct Vote {
+    spot: Spot,
+    /// How far it is from the operation that moved.
+    distance: u32,
+}
+
+/// A spot, and what speaks for it.
+#[derive(Clone, Copy)]
+struct Candidate {
+    spot: Spot,
+    /// How many executions a fence there forbids.
+    executions: u32,
+    /// The sum of its distances in them.
+    distance: u64,
+}
+
+/// Chooses places until each execution is forbidden by a fence at one of them: always right behind or right before an instruction where it
+/// forbids the most of those that are left.
+///
+/// # Errors
+///
+/// `OutOfMemory` alone.
+pub(crate) fn fewest_places(
+    alloc: Global,
+    founds: Vec<Found>,
+) -> Result<Vec<Weakness>, OutOfMemory> {
+    let mut left = founds;
+    let mut places = Vec::new(alloc);
+    for _ in 0..left.len() {
+        let Some(spot) = elected(spots_of(alloc, &left)?) else {
+            break;
+        };
+        let (hit, others) = divided(alloc, left, spot)?;
+        left = others;
+        if let Some(weakness) = weakness_at(alloc, spot, hit)? {
+            places.push(weakness)?;
+        }
+    }
+    Ok(places)
+}
+
+impl Spot {
+    /// Whether it is in a gap.
+    fn is_in(self, gap: &Gap) -> bool {
+        match self {
+            Spot::Behind(pc) => gap.earlier == pc,
+            Spot::Before(pc) => gap.later == pc,
+            Spot::Between(earlier, later) => gap.earlier == earlier && gap.later == later,
+        }
+    }
+}
+
+/// For each execution the spots next to an instruction.
+fn spots_of(alloc: Global, founds: &[Found]) -> Result<Vec<Vote>, OutOfMemory> {
+    let mut votes = Vec::new(alloc);
+    for found in founds {
+        for gap in &found.moves.gaps {
+            found.vote(&mut votes, Spot::Behind(gap.earlier), gap)?;
+            found.vote(&mut votes, Spot::Before(gap.later), gap)?;
+        }
+    }
+    Ok(votes)
+}
+
+/// For each execution the gap that a spot is in.
+fn gaps_of(alloc: Global, founds: &[Found], spot: Spot) -> Result<Vec<Vote>, OutOfMemory> {
+    let mut votes = Vec::new(alloc);
+    for found in founds {
+        if let Some(gap) = found.nearest(spot) {
+            votes.push(Vote {
+                spot: Spot::Between(gap.earlier, gap.later),
+                distance: gap.distance,
+            })?;
+        }
+    }
+    Ok(votes)
+}
+
+/// The spot that has the most votes.
+fn elected(votes: Vec<Vote>) -> Option<Spot> {
+    let mut votes = votes;
+    votes.sort_unstable_by_key(|vote| vote.spot);
+    let mut best: Option<Candidate> = None;
+    let mut current: Option<Candidate> = None;
+    for vote in &votes {
+        current = Some(match current {
+            Some(last) if last.spot == vote.spot => last.with(vote),
+            _ => {
+                best = better(best, current);
+                Candidate::new(vote.spot).with(vote)
+            }
+        });
+    }
+    better(best, current).map(|best| best.spot)
+}
+
+impl Candidate {
+    /// A spot for which nothing speaks yet.
+    fn new(spot: Spot) -> Candidate {
+        Candidate {
+            spot,
+            executions: 0,
+            distance: 0,
+        }
+    }
+
+    /// The same with another vote.
+    fn with(self, vote: &Vote) -> Candidate {
+        Candidate {
+            spot: self.spot,
+            executions: self.executions.saturating_add(1),
+            distance: self.distance.saturating_add(u64::from(vote.distance)),
+        }
+    }
+
+    /// What decides between candidates: the least is chosen.
+    fn key(&self) -> (u32, u64, Spot) {
+        (u32::MAX - self.executions, self.distance, self.spot)
+    }
+}
+
+/// The better one of two candidates.
+fn better(best: Option<Candidate>, other: Option<Candidate>) -> Option<Candidate> {
+    match (best, other) {
+        (Some(best), Some(other)) if other.key() < best.key() => Some(other),
+        (None, other) => other,
+        (best, _) => best,
+    }
+}
+
+impl Found {
+    /// The nearest gap that a spot is in.
+    fn nearest(&self, spot: Spot) -> Option<Gap> {
+        let mut nearest: Option<Gap> = None;
+        for gap in &self.moves.gaps {
+            let is_nearer = match nearest {
+                Some(nearest) => gap.distance < nearest.distance,
+                None => true,
+            };
+            if is_nearer && spot.is_in(gap) {
+                nearest = Some(*gap);
+            }
+        }
+        nearest
+    }
+
+    /// Votes for a spot, where no other gap that has it is nearer.
+    fn vote(&self, votes: &mut Vec<Vote>, spot: Spot, gap: &Gap) -> Result<(), OutOfMemory> {
+        if self.nearest(spot) == Some(*gap) {
+            votes.push(Vote {
+                spot,
+                distance: gap.distance,
+            })?;
+        }
+        Ok(())
+    }
+
+    /// What decides which execution is shown at a spot: the least is chosen.
+    fn cost(&self, spot: Spot) -> (u32, usize, u64, u32) {
+        let distance = match self.nearest(spot) {
+            Some(gap) => gap.distance,
+            None => u32::MAX,
+        };
+        (distance, self.departures.len(), self.steps, self.number)
+    }
+}
+
+/// The executions that a fence at a spot forbids, and the others.
+fn divided(
+    alloc: Global,
+    founds: Vec<Found>,
+    spot: Spot,
+) -> Result<(Vec<Found>, Vec<Found>), OutOfMemory> {
+    let mut hit = Vec::new(alloc);
+    let mut others = Vec::new(alloc);
+    for found in founds {
+        if found.nearest(spot).is_some() {
+            hit.push(found)?;
+        } else {
+            others.push(found)?;
+        }
+    }
+    Ok((hit, others))
+}
+
+/// The place of a spot where a fence forbids these executions.
+fn weakness_at(
+    alloc: Global,
+    spot: Spot,
+    hit: Vec<Found>,
+) -> Result<Option<Weakness>, OutOfMemory> {
+    let Some(between) = elected(gaps_of(alloc, &hit, spot)?) else {
+        return Ok(None);
+    };
+    let numbers = numbers_of(&hit);
+    let fence = fence_at(spot, &hit);
+    Ok(shown_at(between, hit).and_then(|shown| told_at(between, fence, numbers, shown)))
+}
+
+/// How many executions these are, and the least of their numbers.
+fn numbers_of(founds: &[Found]) -> Tally {
+    let mut tally = Tally {
+        plans: 0,
+        first: u32::MAX,
+    };
+    for found in founds {
+        tally.plans = tally.plans.saturating_add(1);
+        tally.first = tally.first.min(found.number);
+    }
+    tally
+}
+
+/// The fence at a spot that forbids these executions.
+fn fence_at(spot: Spot, founds: &[Found]) -> FenceKind {
+    let mut before = Sides::ALL;
+    let mut after = Sides::ALL;
+    for found in founds {
+        if let Some(gap) = found.nearest(spot) {
+            before = before.and(gap.before);
+            after = after.and(gap.after);
+        }
+    }
+    FenceKind {
+        before: side_before(before),
+        after: side_after(after),
+    }
+}
+
+/// The execution that is shown at a spot.
+fn shown_at(spot: Spot, founds: Vec<Found>) -> Option<Found> {
+    let mut best: Option<Found> = None;
+    for found in founds {
+        best = Some(match best {
+            Some(best) if best.cost(spot) <= found.cost(spot) => best,
+            _ => found,
+        });
+    }
+    best
+}
+
+/// A place with what is told of it.
+fn told_at(spot: Spot, fence: FenceKind, numbers: Tally, shown: Found) -> Option<Weakness> {
+    let gap = shown.nearest(spot)?;
+    let moved = *shown.moves.moves.get(gap.moved)?;
+    Some(Weakness {
+        earlier: gap.earlier,
+        later: gap.later,
+        fence,
+        numbers,
+        moved,
+        shown,
+    })
+}
+
+/// What a fence has to keep before it, where each of these is enough: loads sooner than stores, and both where neither is.
+fn side_before(sides: Sides) -> Side {
+    if sides.loads {
+        Side::Loads
+    } else if sides.stores {
+        Side::Stores
+    } else {
+        Side::Both
+    }
+}
+
+/// What it has to keep behind it: stores sooner than loads.
+fn side_after(sides: Sides) -> Side {
+    if sides.stores {
+        Side::Stores
+    } else if sides.loads {
+        Side::Loads
+    } else {
+        Side::Both
+    }
+}

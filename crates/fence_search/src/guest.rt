@@ -1,0 +1,103 @@
+ghost use Rattle.std.specs.Prelude.{◌≤◌, length};
+
+use crate::departing::Departing;
+use hunt_table::SeenRange;
+use pages::OutOfMemory;
+use std::alloc::Global;
+use timed_machine::{Bounds, Departure, TimedMachine};
+use weak_executions::{Opening, WeakGuest};
+
+/// A guest program in which missing fences are searched for.
+#[derive(Drop)]
+pub struct FenceGuest<'a> {
+    pub(crate) alloc: Global,
+    pub(crate) opening: Opening<'a>,
+    pub(crate) maker: WeakGuest<'a>,
+    /// How many rounds an execution has at most.
+    pub(crate) rounds: u32,
+    /// The bytes that are looked at when one ends.
+    pub(crate) ranges: &'a [SeenRange],
+    /// Before the instruction of which address a full fence is assumed.
+    pub(crate) fence: Option<u64>,
+    ghost few: { length opening.harts.now ≤ 64 },
+}
+
+impl<'a> FenceGuest<'a> {
+    /// A guest whose executions go through so many rounds at most, by the plans and the departures of a seed. Of each, these ranges
+    /// are looked at when it ends. A full fence is assumed before the instruction at `fence`, if there is one.
+    pub fn new(
+        alloc: Global,
+        opening: Opening<'a>,
+        seed: u64,
+        rounds: u32,
+        ranges: &'a [SeenRange],
+        fence: Option<u64>,
+    ) -> FenceGuest<'a>
+        requires some { 1 ≤ length opening.harts.now }
+        requires few { length opening.harts.now ≤ 64 }
+    {
+        FenceGuest {
+            alloc,
+            opening,
+            maker: WeakGuest::new(alloc, opening, seed, rounds),
+            rounds,
+            ranges,
+            fence,
+        }
+    }
+
+    /// How many harts there are.
+    pub(crate) fn harts(&self) -> usize {
+        self.opening.harts.len()
+    }
+
+    /// The machine after the execution of a number with these departures, which ended at the first hart that stopped otherwise than by
+    /// exit 0, or after so many steps.
+    ///
+    /// # Errors
+    ///
+    /// `OutOfMemory` alone.
+    pub fn execute(
+        &self,
+        number: u32,
+        departing: Departing<'_>,
+        is_recorded: bool,
+        steps: u64,
+    ) -> Result<TimedMachine, OutOfMemory> {
+        let mut machine = self.maker.machine(number, is_recorded)?;
+        if let Some(pc) = self.fence {
+            machine.assume_fence(pc);
+        }
+        if let Departing::Listed(departures) = departing {
+            machine.depart(copied(self.alloc, departures)?);
+        }
+        self.go_on(&mut machine, number, steps)?;
+        Ok(machine)
+    }
+
+    /// Goes on by the plan of a number, until a hart stops otherwise than by exit 0, or until so many steps are taken in all.
+    pub(crate) fn go_on(
+        &self,
+        machine: &mut TimedMachine,
+        number: u32,
+        steps: u64,
+    ) -> Result<(), OutOfMemory> {
+        let rows = self.maker.rows(number)?;
+        machine.run_within(
+            &rows,
+            Bounds {
+                rounds: self.rounds,
+                steps,
+                until_fault: true,
+            },
+        )
+    }
+}
+
+/// Equal departures.
+pub(crate) fn copied(
+    alloc: Global,
+    departures: &[Departure],
+) -> Result<Vec<Departure>, OutOfMemory> {
+    Ok(Vec::from_slice(alloc, departures)?)
+}

@@ -1,0 +1,140 @@
+ghost use Rattle.std.specs.Prelude.{◌+◌, ◌<◌, ◌^◌, length};
+
+use crate::gathering::{Weakness, fewest_places};
+use crate::guest::FenceGuest;
+use crate::ordinary::{Ordinary, ordinary_runs};
+use crate::trying::{Found, Trial, try_number};
+use crate::working::try_block;
+use fence_table::Tally;
+use pages::OutOfMemory;
+use plan_hunt::block_size;
+use std::thread::Threads;
+
+/// Whoever looks at a search between two blocks of its executions. What it answers makes no difference to what is found.
+pub trait FenceObserver {
+    /// Looks at how many executions are done, and at how many of them fail by what moved in them, and says how many are to be in the
+    /// next block: at least one is, and at most 4,096 are.
+    fn before_block(&mut self, done: u32, failing: usize) -> u32;
+}
+
+/// Nobody looks.
+#[derive(Clone, Copy, Debug, PartialEq, Eq)]
+pub struct UnobservedSearch;
+
+impl FenceObserver for UnobservedSearch {
+    fn before_block(&mut self, _done: u32, _failing: usize) -> u32 {
+        u32::MAX
+    }
+}
+
+/// No number.
+const NOBODY: Tally = Tally { plans: 0, first: 0 };
+
+/// Counts another number.
+fn count(tally: &mut Tally, number: u32) {
+    if tally.plans == 0 {
+        tally.first = number;
+    }
+    tally.plans = tally.plans.saturating_add(1);
+}
+
+/// What was found.
+#[derive(Drop)]
+pub struct Search {
+    /// Places at which fences forbid each execution that fails by what its departures move, the one that forbids the most
+    /// first.
+    pub weaknesses: Vec<Weakness>,
+    /// Numbers that fail without departures too.
+    pub ordinary: Tally,
+    /// Numbers that fail only with departures, by executions that are sequentially consistent.
+    pub unnamed: Tally,
+    /// The first number of which the checker of executions allows no order.
+    pub unconfirmed: Option<u32>,
+}
+
+/// What came of the executions so far.
+#[derive(Drop)]
+struct Trials {
+    founds: Vec<Found>,
+    ordinary: Tally,
+    unnamed: Tally,
+    unconfirmed: Option<u32>,
+}
+
+/// Makes `count` executions of a guest from number `first` on, and says by what those fail that fail. It is the same for any number of
+/// workers.
+///
+/// # Errors
+///
+/// `OutOfMemory` alone.
+pub fn search_fences<O: FenceObserver, R: Threads + Sync>(
+    rt: &R,
+    guest: &FenceGuest<'_>,
+    first: u32,
+    count: u32,
+    workers: u32,
+    observer: &mut O,
+) -> Result<Search, OutOfMemory>
+    requires { first + count < 2 ^ 32 }
+{
+    let ordinary = ordinary_runs(guest)?;
+    let mut trials = Trials {
+        founds: Vec::new(guest.alloc),
+        ordinary: NOBODY,
+        unnamed: NOBODY,
+        unconfirmed: None,
+    };
+    let mut done = 0;
+    while done < count {
+        let size = block_size(
+            observer.before_block(done, trials.founds.len()),
+            count - done,
+        );
+        let mut slots = try_block(rt, guest, &ordinary, first + done, size, workers)?;
+        add_block(guest, &ordinary, &mut trials, first + done, &mut slots)?;
+        done += size;
+    }
+    Ok(Search {
+        weaknesses: fewest_places(guest.alloc, trials.founds)?,
+        ordinary: trials.ordinary,
+        unnamed: trials.unnamed,
+        unconfirmed: trials.unconfirmed,
+    })
+}
+
+/// Adds what came of a block of executions. What the slots leave out is tried here.
+fn add_block(
+    guest: &FenceGuest<'_>,
+    ordinary: &Ordinary,
+    trials: &mut Trials,
+    first: u32,
+    slots: &mut [Option<Trial>],
+) -> Result<(), OutOfMemory>
+    requires { first + length slots.old < 2 ^ 32 }
+{
+    for place in 0..slots.len() {
+        let number = first + place as u32;
+        let trial = match slots[place].take() {
+            Some(trial) => trial,
+            None => try_number(guest, ordinary, number)?,
+        };
+        trials.add(number, trial)?;
+    }
+    Ok(())
+}
+
+impl Trials {
+    /// Adds what came of the execution of a number.
+    fn add(&mut self, number: u32, trial: Trial) -> Result<(), OutOfMemory> {
+        match trial {
+            Trial::Well => {}
+            Trial::Ordinary => count(&mut self.ordinary, number),
+            Trial::Unnamed => count(&mut self.unnamed, number),
+            Trial::Fails(found) => self.founds.push(found)?,
+            Trial::Unconfirmed => {
+                self.unconfirmed = Some(self.unconfirmed.unwrap_or(number));
+            }
+        }
+        Ok(())
+    }
+}

@@ -1,0 +1,129 @@
+use crate::departing::Departing;
+use crate::failing::Failing;
+use crate::guest::{FenceGuest, copied};
+use crate::naming::{Moves, moves_of};
+use crate::ordinary::Ordinary;
+use crate::sequential::is_sequential;
+use crate::shortening::shortened;
+use pages::OutOfMemory;
+use timed_machine::{Departure, Placing, Record};
+use weak_executions::is_allowed;
+
+/// The orders of an execution's memory operations that are tried, one after another: in the first just what departs is out of its
+/// hart's order.
+const PLACINGS: [Placing; 3] = [Placing::AsDone, Placing::AsOld, Placing::Earliest];
+
+/// An execution that fails by its departures.
+#[derive(Drop)]
+pub struct Found {
+    /// Its number.
+    pub number: u32,
+    /// How it fails.
+    pub failing: Failing,
+    /// What departs.
+    pub departures: Vec<Departure>,
+    /// By which rule its memory operations are ordered.
+    pub placing: Placing,
+    /// How many steps it has.
+    pub steps: u64,
+    /// How many memory operations.
+    pub operations: u64,
+    /// What its departures moved.
+    pub moves: Moves,
+}
+
+/// What came of the execution of a number.
+#[derive(Drop)]
+pub(crate) enum Trial {
+    /// It ends as it has to.
+    Well,
+    /// Its plan fails without departures too.
+    Ordinary,
+    /// It fails only with its departures, but is sequentially consistent, so that another plan fails without any.
+    Unnamed,
+    /// It fails by what its departures move.
+    Fails(Found),
+    /// The checker of executions allows it in no order, or it isn't the same twice.
+    Unconfirmed,
+}
+
+/// Makes the execution of a number, and where that fails looks for what it fails by.
+///
+/// # Errors
+///
+/// `OutOfMemory` alone.
+pub(crate) fn try_number(
+    guest: &FenceGuest<'_>,
+    ordinary: &Ordinary,
+    number: u32,
+) -> Result<Trial, OutOfMemory> {
+    let Some(failing) = ordinary.failing(guest, number, Departing::Drawn)? else {
+        return Ok(Trial::Well);
+    };
+    if ordinary.failing(guest, number, Departing::NONE)?.is_some() {
+        return Ok(Trial::Ordinary);
+    }
+    let drawn = drawn_departures(guest, ordinary, number)?;
+    let fewer = shortened(guest, ordinary, number, failing, &drawn)?;
+    // What seemed to run on for ever may end after all.
+    for departures in [fewer, drawn] {
+        if let Some(failing) = ordinary.failing(guest, number, Departing::Listed(&departures))? {
+            return explain(guest, ordinary, number, failing, departures);
+        }
+    }
+    Ok(Trial::Unconfirmed)
+}
+
+/// The departures that a number draws, as far as they take effect.
+fn drawn_departures(
+    guest: &FenceGuest<'_>,
+    ordinary: &Ordinary,
+    number: u32,
+) -> Result<Vec<Departure>, OutOfMemory> {
+    let machine = guest.execute(number, Departing::Drawn, true, ordinary.steps)?;
+    match machine.record() {
+        Some(record) => copied(guest.alloc, record.departures()),
+        None => Ok(Vec::new(guest.alloc)),
+    }
+}
+
+/// The first of the orders in which the checker of executions allows a record.
+fn placing_of(guest: &FenceGuest<'_>, record: &Record) -> Result<Option<Placing>, OutOfMemory> {
+    for placing in PLACINGS {
+        if is_allowed(guest.alloc, &guest.opening, record, placing)? {
+            return Ok(Some(placing));
+        }
+    }
+    Ok(None)
+}
+
+/// What an execution fails by.
+fn explain(
+    guest: &FenceGuest<'_>,
+    ordinary: &Ordinary,
+    number: u32,
+    failing: Failing,
+    departures: Vec<Departure>,
+) -> Result<Trial, OutOfMemory> {
+    let machine = guest.execute(number, Departing::Listed(&departures), true, ordinary.steps)?;
+    let Some(record) = machine.record() else {
+        return Ok(Trial::Unconfirmed);
+    };
+    let Some(placing) = placing_of(guest, record)? else {
+        return Ok(Trial::Unconfirmed);
+    };
+    let order = record.placed(guest.alloc, placing)?;
+    let moves = moves_of(guest.alloc, record, &order)?;
+    if moves.gaps.is_empty() || is_sequential(guest.alloc, record.deeds(), &order)? {
+        return Ok(Trial::Unnamed);
+    }
+    Ok(Trial::Fails(Found {
+        number,
+        failing,
+        departures,
+        placing,
+        steps: machine.steps(),
+        operations: machine.operations(),
+        moves,
+    }))
+}
