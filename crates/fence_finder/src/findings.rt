@@ -1,0 +1,90 @@
+ghost use Rattle.std.specs.Prelude.{◌≡◌, ◌⊎◌, ℕ, IfErr, IfOk};
+ghost use Rattle.std.specs.Bool.{OnTrue};
+ghost use Rattle.fence_finder.specs.MissingFences.{AreShown};
+ghost use Rattle.host_io.specs.declared.error.RunError.TheVariants as refusals;
+ghost use Rattle.hunter.specs.declared.error.HuntError.TheVariants as hunting;
+ghost use Rattle.weak_hunter.specs.declared.error.WeakHuntError.TheVariants.{Hunt, Unconfirmed};
+
+use crate::confirming::confirm;
+use crate::guest::Guest;
+use execution_scripts::ExecutionFile;
+use fence_search::{Search, Weakness};
+use fence_table::{Missing, Tally};
+use pages::OutOfMemory;
+use weak_hunter::WeakHuntError;
+
+/// What a search found, as far as the checker of executions confirms it.
+#[derive(Drop)]
+pub(crate) struct Findings {
+    /// Numbers that fail without departures too.
+    pub ordinary: Tally,
+    /// Numbers that fail only with departures, but by interleavings.
+    pub unnamed: Tally,
+    /// Numbers that fail for want of a fence at a place that is accepted.
+    pub accepted: Tally,
+    /// At which other places fences are missing.
+    pub missing: Vec<Missing>,
+    /// The executions that show them, where they are kept.
+    pub executions: Vec<ExecutionFile>,
+}
+
+/// The numbers of two tallies that have none in common.
+fn joined(tally: Tally, other: Tally) -> Tally {
+    if tally.plans == 0 {
+        return other;
+    }
+    Tally {
+        plans: tally.plans.saturating_add(other.plans),
+        first: tally.first.min(other.first),
+    }
+}
+
+impl Findings {
+    /// What is left of a search once each execution that it shows is put to the checker of executions.
+    ///
+    /// # Errors
+    ///
+    /// `Unconfirmed` with the number of the first one that the checker doesn't allow, or that it finds to end otherwise; `OutOfMemory`.
+    pub(crate) fn of(guest: &Guest<'_>, search: Search) -> Result<Findings, WeakHuntError>
+        ensures shown { IfOk result (λ f. AreShown guest.now.opening.image.now guest.now.opening.input.now
+            guest.now.opening.harts.now f.missing.items) }
+        ensures errors { IfErr result (λ e. (e ≡ Hunt (hunting.Run refusals.OutOfMemory)) ⊎
+            ((n : ℕ) × (e ≡ Unconfirmed n))) }
+    {
+        let mut findings = Findings {
+            ordinary: search.ordinary,
+            unnamed: search.unnamed,
+            accepted: Tally { plans: 0, first: 0 },
+            missing: Vec::new(guest.alloc),
+            executions: Vec::new(guest.alloc),
+        };
+        for weakness in search.weaknesses {
+            if !findings.add(guest, &weakness)? {
+                return Err(WeakHuntError::Unconfirmed(weakness.shown.number));
+            }
+        }
+        Ok(findings)
+    }
+
+    /// Adds a missing fence, if the checker of executions allows the execution that shows it. Says whether it does.
+    fn add(&mut self, guest: &Guest<'_>, weakness: &Weakness) -> Result<bool, OutOfMemory>
+        requires { AreShown guest.now.opening.image.now guest.now.opening.input.now
+            guest.now.opening.harts.now self.old.missing.items }
+        ensures { IfOk result (λ yes. OnTrue yes (AreShown guest.now.opening.image.now
+            guest.now.opening.input.now guest.now.opening.harts.now self.new.missing.items)) }
+    {
+        let place = guest.place(weakness)?;
+        if guest.settings.accepted.has(guest.alloc, &place)? {
+            self.accepted = joined(self.accepted, weakness.numbers);
+            return Ok(true);
+        }
+        let Some(confirmed) = confirm(guest, place, weakness)? else {
+            return Ok(false);
+        };
+        self.missing.push(confirmed.missing)?;
+        if let Some(execution) = confirmed.execution {
+            self.executions.push(execution)?;
+        }
+        Ok(true)
+    }
+}

@@ -1,0 +1,28 @@
+ghost use Rattle.std.specs.Prelude.{◌≡◌};
+
+use fence_table::Accepted;
+use hunt_table::SeenRange;
+use hunter::HuntSettings;
+
+/// What a search for missing fences is asked for.
+#[derive(Drop)]
+pub struct FenceSettings {
+    /// The guest, and the numbers of its executions: as of a weak hunt.
+    pub hunt: HuntSettings,
+    /// Before the instruction of which address a full fence is assumed.
+    pub assumed: Option<u64>,
+    /// Places of which is known that a fence is missing there.
+    pub accepted: Accepted,
+    /// Whether the executions that are shown are kept.
+    pub keeps: bool,
+}
+
+impl FenceSettings {
+    /// The ranges of bytes that are looked at.
+    pub(crate) fn into_ranges(self) -> Vec<SeenRange>
+        ensures { result.items ≡ self.hunt.header.ranges.items }
+    {
+        let FenceSettings { hunt, .. } = self;
+        hunt.header.ranges
+    }
+}
