@@ -2,3 +2,4 @@ pub mod Turning
 pub mod Searching
 pub mod RoundParts
 pub mod ShownThere
+pub mod Stretches

@@ -1,3 +1,4 @@
 pub mod Places
 pub mod Moments
 pub mod Shown
+pub mod Timelines

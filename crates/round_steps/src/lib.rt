@@ -7,6 +7,7 @@ mod place;
 mod round;
 mod search;
 mod showing;
+mod timeline;
 mod turn;
 
 pub use moment::Moment;
@@ -15,4 +16,5 @@ pub use round::places_in_round;
 pub use search::{next_told, previous_told};
 pub use seeing::Sight;
 pub use showing::shown;
+pub use timeline::Timeline;
 pub use walking::Asked;

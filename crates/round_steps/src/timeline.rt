@@ -1,0 +1,218 @@
+ghost use Rattle.std.specs.Prelude.{◌≡◌, ◌≤◌, ◌+◌, ◌-◌, ◌<◌, ◌^◌, min, IfOk, IfErr};
+ghost use Rattle.host_io.specs.declared.error.RunError.TheVariants as refusals;
+ghost use Rattle.machine.specs.Machine.{Running, after_rounds};
+ghost use Rattle.machine.specs.Untraced.{IsUntraced};
+ghost use Rattle.round_steps.specs.Moments.{next_of, previous_of};
+ghost use Rattle.round_steps.specs.Shown.{shown_at};
+
+use crate::moment::Moment;
+use crate::search::{next_told, previous_told};
+use crate::showing::shown;
+use host_io::RunError;
+use machine::UntracedMachine;
+use pages::Range;
+use seeing::Sight;
+use std::marker::Model;
+use std::sync::Wait;
+use std::thread::Threads;
+use walking::Asked;
+
+/// How much longer each stretch of rounds is that is looked through on the way back.
+const LONGER: u32 = 8;
+
+/// A run of so many rounds, which can be looked at at each of its moments.
+#[derive(Drop)]
+pub struct Timeline {
+    /// The machine before the first round.
+    start: UntracedMachine,
+    /// The machine before the round that was looked at last.
+    here: UntracedMachine,
+    code: Vec<Range>,
+    rounds: u32,
+}
+
+impl Model for Timeline {
+    ghost use Rattle.round_steps.specs.Timelines.{Holds, Line};
+
+    ghost Value = { Line };
+
+    ghost view = { λ t. record { start = t.start; rounds = t.rounds } };
+
+    ghost invariant = { λ t. Holds t.start t.here t.code.items t.rounds };
+}
+
+impl Timeline {
+    /// The run of a machine before its first round, which has this code.
+    ///
+    /// # Errors
+    ///
+    /// `OutOfMemory` alone.
+    pub fn new(
+        machine: UntracedMachine,
+        code: Vec<Range>,
+        rounds: u32,
+    ) -> Result<Timeline, RunError>
+        requires run { (m : Running) × IsUntraced m machine }
+        requires fresh { machine.rounds ≡ 0 }
+        requires code { (m : Running) → IsUntraced m machine → m.code ≡ code.items }
+        requires rounds { rounds + 1 < 2 ^ 32 }
+        ensures start { IfOk result (λ t. t.start ≡ machine) }
+        ensures rounds { IfOk result (λ t. t.rounds ≡ rounds) }
+        ensures refused { IfErr result (λ e. e ≡ refusals.OutOfMemory) }
+    {
+        let mut start = machine;
+        let here = start.share()?;
+        Ok(Timeline {
+            start,
+            here,
+            code,
+            rounds,
+        })
+    }
+
+    /// How many rounds the run has.
+    pub fn rounds(&self) -> u32
+        ensures { result ≡ self.now.rounds }
+    {
+        self.rounds
+    }
+
+    /// The first moment behind another one, or with `too` at it, at which something is told. Rounds are run on 1 to 16 workers. It may
+    /// wait.
+    ///
+    /// # Errors
+    ///
+    /// `OutOfMemory` alone.
+    pub fn next<R: Threads + Wait + Sync>(
+        &mut self,
+        rt: &R,
+        asked: &Asked,
+        too: bool,
+        here: &Moment,
+        workers: u32,
+    ) -> Result<Option<Moment>, RunError>
+        requires within { here.now.rounds ≤ self.old.rounds }
+        requires workers { (1 ≤ workers) × (workers ≤ 16) }
+        ensures stays { self.new ≡ self.old }
+        ensures next { (m : Running) → IsUntraced m self.old.start → IfOk result (λ x. x ≡ next_of
+            asked.now (after_rounds here.now.rounds m) (self.old.rounds - here.now.rounds) too here.now) }
+        ensures refused { IfErr result (λ e. e ≡ refusals.OutOfMemory) }
+    {
+        let machine = self.machine_at(rt, here.rounds, workers)?;
+        let rounds = self.rounds - here.rounds;
+        next_told(rt, machine, &self.code, rounds, asked, too, here, workers)
+    }
+
+    /// The last moment before another one at which something is told. It may wait.
+    ///
+    /// # Errors
+    ///
+    /// `OutOfMemory` alone.
+    pub fn previous<R: Threads + Wait + Sync>(
+        &mut self,
+        rt: &R,
+        asked: &Asked,
+        here: &Moment,
+        workers: u32,
+    ) -> Result<Option<Moment>, RunError>
+        requires within { here.now.rounds ≤ self.old.rounds }
+        requires workers { (1 ≤ workers) × (workers ≤ 16) }
+        ensures stays { self.new ≡ self.old }
+        ensures previous { (m : Running) → IsUntraced m self.old.start → IfOk result (λ x. x ≡
+            previous_of asked.now m (min self.old.rounds (here.now.rounds + 1)) here.now) }
+        ensures refused { IfErr result (λ e. e ≡ refusals.OutOfMemory) }
+    {
+        let mut end = self.rounds.min(here.rounds.saturating_add(1));
+        let mut size: u32 = 1;
+        while end > 0 {
+            let begin = end - size.min(end);
+            if let Some(found) = self.last_between(rt, begin, end, asked, here, workers)? {
+                return Ok(Some(found));
+            }
+            end = begin;
+            size = size.saturating_mul(LONGER);
+        }
+        Ok(None)
+    }
+
+    /// The same in the rounds after `begin` others up to `end`.
+    fn last_between<R: Threads + Wait + Sync>(
+        &mut self,
+        rt: &R,
+        begin: u32,
+        end: u32,
+        asked: &Asked,
+        here: &Moment,
+        workers: u32,
+    ) -> Result<Option<Moment>, RunError>
+        requires order { begin ≤ end }
+        requires within { end ≤ self.old.rounds }
+        requires workers { (1 ≤ workers) × (workers ≤ 16) }
+        ensures stays { self.new ≡ self.old }
+        ensures previous { (m : Running) → IsUntraced m self.old.start → IfOk result (λ x. x ≡
+            previous_of asked.now (after_rounds begin m) (end - begin) here.now) }
+        ensures refused { IfErr result (λ e. e ≡ refusals.OutOfMemory) }
+    {
+        let machine = self.machine_at(rt, begin, workers)?;
+        previous_told(rt, machine, &self.code, end - begin, asked, here, workers)
+    }
+
+    /// What hart `number` is and sees at a moment; none where there is no such hart or moment. It may wait.
+    ///
+    /// # Errors
+    ///
+    /// `OutOfMemory` alone.
+    pub fn shown<R: Threads + Wait + Sync>(
+        &mut self,
+        rt: &R,
+        moment: &Moment,
+        number: u32,
+        workers: u32,
+    ) -> Result<Option<Sight>, RunError>
+        requires within { moment.now.rounds ≤ self.old.rounds }
+        requires workers { (1 ≤ workers) × (workers ≤ 16) }
+        ensures stays { self.new ≡ self.old }
+        ensures sight { (m : Running) → IsUntraced m self.old.start → IfOk result (λ s. s ≡
+            shown_at (after_rounds moment.now.rounds m) moment.now.place number) }
+        ensures refused { IfErr result (λ e. e ≡ refusals.OutOfMemory) }
+    {
+        let mut machine = self.machine_at(rt, moment.rounds, workers)?;
+        shown(rt, &mut machine, &self.code, &moment.place, number)
+    }
+
+    /// A machine of the run after so many rounds, or fewer.
+    fn nearest(&mut self, rounds: u32) -> Result<UntracedMachine, RunError>
+        ensures stays { self.new ≡ self.old }
+        ensures machine { (m : Running) → IsUntraced m self.old.start →
+            IfOk result (λ u. IsUntraced (after_rounds u.rounds m) u) }
+        ensures rounds { IfOk result (λ u. u.rounds ≤ rounds) }
+        ensures refused { IfErr result (λ e. e ≡ refusals.OutOfMemory) }
+    {
+        if rounds < self.here.rounds() {
+            return self.start.share();
+        }
+        self.here.share()
+    }
+
+    /// The machine after so many rounds. It goes on from where it was last, unless that is behind.
+    fn machine_at<R: Threads + Wait + Sync>(
+        &mut self,
+        rt: &R,
+        rounds: u32,
+        workers: u32,
+    ) -> Result<UntracedMachine, RunError>
+        requires within { rounds ≤ self.old.rounds }
+        requires workers { (1 ≤ workers) × (workers ≤ 16) }
+        ensures stays { self.new ≡ self.old }
+        ensures machine { (m : Running) → IsUntraced m self.old.start →
+            IfOk result (λ u. IsUntraced (after_rounds rounds m) u) }
+        ensures rounds { IfOk result (λ u. u.rounds ≡ rounds) }
+        ensures refused { IfErr result (λ e. e ≡ refusals.OutOfMemory) }
+    {
+        let mut machine = self.nearest(rounds)?;
+        let more = rounds - machine.rounds();
+        machine.run(rt, more, workers)?;
+        self.here = machine.share()?;
+        Ok(machine)
+    }
+}
