@@ -1,7 +1,5 @@
 mod endings;
 
-pub use endings::{add_output, add_ranges};
-
 ghost use Rattle.std.specs.Prelude.{◌≡◌, ◌<◌, ◌++◌, Err, OnOk};
 ghost use Rattle.host_io.specs.Taken.{WritesText};
 ghost use Rattle.hunt_table.specs.Text.{endings_text, header_text, plans_front, plans_line, seen_line, table_text, table_text_by, weak_word};
@@ -9,6 +7,7 @@ ghost use Rattle.hunt_table.specs.Text.{endings_text, header_text, plans_front, 
 use crate::header::Header;
 use crate::seen_range::SeenRange;
 use crate::writing::endings::{EndingForm, add_ending, add_range};
+pub use endings::{add_output, add_ranges};
 use host_io::{RunError, Sink, put_all};
 use pages::OutOfMemory;
 use plan_hunt::Row;
