@@ -85,7 +85,9 @@ A refusal is the line 'error N' on standard error, with the exit status 1:
 
 Exit status: 0 what was asked for was printed, 1 a refusal, 2 a bad command
 line, and with --strict 4 where a hart runs on, was stopped by a fault or exited
-with another value than 0; what was asked for is printed then too.";
+with another value than 0; what was asked for is printed then too. Where a
+hart runs on, standard error says with --strict, and with --show harts, which
+harts are found to run for ever under this plan ('hart H loops').";
 
 /// What `order` does.
 pub const ORDER_ABOUT: &str =

@@ -7,6 +7,7 @@ mod failure;
 mod files;
 mod hunting;
 mod line;
+mod looping;
 mod merging;
 mod output;
 mod pictures;

@@ -5,16 +5,18 @@ ghost use Rattle.dethart.specs.Status.{answer_status, is_doubtful};
 use crate::executions::{write_check, write_execution_of};
 use crate::failure::Failure;
 use crate::hunting::{write_hunt, write_shrunk};
+use crate::looping::tell_loops;
 use crate::merging::write_merged;
 use crate::output::{finish, standard_output};
 use crate::pictures::{write_drawing, write_trace};
 use crate::plans::write_plan;
 use crate::recordings::{Replayed, write_replay, write_watch};
 use crate::repeating::{tell_endings, tell_plan, tell_shrunk};
-use crate::run::{write_order_of, write_run};
+use crate::run::{read_run, write_order_of, write_run};
 use command_line::{
-    Check, Draw, Execution, FailOn, Hunt, Merge, Plan, Print, Replay, Run, Shrink, Watch,
+    Check, Draw, Execution, FailOn, Hunt, Merge, Plan, Print, Replay, Run, Shown, Shrink, Watch,
 };
+use emulation::RunEnd;
 use hunter::{all_end_well, is_one_exit};
 use plan_hunt::Row;
 use std::sync::Wait;
@@ -44,16 +46,21 @@ impl Answer {
     }
 }
 
-/// Runs the guest program, and prints what is asked for of the run.
+/// Runs the guest program, and prints what is asked for of the run. Where a hart runs on and the line asks how harts end, standard
+/// error says which ones run for ever.
 pub(crate) fn print_run<R: Threads + Wait + Sync>(
     rt: &HostRuntime,
     threads: &R,
     asked: &Print<'_>,
 ) -> Result<Answer, Failure> {
+    let files = read_run(rt, &asked.run)?;
     let mut out = standard_output(rt)?;
-    let written = write_run(rt, threads, asked, &mut out);
-    let ends_well = finish(out, written)?;
-    Ok(if asked.strict && !ends_well {
+    let written = write_run(rt, threads, asked, &files, &mut out);
+    let end = finish(out, written)?;
+    if end == RunEnd::RunsOn && (asked.strict || asked.show == Shown::Harts) {
+        tell_loops(rt, threads, &asked.run.program, &files)?;
+    }
+    Ok(if asked.strict && end != RunEnd::Well {
         Answer::Doubtful
     } else {
         Answer::Done

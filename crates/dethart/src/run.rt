@@ -6,21 +6,21 @@ use crate::files::{ProgramFiles, read_program};
 use crate::plans::{AskedPlan, plan_of};
 use crate::progress::Progress;
 use command_line::{Print, Program, Run, Shown};
-use emulation::{order_run, report_run, show_run};
+use emulation::{RunEnd, order_run, report_run, show_run};
 use host_io::WriteSink;
 use machine::{Format, GuestFiles, Settings};
 use std::io::Write;
 use std::sync::Wait;
 use std::thread::Threads;
 
-/// Reads the files of a run, runs the guest program, and writes what is asked for. Answers whether each hart exited with 0.
+/// Runs the guest program of some files, and writes what is asked for. Answers how its harts have ended.
 pub(crate) fn write_run<R: Threads + Wait + Sync, W: Write>(
     rt: &HostRuntime,
     threads: &R,
     asked: &Print<'_>,
+    files: &RunFiles,
     out: &mut W,
-) -> Result<bool, Failure> {
-    let files = read_run(rt, &asked.run)?;
+) -> Result<RunEnd, Failure> {
     let settings = settings_of(&asked.run.program, &files.plan);
     let guest = guest_files(&files.program);
     let mut sink = WriteSink::new(out);

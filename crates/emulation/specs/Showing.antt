@@ -1,11 +1,13 @@
 -- What is shown of a run without its trace, and how its harts end.
-use Rattle.std.specs.Prelude.{ℕ, ◌==◌, ◌&&◌, Bool, false, List, Option, Some, None}
-use Rattle.std.specs.List.{list_all}
+use Rattle.std.specs.Prelude.{ℕ, ◌==◌, ◌&&◌, not, is_some, if◌then◌else◌, Bool, false, List, Option, Some, None}
+use Rattle.std.specs.List.{list_all, list_any}
 use Rattle.round_schedule.specs.Schedule.{State}
 use Rattle.hart_step.specs.declared.hart.Hart.{Hart}
 use Rattle.hart_step.specs.declared.hart.Stop.{Stop}
 use Rattle.hart_step.specs.Console.{ConsoleState}
 use Rattle.report.specs.Shown.{state_text, summary_text}
+use Rattle.emulation.specs.declared.run_end.RunEnd.{RunEnd}
+use Rattle.emulation.specs.declared.run_end.RunEnd.TheVariants.{Badly, RunsOn, Well}
 use Rattle.emulation.specs.declared.showing.Shown.{Shown}
 use Rattle.emulation.specs.declared.showing.Shown.TheVariants.{State as Whole, Harts, Output}
 
@@ -23,3 +25,11 @@ ends_well (Some s) = (s.code == 1) && (s.value == 0)
 -- whether all harts did
 abbrev pub all_end_well : List Hart → Bool
 all_end_well hs = list_all (λ (h : Hart). ends_well h.stop) hs
+
+-- whether one runs
+abbrev pub some_run : List Hart → Bool
+some_run hs = list_any (λ (h : Hart). not (is_some h.stop)) hs
+
+-- how a run with these harts has ended
+abbrev pub end_of : List Hart → RunEnd
+end_of hs = if some_run hs then RunsOn else (if all_end_well hs then Well else Badly)

@@ -5,11 +5,11 @@ ghost use Rattle.host_io.specs.declared.error.RunError.TheVariants as refusals;
 ghost use Rattle.machine.specs.Machine.{Running};
 ghost use Rattle.machine.specs.Settings.{IsPlan, IsReason, RefusedInOrder, after_run, settings_fault};
 ghost use Rattle.emulation.specs.Reports.{report_after};
-ghost use Rattle.emulation.specs.Showing.{all_end_well, ends_well, shown_text};
+ghost use Rattle.emulation.specs.Showing.{end_of, shown_text};
 ghost use Rattle.machine.specs.Untraced.{IsUntraced};
 
 use crate::reporting::{report_on, untraced_state_of};
-use hart_step::{Hart, Stop};
+use crate::run_end::{RunEnd, end_of};
 use host_io::{RunError, Sink, put_all};
 use machine::{GuestFiles, Observer, Settings, UntracedMachine, prepare, prepare_untraced};
 use report::{write_summary, write_untraced};
@@ -29,7 +29,7 @@ pub enum Shown {
 }
 
 /// Runs a guest program for a number of rounds without a trace, and writes what is shown of the state after them. It answers
-/// whether each hart exited with 0. The observer looks at the machine after each round in which a hart runs.
+/// how its harts have ended. The observer looks at the machine after each round in which a hart runs.
 ///
 /// # Errors
 ///
@@ -43,11 +43,11 @@ pub fn show_run<S: Sink, O: Observer, R: Threads + Wait + Sync>(
     shown: Shown,
     observer: &mut O,
     out: &mut S,
-) -> Result<bool, RunError>
+) -> Result<RunEnd, RunError>
     // The sink took what is shown of the run that the definitions name, and the answer is that of its harts.
-    ensures shows { IfOk result (λ well. (plan : Planned) × IsPlan settings.now plan ×
+    ensures shows { IfOk result (λ e. (plan : Planned) × IsPlan settings.now plan ×
         (S.took out.new ≡ S.took out.old ++ shown_text shown (after_run settings.now
-        files.now.image.now files.now.input.now plan).state) × (well ≡ all_end_well
+        files.now.image.now files.now.input.now plan).state) × (e ≡ end_of
         (after_run settings.now files.now.image.now files.now.input.now plan).state.harts)) }
     // Else it took nothing, or a beginning of that text.
     ensures begun { OnErr result ((S.took out.new ≡ S.took out.old) ⊎ ((plan : Planned) ×
@@ -66,11 +66,11 @@ pub fn show_run<S: Sink, O: Observer, R: Threads + Wait + Sync>(
     let mut machine = prepare_untraced(alloc, files.image, files.input, settings)?;
     machine.run_observed(rt, settings.rounds, settings.workers, observer)?;
     write_shown(alloc, &machine, shown, out)?;
-    Ok(all_end_well(machine.harts()))
+    Ok(end_of(machine.harts()))
 }
 
-/// Runs a guest program for a number of rounds, and writes the report of the state after them. It answers whether each hart
-/// exited with 0. The observer looks at the machine after each round in which a hart runs.
+/// Runs a guest program for a number of rounds, and writes the report of the state after them. It answers how its harts have
+/// ended. The observer looks at the machine after each round in which a hart runs.
 ///
 /// # Errors
 ///
@@ -82,11 +82,11 @@ pub fn report_run<S: Sink, O: Observer, R: Threads + Wait + Sync>(
     settings: &Settings<'_>,
     observer: &mut O,
     out: &mut S,
-) -> Result<bool, RunError>
+) -> Result<RunEnd, RunError>
     // The sink took the report of the run that the definitions name, and the answer is that of its harts.
-    ensures reports { IfOk result (λ well. (plan : Planned) × IsPlan settings.now plan ×
+    ensures reports { IfOk result (λ e. (plan : Planned) × IsPlan settings.now plan ×
         (S.took out.new ≡ S.took out.old ++ report_after settings.now files.now.image.now
-        files.now.input.now plan) × (well ≡ all_end_well
+        files.now.input.now plan) × (e ≡ end_of
         (after_run settings.now files.now.image.now files.now.input.now plan).state.harts)) }
     // Else it took nothing, or a beginning of that report.
     ensures begun { OnErr result ((S.took out.new ≡ S.took out.old) ⊎
@@ -105,7 +105,7 @@ pub fn report_run<S: Sink, O: Observer, R: Threads + Wait + Sync>(
     let mut machine = prepare(alloc, files.image, files.input, settings)?;
     machine.run_observed(rt, settings.rounds, settings.workers, observer)?;
     report_on(rt, settings.workers, alloc, &machine, out)?;
-    Ok(all_end_well(machine.harts()))
+    Ok(end_of(machine.harts()))
 }
 
 /// Writes what is shown of a machine.
@@ -126,22 +126,5 @@ fn write_shown<S: Sink>(
         Shown::State => write_untraced(alloc, &untraced_state_of(machine), out),
         Shown::Harts => write_summary(alloc, &untraced_state_of(machine), out),
         Shown::Output => put_all(out, machine.output()),
-    }
-}
-
-/// Whether each of the harts exited with 0.
-fn all_end_well(harts: &[Hart]) -> bool
-    ensures { result ≡ all_end_well harts.now }
-{
-    harts.iter().all(|hart| ends_well(hart.stop))
-}
-
-/// Whether a hart with this stop exited with 0.
-fn ends_well(stop: Option<Stop>) -> bool
-    ensures { result ≡ ends_well stop }
-{
-    match stop {
-        Some(stop) => stop.code == 1 && stop.value == 0,
-        None => false,
     }
 }

@@ -1,12 +1,13 @@
-use Rattle.std.proofs.Common.{rules, ◌∙◌, ◌++◌, Bool, Err, List, ℕ, Ok, OnErr, Result, ap, inr, subst}
+use Rattle.std.proofs.Common.{rules, ◌∙◌, ◌++◌, Err, List, ℕ, Ok, OnErr, Result, ap, inr, subst}
 use Rattle.host_io.specs.declared.error.RunError.{RunError}
 use Rattle.host_io.specs.Taken.{BeganText}
 use Rattle.report.specs.Report.{report_of}
 use Rattle.machine.specs.Machine.{Running, after_rounds}
-use Rattle.emulation.specs.Showing.{all_end_well}
+use Rattle.emulation.specs.Showing.{end_of}
+use Rattle.emulation.specs.declared.run_end.RunEnd.{RunEnd}
 use Rattle.emulation.proofs.showing.report_run.Goals as goal
 
-on_err : (r : Result Bool RunError) (A : Type 0) → A → OnErr r A
+on_err : (r : Result RunEnd RunError) (A : Type 0) → A → OnErr r A
 on_err (Ok v) A a = tt
 on_err (Err e) A a = a
 
@@ -23,7 +24,7 @@ returns-clause-reports g c =
       made.0,
       made.1,
       c.in_ok-report_on.ensures.ok ∙ ap (λ (m : Running). g.S.Sink.took c.args.out.now ++ report_of m.state) after,
-      c.all_end_well.ensures ∙ ap all_end_well (c.harts.ensures.harts ∙ ap (λ (m : Running). m.state.harts) after),
+      c.end_of.ensures ∙ ap end_of (c.harts.ensures.harts ∙ ap (λ (m : Running). m.state.harts) after),
     )
 
 pub returns-in_err-report_on-clause-errors : goal.returns-in_err-report_on-clause-errors

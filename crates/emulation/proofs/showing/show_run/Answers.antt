@@ -1,9 +1,10 @@
-use Rattle.std.proofs.Common.{rules, ◌∙◌, Bool, Err, Ok, OnErr, Result, ap, inr}
+use Rattle.std.proofs.Common.{rules, ◌∙◌, Err, Ok, OnErr, Result, ap, inr}
 use Rattle.host_io.specs.declared.error.RunError.{RunError}
-use Rattle.emulation.specs.Showing.{all_end_well}
+use Rattle.emulation.specs.Showing.{end_of}
+use Rattle.emulation.specs.declared.run_end.RunEnd.{RunEnd}
 use Rattle.emulation.proofs.showing.show_run.Goals as goal
 
-on_err : (r : Result Bool RunError) (A : Type 0) → A → OnErr r A
+on_err : (r : Result RunEnd RunError) (A : Type 0) → A → OnErr r A
 on_err (Ok v) A a = tt
 on_err (Err e) A a = a
 
@@ -17,7 +18,7 @@ pub returns-clause-shows : goal.returns-clause-shows
 returns-clause-shows g c =
     let made = c.in_ok-machine.ensures.machine in
     let ran = c.in_ok-run_observed.ensures.ok _ made.2 in
-    (made.0, made.1, c.in_ok-write_shown.ensures.ok _ ran, c.all_end_well.ensures ∙ ap all_end_well (c.harts.ensures.harts ∙ ran.harts))
+    (made.0, made.1, c.in_ok-write_shown.ensures.ok _ ran, c.end_of.ensures ∙ ap end_of (c.harts.ensures.harts ∙ ran.harts))
 
 pub returns-in_err-write_shown-clause-errors : goal.returns-in_err-write_shown-clause-errors
 returns-in_err-write_shown-clause-errors g c =
