@@ -63,6 +63,11 @@ abbrev pub or_else : Option (List ℕ) → (List ℕ → Request) → Request �
 or_else None f other = other
 or_else (Some bs) f other = f bs
 
+-- a word with nothing behind it
+abbrev pub alone : Request → List ℕ → Request
+alone r [] = r
+alone r (b ∷ bs) = requests.Unknown
+
 -- queries: behind `q`
 abbrev pub query_of : List ℕ → Request
 query_of bs =
@@ -72,7 +77,7 @@ query_of bs =
     (or_else (behind (codes "sThreadInfo") bs) (λ r. requests.MoreThreads)
     (or_else (behind (codes "ThreadExtraInfo,") bs) (λ r. by_thread requests.Note (thread_of r))
     (or_else (behind (codes "Attached") bs) (λ r. requests.Attached)
-    (or_else (behind (codes "C") bs) (λ r. requests.PresentThread)
+    (or_else (behind (codes "C") bs) (λ r. alone requests.PresentThread r)
     requests.Unknown))))))
 
 -- a step of one thread, in which the others may go on where more actions follow; a signal before the thread is passed over

@@ -1,5 +1,5 @@
 ghost use Rattle.std.specs.Prelude.{◌≡◌};
-ghost use Rattle.gdb_requests.specs.Grammar.{change_of, moving_of, query_of, reading_of, request_of, resume_of, signalled_by, step_of};
+ghost use Rattle.gdb_requests.specs.Grammar.{alone, change_of, moving_of, query_of, reading_of, request_of, resume_of, signalled_by, step_of};
 
 use crate::parts::{behind, number_from, thread_of, two_numbers};
 use crate::request::Request;
@@ -45,10 +45,20 @@ fn query_of(text: &[u8]) -> Request
     if let Some(_) = behind(b"Attached", text) {
         return Request::Attached;
     }
-    if let Some(_) = behind(b"C", text) {
-        return Request::PresentThread;
+    if let Some(rest) = behind(b"C", text) {
+        return alone(Request::PresentThread, rest);
     }
     Request::Unknown
+}
+
+/// A request whose word has nothing behind it.
+fn alone(request: Request, rest: &[u8]) -> Request
+    ensures { result ≡ alone request rest.now }
+{
+    match rest {
+        [] => request,
+        [_, ..] => Request::Unknown,
+    }
 }
 
 /// A way to go on, behind its `v`.

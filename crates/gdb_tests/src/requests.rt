@@ -1,0 +1,67 @@
+//! Requests, as gdb-multiarch 13.1 sends them to a program for RISC-V, and as gdb's manual has them in appendix E.
+
+use gdb_requests::{Request, request_of};
+use std::test::Fail;
+
+#[test]
+fn questions_are_read(rt: HostRuntime) -> Result<(), Fail> {
+    let rows: [(&[u8], Request); 20] = [
+        (
+            b"qSupported:multiprocess+;swbreak+;hwbreak+",
+            Request::Features,
+        ),
+        (
+            b"qXfer:features:read:target.xml:0,ffb",
+            Request::Description(0, 4091),
+        ),
+        (b"?", Request::WhyStopped),
+        (b"qfThreadInfo", Request::FirstThreads),
+        (b"qsThreadInfo", Request::MoreThreads),
+        (b"qThreadExtraInfo,2", Request::Note(2)),
+        (b"qC", Request::PresentThread),
+        (b"qCRC:1000,4", Request::Unknown),
+        (b"qAttached:1", Request::Attached),
+        (b"Hg0", Request::SelectGeneral(None)),
+        (b"Hg2", Request::SelectGeneral(Some(2))),
+        (b"Hc-1", Request::SelectMoving(None)),
+        (b"T40", Request::IsAlive(64)),
+        (b"g", Request::ReadRegisters),
+        (b"p21", Request::ReadRegister(33)),
+        (b"m20008,40", Request::ReadMemory(0x20008, 64)),
+        (b"m20008", Request::Unknown),
+        (b"M20008,1:00", Request::Change),
+        (b"P2=0000000000000000", Request::Change),
+        (b"vMustReplyEmpty", Request::Unknown),
+    ];
+    for (payload, expected) in rows {
+        assert!(rt; request_of(payload) == expected, "{payload:?}");
+    }
+    Ok(())
+}
+
+#[test]
+fn moves_are_read(rt: HostRuntime) -> Result<(), Fail> {
+    let rows: [(&[u8], Request); 17] = [
+        (b"Z0,10b0,4", Request::AddStop(0x10b0)),
+        (b"z0,10b0,4", Request::RemoveStop(0x10b0)),
+        (b"Z2,20000,8", Request::Unknown),
+        (b"Z0,ffffffffffffffff,4", Request::AddStop(u64::MAX)),
+        (b"Z0,10000000000000000,4", Request::Unknown),
+        (b"vCont?", Request::Actions),
+        (b"vCont;c", Request::Continue),
+        (b"vCont;C05:1;c", Request::Continue),
+        (b"vCont;s:2;c", Request::Step(2)),
+        (b"vCont;s:2", Request::StepAlone(2)),
+        (b"vCont;S05:2", Request::StepAlone(2)),
+        (b"bs", Request::StepBack),
+        (b"bc", Request::ContinueBack),
+        (b"D", Request::Detach),
+        (b"vKill;a410", Request::Detach),
+        (b"k", Request::Kill),
+        (b"", Request::Unknown),
+    ];
+    for (payload, expected) in rows {
+        assert!(rt; request_of(payload) == expected, "{payload:?}");
+    }
+    Ok(())
+}
