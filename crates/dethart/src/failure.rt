@@ -6,6 +6,7 @@ ghost use Rattle.dethart.specs.declared.failure.Failure.TheVariants as failures;
 use crate::merging::Apart;
 use crate::plan_lines::BadLine;
 use execution_scripts::Cause;
+use fence_table::AcceptError;
 use host_io::RunError;
 use hunt_table::MergeError;
 use hunter::HuntError;
@@ -52,6 +53,10 @@ pub(crate) enum Failure {
     Hunt(HuntError),
     /// The weak hunt was refused.
     WeakHunt(WeakHuntError),
+    /// The list of places that are accepted wasn't read.
+    Accept(AcceptError),
+    /// A fence was to be assumed before this address, which is not one of an instruction of the image.
+    NotCode(u64),
     /// The tables weren't merged.
     Merge(MergeError),
     /// The file of this path has no table.
@@ -96,6 +101,12 @@ impl From<WeakHuntError> for Failure {
             WeakHuntError::Hunt(error) => Failure::Hunt(error),
             error => Failure::WeakHunt(error),
         }
+    }
+}
+
+impl From<AcceptError> for Failure {
+    fn from(error: AcceptError) -> Failure {
+        Failure::Accept(error)
     }
 }
 
@@ -154,6 +165,8 @@ impl Failure {
             Failure::NoExecution(cause, _) => Some(cause.number()),
             Failure::Hunt(error) => Some(error.number()),
             Failure::WeakHunt(error) => Some(error.number()),
+            Failure::Accept(error) => Some(error.number()),
+            Failure::NotCode(_) => Some(77),
             Failure::Merge(error) => Some(error.number()),
             Failure::NotATable(_) => Some(MergeError::NotATable.number()),
             Failure::Apart(_, _, _) => Some(MergeError::Apart.number()),
@@ -191,6 +204,12 @@ impl Failure {
             Failure::NoExecution(cause, line) => { eprintln!(rt; "{cause}: line {line}") }
             Failure::Hunt(error) => eprintln!(rt; "{error}"),
             Failure::WeakHunt(error) => eprintln!(rt; "{error}"),
+            Failure::Accept(error) => eprintln!(rt; "{error}"),
+            Failure::NotCode(pc) => {
+                eprintln!(rt;
+                    "there is no instruction at {pc:#x}, before which a fence is to be assumed"
+                )
+            }
             Failure::Merge(error) => eprintln!(rt; "{error}"),
             Failure::NotATable(path) => eprintln!(rt; "the file {path} is no table of a hunt"),
             Failure::Apart(last, path, apart) => {

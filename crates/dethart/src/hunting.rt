@@ -78,7 +78,7 @@ pub(crate) fn write_shrunk<R: Threads + Wait + Sync, W: Write>(
 }
 
 /// The bytes that are looked at when a run ends.
-fn named_in(
+pub(crate) fn named_in(
     alloc: Global,
     search: &Search<'_>,
     files: &ProgramFiles,
@@ -93,7 +93,7 @@ fn named_in(
 }
 
 /// What the line says of a hunt by so many plans from a first one on, with the bytes that are looked at when a run ends.
-fn settings_of(
+pub(crate) fn settings_of(
     alloc: Global,
     search: &Search<'_>,
     named: &NamedBytes,

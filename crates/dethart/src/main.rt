@@ -4,8 +4,10 @@
 
 mod executions;
 mod failure;
+mod fences;
 mod files;
 mod hunting;
+mod keeping;
 mod line;
 mod looping;
 mod merging;
@@ -26,8 +28,8 @@ use command_line::{Command, asked_by_options, parse_line};
 use failure::Failure;
 use line::{answer_line, arguments, texts_of};
 use printing::{
-    Answer, print_check, print_drawing, print_execution, print_hunt, print_merged, print_order,
-    print_plan, print_replay, print_run, print_shrunk, print_trace, print_watch,
+    Answer, print_check, print_drawing, print_execution, print_fences, print_hunt, print_merged,
+    print_order, print_plan, print_replay, print_run, print_shrunk, print_trace, print_watch,
 };
 use recordings::{make_recording, migrate_file};
 use std::process::ExitCode;
@@ -83,6 +85,7 @@ fn obey<R: Threads + Wait + Sync>(
             Ok(Answer::Done)
         }
         Command::Hunt(asked) => print_hunt(rt, threads, asked),
+        Command::Fences(asked) => print_fences(rt, threads, asked),
         Command::Shrink(asked) => print_shrunk(rt, threads, asked),
         Command::Merge(asked) => print_merged(rt, asked),
         Command::Plan(asked) => print_plan(rt, asked),

@@ -1,9 +1,10 @@
 //! What the commands print to standard output, and the exit status that goes with it.
 ghost use Rattle.std.specs.Prelude.{◌≡◌};
-ghost use Rattle.dethart.specs.Status.{answer_status, is_doubtful};
+ghost use Rattle.dethart.specs.Status.{answer_status, fences_answer, is_doubtful};
 
 use crate::executions::{write_check, write_execution_of};
 use crate::failure::Failure;
+use crate::fences::write_fences_of;
 use crate::hunting::{write_hunt, write_shrunk};
 use crate::looping::tell_loops;
 use crate::merging::write_merged;
@@ -11,12 +12,14 @@ use crate::output::{finish, standard_output};
 use crate::pictures::{write_drawing, write_trace};
 use crate::plans::write_plan;
 use crate::recordings::{Replayed, write_replay, write_watch};
-use crate::repeating::{tell_endings, tell_plan, tell_shrunk};
+use crate::repeating::{tell_endings, tell_missing, tell_plan, tell_shrunk};
 use crate::run::{read_run, write_order_of, write_run};
 use command_line::{
-    Check, Draw, Execution, FailOn, Hunt, Merge, Plan, Print, Replay, Run, Shown, Shrink, Watch,
+    Check, Draw, Execution, FailOn, Fences, FencesFailOn, Hunt, Merge, Plan, Print, Replay, Run,
+    Shown, Shrink, Watch,
 };
 use emulation::RunEnd;
+use fence_table::FenceTable;
 use hunter::{all_end_well, is_one_exit};
 use plan_hunt::Row;
 use std::sync::Wait;
@@ -31,6 +34,8 @@ pub(crate) enum Answer {
     Differs,
     /// A hart did not end well, or a guest has several endings.
     Doubtful,
+    /// A fence is missing.
+    Lacking,
 }
 
 impl Answer {
@@ -42,6 +47,7 @@ impl Answer {
             Answer::Done => 0,
             Answer::Differs => 3,
             Answer::Doubtful => 4,
+            Answer::Lacking => 5,
         }
     }
 }
@@ -131,6 +137,37 @@ pub(crate) fn print_hunt<R: Threads + Wait + Sync>(
     } else {
         Answer::Done
     })
+}
+
+/// What a table of missing fences is answered with.
+fn fences_answer(fail_on: FencesFailOn, table: &FenceTable) -> Answer
+    ensures { result ≡ fences_answer fail_on table.now }
+{
+    match fail_on {
+        FencesFailOn::Never => Answer::Done,
+        FencesFailOn::Missing => {
+            if table.missing.len() != 0 {
+                Answer::Lacking
+            } else if table.ordinary.plans == 0 && table.unnamed.plans == 0 {
+                Answer::Done
+            } else {
+                Answer::Doubtful
+            }
+        }
+    }
+}
+
+/// Looks for missing fences, and prints at which places they are missing.
+pub(crate) fn print_fences<R: Threads + Wait + Sync>(
+    rt: &HostRuntime,
+    threads: &R,
+    asked: &Fences<'_>,
+) -> Result<Answer, Failure> {
+    let mut out = standard_output(rt)?;
+    let written = write_fences_of(rt, threads, asked, &mut out);
+    let found = finish(out, written)?;
+    let _untold = tell_missing(rt, asked, &found.table.missing);
+    Ok(fences_answer(asked.fail_on, &found.table))
 }
 
 /// Prints a smaller plan that leads to the same ending, and on standard error its budget.

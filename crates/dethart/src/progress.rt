@@ -1,5 +1,6 @@
 //! How far a command is, told on standard error.
 
+use fence_finder::FenceObserver;
 use hunter::{HuntObserver, ShrinkObserver};
 use machine::{Observer, UntracedMachine};
 use plan_hunt::{Row, are_well};
@@ -120,6 +121,18 @@ impl HuntObserver for Progress<'_> {
                 .count();
             let _unwritten = eprint!(self.rt;
                 "\rplan {done} of {all}, {endings} endings, {bad} of them bad, {seconds} s\x1b[K"
+            );
+        }
+        self.next_block()
+    }
+}
+
+impl FenceObserver for Progress<'_> {
+    fn before_block(&mut self, done: u32, failing: usize) -> u32 {
+        if let Some(seconds) = self.next_second() {
+            let all = self.all;
+            let _unwritten = eprint!(self.rt;
+                "\rnumber {done} of {all}, {failing} fail for want of a fence, {seconds} s\x1b[K"
             );
         }
         self.next_block()

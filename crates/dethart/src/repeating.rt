@@ -1,7 +1,8 @@
 //! Lines that repeat a run which was found. They are told when what was asked for is out already, so it is no failure where they
 //! can't be written, or there is no memory for them.
 
-use command_line::{Hunt, Plan, Program, Shrink};
+use command_line::{Fences, Hunt, Plan, Program, Shrink};
+use fence_table::Missing;
 use plan_hunt::Row;
 use std::alloc::{AllocError, Global};
 
@@ -23,6 +24,23 @@ pub(crate) fn tell_endings(
         let (number, first) = (place.saturating_add(1), row.first);
         let _unwritten = eprintln!(rt;
             "ending {number}: {program}{weak} --plan-number {first} --seed {seed}"
+        );
+    }
+    Ok(())
+}
+
+/// Says on standard error, for each missing fence, the line that writes the execution of the number that shows it.
+pub(crate) fn tell_missing(
+    rt: &HostRuntime,
+    asked: &Fences<'_>,
+    missing: &[Missing],
+) -> Result<(), AllocError> {
+    let program = line_of(rt.alloc(), "execution", &asked.search.program)?;
+    let seed = asked.search.seed;
+    for (place, missing) in missing.iter().enumerate() {
+        let (number, shown) = (place.saturating_add(1), missing.shown.number);
+        let _unwritten = eprintln!(rt;
+            "missing {number}: {program} --weak --plan-number {shown} --seed {seed}"
         );
     }
     Ok(())

@@ -1,0 +1,100 @@
+//! The command that looks for missing fences.
+
+use crate::failure::Failure;
+use crate::files::{ProgramFiles, read_file, read_program};
+use crate::hunting::{named_in, settings_of};
+use crate::keeping::keep;
+use crate::progress::Progress;
+use command_line::Fences;
+use fence_finder::{FenceSettings, FoundFences, find_fences};
+use fence_table::Accepted;
+use host_io::WriteSink;
+use hunter::{HuntSettings, check_hunt};
+use machine::load;
+use std::alloc::Global;
+use std::io::Write;
+use std::sync::Wait;
+use std::thread::Threads;
+
+/// Looks for missing fences, and writes at which places they are missing, and the executions that show it to files, where that is asked
+/// for. Answers what was found.
+pub(crate) fn write_fences_of<R: Threads + Wait + Sync, W: Write>(
+    rt: &HostRuntime,
+    threads: &R,
+    asked: &Fences<'_>,
+    out: &mut W,
+) -> Result<FoundFences, Failure> {
+    let files = read_program(rt, &asked.search.program)?;
+    let accepted = accepted_in(rt, asked.accept)?;
+    let named = named_in(rt.alloc(), &asked.search, &files)?;
+    let hunt = settings_of(rt.alloc(), &asked.search, &named, asked.first, asked.plans)?;
+    check_code(rt.alloc(), &hunt, &files, asked.as_if_fence)?;
+    let settings = FenceSettings {
+        hunt,
+        assumed: asked.as_if_fence,
+        accepted,
+        keeps: asked.keep.is_some(),
+    };
+    let mut progress = Progress::new(rt, asked.search.program.progress, asked.plans);
+    let answer = found_in(threads, rt.alloc(), &files, settings, &mut progress, out);
+    progress.end();
+    let found = named.explain(answer)?;
+    if let Some(folder) = asked.keep {
+        keep(rt, folder, &found.executions)?;
+    }
+    Ok(found)
+}
+
+/// What a search in a program finds.
+fn found_in<R: Threads + Wait + Sync, W: Write>(
+    threads: &R,
+    alloc: Global,
+    files: &ProgramFiles,
+    settings: FenceSettings,
+    progress: &mut Progress<'_>,
+    out: &mut W,
+) -> Result<FoundFences, Failure> {
+    let mut sink = WriteSink::new(out);
+    let (image, input) = (files.image.as_slice(), files.input.as_slice());
+    Ok(find_fences(threads, alloc, image, input, settings, progress, &mut sink)?)
+}
+
+/// The places that a file lists, and none without a file.
+///
+/// # Errors
+///
+/// `NoFile`, `TooLarge`, `NotAPlace`, and `OutOfMemory`.
+fn accepted_in(rt: &HostRuntime, path: Option<&str>) -> Result<Accepted, Failure> {
+    let text = match path {
+        Some(path) => read_file(rt, path)?,
+        None => Vec::new(rt.alloc()),
+    };
+    Ok(Accepted::read(rt.alloc(), &text)?)
+}
+
+/// Refuses a fence before what is no instruction of the image. Settings and an image that are refused for themselves are left to the search.
+fn check_code(
+    alloc: Global,
+    settings: &HuntSettings,
+    files: &ProgramFiles,
+    pc: Option<u64>,
+) -> Result<(), Failure> {
+    let Some(pc) = pc else {
+        return Ok(());
+    };
+    if check_hunt(settings).is_err() {
+        return Ok(());
+    }
+    let Ok(image) = load(alloc, settings.format, &files.image, settings.pages) else {
+        return Ok(());
+    };
+    let is_code = image
+        .code()
+        .iter()
+        .any(|range| range.start <= pc && pc - range.start < range.len);
+    if pc % 4 == 0 && is_code {
+        Ok(())
+    } else {
+        Err(Failure::NotCode(pc))
+    }
+}
