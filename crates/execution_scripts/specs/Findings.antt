@@ -1,5 +1,5 @@
 -- What is found of a file.
-use Rattle.std.specs.Prelude.{ℕ, if◌then◌else◌, List, length, slice_index}
+use Rattle.std.specs.Prelude.{◌≡◌, ℕ, if◌then◌else◌, List, length, map, slice_index}
 use Rattle.elf_loader.specs.Image.{Loaded}
 use Rattle.machine.specs.declared.settings.Format.TheVariants.{Elf, Flat}
 use Rattle.machine.specs.Settings.{image_of}
@@ -8,7 +8,8 @@ use Rattle.execution.specs.declared.step.ScriptedStep.{ScriptedStep}
 use Rattle.execution.specs.Executions.{Standing}
 use Rattle.execution.specs.Progressing.{at_start}
 use Rattle.execution_checker.specs.Allowed.{IsVerdict}
-use Rattle.execution_file.specs.Recorded.{Recorded}
+use Rattle.execution_file.specs.Recorded.{HartPart, Recorded}
+use Rattle.execution_scripts.specs.Deeds.{deeds, said}
 use Rattle.execution_scripts.specs.declared.checking.Finding.{Finding}
 use Rattle.execution_scripts.specs.declared.checking.Finding.TheVariants.{Fault, Judged}
 
@@ -24,7 +25,10 @@ guest_in r = opening_guest (image_in r) r.input (length r.harts)
 abbrev pub start_of : Guest → Standing
 start_of g = at_start g.harts g.shared.console
 
--- a verdict is on the execution of a guest that a script leads to, in some order of its memory operations
-abbrev pub IsFound : Guest → Finding → List ScriptedStep → Standing → Type 0
-IsFound g (Judged v) ss q = (order : List ℕ) × IsVerdict v g.shared.memory (λ x. slice_index g.shared.memory.bytes x) ss order (start_of g) q
-IsFound g (Fault f) ss q = Unit {0}
+-- a verdict is on the execution of a guest that a script leads to, in some order of its memory operations; the harts do what is
+-- said of them: so many steps, these numbers read, and these ends
+abbrev pub IsFound : Guest → List HartPart → Finding → List ScriptedStep → Standing → Type 0
+IsFound g parts (Judged v) ss q =
+    ((order : List ℕ) × IsVerdict v g.shared.memory (λ x. slice_index g.shared.memory.bytes x) ss order (start_of g) q) ×
+    (map said parts ≡ deeds q.harts q.events)
+IsFound g parts (Fault f) ss q = Unit {0}

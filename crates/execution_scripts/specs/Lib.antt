@@ -1,1 +1,3 @@
+pub mod Deeds
 pub mod Findings
+pub mod RunFiles

@@ -3,7 +3,8 @@ ghost use Rattle.machine.specs.Guests.{opening_guest};
 ghost use Rattle.execution_file.specs.Views.{as_recorded};
 ghost use Rattle.execution_scripts.specs.Findings.{IsFound, guest_in, image_in};
 
-use crate::fault::{Fault, Halt};
+use crate::deeds::{are_said, deeds};
+use crate::fault::{Fault, Halt, Misfit};
 use crate::following::Follower;
 use crate::opening::open_execution;
 use crate::ordering::order_of;
@@ -41,13 +42,14 @@ pub struct Checked {
 /// Checks the execution of a file: whether its harts do what the file says, and whether RVWMO allows it in the file's order.
 ///
 /// The verdict is on the script and the execution that are handed back: on the file's image and its input, from its harts at the
-/// entry. That the script has the file's numbers, and the order its turns, is no part of the contract.
+/// entry. In this execution each hart does as many steps as the file says, reads the file's numbers, and ends as the file says. That
+/// the order has the file's turns, and the calls theirs, is no part of the contract.
 ///
 /// # Errors
 ///
 /// The refusals of the numbers of harts and pages, then of the image; `OutOfMemory`.
 pub fn check_file(alloc: Global, file: &ExecutionFile) -> Result<Checked, RunError>
-    ensures { IfOk result (λ c. IsFound (guest_in (as_recorded file.now)) c.finding c.script.items c.execution.standing) }
+    ensures { IfOk result (λ c. IsFound (guest_in (as_recorded file.now)) (as_recorded file.now).harts c.finding c.script.items c.execution.standing) }
 {
     let harts = file.harts.len();
     if harts < 1 || harts > MOST_HARTS as usize {
@@ -93,7 +95,7 @@ fn check_over(
     harts: u32,
 ) -> Result<Checked, RunError>
     requires { harts ≤ 64 }
-    ensures { IfOk result (λ c. IsFound (opening_guest image file.now.input.items harts) c.finding c.script.items c.execution.standing) }
+    ensures { IfOk result (λ c. IsFound (opening_guest image file.now.input.items harts) (as_recorded file.now).harts c.finding c.script.items c.execution.standing) }
 {
     let execution = open_execution(alloc, &image, &file.input, harts)?;
     let mut follower = Follower::new(alloc, execution, &file.harts)?;
@@ -128,11 +130,24 @@ fn judge(
     harts: u32,
 ) -> Result<Checked, RunError>
     requires { harts ≤ 64 }
-    ensures { IfOk result (λ c. IsFound (opening_guest image file.now.input.items harts) c.finding c.script.items c.execution.standing) }
+    ensures { IfOk result (λ c. IsFound (opening_guest image file.now.input.items harts) (as_recorded file.now).harts c.finding c.script.items c.execution.standing) }
 {
     let mut execution = open_execution(alloc, &image, &file.input, harts)?;
     let opening = Trace::new(alloc, image.into_pieces());
     let verdict = check_execution(alloc, &mut execution, &script, &opening, order)?;
+    let did = deeds(alloc, execution.harts(), execution.events())?;
+    if !are_said(&file.harts, &did) {
+        let fault = Fault {
+            hart: 0,
+            step: 0,
+            misfit: Misfit::Otherwise,
+        };
+        return Ok(Checked {
+            finding: Finding::Fault(fault),
+            execution,
+            script,
+        });
+    }
     Ok(Checked {
         finding: Finding::Judged(verdict),
         execution,

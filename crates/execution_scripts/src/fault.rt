@@ -42,6 +42,9 @@ pub enum Misfit {
     /// The round of a call is before that of an earlier one, or no round.
     #[error("the round of its call is before that of an earlier one, or too large")]
     NoRound,
+    /// A hart does otherwise than is said, in a way that nothing else here names.
+    #[error("a hart does otherwise than the file says")]
+    Otherwise,
     /// An order has a memory operation that the hart doesn't do.
     #[error("the hart does no further memory operation, and the order has one")]
     NoOperation,

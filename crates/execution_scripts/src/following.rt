@@ -1,10 +1,10 @@
 //! The script of a file: each hart's steps, with the numbers that its line has.
 
+use crate::deeds::number_read;
 use crate::fault::{Fault, Halt, Misfit};
 use execution_checker::{Execution, ScriptedStep};
 use execution_file::{HartPart, Turn};
 use pages::OutOfMemory;
-use round_schedule::Access;
 use rv64_decode::Instr;
 use std::alloc::Global;
 
@@ -36,17 +36,6 @@ pub(crate) struct Follower<'a> {
     courses: Vec<Course>,
     round: u32,
     script: Vec<ScriptedStep>,
-}
-
-/// The number that an access shows of what was read: of an SC 1 where it succeeded, and 0 where it failed.
-pub(crate) fn number_read(access: &Access) -> Option<u64> {
-    match *access {
-        Access::Load { read, .. }
-        | Access::LoadReserved { read, .. }
-        | Access::Atomic { read, .. } => Some(read),
-        Access::StoreConditional { written, .. } => Some(u64::from(written.is_some())),
-        Access::Store { .. } | Access::Fence { .. } => None,
-    }
 }
 
 /// Why a hart that said one number, or none, didn't read it.

@@ -2,6 +2,7 @@
 #![tactic(auto)]
 
 mod checking;
+mod deeds;
 mod fault;
 mod following;
 mod opening;

@@ -1,23 +1,29 @@
-ghost use Rattle.std.specs.Prelude.{◌≤◌};
+ghost use Rattle.std.specs.Prelude.{◌≡◌, ◌≤◌, IfOk, OnOk, map};
+ghost use Rattle.round_planner.specs.Quotas.{Planned};
+ghost use Rattle.machine.specs.Machine.{after_rounds};
+ghost use Rattle.machine.specs.Settings.{IsPlan, after_run};
+ghost use Rattle.execution_file.specs.Views.{as_recorded, hart_view};
+ghost use Rattle.execution_scripts.specs.Deeds.{deeds};
+ghost use Rattle.execution_scripts.specs.RunFiles.{IsFileOf, IsFileWith, is_flat};
 
+use crate::deeds::deeds;
 use crate::fault::Halt;
-use crate::following::{Follower, Taken, number_read};
+use crate::following::{Follower, Taken};
 use crate::opening::open_execution;
 use crate::ordering::turns_of;
 use crate::paces::Paces;
 use elf_loader::Image;
 use execution_file::{ExecutionFile, HartPart, Turn};
-use hart_step::Hart;
 use host_io::RunError;
 use machine::{Format, Machine, Observer, Settings, load, prepare};
 use memory_order::memory_order;
 use pages::{MOST_PAGES, OutOfMemory};
-use round_schedule::Event;
 use std::alloc::Global;
 use std::sync::Wait;
 use std::thread::Threads;
 
-/// Runs a guest program for a number of rounds, and gives the run as an execution, in the order by rounds.
+/// Runs a guest program for a number of rounds, and gives the run as an execution, in the order by rounds: of the same image and input,
+/// in which each hart does and reads what it did and read in the run.
 ///
 /// # Errors
 ///
@@ -29,7 +35,10 @@ pub fn execution_of_run<O: Observer, R: Threads + Wait + Sync>(
     input: &[u8],
     settings: &Settings<'_>,
     observer: &mut O,
-) -> Result<ExecutionFile, RunError> {
+) -> Result<ExecutionFile, RunError>
+    ensures { IfOk result (λ f. (plan : Planned) × IsPlan settings.now plan ×
+        IsFileOf settings.now image.now input.now (after_run settings.now image.now input.now plan) (as_recorded f)) }
+{
     let mut machine = prepare(alloc, image, input, settings)?;
     let ran = run_of(rt, alloc, &mut machine, settings, observer);
     drop(machine);
@@ -56,7 +65,10 @@ fn run_of<O: Observer, R: Threads + Wait + Sync>(
     machine: &mut Machine,
     settings: &Settings<'_>,
     observer: &mut O,
-) -> Result<Ran, RunError> {
+) -> Result<Ran, RunError>
+    ensures { IfOk result (λ ran. let m = after_rounds settings.now.rounds machine.old in
+        map hart_view ran.parts.items ≡ deeds m.state.harts m.state.trace) }
+{
     let (rounds, done) = paces_of(rt, alloc, machine, settings, observer)?;
     let (parts, order) = deeds_of(alloc, machine)?;
     Ok(Ran {
@@ -74,7 +86,9 @@ fn paces_of<O: Observer, R: Threads + Wait + Sync>(
     machine: &mut Machine,
     settings: &Settings<'_>,
     observer: &mut O,
-) -> Result<(Vec<u32>, Vec<u64>), RunError> {
+) -> Result<(Vec<u32>, Vec<u64>), RunError>
+    ensures { OnOk result (machine.new ≡ after_rounds settings.now.rounds machine.old) }
+{
     let mut paces = Paces::new(alloc, observer);
     let ended = machine.run_observed(rt, settings.rounds, settings.workers, &mut paces);
     let Paces {
@@ -91,11 +105,13 @@ fn paces_of<O: Observer, R: Threads + Wait + Sync>(
 }
 
 /// What the harts of a machine did, and the order by rounds of what they did.
-fn deeds_of(alloc: Global, machine: &Machine) -> Result<(Vec<HartPart>, Vec<Turn>), OutOfMemory> {
+fn deeds_of(alloc: Global, machine: &Machine) -> Result<(Vec<HartPart>, Vec<Turn>), OutOfMemory>
+    ensures { IfOk result (λ d. map hart_view d.0.items ≡ deeds machine.now.state.harts machine.now.state.trace) }
+{
     let events = machine.trace().to_vec(alloc)?;
     let order = memory_order(alloc, machine.trace())?;
     let order = turns_of(alloc, &events, machine.harts().len(), &order)?;
-    let parts = parts_of(alloc, machine.harts(), &events)?;
+    let parts = deeds(alloc, machine.harts(), &events)?;
     Ok((parts, order))
 }
 
@@ -106,12 +122,14 @@ fn file_of(
     input: &[u8],
     settings: &Settings<'_>,
     ran: Ran,
-) -> Result<ExecutionFile, RunError> {
+) -> Result<ExecutionFile, RunError>
+    ensures { IfOk result (λ f. IsFileWith settings.now image.now input.now (map hart_view ran.parts.items) (as_recorded f)) }
+{
     let calls = calls_in(alloc, image, input, settings, &ran)?;
     let image = copied(alloc, image)?;
     let input = copied(alloc, input)?;
     Ok(ExecutionFile {
-        flat: settings.format == Format::Flat,
+        flat: is_flat(settings.format),
         pages: settings.pages,
         image,
         input,
@@ -119,6 +137,15 @@ fn file_of(
         calls,
         order: ran.order,
     })
+}
+
+pub(crate) fn is_flat(format: Format) -> bool
+    ensures { result ≡ is_flat format }
+{
+    match format {
+        Format::Flat => true,
+        Format::Elf => false,
+    }
 }
 
 /// The calls of a run in their order.
@@ -138,39 +165,10 @@ fn calls_in(
 }
 
 /// The same bytes.
-pub(crate) fn copied(alloc: Global, bytes: &[u8]) -> Result<Vec<u8>, OutOfMemory> {
+pub(crate) fn copied(alloc: Global, bytes: &[u8]) -> Result<Vec<u8>, OutOfMemory>
+    ensures { IfOk result (λ v. v.items ≡ bytes.now) }
+{
     Ok(Vec::from_slice(alloc, bytes)?)
-}
-
-/// What the harts did.
-pub(crate) fn parts_of(
-    alloc: Global,
-    harts: &[Hart],
-    events: &[Event],
-) -> Result<Vec<HartPart>, OutOfMemory> {
-    let mut parts = Vec::new(alloc);
-    for hart in harts {
-        let (code, value) = match hart.stop {
-            Some(stop) if stop.code == 1 => (1, Some(stop.value)),
-            Some(stop) => (stop.code, None),
-            None => (0, None),
-        };
-        parts.push(HartPart {
-            steps: hart.done,
-            code,
-            value,
-            reads: Vec::new(alloc),
-        })?;
-    }
-    for event in events {
-        if let (Some(number), Some(part)) = (
-            number_read(&event.access),
-            parts.get_mut(usize::from(event.hart)),
-        ) {
-            part.reads.push(number)?;
-        }
-    }
-    Ok(parts)
 }
 
 /// The calls of a run in their order; none where one hart alone makes them and none asks for the round, as they have no other

@@ -1,8 +1,9 @@
 ghost use Rattle.std.specs.Prelude.{◌≤◌};
 
+use crate::deeds::deeds;
 use crate::opening::open_execution;
 use crate::ordering::turns_of;
-use crate::running::{copied, is_plain, parts_of};
+use crate::running::{copied, is_flat, is_plain};
 use execution_checker::{Execution, ScriptedStep};
 use execution_file::{ExecutionFile, Turn};
 use host_io::RunError;
@@ -50,11 +51,11 @@ pub fn execution_of_script(
     let mut execution = open_execution(alloc, &image, guest.input, guest.harts)?;
     let calls = calls_of(alloc, &mut execution, script)?;
     Ok(ExecutionFile {
-        flat: guest.format == Format::Flat,
+        flat: is_flat(guest.format),
         pages: guest.pages,
         image: copied(alloc, guest.image)?,
         input: copied(alloc, guest.input)?,
-        harts: parts_of(alloc, execution.harts(), execution.events())?,
+        harts: deeds(alloc, execution.harts(), execution.events())?,
         calls,
         order: turns_of(alloc, execution.events(), guest.harts as usize, order)?,
     })

@@ -1,0 +1,24 @@
+-- The files of runs.
+use Rattle.std.specs.Prelude.{◌≡◌, ℕ, Bool, true, false, List}
+use Rattle.machine.specs.declared.settings.Format.{Format}
+use Rattle.machine.specs.declared.settings.Format.TheVariants.{Elf, Flat}
+use Rattle.machine.specs.declared.settings.Settings.{Settings}
+use Rattle.machine.specs.Machine.{Running}
+use Rattle.execution_file.specs.Recorded.{HartPart, Recorded}
+use Rattle.execution_scripts.specs.Deeds.{deeds}
+
+abbrev pub is_flat : Format → Bool
+is_flat Flat = true
+is_flat Elf = false
+
+-- a file of this image and this input, in which the harts do this
+pub record IsFileWith (s : Settings) (file given : List ℕ) (parts : List HartPart) (r : Recorded) : Type 0 where
+  pub flat : r.flat ≡ is_flat s.format
+  pub pages : r.pages ≡ s.pages
+  pub image : r.image ≡ file
+  pub input : r.input ≡ given
+  pub harts : r.harts ≡ parts
+
+-- in which they do what they did in a run
+abbrev pub IsFileOf : Settings → List ℕ → List ℕ → Running → Recorded → Type 0
+IsFileOf s image input m r = IsFileWith s image input (deeds m.state.harts m.state.trace) r

@@ -1,0 +1,150 @@
+//! What the harts of an execution did, as a file says it.
+
+ghost use Rattle.std.specs.Prelude.{◌≡◌, ◌++◌, ◌∷◌, [], IfOk, OnOk, map, true};
+ghost use Rattle.execution_file.specs.Views.{hart_view};
+ghost use Rattle.execution_scripts.specs.Deeds.{code_of, deeds, number_shown, numbers_of, part_of, said, value_of};
+
+use execution_file::HartPart;
+use hart_step::{Hart, Stop};
+use pages::OutOfMemory;
+use round_schedule::{Access, Event};
+use std::alloc::Global;
+
+/// The number that an access shows of what was read: of an SC 1 where it succeeded, and 0 where it failed.
+pub(crate) fn number_read(access: &Access) -> Option<u64>
+    ensures { result ≡ number_shown access.now }
+{
+    match *access {
+        Access::Load { read, .. }
+        | Access::LoadReserved { read, .. }
+        | Access::Atomic { read, .. } => Some(read),
+        Access::StoreConditional { written, .. } => match written {
+            Some(_) => Some(1),
+            None => Some(0),
+        },
+        Access::Store { .. } | Access::Fence { .. } => None,
+    }
+}
+
+/// What the harts did.
+pub(crate) fn deeds(
+    alloc: Global,
+    harts: &[Hart],
+    events: &[Event],
+) -> Result<Vec<HartPart>, OutOfMemory>
+    ensures { IfOk result (λ v. map hart_view v.items ≡ deeds harts.now events.now) }
+{
+    let mut parts = Vec::new(alloc);
+    for number in 0..harts.len() {
+        let part = part_of(alloc, number, &harts[number], events)?;
+        parts.push(part)?;
+    }
+    Ok(parts)
+}
+
+/// What the hart of a number did.
+fn part_of(
+    alloc: Global,
+    number: usize,
+    hart: &Hart,
+    events: &[Event],
+) -> Result<HartPart, OutOfMemory>
+    ensures { IfOk result (λ p. hart_view p ≡ part_of number hart.now events.now) }
+{
+    let reads = numbers_of(alloc, number, events)?;
+    Ok(HartPart {
+        steps: hart.done,
+        code: code_of(&hart.stop),
+        value: value_of(&hart.stop),
+        reads,
+    })
+}
+
+fn code_of(stop: &Option<Stop>) -> u8
+    ensures { result ≡ code_of stop.now }
+{
+    match *stop {
+        Some(stop) => stop.code,
+        None => 0,
+    }
+}
+
+/// The value of the exit call.
+fn value_of(stop: &Option<Stop>) -> Option<u64>
+    ensures { result ≡ value_of stop.now }
+{
+    match *stop {
+        Some(stop) => {
+            if stop.code == 1 {
+                Some(stop.value)
+            } else {
+                None
+            }
+        }
+        None => None,
+    }
+}
+
+/// The numbers that the events of a hart show.
+fn numbers_of(alloc: Global, hart: usize, events: &[Event]) -> Result<Vec<u64>, OutOfMemory>
+    ensures { IfOk result (λ v. v.items ≡ numbers_of hart events.now) }
+{
+    let mut numbers = Vec::new(alloc);
+    for i in 0..events.len() {
+        add_number(&mut numbers, hart, &events[i])?;
+    }
+    Ok(numbers)
+}
+
+/// Adds the number that an event shows, where it is one of a hart.
+fn add_number(numbers: &mut Vec<u64>, hart: usize, event: &Event) -> Result<(), OutOfMemory>
+    ensures { OnOk result (numbers.new.items ≡ numbers.old.items ++ numbers_of hart (event.now ∷ [])) }
+{
+    if usize::from(event.hart) != hart {
+        return Ok(());
+    }
+    if let Some(number) = number_read(&event.access) {
+        numbers.push(number)?;
+    }
+    Ok(())
+}
+
+/// Whether harts did what is said of them.
+pub(crate) fn are_said(parts: &[HartPart], did: &[HartPart]) -> bool
+    ensures { result ≡ true → map said (map hart_view parts.now) ≡ map hart_view did.now }
+{
+    if parts.len() != did.len() {
+        return false;
+    }
+    for i in 0..parts.len() {
+        if !is_said(&parts[i], &did[i]) {
+            return false;
+        }
+    }
+    true
+}
+
+/// Whether a hart did what is said of it.
+fn is_said(part: &HartPart, did: &HartPart) -> bool
+    ensures { result ≡ true → said (hart_view part.now) ≡ hart_view did.now }
+{
+    let value = if part.code == 0 { None } else { part.value };
+    part.steps == did.steps
+        && part.code == did.code
+        && value == did.value
+        && are_equal(&part.reads, &did.reads)
+}
+
+fn are_equal(a: &[u64], b: &[u64]) -> bool
+    ensures { result ≡ true → a.now ≡ b.now }
+{
+    if a.len() != b.len() {
+        return false;
+    }
+    for i in 0..a.len() {
+        if a[i] != b[i] {
+            return false;
+        }
+    }
+    true
+}
