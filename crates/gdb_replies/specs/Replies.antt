@@ -1,7 +1,6 @@
 -- What each reply says, byte by byte.
 use Rattle.std.specs.Prelude.{ℕ, ◌+◌, ◌==◌, nat_lt, if◌then◌else◌, List, [], ◌∷◌, ◌++◌, length, take, drop, codes, Option, Some, None}
 use Rattle.std.specs.Fmt.{decimal}
-use Rattle.std.specs.Int.{w64, to_be_bytes}
 use Rattle.hex.specs.Hex.{encode_lower}
 use Rattle.round_schedule.specs.declared.event.Phase.{Phase}
 use Rattle.round_schedule.specs.declared.event.Phase.TheVariants.{Parallel, Serial}

@@ -1,5 +1,5 @@
 -- A walk over what a hart is from where its turn comes on.
-use Rattle.std.proofs.Common.{◌≡◌, ℕ, zero, suc, ◌+◌, ◌-◌, ◌<◌, ◌≤◌, Bool, true, false, cond, ◌&&◌, List, [], ◌∷◌, ◌++◌, length, map, drop, slice_get, is_some, Option, Some, None, refl, sym, ◌∙◌, ap, subst, arith, append_assoc, append-nil, add-one}
+use Rattle.std.proofs.Common.{◌≡◌, ℕ, zero, suc, ◌+◌, Bool, true, false, cond, ◌&&◌, List, [], ◌∷◌, ◌++◌, drop, slice_get, is_some, Some, None, refl, sym, ◌∙◌, ap, append_assoc, append-nil, add-one}
 use Rattle.round_schedule.specs.declared.event.Phase.TheVariants.{Serial}
 use Rattle.hart_step.specs.declared.hart.Hart.{Hart}
 use Rattle.walking.specs.Hits.{hits_from}

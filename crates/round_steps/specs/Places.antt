@@ -9,7 +9,6 @@ use Rattle.round_planner.specs.Quotas.{quotas_of}
 use Rattle.hart_step.specs.declared.hart.Hart.{Hart}
 use Rattle.hart_step.specs.Words.{words_of}
 use Rattle.machine.specs.Machine.{Running}
-use Rattle.moments.specs.Sights.{Sight}
 use Rattle.walking.specs.declared.asked.Asked.{Asked}
 use Rattle.walking.specs.Hits.{harts_in_part, hits_from, tells}
 use Rattle.round_steps.specs.declared.place.Place.{Place}

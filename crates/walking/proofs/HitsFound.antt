@@ -1,5 +1,5 @@
 -- A walk over a hart's part, hart by hart, and where something is told.
-use Rattle.std.proofs.Common.{◌≡◌, ℕ, zero, suc, ◌+◌, ◌-◌, ◌<◌, ◌≤◌, Bool, true, false, cond, ◌&&◌, List, [], ◌∷◌, ◌++◌, length, map, Option, Some, None, is_some, refl, sym, ◌∙◌, ap, subst, arith, append_assoc, append-nil, add-one}
+use Rattle.std.proofs.Common.{◌≡◌, ℕ, zero, suc, ◌+◌, ◌-◌, ◌<◌, ◌≤◌, Bool, true, false, cond, ◌&&◌, List, [], ◌∷◌, ◌++◌, length, Option, None, is_some, refl, sym, ◌∙◌, ap, arith, append_assoc, append-nil, add-one}
 use Rattle.std.proofs.lemmas.List.{length-map}
 use Rattle.pages.specs.declared.access.Range.{Range}
 use Rattle.pages.specs.Memory.{Memory, stored}
@@ -15,7 +15,7 @@ use Rattle.hart_step.specs.Step.{stepped}
 use Rattle.hart_step.specs.Words.{words_of}
 use Rattle.hart_step.proofs.Shown.{shows_step}
 use Rattle.moments.specs.Sights.{Sight, next_seen, part_by, part_sights}
-use Rattle.walking.specs.Hits.{Walked, harts_in_part, harts_of, hit_at, hits_from, is_moment}
+use Rattle.walking.specs.Hits.{Walked, harts_in_part, harts_of, hits_from, is_moment}
 use Rattle.walking.specs.Stops.{sight_of}
 use Rattle.walking.proofs.Walked.{is_next, suc_left}
 

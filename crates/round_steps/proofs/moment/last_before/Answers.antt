@@ -1,7 +1,5 @@
-use Rattle.std.proofs.Common.{◌≡◌, cond, Option, Some, arith, refl, sym}
-use Rattle.round_steps.specs.declared.moment.Moment.{Moment}
+use Rattle.std.proofs.Common.{arith, refl, sym}
 use Rattle.round_steps.specs.Moments.{is_earlier, moment_in}
-use Rattle.round_steps.specs.declared.place.Place.{Place}
 use Rattle.round_steps.proofs.Searching.{last_noted}
 use Rattle.round_steps.proofs.moment.last_before.Goals.{then-is_before, else-is_before}
 use Rattle.round_steps.proofs.moment.last_before.Goals as goal

@@ -1,5 +1,4 @@
-use Rattle.std.proofs.Common.{◌≡◌, ◌<◌, length, ℕ, List, [], None, slice_index, get_or, ap, sym, ◌∙◌, refl, arith}
-use Rattle.pages.specs.declared.access.Range.{Range}
+use Rattle.std.proofs.Common.{◌≡◌, ◌<◌, length, ℕ, List, [], None, slice_index, get_or, ap, sym, ◌∙◌, arith}
 use Rattle.hart_step.specs.declared.hart.Hart.{Hart}
 use Rattle.round_schedule.specs.declared.event.Phase.TheVariants.{Parallel}
 use Rattle.round_planner.specs.Quotas.{quotas_of}

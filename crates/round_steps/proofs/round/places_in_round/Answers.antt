@@ -1,11 +1,8 @@
-use Rattle.std.proofs.Common.{◌≡◌, ℕ, ◌≤◌, ◌<◌, ◌++◌, length, List, Option, None, slice_get, get_or, subst, ap, sym, ◌∙◌, arith, refl}
+use Rattle.std.proofs.Common.{◌≡◌, ℕ, ◌<◌, ◌++◌, length, List, Option, slice_get, get_or, subst, ap, sym, ◌∙◌, arith, refl}
 use Rattle.std.proofs.lemmas.Grind.{common_steps}
 use Rattle.round_planner.specs.Quotas.{Planned}
-use Rattle.hart_step.specs.declared.hart.Hart.{Hart}
-use Rattle.machine.specs.Machine.{Running}
 use Rattle.machine.specs.Untraced.{IsUntraced, Untraced}
-use Rattle.round_steps.specs.declared.place.Place.{Place}
-use Rattle.round_steps.specs.Places.{Begun, begun_of, parallel_places, serial_places, turn_at, turns_of}
+use Rattle.round_steps.specs.Places.{Begun, begun_of, parallel_places, serial_places, turn_at}
 use Rattle.round_steps.proofs.RoundParts.{begun_by, begun_same, serial_first, serial_more, turns_at, turns_count}
 use Rattle.round_steps.proofs.round.places_in_round.Goals as goal
 

@@ -1,7 +1,6 @@
-use Rattle.std.proofs.Common.{◌≡◌, ℕ, ◌+◌, List, Option, None, [], filter, subst, ap, sym, ◌∙◌, arith, refl}
-use Rattle.machine.specs.Machine.{Running, after_rounds}
+use Rattle.std.proofs.Common.{◌≡◌, ℕ, ◌+◌, None, filter, subst, ap, sym, ◌∙◌, arith}
+use Rattle.machine.specs.Machine.{after_rounds}
 use Rattle.machine.specs.Untraced.{IsUntraced, Untraced}
-use Rattle.round_steps.specs.declared.moment.Moment.{Moment}
 use Rattle.round_steps.specs.Moments.{is_earlier, last_one, moments_of}
 use Rattle.round_steps.proofs.Searching.{begins_there, goes_on_there, last_at_first, last_yet}
 use Rattle.round_steps.proofs.search.previous_told.Goals as goal

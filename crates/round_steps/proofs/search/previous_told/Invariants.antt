@@ -1,4 +1,4 @@
-use Rattle.std.proofs.Common.{◌≡◌, ◌+◌, [], None, filter}
+use Rattle.std.proofs.Common.{◌≡◌, ◌+◌, None, filter}
 use Rattle.machine.specs.Machine.{Running, after_rounds}
 use Rattle.machine.specs.Untraced.{IsUntraced}
 use Rattle.round_steps.specs.Moments.{is_earlier, last_one, moments_of}

@@ -1,6 +1,5 @@
-use Rattle.std.proofs.Common.{ap, subst, sym, ◌∙◌}
-use Rattle.machine.specs.Untraced.{IsUntraced, Untraced}
-use Rattle.round_steps.proofs.ShownThere.{none_beside, seen_beside}
+use Rattle.std.proofs.Common.{sym, ◌∙◌}
+use Rattle.round_steps.proofs.ShownThere.{none_beside}
 use Rattle.round_steps.proofs.showing.beside_turn.Goals as goal
 
 pub returns-in_default-clause-sight : goal.returns-in_default-clause-sight

@@ -1,4 +1,4 @@
-use Rattle.std.proofs.Common.{◌≡◌, ap, sym, ◌∙◌, refl, arith}
+use Rattle.std.proofs.Common.{refl, arith}
 use Rattle.std.proofs.lemmas.Result.{IfOk-weaker}
 use Rattle.round_steps.proofs.ShownThere.{shown_in_part, shown_in_turn}
 use Rattle.round_steps.proofs.showing.shown.Goals as goal

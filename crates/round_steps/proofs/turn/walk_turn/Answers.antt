@@ -1,6 +1,4 @@
-use Rattle.std.proofs.Common.{◌≡◌, ℕ, ◌+◌, ◌&&◌, List, Option, None, slice_get, is_some, subst, ap, sym, ◌∙◌}
-use Rattle.hart_step.specs.declared.hart.Hart.{Hart}
-use Rattle.machine.specs.Machine.{Running}
+use Rattle.std.proofs.Common.{◌≡◌, ℕ, ◌&&◌, slice_get, is_some, subst, ap, sym, ◌∙◌}
 use Rattle.machine.specs.Untraced.{IsUntraced, Untraced}
 use Rattle.walking.specs.Hits.{tells}
 use Rattle.round_steps.specs.Places.{past_at}

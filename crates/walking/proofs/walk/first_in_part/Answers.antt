@@ -1,5 +1,5 @@
-use Rattle.std.proofs.Common.{◌≡◌, ◌≤◌, ◌<◌, None, is_some, arith, sym, ◌∙◌}
-use Rattle.walking.proofs.Walked.{at_end, begins, found, found_stopping, goes_on, is_stopped, none_stopping, running, waits}
+use Rattle.std.proofs.Common.{arith, sym, ◌∙◌}
+use Rattle.walking.proofs.Walked.{at_end, found, found_stopping, goes_on, is_stopped, none_stopping, running, waits}
 use Rattle.walking.proofs.walk.first_in_part.Goals as goal
 
 pub returns-then-is_some : goal.returns-then-is_some

@@ -1,5 +1,5 @@
-use Rattle.std.proofs.Common.{◌-◌, ◌≡◌, ◌≤◌}
-use Rattle.walking.proofs.Walked.{On, place}
+use Rattle.std.proofs.Common.{◌-◌}
+use Rattle.walking.proofs.Walked.{On}
 use Rattle.walking.proofs.walk.first_in_part.Given as goal
 
 abbrev pub invariant-loop-done : goal.invariant-loop-done

@@ -1,6 +1,5 @@
-use Rattle.std.proofs.Common.{◌≡◌, ◌≤◌, ◌+◌, min, ap, subst, sym, ◌∙◌, arith, refl}
-use Rattle.machine.specs.Untraced.{IsUntraced, Untraced}
-use Rattle.round_steps.specs.Moments.{previous_of}
+use Rattle.std.proofs.Common.{◌≡◌, subst, sym, ◌∙◌, arith}
+use Rattle.machine.specs.Untraced.{IsUntraced}
 use Rattle.round_steps.specs.Timelines.{Line}
 use Rattle.round_steps.proofs.Stretches.{found_between, none_at_all, none_between}
 use Rattle.round_steps.proofs.timeline.Timeline.previous.Goals as goal
