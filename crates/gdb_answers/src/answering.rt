@@ -1,0 +1,145 @@
+ghost use Rattle.std.specs.Prelude.{◌≡◌, ◌≤◌, ◌+◌, ◌<◌, ◌^◌, ◌++◌, Err, OnOk};
+ghost use Rattle.host_io.specs.declared.error.RunError.TheVariants as refusals;
+ghost use Rattle.machine.specs.Machine.{Running};
+ghost use Rattle.machine.specs.Untraced.{IsUntraced};
+ghost use Rattle.host_io.specs.Taken.{WritesText};
+ghost use Rattle.gdb_packets.specs.Writing.{packet_text};
+ghost use Rattle.gdb_answers.specs.Answers.{bytes_answer, memory_answer, note_answer, registers_answer, seen, stop_answer};
+
+use crate::look::Look;
+use gdb_replies::{Reason, Reply, write_reply};
+use gdb_sights::{note_of, registers_of, stop_reply_of};
+use host_io::{RunError, Sink};
+use round_steps::Timeline;
+use std::alloc::Global;
+use std::sync::Wait;
+use std::thread::Threads;
+
+/// Answers with all registers of a hart at a moment. It may wait.
+///
+/// # Errors
+///
+/// `OutOfMemory`: nothing is written then. `SinkFailed`: a beginning of the packet is.
+pub fn answer_registers<R: Threads + Wait + Sync, K: Sink>(
+    rt: &R,
+    alloc: Global,
+    timeline: &mut Timeline,
+    look: Look,
+    out: &mut K,
+) -> Result<(), RunError>
+    requires within { look.moment.rounds ≤ timeline.old.rounds }
+    requires workers { (1 ≤ look.workers) × (look.workers ≤ 16) }
+    ensures stays { timeline.new ≡ timeline.old }
+    ensures writes { (m : Running) → IsUntraced m timeline.old.start → OnOk result
+        (K.took out.new ≡ K.took out.old ++ packet_text (registers_answer look.moment (seen m look.moment look.hart))) }
+    ensures memory { result ≡ Err refusals.OutOfMemory → K.took out.new ≡ K.took out.old }
+{
+    match timeline.shown(rt, &look.moment, look.hart, look.workers)? {
+        Some(sight) => {
+            let registers = registers_of(&sight.hart(), look.moment);
+            write_reply(alloc, &Reply::Registers(&registers), out)
+        }
+        None => write_reply(alloc, &Reply::Missing, out),
+    }
+}
+
+/// Answers with at most `count` bytes of memory from an address on, as a hart sees them at a moment. It may wait.
+///
+/// # Errors
+///
+/// `OutOfMemory`: nothing is written then. `SinkFailed`: a beginning of the packet is.
+pub fn answer_memory<R: Threads + Wait + Sync, K: Sink>(
+    rt: &R,
+    alloc: Global,
+    timeline: &mut Timeline,
+    look: Look,
+    address: u64,
+    count: u64,
+    out: &mut K,
+) -> Result<(), RunError>
+    requires within { look.moment.rounds ≤ timeline.old.rounds }
+    requires workers { (1 ≤ look.workers) × (look.workers ≤ 16) }
+    ensures stays { timeline.new ≡ timeline.old }
+    ensures writes { (m : Running) → IsUntraced m timeline.old.start → OnOk result
+        (K.took out.new ≡ K.took out.old ++ packet_text (memory_answer address count (seen m look.moment look.hart))) }
+    ensures memory { result ≡ Err refusals.OutOfMemory → K.took out.new ≡ K.took out.old }
+{
+    match timeline.shown(rt, &look.moment, look.hart, look.workers)? {
+        Some(sight) => {
+            let bytes = sight.bytes(alloc, address, count)?;
+            answer_bytes(alloc, bytes.as_slice(), out)
+        }
+        None => write_reply(alloc, &Reply::Missing, out),
+    }
+}
+
+/// Answers with what is said of a hart at a moment. It may wait.
+///
+/// # Errors
+///
+/// `OutOfMemory`: nothing is written then. `SinkFailed`: a beginning of the packet is.
+pub fn answer_note<R: Threads + Wait + Sync, K: Sink>(
+    rt: &R,
+    alloc: Global,
+    timeline: &mut Timeline,
+    look: Look,
+    out: &mut K,
+) -> Result<(), RunError>
+    requires within { look.moment.rounds ≤ timeline.old.rounds }
+    requires workers { (1 ≤ look.workers) × (look.workers ≤ 16) }
+    requires rounds { look.moment.rounds + 1 < 2 ^ 32 }
+    ensures stays { timeline.new ≡ timeline.old }
+    ensures writes { (m : Running) → IsUntraced m timeline.old.start → OnOk result
+        (K.took out.new ≡ K.took out.old ++ packet_text (note_answer look.hart look.moment (seen m look.moment look.hart))) }
+    ensures memory { result ≡ Err refusals.OutOfMemory → K.took out.new ≡ K.took out.old }
+{
+    match timeline.shown(rt, &look.moment, look.hart, look.workers)? {
+        Some(sight) => {
+            let note = note_of(look.hart, &sight.hart(), look.moment);
+            write_reply(alloc, &Reply::Note(note), out)
+        }
+        None => write_reply(alloc, &Reply::Missing, out),
+    }
+}
+
+/// Answers that the run stands at a hart at a moment, for a reason. It may wait.
+///
+/// # Errors
+///
+/// `OutOfMemory`: nothing is written then. `SinkFailed`: a beginning of the packet is.
+pub fn answer_stop<R: Threads + Wait + Sync, K: Sink>(
+    rt: &R,
+    alloc: Global,
+    timeline: &mut Timeline,
+    look: Look,
+    reason: Reason,
+    out: &mut K,
+) -> Result<(), RunError>
+    requires within { look.moment.rounds ≤ timeline.old.rounds }
+    requires workers { (1 ≤ look.workers) × (look.workers ≤ 16) }
+    requires hart { look.hart + 1 < 2 ^ 32 }
+    ensures stays { timeline.new ≡ timeline.old }
+    ensures writes { (m : Running) → IsUntraced m timeline.old.start → OnOk result
+        (K.took out.new ≡ K.took out.old ++ packet_text (stop_answer reason look.hart (seen m look.moment look.hart))) }
+    ensures memory { result ≡ Err refusals.OutOfMemory → K.took out.new ≡ K.took out.old }
+{
+    match timeline.shown(rt, &look.moment, look.hart, look.workers)? {
+        Some(sight) => {
+            let stop = stop_reply_of(reason, look.hart, &sight.hart());
+            write_reply(alloc, &Reply::Stopped(stop), out)
+        }
+        None => write_reply(alloc, &Reply::Missing, out),
+    }
+}
+
+/// Answers with some bytes, or that there are none.
+fn answer_bytes<K: Sink>(alloc: Global, bytes: &[u8], out: &mut K) -> Result<(), RunError>
+    ensures writes { WritesText (packet_text (bytes_answer bytes.now)) (K.took out.old)
+        (K.failures out.old) result (K.took out.new) (K.failures out.new) }
+    ensures memory { result ≡ Err refusals.OutOfMemory → K.took out.new ≡ K.took out.old }
+{
+    match bytes {
+        [] => write_reply(alloc, &Reply::Missing, out),
+        [_, ..] => write_reply(alloc, &Reply::Memory(bytes), out),
+    }
+}
