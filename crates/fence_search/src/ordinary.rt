@@ -180,8 +180,7 @@ impl Ordinary {
         match state_of(machine, guest.harts()) {
             State::Failed(hart, stop) => Ok(Some(Failing::Stopped(hart, stop))),
             State::Ended => self.other_outcome(guest, machine),
-            State::Runs if self.ends_well => Ok(Some(Failing::Stuck)),
-            State::Runs => Ok(None),
+            State::Runs => Ok(Some(Failing::Stuck)),
         }
     }
 

@@ -39,7 +39,8 @@ pub(crate) enum Trial {
     Well,
     /// Its plan fails without departures too.
     Ordinary,
-    /// It fails only with its departures, but is sequentially consistent, so that another plan fails without any.
+    /// It fails only with its departures, but is sequentially consistent, so that another plan fails without any; or it runs on, and not
+    /// all ordinary runs end well.
     Unnamed,
     /// It fails by what its departures move.
     Fails(Found),
@@ -62,6 +63,9 @@ pub(crate) fn try_number(
     };
     if ordinary.failing(guest, number, Departing::NONE)?.is_some() {
         return Ok(Trial::Ordinary);
+    }
+    if failing == Failing::Stuck && !ordinary.ends_well {
+        return Ok(Trial::Unnamed);
     }
     let drawn = drawn_departures(guest, ordinary, number)?;
     let fewer = shortened(guest, ordinary, number, failing, &drawn)?;
