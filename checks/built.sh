@@ -19,11 +19,29 @@ list_crates() {
     END { visit("dethart") }' "$root/crates.txt"
 }
 
+# All crates of crates.txt.
+list_all_crates() {
+  awk -F: '{ sub(/#.*/, ""); if (split($1, words, " ")) print words[1] }' "$root/crates.txt"
+}
+
 # The lines of crates.txt for these crates.
 crate_lines() {
   awk -F: -v "names=$*" '
     BEGIN { count = split(names, name, " "); for (i = 1; i <= count; i++) wanted[name[i]] = 1 }
     { sub(/#.*/, ""); if (split($1, words, " ") && words[1] in wanted) print }' "$root/crates.txt"
+}
+
+# Copies these crates to the empty folder $1, without their edits: `rt ci` proves them there side by side.
+copy_crates() {
+  local copy=$1 crate part
+  shift
+  mkdir -- "$copy/.git" "$copy/crates" && cp -- "$root/HANDLES" "$copy/" && crate_lines "$@" >"$copy/crates.txt" || return
+  for crate in "$@"; do
+    mkdir -- "$copy/crates/$crate" || return
+    for part in src specs proofs args data stdin stdout status; do
+      [ ! -e "$root/crates/$crate/$part" ] || cp -R -- "$root/crates/$crate/$part" "$copy/crates/$crate/" || return
+    done
+  done
 }
 
 # The folders, from the repository's on, with what the program and its contracts are made of. A proof changes neither.
