@@ -123,6 +123,7 @@ int pthread_mutexattr_settype(pthread_mutexattr_t *attr, int kind)
 int pthread_mutexattr_setpshared(pthread_mutexattr_t *attr, int shared) { return set_sharing(&attr->shared, shared); }
 int pthread_mutexattr_getpshared(const pthread_mutexattr_t *attr, int *shared) { return get_sharing(attr->shared, shared); }
 
+__KIT_WARNING(pthread_mutexattr_setrobust, "no mutex is robust here, so PTHREAD_MUTEX_ROBUST fails")
 int pthread_mutexattr_setrobust(pthread_mutexattr_t *attr, int robust)
 {
     (void)attr;

@@ -1,7 +1,8 @@
 // Barriers: the last that comes lets all pass.
 //
 // By the manual's table A.6: to come is amoadd.w.aqrl (acquire and release RMW), since the last one has to see what all others
-// did; to let pass is a release store (fence rw,w; sw), to pass an acquire load (lw; fence r,rw).
+// did; to let pass is a release store (fence rw,w; sw), to pass an acquire load (lw; fence r,rw), and so is to look which pass it is
+// before coming. To be through is amoadd.w.rl (release RMW), and destroying looks at that by an acquire load.
 #include <errno.h>
 #include "kit.h"
 

@@ -1,4 +1,5 @@
-// Keys: values of a thread's own. Keys are made and deleted under a lock by tickets; their values belong to one thread.
+// Keys: values of a thread's own. Keys are made and deleted under a lock by tickets; their values belong to one thread. Who uses a key
+// has it from the thread that made it, and that orders the rest.
 #include <errno.h>
 #include <stdlib.h>
 #include "ticket.h"

@@ -135,4 +135,8 @@ bool __kit_may_unlock(const pthread_mutex_t *mutex);
 // Puts out what is kept of stdout, at the program's end (streams.c).
 void __kit_flush_output(void);
 
+// What the linker says where a program calls the function.
+#define __KIT_WARNING(name, why) \
+    __asm__(".pushsection .gnu.warning." #name ", \"\", @progbits\n.ascii \"" #name ": " why "\"\n.popsection");
+
 #endif

@@ -17,7 +17,8 @@ extern char __tdata_start[], __tdata_size[], __tls_size[];
 extern void (*__preinit_array_start[])(void), (*__preinit_array_end[])(void);
 extern void (*__init_array_start[])(void), (*__init_array_end[])(void);
 
-// Ends. dethart has no call that stops another hart, so each stops itself where it sees that the program has ended.
+// Ends. dethart has no call that stops another hart, so each stops itself where it sees that the program has ended: which one ends it
+// is decided by amoswap.w.aq, it says so by a release store (fence rw,w; sw), and what sees it is an acquire load (lw; fence r,rw).
 
 static volatile unsigned __kit_ending; // 1: some hart is about to set __kit_ended
 static volatile int __kit_end_value;

@@ -33,6 +33,17 @@ int sigprocmask(int how, const sigset_t *set, sigset_t *old)
 
 int sigpending(sigset_t *set) { *set = 0; return 0; }
 
+// No signal ends it: it waits until the thread is cancelled, or the program ends.
+__KIT_WARNING(pause, "no signal comes to a guest, so this waits until the thread is cancelled")
+int pause(void)
+{
+    __kit_lets_others_begin();
+    for (;;) {
+        pthread_testcancel();
+        __kit_wait_a_round();
+    }
+}
+
 // To itself alone, and the program ends, as if it had no handler.
 int kill(pid_t process, int number)
 {

@@ -4,6 +4,11 @@
 //   create   fence rw,w; sd of the hart's job     (release store; the hart: ld; fence r,rw)
 //   end      fence rw,w; sw of done               (release store)
 //   join     lw of done; fence r,rw               (acquire load)
+// A hart goes from one thread to the next by `taken`:
+//   take     amoswap.w.aq                         (acquire RMW)
+//   leave    fence rw,w; sw                       (release store)
+// Who joins, detaches and ends a thread, and which one is the last, is decided by amoor.w.aqrl, amoand.w.aqrl and amoadd.w.aqrl
+// (acquire and release RMW). Numbers of threads are drawn by amoadd.w (relaxed).
 #include <errno.h>
 #include <stdio.h>
 #include <stdlib.h>

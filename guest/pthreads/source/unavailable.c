@@ -7,13 +7,14 @@
 #include <sys/time.h>
 #include <sys/wait.h>
 #include <unistd.h>
+#include "kit.h"
 
-#define UNAVAILABLE(type, name, parameters, answer, why)                                                          \
-    __asm__(".pushsection .gnu.warning." #name ", \"\", @progbits\n.ascii \"" #name ": " why "\"\n.popsection"); \
-    __attribute__((weak)) type name parameters                                                                   \
-    {                                                                                                             \
-        errno = ENOSYS;                                                                                           \
-        return answer;                                                                                            \
+#define UNAVAILABLE(type, name, parameters, answer, why) \
+    __KIT_WARNING(name, why)                              \
+    __attribute__((weak)) type name parameters            \
+    {                                                     \
+        errno = ENOSYS;                                   \
+        return answer;                                    \
     }
 
 #define ONE_PROCESS "a guest is one process, so this always fails"
@@ -40,7 +41,6 @@ UNAVAILABLE(int, sigsuspend, (const sigset_t *set), -1, NO_SIGNALS)
 UNAVAILABLE(int, sigwait, (const sigset_t *set, int *number), ENOSYS, NO_SIGNALS)
 UNAVAILABLE(int, sigwaitinfo, (const sigset_t *set, siginfo_t *info), -1, NO_SIGNALS)
 UNAVAILABLE(int, sigtimedwait, (const sigset_t *set, siginfo_t *info, const struct timespec *time), -1, NO_SIGNALS)
-UNAVAILABLE(int, pause, (void), -1, NO_SIGNALS)
 UNAVAILABLE(unsigned, alarm, (unsigned seconds), 0, NO_SIGNALS)
 
 UNAVAILABLE(int, pipe, (int files[2]), -1, NO_FILES)

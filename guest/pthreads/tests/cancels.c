@@ -1,5 +1,5 @@
-// Threads are cancelled where they wait: for a signal, a semaphore, a thread, a time. Their cleanup handlers run, the mutex is
-// theirs again in them, and the one that was to be joined can still be. For 3 harts.
+// Threads are cancelled where they wait: for a condition, a semaphore, a thread, a time, a signal of the system. Their cleanup
+// handlers run, the mutex is theirs again in them, and the one that was to be joined can still be. For 3 harts.
 #include <assert.h>
 #include <pthread.h>
 #include <semaphore.h>
@@ -57,6 +57,15 @@ static void *in_sleep(void *argument)
     return argument;
 }
 
+static void *in_pause(void *argument)
+{
+    pthread_cleanup_push(counts, &cleaned);
+    for (;;)
+        pause();
+    pthread_cleanup_pop(1);
+    return argument;
+}
+
 static void *sleeps(void *argument)
 {
     sleep(2);
@@ -78,11 +87,12 @@ int main(void)
     cancel(in_condition);
     cancel(in_semaphore);
     cancel(in_sleep);
+    cancel(in_pause);
     assert(pthread_create(&sleeper, NULL, sleeps, &none) == 0);
     cancel(in_join);
     void *result;
     assert(pthread_join(sleeper, &result) == 0 && result == &none);
-    assert(cleaned == 4 && pthread_cond_destroy(&never) == 0 && sem_destroy(&none) == 0);
+    assert(cleaned == 5 && pthread_cond_destroy(&never) == 0 && sem_destroy(&none) == 0);
     puts("cancelled");
     return 0;
 }
