@@ -33,9 +33,9 @@ int sigprocmask(int how, const sigset_t *set, sigset_t *old)
 
 int sigpending(sigset_t *set) { *set = 0; return 0; }
 
-// No signal ends it: it waits until the thread is cancelled, or the program ends.
-__KIT_WARNING(pause, "no signal comes to a guest, so this waits until the thread is cancelled")
-int pause(void)
+// No signal ends these: they wait until the thread is cancelled, or the program ends.
+
+static _Noreturn void wait_for_signal(void)
 {
     __kit_lets_others_begin();
     for (;;) {
@@ -43,6 +43,17 @@ int pause(void)
         __kit_wait_a_round();
     }
 }
+
+#define WAITS(name, parameters)                                                                     \
+    __KIT_WARNING(name, "no signal comes to a guest, so this waits until the thread is cancelled") \
+    int name parameters { wait_for_signal(); }
+
+#pragma GCC diagnostic ignored "-Wunused-parameter"
+
+WAITS(pause, (void))
+WAITS(sigsuspend, (const sigset_t *set))
+WAITS(sigwait, (const sigset_t *set, int *number))
+WAITS(sigwaitinfo, (const sigset_t *set, siginfo_t *info))
 
 // To itself alone, and the program ends, as if it had no handler.
 int kill(pid_t process, int number)

@@ -37,9 +37,6 @@ UNAVAILABLE(pid_t, wait, (int *status), -1, ONE_PROCESS)
 UNAVAILABLE(pid_t, waitpid, (pid_t process, int *status, int options), -1, ONE_PROCESS)
 
 UNAVAILABLE(int, sigaction, (int number, const struct sigaction *action, struct sigaction *old), -1, NO_SIGNALS)
-UNAVAILABLE(int, sigsuspend, (const sigset_t *set), -1, NO_SIGNALS)
-UNAVAILABLE(int, sigwait, (const sigset_t *set, int *number), ENOSYS, NO_SIGNALS)
-UNAVAILABLE(int, sigwaitinfo, (const sigset_t *set, siginfo_t *info), -1, NO_SIGNALS)
 UNAVAILABLE(int, sigtimedwait, (const sigset_t *set, siginfo_t *info, const struct timespec *time), -1, NO_SIGNALS)
 UNAVAILABLE(unsigned, alarm, (unsigned seconds), 0, NO_SIGNALS)
 

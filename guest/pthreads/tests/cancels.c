@@ -3,6 +3,7 @@
 #include <assert.h>
 #include <pthread.h>
 #include <semaphore.h>
+#include <signal.h>
 #include <stdio.h>
 #include <unistd.h>
 
@@ -66,6 +67,17 @@ static void *in_pause(void *argument)
     return argument;
 }
 
+static void *in_sigwait(void *argument)
+{
+    sigset_t all;
+    int number;
+    sigfillset(&all);
+    pthread_cleanup_push(counts, &cleaned);
+    sigwait(&all, &number);
+    pthread_cleanup_pop(1);
+    return argument;
+}
+
 static void *sleeps(void *argument)
 {
     sleep(2);
@@ -88,11 +100,12 @@ int main(void)
     cancel(in_semaphore);
     cancel(in_sleep);
     cancel(in_pause);
+    cancel(in_sigwait);
     assert(pthread_create(&sleeper, NULL, sleeps, &none) == 0);
     cancel(in_join);
     void *result;
     assert(pthread_join(sleeper, &result) == 0 && result == &none);
-    assert(cleaned == 5 && pthread_cond_destroy(&never) == 0 && sem_destroy(&none) == 0);
+    assert(cleaned == 6 && pthread_cond_destroy(&never) == 0 && sem_destroy(&none) == 0);
     puts("cancelled");
     return 0;
 }
