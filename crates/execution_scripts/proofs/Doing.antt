@@ -1,12 +1,13 @@
 -- What harts did, hart by hart and event by event.
-use Rattle.std.proofs.Common.{◌≡◌, ℕ, suc, ◌+◌, ◌<◌, ◌==◌, Bool, true, false, List, [], ◌∷◌, ◌++◌, length, get_or, map, take, Option, Some, None, refl, sym, ap, ◌∙◌, arith}
-use Rattle.std.proofs.lemmas.List.{get_or-map, length-map, length-take-le, map-append, take_more, take_more_same}
+use Rattle.std.proofs.Common.{◌≡◌, ℕ, zero, suc, ◌+◌, ◌<◌, ◌≤◌, ◌==◌, Bool, true, false, List, [], ◌∷◌, ◌++◌, length, get_or, slice_set, map, take, Option, Some, None, refl, sym, ap, ◌∙◌, arith}
+use Rattle.std.proofs.lemmas.Bool.{eq-eqb, ne_eqb}
+use Rattle.std.proofs.lemmas.List.{append-nil, get_or-map, length-map, length-take-le, map-append, map-set, take_more, take_more_same}
 use Rattle.round_schedule.specs.declared.event.Event.{Event}
 use Rattle.hart_step.specs.declared.hart.Hart.{Hart}
 use Rattle.execution_file.specs.Recorded.{HartPart}
 use Rattle.execution_file.specs.declared.file.HartPart.{HartPart as HartHeld}
 use Rattle.execution_file.specs.Views.{hart_view}
-use Rattle.execution_scripts.specs.Deeds.{number_shown, numbers_of, one_more, part_of, parts_from, said}
+use Rattle.execution_scripts.specs.Deeds.{number_shown, numbers_of, one_more, part_of, parts_from, said, with_event}
 
 one_more_joined : (b : Bool) (o : Option ℕ) (xs ys : List ℕ) → one_more b o (xs ++ ys) ≡ one_more b o xs ++ ys
 one_more_joined true (Some n) xs ys = refl
@@ -25,10 +26,75 @@ parts_more h (f ∷ gs) g t =
     ap (λ ps. part_of h f t ∷ ps) (parts_more (h + 1) gs g t)
     ∙ ap (λ n. part_of h f t ∷ (parts_from (h + 1) gs t ++ part_of n g t ∷ [])) (let e : h + 1 + length gs ≡ h + suc (length gs) = omega arith in e)
 
-pub numbers_next : (h i : ℕ) (t : List Event) (d : Event) (old new : List ℕ) → i < length t → new ≡ old ++ numbers_of h (get_or t i d ∷ []) → old ≡ numbers_of h (take i t) →
-    new ≡ numbers_of h (take (i + 1) t)
-numbers_next h i t d old new l more was =
-    more ∙ ap (λ (ns : List ℕ). ns ++ numbers_of h (get_or t i d ∷ [])) was ∙ sym (numbers_more h (take i t) (get_or t i d)) ∙ ap (numbers_of h) (sym (take_more t i d l))
+-- one more event, of which each hart has its number
+parts_with : (h : ℕ) (gs : List Hart) (t : List Event) (e : Event) → parts_from h gs (t ++ e ∷ []) ≡ with_event h (parts_from h gs t) e
+parts_with h [] t e = refl
+parts_with h (g ∷ gs) t e =
+    ap (λ (ns : List ℕ). record (part_of h g t) { reads = ns } ∷ parts_from (h + 1) gs (t ++ e ∷ [])) (numbers_more h t e)
+    ∙ ap (λ (ps : List HartPart). record (part_of h g t) { reads = numbers_of h t ++ numbers_of h (e ∷ []) } ∷ ps) (parts_with (h + 1) gs t e)
+
+-- an event that shows hart h no number leaves its part as it is
+part_stays : (h : ℕ) (e : Event) (p : HartPart) → numbers_of h (e ∷ []) ≡ [] → record p { reads = p.reads ++ numbers_of h (e ∷ []) } ≡ p
+part_stays h e p none = ap (λ (ns : List ℕ). record p { reads = ns }) (ap (λ (ns : List ℕ). p.reads ++ ns) none ∙ append-nil p.reads)
+
+shows_none : (h : ℕ) (e : Event) → number_shown e.access ≡ None → numbers_of h (e ∷ []) ≡ []
+shows_none h e none = ap (λ (o : Option ℕ). one_more (e.hart == h) o []) none ∙ of_none (e.hart == h)
+  where
+    of_none : (b : Bool) → one_more b None [] ≡ []
+    of_none true = refl
+    of_none false = refl
+
+shows_another : (h : ℕ) (e : Event) → (e.hart ≡ h → ⊥) → numbers_of h (e ∷ []) ≡ []
+shows_another h e other = ap (λ (b : Bool). one_more b (number_shown e.access) []) (ne_eqb e.hart h other)
+
+shows_one : (h : ℕ) (e : Event) (n : ℕ) → number_shown e.access ≡ Some n → e.hart ≡ h → numbers_of h (e ∷ []) ≡ n ∷ []
+shows_one h e n shown same =
+    ap (λ (b : Bool). one_more b (number_shown e.access) []) (eq-eqb e.hart h same)
+    ∙ ap (λ (o : Option ℕ). one_more true o []) shown
+
+-- none of them has a number
+pub with_none : (h : ℕ) (ps : List HartPart) (e : Event) → number_shown e.access ≡ None → with_event h ps e ≡ ps
+with_none h [] e none = refl
+with_none h (p ∷ ps) e none =
+    ap (λ (q : HartPart). q ∷ with_event (h + 1) ps e) (part_stays h e p (shows_none h e none))
+    ∙ ap (λ (qs : List HartPart). p ∷ qs) (with_none (h + 1) ps e none)
+
+with_earlier : (h : ℕ) (ps : List HartPart) (e : Event) → e.hart < h → with_event h ps e ≡ ps
+with_earlier h [] e l = refl
+with_earlier h (p ∷ ps) e l =
+    ap (λ (q : HartPart). q ∷ with_event (h + 1) ps e) (part_stays h e p (shows_another h e (λ same. omega (arith, same, l))))
+    ∙ ap (λ (qs : List HartPart). p ∷ qs) (with_earlier (h + 1) ps e (omega (arith, l)))
+
+pub with_later : (h : ℕ) (ps : List HartPart) (e : Event) → h + length ps ≤ e.hart → with_event h ps e ≡ ps
+with_later h [] e l = refl
+with_later h (p ∷ ps) e l =
+    ap (λ (q : HartPart). q ∷ with_event (h + 1) ps e) (part_stays h e p (shows_another h e (λ same. omega (arith, same, l))))
+    ∙ ap (λ (qs : List HartPart). p ∷ qs) (with_later (h + 1) ps e (omega (arith, l)))
+
+-- one of them has it
+with_one : (h : ℕ) (ps : List HartPart) (e : Event) (j n : ℕ) (p : HartPart) → number_shown e.access ≡ Some n → e.hart ≡ h + j → j < length ps → p ≡ get_or ps j p →
+    with_event h ps e ≡ slice_set ps j (record p { reads = p.reads ++ n ∷ [] })
+with_one h [] e j n p shown hart l at = absurd (omega (arith, l))
+with_one h (q ∷ ps) e zero n p shown hart l at =
+    ap (λ (qs : List HartPart). record q { reads = q.reads ++ numbers_of h (e ∷ []) } ∷ qs) (with_earlier (h + 1) ps e (omega (arith, hart)))
+    ∙ ap (λ (ns : List ℕ). record q { reads = q.reads ++ ns } ∷ ps) (shows_one h e n shown (omega (arith, hart)))
+    ∙ ap (λ (r : HartPart). record r { reads = r.reads ++ n ∷ [] } ∷ ps) (sym at)
+with_one h (q ∷ ps) e (suc j) n p shown hart l at =
+    ap (λ (r : HartPart). r ∷ with_event (h + 1) ps e) (part_stays h e q (shows_another h e (λ same. omega (arith, same, hart))))
+    ∙ ap (λ (qs : List HartPart). q ∷ qs) (with_one (h + 1) ps e j n p shown (omega (arith, hart)) (omega (arith, l)) at)
+
+pub number_added : (ps : List HartHeld) (e : Event) (j n : ℕ) (p q : HartHeld) → number_shown e.access ≡ Some n → e.hart ≡ j → j < length ps → p ≡ get_or ps j p →
+    hart_view q ≡ record (hart_view p) { reads = p.reads.items ++ n ∷ [] } → map hart_view (slice_set ps j q) ≡ with_event 0 (map hart_view ps) e
+number_added ps e j n p q shown hart l at view =
+    map-set hart_view ps j q
+    ∙ ap (λ (x : HartPart). slice_set (map hart_view ps) j x) view
+    ∙ sym (with_one 0 (map hart_view ps) e j n (hart_view p) shown (omega (arith, hart)) (omega (arith, l, length-map ps hart_view))
+        (sym (get_or-map hart_view ps j p (hart_view p) l ∙ ap hart_view (sym at))))
+
+pub parts_more_done : (gs : List Hart) (i : ℕ) (t : List Event) (d : Event) (old new : List HartHeld) → i < length t →
+    map hart_view new ≡ with_event 0 (map hart_view old) (get_or t i d) → map hart_view old ≡ parts_from 0 gs (take i t) → map hart_view new ≡ parts_from 0 gs (take (i + 1) t)
+parts_more_done gs i t d old new l more was =
+    more ∙ ap (λ (ps : List HartPart). with_event 0 ps (get_or t i d)) was ∙ sym (parts_with 0 gs (take i t) (get_or t i d)) ∙ ap (parts_from 0 gs) (sym (take_more t i d l))
 
 pub parts_next : (k : ℕ) (gs : List Hart) (t : List Event) (d : Hart) (old new : List HartHeld) (p : HartHeld) → k < length gs → new ≡ old ++ p ∷ [] →
     hart_view p ≡ part_of k (get_or gs k d) t → map hart_view old ≡ parts_from 0 (take k gs) t → map hart_view new ≡ parts_from 0 (take (k + 1) gs) t

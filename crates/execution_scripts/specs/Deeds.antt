@@ -1,5 +1,5 @@
 -- What the harts of an execution did, as a file says it.
-use Rattle.std.specs.Prelude.{ℕ, ◌+◌, ◌==◌, Bool, true, false, if◌then◌else◌, List, [], ◌∷◌, Option, Some, None}
+use Rattle.std.specs.Prelude.{ℕ, ◌+◌, ◌==◌, Bool, true, false, if◌then◌else◌, List, [], ◌∷◌, ◌++◌, Option, Some, None}
 use Rattle.round_schedule.specs.declared.access.Access.{Access}
 use Rattle.round_schedule.specs.declared.access.Access.TheVariants.{Load, Store, LoadReserved, StoreConditional, Atomic, Fence}
 use Rattle.round_schedule.specs.declared.event.Event.{Event}
@@ -47,6 +47,11 @@ parts_from h (g ∷ gs) t = part_of h g t ∷ parts_from (h + 1) gs t
 
 abbrev pub deeds : List Hart → List Event → List HartPart
 deeds gs t = parts_from 0 gs t
+
+-- what harts h, h + 1, .. did, and this event
+abbrev pub with_event : ℕ → List HartPart → Event → List HartPart
+with_event h [] e = []
+with_event h (p ∷ ps) e = record p { reads = p.reads ++ numbers_of h (e ∷ []) } ∷ with_event (h + 1) ps e
 
 -- what a file says of a hart: of one that runs on it says no value
 abbrev pub said : HartPart → HartPart

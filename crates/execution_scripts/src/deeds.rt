@@ -1,8 +1,8 @@
 //! What the harts of an execution did, as a file says it.
 
-ghost use Rattle.std.specs.Prelude.{◌≡◌, ◌++◌, ◌∷◌, [], IfOk, OnOk, map, true};
+ghost use Rattle.std.specs.Prelude.{◌≡◌, ℕ, [], IfOk, OnOk, map, true};
 ghost use Rattle.execution_file.specs.Views.{hart_view};
-ghost use Rattle.execution_scripts.specs.Deeds.{code_of, deeds, number_shown, numbers_of, part_of, said, value_of};
+ghost use Rattle.execution_scripts.specs.Deeds.{code_of, deeds, number_shown, part_of, said, value_of, with_event};
 
 use execution_file::HartPart;
 use hart_step::{Hart, Stop};
@@ -34,30 +34,46 @@ pub(crate) fn deeds(
 ) -> Result<Vec<HartPart>, OutOfMemory>
     ensures { IfOk result (λ v. map hart_view v.items ≡ deeds harts.now events.now) }
 {
-    let mut parts = Vec::new(alloc);
-    for number in 0..harts.len() {
-        let part = part_of(alloc, number, &harts[number], events)?;
-        parts.push(part)?;
+    let mut parts = unread_parts(alloc, harts)?;
+    for i in 0..events.len() {
+        add_number(&mut parts, &events[i])?;
     }
     Ok(parts)
 }
 
-/// What the hart of a number did.
-fn part_of(
-    alloc: Global,
-    number: usize,
-    hart: &Hart,
-    events: &[Event],
-) -> Result<HartPart, OutOfMemory>
-    ensures { IfOk result (λ p. hart_view p ≡ part_of number hart.now events.now) }
+/// What the harts did, without the numbers that they read.
+fn unread_parts(alloc: Global, harts: &[Hart]) -> Result<Vec<HartPart>, OutOfMemory>
+    ensures { IfOk result (λ v. map hart_view v.items ≡ deeds harts.now []) }
 {
-    let reads = numbers_of(alloc, number, events)?;
-    Ok(HartPart {
+    let mut parts = Vec::new(alloc);
+    for number in 0..harts.len() {
+        parts.push(unread_part(alloc, &harts[number]))?;
+    }
+    Ok(parts)
+}
+
+/// What a hart did, without the numbers that it read.
+fn unread_part(alloc: Global, hart: &Hart) -> HartPart
+    ensures { (number : ℕ) → hart_view result ≡ part_of number hart.now [] }
+{
+    HartPart {
         steps: hart.done,
         code: code_of(&hart.stop),
         value: value_of(&hart.stop),
-        reads,
-    })
+        reads: Vec::new(alloc),
+    }
+}
+
+/// Adds the number that an event shows to those of its hart.
+fn add_number(parts: &mut Vec<HartPart>, event: &Event) -> Result<(), OutOfMemory>
+    ensures { OnOk result (map hart_view parts.new.items ≡ with_event 0 (map hart_view parts.old.items) event.now) }
+{
+    if let Some(number) = number_read(&event.access) {
+        if let Some(part) = parts.get_mut(usize::from(event.hart)) {
+            part.reads.push(number)?;
+        }
+    }
+    Ok(())
 }
 
 fn code_of(stop: &Option<Stop>) -> u8
@@ -83,30 +99,6 @@ fn value_of(stop: &Option<Stop>) -> Option<u64>
         }
         None => None,
     }
-}
-
-/// The numbers that the events of a hart show.
-fn numbers_of(alloc: Global, hart: usize, events: &[Event]) -> Result<Vec<u64>, OutOfMemory>
-    ensures { IfOk result (λ v. v.items ≡ numbers_of hart events.now) }
-{
-    let mut numbers = Vec::new(alloc);
-    for i in 0..events.len() {
-        add_number(&mut numbers, hart, &events[i])?;
-    }
-    Ok(numbers)
-}
-
-/// Adds the number that an event shows, where it is one of a hart.
-fn add_number(numbers: &mut Vec<u64>, hart: usize, event: &Event) -> Result<(), OutOfMemory>
-    ensures { OnOk result (numbers.new.items ≡ numbers.old.items ++ numbers_of hart (event.now ∷ [])) }
-{
-    if usize::from(event.hart) != hart {
-        return Ok(());
-    }
-    if let Some(number) = number_read(&event.access) {
-        numbers.push(number)?;
-    }
-    Ok(())
 }
 
 /// Whether harts did what is said of them.

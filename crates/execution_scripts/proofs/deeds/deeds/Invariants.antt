@@ -3,5 +3,5 @@ use Rattle.execution_file.specs.Views.{hart_view}
 use Rattle.execution_scripts.specs.Deeds.{deeds}
 use Rattle.execution_scripts.proofs.deeds.deeds.Given as goal
 
-abbrev pub invariant-loop-number : goal.invariant-loop-number
-invariant-loop-number l = map hart_view l.parts.items ≡ deeds (take l.number l.harts) l.events
+abbrev pub invariant-loop-i : goal.invariant-loop-i
+invariant-loop-i l = map hart_view l.parts.items ≡ deeds l.harts (take l.i l.events)
