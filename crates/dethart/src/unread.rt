@@ -6,7 +6,7 @@ use command_line::{Command, PlanChoice, Replay};
 pub(crate) fn tell_unread(rt: &HostRuntime, command: &Command<'_>) {
     match command {
         Command::Run(asked) => tell_of_plan(rt, &asked.run.plan),
-        Command::Order(run) => tell_of_plan(rt, &run.plan),
+        Command::Order(run) | Command::Trace(run) => tell_of_plan(rt, &run.plan),
         Command::Record(asked) => tell_of_plan(rt, &asked.run.plan),
         Command::Draw(asked) => tell_of_plan(rt, &asked.run.plan),
         Command::Execution(asked) => tell_of_plan(rt, &asked.run.plan),
