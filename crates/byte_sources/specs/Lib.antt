@@ -3,3 +3,4 @@ pub mod Parts
 pub mod Repeats
 pub mod Marks
 pub mod Laws
+pub mod Touching

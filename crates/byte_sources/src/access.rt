@@ -2,7 +2,9 @@ ghost use Rattle.std.specs.Prelude.{◌≡◌, ◌<◌, ◌^◌};
 ghost use Rattle.round_schedule.specs.Accesses.{address_of, byte_written, bytes_of, number_or_zero, reads, writes, written_of};
 ghost use Rattle.round_schedule.specs.Positions.{event, no_event};
 ghost use Rattle.pages.specs.Memory.{byte_of, in_range};
+ghost use Rattle.byte_sources.specs.Touching.{touches};
 
+use pages::Range;
 use round_schedule::{Access, Event, Phase};
 use rv64_decode::{FenceMode, FenceSet};
 use trace::Trace;
@@ -34,6 +36,16 @@ pub fn writes(access: &Access, byte: u64) -> bool
     access.stores() && covers(access, byte)
 }
 
+/// Whether some byte is one of a range's and one of an access's.
+pub fn touches(access: &Access, range: &Range) -> bool
+    ensures { result ≡ touches access.now range.now }
+{
+    let first = access.address();
+    let count = access.byte_count();
+    (is_in_range(range.start, range.len, first) && count > 0)
+        || (is_in_range(first, count, range.start) && range.len > 0)
+}
+
 /// The event at a place of a trace; past its end a fence that orders nothing.
 pub fn event_at(trace: &Trace, place: usize) -> Event
     ensures event { result ≡ event trace.now.events place }
@@ -46,8 +58,9 @@ pub fn event_at(trace: &Trace, place: usize) -> Event
     }
 }
 
+/// What stands past a trace's end: a fence that orders nothing.
 #[tactic(auto, unfolding(round_schedule::specs::Positions::no_event))]
-fn no_event() -> Event
+pub fn no_event() -> Event
     ensures event { result ≡ no_event }
     ensures low { address_of result.access ≡ 0 }
 {
@@ -91,7 +104,7 @@ fn byte_of(number: u64, k: u64) -> u8
 }
 
 /// The byte that an access writes at an address.
-pub(crate) fn byte_written(access: &Access, address: u64) -> u8
+pub fn byte_written(access: &Access, address: u64) -> u8
     ensures { result ≡ byte_written access.now address }
 {
     byte_of(

@@ -9,7 +9,7 @@ use Rattle.host_io.specs.declared.error.RunError.TheVariants as refusals
 use Rattle.hunter.specs.Hunts.{all_end_well, is_one_exit}
 use Rattle.plan_hunt.specs.declared.row.Row.{Row}
 use Rattle.dethart.specs.declared.failure.Failure.{Failure}
-use Rattle.dethart.specs.declared.failure.Failure.TheVariants.{Accept, Apart, Hunt, Line, Merge, NoExecution, NoFile, NoObject, NoSymbols, NotATable, NotCode, NotText, Plan, ReaderGone, Refused, TooLarge, Unread, Unwritten, WeakHunt}
+use Rattle.dethart.specs.declared.failure.Failure.TheVariants.{Accept, Apart, Hunt, Line, Merge, NoExecution, NoFile, NoObject, NoRounds, NoSymbols, NotATable, NotCode, NotText, Plan, ReaderGone, Refused, TooLarge, Unread, Unwritten, WeakHunt}
 use Rattle.dethart.specs.declared.printing.Answer.{Answer}
 use Rattle.dethart.specs.declared.printing.Answer.TheVariants.{Done, Differs, Doubtful, Lacking}
 
@@ -22,6 +22,7 @@ status_of (Unwritten path) = 1
 status_of (TooLarge path) = 1
 status_of (Unread error) = 1
 status_of (NoExecution cause line) = 1
+status_of NoRounds = 1
 status_of (Hunt error) = 1
 status_of (WeakHunt error) = 1
 status_of (Accept error) = 1

@@ -72,24 +72,23 @@ pub(crate) fn write_check<W: Write>(
     asked: &Check<'_>,
     out: &mut W,
 ) -> Result<bool, Failure> {
-    let file = read_execution_of(rt, asked.file)?;
-    let checked = check_file(rt.alloc(), &file)?;
+    let file = read_execution_of(rt, &read_file(rt, asked.file)?)?;
+    let checked = check_file(rt.alloc(), &file, None)?;
     Ok(write_checked(rt.alloc(), &checked, &mut WriteSink::new(out))?)
 }
 
-/// The execution that a file holds.
+/// The execution that a text says.
 ///
 /// # Errors
 ///
-/// `NoFile`, `TooLarge`, `NoExecution`, and `OutOfMemory`.
-fn read_execution_of(rt: &HostRuntime, path: &str) -> Result<ExecutionFile, Failure> {
-    let text = read_file(rt, path)?;
-    match read_execution(rt.alloc(), &text) {
+/// `NoExecution`, and `OutOfMemory`.
+pub(crate) fn read_execution_of(rt: &HostRuntime, text: &[u8]) -> Result<ExecutionFile, Failure> {
+    match read_execution(rt.alloc(), text) {
         Ok(file) => Ok(file),
         Err(ReadError::OutOfMemory) => Err(Failure::Refused(RunError::OutOfMemory)),
         Err(ReadError::Refused(refusal)) => Err(Failure::NoExecution(
             refusal.cause,
-            line_of(&text, &refusal),
+            line_of(text, &refusal),
         )),
     }
 }
@@ -107,7 +106,7 @@ fn line_of(text: &[u8], refusal: &Refusal) -> usize {
 }
 
 /// Writes what was found of an execution. Answers whether RVWMO allows it.
-fn write_checked<S: Sink>(alloc: Global, checked: &Checked, out: &mut S) -> Result<bool, RunError> {
+pub(crate) fn write_checked<S: Sink>(alloc: Global, checked: &Checked, out: &mut S) -> Result<bool, RunError> {
     if checked.finding == Finding::Judged(Verdict::Allowed) {
         put_all(out, b"allowed\n")?;
         let mut number = 0u32;

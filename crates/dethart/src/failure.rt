@@ -49,6 +49,8 @@ pub(crate) enum Failure {
     Unread(ReadError),
     /// The file is no execution: why, and in which line.
     NoExecution(Cause, usize),
+    /// An execution was asked about rounds.
+    NoRounds,
     /// The hunt was refused.
     Hunt(HuntError),
     /// The weak hunt was refused.
@@ -163,6 +165,7 @@ impl Failure {
             Failure::TooLarge(_) => Some(62),
             Failure::Unread(error) => Some(error.number()),
             Failure::NoExecution(cause, _) => Some(cause.number()),
+            Failure::NoRounds => Some(88),
             Failure::Hunt(error) => Some(error.number()),
             Failure::WeakHunt(error) => Some(error.number()),
             Failure::Accept(error) => Some(error.number()),
@@ -202,6 +205,9 @@ impl Failure {
             Failure::TooLarge(path) => eprintln!(rt; "the file {path} has more than 1 GiB"),
             Failure::Unread(error) => eprintln!(rt; "{error}"),
             Failure::NoExecution(cause, line) => { eprintln!(rt; "{cause}: line {line}") }
+            Failure::NoRounds => {
+                eprintln!(rt; "an execution has no rounds: ask for a step of a hart by --hart and --place")
+            }
             Failure::Hunt(error) => eprintln!(rt; "{error}"),
             Failure::WeakHunt(error) => eprintln!(rt; "{error}"),
             Failure::Accept(error) => eprintln!(rt; "{error}"),

@@ -19,6 +19,9 @@ const MOST_OF_FLAT: u64 = MOST_PAGES as u64 * 4096 + 1;
 /// How many bytes say that a file begins as a recording.
 const MAGIC_BYTES: u64 = 8;
 
+/// As many of an execution.
+const EXECUTION: &[u8] = b"executio";
+
 /// All the bytes of a file.
 ///
 /// # Errors
@@ -35,6 +38,39 @@ pub(crate) fn read_file(rt: &HostRuntime, path: &str) -> Result<Vec<u8>, Failure
         return Err(Failure::TooLarge(String::from_str(rt.alloc(), path)?));
     }
     Ok(bytes)
+}
+
+/// What a question about the past is put to.
+#[derive(Drop)]
+pub(crate) enum Past {
+    /// A recording of a run.
+    Recording(Recording),
+    /// The text of an execution.
+    Execution(Vec<u8>),
+}
+
+/// The recording or the execution that a file holds, as its first bytes say.
+///
+/// # Errors
+///
+/// `NoFile`, `TooLarge` for an execution, `Unread` where the file begins as neither, and `OutOfMemory`.
+pub(crate) fn read_past_of(rt: &HostRuntime, path: &str) -> Result<Past, Failure> {
+    let file = open(rt, path)?;
+    let beginning = read_up(rt, path, (&file).take(MAGIC_BYTES))?;
+    if beginning.as_slice() == EXECUTION {
+        let rest = (&file).take(MOST_BYTES);
+        let text = read_up(rt, path, beginning.as_slice().chain(rest))?;
+        if text.len() as u64 >= MOST_BYTES {
+            return Err(Failure::TooLarge(String::from_str(rt.alloc(), path)?));
+        }
+        return Ok(Past::Execution(text));
+    }
+    let refusal = read_recording(rt.alloc(), &beginning).err();
+    if refusal == Some(ReadError::Refused(Cause::NotARecording)) {
+        return Err(Failure::Unread(ReadError::Refused(Cause::NotARecording)));
+    }
+    let text = read_up(rt, path, beginning.as_slice().chain(&file))?;
+    Ok(Past::Recording(read_recording(rt.alloc(), &text)?))
 }
 
 /// The recording that a file holds. Of a file that doesn't begin as one, no more than that is read.

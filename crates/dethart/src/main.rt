@@ -9,6 +9,7 @@ mod files;
 mod hunting;
 mod keeping;
 mod line;
+mod looking;
 mod looping;
 mod merging;
 mod output;

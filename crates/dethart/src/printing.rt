@@ -93,10 +93,15 @@ pub(crate) fn print_replay<R: Threads + Wait + Sync>(
 ) -> Result<Answer, Failure> {
     let mut out = standard_output(rt)?;
     let written = write_replay(rt, threads, asked, &mut out);
-    Ok(match finish(out, written)? {
+    Ok(answer_of(finish(out, written)?))
+}
+
+/// The answer to a question about the past.
+fn answer_of(replayed: Replayed) -> Answer {
+    match replayed {
         Replayed::Done => Answer::Done,
         Replayed::Differs => Answer::Differs,
-    })
+    }
 }
 
 /// Runs the recording of a file anew, and prints which accesses hit.
@@ -107,8 +112,7 @@ pub(crate) fn print_watch<R: Threads + Wait + Sync>(
 ) -> Result<Answer, Failure> {
     let mut out = standard_output(rt)?;
     let written = write_watch(rt, threads, asked, &mut out);
-    finish(out, written)?;
-    Ok(Answer::Done)
+    Ok(answer_of(finish(out, written)?))
 }
 
 /// Whether a hunt with this table is doubtful.

@@ -7,7 +7,6 @@ use host_io::RunError;
 use hunt_table::{RangeName, SeenRange};
 use hunter::HuntError;
 use pages::Range;
-use replayer::Recording;
 use std::alloc::{AllocError, Global};
 
 /// The bytes that a command line names, and why they can't be looked at, if that is so.
@@ -56,14 +55,14 @@ pub(crate) fn named_bytes(
     Ok(NamedBytes { bytes, fault })
 }
 
-/// The bytes that are watched: those that are named by addresses, and those of objects of the recording's image.
+/// The bytes that are watched: those that are named by addresses, and those of objects of the image.
 ///
 /// # Errors
 ///
 /// `NoObject` and `NoSymbols`, and `OutOfMemory`.
 pub(crate) fn watched_bytes(
     alloc: Global,
-    recording: &Recording,
+    image: &[u8],
     asked: &Watch<'_>,
 ) -> Result<Vec<Bytes>, Failure> {
     let mut bytes = Vec::from_slice(alloc, &asked.more)?;
@@ -74,12 +73,12 @@ pub(crate) fn watched_bytes(
         })?;
     }
     for name in &asked.objects {
-        match find_object(recording.image(), name.as_bytes()) {
+        match find_object(image, name.as_bytes()) {
             Some(object) => bytes.push(Bytes {
                 address: object.address,
                 length: object.length,
             })?,
-            None => return Err(no_object(alloc, recording.image(), name)?),
+            None => return Err(no_object(alloc, image, name)?),
         }
     }
     Ok(bytes)

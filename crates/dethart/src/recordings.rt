@@ -1,7 +1,8 @@
 //! The commands that make recordings, and ask them.
 
 use crate::failure::Failure;
-use crate::files::read_recording_of;
+use crate::files::{Past, read_past_of, read_recording_of};
+use crate::looking::{write_replay_of, write_watch_of};
 use crate::progress::Progress;
 use crate::ranges::{
     NamedBytes, access_ranges, is_in_memory, named_bytes, seen_ranges, watched_bytes,
@@ -66,19 +67,22 @@ fn saved(rt: &HostRuntime, recording: &Recording, path: &str) -> Result<(), Fail
 pub(crate) enum Replayed {
     /// The run is the recorded one, or the hart that was asked for is written.
     Done,
-    /// The run is another than the recorded one.
+    /// The run is another than the recorded one, or RVWMO doesn't allow the execution.
     Differs,
 }
 
 /// Replays the recording of a file, and writes a line: `same`, or `differs R` with the first round that differs. Where a round
-/// or a place is asked for, it writes the answer to that.
+/// or a place is asked for, it writes the answer to that. Of an execution it writes what `check` does, or the hart at a place.
 pub(crate) fn write_replay<R: Threads + Wait + Sync, W: Write>(
     rt: &HostRuntime,
     threads: &R,
     asked: &Replay<'_>,
     out: &mut W,
 ) -> Result<Replayed, Failure> {
-    let recording = read_recording_of(rt, asked.recording)?;
+    let recording = match read_past_of(rt, asked.recording)? {
+        Past::Recording(recording) => recording,
+        Past::Execution(text) => return write_replay_of(rt, &text, asked, out),
+    };
     if asked.place.is_none() && asked.round.is_none() {
         let mut progress = Progress::new(rt, asked.progress, recording.rounds());
         let verdict = replay_observed(
@@ -239,7 +243,7 @@ fn tell_before<R: Threads + Wait + Sync>(
 }
 
 /// Puts a line of a word and a number.
-fn put_number<S: Sink>(
+pub(crate) fn put_number<S: Sink>(
     alloc: Global,
     word: &str,
     number: u64,
@@ -253,7 +257,7 @@ fn put_number<S: Sink>(
 
 /// Says on standard error that there are no such bytes, or that memory of so many pages doesn't have all of them: so that nobody
 /// takes a wrong address for one that is never touched.
-fn tell_of_bytes(rt: &HostRuntime, bytes: &Bytes, pages: u32) {
+pub(crate) fn tell_of_bytes(rt: &HostRuntime, bytes: &Bytes, pages: u32) {
     let (address, length) = (bytes.address, bytes.length);
     if length == 0 {
         let _unwritten = eprintln!(rt; "the range from 0x{address:x} on is empty");
@@ -284,15 +288,19 @@ fn refuse_recording<R: Threads + Wait + Sync>(
     Ok(())
 }
 
-/// Runs the recording of a file anew, and writes `hits N` and the event lines of those that hit one of the ranges.
+/// Runs the recording of a file anew, and writes `hits N` and the event lines of those that hit one of the ranges; of an execution the
+/// same of its operations.
 pub(crate) fn write_watch<R: Threads + Wait + Sync, W: Write>(
     rt: &HostRuntime,
     threads: &R,
     asked: &Watch<'_>,
     out: &mut W,
-) -> Result<(), Failure> {
-    let recording = read_recording_of(rt, asked.recording)?;
-    let named = match watched_bytes(rt.alloc(), &recording, asked) {
+) -> Result<Replayed, Failure> {
+    let recording = match read_past_of(rt, asked.recording)? {
+        Past::Recording(recording) => recording,
+        Past::Execution(text) => return write_watch_of(rt, &text, asked, out),
+    };
+    let named = match watched_bytes(rt.alloc(), recording.image(), asked) {
         Ok(named) => named,
         Err(fault) => {
             refuse_recording(rt.alloc(), threads, &recording, asked.workers)?;
@@ -323,7 +331,8 @@ pub(crate) fn write_watch<R: Threads + Wait + Sync, W: Write>(
     } else {
         Vec::new(rt.alloc())
     };
-    Ok(put_hits(rt.alloc(), &hits, &pcs, &mut WriteSink::new(out))?)
+    put_hits(rt.alloc(), &hits, &pcs, &mut WriteSink::new(out))?;
+    Ok(Replayed::Done)
 }
 
 /// Puts how many hits there are, and a line for each, with its pc where there is one.

@@ -41,8 +41,12 @@ pub fn check_execution(
     }
 }
 
-/// Whether RVWMO allows what was done, in an order of its memory operations.
-fn judge(
+/// Whether RVWMO allows what was done, in an order of its memory operations; else why not.
+///
+/// # Errors
+///
+/// `OutOfMemory` alone.
+pub fn judge(
     alloc: Global,
     execution: &Execution,
     opening: &Trace,

@@ -13,7 +13,7 @@ use Rattle.execution_checker.specs.declared.verdict.Verdict.{Verdict}
 use Rattle.execution_checker.specs.Allowed.{IsVerdict}
 use Rattle.execution_scripts.specs.Findings.{start_of}
 
-opened_at : (image : Loaded) (ps : List Piece) → bytes_from ps 0 (4096 * image.pages) ≡ image.bytes →
+pub opened_at : (image : Loaded) (ps : List Piece) → bytes_from ps 0 (4096 * image.pages) ≡ image.bytes →
     All (λ (p : Piece). p.start + length p.bytes.items ≤ 4096 * image.pages) ps → (x : ℕ) → opening_at (map laid ps) x ≡ slice_index image.bytes x
 opened_at image ps bytes within x =
     opening_is (map laid ps) (4096 * image.pages) (λ y l. none_beyond ps (4096 * image.pages) y within l) x

@@ -1,15 +1,19 @@
 -- What is found of a file.
-use Rattle.std.specs.Prelude.{◌≡◌, ℕ, if◌then◌else◌, List, length, map, slice_index}
+use Rattle.std.specs.Prelude.{◌≡◌, ℕ, if◌then◌else◌, List, length, map, slice_index, Option}
 use Rattle.elf_loader.specs.Image.{Loaded}
 use Rattle.machine.specs.declared.settings.Format.TheVariants.{Elf, Flat}
 use Rattle.machine.specs.Settings.{image_of}
 use Rattle.machine.specs.Guests.{Guest, opening_guest}
-use Rattle.execution.specs.declared.step.ScriptedStep.{ScriptedStep}
 use Rattle.execution.specs.Executions.{Standing}
 use Rattle.execution.specs.Progressing.{at_start}
+use Rattle.execution_checker.specs.declared.verdict.Verdict.{Verdict}
 use Rattle.execution_checker.specs.Allowed.{IsVerdict}
+use Rattle.execution_views.specs.declared.sights.HartStep.{HartStep}
+use Rattle.execution_views.specs.Walks.{AreSights}
+use Rattle.trace.specs.Traced.{opening_at}
 use Rattle.execution_file.specs.Recorded.{HartPart, Recorded}
 use Rattle.execution_scripts.specs.Deeds.{deeds, said}
+use Rattle.execution_scripts.specs.declared.checking.Checked.{Checked}
 use Rattle.execution_scripts.specs.declared.checking.Finding.{Finding}
 use Rattle.execution_scripts.specs.declared.checking.Finding.TheVariants.{Fault, Judged}
 
@@ -25,10 +29,14 @@ guest_in r = opening_guest (image_in r) r.input (length r.harts)
 abbrev pub start_of : Guest → Standing
 start_of g = at_start g.harts g.shared.console
 
--- a verdict is on the execution of a guest that a script leads to, in some order of its memory operations; the harts do what is
--- said of them: so many steps, these numbers read, and these ends
-abbrev pub IsFound : Guest → List HartPart → Finding → List ScriptedStep → Standing → Type 0
-IsFound g parts (Judged v) ss q =
-    ((order : List ℕ) × IsVerdict v g.shared.memory (λ x. slice_index g.shared.memory.bytes x) ss order (start_of g) q) ×
-    (map said parts ≡ deeds q.harts q.events)
-IsFound g parts (Fault f) ss q = Unit {0}
+-- a verdict is on the execution of a guest that a script leads to, in an order of its memory operations; the harts do what is said of
+-- them: so many steps, these numbers read, and these ends; and what is seen is seen on the way of this execution
+pub record IsJudged (g : Guest) (parts : List HartPart) (asked : Option HartStep) (v : Verdict) (c : Checked) : Type 0 where
+  pub verdict : IsVerdict v g.shared.memory (λ x. slice_index g.shared.memory.bytes x) c.script.items c.order.0.items (start_of g) c.execution.standing
+  pub deeds : map said parts ≡ deeds c.execution.standing.harts c.execution.standing.events
+  pub opening : (x : ℕ) → opening_at c.opening.opening x ≡ slice_index g.shared.memory.bytes x
+  pub sights : AreSights g.shared.memory (start_of g) c.execution.standing asked c.sights
+
+abbrev pub IsFound : Guest → List HartPart → Option HartStep → Finding → Checked → Type 0
+IsFound g parts asked (Judged v) c = IsJudged g parts asked v c
+IsFound g parts asked (Fault f) c = Unit {0}

@@ -9,8 +9,9 @@ use crate::following::Follower;
 use crate::opening::open_execution;
 use crate::ordering::order_of;
 use elf_loader::Image;
-use execution_checker::{Execution, ScriptedStep, Verdict, check_execution};
+use execution_checker::{Execution, ScriptedStep, Verdict};
 use execution_file::ExecutionFile;
+use execution_views::{HartStep, Sights, check_seen};
 use host_io::RunError;
 use machine::{Format, load};
 use memory_order::Order;
@@ -37,6 +38,12 @@ pub struct Checked {
     pub execution: Execution,
     /// Its script.
     pub script: Vec<ScriptedStep>,
+    /// The order of its memory operations, by their places in the list of steps; empty where the file says no execution.
+    pub order: Order,
+    /// The bytes that memory opened with.
+    pub opening: Trace,
+    /// What is seen on its way; nothing where the file says no execution.
+    pub sights: Sights,
 }
 
 /// Checks the execution of a file: whether its harts do what the file says, and whether RVWMO allows it in the file's order.
@@ -48,8 +55,12 @@ pub struct Checked {
 /// # Errors
 ///
 /// The refusals of the numbers of harts and pages, then of the image; `OutOfMemory`.
-pub fn check_file(alloc: Global, file: &ExecutionFile) -> Result<Checked, RunError>
-    ensures { IfOk result (λ c. IsFound (guest_in (as_recorded file.now)) (as_recorded file.now).harts c.finding c.script.items c.execution.standing) }
+pub fn check_file(
+    alloc: Global,
+    file: &ExecutionFile,
+    asked: Option<HartStep>,
+) -> Result<Checked, RunError>
+    ensures { IfOk result (λ c. IsFound (guest_in (as_recorded file.now)) (as_recorded file.now).harts asked c.finding c) }
 {
     let harts = file.harts.len();
     if harts < 1 || harts > MOST_HARTS as usize {
@@ -60,7 +71,7 @@ pub fn check_file(alloc: Global, file: &ExecutionFile) -> Result<Checked, RunErr
     }
     let image = load_image(alloc, file)?;
     let harts = count_harts(file);
-    check_over(alloc, file, image, harts)
+    check_over(alloc, file, image, harts, asked)
 }
 
 /// The image of a file.
@@ -93,9 +104,10 @@ fn check_over(
     file: &ExecutionFile,
     image: Image,
     harts: u32,
+    asked: Option<HartStep>,
 ) -> Result<Checked, RunError>
     requires { harts ≤ 64 }
-    ensures { IfOk result (λ c. IsFound (opening_guest image file.now.input.items harts) (as_recorded file.now).harts c.finding c.script.items c.execution.standing) }
+    ensures { IfOk result (λ c. IsFound (opening_guest image file.now.input.items harts) (as_recorded file.now).harts asked c.finding c) }
 {
     let execution = open_execution(alloc, &image, &file.input, harts)?;
     let mut follower = Follower::new(alloc, execution, &file.harts)?;
@@ -109,12 +121,18 @@ fn check_over(
         Ok(order) => {
             // The checker follows the script anew: what was followed here is as large.
             drop(execution);
-            judge(alloc, file, image, script, &order, harts)
+            judge(alloc, file, image, script, order, harts, asked)
         }
         Err(Halt::Fault(fault)) => Ok(Checked {
             finding: Finding::Fault(fault),
             execution,
             script,
+            order: Order(Vec::new(alloc)),
+            opening: Trace::new(alloc, image.into_pieces()),
+            sights: Sights {
+                pcs: Vec::new(alloc),
+                before: None,
+            },
         }),
         Err(Halt::OutOfMemory) => Err(RunError::OutOfMemory),
     }
@@ -126,15 +144,17 @@ fn judge(
     file: &ExecutionFile,
     image: Image,
     script: Vec<ScriptedStep>,
-    order: &Order,
+    order: Order,
     harts: u32,
+    asked: Option<HartStep>,
 ) -> Result<Checked, RunError>
     requires { harts ≤ 64 }
-    ensures { IfOk result (λ c. IsFound (opening_guest image file.now.input.items harts) (as_recorded file.now).harts c.finding c.script.items c.execution.standing) }
+    ensures { IfOk result (λ c. IsFound (opening_guest image file.now.input.items harts) (as_recorded file.now).harts asked c.finding c) }
 {
     let mut execution = open_execution(alloc, &image, &file.input, harts)?;
     let opening = Trace::new(alloc, image.into_pieces());
-    let verdict = check_execution(alloc, &mut execution, &script, &opening, order)?;
+    let (verdict, sights) =
+        check_seen(alloc, &mut execution, &script, &opening, &order, asked)?;
     let did = deeds(alloc, execution.harts(), execution.events())?;
     if !are_said(&file.harts, &did) {
         let fault = Fault {
@@ -146,11 +166,17 @@ fn judge(
             finding: Finding::Fault(fault),
             execution,
             script,
+            order,
+            opening,
+            sights,
         });
     }
     Ok(Checked {
         finding: Finding::Judged(verdict),
         execution,
         script,
+        order,
+        opening,
+        sights,
     })
 }

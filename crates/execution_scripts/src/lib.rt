@@ -16,6 +16,9 @@ pub use execution_checker::Verdict;
 pub use execution_file::{
     Cause, ExecutionFile, HartPart, ReadError, Refusal, Turn, read_execution, write_execution,
 };
+pub use execution_views::{
+    Before, HartStep, Moment, Sights, bytes_at, moment_of, positions_sought,
+};
 pub use fault::{Fault, Misfit};
 pub use running::execution_of_run;
 pub use scripted::{ScriptedGuest, execution_of_script};

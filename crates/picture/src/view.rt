@@ -1,9 +1,10 @@
 ghost use Rattle.std.specs.Prelude.{◌≡◌, IfOk};
 ghost use Rattle.std.specs.List.{list_any};
 ghost use Rattle.round_schedule.specs.Positions.{event};
-ghost use Rattle.picture.specs.Views.{is_seen, is_shown, places_seen, touches};
+ghost use Rattle.byte_sources.specs.Touching.{touches};
+ghost use Rattle.picture.specs.Views.{is_seen, is_shown, places_seen};
 
-use byte_sources::{event_at, is_in_range};
+use byte_sources::{event_at, touches};
 use pages::{OutOfMemory, Range};
 use round_schedule::{Access, Event};
 use std::alloc::Global;
@@ -18,15 +19,6 @@ pub struct View<'a> {
     pub from: u32,
     /// The last round that is shown.
     pub to: u32,
-}
-
-fn touches(access: &Access, range: &Range) -> bool
-    ensures { result ≡ touches access.now range.now }
-{
-    let first = access.address();
-    let count = access.byte_count();
-    (is_in_range(range.start, range.len, first) && count > 0)
-        || (is_in_range(first, count, range.start) && range.len > 0)
 }
 
 fn touches_any(ranges: &[Range], access: &Access) -> bool

@@ -1,0 +1,3 @@
+pub mod Further
+pub mod Noting
+pub mod Places

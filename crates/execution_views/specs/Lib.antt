@@ -1,0 +1,4 @@
+pub mod Passing
+pub mod Walks
+pub mod Moments
+pub mod Touched

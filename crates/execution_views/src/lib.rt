@@ -1,0 +1,14 @@
+//! What is seen of an execution: the pc of each instruction, a hart before one of its steps, memory at a moment of the order as a hart
+//! sees it, and the operations of the order that touch some bytes.
+#![tactic(auto)]
+
+mod check;
+mod moment;
+mod sights;
+mod touched;
+mod walk;
+
+pub use check::check_seen;
+pub use moment::{Moment, bytes_at, moment_of};
+pub use sights::{Before, HartStep, Sights};
+pub use touched::positions_sought;
