@@ -1,4 +1,4 @@
-//! The texts of the subcommands that read a recording.
+//! The texts of the subcommands that read a recording, or an execution.
 
 /// What `replay` does.
 pub const REPLAY_ABOUT: &str = "Does the run in RECORDING again, and says whether it is the same.";
@@ -12,6 +12,7 @@ Examples:
   dethart replay guest.rec --round 12 --hart 3 --how-many
   dethart replay guest.rec --hart 3 --place 12040
   dethart replay guest.rec --hart 3 --place 12040 --see 0x20000 8
+  dethart replay found/1.execution --hart 1 --place 20 --see 0x20000 8
 
 The line 'same' says that the run is the recorded one, and 'differs R' that it
 isn't, first in round R.
@@ -32,11 +33,20 @@ ADDRESS is hexadecimal after 0x, or decimal without leading zeros; LENGTH is
 decimal. --see-object NAME stands for the address and size that the symbol table
 of the recording's image gives an object of that name.
 
+RECORDING may be an execution, as dethart execution prints one and dethart
+fences --keep writes it. Without --place what dethart check says of it is
+printed. With --place N the hart is printed before its step N, which it does
+after N other instructions, and before it the line 'position P': P operations
+precede the step in the order of memory; one that is no memory operation stands
+at its hart's next one. --see shows bytes as a load of the hart would read them
+that stands there. Of an execution that isn't allowed nothing else is printed.
+
 A refusal is the line 'error N' on standard error, with the exit status 1;
 dethart run --help lists what each N means.
 
 Exit status: 0 the same, or what was asked for was printed, 1 a refusal, 2 a bad
-command line, 3 another run than the recorded one.";
+command line, 3 another run than the recorded one, or an execution that is
+refused.";
 
 /// What `watch` does.
 pub const WATCH_ABOUT: &str = "Does the run in RECORDING again, and prints accesses to some bytes.";
@@ -47,6 +57,7 @@ Examples:
   dethart watch guest.rec 256 8
   dethart watch guest.rec 0x100 8 --see 0x200 4 --from 10 --to 20
   dethart watch guest.rec --see-object counters --stores --hart 1 --pc
+  dethart watch found/1.execution 0x20000 8 --pc
 
 The line 'hits N' comes first, N the number of accesses, and then each access,
 as its line in the report's trace and in the order of the trace. An access is
@@ -59,10 +70,16 @@ is hexadecimal after 0x, or decimal without leading zeros.
 With --pc each line ends in ' pc' and the address of the instruction, in 16
 digits: that of the hart before the instruction, whose run is done once more.
 
+RECORDING may be an execution, as dethart execution prints one and dethart
+fences --keep writes it. Its memory operations are printed then, in the order
+of memory, with their position in it, from 0 on, in place of the round. Of one
+that isn't allowed what dethart check says is printed, and nothing else.
+
 A refusal is the line 'error N' on standard error, with the exit status 1;
 dethart run --help lists what each N means.
 
-Exit status: 0 the accesses were printed, 1 a refusal, 2 a bad command line.";
+Exit status: 0 the accesses were printed, 1 a refusal, 2 a bad command line, 3
+an execution that is refused.";
 
 /// What `migrate` does.
 pub const MIGRATE_ABOUT: &str = "Writes the recording in RECORDING anew, in version 2, to OUT.";

@@ -82,6 +82,7 @@ A refusal is the line 'error N' on standard error, with the exit status 1:
   84  execution: a part isn't written as it has to be
   85  execution: a number is too large
   86  execution: text is left after its parts
+  88  execution: it is asked about rounds, and has none
 
 Exit status: 0 what was asked for was printed, 1 a refusal, 2 a bad command
 line, and with --strict 4 where a hart runs on, was stopped by a fault or exited

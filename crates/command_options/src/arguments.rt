@@ -55,6 +55,13 @@ pub(crate) const RECORDING: Argument<'static> = Argument::Positional(
     "The file that dethart record or dethart migrate wrote",
 );
 
+/// The same argument of a question that an execution answers too.
+pub(crate) const PAST: Argument<'static> = Argument::Positional(
+    "recording",
+    "RECORDING",
+    "A recording, or an execution as dethart execution prints it",
+);
+
 /// The option `--workers N`.
 pub(crate) const WORKERS: Argument<'static> = Argument::Number(
     NARROW,

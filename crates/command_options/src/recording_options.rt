@@ -5,7 +5,7 @@ ghost use Rattle.clap.specs.declared.builder.command.Command.TheViews.{out-Comma
 ghost use Rattle.command_options.specs.Options.{migrate_app, replay_app, watch_app};
 
 use crate::arguments::{
-    Argument, NARROW, ONE_HART, PROGRESS, RECORDING, SAME_OF_OBJECT, WIDE, WORKERS, with_arguments,
+    Argument, NARROW, ONE_HART, PAST, PROGRESS, RECORDING, SAME_OF_OBJECT, WIDE, WORKERS, with_arguments,
 };
 use crate::program_options::named_command;
 use clap::Command;
@@ -17,7 +17,7 @@ use std::alloc::{AllocError, Global};
 
 /// A recording, how its run is done again, and the hart to print, with bytes as it sees them.
 static REPLAY: [Argument<'static>; 11] = [
-    RECORDING,
+    PAST,
     WORKERS,
     PROGRESS,
     Argument::Number(
@@ -45,7 +45,7 @@ static REPLAY: [Argument<'static>; 11] = [
 
 /// A recording, and the bytes and rounds whose accesses are printed.
 static WATCH: [Argument<'static>; 12] = [
-    RECORDING,
+    PAST,
     Argument::Optional(
         "address",
         "ADDRESS",
