@@ -5,7 +5,8 @@ ghost use Rattle.clap.specs.declared.builder.command.Command.TheViews.{out-Comma
 ghost use Rattle.command_options.specs.Options.{migrate_app, replay_app, watch_app};
 
 use crate::arguments::{
-    Argument, NARROW, ONE_HART, PAST, PROGRESS, RECORDING, SAME_OF_OBJECT, WIDE, WORKERS, with_arguments,
+    Argument, NARROW, ONE_HART, PAST, PROGRESS, RECORDING, SAME_OF_OBJECT, WIDE, WORKERS,
+    with_arguments,
 };
 use crate::program_options::named_command;
 use clap::Command;

@@ -106,7 +106,11 @@ fn line_of(text: &[u8], refusal: &Refusal) -> usize {
 }
 
 /// Writes what was found of an execution. Answers whether RVWMO allows it.
-pub(crate) fn write_checked<S: Sink>(alloc: Global, checked: &Checked, out: &mut S) -> Result<bool, RunError> {
+pub(crate) fn write_checked<S: Sink>(
+    alloc: Global,
+    checked: &Checked,
+    out: &mut S,
+) -> Result<bool, RunError> {
     if checked.finding == Finding::Judged(Verdict::Allowed) {
         put_all(out, b"allowed\n")?;
         let mut number = 0u32;

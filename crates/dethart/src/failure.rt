@@ -206,7 +206,9 @@ impl Failure {
             Failure::Unread(error) => eprintln!(rt; "{error}"),
             Failure::NoExecution(cause, line) => { eprintln!(rt; "{cause}: line {line}") }
             Failure::NoRounds => {
-                eprintln!(rt; "an execution has no rounds: ask for a step of a hart by --hart and --place")
+                eprintln!(rt;
+                    "an execution has no rounds: ask for a step of a hart by --hart and --place"
+                )
             }
             Failure::Hunt(error) => eprintln!(rt; "{error}"),
             Failure::WeakHunt(error) => eprintln!(rt; "{error}"),

@@ -47,7 +47,13 @@ pub(crate) fn write_replay_of<W: Write>(
         return Err(fault);
     }
     let seen = seen_ranges(rt.alloc(), &bytes, &asked.objects)?;
-    put_before(rt.alloc(), &checked, asked.hart, &seen, &mut WriteSink::new(out))?;
+    put_before(
+        rt.alloc(),
+        &checked,
+        asked.hart,
+        &seen,
+        &mut WriteSink::new(out),
+    )?;
     Ok(Replayed::Done)
 }
 

@@ -153,8 +153,7 @@ fn judge(
 {
     let mut execution = open_execution(alloc, &image, &file.input, harts)?;
     let opening = Trace::new(alloc, image.into_pieces());
-    let (verdict, sights) =
-        check_seen(alloc, &mut execution, &script, &opening, &order, asked)?;
+    let (verdict, sights) = check_seen(alloc, &mut execution, &script, &opening, &order, asked)?;
     let did = deeds(alloc, execution.harts(), execution.events())?;
     if !are_said(&file.harts, &did) {
         let fault = Fault {
