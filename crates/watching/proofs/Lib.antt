@@ -1,0 +1,3 @@
+pub mod BytesSeen
+pub mod Seeing
+pub mod EventsTell

@@ -1,0 +1,3 @@
+pub mod Watches
+pub mod Saved
+pub mod Events

@@ -1,0 +1,104 @@
+ghost use Rattle.std.specs.Prelude.{◌≡◌, ◌++◌, slice_get, IfOk, OnOk};
+ghost use Rattle.watching.specs.Saved.{bytes_from, saved_byte, saved_of};
+
+use crate::watchpoint::{WatchKind, Watchpoint};
+use pages::{OutOfMemory, Pages, Range};
+use std::alloc::Global;
+use std::marker::Model;
+
+/// The bytes of a range of memory at a moment.
+#[derive(Drop)]
+pub struct Saved {
+    /// The range.
+    range: Range,
+    /// Its bytes: fewer where memory ends before.
+    bytes: Vec<u8>,
+}
+
+impl Model for Saved {
+    ghost use Rattle.watching.specs.Saved.{SavedBytes};
+
+    ghost Value = { SavedBytes };
+
+    ghost view = { λ s. record { range = s.range; bytes = s.bytes.items } };
+}
+
+/// The bytes of the ranges whose changes are told, as memory has them.
+///
+/// # Errors
+///
+/// `OutOfMemory` alone.
+pub fn save(alloc: Global, pages: &Pages, watches: &[Watchpoint]) -> Result<Vec<Saved>, OutOfMemory>
+    ensures { IfOk result (λ v. v.items ≡ saved_of watches.now pages.now.memory.bytes) }
+{
+    let mut found = Vec::new(alloc);
+    add_saved(alloc, pages, watches, &mut found)?;
+    Ok(found)
+}
+
+/// Adds them.
+fn add_saved(
+    alloc: Global,
+    pages: &Pages,
+    watches: &[Watchpoint],
+    found: &mut Vec<Saved>,
+) -> Result<(), OutOfMemory>
+    ensures { OnOk result (found.new.items ≡
+        found.old.items ++ saved_of watches.now pages.now.memory.bytes) }
+{
+    match watches {
+        [] => Ok(()),
+        [watch, rest @ ..] => {
+            if watch.kind == WatchKind::Changes {
+                let bytes = bytes_of(alloc, pages, watch.range)?;
+                found.push(Saved {
+                    range: watch.range,
+                    bytes,
+                })?;
+            }
+            add_saved(alloc, pages, rest, found)
+        }
+    }
+}
+
+/// The bytes of a range.
+fn bytes_of(alloc: Global, pages: &Pages, range: Range) -> Result<Vec<u8>, OutOfMemory>
+    ensures { IfOk result (λ v. v.items ≡ bytes_from pages.now.memory.bytes range.start range.len) }
+{
+    let mut bytes = Vec::new(alloc);
+    let end = 4096 * u64::from(pages.count());
+    let first = range.start.min(end);
+    let count = range.len.min(end - first);
+    for place in 0..count {
+        bytes.push(pages.byte(first + place))?;
+    }
+    Ok(bytes)
+}
+
+/// The saved byte at an address, where there is one.
+pub(crate) fn saved_byte(saved: &[Saved], address: u128) -> Option<u8>
+    ensures { result ≡ saved_byte saved.now address }
+{
+    match saved {
+        [] => None,
+        [one, rest @ ..] => {
+            let start = u128::from(one.range.start);
+            if start <= address && address < start + u128::from(one.range.len) {
+                byte_at(&one.bytes, address - start)
+            } else {
+                saved_byte(rest, address)
+            }
+        }
+    }
+}
+
+/// The byte at a place.
+fn byte_at(bytes: &[u8], place: u128) -> Option<u8>
+    ensures { result ≡ slice_get bytes.now place }
+{
+    if place < bytes.len() as u128 {
+        Some(bytes[place as usize])
+    } else {
+        None
+    }
+}
