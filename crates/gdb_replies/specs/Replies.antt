@@ -53,6 +53,19 @@ state_text n (Some s) = if s.0 == 1 then codes "exit " ++ decimal s.1 else codes
 abbrev pub note_text : ThreadNote → List ℕ
 note_text n = codes "hart " ++ decimal n.hart ++ codes ", " ++ state_text n n.stop
 
+-- the list of threads, as a document of gdb's: each with its number, its hart's name, and where the hart is
+unfoldable pub thread_list_begin : List ℕ
+thread_list_begin = codes "<?xml version=\"1.0\"?><threads>"
+
+abbrev pub thread_words : ThreadNote → List ℕ
+thread_words n = codes "\">" ++ (state_text n n.stop ++ codes "</thread>")
+
+abbrev pub thread_element : ThreadNote → List ℕ
+thread_element n = (codes "<thread id=\"" ++ thread_text (n.hart + 1)) ++ ((codes "\" name=\"hart " ++ decimal n.hart) ++ thread_words n)
+
+unfoldable pub thread_list_end : List ℕ
+thread_list_end = codes "</threads>"
+
 -- ---- documents in parts: `m` where more follows, `l` with the last part
 
 abbrev pub part_text : Window → List ℕ
@@ -66,7 +79,7 @@ payload_of replies.Done = codes "OK"
 payload_of replies.Missing = codes "E01"
 payload_of (replies.Refused n) = codes "E.error " ++ decimal n
 payload_of replies.PastStands = codes "E.the past of a recording cannot be changed"
-payload_of replies.Features = codes "PacketSize=10000;qXfer:features:read+;ReverseStep+;ReverseContinue+;swbreak+;vContSupported+"
+payload_of replies.Features = codes "PacketSize=10000;qXfer:features:read+;qXfer:threads:read+;ReverseStep+;ReverseContinue+;swbreak+;hwbreak+;vContSupported+"
 payload_of replies.Actions = codes "vCont;c;C;s;S"
 payload_of replies.Attached = codes "1"
 payload_of (replies.Registers r) = registers_text r.now

@@ -8,6 +8,7 @@ mod registers;
 mod reply;
 mod stop_reply;
 mod text;
+mod thread_list;
 mod window;
 mod writing;
 
@@ -16,5 +17,6 @@ pub use note::ThreadNote;
 pub use registers::Registers;
 pub use reply::Reply;
 pub use stop_reply::{Reason, StopReply};
+pub use thread_list::{add_thread, begin_thread_list, end_thread_list};
 pub use window::Window;
 pub use writing::write_reply;

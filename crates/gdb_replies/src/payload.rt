@@ -46,7 +46,7 @@ pub(crate) fn payload_of(alloc: Global, reply: &Reply<'_>) -> Result<Vec<u8>, Ou
 
 /// What of the protocol is offered. A packet is of 65,536 bytes at most.
 const FEATURES: &[u8] =
-    b"PacketSize=10000;qXfer:features:read+;ReverseStep+;ReverseContinue+;swbreak+;vContSupported+";
+    b"PacketSize=10000;qXfer:features:read+;qXfer:threads:read+;ReverseStep+;ReverseContinue+;swbreak+;hwbreak+;vContSupported+";
 
 fn put_refusal(text: &mut Vec<u8>, number: u32) -> Result<(), OutOfMemory>
     ensures { OnOk result (text.new.items ≡
@@ -194,7 +194,7 @@ fn words_of(alloc: Global, note: &ThreadNote) -> Result<Vec<u8>, OutOfMemory>
     Ok(text)
 }
 
-fn put_state(text: &mut Vec<u8>, note: &ThreadNote) -> Result<(), OutOfMemory>
+pub(crate) fn put_state(text: &mut Vec<u8>, note: &ThreadNote) -> Result<(), OutOfMemory>
     ensures { OnOk result (text.new.items ≡ text.old.items ++ state_text note.now note.now.stop) }
 {
     match note.stop {
@@ -204,7 +204,7 @@ fn put_state(text: &mut Vec<u8>, note: &ThreadNote) -> Result<(), OutOfMemory>
     }
 }
 
-fn put_words(text: &mut Vec<u8>, word: &[u8], number: u64) -> Result<(), OutOfMemory>
+pub(crate) fn put_words(text: &mut Vec<u8>, word: &[u8], number: u64) -> Result<(), OutOfMemory>
     ensures { OnOk result (text.new.items ≡ text.old.items ++ (word.now ++ decimal number)) }
 {
     put(text, word)?;

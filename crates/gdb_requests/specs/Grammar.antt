@@ -3,6 +3,7 @@ use Rattle.std.specs.Prelude.{ℕ, ◌*◌, ◌+◌, ◌^◌, ◌==◌, nat_lt, 
 use Rattle.hex.specs.Hex.{hex_digit_value}
 use Rattle.gdb_requests.specs.declared.request.Request.{Request}
 use Rattle.gdb_requests.specs.declared.request.Request.TheVariants as requests
+use Rattle.gdb_requests.specs.declared.request.Watch.TheVariants.{Access, Read, Write}
 
 -- ---- its parts
 
@@ -73,12 +74,13 @@ abbrev pub query_of : List ℕ → Request
 query_of bs =
     or_else (behind (codes "Supported") bs) (λ r. requests.Features)
     (or_else (behind (codes "Xfer:features:read:target.xml:") bs) (λ r. by_two requests.Description (two_numbers r))
+    (or_else (behind (codes "Xfer:threads:read::") bs) (λ r. by_two requests.ThreadList (two_numbers r))
     (or_else (behind (codes "fThreadInfo") bs) (λ r. requests.FirstThreads)
     (or_else (behind (codes "sThreadInfo") bs) (λ r. requests.MoreThreads)
     (or_else (behind (codes "ThreadExtraInfo,") bs) (λ r. by_thread requests.Note (thread_of r))
     (or_else (behind (codes "Attached") bs) (λ r. requests.Attached)
     (or_else (behind (codes "C") bs) (λ r. alone requests.PresentThread r)
-    requests.Unknown))))))
+    requests.Unknown)))))))
 
 -- a step of one thread, in which the others may go on where more actions follow; a signal before the thread is passed over
 abbrev pub others_go : Option (List ℕ) → Request → Request → Request
@@ -107,20 +109,39 @@ resume_of bs =
     (or_else (behind (codes "Kill") bs) (λ r. requests.Detach)
     requests.Unknown)))))
 
--- breakpoints that gdb calls software breakpoints, and no others
+-- something by a number, which is mostly an address; what follows the number says no more
 abbrev pub by_address : (ℕ → Request) → Option (ℕ × List ℕ) → Request
 by_address f None = requests.Unknown
 by_address f (Some x) = f x.0
 
+-- ways back and ends
+abbrev pub way_of : List ℕ → Request
+way_of bs =
+    or_else (behind (codes "bs") bs) (λ r. requests.StepBack)
+    (or_else (behind (codes "bc") bs) (λ r. requests.ContinueBack)
+    (or_else (behind (codes "D") bs) (λ r. requests.Detach)
+    (or_else (behind (codes "k") bs) (λ r. requests.Kill)
+    requests.Unknown)))
+
+-- watchpoints of writes, of reads, and of both
+abbrev pub watching_of : List ℕ → Request
+watching_of bs =
+    or_else (behind (codes "Z2,") bs) (λ r. by_two (requests.AddWatch Write) (two_numbers r))
+    (or_else (behind (codes "z2,") bs) (λ r. by_two (requests.RemoveWatch Write) (two_numbers r))
+    (or_else (behind (codes "Z3,") bs) (λ r. by_two (requests.AddWatch Read) (two_numbers r))
+    (or_else (behind (codes "z3,") bs) (λ r. by_two (requests.RemoveWatch Read) (two_numbers r))
+    (or_else (behind (codes "Z4,") bs) (λ r. by_two (requests.AddWatch Access) (two_numbers r))
+    (or_else (behind (codes "z4,") bs) (λ r. by_two (requests.RemoveWatch Access) (two_numbers r))
+    (way_of bs))))))
+
+-- breakpoints, those that gdb calls software breakpoints and those that it calls hardware breakpoints
 abbrev pub moving_of : List ℕ → Request
 moving_of bs =
     or_else (behind (codes "Z0,") bs) (λ r. by_address requests.AddStop (number_from 0 r))
     (or_else (behind (codes "z0,") bs) (λ r. by_address requests.RemoveStop (number_from 0 r))
-    (or_else (behind (codes "bs") bs) (λ r. requests.StepBack)
-    (or_else (behind (codes "bc") bs) (λ r. requests.ContinueBack)
-    (or_else (behind (codes "D") bs) (λ r. requests.Detach)
-    (or_else (behind (codes "k") bs) (λ r. requests.Kill)
-    requests.Unknown)))))
+    (or_else (behind (codes "Z1,") bs) (λ r. by_address requests.AddHardwareStop (number_from 0 r))
+    (or_else (behind (codes "z1,") bs) (λ r. by_address requests.RemoveHardwareStop (number_from 0 r))
+    (watching_of bs))))
 
 -- what is there
 abbrev pub reading_of : List ℕ → Request

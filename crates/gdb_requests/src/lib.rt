@@ -6,4 +6,4 @@ mod reading;
 mod request;
 
 pub use reading::request_of;
-pub use request::Request;
+pub use request::{Request, Watch};

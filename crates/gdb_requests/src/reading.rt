@@ -1,8 +1,8 @@
 ghost use Rattle.std.specs.Prelude.{◌≡◌};
-ghost use Rattle.gdb_requests.specs.Grammar.{alone, change_of, moving_of, query_of, reading_of, request_of, resume_of, signalled_by, step_of};
+ghost use Rattle.gdb_requests.specs.Grammar.{alone, change_of, moving_of, query_of, reading_of, request_of, resume_of, signalled_by, step_of, watching_of, way_of};
 
 use crate::parts::{behind, number_from, thread_of, two_numbers};
-use crate::request::Request;
+use crate::request::{Request, Watch};
 
 /// What a packet's payload asks for.
 pub fn request_of(text: &[u8]) -> Request
@@ -27,6 +27,12 @@ fn query_of(text: &[u8]) -> Request
     if let Some(rest) = behind(b"Xfer:features:read:target.xml:", text) {
         return match two_numbers(rest) {
             Some((offset, count)) => Request::Description(offset, count),
+            None => Request::Unknown,
+        };
+    }
+    if let Some(rest) = behind(b"Xfer:threads:read::", text) {
+        return match two_numbers(rest) {
+            Some((offset, count)) => Request::ThreadList(offset, count),
             None => Request::Unknown,
         };
     }
@@ -161,7 +167,7 @@ fn reading_of(text: &[u8]) -> Request
     moving_of(text)
 }
 
-/// A breakpoint, a way back or an end, or nothing that is known.
+/// A breakpoint, or one of the others.
 fn moving_of(text: &[u8]) -> Request
     ensures { result ≡ moving_of text.now }
 {
@@ -177,6 +183,68 @@ fn moving_of(text: &[u8]) -> Request
             None => Request::Unknown,
         };
     }
+    if let Some(rest) = behind(b"Z1,", text) {
+        return match number_from(0, rest) {
+            Some((address, _)) => Request::AddHardwareStop(address),
+            None => Request::Unknown,
+        };
+    }
+    if let Some(rest) = behind(b"z1,", text) {
+        return match number_from(0, rest) {
+            Some((address, _)) => Request::RemoveHardwareStop(address),
+            None => Request::Unknown,
+        };
+    }
+    watching_of(text)
+}
+
+/// A watchpoint, or one of the others.
+fn watching_of(text: &[u8]) -> Request
+    ensures { result ≡ watching_of text.now }
+{
+    if let Some(rest) = behind(b"Z2,", text) {
+        return match two_numbers(rest) {
+            Some((address, count)) => Request::AddWatch(Watch::Write, address, count),
+            None => Request::Unknown,
+        };
+    }
+    if let Some(rest) = behind(b"z2,", text) {
+        return match two_numbers(rest) {
+            Some((address, count)) => Request::RemoveWatch(Watch::Write, address, count),
+            None => Request::Unknown,
+        };
+    }
+    if let Some(rest) = behind(b"Z3,", text) {
+        return match two_numbers(rest) {
+            Some((address, count)) => Request::AddWatch(Watch::Read, address, count),
+            None => Request::Unknown,
+        };
+    }
+    if let Some(rest) = behind(b"z3,", text) {
+        return match two_numbers(rest) {
+            Some((address, count)) => Request::RemoveWatch(Watch::Read, address, count),
+            None => Request::Unknown,
+        };
+    }
+    if let Some(rest) = behind(b"Z4,", text) {
+        return match two_numbers(rest) {
+            Some((address, count)) => Request::AddWatch(Watch::Access, address, count),
+            None => Request::Unknown,
+        };
+    }
+    if let Some(rest) = behind(b"z4,", text) {
+        return match two_numbers(rest) {
+            Some((address, count)) => Request::RemoveWatch(Watch::Access, address, count),
+            None => Request::Unknown,
+        };
+    }
+    way_of(text)
+}
+
+/// A way back or an end, or nothing that is known.
+fn way_of(text: &[u8]) -> Request
+    ensures { result ≡ way_of text.now }
+{
     if let Some(_) = behind(b"bs", text) {
         return Request::StepBack;
     }

@@ -1,3 +1,12 @@
+/// Which accesses a watchpoint is for.
+#[derive(Clone, Copy, Debug, PartialEq, Eq)]
+pub enum Watch {
+    Write,
+    Read,
+    /// Both.
+    Access,
+}
+
 /// What a debugger asks for. Hart 0 is thread 1.
 #[derive(Clone, Copy, Debug, PartialEq, Eq)]
 pub enum Request {
@@ -7,6 +16,8 @@ pub enum Request {
     Description(u64, u64),
     /// Where the run stands, and why.
     WhyStopped,
+    /// All threads and what is said of each: from an offset of their document on, so many bytes.
+    ThreadList(u64, u64),
     /// The first threads.
     FirstThreads,
     /// The threads after those that were told.
@@ -35,6 +46,14 @@ pub enum Request {
     AddStop(u64),
     /// None there any more.
     RemoveStop(u64),
+    /// A breakpoint that gdb calls a hardware breakpoint, at an address.
+    AddHardwareStop(u64),
+    /// None there any more.
+    RemoveHardwareStop(u64),
+    /// A watchpoint at an address, on so many bytes.
+    AddWatch(Watch, u64, u64),
+    /// None there any more.
+    RemoveWatch(Watch, u64, u64),
     /// The ways in which the run can be resumed.
     Actions,
     /// Go on.

@@ -1,11 +1,11 @@
 //! Requests, as gdb-multiarch 13.1 sends them to a program for RISC-V, and as gdb's manual has them in appendix E.
 
-use gdb_requests::{Request, request_of};
+use gdb_requests::{Request, Watch, request_of};
 use std::test::Fail;
 
 #[test]
 fn questions_are_read(rt: HostRuntime) -> Result<(), Fail> {
-    let rows: [(&[u8], Request); 20] = [
+    let rows: [(&[u8], Request); 21] = [
         (
             b"qSupported:multiprocess+;swbreak+;hwbreak+",
             Request::Features,
@@ -15,6 +15,7 @@ fn questions_are_read(rt: HostRuntime) -> Result<(), Fail> {
             Request::Description(0, 4091),
         ),
         (b"?", Request::WhyStopped),
+        (b"qXfer:threads:read::1000,ff", Request::ThreadList(0x1000, 255)),
         (b"qfThreadInfo", Request::FirstThreads),
         (b"qsThreadInfo", Request::MoreThreads),
         (b"qThreadExtraInfo,2", Request::Note(2)),
@@ -41,10 +42,15 @@ fn questions_are_read(rt: HostRuntime) -> Result<(), Fail> {
 
 #[test]
 fn moves_are_read(rt: HostRuntime) -> Result<(), Fail> {
-    let rows: [(&[u8], Request); 17] = [
+    let rows: [(&[u8], Request); 22] = [
         (b"Z0,10b0,4", Request::AddStop(0x10b0)),
         (b"z0,10b0,4", Request::RemoveStop(0x10b0)),
-        (b"Z2,20000,8", Request::Unknown),
+        (b"Z1,10b0,4", Request::AddHardwareStop(0x10b0)),
+        (b"z1,10b0,4", Request::RemoveHardwareStop(0x10b0)),
+        (b"Z2,20000,8", Request::AddWatch(Watch::Write, 0x20000, 8)),
+        (b"z3,20000,8", Request::RemoveWatch(Watch::Read, 0x20000, 8)),
+        (b"Z4,20000,8", Request::AddWatch(Watch::Access, 0x20000, 8)),
+        (b"Z5,20000,8", Request::Unknown),
         (b"Z0,ffffffffffffffff,4", Request::AddStop(u64::MAX)),
         (b"Z0,10000000000000000,4", Request::Unknown),
         (b"vCont?", Request::Actions),
