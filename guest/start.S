@@ -2,9 +2,13 @@
 
     .equ  stack_bytes, 0x2000
 
+    .cfi_sections .debug_frame      # so that a debugger knows that nothing called _start
+
     .section .text.start, "ax"
     .globl _start
 _start:
+    .cfi_startproc
+    .cfi_undefined ra
     addi  t0, a0, 1
     li    t1, stack_bytes
     mul   t0, t0, t1
@@ -13,6 +17,7 @@ _start:
     call  hart_main
     li    a7, 0             # the exit call; its value is what hart_main returned in a0
     ecall                   # the hart stops here
+    .cfi_endproc
 
     .section .stacks, "aw", @nobits
     .balign 16
