@@ -1,5 +1,5 @@
 -- What a debugger is answered about a hart of a run at a moment, byte by byte.
-use Rattle.std.specs.Prelude.{ℕ, List, [], ◌∷◌, codes, Option, Some, None}
+use Rattle.std.specs.Prelude.{ℕ, zero, suc, List, [], ◌∷◌, ◌++◌, codes, slice_get, Option, Some, None}
 use Rattle.hex.specs.Hex.{encode_lower}
 use Rattle.hart_step.specs.declared.hart.Hart.{Hart}
 use Rattle.machine.specs.Machine.{Running, after_rounds}
@@ -7,8 +7,8 @@ use Rattle.moments.specs.Sights.{Sight}
 use Rattle.seeing.specs.Bytes.{bytes_from}
 use Rattle.round_steps.specs.declared.moment.Moment.{Moment}
 use Rattle.round_steps.specs.Shown.{shown_at}
-use Rattle.gdb_replies.specs.Replies.{note_text, stop_text}
-use Rattle.gdb_replies.specs.Words.{registers_text}
+use Rattle.gdb_replies.specs.Replies.{note_text, part_of, stop_text, thread_element, thread_list_begin, thread_list_end}
+use Rattle.gdb_replies.specs.Words.{numbers_of, register_text, registers_text}
 use Rattle.gdb_replies.specs.declared.stop_reply.Reason.{Reason}
 use Rattle.gdb_sights.specs.Told.{note_of, registers_of, stop_reply_of}
 
@@ -20,6 +20,14 @@ seen m at i = shown_at (after_rounds at.rounds m) at.place i
 abbrev pub or_missing : Option (Sight Hart) → (Sight Hart → List ℕ) → List ℕ
 or_missing None f = codes "E01"
 or_missing (Some s) f = f s
+
+-- a register by its number, and `E01` where there is none
+abbrev pub number_answer : Option ℕ → List ℕ
+number_answer None = codes "E01"
+number_answer (Some v) = register_text v
+
+abbrev pub register_answer : ℕ → Moment → Option (Sight Hart) → List ℕ
+register_answer n at s = or_missing s (λ (x : Sight Hart). number_answer (slice_get (numbers_of (registers_of x.hart at)) n))
 
 abbrev pub registers_answer : Moment → Option (Sight Hart) → List ℕ
 registers_answer at s = or_missing s (λ (x : Sight Hart). registers_text (registers_of x.hart at))
@@ -34,6 +42,18 @@ memory_answer address count s = or_missing s (λ (x : Sight Hart). bytes_answer 
 
 abbrev pub note_answer : ℕ → Moment → Option (Sight Hart) → List ℕ
 note_answer i at s = or_missing s (λ (x : Sight Hart). encode_lower (note_text (note_of i x.hart at)))
+
+-- the list of threads of the first n harts, and a part of it
+abbrev pub thread_entry : ℕ → Moment → Option (Sight Hart) → List ℕ
+thread_entry i at None = []
+thread_entry i at (Some s) = thread_element (note_of i s.hart at)
+
+unfoldable pub thread_entries : Running → Moment → ℕ → List ℕ
+thread_entries m at zero = []
+thread_entries m at (suc i) = thread_entries m at i ++ thread_entry i at (seen m at i)
+
+abbrev pub thread_list_answer : Running → Moment → ℕ → ℕ → ℕ → List ℕ
+thread_list_answer m at harts offset count = part_of (thread_list_begin ++ thread_entries m at harts ++ thread_list_end) offset count
 
 abbrev pub stop_answer : Reason → ℕ → Option (Sight Hart) → List ℕ
 stop_answer why i s = or_missing s (λ (x : Sight Hart). stop_text (stop_reply_of why i x.hart))

@@ -1,13 +1,14 @@
-ghost use Rattle.std.specs.Prelude.{◌≡◌, ◌≤◌, ◌+◌, ◌<◌, ◌^◌, ◌++◌, Err, OnOk};
+ghost use Rattle.std.specs.Prelude.{◌≡◌, ◌≤◌, ◌+◌, ◌<◌, ◌^◌, ◌++◌, Err, OnOk, slice_get};
 ghost use Rattle.host_io.specs.declared.error.RunError.TheVariants as refusals;
 ghost use Rattle.machine.specs.Machine.{Running};
 ghost use Rattle.machine.specs.Untraced.{IsUntraced};
 ghost use Rattle.host_io.specs.Taken.{WritesText};
 ghost use Rattle.gdb_packets.specs.Writing.{packet_text};
-ghost use Rattle.gdb_answers.specs.Answers.{bytes_answer, memory_answer, note_answer, registers_answer, seen, stop_answer};
+ghost use Rattle.gdb_replies.specs.Words.{numbers_of};
+ghost use Rattle.gdb_answers.specs.Answers.{bytes_answer, memory_answer, note_answer, register_answer, registers_answer, seen, stop_answer};
 
 use crate::look::Look;
-use gdb_replies::{Reason, Reply, write_reply};
+use gdb_replies::{Reason, Registers, Reply, write_reply};
 use gdb_sights::{note_of, registers_of, stop_reply_of};
 use host_io::{RunError, Sink};
 use round_steps::Timeline;
@@ -40,6 +41,54 @@ pub fn answer_registers<R: Threads + Wait + Sync, K: Sink>(
             write_reply(alloc, &Reply::Registers(&registers), out)
         }
         None => write_reply(alloc, &Reply::Missing, out),
+    }
+}
+
+/// Answers with one register of a hart at a moment, by its number. It may wait.
+///
+/// # Errors
+///
+/// `OutOfMemory`: nothing is written then. `SinkFailed`: a beginning of the packet is.
+pub fn answer_register<R: Threads + Wait + Sync, K: Sink>(
+    rt: &R,
+    alloc: Global,
+    timeline: &mut Timeline,
+    look: Look,
+    number: u64,
+    out: &mut K,
+) -> Result<(), RunError>
+    requires within { look.moment.rounds ≤ timeline.old.rounds }
+    requires workers { (1 ≤ look.workers) × (look.workers ≤ 16) }
+    ensures stays { timeline.new ≡ timeline.old }
+    ensures writes { (m : Running) → IsUntraced m timeline.old.start → OnOk result
+        (K.took out.new ≡ K.took out.old ++ packet_text (register_answer number look.moment (seen m look.moment look.hart))) }
+    ensures memory { result ≡ Err refusals.OutOfMemory → K.took out.new ≡ K.took out.old }
+{
+    match timeline.shown(rt, &look.moment, look.hart, look.workers)? {
+        Some(sight) => {
+            let registers = registers_of(&sight.hart(), look.moment);
+            match register_of(&registers, number) {
+                Some(value) => write_reply(alloc, &Reply::Register(value), out),
+                None => write_reply(alloc, &Reply::Missing, out),
+            }
+        }
+        None => write_reply(alloc, &Reply::Missing, out),
+    }
+}
+
+/// A register by its number.
+fn register_of(registers: &Registers, number: u64) -> Option<u64>
+    ensures { result ≡ slice_get (numbers_of registers.now) number }
+{
+    if number < 32 {
+        return Some(registers.x[number as usize]);
+    }
+    match number {
+        32 => Some(registers.pc),
+        33 => Some(registers.round),
+        34 => Some(registers.place),
+        35 => Some(registers.phase),
+        _ => None,
     }
 }
 

@@ -1,0 +1,94 @@
+ghost use Rattle.std.specs.Prelude.{◌≡◌, ◌≤◌, ◌+◌, ◌<◌, ◌^◌, ◌++◌, Err, IfOk, IfErr, OnOk};
+ghost use Rattle.host_io.specs.declared.error.RunError.TheVariants as refusals;
+ghost use Rattle.machine.specs.Machine.{Running};
+ghost use Rattle.machine.specs.Untraced.{IsUntraced};
+ghost use Rattle.gdb_packets.specs.Writing.{packet_text};
+ghost use Rattle.gdb_answers.specs.Answers.{seen, thread_entry, thread_entries, thread_list_answer};
+ghost use Rattle.gdb_replies.specs.Replies.{thread_list_begin, thread_list_end};
+
+use crate::look::Look;
+use gdb_replies::{Reply, Window, add_thread, begin_thread_list, end_thread_list, write_reply};
+use gdb_sights::note_of;
+use host_io::{RunError, Sink};
+use round_steps::Timeline;
+use std::alloc::Global;
+use std::sync::Wait;
+use std::thread::Threads;
+
+/// Answers with a part of the list of so many threads at a moment. It may wait.
+///
+/// # Errors
+///
+/// `OutOfMemory`: nothing is written then. `SinkFailed`: a beginning of the packet is.
+pub fn answer_threads<R: Threads + Wait + Sync, K: Sink>(
+    rt: &R,
+    alloc: Global,
+    timeline: &mut Timeline,
+    look: Look,
+    offset: u64,
+    count: u64,
+    out: &mut K,
+) -> Result<(), RunError>
+    requires within { look.moment.rounds ≤ timeline.old.rounds }
+    requires workers { (1 ≤ look.workers) × (look.workers ≤ 16) }
+    requires rounds { look.moment.rounds + 1 < 2 ^ 32 }
+    ensures stays { timeline.new ≡ timeline.old }
+    ensures writes { (m : Running) → IsUntraced m timeline.old.start → OnOk result (K.took out.new ≡ K.took out.old
+        ++ packet_text (thread_list_answer m look.moment look.hart offset count)) }
+    ensures memory { result ≡ Err refusals.OutOfMemory → K.took out.new ≡ K.took out.old }
+{
+    let text = thread_list(rt, alloc, timeline, look)?;
+    let part = Window {
+        text: text.as_slice(),
+        offset,
+        count,
+    };
+    write_reply(alloc, &Reply::Part(part), out)
+}
+
+/// The list of the threads of the harts before one.
+#[tactic(auto, using(crate::proofs::Texts::assoc), unfolding(crate::specs::Answers::thread_entries))]
+fn thread_list<R: Threads + Wait + Sync>(
+    rt: &R,
+    alloc: Global,
+    timeline: &mut Timeline,
+    look: Look,
+) -> Result<Vec<u8>, RunError>
+    requires within { look.moment.rounds ≤ timeline.old.rounds }
+    requires workers { (1 ≤ look.workers) × (look.workers ≤ 16) }
+    requires rounds { look.moment.rounds + 1 < 2 ^ 32 }
+    ensures stays { timeline.new ≡ timeline.old }
+    ensures list { (m : Running) → IsUntraced m timeline.old.start → IfOk result (λ text. text.items ≡
+        thread_list_begin ++ thread_entries m look.moment look.hart ++ thread_list_end) }
+    ensures refused { IfErr result (λ e. e ≡ refusals.OutOfMemory) }
+{
+    let mut text = begin_thread_list(alloc)?;
+    for hart in 0..look.hart {
+        add_entry(rt, timeline, Look { hart, ..look }, &mut text)?;
+    }
+    end_thread_list(&mut text)?;
+    Ok(text)
+}
+
+/// Adds a hart's thread, where there is the hart.
+fn add_entry<R: Threads + Wait + Sync>(
+    rt: &R,
+    timeline: &mut Timeline,
+    look: Look,
+    text: &mut Vec<u8>,
+) -> Result<(), RunError>
+    requires within { look.moment.rounds ≤ timeline.old.rounds }
+    requires workers { (1 ≤ look.workers) × (look.workers ≤ 16) }
+    requires rounds { look.moment.rounds + 1 < 2 ^ 32 }
+    requires hart { look.hart + 1 < 2 ^ 32 }
+    ensures stays { timeline.new ≡ timeline.old }
+    ensures entry { (m : Running) → IsUntraced m timeline.old.start → OnOk result (text.new.items ≡
+        text.old.items ++ thread_entry look.hart look.moment (seen m look.moment look.hart)) }
+    ensures refused { IfErr result (λ e. e ≡ refusals.OutOfMemory) }
+{
+    if let Some(sight) = timeline.shown(rt, &look.moment, look.hart, look.workers)? {
+        let note = note_of(look.hart, &sight.hart(), look.moment);
+        add_thread(text, &note)?;
+    }
+    Ok(())
+}
