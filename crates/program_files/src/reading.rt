@@ -1,0 +1,90 @@
+//! The files that a run is given.
+ghost use Rattle.std.specs.Prelude.{IfErr, IfOk};
+ghost use Rattle.program_files.specs.Asked.{IsImageOf, IsProgramOf};
+ghost use Rattle.program_files.specs.Failures.{IsFileFailure};
+
+use crate::failure::RunFailure;
+use command_line::Program;
+use host_io::RunError;
+use pages::MOST_PAGES;
+use program_world::{FileFault, Files};
+use std::alloc::Global;
+
+/// One byte more than a flat image can have that fits into guest memory.
+const MOST_OF_FLAT: u64 = MOST_PAGES as u64 * 4096 + 1;
+
+/// All the bytes of the file of a path.
+///
+/// # Errors
+///
+/// `File` where it can't be read, and `OutOfMemory`.
+pub fn read_file<F: Files>(files: &F, alloc: Global, path: &str) -> Result<Vec<u8>, RunFailure>
+    ensures holds { IfOk result (λ bytes. F.holds files.now path.now bytes.items) }
+    ensures errors { IfErr result IsFileFailure }
+{
+    match files.read_whole(path) {
+        Ok(bytes) => Ok(bytes),
+        Err(fault) => Err(unreadable(alloc, path, fault)),
+    }
+}
+
+/// The failure of a file that can't be read.
+pub fn unreadable(alloc: Global, path: &str, fault: FileFault) -> RunFailure
+    ensures { IsFileFailure result }
+{
+    match (fault, String::from_str(alloc, path)) {
+        (FileFault::OutOfMemory, _) | (_, Err(_)) => RunFailure::Refused(RunError::OutOfMemory),
+        (fault, Ok(path)) => RunFailure::File(path, fault),
+    }
+}
+
+/// A guest program and what it reads.
+#[derive(Drop)]
+pub struct ProgramFiles {
+    /// The image.
+    pub image: Vec<u8>,
+    /// The input.
+    pub input: Vec<u8>,
+}
+
+/// Reads a guest program, and what it reads.
+///
+/// # Errors
+///
+/// `File` where one of the files can't be read, and `OutOfMemory`.
+pub fn read_program<F: Files>(
+    files: &F,
+    alloc: Global,
+    program: &Program<'_>,
+) -> Result<ProgramFiles, RunFailure>
+    ensures program { IfOk result (λ p. IsProgramOf (F.holds files.now) (F.begins files.now) program.now
+        p.image.items p.input.items) }
+    ensures errors { IfErr result IsFileFailure }
+{
+    let image = read_image(files, alloc, program)?;
+    let input = match program.input {
+        Some(path) => read_file(files, alloc, path)?,
+        None => Vec::new(alloc),
+    };
+    Ok(ProgramFiles { image, input })
+}
+
+/// Reads the image of a guest program.
+fn read_image<F: Files>(
+    files: &F,
+    alloc: Global,
+    program: &Program<'_>,
+) -> Result<Vec<u8>, RunFailure>
+    ensures image { IfOk result (λ bytes. IsImageOf (F.holds files.now) (F.begins files.now)
+        program.now.flat program.now.image.now bytes.items) }
+    ensures errors { IfErr result IsFileFailure }
+{
+    if !program.flat {
+        return read_file(files, alloc, program.image);
+    }
+    // One that is longer is refused by this beginning of it, as it would be by the whole.
+    match files.read_beginning(program.image, MOST_OF_FLAT) {
+        Ok(bytes) => Ok(bytes),
+        Err(fault) => Err(unreadable(alloc, program.image, fault)),
+    }
+}
