@@ -1,4 +1,5 @@
-//! When memory operations can be: times of registers, of fences and of accesses, the stores that harts hold, and memory as it was.
+//! When memory operations can be: times of registers, of fences and of accesses, the stores that harts hold, a store
+//! that comes early, and memory as it was.
 //!
 //! A time is a number of stores in memory. What has a time stands behind the store of that number in the global memory order. So
 //! the rules of RVWMO on preserved program order (manual, section 14.1) are bounds on times.
@@ -8,6 +9,7 @@
 #![tactic(auto)]
 
 mod doubleword;
+mod early;
 mod held;
 mod history;
 mod operation;
@@ -15,6 +17,7 @@ mod time_table;
 mod views;
 
 pub use doubleword::{Bytes, shift_of};
+pub use early::{Early, Promise, PutStore, Stage};
 pub use held::{HeldStore, MOST_HELD};
 pub use history::{History, Maker, Sight};
 pub use operation::{Kind, Operation, operation_of};

@@ -98,6 +98,26 @@ impl Views {
         least
     }
 
+    /// Behind which time a store, an SC or an AMO has to be.
+    pub fn least_of_store(&self, registers: &Registers, operation: &Operation) -> u32 {
+        let mut least = self
+            .of(registers.address)
+            .max(self.of(registers.value))
+            .max(self.next_write)
+            .max(self.control)
+            .max(self.met_at(operation.address, operation.width));
+        if operation.loads() {
+            least = least.max(self.next_read);
+        }
+        if operation.releases() {
+            least = least.max(self.reads).max(self.writes);
+        }
+        if operation.acquires() || operation.releases() {
+            least = least.max(self.annotated);
+        }
+        least
+    }
+
     /// An instruction without a memory operation was done.
     #[inline]
     pub fn compute(&mut self, registers: &Registers) {

@@ -15,8 +15,8 @@ a number or the order by hand, and ask dethart check whether the memory model
 RVWMO allows that.
 
 With --weak it is execution N of dethart hunt --weak, in which loads come early
-and stores late; --plan-number N says which, and --quota, --plan and --budget
-are refused beside it.
+and stores early or late; --plan-number N says which, and --quota, --plan and
+--budget are refused beside it.
 
 dethart run --help says what a plan is, and what each error N means: a refusal
 is the line 'error N' on standard error, with the exit status 1.

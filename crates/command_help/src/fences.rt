@@ -15,11 +15,12 @@ Examples:
 
 The program is run by PLANS numbers of the seed, from FIRST on. As in dethart
 hunt --weak a number stands for an execution in which loads come early and
-stores late. It fails where a hart stops otherwise than by exit 0; where other
-bytes are put out, or stand at a --see, than in all of 12 ordinary runs, if
-these agree; or where it goes on though ordinary runs end. What fails is cut
-down to the operations that have to be out of order for that, and these say
-between which instructions a fence is missing. What is printed is
+stores late or, in each fifth number, one store comes early. It fails where a
+hart stops otherwise than by exit 0; where other bytes are put out, or stand at
+a --see, than in all of 12 ordinary runs, if these agree; or where it goes on
+though ordinary runs end. What fails is cut down to the operations that have to
+be out of order for that, and these say between which instructions a fence is
+missing. What is printed is
 
   fences FIRST COUNT seed S
   ordinary N first NUMBER

@@ -1,4 +1,4 @@
-use timed_machine::Departure;
+use departures::Departure;
 
 /// Which memory operations of an execution depart from the order of their harts' programs.
 #[derive(Clone, Copy)]

@@ -1,7 +1,7 @@
 //! Places at which fences forbid all executions that fail.
 
-use crate::naming::{Gap, Move, Sides};
 use crate::trying::Found;
+use fence_places::{Gap, Move, Sides};
 use fence_table::{FenceKind, Side, Tally};
 use pages::OutOfMemory;
 use std::alloc::Global;

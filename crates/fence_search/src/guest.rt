@@ -1,10 +1,11 @@
 ghost use Rattle.std.specs.Prelude.{◌≤◌, length};
 
 use crate::departing::Departing;
+use departures::Departure;
 use hunt_table::SeenRange;
 use pages::OutOfMemory;
 use std::alloc::Global;
-use timed_machine::{Bounds, Departure, TimedMachine};
+use timed_machine::{Bounds, TimedMachine};
 use weak_executions::{Opening, WeakGuest};
 
 /// A guest program in which missing fences are searched for.
@@ -17,8 +18,6 @@ pub struct FenceGuest<'a> {
     pub(crate) rounds: u32,
     /// The bytes that are looked at when one ends.
     pub(crate) ranges: &'a [SeenRange],
-    /// Before the instruction of which address a full fence is assumed.
-    pub(crate) fence: Option<u64>,
     ghost few: { length opening.harts.now ≤ 64 },
 }
 
@@ -39,10 +38,9 @@ impl<'a> FenceGuest<'a> {
         FenceGuest {
             alloc,
             opening,
-            maker: WeakGuest::new(alloc, opening, seed, rounds),
+            maker: WeakGuest::new(alloc, opening, seed, rounds).with_fence(fence),
             rounds,
             ranges,
-            fence,
         }
     }
 
@@ -64,15 +62,24 @@ impl<'a> FenceGuest<'a> {
         is_recorded: bool,
         steps: u64,
     ) -> Result<TimedMachine, OutOfMemory> {
-        let mut machine = self.maker.machine(number, is_recorded)?;
-        if let Some(pc) = self.fence {
-            machine.assume_fence(pc);
+        let bounds = self.bounds(steps);
+        match departing {
+            Departing::Drawn => self.maker.execute_within(number, is_recorded, bounds),
+            Departing::Listed(departures) => {
+                let departures = copied(self.alloc, departures)?;
+                self.maker
+                    .execute_with(number, departures, is_recorded, bounds)
+            }
         }
-        if let Departing::Listed(departures) = departing {
-            machine.depart(copied(self.alloc, departures)?);
+    }
+
+    /// How far an execution goes.
+    fn bounds(&self, steps: u64) -> Bounds {
+        Bounds {
+            rounds: self.rounds,
+            steps,
+            until_fault: true,
         }
-        self.go_on(&mut machine, number, steps)?;
-        Ok(machine)
     }
 
     /// Goes on by the plan of a number, until a hart stops otherwise than by exit 0, or until so many steps are taken in all.
@@ -83,14 +90,7 @@ impl<'a> FenceGuest<'a> {
         steps: u64,
     ) -> Result<(), OutOfMemory> {
         let rows = self.maker.rows(number)?;
-        machine.run_within(
-            &rows,
-            Bounds {
-                rounds: self.rounds,
-                steps,
-                until_fault: true,
-            },
-        )
+        machine.run_within(&rows, self.bounds(steps))
     }
 }
 

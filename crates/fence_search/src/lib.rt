@@ -1,4 +1,4 @@
-//! A search for missing fences: executions in which loads read old and stores come late are made by their numbers, those that fail are
+//! A search for missing fences: executions in which loads read old and stores come late or early are made by their numbers, those that fail are
 //! made with as few departures as they need, and what is left names the places where nothing orders two accesses.
 //!
 //! The checker of executions says of each execution that is found whether RVWMO allows it, so nothing else here need be trusted.
@@ -8,11 +8,8 @@ mod departing;
 mod failing;
 mod gathering;
 mod guest;
-mod naming;
 mod ordinary;
 mod searching;
-mod sequential;
-mod sharing;
 mod shortening;
 mod trying;
 mod working;
@@ -21,7 +18,5 @@ pub use departing::Departing;
 pub use failing::Failing;
 pub use gathering::Weakness;
 pub use guest::FenceGuest;
-pub use naming::{Gap, Move, Moves, Overtaken, Sides};
 pub use searching::{FenceObserver, Search, UnobservedSearch, search_fences};
-pub use timed_machine::{Departure, Placing, Way};
 pub use trying::Found;

@@ -171,12 +171,15 @@ impl Ordinary {
         }
     }
 
-    /// How an execution fails that has come so far.
+    /// How an execution fails that has come so far, if it is one.
     fn failing_now(
         &self,
         guest: &FenceGuest<'_>,
         machine: &TimedMachine,
     ) -> Result<Option<Failing>, OutOfMemory> {
+        if machine.is_void() {
+            return Ok(None);
+        }
         match state_of(machine, guest.harts()) {
             State::Failed(hart, stop) => Ok(Some(Failing::Stopped(hart, stop))),
             State::Ended => self.other_outcome(guest, machine),

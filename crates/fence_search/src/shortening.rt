@@ -4,9 +4,10 @@ use crate::departing::Departing;
 use crate::failing::Failing;
 use crate::guest::{FenceGuest, copied};
 use crate::ordinary::Ordinary;
+use access_times::Early;
+use departures::{Departure, Way};
 use pages::OutOfMemory;
 use std::alloc::Global;
-use timed_machine::{Departure, Way};
 
 /// How many executions are made at most to shorten a list.
 const MOST_RUNS: u32 = 400;
@@ -145,6 +146,10 @@ fn smaller(way: Way, extent: u32) -> Option<Way> {
         Way::Late(operations) if u64::from(extent) < operations => {
             Some(Way::Late(u64::from(extent)))
         }
+        Way::Early(early) if u64::from(extent) < early.wait => Some(Way::Early(Early {
+            wait: u64::from(extent),
+            ..early
+        })),
         _ => None,
     }
 }

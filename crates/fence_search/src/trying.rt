@@ -1,12 +1,11 @@
 use crate::departing::Departing;
 use crate::failing::Failing;
 use crate::guest::{FenceGuest, copied};
-use crate::naming::{Moves, moves_of};
 use crate::ordinary::Ordinary;
-use crate::sequential::is_sequential;
 use crate::shortening::shortened;
+use departures::{Departure, Placing, Record};
+use fence_places::{Moves, is_sequential, moves_of};
 use pages::OutOfMemory;
-use timed_machine::{Departure, Placing, Record};
 use weak_executions::is_allowed;
 
 /// The orders of an execution's memory operations that are tried, one after another: in the first just what departs is out of its

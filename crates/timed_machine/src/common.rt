@@ -1,10 +1,8 @@
-use crate::departure::{Departure, Listed, Way};
-use crate::draws::Draws;
-use crate::memory::Memory;
-use crate::record::{Deed, Record};
-use access_times::History;
+use access_times::{History, Promise};
+use departures::{Deed, Departure, Draws, Listed, Record, Way};
 use execution::ScriptedStep;
 use pages::OutOfMemory;
+use serial_memory::Memory;
 
 /// What the harts have in common.
 #[derive(Drop)]
@@ -15,6 +13,8 @@ pub(crate) struct Common {
     pub(crate) draws: Draws,
     /// What departs.
     pub(crate) listed: Listed,
+    /// The store that comes early, if one is listed.
+    pub(crate) promise: Option<Promise>,
     /// Before the instruction of which address a full fence is assumed.
     pub(crate) fence_at: Option<u64>,
     /// How many memory operations all harts have done.
@@ -50,6 +50,12 @@ impl Common {
             Some(Way::Late(operations)) => Some(operations),
             _ => None,
         }
+    }
+
+    /// Whether an early store is in memory, and its hart hasn't come to it.
+    #[inline]
+    pub(crate) fn is_promised(&self) -> bool {
+        self.promise.is_some_and(|promise| promise.is_open())
     }
 
     /// A hart took a step.

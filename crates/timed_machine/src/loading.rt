@@ -2,11 +2,10 @@
 ghost use Rattle.std.specs.Prelude.{◌≡◌, None};
 
 use crate::common::Common;
-use crate::departure::{Departure, Way};
-use crate::record::Deed;
 use crate::stepping::{Outcome, count, ended, scripted};
 use crate::timed_hart::{TimedHart, Timing};
 use access_times::{Bytes, MOST_HELD, Operation, shift_of};
+use departures::{Deed, Departure, Way};
 use dependencies::Registers;
 use pages::{OutOfMemory, Store};
 use round_schedule::{Access, Stepped};
@@ -45,11 +44,16 @@ fn look(
         bytes = without_held(&hart.timing, bytes);
     }
     let now = common.history.now();
-    let back = common.old(hart.timing.number, hart.state.done);
-    let old = match back {
+    let mut back = common.old(hart.timing.number, hart.state.done);
+    let mut old = match back {
         Some(back) => common.history.time_before(bytes, least.max(met), back),
         None => None,
     };
+    if let Some(promise) = &common.promise {
+        if let Some(at) = promise.read_at(hart.timing.number, operation) {
+            (back, old) = (None, Some(at));
+        }
+    }
     let at = old.unwrap_or(now);
     let sight = common
         .history
@@ -162,6 +166,7 @@ fn note(
         access,
         earliest: look.time,
         at: look.at,
+        behind: 0,
         event,
     })?;
     Ok(())

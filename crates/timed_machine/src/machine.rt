@@ -2,16 +2,14 @@ ghost use Rattle.std.specs.Prelude.{◌≤◌, ◌<◌, length};
 ghost use Rattle.hart_step.specs.CodeTables.{Shows};
 
 use crate::common::Common;
-use crate::departure::{Departure, Listed};
-use crate::draws::Draws;
 use crate::holding::{Ripe, put_ripe};
-use crate::memory::Memory;
-use crate::record::Record;
 use crate::stepping::{Outcome, step};
 use crate::timed_hart::TimedHart;
 use access_times::History;
+use departures::{Departure, Draws, Listed, Record};
 use hart_step::Hart;
 use pages::{OutOfMemory, Pages};
+use serial_memory::Memory;
 use serial_phase::SharedState;
 use std::alloc::Global;
 
@@ -38,6 +36,8 @@ pub struct TimedMachine {
     common: Common,
     /// The number of the last round.
     round: u32,
+    /// Whether a hart has stopped otherwise than by exit 0, where that ends the execution.
+    has_failed: bool,
 }
 
 impl TimedMachine {
@@ -72,6 +72,7 @@ impl TimedMachine {
                 history,
                 draws,
                 listed: Listed::new(Vec::new(alloc)),
+                promise: None,
                 fence_at: None,
                 operations: 0,
                 steps: 0,
@@ -79,14 +80,29 @@ impl TimedMachine {
                 record,
             },
             round: 0,
+            has_failed: false,
         })
     }
 
     /// From now on just these departures are made, as far as they can be, and none is drawn. There is at most one for each step
-    /// of a hart.
+    /// of a hart. Of the stores that come early there is one, which is in memory when its hart comes to its step: of several
+    /// the first.
     pub fn depart(&mut self, departures: Vec<Departure>) {
         self.common.draws = self.common.draws.without_departures();
         self.common.listed = Listed::new(departures);
+        self.common.promise = self.common.listed.early();
+    }
+
+    /// Whether this is no execution: a store came early that its hart didn't do, or couldn't do so early.
+    pub fn is_void(&self) -> bool {
+        self.common
+            .promise
+            .is_some_and(|promise| promise.is_open() || promise.is_broken())
+    }
+
+    /// Whether a store came early, and its hart did it.
+    pub fn came_early(&self) -> bool {
+        self.common.promise.is_some_and(|promise| promise.is_kept())
     }
 
     /// From now on a full fence is assumed before each instruction at an address.
@@ -155,7 +171,7 @@ impl TimedMachine {
     pub fn run_within(&mut self, rows: &[Vec<u32>], bounds: Bounds) -> Result<(), OutOfMemory> {
         let mut row = 0;
         for _ in 0..bounds.rounds {
-            if self.common.steps >= bounds.steps || self.have_stopped() {
+            if self.common.steps >= bounds.steps || self.have_stopped() || self.is_broken() {
                 break;
             }
             if row >= rows.len() {
@@ -184,8 +200,15 @@ impl TimedMachine {
         (self.common.draws.first() % (self.harts.len() as u64).max(1)) as usize
     }
 
+    /// Whether the store that came early isn't done by its hart.
+    fn is_broken(&self) -> bool {
+        self.common
+            .promise
+            .is_some_and(|promise| promise.is_broken())
+    }
+
     /// Whether a hart has stopped otherwise than by exit 0.
-    fn has_failed(&self, index: usize) -> bool {
+    fn is_failed(&self, index: usize) -> bool {
         match self.harts.get(index) {
             Some(hart) => match hart.state.stop {
                 Some(stop) => stop.code != 1 || stop.value != 0,
@@ -195,8 +218,8 @@ impl TimedMachine {
         }
     }
 
-    /// One round. Where each hart that runs waits, the first goes on. Says whether it ends at a hart that has stopped otherwise
-    /// than by exit 0, as it does where that is wanted.
+    /// One round. Where each hart that runs waits, the first goes on. Says whether it ends since a hart has stopped otherwise than
+    /// by exit 0, as it does where that is wanted, once no store is in memory that its hart has yet to do.
     fn do_round(&mut self, quotas: &[u32], until_fault: bool) -> Result<bool, OutOfMemory> {
         let mut went = false;
         let count = self.harts.len();
@@ -212,7 +235,8 @@ impl TimedMachine {
             if self.do_turn(index, quota, false)? {
                 went = true;
             }
-            if until_fault && self.has_failed(index) {
+            self.has_failed = self.has_failed || until_fault && self.is_failed(index);
+            if self.has_failed && !self.common.is_promised() {
                 return Ok(true);
             }
             index += 1;

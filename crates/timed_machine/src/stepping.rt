@@ -4,6 +4,7 @@ ghost use Rattle.std.specs.Prelude.{◌≡◌, None};
 use crate::common::Common;
 use crate::holding::may_go_on;
 use crate::loading::load;
+use crate::promise::mind;
 use crate::storing::{exchange, store};
 use crate::timed_hart::TimedHart;
 use access_times::{Kind, Operation, operation_of};
@@ -40,11 +41,16 @@ pub(crate) fn step(
     round: u32,
     forced: bool,
 ) -> Result<Outcome, OutOfMemory> {
-    if hart.state.stop.is_some() {
-        return Ok(Outcome::HasStopped);
-    }
     if common.fence_at == Some(hart.state.pc) {
         hart.timing.pass_fence(ALL, ALL, FenceMode::Normal);
+    }
+    if let Some(promise) = common.promise {
+        if let Some(outcome) = mind(hart, common, promise, round, forced)? {
+            return Ok(outcome);
+        }
+    }
+    if hart.state.stop.is_some() {
+        return Ok(Outcome::HasStopped);
     }
     let Some(i) = common.memory.instruction_at(hart.state.pc) else {
         return stop(hart, common, round);

@@ -2,12 +2,11 @@
 ghost use Rattle.std.specs.Prelude.{◌≡◌, ◌<◌, None};
 
 use crate::common::Common;
-use crate::departure::{Departure, Way};
 use crate::loading::read_by;
-use crate::record::Deed;
 use crate::stepping::{Outcome, count, ended, scripted};
 use crate::timed_hart::TimedHart;
 use access_times::{Bytes, HeldStore, Kind, Maker, Operation};
+use departures::{Deed, Departure, Way};
 use dependencies::Registers;
 use pages::{OutOfMemory, Store};
 use round_schedule::{Access, Stepped};
@@ -52,14 +51,36 @@ pub(crate) fn store(
     };
     let bytes = Bytes::of(operation.address, operation.width);
     let time = common.history.add(bytes, before, maker)?;
+    let behind = behind_which(hart, common, registers, operation);
     hart.timing.views.address(registers.address);
     hart.timing
         .views
         .store(operation.address, operation.width, time)?;
     count(hart, common);
     common.note_step(scripted(hart, round, None, false))?;
-    let _deed = note(hart, common, pc, access, time)?;
+    let _deed = note(hart, common, pc, access, Times { time, behind })?;
     Ok(Outcome::Operated)
+}
+
+/// The time of a store, and the one that it has to be behind.
+#[derive(Clone, Copy)]
+struct Times {
+    time: u32,
+    behind: u32,
+}
+
+/// Behind which time a store has to be that a hart is about to do, where that is noted.
+#[inline]
+fn behind_which(
+    hart: &TimedHart,
+    common: &Common,
+    registers: &Registers,
+    operation: &Operation,
+) -> u32 {
+    match &common.record {
+        Some(_) => hart.timing.views.least_of_store(registers, operation),
+        None => 0,
+    }
 }
 
 /// Notes that a hart did a store, which has a time. Gives the number of the deed.
@@ -69,15 +90,16 @@ fn note(
     common: &mut Common,
     pc: u64,
     access: Access,
-    time: u32,
+    times: Times,
 ) -> Result<usize, OutOfMemory> {
     let event = common.note_event();
     common.note_deed(Deed {
         hart: hart.timing.number,
         pc,
         access,
-        earliest: time,
-        at: time,
+        earliest: times.time,
+        at: times.time,
+        behind: times.behind,
         event,
     })
 }
@@ -118,7 +140,11 @@ fn put_off(
         way: Way::Late(hold.operations),
     })?;
     // It gets its time when it goes to memory.
-    let deed = note(hart, common, pc, access, u32::MAX)?;
+    let times = Times {
+        time: u32::MAX,
+        behind: 0,
+    };
+    let deed = note(hart, common, pc, access, times)?;
     let Access::Store {
         width,
         address,
@@ -179,7 +205,8 @@ pub(crate) fn exchange(
     };
     let bytes = Bytes::of(operation.address, operation.width);
     let time = common.history.add(bytes, before, maker)?;
+    let behind = behind_which(hart, common, registers, operation);
     hart.timing.views.exchange(registers, operation, time)?;
-    let _deed = note(hart, common, pc, access, time)?;
+    let _deed = note(hart, common, pc, access, Times { time, behind })?;
     Ok(Outcome::Operated)
 }

@@ -5,13 +5,13 @@ ghost use Rattle.execution.specs.Progressing.{at_start};
 ghost use Rattle.weak_executions.specs.AllowedEnds.{IsAllowedEnd, console_of, memory_of};
 
 use crate::opening::{Opening, copies_of, shared};
+use departures::{Placing, Record};
 use execution_checker::{Execution, Verdict, check_execution, follow};
 use hart_step::Hart;
 use memory_order::Order;
 use pages::OutOfMemory;
 use rule_checker::check_instructions;
 use std::alloc::Global;
-use timed_machine::{Placing, Record};
 use trace::Trace;
 
 /// What the checker of executions found of a record.

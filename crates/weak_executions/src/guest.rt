@@ -1,10 +1,17 @@
 ghost use Rattle.std.specs.Prelude.{◌≤◌, length};
 
 use crate::opening::{Opening, shared};
+use departures::{Departure, Draws, EarlyStores, Stream};
 use pages::OutOfMemory;
 use plan_family::Family;
 use std::alloc::Global;
-use timed_machine::{Draws, TimedMachine};
+use timed_machine::{Bounds, TimedMachine};
+
+/// How many steps of an execution without departures are looked at for stores that could come early.
+const MOST_STEPS: u64 = 1 << 16;
+
+/// How many of them are tried, until one of the executions can be done.
+const TRIES: u32 = 4;
 
 /// A guest program, of which each number makes an execution.
 #[derive(Drop)]
@@ -13,6 +20,8 @@ pub struct WeakGuest<'a> {
     opening: Opening<'a>,
     seed: u64,
     rounds: u32,
+    /// Before the instruction of which address a full fence is assumed.
+    fence: Option<u64>,
     ghost some: { 1 ≤ length opening.harts.now },
     ghost few: { length opening.harts.now ≤ 64 },
 }
@@ -28,7 +37,15 @@ impl<'a> WeakGuest<'a> {
             opening,
             seed,
             rounds,
+            fence: None,
         }
+    }
+
+    /// The same guest, in which a full fence is assumed before the instruction at an address, if there is one.
+    pub fn with_fence(self, fence: Option<u64>) -> WeakGuest<'a> {
+        let mut guest = self;
+        guest.fence = fence;
+        guest
     }
 
     /// The execution of a number, with a record for the checker if one is wanted.
@@ -37,10 +54,89 @@ impl<'a> WeakGuest<'a> {
     ///
     /// `OutOfMemory` alone.
     pub fn execute(&self, number: u32, is_recorded: bool) -> Result<TimedMachine, OutOfMemory> {
-        let rows = self.rows(number)?;
+        let bounds = Bounds {
+            rounds: self.rounds,
+            steps: u64::MAX,
+            until_fault: false,
+        };
+        self.execute_within(number, is_recorded, bounds)
+    }
+
+    /// The same within some bounds. In each fifth number a store comes early, where an execution without departures has one that
+    /// can; in the others loads read old and stores come late.
+    ///
+    /// # Errors
+    ///
+    /// `OutOfMemory` alone.
+    pub fn execute_within(
+        &self,
+        number: u32,
+        is_recorded: bool,
+        bounds: Bounds,
+    ) -> Result<TimedMachine, OutOfMemory> {
+        if let Some(stream) = Draws::early(self.seed, number) {
+            if let Some(machine) = self.execute_early(number, is_recorded, bounds, stream)? {
+                return Ok(machine);
+            }
+        }
         let mut machine = self.machine(number, is_recorded)?;
-        machine.run(&rows, self.rounds)?;
+        machine.run_within(&self.rows(number)?, bounds)?;
         Ok(machine)
+    }
+
+    /// The execution by the plan of a number with just these departures, as far as they can be.
+    ///
+    /// # Errors
+    ///
+    /// `OutOfMemory` alone.
+    pub fn execute_with(
+        &self,
+        number: u32,
+        departures: Vec<Departure>,
+        is_recorded: bool,
+        bounds: Bounds,
+    ) -> Result<TimedMachine, OutOfMemory> {
+        let mut machine = self.machine(number, is_recorded)?;
+        machine.depart(departures);
+        machine.run_within(&self.rows(number)?, bounds)?;
+        Ok(machine)
+    }
+
+    /// The execution of a number in which a store comes early, if one of those that are tried can.
+    fn execute_early(
+        &self,
+        number: u32,
+        is_recorded: bool,
+        bounds: Bounds,
+        stream: Stream,
+    ) -> Result<Option<TimedMachine>, OutOfMemory> {
+        let ordinary = self.ordinary(number)?;
+        let Some(record) = ordinary.record() else {
+            return Ok(None);
+        };
+        let stores = EarlyStores::of(self.alloc, record)?;
+        let mut stream = stream;
+        for _ in 0..TRIES {
+            let Some(departure) = stores.draw(&mut stream) else {
+                return Ok(None);
+            };
+            let departures = Vec::from_slice(self.alloc, &[departure])?;
+            let machine = self.execute_with(number, departures, is_recorded, bounds)?;
+            if machine.came_early() {
+                return Ok(Some(machine));
+            }
+        }
+        Ok(None)
+    }
+
+    /// What the plan of a number does without departures, from which it is drawn which store comes early.
+    fn ordinary(&self, number: u32) -> Result<TimedMachine, OutOfMemory> {
+        let bounds = Bounds {
+            rounds: self.rounds,
+            steps: MOST_STEPS,
+            until_fault: true,
+        };
+        self.execute_with(number, Vec::new(self.alloc), true, bounds)
     }
 
     /// What each execution begins with.
@@ -66,9 +162,19 @@ impl<'a> WeakGuest<'a> {
     /// # Errors
     ///
     /// `OutOfMemory` alone.
-    pub fn machine(&self, number: u32, is_recorded: bool) -> Result<TimedMachine, OutOfMemory> {
+    fn machine(&self, number: u32, is_recorded: bool) -> Result<TimedMachine, OutOfMemory> {
         let draws = Draws::of_number(self.seed, number);
         let shared = shared(self.alloc, &self.opening)?;
-        TimedMachine::new(self.alloc, self.opening.harts, shared, draws, is_recorded)
+        let mut machine = TimedMachine::new(
+            self.alloc,
+            self.opening.harts,
+            shared,
+            draws,
+            is_recorded,
+        )?;
+        if let Some(pc) = self.fence {
+            machine.assume_fence(pc);
+        }
+        Ok(machine)
     }
 }

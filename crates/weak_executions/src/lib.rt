@@ -1,4 +1,4 @@
-//! Executions of a guest program by number, in which loads read old and stores come late, and what RVWMO says of them.
+//! Executions of a guest program by number, in which loads read old and stores come late or early, and what RVWMO says of them.
 #![tactic(auto)]
 
 mod checking;

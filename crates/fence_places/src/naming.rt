@@ -1,11 +1,10 @@
 //! Which fences would forbid an execution.
 
-use crate::sharing::SharedBytes;
+use departures::{Deed, Departure, Record, SharedBytes, Way, do_meet};
 use fence_table::{Direction, Operation};
 use pages::OutOfMemory;
 use round_schedule::Access;
 use std::alloc::Global;
-use timed_machine::{Deed, Departure, Record, Way};
 
 /// Loads, stores, or both.
 #[derive(Clone, Copy, Debug, PartialEq, Eq)]
@@ -85,11 +84,7 @@ struct Placed<'a> {
 /// # Errors
 ///
 /// `OutOfMemory` alone.
-pub(crate) fn moves_of(
-    alloc: Global,
-    record: &Record,
-    order: &[usize],
-) -> Result<Moves, OutOfMemory> {
+pub fn moves_of(alloc: Global, record: &Record, order: &[usize]) -> Result<Moves, OutOfMemory> {
     let placed = Placed {
         deeds: record.deeds(),
         ranks: ranks_of(alloc, order)?,
@@ -129,7 +124,7 @@ impl Sides {
     };
 
     /// Both.
-    pub(crate) const ALL: Sides = Sides {
+    pub const ALL: Sides = Sides {
         loads: true,
         stores: true,
     };
@@ -151,7 +146,7 @@ impl Sides {
     }
 
     /// What is in both.
-    pub(crate) fn and(self, other: Sides) -> Sides {
+    pub fn and(self, other: Sides) -> Sides {
         Sides {
             loads: self.loads && other.loads,
             stores: self.stores && other.stores,
@@ -165,13 +160,6 @@ fn operation_of(deed: &Deed) -> Operation {
         hart: u32::from(deed.hart),
         access: deed.access,
     }
-}
-
-/// Whether two accesses have a byte in common.
-fn do_meet(access: &Access, other: &Access) -> bool {
-    let (start, others) = (access.address(), other.address());
-    start < others.saturating_add(other.byte_count())
-        && others < start.saturating_add(access.byte_count())
 }
 
 impl Placed<'_> {
@@ -188,7 +176,7 @@ impl Placed<'_> {
         moves: &mut Moves,
     ) -> Result<(), OutOfMemory> {
         let direction = match departure.way {
-            Way::Old(_) => Direction::Before,
+            Way::Old(_) | Way::Early(_) => Direction::Before,
             Way::Late(_) => Direction::Behind,
         };
         let departed = self
@@ -268,7 +256,7 @@ impl Placed<'_> {
     }
 
     /// What a deed moved past: of the operations of other harts on its bytes that were done before its instruction and stand behind
-    /// it, or that were done after its instruction and stand before it, the first in the order.
+    /// it, or that were done after its instruction and stand before it, the first in the order. Two loads don't pass each other.
     fn passed(&self, number: usize, deed: &Deed, direction: Direction) -> Option<Overtaken> {
         let rank = self.rank(number);
         let mut first: Option<(usize, &Deed)> = None;
@@ -276,7 +264,9 @@ impl Placed<'_> {
             let other_rank = self.rank(place);
             let is_passed = match direction {
                 Direction::Before => {
-                    place < number && other_rank > rank && other.access.stores()
+                    place < number
+                        && other_rank > rank
+                        && (other.access.stores() || deed.access.stores())
                 }
                 Direction::Behind => place > number && other_rank < rank,
             };
@@ -365,7 +355,7 @@ fn gap_at(deed: &Deed, far: &Crossed, nearer: u64, direction: Direction) -> Gap 
 
 impl Gap {
     /// Whether both are between the same instructions.
-    pub(crate) fn is_at(&self, other: &Gap) -> bool {
+    pub fn is_at(&self, other: &Gap) -> bool {
         self.earlier == other.earlier && self.later == other.later
     }
 }

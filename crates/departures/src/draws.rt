@@ -6,11 +6,33 @@ const RATES: [u64; 9] = [2, 4, 8, 16, 32, 64, 128, 256, 512];
 /// How old a load may read at most, in stores to its bytes.
 const MOST_BACK: u64 = 8;
 
+/// One number in so many has a store come early, where one can.
+const EARLY_RATE: u32 = 5;
+
+/// The place of its stream from which on it is drawn which store that is: past all other draws.
+const EARLY_PLACE: u64 = 1 << 62;
+
+/// The numbers of a stream, one after another.
+#[derive(Clone, Copy)]
+pub struct Stream {
+    key: u64,
+    place: u64,
+}
+
+impl Stream {
+    /// The next number.
+    #[inline]
+    pub fn next(&mut self) -> u64 {
+        let number = draw(self.key, self.place % 0x8000_0000_0000_0000);
+        self.place = self.place.wrapping_add(1);
+        number
+    }
+}
+
 /// Draws at which operations an execution departs from the order of its harts' programs: numbers out of a stream.
 #[derive(Clone, Copy)]
 pub struct Draws {
-    stream: u64,
-    place: u64,
+    stream: Stream,
     /// One load in so many reads old; 0: none does.
     old_rate: u64,
     /// One store in so many is held; 0: none is.
@@ -25,8 +47,7 @@ impl Draws {
     /// No departures.
     pub fn none() -> Draws {
         Draws {
-            stream: 0,
-            place: 0,
+            stream: Stream { key: 0, place: 0 },
             old_rate: 0,
             late_rate: 0,
             longest: 1,
@@ -43,8 +64,10 @@ impl Draws {
         let old_rate = RATES[(draw(stream, 1) % 9) as usize];
         let late_rate = RATES[(draw(stream, 2) % 9) as usize];
         Draws {
-            stream,
-            place: 5,
+            stream: Stream {
+                key: stream,
+                place: 5,
+            },
             old_rate: if kinds == 1 { 0 } else { old_rate },
             late_rate: if kinds == 2 { 0 } else { late_rate },
             longest: RATES[(draw(stream, 3) % 9) as usize],
@@ -61,27 +84,30 @@ impl Draws {
         }
     }
 
-    /// Which hart begins a round, modulo the number of harts.
-    pub(crate) fn first(&self) -> u64 {
-        self.first
+    /// What says which store comes early in the execution of a number, where one is to: in each fifth number, from 4 on.
+    pub fn early(seed: u64, number: u32) -> Option<Stream> {
+        if number % EARLY_RATE != EARLY_RATE - 1 {
+            return None;
+        }
+        Some(Stream {
+            key: draw(seed, u64::from(number)),
+            place: EARLY_PLACE,
+        })
     }
 
-    /// The next number of the stream.
-    #[inline]
-    fn next(&mut self) -> u64 {
-        let number = draw(self.stream, self.place % 0x8000_0000_0000_0000);
-        self.place = self.place.wrapping_add(1);
-        number
+    /// Which hart begins a round, modulo the number of harts.
+    pub fn first(&self) -> u64 {
+        self.first
     }
 
     /// How many stores back the next load reads, or `None` where it reads the newest.
     #[inline]
-    pub(crate) fn old(&mut self) -> Option<u32> {
+    pub fn old(&mut self) -> Option<u32> {
         let rate = self.old_rate;
         if rate == 0 {
             return None;
         }
-        let number = self.next();
+        let number = self.stream.next();
         if number % rate != 0 {
             return None;
         }
@@ -94,12 +120,12 @@ impl Draws {
 
     /// For how many operations of the other harts the next store is held, or `None` where it goes to memory at once.
     #[inline]
-    pub(crate) fn late(&mut self) -> Option<u64> {
+    pub fn late(&mut self) -> Option<u64> {
         let rate = self.late_rate;
         if rate == 0 {
             return None;
         }
-        let number = self.next();
+        let number = self.stream.next();
         if number % rate != 0 {
             return None;
         }

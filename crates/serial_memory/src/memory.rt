@@ -13,7 +13,7 @@ use serial_phase::SharedState;
 
 /// Guest memory as it is now, with the console and the reservations. Instructions are done on it as in a serial phase.
 #[derive(Drop)]
-pub(crate) struct Memory {
+pub struct Memory {
     state: SharedState,
     ghost shows: { Shows state.pages.memory state.code.first state.code.instructions },
     ghost table: { length state.reservations ≡ 64 },
@@ -21,7 +21,7 @@ pub(crate) struct Memory {
 
 impl Memory {
     /// What the harts share, where no hart has a reservation.
-    pub(crate) fn new(shared: SharedState) -> Memory
+    pub fn new(shared: SharedState) -> Memory
         requires { Shows shared.pages.memory shared.code.first shared.code.instructions }
     {
         let mut state = shared;
@@ -30,23 +30,23 @@ impl Memory {
     }
 
     /// How many pages it has.
-    pub(crate) fn pages(&self) -> u32 {
+    pub fn pages(&self) -> u32 {
         self.state.pages.count()
     }
 
     /// Guest memory.
-    pub(crate) fn guest(&self) -> &Pages {
+    pub fn guest(&self) -> &Pages {
         &self.state.pages
     }
 
     /// What was put out.
-    pub(crate) fn output(&self) -> &[u8] {
+    pub fn output(&self) -> &[u8] {
         self.state.console.output()
     }
 
     /// The instruction at an address.
     #[inline]
-    pub(crate) fn instruction_at(&self, pc: u64) -> Option<Instr> {
+    pub fn instruction_at(&self, pc: u64) -> Option<Instr> {
         match self.state.code.get(pc) {
             Some(i) => Some(i),
             None => self.fetched_at(pc),
@@ -63,7 +63,7 @@ impl Memory {
 
     /// The aligned doubleword that has the byte at an address; 0 outside memory.
     #[inline]
-    pub(crate) fn doubleword(&self, address: u64) -> u64 {
+    pub fn doubleword(&self, address: u64) -> u64 {
         self.state
             .pages
             .read(address / 8 * 8, Width::W8)
@@ -72,20 +72,15 @@ impl Memory {
 
     /// A hart does its next instruction.
     #[inline]
-    pub(crate) fn serve(
-        &mut self,
-        h: &mut Hart,
-        hart: u8,
-        round: u32,
-    ) -> Result<Stepped, OutOfMemory>
+    pub fn serve(&mut self, h: &mut Hart, hart: u8, round: u32) -> Result<Stepped, OutOfMemory>
         requires running { h.old.stop ≡ None }
         requires hart { hart < 64 }
     {
         serve_next(h, &mut self.state, hart, round)
     }
 
-    /// The same of a load or an LR, which finds a number in memory that was laid there for it. Memory stays as it is.
-    pub(crate) fn serve_on(
+    /// The same of an operation that finds a number at its bytes which was laid there for it. Memory stays as it is.
+    pub fn serve_on(
         &mut self,
         h: &mut Hart,
         hart: u8,
@@ -103,7 +98,7 @@ impl Memory {
     }
 
     /// A hart does its next instruction, a plain store, which doesn't go to memory.
-    pub(crate) fn hold_back(&self, h: &mut Hart) -> Result<Stepped, OutOfMemory>
+    pub fn hold_back(&self, h: &mut Hart) -> Result<Stepped, OutOfMemory>
         requires { h.old.stop ≡ None }
     {
         let pages = &self.state.pages;
@@ -112,7 +107,7 @@ impl Memory {
     }
 
     /// A store of a hart goes to memory, and breaks the reservations of others.
-    pub(crate) fn put(&mut self, hart: u8, store: Store) -> Result<(), OutOfMemory> {
+    pub fn put(&mut self, hart: u8, store: Store) -> Result<(), OutOfMemory> {
         lay(&mut self.state.pages, store)?;
         self.state
             .reservations
@@ -120,8 +115,31 @@ impl Memory {
         Ok(())
     }
 
+    /// Gives a hart the reservation of a store's bytes.
+    pub fn reserve(&mut self, hart: u8, store: Store)
+        requires { hart < 64 }
+    {
+        self.state
+            .reservations
+            .set(u32::from(hart), store.address, store.width);
+    }
+
+    /// Whether a hart has the reservation of just a store's bytes. Any other one is lost.
+    pub fn has_reservation(&mut self, hart: u8, store: Store) -> bool
+        requires { hart < 64 }
+    {
+        let holds = self
+            .state
+            .reservations
+            .take(u32::from(hart), store.address, store.width);
+        if holds {
+            self.reserve(hart, store);
+        }
+        holds
+    }
+
     /// A hart loses its reservation.
-    pub(crate) fn lose_reservation(&mut self, hart: u8)
+    pub fn lose_reservation(&mut self, hart: u8)
         requires { hart < 64 }
     {
         let _held = self.state.reservations.take(u32::from(hart), 0, Width::W1);

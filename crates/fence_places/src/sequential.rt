@@ -1,9 +1,8 @@
 //! Whether an execution is sequentially consistent: then its fault is no matter of fences.
 
-use crate::sharing::groups_of;
+use departures::{Deed, groups_of};
 use pages::OutOfMemory;
 use std::alloc::Global;
-use timed_machine::Deed;
 
 /// Which operations have to be before which: those of a hart in the order of its program, and those of several harts on the same
 /// bytes, one of which stores, in the global memory order.
@@ -50,11 +49,7 @@ struct Visited {
 /// # Errors
 ///
 /// `OutOfMemory` alone.
-pub(crate) fn is_sequential(
-    alloc: Global,
-    deeds: &[Deed],
-    order: &[usize],
-) -> Result<bool, OutOfMemory> {
+pub fn is_sequential(alloc: Global, deeds: &[Deed], order: &[usize]) -> Result<bool, OutOfMemory> {
     let mut precedence = Precedence::none(alloc, deeds.len())?;
     precedence.add_programs(alloc, deeds)?;
     precedence.add_memory(alloc, deeds, order)?;

@@ -18,6 +18,8 @@ pub struct Deed {
     pub earliest: u32,
     /// When it was done: a load read memory as it was at this time.
     pub at: u32,
+    /// Of a store, an SC or an AMO the time that it has to be behind, by what comes before it in its hart's program; else 0.
+    pub behind: u32,
     /// The place of its event among the events of all harts.
     pub event: usize,
 }
@@ -53,7 +55,7 @@ pub struct Record {
 
 impl Record {
     /// Of an execution that did nothing.
-    pub(crate) fn new(alloc: Global) -> Record {
+    pub fn new(alloc: Global) -> Record {
         Record {
             script: Vec::new(alloc),
             deeds: Vec::new(alloc),
@@ -63,27 +65,27 @@ impl Record {
     }
 
     /// A hart took a step.
-    pub(crate) fn add_step(&mut self, step: ScriptedStep) -> Result<(), OutOfMemory> {
+    pub fn add_step(&mut self, step: ScriptedStep) -> Result<(), OutOfMemory> {
         self.script.push(step)?;
         Ok(())
     }
 
     /// The step left an event. Gives its place.
-    pub(crate) fn add_event(&mut self) -> usize {
+    pub fn add_event(&mut self) -> usize {
         let event = self.events;
         self.events = self.events.saturating_add(1);
         event
     }
 
     /// A memory operation was done. Gives its number.
-    pub(crate) fn add_deed(&mut self, deed: Deed) -> Result<usize, OutOfMemory> {
+    pub fn add_deed(&mut self, deed: Deed) -> Result<usize, OutOfMemory> {
         let number = self.deeds.len();
         self.deeds.push(deed)?;
         Ok(number)
     }
 
     /// The store of a deed has a time.
-    pub(crate) fn set_time(&mut self, number: usize, time: u32) {
+    pub fn set_time(&mut self, number: usize, time: u32) {
         if let Some(deed) = self.deeds.get_mut(number) {
             deed.earliest = time;
             deed.at = time;
@@ -91,7 +93,7 @@ impl Record {
     }
 
     /// An operation departed from the order of its hart's program.
-    pub(crate) fn add_departure(&mut self, departure: Departure) -> Result<(), OutOfMemory> {
+    pub fn add_departure(&mut self, departure: Departure) -> Result<(), OutOfMemory> {
         self.departures.push(departure)?;
         Ok(())
     }

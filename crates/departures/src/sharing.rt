@@ -1,11 +1,11 @@
+use crate::record::Deed;
 use pages::OutOfMemory;
 use round_schedule::Access;
 use std::alloc::Global;
-use timed_machine::Deed;
 
 /// The groups of four bytes that two harts access, one of which writes.
 #[derive(Drop)]
-pub(crate) struct SharedBytes {
+pub struct SharedBytes {
     /// Sorted: addresses divided by four.
     groups: Vec<u64>,
 }
@@ -21,7 +21,7 @@ struct Touched {
 }
 
 /// The first and the last group that an access is of.
-pub(crate) fn groups_of(access: &Access) -> (u64, u64) {
+pub fn groups_of(access: &Access) -> (u64, u64) {
     let first = access.address();
     let last = first.saturating_add(access.byte_count().saturating_sub(1));
     (first / 4, last / 4)
@@ -33,7 +33,7 @@ impl SharedBytes {
     /// # Errors
     ///
     /// `OutOfMemory` alone.
-    pub(crate) fn of(alloc: Global, deeds: &[Deed]) -> Result<SharedBytes, OutOfMemory> {
+    pub fn of(alloc: Global, deeds: &[Deed]) -> Result<SharedBytes, OutOfMemory> {
         let touched = touched_by(alloc, deeds)?;
         let mut groups = Vec::new(alloc);
         let mut before: Option<Touched> = None;
@@ -51,7 +51,7 @@ impl SharedBytes {
     }
 
     /// Whether an access is of one of them.
-    pub(crate) fn has(&self, access: &Access) -> bool {
+    pub fn has(&self, access: &Access) -> bool {
         let (first, last) = groups_of(access);
         self.groups.binary_search(&first).is_ok() || self.groups.binary_search(&last).is_ok()
     }

@@ -1,3 +1,5 @@
+use access_times::{Early, Promise, Stage};
+
 /// How a memory operation departs from the order of its hart's program.
 #[derive(Clone, Copy, Debug, PartialEq, Eq)]
 pub enum Way {
@@ -5,6 +7,8 @@ pub enum Way {
     Old(u32),
     /// A plain store is held until the other harts have done so many operations.
     Late(u64),
+    /// A store, an SC or an AMO is in memory before its hart comes to it.
+    Early(Early),
 }
 
 /// A memory operation that departs from the order of its hart's program.
@@ -27,14 +31,14 @@ impl Departure {
 
 /// Departures by list.
 #[derive(Drop)]
-pub(crate) struct Listed {
+pub struct Listed {
     /// Sorted, and at most one for each step of a hart.
     departures: Vec<Departure>,
 }
 
 impl Listed {
     /// The list of these departures.
-    pub(crate) fn new(departures: Vec<Departure>) -> Listed {
+    pub fn new(departures: Vec<Departure>) -> Listed {
         let mut departures = departures;
         departures.sort_unstable_by_key(|departure| departure.key());
         Listed { departures }
@@ -42,12 +46,27 @@ impl Listed {
 
     /// Whether none is listed.
     #[inline]
-    pub(crate) fn is_empty(&self) -> bool {
+    pub fn is_empty(&self) -> bool {
         self.departures.is_empty()
     }
 
+    /// The store that is to come early: of several the first in the list.
+    pub fn early(&self) -> Option<Promise> {
+        for departure in &self.departures {
+            if let Way::Early(early) = departure.way {
+                return Some(Promise {
+                    hart: departure.hart,
+                    step: departure.step,
+                    early,
+                    stage: Stage::Ahead,
+                });
+            }
+        }
+        None
+    }
+
     /// How a hart departs at a step, if it does.
-    pub(crate) fn at(&self, hart: u8, step: u64) -> Option<Way> {
+    pub fn at(&self, hart: u8, step: u64) -> Option<Way> {
         match self
             .departures
             .binary_search_by_key(&(hart, step), |departure| departure.key())
