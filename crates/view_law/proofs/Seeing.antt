@@ -1,16 +1,15 @@
 -- The source of a byte that is seen at the moment of a load is that of the load value axiom.
-use Rattle.std.proofs.Common.{◌≡◌, ℕ, zero, suc, ◌+◌, ◌-◌, ◌<◌, ◌≤◌, ◌==◌, ◌&&◌, ◌||◌, ◌⊎◌, Bool, true, false, if◌then◌else◌, nat_lt, List, length, slice_index, option_map, Option, Some, None, refl, sym, ap, subst, ◌∙◌, inl, inr, arith}
-use Rattle.std.proofs.lemmas.Bool.{and_from, and_parts, cases_lt, eq-eqb, eqb-true, lt-ltb, ltb-true, or_cases, or_left, or_right}
+use Rattle.std.proofs.Common.{◌≡◌, ℕ, zero, suc, ◌<◌, ◌≤◌, ◌==◌, ◌&&◌, ◌||◌, ◌≢◌, get_or, Bool, true, false, if◌then◌else◌, nat_lt, List, length, slice_index, option_map, Option, Some, None, refl, sym, ap, subst, ◌∙◌, inl, inr, arith}
+use Rattle.std.specs.List.{AllPairs}
+use Rattle.std.proofs.lemmas.Bool.{and_from, and_parts, cases_lt, cases_order, eq-eqb, eqb-true, lt-ltb, ltb-true, or_cases, or_left, or_right}
 use Rattle.round_schedule.specs.declared.event.Event.{Event}
-use Rattle.round_schedule.specs.Accesses.{byte_read}
-use Rattle.round_schedule.specs.Positions.{IsLatest, ProgramBefore, event, reads_at, source_byte, writes_at}
+use Rattle.round_schedule.specs.Positions.{IsLatest, event, source_byte, writes_at}
 use Rattle.memory_order.specs.Operations.{is_operation}
 use Rattle.memory_order.specs.Orders.{ListsOperations, place}
-use Rattle.memory_order.specs.Rvwmo.{IsSource, LoadValueAxiom, MaySee}
+use Rattle.memory_order.specs.Rvwmo.{IsSource, MaySee}
 use Rattle.memory_order.proofs.Facts.{within}
-use Rattle.memory_order.proofs.Placing.{place_of_contained}
+use Rattle.memory_order.proofs.Placing.{place_found, place_of_contained}
 use Rattle.memory_order.proofs.Sources.{load_at, one_source, store_at}
-use Rattle.order_checker.proofs.Ranking.{place_at}
 use Rattle.byte_sources.specs.Sources.{last_below}
 use Rattle.byte_sources.proofs.Firsts.{first_found}
 use Rattle.execution_views.specs.declared.moment.Moment.{Moment}
@@ -56,6 +55,18 @@ load_moment t g r = record { hart = (event t r).hart; place = r; position = plac
 moment_is : (t : List Event) (g : List ℕ) (r : ℕ) → is_operation (event t r) ≡ true → moment_of t g r ≡ load_moment t g r
 moment_is t g r h = ap (λ (o : Option ℕ). record { hart = (event t r).hart; place = r; position = position_of g o }) (next_is_itself t r h)
 
+-- an order that lists each place once has at each position the place of that position
+place_at : (g : List ℕ) → AllPairs (λ a b. a ≢ b) g → (k : ℕ) → k < length g → place g (get_or g k 0) ≡ k
+place_at g once k l =
+    let f = place_found g (get_or g k 0) k l refl in
+    elim (cases_order (place g (get_or g k 0)) k) [
+      | inl e ↦ e
+      | inr o ↦ elim o [
+        | inl b ↦ absurd (once (place g (get_or g k 0)) k 0 b l f.1)
+        | inr a ↦ absurd (once k (place g (get_or g k 0)) 0 a f.0 (sym f.1))
+      ]
+    ]
+
 -- ---- what may be read there is what the load may see
 
 abbrev near : List Event → List ℕ → ℕ → ℕ → ℕ → Bool
@@ -75,8 +86,7 @@ read_from_seen t g r x p w at is see =
 seen_from_read : (t : List Event) (g : List ℕ) (r x p : ℕ) → place g (slice_index g p) ≡ p → may_read t g (load_moment t g r) x p ≡ true → MaySee t (place g) r x (slice_index g p)
 seen_from_read t g r x p at may =
     let w = slice_index g p in
-    let two = and_parts (writes_at t w x) (near t g r p w) may in
-    (
+    let two = and_parts (writes_at t w x) (near t g r p w) may in (
       two.0,
       elim (or_cases (nat_lt p (place g r)) (nat_lt w r && ((event t w).hart == (event t r).hart)) two.1) [
         | inl before ↦ inl (let l = ltb-true p (place g r) before in omega (arith, l, at))
@@ -92,8 +102,7 @@ is_source t g r x lists None h = λ w see.
     let f = place_of_contained g w (lists.each w (store_at t w x see.0)) in
     h (place g w) (f.0, read_from_seen t g r x (place g w) w refl f.1 see)
 is_source t g r x lists (Some p) h =
-    let at : place g (slice_index g p) ≡ p = place_at g lists.once p h.0.0 in
-    (
+    let at : place g (slice_index g p) ≡ p = place_at g lists.once p h.0.0 in (
       seen_from_read t g r x p at h.0.1,
       λ v see.
           let f = place_of_contained g v (lists.each v (store_at t v x see.0)) in
