@@ -89,7 +89,7 @@ number_added ps e j n p q shown hart l at view =
     map-set hart_view ps j q
     ∙ ap (λ (x : HartPart). slice_set (map hart_view ps) j x) view
     ∙ sym (with_one 0 (map hart_view ps) e j n (hart_view p) shown (omega (arith, hart)) (omega (arith, l, length-map ps hart_view))
-        (sym (get_or-map hart_view ps j p (hart_view p) l ∙ ap hart_view (sym at))))
+    (sym (get_or-map hart_view ps j p (hart_view p) l ∙ ap hart_view (sym at))))
 
 pub parts_more_done : (gs : List Hart) (i : ℕ) (t : List Event) (d : Event) (old new : List HartHeld) → i < length t →
     map hart_view new ≡ with_event 0 (map hart_view old) (get_or t i d) → map hart_view old ≡ parts_from 0 gs (take i t) → map hart_view new ≡ parts_from 0 gs (take (i + 1) t)

@@ -1,3 +1,4 @@
 pub mod Deeds
 pub mod Findings
 pub mod RunFiles
+pub mod Turns

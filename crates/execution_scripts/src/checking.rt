@@ -1,11 +1,12 @@
-ghost use Rattle.std.specs.Prelude.{◌≡◌, ◌≤◌, if◌then◌else◌, length, IfOk};
+ghost use Rattle.std.specs.Prelude.{◌≡◌, ◌≤◌, if◌then◌else◌, length, IfOk, true};
 ghost use Rattle.machine.specs.Guests.{opening_guest};
 ghost use Rattle.execution_file.specs.Views.{as_recorded};
-ghost use Rattle.execution_scripts.specs.Findings.{IsFound, guest_in, image_in};
+ghost use Rattle.execution_scripts.specs.Findings.{IsAsSaid, IsFound, guest_in, image_in};
 
 use crate::deeds::{are_said, deeds};
 use crate::fault::{Fault, Halt, Misfit};
 use crate::following::Follower;
+use crate::naming::is_named;
 use crate::opening::open_execution;
 use crate::ordering::order_of;
 use elf_loader::Image;
@@ -15,7 +16,7 @@ use execution_views::{HartStep, Sights, check_seen};
 use host_io::RunError;
 use machine::{Format, load};
 use memory_order::Order;
-use pages::MOST_PAGES;
+use pages::{MOST_PAGES, OutOfMemory};
 use round_schedule::MOST_HARTS;
 use std::alloc::Global;
 use trace::Trace;
@@ -49,8 +50,9 @@ pub struct Checked {
 /// Checks the execution of a file: whether its harts do what the file says, and whether RVWMO allows it in the file's order.
 ///
 /// The verdict is on the script and the execution that are handed back: on the file's image and its input, from its harts at the
-/// entry. In this execution each hart does as many steps as the file says, reads the file's numbers, and ends as the file says. That
-/// the order has the file's turns, and the calls theirs, is no part of the contract.
+/// entry. In this execution each hart does as many steps as the file says, reads the file's numbers, and ends as the file says; and
+/// the order is the one that the file's turns name, where it has each memory operation once. That the calls stand in the file's order is
+/// no part of the contract.
 ///
 /// # Errors
 ///
@@ -60,7 +62,7 @@ pub fn check_file(
     file: &ExecutionFile,
     asked: Option<HartStep>,
 ) -> Result<Checked, RunError>
-    ensures { IfOk result (λ c. IsFound (guest_in (as_recorded file.now)) (as_recorded file.now).harts asked c.finding c) }
+    ensures { IfOk result (λ c. IsFound (guest_in (as_recorded file.now)) (as_recorded file.now).harts (as_recorded file.now).order asked c.finding c) }
 {
     let harts = file.harts.len();
     if harts < 1 || harts > MOST_HARTS as usize {
@@ -107,7 +109,7 @@ fn check_over(
     asked: Option<HartStep>,
 ) -> Result<Checked, RunError>
     requires { harts ≤ 64 }
-    ensures { IfOk result (λ c. IsFound (opening_guest image file.now.input.items harts) (as_recorded file.now).harts asked c.finding c) }
+    ensures { IfOk result (λ c. IsFound (opening_guest image file.now.input.items harts) (as_recorded file.now).harts (as_recorded file.now).order asked c.finding c) }
 {
     let execution = open_execution(alloc, &image, &file.input, harts)?;
     let mut follower = Follower::new(alloc, execution, &file.harts)?;
@@ -149,13 +151,13 @@ fn judge(
     asked: Option<HartStep>,
 ) -> Result<Checked, RunError>
     requires { harts ≤ 64 }
-    ensures { IfOk result (λ c. IsFound (opening_guest image file.now.input.items harts) (as_recorded file.now).harts asked c.finding c) }
+    ensures { IfOk result (λ c. IsFound (opening_guest image file.now.input.items harts) (as_recorded file.now).harts (as_recorded file.now).order asked c.finding c) }
 {
     let mut execution = open_execution(alloc, &image, &file.input, harts)?;
     let opening = Trace::new(alloc, image.into_pieces());
     let (verdict, sights) = check_seen(alloc, &mut execution, &script, &opening, &order, asked)?;
-    let did = deeds(alloc, execution.harts(), execution.events())?;
-    if !are_said(&file.harts, &did) {
+    let as_said = is_as_said(alloc, file, &execution, &order)?;
+    if !as_said {
         let fault = Fault {
             hart: 0,
             step: 0,
@@ -178,4 +180,22 @@ fn judge(
         opening,
         sights,
     })
+}
+
+/// Whether the harts of an execution did what a file says of them, and its turns name an order of their memory operations.
+fn is_as_said(
+    alloc: Global,
+    file: &ExecutionFile,
+    execution: &Execution,
+    order: &Order,
+) -> Result<bool, OutOfMemory>
+    ensures { IfOk result (λ yes. yes ≡ true → IsAsSaid (as_recorded file.now).harts (as_recorded file.now).order
+        execution.now.standing order.now.0.items) }
+{
+    let named = is_named(alloc, execution.events(), &file.order, &order.0)?;
+    if !named {
+        return Ok(false);
+    }
+    let did = deeds(alloc, execution.harts(), execution.events())?;
+    Ok(are_said(&file.harts, &did))
 }

@@ -5,6 +5,7 @@ mod checking;
 mod deeds;
 mod fault;
 mod following;
+mod naming;
 mod opening;
 mod ordering;
 mod paces;

@@ -11,4 +11,4 @@ returns c =
     let same : opening_guest c.in_ok-image.image r.input c.count_harts-harts.result ≡ guest_in r =
     ap (λ (i : Loaded). opening_guest i r.input c.count_harts-harts.result) c.in_ok-image.ensures
     ∙ ap (λ (n : ℕ). opening_guest (image_in r) r.input n) c.count_harts-harts.ensures.count in
-    subst (λ (g : Guest). IfOk c.check_over.result (λ k. IsFound g r.harts c.args.asked k.finding k)) same c.check_over.ensures
+    subst (λ (g : Guest). IfOk c.check_over.result (λ k. IsFound g r.harts r.order c.args.asked k.finding k)) same c.check_over.ensures

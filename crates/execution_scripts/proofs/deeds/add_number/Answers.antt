@@ -1,6 +1,5 @@
-use Rattle.std.proofs.Common.{◌≡◌, ℕ, [], ◌∷◌, ◌++◌, List, length, map, ap, ◌∙◌, sym, arith}
+use Rattle.std.proofs.Common.{ℕ, List, map, ap, ◌∙◌, sym, arith}
 use Rattle.std.proofs.lemmas.List.{length-map}
-use Rattle.execution_file.specs.Recorded.{HartPart}
 use Rattle.execution_file.specs.Views.{hart_view}
 use Rattle.execution_scripts.proofs.Doing.{number_added, with_later, with_none}
 use Rattle.execution_scripts.proofs.deeds.add_number.Goals as goal
