@@ -3,3 +3,5 @@ pub mod Searching
 pub mod RoundParts
 pub mod ShownThere
 pub mod Stretches
+pub mod PointsFound
+pub mod Silent

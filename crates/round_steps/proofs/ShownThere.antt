@@ -1,5 +1,5 @@
 -- What is shown of the other harts.
-use Rattle.std.proofs.Common.{◌≡◌, ℕ, ◌<◌, false, nat_eq, List, length, get_or, slice_get, Option, Some, None, refl, sym, ◌∙◌, ap, arith}
+use Rattle.std.proofs.Common.{◌≡◌, ℕ, ◌<◌, ◌==◌, ◌&&◌, true, false, nat_eq, List, length, get_or, slice_get, Option, Some, None, refl, sym, ◌∙◌, ap, arith}
 use Rattle.std.proofs.lemmas.Bool.Decides.{nat_tests}
 use Rattle.pages.specs.declared.access.Range.{Range}
 use Rattle.round_schedule.specs.declared.event.Phase.TheVariants.{Parallel, Serial}
@@ -10,7 +10,9 @@ use Rattle.machine.specs.Untraced.{IsUntraced, Untraced}
 use Rattle.moments.specs.Sights.{Sight}
 use Rattle.round_steps.specs.declared.place.Place.{Place}
 use Rattle.round_steps.specs.Places.{Begun, begun_of}
-use Rattle.round_steps.specs.Shown.{beside, beside_part, beside_turn, end_of_part, hart_beside, hart_of, mover, shown_at}
+use Rattle.round_steps.specs.declared.point.Side.{Side}
+use Rattle.round_steps.specs.Moments.{phase_number}
+use Rattle.round_steps.specs.Shown.{behind_move, beside, beside_part, beside_turn, end_of_part, hart_beside, hart_of, is_behind_move, mover, shown_at, shown_at_point}
 use Rattle.round_steps.proofs.RoundParts.{begun_by, begun_same, got}
 
 another_hart : (m : Running) (p : Place) (i : ℕ) (h : Hart) → (i ≡ p.hart → ⊥) → slice_get m.state.harts i ≡ Some h → shown_at m p i ≡ beside p.phase m p i h
@@ -50,3 +52,15 @@ after_turn m v hs i d is e lt =
     ap (λ (x : Running). slice_get x.state.harts i) (sym (one_round_on m))
     ∙ ap (λ (gs : List Hart). slice_get gs i) (sym (e ∙ is.harts))
     ∙ got hs i (get_or hs i d) d lt refl
+
+-- ---- at a point
+
+pub behind_there : (m : Running) (u : Untraced) (code : List Range) (side : Side) (p : Place) (i : ℕ) (s : Option (Sight Hart)) → IsUntraced m u → m.code ≡ code →
+    (is_behind_move side && (phase_number p.phase == 0 && i == p.hart)) ≡ true → s ≡ behind_move (begun_by u code) p (slice_get u.harts p.hart) → s ≡ shown_at_point m side p i
+behind_there m u code side p i s is c its seen =
+    rw its
+    (seen ∙ ap (λ (b : Begun). behind_move b p (slice_get u.harts p.hart)) (begun_same m u code is c)
+    ∙ ap (λ (hs : List Hart). behind_move (begun_of m) p (slice_get hs p.hart)) is.harts)
+
+pub elsewhere : (m : Running) (side : Side) (p : Place) (i : ℕ) (s : Option (Sight Hart)) → (is_behind_move side && (phase_number p.phase == 0 && i == p.hart)) ≡ false → s ≡ shown_at m p i → s ≡ shown_at_point m side p i
+elsewhere m side p i s none seen = rw none seen

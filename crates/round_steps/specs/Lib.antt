@@ -1,4 +1,5 @@
 pub mod Places
 pub mod Moments
+pub mod Points
 pub mod Shown
 pub mod Timelines

@@ -1,6 +1,6 @@
 -- What is shown of each hart at a moment: what the hart is there, and memory as it sees it. Before the commit that is memory as the round began under the
 -- hart's own stores, and from the commit on memory itself.
-use Rattle.std.specs.Prelude.{ℕ, ◌==◌, nat_lt, if◌then◌else◌, slice_get, slice_index, Option, Some, None}
+use Rattle.std.specs.Prelude.{ℕ, ◌==◌, ◌&&◌, min, nat_lt, Bool, true, false, if◌then◌else◌, slice_get, slice_index, Option, Some, None}
 use Rattle.std.specs.Option.{option_map}
 use Rattle.round_schedule.specs.declared.event.Phase.{Phase}
 use Rattle.round_schedule.specs.declared.event.Phase.TheVariants.{Parallel, Serial}
@@ -11,6 +11,9 @@ use Rattle.hart_step.specs.Words.{words_of}
 use Rattle.machine.specs.Machine.{Running, after_round}
 use Rattle.moments.specs.Sights.{Sight, part_sights, sight_after}
 use Rattle.round_steps.specs.declared.place.Place.{Place}
+use Rattle.round_steps.specs.declared.point.Side.{Side}
+use Rattle.round_steps.specs.declared.point.Side.TheVariants.{After, RivalAfter, Break, Rival, Access}
+use Rattle.round_steps.specs.Moments.{phase_number}
 use Rattle.round_steps.specs.Places.{Begun, begun_of}
 
 -- hart h before the round
@@ -55,3 +58,22 @@ another m p i (Some h) = beside p.phase m p i h
 -- hart i at a place of the next round; none where there is no such hart or place
 abbrev pub shown_at : Running → Place → ℕ → Option (Sight Hart)
 shown_at m p i = if i == p.hart then mover m p else another m p i (slice_get m.state.harts i)
+
+-- ---- at a point
+
+-- behind a move of its part of the parallel phase a hart sees memory as the round began under its own stores, also where the part ends there
+abbrev pub behind_move : Begun → Place → Option Hart → Option (Sight Hart)
+behind_move b p None = None
+behind_move b p (Some h) = last_of (part_sights (words_of b.code) (min p.count (slice_index b.quotas p.hart)) (start_of b h))
+
+abbrev pub is_behind_move : Side → Bool
+is_behind_move After = true
+is_behind_move RivalAfter = true
+is_behind_move Break = false
+is_behind_move Rival = false
+is_behind_move Access = false
+
+-- hart i at a point of the next round
+abbrev pub shown_at_point : Running → Side → Place → ℕ → Option (Sight Hart)
+shown_at_point m side p i =
+    if is_behind_move side && (phase_number p.phase == 0 && i == p.hart) then behind_move (begun_of m) p (slice_get m.state.harts p.hart) else shown_at m p i

@@ -4,6 +4,9 @@
 mod moment;
 mod part;
 mod place;
+mod point;
+mod point_search;
+mod points;
 mod round;
 mod search;
 mod showing;
@@ -12,9 +15,13 @@ mod turn;
 
 pub use moment::Moment;
 pub use place::Place;
+pub use point::{Point, Side, Told};
+pub use point_search::{next_point, previous_point};
+pub use points::Telling;
 pub use round::places_in_round;
 pub use search::{next_told, previous_told};
 pub use seeing::Sight;
-pub use showing::shown;
+pub use showing::{shown, shown_at_side};
 pub use timeline::Timeline;
 pub use walking::Asked;
+pub use watching::{WatchKind, Watchpoint};

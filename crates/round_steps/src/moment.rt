@@ -35,7 +35,7 @@ impl Moment {
 }
 
 /// The order of the phases in a round.
-fn phase_number(phase: Phase) -> u32
+pub(crate) fn phase_number(phase: Phase) -> u32
     ensures { result ≡ phase_number phase }
 {
     match phase {

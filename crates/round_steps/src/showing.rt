@@ -1,11 +1,17 @@
-ghost use Rattle.std.specs.Prelude.{◌≡◌, ◌+◌, ◌<◌, ◌^◌, Some, IfOk, IfErr, length, slice_get};
+ghost use Rattle.std.specs.Prelude.{◌≡◌, ◌+◌, ◌<◌, ◌^◌, ◌==◌, ◌&&◌, Some, IfOk, IfErr, length, min, slice_get, slice_index};
 ghost use Rattle.host_io.specs.declared.error.RunError.TheVariants as refusals;
 ghost use Rattle.round_planner.specs.Quotas.{quotas_of};
+ghost use Rattle.round_schedule.specs.Past.{last_of};
+ghost use Rattle.hart_step.specs.Words.{words_of};
+ghost use Rattle.moments.specs.Sights.{part_sights};
 ghost use Rattle.machine.specs.Machine.{Running, after_round};
 ghost use Rattle.machine.specs.Untraced.{IsUntraced};
-ghost use Rattle.round_steps.specs.Shown.{beside_part, beside_turn, end_of_part, hart_beside, mover, shown_at};
+ghost use Rattle.round_steps.specs.Moments.{phase_number};
+ghost use Rattle.round_steps.specs.Shown.{behind_move, beside_part, beside_turn, end_of_part, hart_beside, is_behind_move, mover, shown_at, shown_at_point};
 
+use crate::moment::phase_number;
 use crate::place::Place;
+use crate::point::Side;
 use crate::round::{are_same, decoded};
 use hart_step::Hart;
 use host_io::RunError;
@@ -49,6 +55,74 @@ pub fn shown<R: Threads + Wait + Sync>(
             Ok(Some(sight))
         }
         Phase::Serial => beside_turn(rt, machine, code, place, number, hart),
+    }
+}
+
+/// What hart `number` is and sees on a side of a place of the next round of a run; none where there is no such hart or place. It may wait.
+///
+/// # Errors
+///
+/// `OutOfMemory` alone.
+pub fn shown_at_side<R: Threads + Wait + Sync>(
+    rt: &R,
+    machine: &mut UntracedMachine,
+    code: &[Range],
+    side: Side,
+    place: &Place,
+    number: u32,
+) -> Result<Option<Sight>, RunError>
+    requires run { (m : Running) × IsUntraced m machine.old }
+    requires rounds { machine.old.rounds + 1 < 2 ^ 32 }
+    ensures stays { machine.new ≡ machine.old }
+    ensures sight { (m : Running) → IsUntraced m machine.old → m.code ≡ code.now →
+        IfOk result (λ s. s ≡ shown_at_point m side place.now number) }
+    ensures refused { IfErr result (λ e. e ≡ refusals.OutOfMemory) }
+{
+    if !is_its_move(side, place, number) {
+        return shown(rt, machine, code, place, number);
+    }
+    let sight = behind_move(machine, code, place)?;
+    Ok(sight)
+}
+
+/// Whether a hart has just made a move of its part of the parallel phase there.
+fn is_its_move(side: Side, place: &Place, number: u32) -> bool
+    ensures { result ≡ (is_behind_move side &&
+        (phase_number place.now.phase == 0 && number == place.now.hart)) }
+{
+    is_behind_move(side) && phase_number(place.phase) == 0 && number == place.hart
+}
+
+/// Whether a side is behind a move.
+fn is_behind_move(side: Side) -> bool
+    ensures { result ≡ is_behind_move side }
+{
+    match side {
+        Side::After | Side::RivalAfter => true,
+        Side::Break | Side::Rival | Side::Access => false,
+    }
+}
+
+/// The hart of a place behind its last move before it, in its part of the parallel phase.
+fn behind_move(
+    machine: &UntracedMachine,
+    code: &[Range],
+    place: &Place,
+) -> Result<Option<Sight>, OutOfMemory>
+    requires rounds { machine.now.rounds + 1 < 2 ^ 32 }
+    ensures { IfOk result (λ s. s ≡ behind_move (record {
+      harts = machine.now.harts;
+      bytes = machine.now.bytes;
+      code = code.now;
+      quotas = quotas_of machine.now.plan machine.now.rounds;
+    }) place.now (slice_get machine.now.harts place.now.hart)) }
+{
+    match machine.harts().get(place.hart as usize) {
+        None => Ok(None),
+        Some(hart) => {
+            let sight = end_of_moves(machine, code, place.hart, *hart, place.count)?;
+            Ok(Some(sight))
+        }
     }
 }
 
@@ -146,6 +220,33 @@ fn start(machine: &UntracedMachine, hart: Hart) -> Result<Sight, OutOfMemory>
 {
     let pages = machine.pages();
     Ok(Sight::of_memory(hart, pages.copy(pages.allocator())?))
+}
+
+/// A hart at the end of its part of the parallel phase, after so many instructions at most.
+fn end_of_moves(
+    machine: &UntracedMachine,
+    code: &[Range],
+    number: u32,
+    hart: Hart,
+    count: u64,
+) -> Result<Sight, OutOfMemory>
+    requires rounds { machine.now.rounds + 1 < 2 ^ 32 }
+    requires hart { number < length machine.now.harts }
+    ensures { IfOk result (λ s. last_of (part_sights (words_of code.now)
+        (min count (slice_index (quotas_of machine.now.plan machine.now.rounds) number))
+        (record { hart = hart; bytes = machine.now.bytes })) ≡ Some s) }
+{
+    let pages = machine.pages();
+    if !are_same(pages.code(), code) {
+        // A run keeps its code.
+        return Err(OutOfMemory);
+    }
+    let table = decoded(pages)?;
+    // As many as the machine has.
+    let _harts = machine.harts();
+    let quota = machine.plan().quota(machine.rounds() + 1, number);
+    let most = count.min(u64::from(quota)) as u32;
+    Sight::after_part(pages.copy(pages.allocator())?, &table, hart, most)
 }
 
 /// A hart at the end of its part of the parallel phase.

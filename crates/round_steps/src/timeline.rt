@@ -3,11 +3,15 @@ ghost use Rattle.host_io.specs.declared.error.RunError.TheVariants as refusals;
 ghost use Rattle.machine.specs.Machine.{Running, after_rounds};
 ghost use Rattle.machine.specs.Untraced.{IsUntraced};
 ghost use Rattle.round_steps.specs.Moments.{next_of, previous_of};
-ghost use Rattle.round_steps.specs.Shown.{shown_at};
+ghost use Rattle.round_steps.specs.Points.{next_point_of, previous_point_of};
+ghost use Rattle.round_steps.specs.Shown.{shown_at, shown_at_point};
 
 use crate::moment::Moment;
+use crate::point::{Point, Told};
+use crate::point_search::{next_point, previous_point};
+use crate::points::Telling;
 use crate::search::{next_told, previous_told};
-use crate::showing::shown;
+use crate::showing::{shown, shown_at_side};
 use host_io::RunError;
 use machine::UntracedMachine;
 use pages::Range;
@@ -157,6 +161,87 @@ impl Timeline {
         previous_told(rt, machine, &self.code, end - begin, asked, here, workers)
     }
 
+    /// The earliest point behind another one at which something is told. Rounds are run on 1 to 16 workers. It may wait.
+    ///
+    /// # Errors
+    ///
+    /// `OutOfMemory` alone.
+    pub fn next_point<R: Threads + Wait + Sync>(
+        &mut self,
+        rt: &R,
+        telling: &Telling,
+        here: &Point,
+        workers: u32,
+    ) -> Result<Option<Told>, RunError>
+        requires within { here.now.moment.rounds ≤ self.old.rounds }
+        requires workers { (1 ≤ workers) × (workers ≤ 16) }
+        ensures stays { self.new ≡ self.old }
+        ensures next { (m : Running) → IsUntraced m self.old.start → IfOk result (λ x. x ≡
+            next_point_of telling.now.asked telling.now.watches.items
+            (after_rounds here.now.moment.rounds m) (self.old.rounds - here.now.moment.rounds) here.now) }
+        ensures refused { IfErr result (λ e. e ≡ refusals.OutOfMemory) }
+    {
+        let machine = self.machine_at(rt, here.moment.rounds, workers)?;
+        let rounds = self.rounds - here.moment.rounds;
+        next_point(rt, machine, &self.code, rounds, telling, here, workers)
+    }
+
+    /// The latest point before another one at which something is told. It may wait.
+    ///
+    /// # Errors
+    ///
+    /// `OutOfMemory` alone.
+    pub fn previous_point<R: Threads + Wait + Sync>(
+        &mut self,
+        rt: &R,
+        telling: &Telling,
+        here: &Point,
+        workers: u32,
+    ) -> Result<Option<Told>, RunError>
+        requires within { here.now.moment.rounds ≤ self.old.rounds }
+        requires workers { (1 ≤ workers) × (workers ≤ 16) }
+        ensures stays { self.new ≡ self.old }
+        ensures previous { (m : Running) → IsUntraced m self.old.start → IfOk result (λ x. x ≡
+            previous_point_of telling.now.asked telling.now.watches.items m
+            (min self.old.rounds (here.now.moment.rounds + 1)) here.now) }
+        ensures refused { IfErr result (λ e. e ≡ refusals.OutOfMemory) }
+    {
+        let mut end = self.rounds.min(here.moment.rounds.saturating_add(1));
+        let mut size: u32 = 1;
+        while end > 0 {
+            let begin = end - size.min(end);
+            if let Some(found) = self.point_between(rt, begin, end, telling, here, workers)? {
+                return Ok(Some(found));
+            }
+            end = begin;
+            size = size.saturating_mul(LONGER);
+        }
+        Ok(None)
+    }
+
+    /// The same in the rounds after `begin` others up to `end`.
+    fn point_between<R: Threads + Wait + Sync>(
+        &mut self,
+        rt: &R,
+        begin: u32,
+        end: u32,
+        telling: &Telling,
+        here: &Point,
+        workers: u32,
+    ) -> Result<Option<Told>, RunError>
+        requires order { begin ≤ end }
+        requires within { end ≤ self.old.rounds }
+        requires workers { (1 ≤ workers) × (workers ≤ 16) }
+        ensures stays { self.new ≡ self.old }
+        ensures previous { (m : Running) → IsUntraced m self.old.start → IfOk result (λ x. x ≡
+            previous_point_of telling.now.asked telling.now.watches.items
+            (after_rounds begin m) (end - begin) here.now) }
+        ensures refused { IfErr result (λ e. e ≡ refusals.OutOfMemory) }
+    {
+        let machine = self.machine_at(rt, begin, workers)?;
+        previous_point(rt, machine, &self.code, end - begin, telling, here, workers)
+    }
+
     /// What hart `number` is and sees at a moment; none where there is no such hart or moment. It may wait.
     ///
     /// # Errors
@@ -178,6 +263,37 @@ impl Timeline {
     {
         let mut machine = self.machine_at(rt, moment.rounds, workers)?;
         shown(rt, &mut machine, &self.code, &moment.place, number)
+    }
+
+    /// What hart `number` is and sees at a point; none where there is no such hart or moment. It may wait.
+    ///
+    /// # Errors
+    ///
+    /// `OutOfMemory` alone.
+    pub fn shown_at<R: Threads + Wait + Sync>(
+        &mut self,
+        rt: &R,
+        point: &Point,
+        number: u32,
+        workers: u32,
+    ) -> Result<Option<Sight>, RunError>
+        requires within { point.now.moment.rounds ≤ self.old.rounds }
+        requires workers { (1 ≤ workers) × (workers ≤ 16) }
+        ensures stays { self.new ≡ self.old }
+        ensures sight { (m : Running) → IsUntraced m self.old.start → IfOk result (λ s. s ≡ shown_at_point
+            (after_rounds point.now.moment.rounds m) point.now.side point.now.moment.place number) }
+        ensures refused { IfErr result (λ e. e ≡ refusals.OutOfMemory) }
+    {
+        let moment = point.moment;
+        let mut machine = self.machine_at(rt, moment.rounds, workers)?;
+        shown_at_side(
+            rt,
+            &mut machine,
+            &self.code,
+            point.side,
+            &moment.place,
+            number,
+        )
     }
 
     /// A machine of the run after so many rounds, or fewer.
