@@ -1,0 +1,48 @@
+//! Harts of a run that run for ever.
+ghost use Rattle.std.specs.Prelude.{IfErr};
+ghost use Rattle.program_files.specs.Asked.{RefusedSetRun};
+
+use command_line::Program;
+use hunter::find_run_endings;
+use plan_hunt::HartEnding;
+use program_files::{RunFailure, RunFiles, guest_files, settings_of};
+use program_world::Messages;
+use std::alloc::Global;
+use std::sync::Wait;
+use std::thread::Threads;
+
+/// Runs the guest program of some files once more, as far as it needs to be told whether the run goes round, and says on standard
+/// error which harts loop.
+pub(crate) fn tell_loops<M: Messages, R: Threads + Wait + Sync>(
+    threads: &R,
+    alloc: Global,
+    program: &Program<'_>,
+    given: &RunFiles,
+    messages: &M,
+) -> Result<(), RunFailure>
+    ensures errors { IfErr result (RefusedSetRun program.now given.now.plan.text.items given.now.plan.budget
+        given.now.program.image.items) }
+{
+    let endings = endings_of(threads, alloc, program, given)?;
+    for (hart, ending) in endings.iter().enumerate() {
+        if *ending == HartEnding::Loops {
+            messages.tell(format_args!("hart {hart} loops: it runs for ever under this plan"));
+        }
+    }
+    Ok(())
+}
+
+/// How the harts of the run end.
+fn endings_of<R: Threads + Wait + Sync>(
+    threads: &R,
+    alloc: Global,
+    program: &Program<'_>,
+    given: &RunFiles,
+) -> Result<Vec<HartEnding>, RunFailure>
+    ensures errors { IfErr result (RefusedSetRun program.now given.now.plan.text.items given.now.plan.budget
+        given.now.program.image.items) }
+{
+    let settings = settings_of(program, &given.plan);
+    let answer = find_run_endings(threads, alloc, &guest_files(&given.program), &settings);
+    given.plan.explain(alloc, settings.harts, answer)
+}

@@ -1,0 +1,79 @@
+ghost use Rattle.std.specs.Prelude.{◌≡◌, ◌⊎◌, ◌++◌, ℕ, List, IfErr, IfOk, OnErr, OnOk};
+ghost use Rattle.emulation.specs.OrderedRun.{IsOrderOfRun, ordered_text};
+ghost use Rattle.host_io.specs.Taken.{BeganText};
+ghost use Rattle.program_files.specs.Asked.{AskedRun, EndsFor, RefusedSetRun, SetRun};
+ghost use Rattle.program_world.specs.declared.exit_status.ExitStatus.TheVariants as statuses;
+
+use command_line::Run;
+use emulation::order_run;
+use machine::Observer;
+use program_files::{RunFailure, RunFiles, read_run, settings_of};
+use program_world::{ExitStatus, Files, Output, ProgressLine};
+use std::alloc::Global;
+use std::sync::Wait;
+use std::thread::Threads;
+
+/// Runs a guest program, and prints the order of its memory operations.
+///
+/// # Errors
+///
+/// `File` where a file can't be read, the refusals of the run, and `SinkFailed`.
+pub fn order_command<F: Files, O: Output, P: Observer + ProgressLine, R: Threads + Wait + Sync>(
+    threads: &R,
+    alloc: Global,
+    files: &F,
+    run: &Run<'_>,
+    progress: &mut P,
+    out: &mut O,
+) -> Result<ExitStatus, RunFailure>
+    // All that was printed is an order of the memory operations of the run that the line asks for.
+    ensures orders { IfOk result (λ status. (a : AskedRun (F.holds files.now) (F.begins files.now) run.now) × (places : List ℕ) ×
+        IsOrderOfRun a.made.settings a.image a.input a.made.plan places × (O.took out.new ≡ O.took out.old ++
+        ordered_text a.made.settings a.image a.input a.made.plan places) × O.is_out out.new × (status ≡ statuses.Done)) }
+    // Else nothing was printed, or a beginning of such a text.
+    ensures begun { OnErr result ((O.took out.new ≡ O.took out.old) ⊎
+        ((a : AskedRun (F.holds files.now) (F.begins files.now) run.now) × (places : List ℕ) ×
+        IsOrderOfRun a.made.settings a.image a.input a.made.plan places × BeganText (O.took out.old) (O.took out.new)
+        (ordered_text a.made.settings a.image a.input a.made.plan places))) }
+    ensures errors { IfErr result (EndsFor (F.holds files.now) (F.begins files.now) run.now) }
+{
+    let given = read_run(files, alloc, run)?;
+    order_given(threads, alloc, &given, run, progress, out)?;
+    out.hand_on()?;
+    Ok(ExitStatus::Done)
+}
+
+/// Does the same with what the files gave.
+fn order_given<O: Output, P: Observer + ProgressLine, R: Threads + Wait + Sync>(
+    threads: &R,
+    alloc: Global,
+    given: &RunFiles,
+    run: &Run<'_>,
+    progress: &mut P,
+    out: &mut O,
+) -> Result<(), RunFailure>
+    ensures orders { OnOk result ((r : SetRun run.now.program given.now.plan.text.items given.now.plan.budget) ×
+        (places : List ℕ) × IsOrderOfRun r.settings given.now.program.image.items given.now.program.input.items r.plan places ×
+        (O.took out.new ≡ O.took out.old ++ ordered_text r.settings given.now.program.image.items
+        given.now.program.input.items r.plan places)) }
+    ensures begun { OnErr result ((O.took out.new ≡ O.took out.old) ⊎
+        ((r : SetRun run.now.program given.now.plan.text.items given.now.plan.budget) × (places : List ℕ) ×
+        IsOrderOfRun r.settings given.now.program.image.items given.now.program.input.items r.plan places ×
+        BeganText (O.took out.old) (O.took out.new) (ordered_text r.settings given.now.program.image.items
+        given.now.program.input.items r.plan places))) }
+    ensures errors { IfErr result (RefusedSetRun run.now.program given.now.plan.text.items given.now.plan.budget
+        given.now.program.image.items) }
+{
+    let settings = settings_of(&run.program, &given.plan);
+    let answer = order_run(
+        threads,
+        alloc,
+        &given.program.image,
+        &given.program.input,
+        &settings,
+        progress,
+        out,
+    );
+    progress.end();
+    given.plan.explain(alloc, settings.harts, answer)
+}

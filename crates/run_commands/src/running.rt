@@ -1,0 +1,146 @@
+ghost use Rattle.std.specs.Prelude.{◌≡◌, ◌⊎◌, ◌++◌, Err, IfErr, IfOk, OnErr, None};
+ghost use Rattle.emulation.specs.Showing.{end_of};
+ghost use Rattle.host_io.specs.Taken.{BeganText};
+ghost use Rattle.host_io.specs.declared.error.RunError.TheVariants as refusals;
+ghost use Rattle.machine.specs.Settings.{IsPlan, IsReason, RefusedInOrder, after_run, settings_fault};
+ghost use Rattle.program_files.specs.Asked.{AskedRun, EndsFor, RefusedSetRun, SetRun};
+ghost use Rattle.program_files.specs.declared.failure.RunFailure.TheVariants as failures;
+ghost use Rattle.round_planner.specs.Quotas.{Planned};
+ghost use Rattle.run_commands.specs.Printed.{printed_text, run_status};
+
+use crate::looping::tell_loops;
+use crate::shown::{run_status, shown_of};
+use command_line::{Print, Shown};
+use emulation::{RunEnd, report_run, show_run};
+use host_io::RunError;
+use machine::{GuestFiles, Observer, Settings};
+use program_files::{RunFailure, RunFiles, guest_files, read_run, settings_of};
+use program_world::{ExitStatus, Files, Messages, Output, ProgressLine};
+use std::alloc::Global;
+use std::sync::Wait;
+use std::thread::Threads;
+
+/// Runs a guest program, and prints what is asked for of the run. Where a hart runs on and the line asks how harts end, standard
+/// error says which ones run for ever.
+///
+/// # Errors
+///
+/// `File` where a file can't be read, the refusals of the run, and `SinkFailed`.
+pub fn run_command<
+    F: Files,
+    O: Output,
+    M: Messages,
+    P: Observer + ProgressLine,
+    R: Threads + Wait + Sync,
+>(
+    threads: &R,
+    alloc: Global,
+    files: &F,
+    asked: &Print<'_>,
+    progress: &mut P,
+    out: &mut O,
+    messages: &M,
+) -> Result<ExitStatus, RunFailure>
+    // All that was printed is what the line asks for of the run that it asks for, and the status is that of how its harts end.
+    ensures runs { IfOk result (λ status. (a : AskedRun (F.holds files.now) (F.begins files.now) asked.now.run) ×
+        (O.took out.new ≡ O.took out.old ++ printed_text asked.now a.made.settings a.image a.input a.made.plan) ×
+        O.is_out out.new × (status ≡ run_status asked.now.strict
+        (end_of (after_run a.made.settings a.image a.input a.made.plan).state.harts))) }
+    // Else nothing was printed, or a beginning of that.
+    ensures begun { OnErr result ((O.took out.new ≡ O.took out.old) ⊎
+        ((a : AskedRun (F.holds files.now) (F.begins files.now) asked.now.run) × BeganText (O.took out.old) (O.took out.new)
+        (printed_text asked.now a.made.settings a.image a.input a.made.plan))) }
+    ensures errors { IfErr result (EndsFor (F.holds files.now) (F.begins files.now) asked.now.run) }
+{
+    let given = read_run(files, alloc, &asked.run)?;
+    run_given(threads, alloc, &given, asked, progress, out, messages)
+}
+
+/// Does the same with what the files gave.
+fn run_given<O: Output, M: Messages, P: Observer + ProgressLine, R: Threads + Wait + Sync>(
+    threads: &R,
+    alloc: Global,
+    given: &RunFiles,
+    asked: &Print<'_>,
+    progress: &mut P,
+    out: &mut O,
+    messages: &M,
+) -> Result<ExitStatus, RunFailure>
+    ensures runs { IfOk result (λ status. (r : SetRun asked.now.run.program given.now.plan.text.items given.now.plan.budget) ×
+        (O.took out.new ≡ O.took out.old ++ printed_text asked.now r.settings given.now.program.image.items
+        given.now.program.input.items r.plan) × O.is_out out.new × (status ≡ run_status asked.now.strict
+        (end_of (after_run r.settings given.now.program.image.items given.now.program.input.items r.plan).state.harts))) }
+    ensures begun { OnErr result ((O.took out.new ≡ O.took out.old) ⊎
+        ((r : SetRun asked.now.run.program given.now.plan.text.items given.now.plan.budget) ×
+        BeganText (O.took out.old) (O.took out.new) (printed_text asked.now r.settings given.now.program.image.items
+        given.now.program.input.items r.plan))) }
+    ensures errors { IfErr result (λ f. (f ≡ failures.Refused refusals.SinkFailed) ⊎ RefusedSetRun asked.now.run.program
+        given.now.plan.text.items given.now.plan.budget given.now.program.image.items f) }
+{
+    let end = print_given(threads, alloc, given, asked, progress, out)?;
+    out.hand_on()?;
+    if end == RunEnd::RunsOn && (asked.strict || asked.show == Shown::Harts) {
+        tell_loops(threads, alloc, &asked.run.program, given, messages)?;
+    }
+    Ok(run_status(asked.strict, end))
+}
+
+/// Runs the guest program, and prints what is asked for. Answers how its harts have ended.
+fn print_given<O: Output, P: Observer + ProgressLine, R: Threads + Wait + Sync>(
+    threads: &R,
+    alloc: Global,
+    given: &RunFiles,
+    asked: &Print<'_>,
+    progress: &mut P,
+    out: &mut O,
+) -> Result<RunEnd, RunFailure>
+    ensures runs { IfOk result (λ end. (r : SetRun asked.now.run.program given.now.plan.text.items given.now.plan.budget) ×
+        (O.took out.new ≡ O.took out.old ++ printed_text asked.now r.settings given.now.program.image.items
+        given.now.program.input.items r.plan) × (end ≡ end_of (after_run r.settings given.now.program.image.items
+        given.now.program.input.items r.plan).state.harts)) }
+    ensures begun { OnErr result ((O.took out.new ≡ O.took out.old) ⊎
+        ((r : SetRun asked.now.run.program given.now.plan.text.items given.now.plan.budget) ×
+        BeganText (O.took out.old) (O.took out.new) (printed_text asked.now r.settings given.now.program.image.items
+        given.now.program.input.items r.plan))) }
+    ensures errors { IfErr result (RefusedSetRun asked.now.run.program given.now.plan.text.items given.now.plan.budget
+        given.now.program.image.items) }
+{
+    let settings = settings_of(&asked.run.program, &given.plan);
+    let answer = print_guest(
+        threads,
+        alloc,
+        &guest_files(&given.program),
+        &settings,
+        asked,
+        progress,
+        out,
+    );
+    progress.end();
+    given.plan.explain(alloc, settings.harts, answer)
+}
+
+/// Runs a guest by these settings, and prints what is asked for.
+fn print_guest<O: Output, P: Observer, R: Threads + Wait + Sync>(
+    threads: &R,
+    alloc: Global,
+    guest: &GuestFiles<'_>,
+    settings: &Settings<'_>,
+    asked: &Print<'_>,
+    progress: &mut P,
+    out: &mut O,
+) -> Result<RunEnd, RunError>
+    ensures runs { IfOk result (λ end. (plan : Planned) × IsPlan settings.now plan × (O.took out.new ≡
+        O.took out.old ++ printed_text asked.now settings.now guest.now.image.now guest.now.input.now plan) ×
+        (end ≡ end_of (after_run settings.now guest.now.image.now guest.now.input.now plan).state.harts)) }
+    ensures begun { OnErr result ((O.took out.new ≡ O.took out.old) ⊎ ((plan : Planned) × IsPlan settings.now plan ×
+        BeganText (O.took out.old) (O.took out.new)
+        (printed_text asked.now settings.now guest.now.image.now guest.now.input.now plan))) }
+    ensures in_order { RefusedInOrder settings.now guest.now.image.now result }
+    ensures errors { settings_fault settings.now ≡ None →
+        IfErr result (λ e. IsReason settings.now guest.now.image.now e ⊎ (e ≡ refusals.SinkFailed)) }
+{
+    match shown_of(asked) {
+        Some(shown) => show_run(threads, alloc, guest, settings, shown, progress, out),
+        None => report_run(threads, alloc, guest, settings, progress, out),
+    }
+}

@@ -1,0 +1,29 @@
+ghost use Rattle.std.specs.Prelude.{◌≡◌};
+ghost use Rattle.run_commands.specs.Printed.{run_status, shown_of};
+
+use command_line::{Print, Shown};
+use emulation::RunEnd;
+use program_world::ExitStatus;
+
+/// What of a run the line asks for, where it isn't the whole report.
+pub(crate) fn shown_of(asked: &Print<'_>) -> Option<emulation::Shown>
+    ensures { result ≡ shown_of asked.now.show asked.now.no_trace }
+{
+    match asked.show {
+        Shown::Report if asked.no_trace => Some(emulation::Shown::State),
+        Shown::Report => None,
+        Shown::Harts => Some(emulation::Shown::Harts),
+        Shown::Output => Some(emulation::Shown::Output),
+    }
+}
+
+/// The exit status of a run that ended so.
+pub(crate) fn run_status(is_strict: bool, end: RunEnd) -> ExitStatus
+    ensures { result ≡ run_status is_strict end }
+{
+    if is_strict && end != RunEnd::Well {
+        ExitStatus::Doubtful
+    } else {
+        ExitStatus::Done
+    }
+}
