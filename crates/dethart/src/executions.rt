@@ -1,15 +1,17 @@
 //! The commands of executions: a run as one, and whether RVWMO allows one.
 
 use crate::failure::Failure;
-use crate::files::{read_file, read_program};
 use crate::hunting::program_settings;
-use crate::run::{progress_of, read_run, settings_of};
+use crate::run::progress_of;
+use crate::world::HostFiles;
 use command_line::{Check, Execution, Run};
 use execution_scripts::{
     Checked, ExecutionFile, Finding, ReadError, Refusal, Verdict, check_file, execution_of_run,
     read_execution, write_execution,
 };
 use host_io::{RunError, Sink, WriteSink, put_all};
+use program_files::{read_file, read_program, read_run, settings_of};
+use program_world::ProgressLine;
 use report::write_hart;
 use std::alloc::{AllocError, Global};
 use std::io::Write;
@@ -38,7 +40,7 @@ fn write_weak_execution<W: Write>(
     out: &mut W,
 ) -> Result<(), Failure> {
     let program = &run.program;
-    let files = read_program(rt, program)?;
+    let files = read_program(&HostFiles::new(rt), rt.alloc(), program)?;
     let settings = program_settings(rt.alloc(), program, run.plan.seed);
     let file = weak_execution(rt.alloc(), &files.image, &files.input, &settings, number)?;
     Ok(write_execution(rt.alloc(), &file, &mut WriteSink::new(out))?)
@@ -51,7 +53,7 @@ fn write_run_as_execution<R: Threads + Wait + Sync, W: Write>(
     run: &Run<'_>,
     out: &mut W,
 ) -> Result<(), Failure> {
-    let files = read_run(rt, run)?;
+    let files = read_run(&HostFiles::new(rt), rt.alloc(), run)?;
     let mut progress = progress_of(rt, &run.program);
     let made = execution_of_run(
         threads,
@@ -72,7 +74,7 @@ pub(crate) fn write_check<W: Write>(
     asked: &Check<'_>,
     out: &mut W,
 ) -> Result<bool, Failure> {
-    let file = read_execution_of(rt, &read_file(rt, asked.file)?)?;
+    let file = read_execution_of(rt, &read_file(&HostFiles::new(rt), rt.alloc(), asked.file)?)?;
     let checked = check_file(rt.alloc(), &file, None)?;
     Ok(write_checked(rt.alloc(), &checked, &mut WriteSink::new(out))?)
 }

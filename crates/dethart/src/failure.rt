@@ -4,29 +4,17 @@ ghost use Rattle.host_io.specs.declared.error.RunError.TheVariants as refusals;
 ghost use Rattle.dethart.specs.declared.failure.Failure.TheVariants as failures;
 
 use crate::merging::Apart;
-use crate::plan_lines::BadLine;
 use execution_scripts::Cause;
 use fence_table::AcceptError;
 use host_io::RunError;
 use hunt_table::MergeError;
 use hunter::HuntError;
+use program_files::RunFailure;
+use program_world::ExitStatus;
 use replayer::ReadError;
 use std::alloc::{AllocError, AllocFailed};
 use std::io;
 use weak_hunter::WeakHuntError;
-
-/// Why a file couldn't be opened or read.
-#[derive(Clone, Copy, Debug, PartialEq, Eq, Drop)]
-pub(crate) enum Unreadable {
-    /// There is none of its path.
-    NotFound,
-    /// Who runs the program may not read it.
-    NoPermission,
-    /// It is a folder.
-    Folder,
-    /// Another reason.
-    Other,
-}
 
 /// Why the program ends without what it was asked for.
 #[derive(Debug, Drop)]
@@ -37,12 +25,8 @@ pub(crate) enum Failure {
     NotText,
     /// The run was refused.
     Refused(RunError),
-    /// The run was refused for its plan, of which this line is bad.
-    Plan(RunError, BadLine),
-    /// The file of this path couldn't be opened or read.
-    NoFile(String, Unreadable),
-    /// The file of this path has more bytes than are read of a file.
-    TooLarge(String),
+    /// The run isn't done, for a file or for the plan of one.
+    Run(RunFailure),
     /// The file of this path couldn't be made or written.
     Unwritten(String),
     /// The file is no recording.
@@ -78,6 +62,15 @@ impl From<RunError> for Failure {
 
     fn from(error: RunError) -> Failure {
         Failure::Refused(error)
+    }
+}
+
+impl From<RunFailure> for Failure {
+    fn from(failure: RunFailure) -> Failure {
+        match failure {
+            RunFailure::Refused(error) => Failure::Refused(error),
+            failure => Failure::Run(failure),
+        }
     }
 }
 
@@ -146,12 +139,12 @@ impl From<AllocError> for Failure {
 
 impl Failure {
     /// The exit status of the program: 1 for a refusal, and 2 for a bad command line.
-    pub(crate) fn status(&self) -> u8
+    pub(crate) fn status(&self) -> ExitStatus
         ensures { result ≡ status_of self.now }
     {
         match self {
-            Failure::Line(_) | Failure::NotText => 2,
-            _ => 1,
+            Failure::Line(_) | Failure::NotText => ExitStatus::BadLine,
+            _ => ExitStatus::Refused,
         }
     }
 
@@ -159,10 +152,9 @@ impl Failure {
     pub(crate) fn number(&self) -> Option<u32> {
         match self {
             Failure::Line(_) | Failure::NotText | Failure::ReaderGone => None,
-            Failure::Refused(error) | Failure::Plan(error, _) => Some(error.number()),
-            Failure::NoFile(_, _) => Some(RunError::SourceFailed.number()),
+            Failure::Refused(error) => Some(error.number()),
+            Failure::Run(failure) => Some(failure.number()),
             Failure::Unwritten(_) => Some(RunError::SinkFailed.number()),
-            Failure::TooLarge(_) => Some(62),
             Failure::Unread(error) => Some(error.number()),
             Failure::NoExecution(cause, _) => Some(cause.number()),
             Failure::NoRounds => Some(88),
@@ -186,23 +178,10 @@ impl Failure {
             Failure::Line(error) => error.print(rt),
             Failure::NotText => eprintln!(rt; "error: an argument isn't UTF-8"),
             Failure::Refused(error) => eprintln!(rt; "{error}"),
-            Failure::Plan(error, line) => eprintln!(rt; "{error}\n{line}"),
-            Failure::NoFile(path, Unreadable::NotFound) => {
-                eprintln!(rt; "there is no file {path}")
-            }
-            Failure::NoFile(path, Unreadable::NoPermission) => {
-                eprintln!(rt; "there is no permission to read the file {path}")
-            }
-            Failure::NoFile(path, Unreadable::Folder) => {
-                eprintln!(rt; "{path} is a folder, and no file")
-            }
-            Failure::NoFile(path, Unreadable::Other) => {
-                eprintln!(rt; "the file {path} couldn't be opened or read")
-            }
+            Failure::Run(failure) => eprintln!(rt; "{failure}"),
             Failure::Unwritten(path) => {
                 eprintln!(rt; "the file {path} couldn't be made or written")
             }
-            Failure::TooLarge(path) => eprintln!(rt; "the file {path} has more than 1 GiB"),
             Failure::Unread(error) => eprintln!(rt; "{error}"),
             Failure::NoExecution(cause, line) => { eprintln!(rt; "{cause}: line {line}") }
             Failure::NoRounds => {

@@ -1,16 +1,18 @@
 //! The command that looks for missing fences.
 
 use crate::failure::Failure;
-use crate::files::{ProgramFiles, read_file, read_program};
 use crate::hunting::{named_in, settings_of};
 use crate::keeping::keep;
 use crate::progress::Progress;
+use crate::world::HostFiles;
 use command_line::Fences;
 use fence_finder::{FenceSettings, FoundFences, find_fences};
 use fence_table::Accepted;
 use host_io::WriteSink;
 use hunter::{HuntSettings, check_hunt};
 use machine::load;
+use program_files::{ProgramFiles, read_file, read_program};
+use program_world::ProgressLine;
 use std::alloc::Global;
 use std::io::Write;
 use std::sync::Wait;
@@ -24,7 +26,7 @@ pub(crate) fn write_fences_of<R: Threads + Wait + Sync, W: Write>(
     asked: &Fences<'_>,
     out: &mut W,
 ) -> Result<FoundFences, Failure> {
-    let files = read_program(rt, &asked.search.program)?;
+    let files = read_program(&HostFiles::new(rt), rt.alloc(), &asked.search.program)?;
     let accepted = accepted_in(rt, asked.accept)?;
     let named = named_in(rt.alloc(), &asked.search, &files)?;
     let hunt = settings_of(rt.alloc(), &asked.search, &named, asked.first, asked.plans)?;
@@ -66,7 +68,7 @@ fn found_in<R: Threads + Wait + Sync, W: Write>(
 /// `NoFile`, `TooLarge`, `NotAPlace`, and `OutOfMemory`.
 fn accepted_in(rt: &HostRuntime, path: Option<&str>) -> Result<Accepted, Failure> {
     let text = match path {
-        Some(path) => read_file(rt, path)?,
+        Some(path) => read_file(&HostFiles::new(rt), rt.alloc(), path)?,
         None => Vec::new(rt.alloc()),
     };
     Ok(Accepted::read(rt.alloc(), &text)?)

@@ -2,15 +2,18 @@
 ghost use Rattle.std.specs.Prelude.{◌≡◌, IfOk, false};
 
 use crate::failure::Failure;
-use crate::files::{ProgramFiles, read_program};
 use crate::progress::Progress;
 use crate::ranges::{NamedBytes, named_bytes, seen_ranges};
-use crate::run::format_of;
-use command_line::{Hunt, Program, Search, Shrink};
-use host_io::{WriteSink, put_all};
+use crate::world::HostFiles;
+use command_line::{Hunt, Plan, Program, Search, Shrink};
+use host_io::{RunError, WriteSink, put_all};
 use hunt_table::Header;
 use hunter::{HuntObserver, HuntSettings, hunt, shrink};
+use plan_family::Family;
 use plan_hunt::Row;
+use program_files::{ProgramFiles, family_plan, format_of, read_program};
+use program_world::ProgressLine;
+use round_schedule::MOST_HARTS;
 use std::alloc::{AllocError, Global};
 use std::io::Write;
 use std::sync::Wait;
@@ -24,7 +27,7 @@ pub(crate) fn write_hunt<R: Threads + Wait + Sync, W: Write>(
     asked: &Hunt<'_>,
     out: &mut W,
 ) -> Result<Vec<Row>, Failure> {
-    let files = read_program(rt, &asked.search.program)?;
+    let files = read_program(&HostFiles::new(rt), rt.alloc(), &asked.search.program)?;
     let named = named_in(rt.alloc(), &asked.search, &files)?;
     let mut settings = settings_of(rt.alloc(), &asked.search, &named, asked.first, asked.plans)?;
     settings.header.is_weak = asked.weak;
@@ -58,7 +61,7 @@ pub(crate) fn write_shrunk<R: Threads + Wait + Sync, W: Write>(
     asked: &Shrink<'_>,
     out: &mut W,
 ) -> Result<u32, Failure> {
-    let files = read_program(rt, &asked.search.program)?;
+    let files = read_program(&HostFiles::new(rt), rt.alloc(), &asked.search.program)?;
     let named = named_in(rt.alloc(), &asked.search, &files)?;
     let settings = settings_of(rt.alloc(), &asked.search, &named, asked.plan_number, 1)?;
     let mut progress = Progress::new(rt, asked.search.program.progress, 0);
@@ -127,4 +130,26 @@ pub(crate) fn program_settings(alloc: Global, program: &Program<'_>, seed: u64) 
             ranges: Vec::new(alloc),
         },
     }
+}
+
+/// Writes a plan of the family, and answers its budget, which is no part of the text.
+///
+/// # Errors
+///
+/// `HartsOutOfRange`, `OutOfMemory` and `SinkFailed`.
+pub(crate) fn write_plan<W: Write>(
+    alloc: Global,
+    asked: &Plan,
+    out: &mut W,
+) -> Result<u32, Failure> {
+    if asked.harts < 1 || asked.harts > MOST_HARTS {
+        return Err(Failure::Refused(RunError::HartsOutOfRange));
+    }
+    let family = Family {
+        seed: asked.seed,
+        harts: asked.harts,
+    };
+    let plan = family_plan(alloc, family, asked.number)?;
+    put_all(&mut WriteSink::new(out), plan.text.as_slice())?;
+    Ok(plan.budget)
 }

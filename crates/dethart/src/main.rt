@@ -5,17 +5,14 @@
 mod executions;
 mod failure;
 mod fences;
-mod files;
 mod hunting;
 mod keeping;
 mod line;
 mod looking;
-mod looping;
 mod merging;
 mod output;
+mod past;
 mod pictures;
-mod plan_lines;
-mod plans;
 mod printing;
 mod progress;
 mod ranges;
@@ -24,14 +21,16 @@ mod repeating;
 mod run;
 mod saving;
 mod unread;
+mod world;
 
 use command_line::{Command, asked_by_options, parse_line};
 use failure::Failure;
 use line::{answer_line, arguments, texts_of};
 use printing::{
-    Answer, print_check, print_drawing, print_execution, print_fences, print_hunt, print_merged,
+    print_check, print_drawing, print_execution, print_fences, print_hunt, print_merged,
     print_order, print_plan, print_replay, print_run, print_shrunk, print_trace, print_watch,
 };
+use program_world::ExitStatus;
 use recordings::{make_recording, migrate_file};
 use std::process::ExitCode;
 use std::sync::Wait;
@@ -40,17 +39,17 @@ use unread::tell_unread;
 
 fn main(rt: HostRuntime) -> ExitCode {
     match start(&rt, &rt) {
-        Ok(answer) => ExitCode::from(answer.status()),
+        Ok(answer) => ExitCode::from(answer.number()),
         Err(failure) => {
             // There is nobody left to tell where standard error takes nothing.
             let _unwritten = failure.print(&rt);
-            ExitCode::from(failure.status())
+            ExitCode::from(failure.status().number())
         }
     }
 }
 
 /// Does what the command line says, on the threads that `threads` starts.
-fn start<R: Threads + Wait + Sync>(rt: &HostRuntime, threads: &R) -> Result<Answer, Failure> {
+fn start<R: Threads + Wait + Sync>(rt: &HostRuntime, threads: &R) -> Result<ExitStatus, Failure> {
     let arguments = arguments(rt)?;
     let words = texts_of(rt.alloc(), arguments.as_slice())?;
     let words = asked_by_options(rt.alloc(), words.as_slice())?;
@@ -61,7 +60,7 @@ fn start<R: Threads + Wait + Sync>(rt: &HostRuntime, threads: &R) -> Result<Answ
         }
         Err(error) => {
             answer_line(rt, error)?;
-            Ok(Answer::Done)
+            Ok(ExitStatus::Done)
         }
     }
 }
@@ -71,19 +70,19 @@ fn obey<R: Threads + Wait + Sync>(
     rt: &HostRuntime,
     threads: &R,
     command: &Command<'_>,
-) -> Result<Answer, Failure> {
+) -> Result<ExitStatus, Failure> {
     match command {
         Command::Run(asked) => print_run(rt, threads, asked),
         Command::Order(run) => print_order(rt, threads, run),
         Command::Record(asked) => {
             make_recording(rt, threads, asked)?;
-            Ok(Answer::Done)
+            Ok(ExitStatus::Done)
         }
         Command::Replay(asked) => print_replay(rt, threads, asked),
         Command::Watch(asked) => print_watch(rt, threads, asked),
         Command::Migrate(asked) => {
             migrate_file(rt, asked)?;
-            Ok(Answer::Done)
+            Ok(ExitStatus::Done)
         }
         Command::Hunt(asked) => print_hunt(rt, threads, asked),
         Command::Fences(asked) => print_fences(rt, threads, asked),

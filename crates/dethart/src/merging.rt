@@ -1,10 +1,11 @@
 //! The command that makes one table of those of slices of a hunt.
 
 use crate::failure::Failure;
-use crate::files::read_file;
+use crate::world::HostFiles;
 use command_line::Merge;
 use host_io::WriteSink;
 use hunt_table::{MergeError, ReadError, Table, are_same_ranges, merge, read_table};
+use program_files::read_file;
 use std::alloc::{AllocError, Global};
 use std::io::Write;
 
@@ -71,7 +72,7 @@ pub(crate) fn write_merged<W: Write>(
 
 /// Reads the table of a file.
 fn read_slice<'a>(rt: &HostRuntime, path: &'a str) -> Result<Slice<'a>, Failure> {
-    let text = read_file(rt, path)?;
+    let text = read_file(&HostFiles::new(rt), rt.alloc(), path)?;
     match read_table(rt.alloc(), &text) {
         Ok(table) => Ok(Slice { path, text, table }),
         Err(ReadError::NotATable) => {

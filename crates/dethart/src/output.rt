@@ -6,12 +6,12 @@ use std::io::{self, BufWriter, ErrorKind, Printer, Write};
 
 /// Standard output, which knows whether its reader has gone.
 #[derive(Drop)]
-pub(crate) struct Output<'a> {
+pub(crate) struct Pipe<'a> {
     printer: Printer<'a, HostRuntime>,
-    reader_is_gone: bool,
+    pub(crate) reader_is_gone: bool,
 }
 
-impl Write for Output<'_> {
+impl Write for Pipe<'_> {
     fn write(&mut self, bytes: &[u8]) -> io::Result<usize> {
         match self.printer.write(bytes) {
             Ok(count) => Ok(count),
@@ -28,12 +28,12 @@ impl Write for Output<'_> {
 }
 
 /// Standard output, with a buffer.
-pub(crate) fn standard_output(rt: &HostRuntime) -> Result<BufWriter<Output<'_>>, RunError> {
-    let output = Output {
+pub(crate) fn standard_output(rt: &HostRuntime) -> Result<BufWriter<Pipe<'_>>, RunError> {
+    let pipe = Pipe {
         printer: io::writer(rt),
         reader_is_gone: false,
     };
-    match BufWriter::new(rt.alloc(), output) {
+    match BufWriter::new(rt.alloc(), pipe) {
         Ok(out) => Ok(out),
         Err(_) => Err(RunError::OutOfMemory),
     }
@@ -41,7 +41,7 @@ pub(crate) fn standard_output(rt: &HostRuntime) -> Result<BufWriter<Output<'_>>,
 
 /// Hands all that was written on, and answers what came of the writing.
 pub(crate) fn finish<T: Drop>(
-    mut out: BufWriter<Output<'_>>,
+    mut out: BufWriter<Pipe<'_>>,
     written: Result<T, Failure>,
 ) -> Result<T, Failure> {
     let finished = match written {

@@ -2,11 +2,14 @@
 
 use crate::failure::Failure;
 use crate::ranges::{NamedBytes, access_ranges, named_bytes};
-use crate::run::{RunFiles, guest_files, progress_of, read_run, settings_of};
+use crate::run::progress_of;
+use crate::world::HostFiles;
 use command_line::{Bytes, Draw, Program, Run};
 use drawing::{View, draw_run, trace_run};
 use host_io::WriteSink;
 use machine::prepare;
+use program_files::{RunFiles, guest_files, read_run, settings_of};
+use program_world::ProgressLine;
 use std::alloc::Global;
 use std::io::Write;
 use std::sync::Wait;
@@ -19,7 +22,7 @@ pub(crate) fn write_drawing<R: Threads + Wait + Sync, W: Write>(
     asked: &Draw<'_>,
     out: &mut W,
 ) -> Result<(), Failure> {
-    let files = read_run(rt, &asked.run)?;
+    let files = read_run(&HostFiles::new(rt), rt.alloc(), &asked.run)?;
     let NamedBytes { bytes, fault } = named_bytes(
         rt.alloc(),
         &files.program.image,
@@ -62,9 +65,11 @@ fn draw_files<R: Threads + Wait + Sync, W: Write>(
         &mut WriteSink::new(out),
     );
     progress.end();
-    files
-        .plan
-        .explain(rt.alloc(), asked.run.program.harts, answer)
+    Ok(
+        files
+            .plan
+            .explain(rt.alloc(), asked.run.program.harts, answer)?,
+    )
 }
 
 /// Reads the files of a run, runs the guest program, and writes its trace as JSON.
@@ -74,7 +79,7 @@ pub(crate) fn write_trace<R: Threads + Wait + Sync, W: Write>(
     run: &Run<'_>,
     out: &mut W,
 ) -> Result<(), Failure> {
-    let files = read_run(rt, run)?;
+    let files = read_run(&HostFiles::new(rt), rt.alloc(), run)?;
     let mut progress = progress_of(rt, &run.program);
     let answer = trace_run(
         threads,
@@ -85,7 +90,7 @@ pub(crate) fn write_trace<R: Threads + Wait + Sync, W: Write>(
         &mut WriteSink::new(out),
     );
     progress.end();
-    files.plan.explain(rt.alloc(), run.program.harts, answer)
+    Ok(files.plan.explain(rt.alloc(), run.program.harts, answer)?)
 }
 
 /// Refuses the settings of a run, then its image, then its plan.

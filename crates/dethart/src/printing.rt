@@ -1,76 +1,50 @@
 //! What the commands print to standard output, and the exit status that goes with it.
 ghost use Rattle.std.specs.Prelude.{◌≡◌};
-ghost use Rattle.dethart.specs.Status.{answer_status, fences_answer, is_doubtful};
+ghost use Rattle.dethart.specs.Status.{fences_answer, is_doubtful};
 
 use crate::executions::{write_check, write_execution_of};
 use crate::failure::Failure;
 use crate::fences::write_fences_of;
-use crate::hunting::{write_hunt, write_shrunk};
-use crate::looping::tell_loops;
+use crate::hunting::{write_hunt, write_plan, write_shrunk};
 use crate::merging::write_merged;
 use crate::output::{finish, standard_output};
 use crate::pictures::{write_drawing, write_trace};
-use crate::plans::write_plan;
 use crate::recordings::{Replayed, write_replay, write_watch};
 use crate::repeating::{tell_endings, tell_missing, tell_plan, tell_shrunk};
-use crate::run::{read_run, write_order_of, write_run};
+use crate::run::progress_of;
+use crate::world::{HostFiles, HostMessages, HostOutput};
 use command_line::{
     Check, Draw, Execution, FailOn, Fences, FencesFailOn, Hunt, Merge, Plan, Print, Replay, Run,
-    Shown, Shrink, Watch,
+    Shrink, Watch,
 };
-use emulation::RunEnd;
 use fence_table::FenceTable;
+use host_io::RunError;
 use hunter::{all_end_well, is_one_exit};
 use plan_hunt::Row;
+use program_files::RunFailure;
+use program_world::ExitStatus;
+use run_commands::{order_command, run_command};
 use std::sync::Wait;
 use std::thread::Threads;
 
-/// What was found, beside what was printed.
-#[derive(Clone, Copy, Debug, PartialEq, Eq)]
-pub(crate) enum Answer {
-    /// What was asked for is done.
-    Done,
-    /// A replayed run is another than the recorded one, or RVWMO doesn't allow an execution.
-    Differs,
-    /// A hart did not end well, or a guest has several endings.
-    Doubtful,
-    /// A fence is missing.
-    Lacking,
-}
-
-impl Answer {
-    /// The exit status of the program.
-    pub(crate) fn status(self) -> u8
-        ensures { result ≡ answer_status self }
-    {
-        match self {
-            Answer::Done => 0,
-            Answer::Differs => 3,
-            Answer::Doubtful => 4,
-            Answer::Lacking => 5,
-        }
-    }
-}
-
-/// Runs the guest program, and prints what is asked for of the run. Where a hart runs on and the line asks how harts end, standard
-/// error says which ones run for ever.
+/// Runs the guest program, and prints what is asked for of the run.
 pub(crate) fn print_run<R: Threads + Wait + Sync>(
     rt: &HostRuntime,
     threads: &R,
     asked: &Print<'_>,
-) -> Result<Answer, Failure> {
-    let files = read_run(rt, &asked.run)?;
-    let mut out = standard_output(rt)?;
-    let written = write_run(rt, threads, asked, &files, &mut out);
-    let end = finish(out, written)?;
-    if end == RunEnd::RunsOn && (asked.strict || asked.show == Shown::Harts) {
-        tell_loops(rt, threads, &asked.run.program, &files)?;
-    }
-    Ok(if asked.strict && end != RunEnd::Well {
-        Answer::Doubtful
-    } else {
-        Answer::Done
-    })
+) -> Result<ExitStatus, Failure> {
+    let mut out = HostOutput::new(rt)?;
+    let mut progress = progress_of(rt, &asked.run.program);
+    let answer = run_command(
+        threads,
+        rt.alloc(),
+        &HostFiles::new(rt),
+        asked,
+        &mut progress,
+        &mut out,
+        &HostMessages::new(rt),
+    );
+    told(answer, &out)
 }
 
 /// Runs the guest program, and prints the order of its memory operations.
@@ -78,11 +52,31 @@ pub(crate) fn print_order<R: Threads + Wait + Sync>(
     rt: &HostRuntime,
     threads: &R,
     run: &Run<'_>,
-) -> Result<Answer, Failure> {
-    let mut out = standard_output(rt)?;
-    let written = write_order_of(rt, threads, run, &mut out);
-    finish(out, written)?;
-    Ok(Answer::Done)
+) -> Result<ExitStatus, Failure> {
+    let mut out = HostOutput::new(rt)?;
+    let mut progress = progress_of(rt, &run.program);
+    let answer = order_command(
+        threads,
+        rt.alloc(),
+        &HostFiles::new(rt),
+        run,
+        &mut progress,
+        &mut out,
+    );
+    told(answer, &out)
+}
+
+/// What came of a command that printed to an output, of which the reader may have gone.
+fn told(
+    answer: Result<ExitStatus, RunFailure>,
+    out: &HostOutput<'_>,
+) -> Result<ExitStatus, Failure> {
+    match answer {
+        Err(RunFailure::Refused(RunError::SinkFailed)) if out.reader_is_gone() => {
+            Err(Failure::ReaderGone)
+        }
+        answer => Ok(answer?),
+    }
 }
 
 /// Replays the recording of a file, and prints what came of it, or the hart that is asked for.
@@ -90,17 +84,17 @@ pub(crate) fn print_replay<R: Threads + Wait + Sync>(
     rt: &HostRuntime,
     threads: &R,
     asked: &Replay<'_>,
-) -> Result<Answer, Failure> {
+) -> Result<ExitStatus, Failure> {
     let mut out = standard_output(rt)?;
     let written = write_replay(rt, threads, asked, &mut out);
     Ok(answer_of(finish(out, written)?))
 }
 
 /// The answer to a question about the past.
-fn answer_of(replayed: Replayed) -> Answer {
+fn answer_of(replayed: Replayed) -> ExitStatus {
     match replayed {
-        Replayed::Done => Answer::Done,
-        Replayed::Differs => Answer::Differs,
+        Replayed::Done => ExitStatus::Done,
+        Replayed::Differs => ExitStatus::Differs,
     }
 }
 
@@ -109,7 +103,7 @@ pub(crate) fn print_watch<R: Threads + Wait + Sync>(
     rt: &HostRuntime,
     threads: &R,
     asked: &Watch<'_>,
-) -> Result<Answer, Failure> {
+) -> Result<ExitStatus, Failure> {
     let mut out = standard_output(rt)?;
     let written = write_watch(rt, threads, asked, &mut out);
     Ok(answer_of(finish(out, written)?))
@@ -131,31 +125,31 @@ pub(crate) fn print_hunt<R: Threads + Wait + Sync>(
     rt: &HostRuntime,
     threads: &R,
     asked: &Hunt<'_>,
-) -> Result<Answer, Failure> {
+) -> Result<ExitStatus, Failure> {
     let mut out = standard_output(rt)?;
     let written = write_hunt(rt, threads, asked, &mut out);
     let rows = finish(out, written)?;
     let _untold = tell_endings(rt, asked, &rows);
     Ok(if is_doubtful(asked.fail_on, &rows) {
-        Answer::Doubtful
+        ExitStatus::Doubtful
     } else {
-        Answer::Done
+        ExitStatus::Done
     })
 }
 
 /// What a table of missing fences is answered with.
-fn fences_answer(fail_on: FencesFailOn, table: &FenceTable) -> Answer
+fn fences_answer(fail_on: FencesFailOn, table: &FenceTable) -> ExitStatus
     ensures { result ≡ fences_answer fail_on table.now }
 {
     match fail_on {
-        FencesFailOn::Never => Answer::Done,
+        FencesFailOn::Never => ExitStatus::Done,
         FencesFailOn::Missing => {
             if table.missing.len() != 0 {
-                Answer::Lacking
+                ExitStatus::Lacking
             } else if table.ordinary.plans == 0 && table.unnamed.plans == 0 {
-                Answer::Done
+                ExitStatus::Done
             } else {
-                Answer::Doubtful
+                ExitStatus::Doubtful
             }
         }
     }
@@ -166,7 +160,7 @@ pub(crate) fn print_fences<R: Threads + Wait + Sync>(
     rt: &HostRuntime,
     threads: &R,
     asked: &Fences<'_>,
-) -> Result<Answer, Failure> {
+) -> Result<ExitStatus, Failure> {
     let mut out = standard_output(rt)?;
     let written = write_fences_of(rt, threads, asked, &mut out);
     let found = finish(out, written)?;
@@ -179,29 +173,29 @@ pub(crate) fn print_shrunk<R: Threads + Wait + Sync>(
     rt: &HostRuntime,
     threads: &R,
     asked: &Shrink<'_>,
-) -> Result<Answer, Failure> {
+) -> Result<ExitStatus, Failure> {
     let mut out = standard_output(rt)?;
     let written = write_shrunk(rt, threads, asked, &mut out);
     let budget = finish(out, written)?;
     let _untold = tell_shrunk(rt, asked, budget);
-    Ok(Answer::Done)
+    Ok(ExitStatus::Done)
 }
 
 /// Prints the table of all plans of the tables in some files.
-pub(crate) fn print_merged(rt: &HostRuntime, asked: &Merge<'_>) -> Result<Answer, Failure> {
+pub(crate) fn print_merged(rt: &HostRuntime, asked: &Merge<'_>) -> Result<ExitStatus, Failure> {
     let mut out = standard_output(rt)?;
     let written = write_merged(rt, asked, &mut out);
     finish(out, written)?;
-    Ok(Answer::Done)
+    Ok(ExitStatus::Done)
 }
 
 /// Prints a plan of the family, and on standard error its budget, which a plan's text has no place for.
-pub(crate) fn print_plan(rt: &HostRuntime, asked: &Plan) -> Result<Answer, Failure> {
+pub(crate) fn print_plan(rt: &HostRuntime, asked: &Plan) -> Result<ExitStatus, Failure> {
     let mut out = standard_output(rt)?;
     let written = write_plan(rt.alloc(), asked, &mut out);
     let budget = finish(out, written)?;
     tell_plan(rt, asked, budget);
-    Ok(Answer::Done)
+    Ok(ExitStatus::Done)
 }
 
 /// Runs the guest program, and prints a picture of the run.
@@ -209,11 +203,11 @@ pub(crate) fn print_drawing<R: Threads + Wait + Sync>(
     rt: &HostRuntime,
     threads: &R,
     asked: &Draw<'_>,
-) -> Result<Answer, Failure> {
+) -> Result<ExitStatus, Failure> {
     let mut out = standard_output(rt)?;
     let written = write_drawing(rt, threads, asked, &mut out);
     finish(out, written)?;
-    Ok(Answer::Done)
+    Ok(ExitStatus::Done)
 }
 
 /// Runs the guest program, and prints its trace for viewers of traces.
@@ -221,11 +215,11 @@ pub(crate) fn print_trace<R: Threads + Wait + Sync>(
     rt: &HostRuntime,
     threads: &R,
     run: &Run<'_>,
-) -> Result<Answer, Failure> {
+) -> Result<ExitStatus, Failure> {
     let mut out = standard_output(rt)?;
     let written = write_trace(rt, threads, run, &mut out);
     finish(out, written)?;
-    Ok(Answer::Done)
+    Ok(ExitStatus::Done)
 }
 
 /// Prints an execution of the guest program.
@@ -233,20 +227,20 @@ pub(crate) fn print_execution<R: Threads + Wait + Sync>(
     rt: &HostRuntime,
     threads: &R,
     asked: &Execution<'_>,
-) -> Result<Answer, Failure> {
+) -> Result<ExitStatus, Failure> {
     let mut out = standard_output(rt)?;
     let written = write_execution_of(rt, threads, asked, &mut out);
     finish(out, written)?;
-    Ok(Answer::Done)
+    Ok(ExitStatus::Done)
 }
 
 /// Checks the execution of a file, and prints whether RVWMO allows it.
-pub(crate) fn print_check(rt: &HostRuntime, asked: &Check<'_>) -> Result<Answer, Failure> {
+pub(crate) fn print_check(rt: &HostRuntime, asked: &Check<'_>) -> Result<ExitStatus, Failure> {
     let mut out = standard_output(rt)?;
     let written = write_check(rt, asked, &mut out);
     Ok(if finish(out, written)? {
-        Answer::Done
+        ExitStatus::Done
     } else {
-        Answer::Differs
+        ExitStatus::Differs
     })
 }

@@ -4,6 +4,7 @@ use fence_finder::FenceObserver;
 use hunter::{HuntObserver, ShrinkObserver};
 use machine::{Observer, UntracedMachine};
 use plan_hunt::{Row, are_well};
+use program_world::ProgressLine;
 use std::time::Instant;
 
 /// How many plans the first block of a hunt has, where it is told how far that is.
@@ -67,13 +68,6 @@ impl<'a> Progress<'a> {
         Some(seconds)
     }
 
-    /// Ends the line, where one was written.
-    pub(crate) fn end(&self) {
-        if self.clock.is_some_and(|clock| clock.told != 0) {
-            let _unwritten = eprintln!(self.rt);
-        }
-    }
-
     /// How many plans the next block of a hunt has: about as many as a second has time for.
     fn next_block(&mut self) -> u32 {
         let Some(clock) = self.clock.as_mut() else {
@@ -90,6 +84,18 @@ impl<'a> Progress<'a> {
             self.block = self.block / 2;
         }
         self.block
+    }
+}
+
+impl ProgressLine for Progress<'_> {
+    fn expect(&mut self, all: u32) {
+        self.all = all;
+    }
+
+    fn end(&mut self) {
+        if self.clock.is_some_and(|clock| clock.told != 0) {
+            let _unwritten = eprintln!(self.rt);
+        }
     }
 }
 

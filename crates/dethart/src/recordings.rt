@@ -1,21 +1,24 @@
 //! The commands that make recordings, and ask them.
+ghost use Rattle.recording.specs.Grammar.{recording};
 
 use crate::failure::Failure;
-use crate::files::{Past, read_past_of, read_recording_of};
 use crate::looking::{write_replay_of, write_watch_of};
+use crate::past::{Past, read_past_of, read_recording_of};
 use crate::progress::Progress;
 use crate::ranges::{
     NamedBytes, access_ranges, is_in_memory, named_bytes, seen_ranges, watched_bytes,
 };
-use crate::run::{progress_of, read_run, settings_of};
-use crate::saving::save;
+use crate::run::progress_of;
+use crate::world::HostFiles;
 use command_line::{Bytes, Migrate, Record, Replay, Watch};
 use host_io::{RunError, Sink, WriteSink, put_all};
 use hunt_table::{SeenRange, write_seen};
 use machine::Unobserved;
+use program_files::{read_run, settings_of};
+use program_world::{FileText, Files, ProgressLine};
 use replayer::{
-    Hit, Recording, Rounds, Sight, Verdict, choose, count_at, migrate, pcs_before, record_observed,
-    replay_observed, sight_at, state_before, watch_rounds,
+    Hit, Recording, Rounds, Sight, Verdict, choose, count_at, migrate, pcs_before,
+    record_observed, replay_observed, sight_at, state_before, watch_rounds, write_recording,
 };
 use report::{write_event, write_hart};
 use std::alloc::Global;
@@ -30,7 +33,7 @@ pub(crate) fn make_recording<R: Threads + Wait + Sync>(
     threads: &R,
     asked: &Record<'_>,
 ) -> Result<(), Failure> {
-    let files = read_run(rt, &asked.run)?;
+    let files = read_run(&HostFiles::new(rt), rt.alloc(), &asked.run)?;
     let mut progress = progress_of(rt, &asked.run.program);
     let recorded = record_observed(
         threads,
@@ -50,13 +53,27 @@ pub(crate) fn make_recording<R: Threads + Wait + Sync>(
 
 /// Writes the recording of a file to another file, in the newest version.
 pub(crate) fn migrate_file(rt: &HostRuntime, asked: &Migrate<'_>) -> Result<(), Failure> {
-    let recording = read_recording_of(rt, asked.recording)?;
+    let recording = read_recording_of(&HostFiles::new(rt), rt.alloc(), asked.recording)?;
     saved(rt, &migrate(recording), asked.out)
+}
+
+/// A recording, as the text of a file.
+#[derive(Drop)]
+struct RecordingText<'a> {
+    recording: &'a Recording,
+}
+
+impl FileText for RecordingText<'_> {
+    ghost text = { λ t. recording.spelled t.recording.now };
+
+    fn write_to<S: Sink>(&self, alloc: Global, out: &mut S) -> Result<(), RunError> {
+        write_recording(alloc, self.recording, out)
+    }
 }
 
 /// Writes a recording to a file, which a refusal names.
 fn saved(rt: &HostRuntime, recording: &Recording, path: &str) -> Result<(), Failure> {
-    match save(rt, recording, path) {
+    match HostFiles::new(rt).replace(path, &RecordingText { recording }) {
         Err(RunError::SinkFailed) => Err(Failure::Unwritten(String::from_str(rt.alloc(), path)?)),
         answer => Ok(answer?),
     }
@@ -79,7 +96,7 @@ pub(crate) fn write_replay<R: Threads + Wait + Sync, W: Write>(
     asked: &Replay<'_>,
     out: &mut W,
 ) -> Result<Replayed, Failure> {
-    let recording = match read_past_of(rt, asked.recording)? {
+    let recording = match read_past_of(&HostFiles::new(rt), rt.alloc(), asked.recording)? {
         Past::Recording(recording) => recording,
         Past::Execution(text) => return write_replay_of(rt, &text, asked, out),
     };
@@ -296,7 +313,7 @@ pub(crate) fn write_watch<R: Threads + Wait + Sync, W: Write>(
     asked: &Watch<'_>,
     out: &mut W,
 ) -> Result<Replayed, Failure> {
-    let recording = match read_past_of(rt, asked.recording)? {
+    let recording = match read_past_of(&HostFiles::new(rt), rt.alloc(), asked.recording)? {
         Past::Recording(recording) => recording,
         Past::Execution(text) => return write_watch_of(rt, &text, asked, out),
     };

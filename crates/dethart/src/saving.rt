@@ -1,29 +1,29 @@
-//! Recordings in files: a file holds a whole one, or what it held before.
+//! Texts in files: a file holds a whole one, or what it held before.
 
 use host_io::{RunError, WriteSink};
-use replayer::{Recording, write_recording};
+use program_world::FileText;
 use std::fs;
 use std::io::{self, BufWriter, Write};
 
-/// Writes a recording to a file.
+/// Writes a text to a file, in place of what it held.
 ///
 /// It is written under a name of its own, the path with `.part` after it, and renamed when it is whole: so that one that
-/// couldn't be finished is never taken for a recording. What is no plain file, as a device, is written to as it is.
+/// couldn't be finished is never taken for a whole one. What is no plain file, as a device, is written to as it is.
 ///
 /// # Errors
 ///
 /// `SinkFailed` where the file can't be made or written, and `OutOfMemory`. The path holds then what it held before.
-pub(crate) fn save(rt: &HostRuntime, recording: &Recording, path: &str) -> Result<(), RunError> {
+pub(crate) fn save<T: FileText>(rt: &HostRuntime, text: &T, path: &str) -> Result<(), RunError> {
     if is_other_than_a_file(rt, path) {
-        return write_to(rt, recording, path);
+        return write_to(rt, text, path);
     }
     let Ok(part) = format!(in rt.alloc(); "{path}.part") else {
         return Err(RunError::OutOfMemory);
     };
-    match write_to(rt, recording, part.as_str()) {
+    match write_to(rt, text, part.as_str()) {
         Ok(()) => rename(rt, part.as_str(), path),
         Err(error) => {
-            // What is left of it doesn't matter: it hasn't the name of a recording.
+            // What is left of it doesn't matter: it hasn't the name of the file.
             let _left = fs::remove_file(rt, part.as_str());
             Err(error)
         }
@@ -38,8 +38,12 @@ fn is_other_than_a_file(rt: &HostRuntime, path: &str) -> bool {
     }
 }
 
-/// Writes the text of a recording to a file, in place of what was there.
-fn write_to(rt: &HostRuntime, recording: &Recording, path: &str) -> Result<(), RunError> {
+/// Writes a text to a file, in place of what was there.
+pub(crate) fn write_to<T: FileText>(
+    rt: &HostRuntime,
+    text: &T,
+    path: &str,
+) -> Result<(), RunError> {
     let file = match fs::create(rt, path) {
         Ok(file) => file,
         Err(error) => return Err(failed(error.kind())),
@@ -47,7 +51,7 @@ fn write_to(rt: &HostRuntime, recording: &Recording, path: &str) -> Result<(), R
     let Ok(mut out) = BufWriter::new(rt.alloc(), file) else {
         return Err(RunError::OutOfMemory);
     };
-    write_recording(rt.alloc(), recording, &mut WriteSink::new(&mut out))?;
+    text.write_to(rt.alloc(), &mut WriteSink::new(&mut out))?;
     match out.flush() {
         Ok(()) => Ok(()),
         Err(error) => Err(failed(error.kind())),
