@@ -5,8 +5,6 @@ mod answering;
 mod look;
 mod threads;
 
-pub use answering::{
-    answer_memory, answer_note, answer_register, answer_registers, answer_stop,
-};
+pub use answering::{answer_memory, answer_note, answer_register, answer_registers, answer_stop};
 pub use look::Look;
 pub use threads::answer_threads;

@@ -68,8 +68,11 @@ thread_list_end = codes "</threads>"
 
 -- ---- documents in parts: `m` where more follows, `l` with the last part
 
+abbrev pub part_of : List ℕ → ℕ → ℕ → List ℕ
+part_of text offset count = (if nat_lt (offset + count) (length text) then codes "m" else codes "l") ++ take count (drop offset text)
+
 abbrev pub part_text : Window → List ℕ
-part_text w = (if nat_lt (w.offset + w.count) (length w.text.now) then codes "m" else codes "l") ++ take w.count (drop w.offset w.text.now)
+part_text w = part_of w.text.now w.offset w.count
 
 -- ---- all of them
 

@@ -15,7 +15,10 @@ fn questions_are_read(rt: HostRuntime) -> Result<(), Fail> {
             Request::Description(0, 4091),
         ),
         (b"?", Request::WhyStopped),
-        (b"qXfer:threads:read::1000,ff", Request::ThreadList(0x1000, 255)),
+        (
+            b"qXfer:threads:read::1000,ff",
+            Request::ThreadList(0x1000, 255),
+        ),
         (b"qfThreadInfo", Request::FirstThreads),
         (b"qsThreadInfo", Request::MoreThreads),
         (b"qThreadExtraInfo,2", Request::Note(2)),
