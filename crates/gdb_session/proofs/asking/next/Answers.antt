@@ -1,0 +1,10 @@
+use Rattle.std.proofs.Common.{◌≡◌, ℕ, Bool, false, Option, Some, None, sym, ap, subst, ◌∙◌}
+use Rattle.std.specs.Prelude.{◌==◌, ◌||◌, IfOk, []}
+use Rattle.gdb_session.specs.Sessions.{Recorded, State, hart_seen, is_stopped, recorded_of, state_of, stops_of, why}
+use Rattle.gdb_session.proofs.Arriving.{next_found}
+use Rattle.gdb_session.proofs.asking.next.Goals as goal
+
+pub returns-clause-next : goal.returns-clause-next
+returns-clause-next g c = λ m is w asks.
+    next_found (recorded_of m c.args.run.now) w c.args.too c.args.from.now c.args.asked.now asks c.in_ok-found.found
+    (c.in_ok-found.ensures.next m is) c.within.result c.within.ensures.found

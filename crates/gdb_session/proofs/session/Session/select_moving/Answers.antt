@@ -1,0 +1,13 @@
+use Rattle.std.proofs.Common.{◌≡◌, ℕ, Bool, false, Option, Some, None, sym, ap, subst, ◌∙◌}
+use Rattle.std.specs.Prelude.{◌==◌, ◌||◌, IfOk, []}
+use Rattle.gdb_session.specs.Sessions.{Recorded, State, hart_seen, is_stopped, recorded_of, state_of, stops_of, why}
+use Rattle.std.proofs.Common.{List, codes, refl}
+use Rattle.std.proofs.lemmas.Result.{on_ok_weaker}
+use Rattle.gdb_session.specs.Answers.{SelectsMovingBy, moves_alone}
+use Rattle.gdb_session.proofs.session.Session.select_moving.Goals as goal
+
+pub returns-in_default-clause-answers : goal.returns-in_default-clause-answers
+returns-in_default-clause-answers g c = λ m is.
+    let s = state_of c.args.self.now in
+    let P : Option ℕ → Type 0 = λ x. SelectsMovingBy (recorded_of m c.args.run.now) s x (codes "OK") (moves_alone s None) in
+    record { text = codes "OK"; answers = subst P (sym c.in_default.is) (refl, refl); wrote = c.in_ok-write_reply.ensures.writes.ok }

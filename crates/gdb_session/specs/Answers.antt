@@ -1,0 +1,159 @@
+-- What a debugger is answered, and what its session is then.
+use Rattle.std.specs.Prelude.{◌≡◌, ℕ, ◌+◌, ◌-◌, ◌==◌, ◌||◌, not, nat_lt, if◌then◌else◌, Bool, List, [], ◌∷◌, ◌++◌, filter, codes, Option, Some, None}
+use Rattle.walking.specs.Stops.{is_one_of}
+use Rattle.gdb_packets.specs.Writing.{packet_text}
+use Rattle.gdb_requests.specs.declared.request.Request.{Request}
+use Rattle.gdb_requests.specs.declared.request.Request.TheVariants as requests
+use Rattle.gdb_replies.specs.Description.{target_text}
+use Rattle.gdb_replies.specs.Replies.{part_of, payload_of}
+use Rattle.gdb_replies.specs.Words.{thread_text, threads_text}
+use Rattle.gdb_replies.specs.declared.reply.Reply.TheVariants as replies
+use Rattle.gdb_answers.specs.Answers.{memory_answer, note_answer, register_answer, registers_answer, seen, stop_answer, thread_list_answer}
+use Rattle.gdb_session.specs.declared.session.Standing.{Standing}
+use Rattle.gdb_session.specs.Sessions.{Recorded, State}
+use Rattle.gdb_session.specs.Resumes.{Continues, ContinuesBack, Steps, StepsAlone, StepsBack}
+
+-- threads are numbered from 1
+abbrev pub hart_of_thread : ℕ → ℕ → Option ℕ
+hart_of_thread harts thread = if thread == 0 || nat_lt harts thread then None else Some (thread - 1)
+
+abbrev pub done_or_missing : Option ℕ → List ℕ
+done_or_missing None = codes "E01"
+done_or_missing (Some hart) = codes "OK"
+
+-- ---- requests that change nothing
+
+abbrev pub stands_text : Recorded → Standing → List ℕ
+stands_text r t = stop_answer t.reason t.told (seen r.run t.moment t.told)
+
+abbrev pub note_text_of : Recorded → Standing → Option ℕ → List ℕ
+note_text_of r t None = codes "E01"
+note_text_of r t (Some hart) = note_answer hart t.moment (seen r.run t.moment hart)
+
+-- what isn't about the moment
+abbrev pub fixed_text : ℕ → Standing → Request → Option (List ℕ)
+fixed_text harts t requests.Features = Some (payload_of replies.Features)
+fixed_text harts t (requests.Description offset count) = Some (part_of target_text offset count)
+fixed_text harts t requests.FirstThreads = Some (threads_text harts)
+fixed_text harts t requests.MoreThreads = Some (codes "l")
+fixed_text harts t requests.PresentThread = Some (codes "QC" ++ thread_text (t.general + 1))
+fixed_text harts t requests.Attached = Some (codes "1")
+fixed_text harts t requests.Change = Some (payload_of replies.PastStands)
+fixed_text harts t requests.Actions = Some (codes "vCont;c;C;s;S")
+fixed_text harts t requests.Detach = Some (codes "OK")
+fixed_text harts t requests.Unknown = Some []
+fixed_text harts t (requests.AddWatch kind address count) = Some []
+fixed_text harts t (requests.RemoveWatch kind address count) = Some []
+fixed_text harts t request = None
+
+-- what is
+abbrev pub text_at : Recorded → Standing → Request → Option (List ℕ)
+text_at r t requests.WhyStopped = Some (stands_text r t)
+text_at r t (requests.ThreadList offset count) = Some (thread_list_answer r.run t.moment r.harts offset count)
+text_at r t (requests.Note thread) = Some (note_text_of r t (hart_of_thread r.harts thread))
+text_at r t (requests.IsAlive thread) = Some (done_or_missing (hart_of_thread r.harts thread))
+text_at r t requests.ReadRegisters = Some (registers_answer t.moment (seen r.run t.moment t.general))
+text_at r t (requests.ReadRegister number) = Some (register_answer number t.moment (seen r.run t.moment t.general))
+text_at r t (requests.ReadMemory address count) = Some (memory_answer address count (seen r.run t.moment t.general))
+text_at r t request = None
+
+abbrev pub or_else : Option (List ℕ) → Option (List ℕ) → Option (List ℕ)
+or_else None y = y
+or_else (Some x) y = Some x
+
+abbrev pub reply_at : Recorded → Standing → Request → Option (List ℕ)
+reply_at r t request = or_else (fixed_text r.harts t request) (text_at r t request)
+
+-- the reply to such a request was written
+pub record Replied (r : Recorded) (t : Standing) (request : Request) (took took_then : List ℕ) : Type 0 where
+  pub said : List ℕ
+  pub is : reply_at r t request ≡ Some said
+  pub wrote : took_then ≡ took ++ packet_text said
+
+-- ---- requests that change the session
+
+abbrev pub Says : List ℕ → State → List ℕ → State → Type 0
+Says said s text t = (text ≡ said) × (t ≡ s)
+
+-- it is selected of which hart registers and memory are asked
+abbrev pub selects_general : State → Option ℕ → State
+selects_general s None = s
+selects_general s (Some hart) = record s { standing = record s.standing { general = hart } }
+
+abbrev pub SelectsGeneral : Recorded → State → Option ℕ → List ℕ → State → Type 0
+SelectsGeneral r s None text t = Says (codes "OK") s text t
+SelectsGeneral r s (Some thread) text t =
+    let hart = hart_of_thread r.harts thread in
+    Says (done_or_missing hart) (selects_general s hart) text t
+
+-- and which hart is to step back alone
+abbrev pub moves_alone : State → Option ℕ → State
+moves_alone s hart = record s { standing = record s.standing { moving = hart } }
+
+abbrev pub SelectsMoving : State → Option ℕ → List ℕ → State → Type 0
+SelectsMoving s None text t = Says (codes "E01") s text t
+SelectsMoving s (Some hart) text t = Says (codes "OK") (moves_alone s (Some hart)) text t
+
+abbrev pub SelectsMovingBy : Recorded → State → Option ℕ → List ℕ → State → Type 0
+SelectsMovingBy r s None text t = Says (codes "OK") (moves_alone s None) text t
+SelectsMovingBy r s (Some thread) text t = SelectsMoving s (hart_of_thread r.harts thread) text t
+
+-- breakpoints come and go
+abbrev pub with_one : List ℕ → ℕ → List ℕ
+with_one stops address = if is_one_of stops address then stops else stops ++ address ∷ []
+
+abbrev pub differs_from : ℕ → ℕ → Bool
+differs_from address stop = not (stop == address)
+
+abbrev pub without_one : List ℕ → ℕ → List ℕ
+without_one stops address = filter (differs_from address) stops
+
+-- the run is resumed: where it stands then; none where there is no such thread
+abbrev pub MovesTo : (Standing → Type 0) → Option Standing → Type 0
+MovesTo To None = ⊥
+MovesTo To (Some t) = To t
+
+abbrev pub MovesBy : (ℕ → Standing → Type 0) → Option ℕ → Option Standing → Type 0
+MovesBy To None x = x ≡ None
+MovesBy To (Some hart) x = MovesTo (To hart) x
+
+abbrev pub Moves : Recorded → State → Request → Option Standing → Type 0
+Moves r s requests.Continue x = MovesTo (Continues r s) x
+Moves r s (requests.Step thread) x = MovesBy (Steps r s) (hart_of_thread r.harts thread) x
+Moves r s (requests.StepAlone thread) x = MovesBy (StepsAlone r s) (hart_of_thread r.harts thread) x
+Moves r s requests.StepBack x = MovesTo (StepsBack r s) x
+Moves r s requests.ContinueBack x = MovesTo (ContinuesBack r s) x
+Moves r s request x = ⊥
+
+-- it is told where it stands
+abbrev pub Stands : Recorded → State → Option Standing → List ℕ → State → Type 0
+Stands r s None text t = Says (codes "E01") s text t
+Stands r s (Some standing) text t = Says (stands_text r standing) (record s { standing = standing }) text t
+
+pub record Resumes (r : Recorded) (s : State) (request : Request) (text : List ℕ) (t : State) : Type 0 where
+  pub to : Option Standing
+  pub moves : Moves r s request to
+  pub stands : Stands r s to text t
+
+abbrev pub Changes : Recorded → State → Request → List ℕ → State → Type 0
+Changes r s (requests.SelectGeneral thread) text t = SelectsGeneral r s thread text t
+Changes r s (requests.SelectMoving thread) text t = SelectsMovingBy r s thread text t
+Changes r s (requests.AddStop address) text t = Says (codes "OK") (record s { software = with_one s.software address }) text t
+Changes r s (requests.RemoveStop address) text t = Says (codes "OK") (record s { software = without_one s.software address }) text t
+Changes r s (requests.AddHardwareStop address) text t = Says (codes "OK") (record s { hardware = with_one s.hardware address }) text t
+Changes r s (requests.RemoveHardwareStop address) text t = Says (codes "OK") (record s { hardware = without_one s.hardware address }) text t
+Changes r s request text t = Resumes r s request text t
+
+abbrev pub AnswersBy : Option (List ℕ) → Recorded → State → Request → List ℕ → State → Type 0
+AnswersBy None r s request text t = Changes r s request text t
+AnswersBy (Some said) r s request text t = Says said s text t
+
+-- the payload of the reply, and the session then
+abbrev pub Answers : Recorded → State → Request → List ℕ → State → Type 0
+Answers r s request text t = AnswersBy (reply_at r s.standing request) r s request text t
+
+-- it is written as one packet
+pub record Answered (r : Recorded) (s : State) (request : Request) (took took_then : List ℕ) (t : State) : Type 0 where
+  pub text : List ℕ
+  pub answers : Answers r s request text t
+  pub wrote : took_then ≡ took ++ packet_text text

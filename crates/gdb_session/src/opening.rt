@@ -1,0 +1,54 @@
+ghost use Rattle.std.specs.Prelude.{◌≡◌, ◌≤◌, IfOk};
+ghost use Rattle.machine.specs.Machine.{opening};
+ghost use Rattle.machine.specs.Settings.{IsPlan, image_for};
+ghost use Rattle.machine.specs.Untraced.{IsUntraced};
+ghost use Rattle.round_planner.specs.Quotas.{Planned};
+ghost use Rattle.gdb_session.specs.Serving.{begun};
+ghost use Rattle.gdb_session.specs.Sessions.{IsReady};
+
+use crate::debugged::Debugged;
+use host_io::RunError;
+use machine::{Settings, load, prepare_untraced};
+use pages::Range;
+use std::alloc::Global;
+
+/// The run that the settings ask for, before its first round.
+///
+/// # Errors
+///
+/// The refusals of the settings, then of the image, then of the plan; `RoundsExhausted` where it has more rounds than can be looked at;
+/// `OutOfMemory`.
+pub fn open(
+    alloc: Global,
+    image: &[u8],
+    input: &[u8],
+    settings: &Settings<'_>,
+) -> Result<Debugged, RunError>
+    ensures run { IfOk result (λ d. (plan : Planned) × IsPlan settings.now plan ×
+        IsUntraced (opening (image_for settings.now image.now) input.now plan) d.timeline.start) }
+    ensures rounds { IfOk result (λ d. d.timeline.rounds ≡ settings.now.rounds) }
+    ensures ready { IfOk result (λ d. IsReady d begun.state.standing) }
+{
+    let machine = prepare_untraced(alloc, image, input, settings)?;
+    if settings.rounds >= u32::MAX - 1 {
+        return Err(RunError::RoundsExhausted);
+    }
+    let code = code_of(alloc, image, settings)?;
+    Debugged::new(machine, code, settings.rounds, settings.workers)
+}
+
+/// The ranges of an image's code.
+fn code_of(
+    alloc: Global,
+    image: &[u8],
+    settings: &Settings<'_>,
+) -> Result<Vec<Range>, RunError>
+    requires pages { (1 ≤ settings.now.pages) × (settings.now.pages ≤ 16384) }
+    ensures { IfOk result (λ v. v.items ≡ (image_for settings.now image.now).code) }
+{
+    let image = load(alloc, settings.format, image, settings.pages)?;
+    match Vec::from_slice(alloc, image.code()) {
+        Ok(code) => Ok(code),
+        Err(_) => Err(RunError::OutOfMemory),
+    }
+}

@@ -1,0 +1,51 @@
+ghost use Rattle.std.specs.Prelude.{◌≡◌, ◌++◌, ℕ, List, OnOk, None};
+ghost use Rattle.gdb_packets.specs.Stream.{next_of};
+ghost use Rattle.gdb_packets.specs.Views.{told_in};
+ghost use Rattle.gdb_session.specs.Serving.{Refused, refusal_of};
+
+use gdb_packets::{Item, Reader, acknowledge};
+use gdb_replies::{Reply, write_reply};
+use host_io::{RunError, Sink, Source};
+use std::alloc::Global;
+
+/// Answers each request by the number of a refusal, until the source ends: a debugger shows what it is told, and not why a program ended.
+///
+/// # Errors
+///
+/// `OutOfMemory`, `SourceFailed` and `SinkFailed`.
+pub fn refuse_each<S: Source, K: Sink>(
+    alloc: Global,
+    number: u32,
+    src: &mut S,
+    out: &mut K,
+) -> Result<(), RunError>
+    ensures refuses { OnOk result ((rest : List ℕ) × (next_of rest ≡ None) ×
+        Refused number (S.gave src.old) (S.gave src.new) (K.took out.old) (K.took out.new) rest) }
+{
+    let mut reader = Reader::new();
+    for _i in 0..u64::MAX {
+        match reader.next(alloc, src)? {
+            Some(item) => refuse_one(alloc, number, &item, out)?,
+            None => return Ok(()),
+        }
+    }
+    // More than a source gives in any time.
+    Err(RunError::SourceFailed)
+}
+
+/// Answers what a debugger says, by the number of a refusal where it is a request.
+fn refuse_one<K: Sink>(
+    alloc: Global,
+    number: u32,
+    item: &Item,
+    out: &mut K,
+) -> Result<(), RunError>
+    ensures { OnOk result (K.took out.new ≡
+        K.took out.old ++ refusal_of number (told_in item.now)) }
+{
+    acknowledge(item, out)?;
+    match item {
+        Item::Packet(_) => write_reply(alloc, &Reply::Refused(number), out),
+        Item::Accepted | Item::Again | Item::Interrupt | Item::Spoilt => Ok(()),
+    }
+}

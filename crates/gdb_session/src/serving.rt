@@ -1,0 +1,80 @@
+ghost use Rattle.std.specs.Prelude.{◌≡◌, ◌∷◌, ◌++◌, ℕ, List, IfOk, OnOk};
+ghost use Rattle.gdb_session.specs.Sessions.{IsReady, OfRun};
+ghost use Rattle.gdb_session.specs.Serving.{HasEnded, Served, ServesOn, Talking, begun, refused_text, talking};
+
+use crate::talk::{Talk, refuse};
+use gdb_packets::Reader;
+use crate::debugged::Debugged;
+use host_io::{RunError, Sink, Source, put_all};
+use std::alloc::Global;
+use std::sync::Wait;
+use std::thread::Threads;
+
+/// Serves a debugger: reads what it says from a source, and answers it by a sink, until it leaves or the source ends. It may wait.
+///
+/// # Errors
+///
+/// `SourceFailed` and `SinkFailed`.
+pub fn serve<R: Threads + Wait + Sync, S: Source, K: Sink>(
+    rt: &R,
+    alloc: Global,
+    run: &mut Debugged,
+    src: &mut S,
+    out: &mut K,
+) -> Result<(), RunError>
+    requires ready { IsReady run.old begun.state.standing }
+    ensures stays { run.new ≡ run.old }
+    ensures serves { OfRun run.old (λ r. OnOk result ((t : Talking) × (rest : List ℕ) × Served r (S.gave src.old) (S.gave src.new) (K.took out.old) (K.took out.new) rest t × HasEnded t rest)) }
+{
+    let mut talk = Talk::new(alloc);
+    let mut reader = Reader::new();
+    for _i in 0..u64::MAX {
+        if !hear_next(rt, alloc, run, &mut talk, &mut reader, src, out)? {
+            return Ok(());
+        }
+    }
+    // More than a source gives in any time.
+    Err(RunError::SourceFailed)
+}
+
+/// Hears what the debugger says next, and answers it. False: it has left, or the source has ended.
+fn hear_next<R: Threads + Wait + Sync, S: Source, K: Sink>(
+    rt: &R,
+    alloc: Global,
+    run: &mut Debugged,
+    talk: &mut Talk,
+    reader: &mut Reader,
+    src: &mut S,
+    out: &mut K,
+) -> Result<bool, RunError>
+    requires ready { IsReady run.old talk.old.session.standing }
+    ensures stays { run.new ≡ run.old }
+    ensures ready { OnOk result (IsReady run.old talk.new.session.standing) }
+    ensures serves { OfRun run.old (λ r. (g k : List ℕ) → Served r g (S.gave src.old) k (K.took out.old) reader.old (talking talk.old) →
+        IfOk result (ServesOn r g (S.gave src.new) k (K.took out.new) reader.new (talking talk.new))) }
+{
+    let heard = match reader.next(alloc, src) {
+        Ok(heard) => heard,
+        Err(RunError::OutOfMemory) => {
+            refuse_lost(out)?;
+            return Ok(true);
+        }
+        Err(error) => return Err(error),
+    };
+    let Some(item) = heard else {
+        return Ok(false);
+    };
+    talk.hear(rt, alloc, run, &item, out)?;
+    if talk.has_ended(&item) {
+        return Ok(false);
+    }
+    Ok(true)
+}
+
+/// Acknowledges something that found no memory, and says so.
+fn refuse_lost<K: Sink>(out: &mut K) -> Result<(), RunError>
+    ensures { OnOk result (K.took out.new ≡ K.took out.old ++ 43 ∷ refused_text) }
+{
+    put_all(out, b"+")?;
+    refuse(out)
+}

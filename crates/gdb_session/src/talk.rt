@@ -1,0 +1,148 @@
+//! What a debugger says, one thing after another.
+
+ghost use Rattle.std.specs.Prelude.{◌≡◌, ◌++◌, ℕ, List, OnOk};
+ghost use Rattle.host_io.specs.declared.error.RunError.TheVariants as refusals;
+ghost use Rattle.gdb_packets.specs.Views.{told_in};
+ghost use Rattle.gdb_session.specs.Sessions.{IsReady, OfRun, state_of};
+ghost use Rattle.gdb_session.specs.Serving.{Hears, Replies, RepliesTo, again_of, asked_by, begun, ends, refused_text, talking};
+
+use gdb_packets::{Item, acknowledge};
+use gdb_requests::{Request, request_of};
+use crate::debugged::Debugged;
+use crate::session::Session;
+use host_io::{RunError, Sink, put_all};
+use std::alloc::Global;
+use std::sync::Wait;
+use std::thread::Threads;
+
+/// What says that a request found no memory: the packet of `E.error 20`.
+const REFUSED: &[u8] = b"$E.error 20#1f";
+
+/// A debugger's session, and what it asked for last.
+#[derive(Drop)]
+pub(crate) struct Talk {
+    pub(crate) session: Session,
+    pub(crate) last: Option<Request>,
+}
+
+impl Talk {
+    /// Nothing was said yet.
+    pub(crate) fn new(alloc: Global) -> Talk
+        ensures { talking result ≡ begun }
+    {
+        Talk {
+            session: Session::new(alloc),
+            last: None,
+        }
+    }
+
+    /// Hears what a debugger says, and answers it. It may wait.
+    pub(crate) fn hear<R: Threads + Wait + Sync, K: Sink>(
+        &mut self,
+        rt: &R,
+        alloc: Global,
+        run: &mut Debugged,
+        item: &Item,
+        out: &mut K,
+    ) -> Result<(), RunError>
+        requires ready { IsReady run.old self.old.session.standing }
+        ensures stays { run.new ≡ run.old }
+        ensures ready { OnOk result (IsReady run.old self.new.session.standing) }
+        ensures hears { OfRun run.old (λ r. OnOk result ((written : List ℕ) × Hears r (talking self.old) (told_in item.now) written (talking self.new) × (K.took out.new ≡ K.took out.old ++ written))) }
+    {
+        acknowledge(item, out)?;
+        let Some(request) = asked_by(item, self.last) else {
+            return Ok(());
+        };
+        reply(rt, alloc, run, &mut self.session, request, out)?;
+        self.last = Some(request);
+        Ok(())
+    }
+
+    /// Whether the debugger has left, where this is what it said last.
+    pub(crate) fn has_ended(&self, item: &Item) -> bool
+        ensures { result ≡ ends (told_in item.now) (talking self.now).last }
+    {
+        match self.last {
+            Some(Request::Kill) => true,
+            Some(Request::Detach) => matches!(item, Item::Accepted),
+            _ => false,
+        }
+    }
+}
+
+/// What is asked for: by a packet, or by the wish to be told the last reply again.
+fn asked_by(item: &Item, last: Option<Request>) -> Option<Request>
+    ensures { result ≡ asked_by (told_in item.now) last }
+{
+    match item {
+        Item::Packet(payload) => Some(request_of(payload.as_slice())),
+        Item::Again => match last {
+            Some(request) => Some(again_of(request)),
+            None => None,
+        },
+        Item::Accepted | Item::Interrupt | Item::Spoilt => None,
+    }
+}
+
+/// What is asked for where the reply to a request is to be told again: a run that was resumed stands where it stands.
+fn again_of(request: Request) -> Request
+    ensures { result ≡ again_of request }
+{
+    match request {
+        Request::Continue
+        | Request::Step(_)
+        | Request::StepAlone(_)
+        | Request::StepBack
+        | Request::ContinueBack => Request::WhyStopped,
+        other => other,
+    }
+}
+
+/// Replies to a request, but for one that the run is to end.
+fn reply<R: Threads + Wait + Sync, K: Sink>(
+    rt: &R,
+    alloc: Global,
+    run: &mut Debugged,
+    session: &mut Session,
+    request: Request,
+    out: &mut K,
+) -> Result<(), RunError>
+    requires ready { IsReady run.old session.old.standing }
+    ensures stays { run.new ≡ run.old }
+    ensures ready { OnOk result (IsReady run.old session.new.standing) }
+    ensures replies { OfRun run.old (λ r. OnOk result ((written : List ℕ) × RepliesTo r (state_of session.old) request written (state_of session.new) × (K.took out.new ≡ K.took out.old ++ written))) }
+{
+    match request {
+        Request::Kill => Ok(()),
+        _ => answer(rt, alloc, run, session, request, out),
+    }
+}
+
+/// Answers a request, or says that it found no memory.
+fn answer<R: Threads + Wait + Sync, K: Sink>(
+    rt: &R,
+    alloc: Global,
+    run: &mut Debugged,
+    session: &mut Session,
+    request: Request,
+    out: &mut K,
+) -> Result<(), RunError>
+    requires ready { IsReady run.old session.old.standing }
+    ensures stays { run.new ≡ run.old }
+    ensures ready { OnOk result (IsReady run.old session.new.standing) }
+    ensures replies { OfRun run.old (λ r. OnOk result ((written : List ℕ) × Replies r (state_of session.old) request written (state_of session.new) × (K.took out.new ≡ K.took out.old ++ written))) }
+{
+    match session.answer(rt, alloc, run, request, out) {
+        Ok(()) => Ok(()),
+        Err(RunError::OutOfMemory) => refuse(out),
+        Err(error) => Err(error),
+    }
+}
+
+/// Says that a request found no memory.
+pub(crate) fn refuse<K: Sink>(out: &mut K) -> Result<(), RunError>
+    ensures { OnOk result (K.took out.new ≡ K.took out.old ++ refused_text) }
+{
+    put_all(out, REFUSED)
+}
