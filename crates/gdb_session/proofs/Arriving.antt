@@ -1,5 +1,5 @@
 -- Where a run stands, by what was found.
-use Rattle.std.proofs.Common.{◌≡◌, ℕ, Bool, true, false, List, codes, Option, Some, None, Result, Ok, Err, refl, sym, ap, subst, ◌∙◌}
+use Rattle.std.proofs.Common.{◌≡◌, ℕ, Bool, false, List, codes, Option, Some, None, Result, Ok, Err, refl, sym, ap, subst, ◌∙◌}
 use Rattle.std.specs.Prelude.{◌+◌, ◌-◌, ◌==◌, ◌||◌, ◌++◌, min, IfOk, OnOk, MatchBool, []}
 use Rattle.std.proofs.lemmas.Result.{IfOk-weaker}
 use Rattle.machine.specs.Machine.{after_rounds}
@@ -62,9 +62,9 @@ module _ (r : Recorded) (s : State) where
     steps_alone runs found x is next res same =
         IfOk-weaker res (λ t. t ≡ alone_by r s hart x) (λ t. StepsAlone r s hart t)
         (λ t e.
-            let P : Bool → Type 0 = λ b. MatchBool b (t ≡ stays s reasons.End hart) (StepsAloneOn r s hart t) in
-            let on : StepsAloneOn r s hart t = record { found = found; next = next; is = e ∙ ap (alone_by r s hart) (sym is) } in
-            subst P (sym runs) on) same
+        let P : Bool → Type 0 = λ b. MatchBool b (t ≡ stays s reasons.End hart) (StepsAloneOn r s hart t) in
+        let on : StepsAloneOn r s hart t = record { found = found; next = next; is = e ∙ ap (alone_by r s hart) (sym is) } in
+        subst P (sym runs) on) same
 
     pub steps_back_beside : (found x : Option Moment) → found ≡ x → IsPrevious r (all_told (stops_of s) (Some hart)) s.standing.moment found →
         {E : Type 0} (res : Result Standing E) → IfOk res (λ t. t ≡ or_stays r s hart x) → IfOk res (λ t. StepsBackBeside r s hart t)

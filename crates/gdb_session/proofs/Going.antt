@@ -1,15 +1,15 @@
 -- What is heard and written so far, and one thing more.
-use Rattle.std.proofs.Common.{◌≡◌, ◌⊎◌, inl, inr, ℕ, List, [], ◌∷◌, ◌++◌, Option, Some, None, refl, sym, ap, ◌∙◌, subst, append_assoc, append-nil}
+use Rattle.std.proofs.Common.{◌≡◌, inr, ℕ, List, [], ◌∷◌, ◌++◌, refl, sym, ap, ◌∙◌, append_assoc, append-nil}
 use Rattle.std.specs.List.{flat_map}
 use Rattle.std.proofs.lemmas.Grind.{flat_map-append}
 use Rattle.gdb_packets.specs.Reads.{EndsBy, GoesOn, TellsBy}
-use Rattle.gdb_packets.specs.Stream.{Told, Tells, next_of}
+use Rattle.gdb_packets.specs.Stream.{Told, next_of}
 use Rattle.gdb_requests.specs.declared.request.Request.{Request}
 use Rattle.gdb_requests.specs.declared.request.Request.TheVariants as requests
 use Rattle.gdb_session.specs.declared.debugged.Debugged.{Debugged}
 use Rattle.gdb_session.specs.Sessions.{OfRun, Recorded, State, recorded_of}
 use Rattle.gdb_session.proofs.Runs.{of_same}
-use Rattle.gdb_session.specs.Serving.{Goes, Goes_on, Hear, Hears, Begins, IsLost, Nothing, Refused, Says, Served, Talking, begun, Replies, RepliesTo, refusal_of, refused_text}
+use Rattle.gdb_session.specs.Serving.{Goes, Goes_on, Hears, Begins, Nothing, Refused, Served, Talking, begun, Replies, RepliesTo, refusal_of, refused_text}
 
 -- bytes behind those that were given, and what is held behind them
 pub goes_behind : (g text g1 held g2 held2 y : List ℕ) → g1 ≡ g ++ text ++ held → GoesOn g1 held g2 held2 y → g2 ≡ g ++ (text ++ y) ++ held2

@@ -1,7 +1,6 @@
 -- Where a run stands after it was resumed: forwards, backwards, and by steps of one hart.
 use Rattle.std.specs.Prelude.{◌≡◌, ℕ, ◌+◌, ◌==◌, ◌&&◌, ◌||◌, not, Bool, true, false, MatchBool, if◌then◌else◌, [], Option, Some, None}
 use Rattle.round_steps.specs.declared.moment.Moment.{Moment}
-use Rattle.round_steps.specs.declared.place.Place.{Place}
 use Rattle.round_steps.specs.Moments.{is_before}
 use Rattle.gdb_replies.specs.declared.stop_reply.Reason.{Reason}
 use Rattle.gdb_replies.specs.declared.stop_reply.Reason.TheVariants.{Begin, End, Step}
@@ -54,7 +53,7 @@ abbrev pub begins_step : Recorded → State → ℕ → Moment → Bool
 begins_step r s hart at =
     at.place.hart == hart
     && (not (is_before s.standing.moment at)
-        || (is_step (why s (hart_seen r.run at hart)) && not (is_stopped (hart_seen r.run at hart))))
+    || (is_step (why s (hart_seen r.run at hart)) && not (is_stopped (hart_seen r.run at hart))))
 
 pub record StepsFrom (r : Recorded) (s : State) (hart : ℕ) (at : Moment) (t : Standing) : Type 0 where
   pub found : Option Moment

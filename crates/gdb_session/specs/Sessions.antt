@@ -1,5 +1,5 @@
 -- A debugger's session with a recorded run.
-use Rattle.std.specs.Prelude.{◌≡◌, ℕ, ◌+◌, ◌<◌, ◌≤◌, ◌^◌, Bool, true, false, List, ◌++◌, Option, Some, None, option_map, is_some, IfSome}
+use Rattle.std.specs.Prelude.{ℕ, ◌+◌, ◌<◌, ◌≤◌, ◌^◌, Bool, true, false, List, ◌++◌, Option, Some, None, option_map, is_some, IfSome}
 use Rattle.hart_step.specs.declared.hart.Hart.{Hart}
 use Rattle.machine.specs.Machine.{Running}
 use Rattle.machine.specs.Untraced.{IsUntraced}

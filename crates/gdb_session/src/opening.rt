@@ -38,11 +38,7 @@ pub fn open(
 }
 
 /// The ranges of an image's code.
-fn code_of(
-    alloc: Global,
-    image: &[u8],
-    settings: &Settings<'_>,
-) -> Result<Vec<Range>, RunError>
+fn code_of(alloc: Global, image: &[u8], settings: &Settings<'_>) -> Result<Vec<Range>, RunError>
     requires pages { (1 ≤ settings.now.pages) × (settings.now.pages ≤ 16384) }
     ensures { IfOk result (λ v. v.items ≡ (image_for settings.now image.now).code) }
 {

@@ -34,12 +34,7 @@ pub fn refuse_each<S: Source, K: Sink>(
 }
 
 /// Answers what a debugger says, by the number of a refusal where it is a request.
-fn refuse_one<K: Sink>(
-    alloc: Global,
-    number: u32,
-    item: &Item,
-    out: &mut K,
-) -> Result<(), RunError>
+fn refuse_one<K: Sink>(alloc: Global, number: u32, item: &Item, out: &mut K) -> Result<(), RunError>
     ensures { OnOk result (K.took out.new ≡
         K.took out.old ++ refusal_of number (told_in item.now)) }
 {

@@ -218,9 +218,7 @@ fn stand_at<R: Threads + Wait + Sync>(
 {
     let there = run.hart_at(rt, &at, hart)?;
     let reason = without_stops(there);
-    Ok(session
-        .standing
-        .moved(at, !is_stopped(there), reason, hart))
+    Ok(session.standing.moved(at, !is_stopped(there), reason, hart))
 }
 
 /// A step back. It may wait.

@@ -6,10 +6,10 @@ ghost use Rattle.gdb_packets.specs.Views.{told_in};
 ghost use Rattle.gdb_session.specs.Sessions.{IsReady, OfRun, state_of};
 ghost use Rattle.gdb_session.specs.Serving.{Hears, Replies, RepliesTo, again_of, asked_by, begun, ends, refused_text, talking};
 
-use gdb_packets::{Item, acknowledge};
-use gdb_requests::{Request, request_of};
 use crate::debugged::Debugged;
 use crate::session::Session;
+use gdb_packets::{Item, acknowledge};
+use gdb_requests::{Request, request_of};
 use host_io::{RunError, Sink, put_all};
 use std::alloc::Global;
 use std::sync::Wait;

@@ -1,6 +1,4 @@
-use Rattle.std.proofs.Common.{◌≡◌, ℕ, Bool, false, Option, Some, None, sym, ap, subst, ◌∙◌}
-use Rattle.std.specs.Prelude.{◌==◌, ◌||◌, IfOk, []}
-use Rattle.gdb_session.specs.Sessions.{Recorded, State, hart_seen, is_stopped, recorded_of, state_of, stops_of, why}
+use Rattle.gdb_session.specs.Sessions.{recorded_of}
 use Rattle.gdb_session.proofs.Arriving.{next_found}
 use Rattle.gdb_session.proofs.asking.next.Goals as goal
 

@@ -1,4 +1,4 @@
-use Rattle.std.proofs.Common.{◌≡◌, ℕ, List, Option, sym, subst}
+use Rattle.std.proofs.Common.{ℕ, List, Option, sym, subst}
 use Rattle.gdb_packets.specs.Reads.{Reads}
 use Rattle.gdb_packets.specs.Stream.{next_of}
 use Rattle.gdb_packets.specs.Views.{told_in}

@@ -1,7 +1,7 @@
-use Rattle.std.proofs.Common.{◌≡◌, ℕ, Bool, false, Option, Some, None, sym, ap, subst, ◌∙◌}
-use Rattle.std.specs.Prelude.{◌==◌, ◌||◌, IfOk, []}
-use Rattle.gdb_session.specs.Sessions.{Recorded, State, hart_seen, is_stopped, recorded_of, state_of, stops_of, why}
-use Rattle.gdb_session.specs.Searches.{AsksFor, IsNext, Wanted, all_told, only_of}
+use Rattle.std.proofs.Common.{◌≡◌, false, Some, None, sym, ap, ◌∙◌}
+use Rattle.std.specs.Prelude.{IfOk}
+use Rattle.gdb_session.specs.Sessions.{Recorded, recorded_of, state_of, stops_of}
+use Rattle.gdb_session.specs.Searches.{all_told}
 use Rattle.round_steps.specs.declared.moment.Moment.{Moment}
 use Rattle.gdb_replies.specs.declared.stop_reply.Reason.TheVariants.{Begin}
 use Rattle.gdb_session.specs.Resumes.{moved, or_begin, told_at}

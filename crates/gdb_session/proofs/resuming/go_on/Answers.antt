@@ -1,7 +1,7 @@
-use Rattle.std.proofs.Common.{◌≡◌, ℕ, Bool, false, Option, Some, None, sym, ap, subst, ◌∙◌}
-use Rattle.std.specs.Prelude.{◌==◌, ◌||◌, IfOk, []}
-use Rattle.gdb_session.specs.Sessions.{Recorded, State, hart_seen, is_stopped, recorded_of, state_of, stops_of, why}
-use Rattle.gdb_session.specs.Searches.{AsksFor, IsNext, Wanted, all_told, only_of}
+use Rattle.std.proofs.Common.{◌≡◌, None}
+use Rattle.std.specs.Prelude.{IfOk}
+use Rattle.gdb_session.specs.Sessions.{Recorded, recorded_of, state_of, stops_of}
+use Rattle.gdb_session.specs.Searches.{all_told}
 use Rattle.gdb_session.specs.Resumes.{or_end}
 use Rattle.gdb_session.proofs.Arriving.{goes_on}
 use Rattle.gdb_session.proofs.Runs.{of_same}

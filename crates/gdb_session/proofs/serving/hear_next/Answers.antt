@@ -1,4 +1,4 @@
-use Rattle.std.proofs.Common.{◌≡◌, ℕ, List, Option, Some, None, Err, inl, inr, refl, sym, ap, subst, ◌∙◌, arith}
+use Rattle.std.proofs.Common.{◌≡◌, Option, Some, Err, inl, sym, ap, subst, ◌∙◌, arith}
 use Rattle.gdb_packets.specs.Reads.{Reads}
 use Rattle.gdb_packets.specs.Stream.{next_of}
 use Rattle.gdb_packets.specs.Views.{told_in}

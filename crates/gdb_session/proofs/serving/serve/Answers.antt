@@ -1,7 +1,5 @@
-use Rattle.std.proofs.Common.{◌≡◌, ℕ, List, [], refl, sym, subst, ◌∙◌}
-use Rattle.std.specs.Prelude.{false}
-use Rattle.gdb_session.specs.declared.debugged.Debugged.{Debugged}
-use Rattle.gdb_session.specs.Serving.{Served, ServesOn, Talking, talking}
+use Rattle.std.proofs.Common.{ℕ, List, [], refl, sym, subst}
+use Rattle.gdb_session.specs.Serving.{Served, Talking, talking}
 use Rattle.gdb_session.specs.Sessions.{IsReady, recorded_of}
 use Rattle.gdb_session.proofs.Going.{serves_none}
 use Rattle.gdb_session.proofs.serving.serve.Goals as goal

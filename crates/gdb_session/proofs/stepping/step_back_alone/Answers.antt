@@ -1,7 +1,7 @@
-use Rattle.std.proofs.Common.{◌≡◌, ℕ, Bool, false, Option, Some, None, sym, ap, subst, ◌∙◌}
-use Rattle.std.specs.Prelude.{◌==◌, ◌||◌, IfOk, []}
-use Rattle.gdb_session.specs.Sessions.{Recorded, State, hart_seen, is_stopped, recorded_of, state_of, stops_of, why}
-use Rattle.gdb_session.specs.Searches.{AsksFor, IsNext, Wanted, all_told, only_of}
+use Rattle.std.proofs.Common.{◌≡◌, false, Some, None, ap, ◌∙◌}
+use Rattle.std.specs.Prelude.{[]}
+use Rattle.gdb_session.specs.Sessions.{Recorded, State, hart_seen, recorded_of, state_of, why}
+use Rattle.gdb_session.specs.Searches.{only_of}
 use Rattle.gdb_replies.specs.declared.stop_reply.Reason.{Reason}
 use Rattle.gdb_session.specs.Resumes.{moved}
 use Rattle.gdb_session.proofs.Arriving.{steps_back_alone}

@@ -1,4 +1,4 @@
-use Rattle.std.proofs.Common.{◌≡◌, ◌++◌, ℕ, List, [], refl, sym, subst, append-nil}
+use Rattle.std.proofs.Common.{[], refl, sym, subst, append-nil}
 use Rattle.std.proofs.lemmas.Result.{on_ok_weaker}
 use Rattle.gdb_requests.specs.declared.request.Request.{Request}
 use Rattle.gdb_session.specs.Serving.{RepliesTo}

@@ -1,7 +1,6 @@
-use Rattle.std.proofs.Common.{◌≡◌, ℕ, Bool, false, Option, Some, None, sym, ap, subst, ◌∙◌}
-use Rattle.std.specs.Prelude.{◌==◌, ◌||◌, IfOk, []}
-use Rattle.gdb_session.specs.Sessions.{Recorded, State, hart_seen, is_stopped, recorded_of, state_of, stops_of, why}
-use Rattle.std.proofs.Common.{List, codes, refl}
+use Rattle.std.proofs.Common.{ℕ, Option, sym, subst}
+use Rattle.gdb_session.specs.Sessions.{recorded_of, state_of}
+use Rattle.std.proofs.Common.{codes, refl}
 use Rattle.std.proofs.lemmas.Result.{on_ok_weaker}
 use Rattle.gdb_session.specs.Answers.{SelectsGeneral}
 use Rattle.gdb_session.proofs.session.Session.select_general.Goals as goal
