@@ -4,8 +4,8 @@ _dethart() {
     local word=${COMP_WORDS[COMP_CWORD]} before=${COMP_WORDS[COMP_CWORD - 1]} command=${COMP_WORDS[1]} words=
     COMPREPLY=()
     case "$COMP_CWORD:$command $before" in
-        1:*) words='run order record replay watch migrate hunt shrink merge fences plan draw trace execution check help version --help --version' ;;
-        2:'help help') words='run order record replay watch migrate hunt shrink merge fences plan draw trace execution check' ;;
+        1:*) words='run order record replay watch migrate gdb hunt shrink merge fences plan draw trace execution check help version --help --version' ;;
+        2:'help help') words='run order record replay watch migrate gdb hunt shrink merge fences plan draw trace execution check' ;;
         *:'run --show') words='report output harts' ;;
         *:'hunt --fail-on') words='differ bad never' ;;
         *:'fences --fail-on') words='missing never' ;;
@@ -20,6 +20,7 @@ _dethart() {
         replay) words='--workers --progress --every --round --hart --count --how-many --place --see --see-object --help' ;;
         watch) words='--see --see-object --hart --stores --pc --from --to --workers --progress --help' ;;
         migrate) words='--help' ;;
+        gdb) words='--help' ;;
         hunt) words='--flat --harts --pages --rounds --workers --input --progress --seed --see --see-object --plans --first --fail-on --weak --help' ;;
         shrink) words='--flat --harts --pages --rounds --workers --input --progress --seed --see --see-object --plan-number --help' ;;
         merge) words='--help' ;;

@@ -13,6 +13,7 @@ Examples:
   dethart replay guest.rec
   dethart watch guest.rec 256 8
   dethart migrate guest.rec new.rec
+  gdb-multiarch guest.elf -ex 'target remote | dethart gdb guest.rec'
   dethart hunt guest.elf --harts 4 > table.txt
   dethart shrink guest.elf --harts 4 --plan-number 35
   dethart merge table.txt next.txt

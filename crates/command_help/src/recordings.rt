@@ -96,3 +96,23 @@ A refusal is the line 'error N' on standard error, with the exit status 1;
 dethart run --help lists what each N means.
 
 Exit status: 0 the recording was written, 1 a refusal, 2 a bad command line.";
+
+/// What `gdb` does.
+pub const GDB_ABOUT: &str =
+    "Serves gdb, which looks at the run in RECORDING, forwards and backwards.";
+
+/// What `gdb --help` says after the options.
+pub const GDB_AFTER_HELP: &str = "\
+Example:
+  gdb-multiarch guest.elf -ex 'target remote | dethart gdb guest.rec'
+
+gdb's remote serial protocol is read from standard input and answered on standard
+output, until gdb detaches, kills the program or closes the pipe. A thread is a
+hart: hart 0 is thread 1. Each hart sees its own memory: in a parallel phase that
+of the round's start under its own stores. Registers round, place and phase say
+where in the run a hart is. Registers and memory can't be changed.
+
+A refusal is the line 'error N' on standard error, and each packet is answered by
+it then, until the input ends; dethart run --help lists what each N means.
+
+Exit status: 0 gdb has left, 1 a refusal, 2 a bad command line.";

@@ -19,6 +19,7 @@ use Rattle.command_line.specs.declared.settings.FencesFailOn.{FencesFailOn}
 use Rattle.command_line.specs.declared.settings.FencesFailOn.TheVariants as fences_fail_on
 use Rattle.command_line.specs.declared.settings.Hunt.{Hunt}
 use Rattle.command_line.specs.declared.settings.Merge.{Merge}
+use Rattle.command_line.specs.declared.settings.Gdb.{Gdb}
 use Rattle.command_line.specs.declared.settings.Migrate.{Migrate}
 use Rattle.command_line.specs.declared.settings.Check.{Check}
 use Rattle.command_line.specs.declared.settings.Plan.{Plan}
@@ -222,6 +223,9 @@ pub record HoldsMigrate (rows : List Row) (migrate : Migrate) : Type 0 where
   pub recording : migrate.recording.now ≡ unwrap_or (first_of (codes "recording") rows) []
   pub out : migrate.out.now ≡ unwrap_or (first_of (codes "out") rows) []
 
+pub record HoldsGdb (rows : List Row) (gdb : Gdb) : Type 0 where
+  pub recording : gdb.recording.now ≡ unwrap_or (first_of (codes "recording") rows) []
+
 pub record HoldsSearch (rows : List Row) (search : Search) : Type 0 where
   pub program : HoldsProgram 10000 rows search.program
   pub seed : search.seed ≡ wide_number_or 1 (one_of (codes "seed") rows)
@@ -278,6 +282,7 @@ HoldsNamed name rows (command.Record r) = (name ≡ codes "record") × HoldsReco
 HoldsNamed name rows (command.Replay replay) = (name ≡ codes "replay") × HoldsReplay rows replay
 HoldsNamed name rows (command.Watch watch) = (name ≡ codes "watch") × HoldsWatch rows watch
 HoldsNamed name rows (command.Migrate migrate) = (name ≡ codes "migrate") × HoldsMigrate rows migrate
+HoldsNamed name rows (command.Gdb gdb) = (name ≡ codes "gdb") × HoldsGdb rows gdb
 HoldsNamed name rows (command.Hunt hunt) = (name ≡ codes "hunt") × HoldsHunt rows hunt
 HoldsNamed name rows (command.Shrink shrink) = (name ≡ codes "shrink") × HoldsShrink rows shrink
 HoldsNamed name rows (command.Merge merge) = (name ≡ codes "merge") × HoldsMerge rows merge
@@ -296,6 +301,6 @@ HoldsLine (Some met) line = HoldsNamed met.0 met.1 line
 -- the name is that of a subcommand
 abbrev pub IsSubcommand : Text → Type 0
 IsSubcommand name = (name ≡ codes "run") ⊎ (name ≡ codes "order") ⊎ (name ≡ codes "record")
-    ⊎ (name ≡ codes "replay") ⊎ (name ≡ codes "watch") ⊎ (name ≡ codes "migrate")
+    ⊎ (name ≡ codes "replay") ⊎ (name ≡ codes "watch") ⊎ (name ≡ codes "migrate") ⊎ (name ≡ codes "gdb")
     ⊎ (name ≡ codes "hunt") ⊎ (name ≡ codes "shrink") ⊎ (name ≡ codes "merge") ⊎ (name ≡ codes "fences")
     ⊎ (name ≡ codes "plan") ⊎ (name ≡ codes "draw") ⊎ (name ≡ codes "trace") ⊎ (name ≡ codes "execution") ⊎ (name ≡ codes "check")

@@ -3,7 +3,7 @@ ghost use Rattle.std.specs.Prelude.{◌≡◌, IfOk, Some, is_some, map};
 ghost use Rattle.clap.specs.Words.{FailsBy, found_of, rows_of, subcommand_of};
 ghost use Rattle.command_options.specs.Options.{dethart_app};
 ghost use Rattle.command_line.specs.Faults.{has_bad_address, has_bad_word, has_no_bytes, line_fault, names_no_bytes, word_fault};
-ghost use Rattle.command_line.specs.Reading.{HoldsCheck, HoldsLine, HoldsMigrate, HoldsNamed, HoldsReplay, HoldsWatch, IsSubcommand, address_given, asks_of_a_hart, is_unread};
+ghost use Rattle.command_line.specs.Reading.{HoldsCheck, HoldsGdb, HoldsLine, HoldsMigrate, HoldsNamed, HoldsReplay, HoldsWatch, IsSubcommand, address_given, asks_of_a_hart, is_unread};
 
 use crate::contradictions::contradiction;
 use crate::families::{hunt_of, merge_of, plan_of, shrink_of};
@@ -12,7 +12,7 @@ use crate::given::{is_given, is_set};
 use crate::numbers::{address_in, number_given, number_of, wide_given, wide_number_of};
 use crate::runs::{draw_of, execution_of, has_bad_form, has_bad_show, print_of, record_of, run_of};
 use crate::seen::{has_bad_bytes, seen_of, texts_of};
-use crate::settings::{Check, Command, Migrate, Replay, Watch};
+use crate::settings::{Check, Command, Gdb, Migrate, Replay, Watch};
 use clap::error::ErrorKind;
 use clap::{ArgMatches, Error};
 use command_options::dethart_command;
@@ -99,6 +99,7 @@ fn command_of<'a>(
         "replay" => Command::Replay(replay_of(alloc, matches)?),
         "watch" => Command::Watch(watch_of(alloc, matches)?),
         "migrate" => Command::Migrate(migrate_of(matches)),
+        "gdb" => Command::Gdb(gdb_of(matches)),
         "hunt" => Command::Hunt(hunt_of(alloc, matches)?),
         "shrink" => Command::Shrink(shrink_of(alloc, matches)?),
         "merge" => Command::Merge(merge_of(alloc, matches)?),
@@ -247,6 +248,15 @@ fn migrate_of<'a>(matches: &ArgMatches<'a>) -> Migrate<'a>
     Migrate {
         recording: matches.get_str("recording").unwrap_or(""),
         out: matches.get_str("out").unwrap_or(""),
+    }
+}
+
+/// What the matches of `gdb` say.
+fn gdb_of<'a>(matches: &ArgMatches<'a>) -> Gdb<'a>
+    ensures { HoldsGdb (rows_of (found_of matches.now)) result }
+{
+    Gdb {
+        recording: matches.get_str("recording").unwrap_or(""),
     }
 }
 

@@ -13,6 +13,8 @@ pub enum Command<'a> {
     Watch(Watch<'a>),
     /// `migrate RECORDING OUT`: write a recording anew in the newest version.
     Migrate(Migrate<'a>),
+    /// `gdb RECORDING`: serve gdb, which looks at the recorded run.
+    Gdb(Gdb<'a>),
     /// `hunt IMAGE`: run a guest program by many plans, and print the table of its endings.
     Hunt(Hunt<'a>),
     /// `shrink IMAGE --plan-number N`: make a plan smaller that leads to the same ending.
@@ -189,6 +191,13 @@ pub struct Migrate<'a> {
     pub recording: &'a str,
     /// The path of the file that the new one is written to.
     pub out: &'a str,
+}
+
+/// The words after `gdb`.
+#[derive(Clone, Copy, PartialEq, Eq, Drop)]
+pub struct Gdb<'a> {
+    /// The path of the recording.
+    pub recording: &'a str,
 }
 
 /// The words after `execution`.

@@ -231,6 +231,10 @@ watched_round_rules =
 abbrev pub migrate_rules : List Rule
 migrate_rules = positional_rule (codes "recording") ∷ positional_rule (codes "out") ∷ []
 
+-- what `gdb` takes
+abbrev pub gdb_rules : List Rule
+gdb_rules = positional_rule (codes "recording") ∷ []
+
 -- what `check` takes
 abbrev pub check_rules : List Rule
 check_rules = positional_rule (codes "file") ∷ []
@@ -272,6 +276,9 @@ watch_app = with_rules (with_rules (taking (codes "watch") watch_rules) watched_
 
 abbrev pub migrate_app : App
 migrate_app = taking (codes "migrate") migrate_rules
+
+abbrev pub gdb_app : App
+gdb_app = taking (codes "gdb") gdb_rules
 
 abbrev pub hunt_app : App
 hunt_app = with_rules (with_rules (searching (codes "hunt")) hunt_rules) weak_rules
@@ -317,7 +324,7 @@ run_commands = run_app ∷ order_app ∷ record_app ∷ []
 
 -- those that read a recording
 abbrev pub recording_commands : List App
-recording_commands = replay_app ∷ watch_app ∷ migrate_app ∷ []
+recording_commands = replay_app ∷ watch_app ∷ migrate_app ∷ gdb_app ∷ []
 
 -- those that hunt
 abbrev pub hunting_commands : List App

@@ -8,7 +8,7 @@ use crate::family_options::{
     fences_command, hunt_command, merge_command, plan_command, shrink_command,
 };
 use crate::program_options::named_command;
-use crate::recording_options::{migrate_command, replay_command, watch_command};
+use crate::recording_options::{gdb_command, migrate_command, replay_command, watch_command};
 use crate::run_options::{
     check_command, draw_command, execution_command, order_command, record_command, run_command,
     trace_command,
@@ -62,7 +62,8 @@ fn with_recording_commands<'a>(alloc: Global) -> Result<Command<'a>, AllocError>
     let running = with_run_commands(alloc);
     let replaying = with_subcommand(running, replay_command(alloc));
     let watching = with_subcommand(replaying, watch_command(alloc));
-    with_subcommand(watching, migrate_command(alloc))
+    let migrating = with_subcommand(watching, migrate_command(alloc));
+    with_subcommand(migrating, gdb_command(alloc))
 }
 
 /// The command with the subcommands that run a program by one plan.

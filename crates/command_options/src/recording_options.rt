@@ -2,7 +2,7 @@
 ghost use Rattle.std.specs.Prelude.{◌≡◌, IfOk, false};
 ghost use Rattle.clap.specs.Words.{app_of};
 ghost use Rattle.clap.specs.declared.builder.command.Command.TheViews.{out-Command};
-ghost use Rattle.command_options.specs.Options.{migrate_app, replay_app, watch_app};
+ghost use Rattle.command_options.specs.Options.{gdb_app, migrate_app, replay_app, watch_app};
 
 use crate::arguments::{
     Argument, NARROW, ONE_HART, PAST, PROGRESS, RECORDING, SAME_OF_OBJECT, WIDE, WORKERS,
@@ -11,8 +11,8 @@ use crate::arguments::{
 use crate::program_options::named_command;
 use clap::Command;
 use command_help::{
-    MIGRATE_ABOUT, MIGRATE_AFTER_HELP, REPLAY_ABOUT, REPLAY_AFTER_HELP, WATCH_ABOUT,
-    WATCH_AFTER_HELP,
+    GDB_ABOUT, GDB_AFTER_HELP, MIGRATE_ABOUT, MIGRATE_AFTER_HELP, REPLAY_ABOUT, REPLAY_AFTER_HELP,
+    WATCH_ABOUT, WATCH_AFTER_HELP,
 };
 use std::alloc::{AllocError, Global};
 
@@ -74,6 +74,9 @@ static MIGRATE: [Argument<'static>; 2] = [
     ),
 ];
 
+/// A recording alone.
+static GDB: [Argument<'static>; 1] = [RECORDING];
+
 /// The subcommand `replay`: a recording, and the hart to print.
 pub(crate) fn replay_command<'a>(alloc: Global) -> Result<Command<'a>, AllocError>
     ensures app { IfOk result (λ command. app_of command ≡ replay_app) }
@@ -99,4 +102,13 @@ pub(crate) fn migrate_command<'a>(alloc: Global) -> Result<Command<'a>, AllocErr
 {
     let command = named_command(alloc, "migrate", MIGRATE_ABOUT, MIGRATE_AFTER_HELP);
     with_arguments(alloc, command, MIGRATE.as_slice())
+}
+
+/// The subcommand `gdb`: a recording.
+pub(crate) fn gdb_command<'a>(alloc: Global) -> Result<Command<'a>, AllocError>
+    ensures app { IfOk result (λ command. app_of command ≡ gdb_app) }
+    ensures local { IfOk result (λ command. (out-Command command).has_globals ≡ false) }
+{
+    let command = named_command(alloc, "gdb", GDB_ABOUT, GDB_AFTER_HELP);
+    with_arguments(alloc, command, GDB.as_slice())
 }

@@ -2,6 +2,7 @@
 //! replays recordings, and asks them about the past; hunts for a guest's endings, draws runs, and checks executions.
 #![tactic(auto)]
 
+mod debugging;
 mod executions;
 mod failure;
 mod fences;
@@ -24,6 +25,7 @@ mod unread;
 mod world;
 
 use command_line::{Command, asked_by_options, parse_line};
+use debugging::serve_debugger;
 use failure::Failure;
 use line::{answer_line, arguments, texts_of};
 use printing::{
@@ -84,6 +86,7 @@ fn obey<R: Threads + Wait + Sync>(
             migrate_file(rt, asked)?;
             Ok(ExitStatus::Done)
         }
+        Command::Gdb(asked) => serve_debugger(rt, threads, asked),
         Command::Hunt(asked) => print_hunt(rt, threads, asked),
         Command::Fences(asked) => print_fences(rt, threads, asked),
         Command::Shrink(asked) => print_shrunk(rt, threads, asked),

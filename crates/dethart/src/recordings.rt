@@ -17,8 +17,8 @@ use machine::Unobserved;
 use program_files::{read_run, settings_of};
 use program_world::{FileText, Files, ProgressLine};
 use replayer::{
-    Hit, Recording, Rounds, Sight, Verdict, choose, count_at, migrate, pcs_before,
-    record_observed, replay_observed, sight_at, state_before, watch_rounds, write_recording,
+    Hit, Recording, Rounds, Sight, Verdict, choose, count_at, migrate, pcs_before, record_observed,
+    replay_observed, sight_at, state_before, watch_rounds, write_recording,
 };
 use report::{write_event, write_hart};
 use std::alloc::Global;
