@@ -8,7 +8,7 @@ ghost use Rattle.round_steps.specs.Places.{begun_of, parallel_places, round_plac
 
 use crate::part::{Before, add_part};
 use crate::place::Place;
-use crate::turn::add_turn;
+use crate::turn::add_turns;
 use hart_step::CodeTable;
 use host_io::RunError;
 use machine::UntracedMachine;
@@ -49,13 +49,8 @@ pub fn places_in_round<R: Threads + Wait + Sync>(
         IfOk result (λ v. v.items ≡ round_places asked.now m) }
     ensures refused { IfErr result (λ e. e ≡ refusals.OutOfMemory) }
 {
-    // At most 64, as many as the plan says.
-    let _harts = machine.plan().harts();
-    let _count = machine.harts();
     let Parts { mut found, turns } = parts_in_round(machine, code, asked)?;
-    for number in 0..turns.len() {
-        add_turn(rt, machine, number as u32, turns[number], asked, &mut found)?;
-    }
+    add_turns(rt, machine, &turns, asked, &mut found)?;
     Ok(found)
 }
 
