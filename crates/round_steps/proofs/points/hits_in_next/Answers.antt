@@ -14,7 +14,7 @@ run_noting-requires-after_bounds g c κs within =
 
 pub returns-clause-hits : goal.returns-clause-hits
 returns-clause-hits g c = λ m is.
-    let bytes = c.pages-pages.ensures ∙ is.bytes in
+    let bytes = c.pages-pages.ensures.bytes ∙ is.bytes in
     c.in_ok-hits.ensures m.code m.plan.budget (quotas_of m.plan) m.state
     (subst IsBytes bytes c.bytes_fit.ensures)
     (c.deref.ensures.value ∙ c.in_ok-saved.ensures ∙ ap (saved_of c.args.watches.now) bytes)
