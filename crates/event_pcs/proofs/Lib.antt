@@ -1,0 +1,4 @@
+pub mod RoundsAt
+pub mod StretchByStretch
+pub mod InParts
+pub mod Located
