@@ -1,14 +1,11 @@
 -- What a hart was and saw within a round of a run, how many instructions it did in it, and in which round it did one of its instructions.
-use Rattle.std.specs.Prelude.{◌≡◌, ℕ, zero, suc, ◌+◌, ◌-◌, ◌<◌, ◌≤◌, nat_lt, if◌then◌else◌, length, slice_get, slice_index, Option, Some, None, option_map}
-use Rattle.std.specs.Option.{option_map_or}
-use Rattle.round_schedule.specs.declared.event.Event.{Event}
-use Rattle.round_schedule.specs.Accesses.{place_of}
-use Rattle.round_schedule.specs.Past.{hart_after}
+use Rattle.std.specs.Prelude.{◌≡◌, ℕ, zero, suc, ◌+◌, ◌-◌, ◌<◌, ◌≤◌, nat_lt, if◌then◌else◌, length, slice_get, slice_index, Option, Some, None}
 use Rattle.moments.specs.Sights.{Sight, sight_after}
 use Rattle.round_planner.specs.Quotas.{quotas_of}
 use Rattle.hart_step.specs.Words.{words_of}
 use Rattle.hart_step.specs.declared.hart.Hart.{Hart}
 use Rattle.machine.specs.Machine.{Running, after_rounds}
+use Rattle.event_pcs.specs.Pcs.{hart_at}
 
 -- a hart after the first `count` instructions that it did in a round of the run of so many rounds from m, serial ones counted, and memory as it saw it
 -- there; the first round is round 1
