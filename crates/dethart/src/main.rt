@@ -14,6 +14,7 @@ mod merging;
 mod output;
 mod past;
 mod pictures;
+mod places;
 mod printing;
 mod progress;
 mod ranges;
