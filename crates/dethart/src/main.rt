@@ -3,6 +3,7 @@
 #![tactic(auto)]
 
 mod debugging;
+mod execution_pictures;
 mod executions;
 mod failure;
 mod fences;

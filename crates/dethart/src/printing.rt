@@ -205,7 +205,7 @@ pub(crate) fn print_plan(rt: &HostRuntime, asked: &Plan) -> Result<ExitStatus, F
     Ok(ExitStatus::Done)
 }
 
-/// Runs the guest program, and prints a picture of the run.
+/// Runs the guest program, and prints a picture of the run, or prints that of an execution.
 pub(crate) fn print_drawing<R: Threads + Wait + Sync>(
     rt: &HostRuntime,
     threads: &R,
@@ -213,8 +213,7 @@ pub(crate) fn print_drawing<R: Threads + Wait + Sync>(
 ) -> Result<ExitStatus, Failure> {
     let mut out = standard_output(rt)?;
     let written = write_drawing(rt, threads, asked, &mut out);
-    finish(out, written)?;
-    Ok(ExitStatus::Done)
+    Ok(answer_of(finish(out, written)?))
 }
 
 /// Runs the guest program, and prints its trace for viewers of traces.
