@@ -72,14 +72,7 @@ fn add_first_pcs(
             None => add_no_pc(pcs),
             Some(hart) => {
                 let count = count_of_part(events, first.hart);
-                add_in_walk(
-                    machine,
-                    table,
-                    first.hart,
-                    *hart,
-                    &events[..count],
-                    pcs,
-                )
+                add_in_walk(machine, table, first.hart, *hart, &events[..count], pcs)
             }
         },
     }

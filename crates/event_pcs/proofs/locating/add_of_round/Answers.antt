@@ -23,8 +23,8 @@ returns-clause-pcs g c = λ m i.
     subst (λ (j : ℕ). IsUntraced (after_rounds j m) c.run.new.self) sum (after_more c.args.machine.now.rounds left m c.args.machine.now c.run.new.self i c.in_ok-run.ensures.ok) in
     on_ok_more c.add_pcs.result _ _
     (λ is.
-        is ∙ ap (λ (ps : List (Option ℕ)). c.args.pcs.now.items ++ ps)
-            (all_next c.args.rounds c.args.round m x c.args.events.now (omega (arith, c.if-round-eq0.false)) (omega (arith, c.if-round-rounds.false)) refl c.requires.one)) (c.add_pcs.ensures.pcs x there)
+    is ∙ ap (λ (ps : List (Option ℕ)). c.args.pcs.now.items ++ ps)
+    (all_next c.args.rounds c.args.round m x c.args.events.now (omega (arith, c.if-round-eq0.false)) (omega (arith, c.if-round-rounds.false)) refl c.requires.one)) (c.add_pcs.ensures.pcs x there)
 
 pub returns-clause-way : goal.returns-clause-way
 returns-clause-way g c = λ m i.
