@@ -2,3 +2,4 @@ pub mod RoundsAt
 pub mod StretchByStretch
 pub mod InParts
 pub mod Located
+pub mod TurnPcs

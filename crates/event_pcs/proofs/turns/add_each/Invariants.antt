@@ -2,7 +2,7 @@ use Rattle.std.proofs.Common.{◌≡◌, ◌++◌, map, take}
 use Rattle.machine.specs.Machine.{Running}
 use Rattle.machine.specs.Untraced.{IsUntraced}
 use Rattle.event_pcs.specs.Pcs.{pc_in_next}
-use Rattle.event_pcs.proofs.turns.add_pcs.Given as goal
+use Rattle.event_pcs.proofs.turns.add_each.Given as goal
 
 -- the machine stays, and the pcs so far are told
 abbrev pub invariant-loop-number : goal.invariant-loop-number
