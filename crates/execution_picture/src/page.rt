@@ -8,7 +8,9 @@ use crate::scene::ExecutionScene;
 use hart_step::Hart;
 use host_io::{RunError, Sink, put_all};
 use pages::OutOfMemory;
-use picture::{Point, add_line_down, add_page, add_start, left_of, start_label, style, width_for};
+use picture::{
+    Point, add_line_down, add_page, add_start, left_of, picture_style, start_label, width_for,
+};
 use report_lines::{Line, add_stop};
 use std::alloc::Global;
 
@@ -56,7 +58,7 @@ fn ground(line: &mut Line, scene: &ExecutionScene<'_>, bottom: u64) -> Result<()
     let width = width_for(scene.harts.len());
     let height = bottom.saturating_add(74);
     add_start(line, width, height)?;
-    line.text(style())?;
+    line.text(picture_style())?;
     line.text(STYLE)?;
     add_page(line, width, height)?;
     line.text(LEGEND)?;

@@ -27,6 +27,6 @@ pub use page::{page as add_page, start as add_start, write_picture};
 pub use rows::events_shown;
 pub use scene::Scene;
 pub use site::Site;
-pub use style::style;
+pub use style::style as picture_style;
 pub use titles::{object as add_object, pc as add_pc};
 pub use view::View;
