@@ -44,4 +44,4 @@ is_doubtful Never rows = false
 abbrev pub fences_answer : FencesFailOn → FenceTable → ExitStatus
 fences_answer fences.Never t = Done
 fences_answer fences.Missing t =
-    if length t.missing.items == 0 then (if t.ordinary.plans == 0 && (t.unnamed.plans == 0 && (t.running.plans == 0)) then Done else Doubtful) else Lacking
+    if length t.missing.items == 0 then (if (t.ordinary.plans == 0 && (t.unnamed.plans == 0)) && (t.running.plans == 0) then Done else Doubtful) else Lacking
