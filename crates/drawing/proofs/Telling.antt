@@ -7,7 +7,7 @@ use Rattle.elf_symbols.specs.Parts.{Part, as_part}
 use Rattle.picture.specs.Titles.{Told, told}
 use Rattle.picture.specs.declared.site.Site.{Site}
 use Rattle.drawing.specs.Drawn.{object_touched, told_by}
-use Rattle.replayer.proofs.Located.{one_more}
+use Rattle.event_pcs.proofs.Located.{one_more}
 
 -- what a site tells
 pub told_is : (s : Site) (format : Format) (file : List ℕ) (e : Event) (pc : Option ℕ) → s.pc ≡ pc → option_map as_part s.object ≡ object_touched format file e → told s ≡ told_by format file e pc
