@@ -111,11 +111,10 @@ static EXECUTIONS: [(&str, Execution<'static>); 2] = [
         Execution {
             run: DEFAULTS,
             weak: false,
-            steps: 1000000,
         },
     ),
     (
-        "dethart execution guest.elf --plan-number 7 --weak --seed=9 --steps 4294967295",
+        "dethart execution guest.elf --plan-number 7 --weak --seed=9",
         Execution {
             run: Run {
                 plan: PlanChoice {
@@ -126,7 +125,6 @@ static EXECUTIONS: [(&str, Execution<'static>); 2] = [
                 ..DEFAULTS
             },
             weak: true,
-            steps: 4294967295,
         },
     ),
 ];

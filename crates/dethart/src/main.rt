@@ -3,7 +3,6 @@
 #![tactic(auto)]
 
 mod debugging;
-mod execution_pictures;
 mod executions;
 mod failure;
 mod fences;
@@ -15,7 +14,6 @@ mod merging;
 mod output;
 mod past;
 mod pictures;
-mod places;
 mod printing;
 mod progress;
 mod ranges;

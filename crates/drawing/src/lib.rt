@@ -7,5 +7,4 @@ mod tracing;
 
 pub use drawing::draw_run;
 pub use picture::View;
-pub use sites::object_touched;
 pub use tracing::trace_run;

@@ -1,2 +1,5 @@
+pub mod Sessions
+pub mod Searches
+pub mod Resumes
 pub mod Answers
 pub mod Serving

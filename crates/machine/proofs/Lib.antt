@@ -24,6 +24,3 @@ pub mod NumbersAsked
 pub mod Tallied
 pub mod GuestRounds
 pub mod KeptStarts
-pub mod TurnHartsTabled
-pub mod TurnHartsAsked
-pub mod TurnHartsFound

@@ -8,6 +8,4 @@ pub mod Rounds
 pub mod Settings
 pub mod Asked
 pub mod NumberAsked
-pub mod TurnHarts
-pub mod TabledTurnHarts
 pub mod Untraced

@@ -150,8 +150,7 @@ impl UntracedMachine {
 
     /// Memory.
     pub fn pages(&self) -> &Pages
-        ensures bytes { result.now.memory.bytes ≡ self.now.bytes }
-        ensures code { result.now.memory.code ≡ self.now.code }
+        ensures { result.now.memory.bytes ≡ self.now.bytes }
     {
         self.guest.pages()
     }

@@ -37,7 +37,7 @@ fn view_box(line: &mut Line, width: u64, height: u64) -> Result<(), OutOfMemory>
 }
 
 #[tactic(auto, unfolding(crate::specs::Picture::start_text))]
-pub fn start(line: &mut Line, width: u64, height: u64) -> Result<(), OutOfMemory>
+fn start(line: &mut Line, width: u64, height: u64) -> Result<(), OutOfMemory>
     ensures { OnOk result (line.new ≡ line.old ++ start_text width height) }
 {
     line.text(root())?;
@@ -47,7 +47,7 @@ pub fn start(line: &mut Line, width: u64, height: u64) -> Result<(), OutOfMemory
 }
 
 #[tactic(auto, unfolding(crate::specs::Picture::page_text))]
-pub fn page(line: &mut Line, width: u64, height: u64) -> Result<(), OutOfMemory>
+fn page(line: &mut Line, width: u64, height: u64) -> Result<(), OutOfMemory>
     ensures { OnOk result (line.new ≡ line.old ++ page_text width height) }
 {
     let shape = Rectangle {

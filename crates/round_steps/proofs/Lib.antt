@@ -1,5 +1,4 @@
 pub mod Turning
-pub mod TurnsAlong
 pub mod Searching
 pub mod RoundParts
 pub mod ShownThere

@@ -1,3 +1,2 @@
 pub mod Walked
 pub mod HitsFound
-pub mod PcsFound

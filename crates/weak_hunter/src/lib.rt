@@ -2,7 +2,6 @@
 //! executions says that RVWMO allows each of these endings.
 #![tactic(auto)]
 
-mod bounds;
 mod confirming;
 mod error;
 mod executing;

@@ -1,0 +1,11 @@
+use Rattle.std.proofs.Common.{◌≡◌, ◌+◌, [], filter}
+use Rattle.machine.specs.Machine.{Running, after_rounds}
+use Rattle.machine.specs.Untraced.{IsUntraced}
+use Rattle.round_steps.specs.Moments.{is_behind, moments_of}
+use Rattle.round_steps.proofs.search.next_told.Given as goal
+
+abbrev pub invariant-loop-done : goal.invariant-loop-done
+invariant-loop-done g l =
+    (l.machine.rounds ≡ l.initial.machine.rounds + l.done)
+    × ((m : Running) → IsUntraced m l.initial.machine → IsUntraced (after_rounds l.done m) l.machine)
+    × ((m : Running) → IsUntraced m l.initial.machine → m.code ≡ l.code → filter (is_behind l.too l.here) (moments_of l.asked m l.done) ≡ [])
