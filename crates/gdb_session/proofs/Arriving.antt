@@ -10,7 +10,7 @@ use Rattle.gdb_replies.specs.declared.stop_reply.Reason.{Reason}
 use Rattle.gdb_replies.specs.declared.stop_reply.Reason.TheVariants as reasons
 use Rattle.gdb_packets.specs.Writing.{packet_text}
 use Rattle.gdb_requests.specs.declared.request.Request.{Request}
-use Rattle.gdb_session.specs.Answers.{Answered, Answers, Replied, reply_at}
+use Rattle.gdb_session.specs.Answers.{Answered, Answers}
 use Rattle.gdb_session.specs.declared.session.Standing.{Standing}
 use Rattle.gdb_session.specs.Searches.{AsksFor, IsNext, IsPrevious, Wanted, all_told, only_of}
 use Rattle.gdb_session.specs.Resumes.{Continues, ContinuesBack, StepsAlone, StepsAloneOn, StepsBackAlone, StepsBackBeside, StepsBy, StepsFrom, StepsOn, alone_by, or_begin, or_end, or_stays, stays}
@@ -103,11 +103,3 @@ pub stop_changed : (r : Recorded) (s : State) (request q : Request) (took took_t
 stop_changed r s request q took took_then t is answers wrote =
     let P : Request → Type 0 = λ x. Answers r s x (codes "OK") t in
     record { text = codes "OK"; answers = subst P (sym is) answers; wrote = wrote }
-
--- ---- replies
-
-pub replied_with : (r : Recorded) (t : Standing) (request q : Request) (said took took_then : List ℕ) → request ≡ q → reply_at r t q ≡ Some said →
-    took_then ≡ took ++ packet_text said → Replied r t request took took_then
-replied_with r t request q said took took_then is same wrote =
-    let P : Request → Type 0 = λ x. reply_at r t x ≡ Some said in
-    record { said = said; is = subst P (sym is) same; wrote = wrote }

@@ -1,11 +1,11 @@
 //! Requests, as gdb-multiarch 13.1 sends them to a program for RISC-V, and as gdb's manual has them in appendix E.
 
-use gdb_requests::{Command, FileRequest, Request, Watch, request_of};
+use gdb_requests::{Request, Watch, request_of};
 use std::test::Fail;
 
 #[test]
 fn questions_are_read(rt: HostRuntime) -> Result<(), Fail> {
-    let rows: [(&[u8], Request); 29] = [
+    let rows: [(&[u8], Request); 21] = [
         (
             b"qSupported:multiprocess+;swbreak+;hwbreak+",
             Request::Features,
@@ -23,30 +23,7 @@ fn questions_are_read(rt: HostRuntime) -> Result<(), Fail> {
         (b"qsThreadInfo", Request::MoreThreads),
         (b"qThreadExtraInfo,2", Request::Note(2)),
         (b"qC", Request::PresentThread),
-        (b"qCRC:1000,4", Request::Checksum(0x1000, 4)),
-        (
-            b"qXfer:exec-file:read::0,1000",
-            Request::ImageName(0, 0x1000),
-        ),
-        (
-            b"qXfer:exec-file:read:a410:0,1000",
-            Request::ImageName(0, 0x1000),
-        ),
-        (b"vFile:setfs:0", Request::File(FileRequest::Root)),
-        (
-            b"vFile:open:2f7265636f7264696e672f696d616765,0,0",
-            Request::File(FileRequest::OpenImage),
-        ),
-        (
-            b"vFile:open:2f7265636f7264696e672f696d61676573,0,0",
-            Request::File(FileRequest::OpenOther),
-        ),
-        (
-            b"vFile:pread:1,10000,7d00",
-            Request::File(FileRequest::Read(1, 0x10000, 32_000)),
-        ),
-        (b"qRcmd,7768657265", Request::Command(Command::Where)),
-        (b"qRcmd,776865726520", Request::Command(Command::Unknown)),
+        (b"qCRC:1000,4", Request::Unknown),
         (b"qAttached:1", Request::Attached),
         (b"Hg0", Request::SelectGeneral(None)),
         (b"Hg2", Request::SelectGeneral(Some(2))),
