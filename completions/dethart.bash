@@ -10,7 +10,7 @@ _dethart() {
         *:'hunt --fail-on') words='differ bad never' ;;
         *:'fences --fail-on') words='missing never' ;;
         *:'trace --as') words='perfetto' ;;
-        *:*' --harts' | *:*' --pages' | *:*' --rounds' | *:*' --workers' | *:*' --quota' | *:*' --budget' | *:*' --plan-number' | *:*' --seed' | *:*' --every' | *:*' --round' | *:*' --hart' | *:*' --count' | *:*' --place' | *:*' --see' | *:*' --see-object' | *:*' --from' | *:*' --to' | *:*' --plans' | *:*' --first' | *:*' --as-if-fence') return ;;
+        *:*' --harts' | *:*' --pages' | *:*' --rounds' | *:*' --workers' | *:*' --quota' | *:*' --budget' | *:*' --plan-number' | *:*' --seed' | *:*' --every' | *:*' --round' | *:*' --hart' | *:*' --count' | *:*' --place' | *:*' --see' | *:*' --see-object' | *:*' --from' | *:*' --to' | *:*' --plans' | *:*' --first' | *:*' --steps' | *:*' --as-if-fence') return ;;
         *) [ "${COMP_WORDS[COMP_CWORD - 2]}" != --see ] || return ;;
     esac
     [[ $word == -* && -z $words ]] && case $command in
@@ -21,14 +21,14 @@ _dethart() {
         watch) words='--see --see-object --hart --stores --pc --from --to --workers --progress --help' ;;
         migrate) words='--help' ;;
         gdb) words='--help' ;;
-        hunt) words='--flat --harts --pages --rounds --workers --input --progress --seed --see --see-object --plans --first --fail-on --weak --help' ;;
+        hunt) words='--flat --harts --pages --rounds --workers --input --progress --seed --see --see-object --plans --first --fail-on --weak --steps --help' ;;
         shrink) words='--flat --harts --pages --rounds --workers --input --progress --seed --see --see-object --plan-number --help' ;;
         merge) words='--help' ;;
-        fences) words='--flat --harts --pages --rounds --workers --input --progress --seed --see --see-object --plans --first --fail-on --keep --accept --as-if-fence --help' ;;
+        fences) words='--flat --harts --pages --rounds --workers --input --progress --seed --see --see-object --plans --first --steps --fail-on --keep --accept --as-if-fence --help' ;;
         plan) words='--harts --seed --help' ;;
         draw) words='--flat --harts --pages --rounds --workers --input --progress --quota --plan --budget --plan-number --seed --see --see-object --from --to --help' ;;
         trace) words='--flat --harts --pages --rounds --workers --input --progress --quota --plan --budget --plan-number --seed --as --help' ;;
-        execution) words='--flat --harts --pages --rounds --workers --input --progress --quota --plan --budget --plan-number --seed --weak --help' ;;
+        execution) words='--flat --harts --pages --rounds --workers --input --progress --quota --plan --budget --plan-number --seed --weak --steps --help' ;;
         check) words='--help' ;;
     esac
     if [ -n "$words" ]; then

@@ -16,7 +16,7 @@ RVWMO allows that.
 
 With --weak it is execution N of dethart hunt --weak, in which loads come early
 and stores early or late; --plan-number N says which, and --quota, --plan and
---budget are refused beside it.
+--budget are refused beside it. --steps N is how far it goes at most, as there.
 
 dethart run --help says what a plan is, and what each error N means: a refusal
 is the line 'error N' on standard error, with the exit status 1.

@@ -36,7 +36,8 @@ was reached. No plan of these ends otherwise, within this limit of rounds.
 With --weak numbers stand for executions that RVWMO allows, in which loads come
 early and stores early or late, in place of plans. The first line ends in
 ' weak' then, and the first of each ending in ' checked': RVWMO allows its first
-execution.
+execution. There, 'running' says that the limit of rounds was reached, or that
+of --steps, which counts those of all harts.
 
 Standard error has for each ending the line that runs the program by its first
 plan, with all options that matter; with --weak, dethart execution --weak:

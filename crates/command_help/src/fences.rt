@@ -11,7 +11,7 @@ Examples:
   dethart fences guest.elf --harts 2
   dethart fences guest.elf --harts 2 --first 1000 --plans 10000
   dethart fences guest.elf --harts 2 --keep found
-  dethart fences guest.elf --harts 2 --as-if-fence 0x1134
+  dethart fences guest.elf --harts 2 --as-if-fence hart_main+0x3c
 
 The program is run by PLANS numbers of the seed, from FIRST on. As in dethart
 hunt --weak a number stands for an execution in which loads come early and
@@ -25,6 +25,7 @@ missing. What is printed is
   fences FIRST COUNT seed S
   ordinary N first NUMBER
   unnamed N first NUMBER
+  running N first NUMBER
   accepted N first NUMBER
   missing K fence P,S plans N first NUMBER
   between PC NAME
@@ -35,7 +36,10 @@ missing. What is printed is
   end
 
 'ordinary' counts numbers that fail without any operation out of order too, and
-'unnamed' those that no fence would mend: both are for dethart hunt. The lines
+'unnamed' those that no fence would mend: both are for dethart hunt. 'running'
+counts numbers of which harts still ran after --steps steps of all harts, or
+after --rounds rounds, and nothing is known of what they do later: so it is of a
+program that never ends. A hart that fails before is found there too. The lines
 from 'missing' to 'execution' are there for each missing fence, that of most
 numbers first: a fence P,S between the instructions at the two PCs, of r for
 loads and w for stores, would forbid the execution that is told. 'moved' has the
@@ -50,9 +54,11 @@ all that its number does:
 --keep DIR writes execution K to DIR/K.execution, for dethart check. --accept
 FILE has two words a line, as hart_main+0x3c or as a PC: the instructions
 between which a fence is known to be missing. What fails there isn't told, but
-counted as 'accepted'. --as-if-fence PC asks whether one fence is enough: the
-program is run as if a fence rw,rw stood before the word at PC. PC is
-hexadecimal after 0x, or decimal without leading zeros.
+counted as 'accepted'. --as-if-fence PC asks whether a fence is enough: the
+program is run as if a fence rw,rw stood before the instruction at PC. Given
+several times, it asks whether fences at all of these places are. PC is 16
+digits or FUNCTION+0xOFFSET, as the table has it, or any address: hexadecimal
+after 0x, or decimal without leading zeros.
 
 A refusal is the line 'error N' on standard error, with the exit status 1;
 dethart run --help lists what each N means.
@@ -60,5 +66,5 @@ dethart run --help lists what each N means.
 Exit status: 1 a refusal, 2 a bad command line. Where the table was printed, 0
 or, as --fail-on says, 5 or 4:
   missing  5 where a fence is told to be missing, else 4 where numbers fail as
-           ordinary runs do
+           ordinary runs do, or still run
   never    in no case";

@@ -36,4 +36,4 @@ or dethart check an execution that is none or that RVWMO doesn't allow, 4
 dethart hunt found more endings than one, or one in which not all harts
 exited (--fail-on says when else), or dethart run --strict found a hart that
 didn't exit with value 0, or dethart fences found a fault that no fence mends,
-5 dethart fences found a missing fence.";
+or harts that run on, 5 dethart fences found a missing fence.";

@@ -75,7 +75,7 @@ A refusal is the line 'error N' on standard error, with the exit status 1:
   74  a byte that is to be seen isn't in guest memory
   75  the image has no symbol of an object of that name
   76  a line of the file of --accept isn't two places
-  77  the word of --as-if-fence isn't code
+  77  --as-if-fence names no instruction
   81  execution: the file doesn't begin as one
   82  execution: another version than 1
   83  execution: it ends before its parts do
@@ -136,6 +136,7 @@ pub const DRAW_AFTER_HELP: &str = "\
 Examples:
   dethart draw guest.elf --harts 2 --quota 1 --to 8 > run.svg
   dethart draw guest.elf --harts 2 --see 0x20000 8 > run.svg
+  dethart draw found/1.execution --see-object counter > found.svg
 
 The picture has a column for each hart, a band for each round, and a box for
 each memory operation, with an arrow to it from each store that it read bytes
@@ -144,10 +145,18 @@ and with --from and --to those of these rounds only. ADDRESS is hexadecimal
 after 0x, or decimal without leading zeros; LENGTH is decimal. It has at most
 400 operations, and a line that says how many more there are.
 
+IMAGE may be an execution, as dethart execution prints it and dethart fences
+keeps it. The picture has its operations in the order of memory then, one below
+the other, and where one stands out of its hart's order a line to where the
+program has it. An execution has its own program and harts, and no rounds: only
+--see and --see-object make a difference, and --from and --to are refused. Where
+RVWMO doesn't allow it, what is printed is what dethart check prints.
+
 dethart run --help says what a plan is, and what each error N means: a refusal
 is the line 'error N' on standard error, with the exit status 1.
 
-Exit status: 0 the picture was printed, 1 a refusal, 2 a bad command line.";
+Exit status: 0 the picture was printed, 1 a refusal, 2 a bad command line, 3
+RVWMO doesn't allow the execution.";
 
 /// What `trace` does.
 pub const TRACE_ABOUT: &str =

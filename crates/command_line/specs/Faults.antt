@@ -8,7 +8,7 @@ use Rattle.clap.specs.Kinds.{or_else}
 use Rattle.clap.specs.Words.{Kinds, Row, Text, fault_of, first_of, one_of, subcommand_of}
 use Rattle.clap.specs.declared.error.kind.ErrorKind.TheVariants.{ArgumentConflict, ValueValidation}
 use Rattle.command_options.specs.Options.{dethart_app}
-use Rattle.command_line.specs.Reading.{address_given, address_in, fail_on_in, fences_fail_on_in, is_given, is_set, number_given, number_in, pc_given, seen_given, shown_in}
+use Rattle.command_line.specs.Reading.{address_given, address_in, fail_on_in, fences_fail_on_in, is_given, is_set, number_given, number_in, seen_given, shown_in}
 
 -- ---- words that clap takes as texts
 
@@ -46,10 +46,6 @@ is_fail_on name text = if bytes_eq name (codes "fences") then is_some (fences_fa
 abbrev pub has_bad_fail_on : Text → List Row → Bool
 has_bad_fail_on name rows = option_map_or (λ text. not (is_fail_on name text)) (first_of (codes "fail-on") rows) false
 
--- the word after --as-if-fence is no address
-abbrev pub has_bad_pc : List Row → Bool
-has_bad_pc rows = is_given (codes "as-if-fence") rows && not (is_some (pc_given rows))
-
 -- the word after --as is no form that a trace is written in
 abbrev pub has_bad_form : List Row → Bool
 has_bad_form rows = option_map_or (λ text. not (bytes_eq text (codes "perfetto"))) (first_of (codes "as") rows) false
@@ -58,7 +54,7 @@ has_bad_form rows = option_map_or (λ text. not (bytes_eq text (codes "perfetto"
 abbrev pub has_bad_word : Text → List Row → Bool
 has_bad_word name rows =
     has_bad_address name rows || (names_no_bytes name rows
-    || (has_bad_bytes rows || (has_bad_show rows || (has_bad_fail_on name rows || (has_bad_pc rows || has_bad_form rows)))))
+    || (has_bad_bytes rows || (has_bad_show rows || (has_bad_fail_on name rows || has_bad_form rows))))
 
 -- ---- options that contradict each other
 
@@ -87,6 +83,15 @@ abbrev pub has_stray_weak : Text → List Row → Bool
 has_stray_weak name rows = bytes_eq name (codes "execution")
     && (is_set (codes "weak") rows && not (is_given (codes "plan-number") rows))
 
+-- a subcommand of this name makes executions where --weak is set
+abbrev pub may_be_weak : Text → Bool
+may_be_weak name = bytes_eq name (codes "hunt") || bytes_eq name (codes "execution")
+
+-- --steps says how far such an execution goes, and none is made
+abbrev pub has_stray_steps : Text → List Row → Bool
+has_stray_steps name rows = may_be_weak name
+    && (is_given (codes "steps") rows && not (is_set (codes "weak") rows))
+
 -- a subcommand of this name runs a guest program by one plan
 abbrev pub goes_by_one_plan : Text → Bool
 goes_by_one_plan name = bytes_eq name (codes "run") || (bytes_eq name (codes "order")
@@ -109,7 +114,7 @@ has_turned_rounds rows =
 -- two of the options contradict each other
 abbrev pub has_contradiction : Text → List Row → Bool
 has_contradiction name rows = list_any (are_given rows) alternatives
-    || (has_stray_how_many rows || (has_stray_weak name rows || (has_stray_seed name rows || has_turned_rounds rows)))
+    || (has_stray_how_many rows || (has_stray_weak name rows || (has_stray_steps name rows || (has_stray_seed name rows || has_turned_rounds rows))))
 
 -- ---- both
 

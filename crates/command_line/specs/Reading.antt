@@ -126,10 +126,6 @@ fences_fail_on_in text = if bytes_eq text (codes "missing") then Some fences_fai
 abbrev pub fences_fail_on_given : List Row → Option FencesFailOn
 fences_fail_on_given rows = option_and_then fences_fail_on_in (first_of (codes "fail-on") rows)
 
--- what `fences` is given after --as-if-fence
-abbrev pub pc_given : List Row → Option ℕ
-pc_given rows = option_and_then address_in (first_of (codes "as-if-fence") rows)
-
 -- the line gives the option
 abbrev pub is_given : Text → List Row → Bool
 is_given id rows = is_some (first_of id rows)
@@ -238,15 +234,17 @@ pub record HoldsHunt (rows : List Row) (hunt : Hunt) : Type 0 where
   pub first : hunt.first ≡ number_or 0 (one_of (codes "first") rows)
   pub fail_on : hunt.fail_on ≡ unwrap_or (fail_on_given rows) fail_on.Differ
   pub weak : hunt.weak ≡ is_set (codes "weak") rows
+  pub steps : hunt.steps ≡ number_or 1000000 (one_of (codes "steps") rows)
 
 pub record HoldsFences (rows : List Row) (fences : Fences) : Type 0 where
   pub search : HoldsSearch rows fences.search
   pub plans : fences.plans ≡ number_or 1000 (one_of (codes "plans") rows)
   pub first : fences.first ≡ number_or 0 (one_of (codes "first") rows)
+  pub steps : fences.steps ≡ number_or 1000000 (one_of (codes "steps") rows)
   pub fail_on : fences.fail_on ≡ unwrap_or (fences_fail_on_given rows) fences_fail_on.Missing
   pub keep : option_map (λ s. s.now) fences.keep ≡ first_of (codes "keep") rows
   pub accept : option_map (λ s. s.now) fences.accept ≡ first_of (codes "accept") rows
-  pub as_if_fence : fences.as_if_fence ≡ pc_given rows
+  pub as_if_fence : map (λ s. s.now) fences.as_if_fence.items ≡ texts_given (codes "as-if-fence") rows
 
 pub record HoldsShrink (rows : List Row) (shrink : Shrink) : Type 0 where
   pub search : HoldsSearch rows shrink.search
@@ -270,6 +268,7 @@ pub record HoldsDraw (rows : List Row) (draw : Draw) : Type 0 where
 pub record HoldsExecution (rows : List Row) (execution : Execution) : Type 0 where
   pub run : HoldsRun rows execution.run
   pub weak : execution.weak ≡ is_set (codes "weak") rows
+  pub steps : execution.steps ≡ number_or 1000000 (one_of (codes "steps") rows)
 
 pub record HoldsCheck (rows : List Row) (check : Check) : Type 0 where
   pub file : check.file.now ≡ unwrap_or (first_of (codes "file") rows) []

@@ -2,7 +2,7 @@
 ghost use Rattle.std.specs.Prelude.{◌≡◌, is_some, map};
 ghost use Rattle.std.specs.List.{list_any};
 ghost use Rattle.clap.specs.Words.{found_of, rows_of};
-ghost use Rattle.command_line.specs.Faults.{are_given, goes_by_one_plan, has_contradiction, has_stray_how_many, has_stray_seed, has_stray_weak, has_turned_rounds, is_after};
+ghost use Rattle.command_line.specs.Faults.{are_given, goes_by_one_plan, has_contradiction, has_stray_how_many, has_stray_seed, has_stray_steps, has_stray_weak, has_turned_rounds, is_after, may_be_weak};
 
 use crate::given::{is_given, is_set};
 use crate::numbers::number_given;
@@ -48,6 +48,9 @@ static ALTERNATIVES: [Alternative<'static>; 5] = [
 const STRAY_SEED: &str =
     "the argument '--seed <N>' says of which family the plan of '--plan-number <N>' is, which isn't there";
 
+/// What is said of a bound of executions where none is made.
+const STRAY_STEPS: &str = "the argument '--steps <N>' asks for '--weak', which isn't there";
+
 /// What is said of a first round after the last one.
 const TURNED_ROUNDS: &str = "the round of '--from <N>' comes after that of '--to <N>'";
 
@@ -61,6 +64,8 @@ pub(crate) fn contradiction(name: &str, matches: &ArgMatches<'_>) -> Option<&'st
         Some(text)
     } else if let Some(text) = stray_weak(name, matches) {
         Some(text)
+    } else if has_stray_steps(name, matches) {
+        Some(STRAY_STEPS)
     } else if has_stray_seed(name, matches) {
         Some(STRAY_SEED)
     } else if has_turned_rounds(matches) {
@@ -125,6 +130,20 @@ fn stray_weak(name: &str, matches: &ArgMatches<'_>) -> Option<&'static str>
     } else {
         "the argument '--weak' asks for '--plan-number <N>', which isn't there"
     })
+}
+
+/// Whether a subcommand of this name makes executions where `--weak` is set.
+fn may_be_weak(name: &str) -> bool
+    ensures { result ≡ may_be_weak name.now }
+{
+    name == "hunt" || name == "execution"
+}
+
+/// Whether there is a bound of executions, and none is made.
+fn has_stray_steps(name: &str, matches: &ArgMatches<'_>) -> bool
+    ensures { result ≡ has_stray_steps name.now (rows_of (found_of matches.now)) }
+{
+    may_be_weak(name) && is_given(matches, "steps") && !is_set(matches, "weak")
 }
 
 /// Whether a subcommand of this name runs a guest program by one plan.

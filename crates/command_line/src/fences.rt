@@ -1,12 +1,12 @@
 //! What the matches of the subcommand that looks for missing fences say, and the words after `--fail-on`.
 ghost use Rattle.std.specs.Prelude.{◌≡◌, IfOk};
 ghost use Rattle.clap.specs.Words.{found_of, rows_of};
-ghost use Rattle.command_line.specs.Faults.{has_bad_fail_on, has_bad_pc, is_fail_on};
-ghost use Rattle.command_line.specs.Reading.{HoldsFences, fences_fail_on_given, fences_fail_on_in, pc_given};
+ghost use Rattle.command_line.specs.Faults.{has_bad_fail_on, is_fail_on};
+ghost use Rattle.command_line.specs.Reading.{HoldsFences, fences_fail_on_given, fences_fail_on_in};
 
 use crate::families::{fail_on_in, search_of};
-use crate::given::is_given;
-use crate::numbers::{address_in, number_of};
+use crate::numbers::number_of;
+use crate::seen::texts_of;
 use crate::settings::{Fences, FencesFailOn};
 use clap::ArgMatches;
 use std::alloc::{AllocError, Global};
@@ -19,14 +19,16 @@ pub(crate) fn fences_of<'a>(
     ensures { IfOk result (HoldsFences (rows_of (found_of matches.now))) }
 {
     let search = search_of(alloc, matches)?;
+    let as_if_fence = texts_of(alloc, matches, "as-if-fence")?;
     Ok(Fences {
         search,
         plans: number_of(matches, "plans", 1000),
         first: number_of(matches, "first", 0),
+        steps: number_of(matches, "steps", 1000000),
         fail_on: fences_fail_on_given(matches).unwrap_or(FencesFailOn::Missing),
         keep: matches.get_str("keep"),
         accept: matches.get_str("accept"),
-        as_if_fence: pc_given(matches),
+        as_if_fence,
     })
 }
 
@@ -72,21 +74,4 @@ fn fences_fail_on_in(text: &str) -> Option<FencesFailOn>
     } else {
         None
     }
-}
-
-/// What `fences` is given after `--as-if-fence`.
-fn pc_given(matches: &ArgMatches<'_>) -> Option<u64>
-    ensures { result ≡ pc_given (rows_of (found_of matches.now)) }
-{
-    match matches.get_str("as-if-fence") {
-        Some(text) => address_in(text),
-        None => None,
-    }
-}
-
-/// Whether the matches have a word after `--as-if-fence` that is no address.
-pub(crate) fn has_bad_pc(matches: &ArgMatches<'_>) -> bool
-    ensures { result ≡ has_bad_pc (rows_of (found_of matches.now)) }
-{
-    is_given(matches, "as-if-fence") && pc_given(matches).is_none()
 }

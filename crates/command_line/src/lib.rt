@@ -13,6 +13,7 @@ mod seen;
 mod settings;
 
 pub use asking::asked_by_options;
+pub use numbers::address_in;
 pub use parsing::parse_line;
 pub use settings::{
     Bytes, Check, Command, Draw, Execution, FailOn, Fences, FencesFailOn, Gdb, Hunt, Merge,

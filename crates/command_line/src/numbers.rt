@@ -36,7 +36,7 @@ pub(crate) fn wide_number_of(matches: &ArgMatches<'_>, id: &str, default: u64) -
 
 /// The address that the text is: in hexadecimal after `0x`, and else in decimal without leading zeros, since an address that
 /// is printed begins with them and is hexadecimal.
-pub(crate) fn address_in(text: &str) -> Option<u64>
+pub fn address_in(text: &str) -> Option<u64>
     ensures { result ≡ address_in text.now }
 {
     match text.strip_prefix("0x") {

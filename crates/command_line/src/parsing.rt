@@ -7,7 +7,7 @@ ghost use Rattle.command_line.specs.Reading.{HoldsCheck, HoldsGdb, HoldsLine, Ho
 
 use crate::contradictions::contradiction;
 use crate::families::{hunt_of, merge_of, plan_of, shrink_of};
-use crate::fences::{fences_of, has_bad_fail_on, has_bad_pc};
+use crate::fences::{fences_of, has_bad_fail_on};
 use crate::given::{is_given, is_set};
 use crate::numbers::{address_in, number_given, number_of, wide_given, wide_number_of};
 use crate::runs::{draw_of, execution_of, has_bad_form, has_bad_show, print_of, record_of, run_of};
@@ -34,10 +34,6 @@ const BAD_FAIL_ON: &str = "invalid value for '--fail-on <WHAT>': it is differ, b
 
 /// What is said of a WHAT after `--fail-on` of `fences` that is none.
 const BAD_FENCES_FAIL_ON: &str = "invalid value for '--fail-on <WHAT>': it is missing or never";
-
-/// What is said of a PC that is none.
-const BAD_PC: &str =
-    "invalid value for '--as-if-fence <PC>': it is a number of 64 bits, in hexadecimal or in decimal: begin it with 0x, or write it without leading zeros";
 
 /// What is said of a FORM that is none.
 const BAD_FORM: &str = "invalid value for '--as <FORM>': it is perfetto";
@@ -188,8 +184,6 @@ fn bad_word(name: &str, matches: &ArgMatches<'_>) -> Option<&'static str>
         Some(BAD_SHOW)
     } else if has_bad_fail_on(name, matches) {
         Some(bad_fail_on(name))
-    } else if has_bad_pc(matches) {
-        Some(BAD_PC)
     } else if has_bad_form(matches) {
         Some(BAD_FORM)
     } else {

@@ -207,6 +207,8 @@ pub struct Execution<'a> {
     pub run: Run<'a>,
     /// The plan's number is that of an execution, as in a hunt over these. The line gives a number then.
     pub weak: bool,
+    /// How many steps this execution has at most. The line gives none where it isn't weak.
+    pub steps: u32,
 }
 
 /// The words after `check`.
@@ -262,6 +264,8 @@ pub struct Hunt<'a> {
     pub fail_on: FailOn,
     /// The numbers are those of executions that RVWMO allows, in which loads come early and stores late, and not of plans.
     pub weak: bool,
+    /// How many steps an execution has at most. The line gives none where it isn't weak.
+    pub steps: u32,
 }
 
 /// Which tables of missing fences give another exit status.
@@ -282,14 +286,16 @@ pub struct Fences<'a> {
     pub plans: u32,
     /// The number of the first of these.
     pub first: u32,
+    /// How many steps an execution has at most.
+    pub steps: u32,
     /// Which tables give another exit status.
     pub fail_on: FencesFailOn,
     /// The path of the folder that the executions which are told are written to; none is written where there is none.
     pub keep: Option<&'a str>,
     /// The path of the file that has the places to leave out.
     pub accept: Option<&'a str>,
-    /// The address of a word before which a fence is thought of.
-    pub as_if_fence: Option<u64>,
+    /// The places before each of which a fence is thought of, as the line has them: addresses, or names of the image.
+    pub as_if_fence: Vec<&'a str>,
 }
 
 /// The words after `shrink`.

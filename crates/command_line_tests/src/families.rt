@@ -42,7 +42,7 @@ static SEEN: [Bytes; 2] = [
 ];
 
 const HUNT_WITH_EVERY_OPTION: &str =
-    "dethart hunt --see 0x20000 8 guest.elf --plans=200 --first 7 --seed=9 --see-object=counter --harts 2 --see 24 1 --fail-on never --weak";
+    "dethart hunt --see 0x20000 8 guest.elf --plans=200 --first 7 --seed=9 --see-object=counter --harts 2 --see 24 1 --fail-on never --steps=5 --weak";
 
 /// What is read after `--fail-on`.
 static FAILURES: [(&str, FailOn); 3] = [
@@ -65,6 +65,7 @@ fn reads_hunt(rt: HostRuntime) -> Result<(), Fail> {
         first: 7,
         fail_on: FailOn::Never,
         weak: true,
+        steps: 5,
     };
     assert!(rt; is_read(&rt, HUNT_WITH_EVERY_OPTION, &Command::Hunt(given)));
     for (line, fail_on) in &FAILURES {
@@ -74,6 +75,7 @@ fn reads_hunt(rt: HostRuntime) -> Result<(), Fail> {
             first: 0,
             fail_on: *fail_on,
             weak: false,
+            steps: 1000000,
         };
         assert!(rt; is_read(&rt, line, &Command::Hunt(defaults)));
     }
@@ -81,7 +83,7 @@ fn reads_hunt(rt: HostRuntime) -> Result<(), Fail> {
 }
 
 const FENCES_WITH_EVERY_OPTION: &str =
-    "dethart fences --keep found guest.elf --plans=200 --accept known --first 7 --seed=9 --see-object=counter --harts 2 --as-if-fence 0x1134 --fail-on never";
+    "dethart fences --keep found guest.elf --plans=200 --accept known --first 7 --seed=9 --see-object=counter --harts 2 --as-if-fence 0x1134 --steps 0 --fail-on never --as-if-fence=hart_main+0x3c";
 
 #[test]
 fn reads_fences(rt: HostRuntime) -> Result<(), Fail> {
@@ -89,10 +91,11 @@ fn reads_fences(rt: HostRuntime) -> Result<(), Fail> {
         search: search(rt.alloc(), 9, &[], &["counter"])?,
         plans: 200,
         first: 7,
+        steps: 0,
         fail_on: FencesFailOn::Never,
         keep: Some("found"),
         accept: Some("known"),
-        as_if_fence: Some(4404),
+        as_if_fence: Vec::from_slice(rt.alloc(), &["0x1134", "hart_main+0x3c"])?,
     };
     assert!(rt; is_read(&rt, FENCES_WITH_EVERY_OPTION, &Command::Fences(given)));
     for line in &[
@@ -103,10 +106,11 @@ fn reads_fences(rt: HostRuntime) -> Result<(), Fail> {
             search: search(rt.alloc(), 1, &[], &[])?,
             plans: 1000,
             first: 0,
+            steps: 1000000,
             fail_on: FencesFailOn::Missing,
             keep: None,
             accept: None,
-            as_if_fence: None,
+            as_if_fence: Vec::new(rt.alloc()),
         };
         assert!(rt; is_read(&rt, line, &Command::Fences(defaults)));
     }

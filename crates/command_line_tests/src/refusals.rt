@@ -118,7 +118,7 @@ fn refuses_bad_numbers(rt: HostRuntime) {
 }
 
 /// Lines with a word that is none of those that may stand there, or too few. The third has an empty LENGTH.
-static BAD_WORDS: [(&str, ErrorKind); 12] = [
+static BAD_WORDS: [(&str, ErrorKind); 10] = [
     (
         "dethart hunt a --harts 2 --see 0 1 --see ff 1",
         ErrorKind::ValueValidation,
@@ -151,14 +151,6 @@ static BAD_WORDS: [(&str, ErrorKind); 12] = [
         "dethart fences a --harts 2 --see ff 1",
         ErrorKind::ValueValidation,
     ),
-    (
-        "dethart fences a --harts 2 --as-if-fence 0000000000001134",
-        ErrorKind::ValueValidation,
-    ),
-    (
-        "dethart fences a --harts 2 --as-if-fence 0x1134 --as-if-fence 0x1138",
-        ErrorKind::ArgumentConflict,
-    ),
     ("dethart run a --show=trace", ErrorKind::ValueValidation),
     ("dethart draw a --see 1", ErrorKind::WrongNumberOfValues),
 ];
@@ -171,7 +163,7 @@ fn refuses_bad_words(rt: HostRuntime) {
 }
 
 /// Lines with options that contradict each other, and one with each but the other.
-static CONTRADICTIONS: [(&str, &str); 21] = [
+static CONTRADICTIONS: [(&str, &str); 23] = [
     (
         "dethart run a --plan-number 3 --quota 5",
         "dethart run a --quota 5",
@@ -243,6 +235,14 @@ static CONTRADICTIONS: [(&str, &str); 21] = [
     (
         "dethart execution a --weak --plan-number 3 --budget 1",
         "dethart hunt a --harts 2 --weak",
+    ),
+    (
+        "dethart hunt a --harts 2 --steps 5",
+        "dethart hunt a --harts 2 --steps 5 --weak",
+    ),
+    (
+        "dethart execution a --plan-number 3 --steps 5",
+        "dethart fences a --harts 2 --steps 5",
     ),
     (
         "dethart draw a --from 3 --to 2",

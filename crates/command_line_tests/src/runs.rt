@@ -111,10 +111,11 @@ static EXECUTIONS: [(&str, Execution<'static>); 2] = [
         Execution {
             run: DEFAULTS,
             weak: false,
+            steps: 1000000,
         },
     ),
     (
-        "dethart execution guest.elf --plan-number 7 --weak --seed=9",
+        "dethart execution guest.elf --plan-number 7 --weak --seed=9 --steps 4294967295",
         Execution {
             run: Run {
                 plan: PlanChoice {
@@ -125,6 +126,7 @@ static EXECUTIONS: [(&str, Execution<'static>); 2] = [
                 ..DEFAULTS
             },
             weak: true,
+            steps: 4294967295,
         },
     ),
 ];

@@ -1,6 +1,6 @@
 -- The arguments of the subcommands, as clap has them.
 use Rattle.clap.specs.Words.{Rule}
-use Rattle.command_options.specs.Options.{defaulted_rule, flag_rule, number_wanted_rule, object_rule, optional_rule, positional_rule, see_rule, several_rule, text_rule, with_parser}
+use Rattle.command_options.specs.Options.{defaulted_rule, flag_rule, number_wanted_rule, object_rule, optional_rule, positional_rule, repeated_rule, see_rule, several_rule, text_rule, with_parser}
 use Rattle.command_options.specs.declared.arguments.Argument.{Argument}
 use Rattle.command_options.specs.declared.arguments.Argument.TheVariants as argument
 
@@ -15,6 +15,7 @@ rule_told (argument.See help) = see_rule
 rule_told (argument.SeeObject help) = object_rule
 rule_told (argument.File name help) = text_rule name.now
 rule_told (argument.Text name value_name help) = text_rule name.now
+rule_told (argument.Repeated name value_name help) = repeated_rule name.now
 rule_told (argument.Defaulted name value_name default help) = defaulted_rule name.now default.now
 rule_told (argument.Number parser name default help) = with_parser parser (defaulted_rule name.now default.now)
 rule_told (argument.NumberGiven parser name help) = with_parser parser (text_rule name.now)

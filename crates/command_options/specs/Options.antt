@@ -73,9 +73,13 @@ see_rule = record (new_rule (codes "see")) {
   action = Some Append;
 }
 
--- the option --see-object, which may be there several times
+-- an option --NAME with a value, which may be there several times
+abbrev pub repeated_rule : Text → Rule
+repeated_rule name = record (text_rule name) { action = Some Append }
+
+-- the option --see-object
 abbrev pub object_rule : Rule
-object_rule = record (text_rule (codes "see-object")) { action = Some Append }
+object_rule = repeated_rule (codes "see-object")
 
 -- a guest program, and the size of its machine, with this rule for the number of harts
 abbrev pub guest_rules : Rule → List Rule
@@ -147,21 +151,22 @@ hunt_rules =
     ∷ defaulted_rule (codes "fail-on") (codes "differ")
     ∷ []
 
--- which executions are looked at for missing fences, which tables the exit status tells of, where the executions that are told go, which
--- places are left out, and where a fence is thought of
+-- which executions are looked at for missing fences, and how far, which tables the exit status tells of, where the executions that are told
+-- go, which places are left out, and where fences are thought of
 abbrev pub fence_rules : List Rule
 fence_rules =
     number_rule (codes "plans") (codes "1000")
     ∷ number_rule (codes "first") (codes "0")
+    ∷ number_rule (codes "steps") (codes "1000000")
     ∷ defaulted_rule (codes "fail-on") (codes "missing")
     ∷ text_rule (codes "keep")
     ∷ text_rule (codes "accept")
-    ∷ text_rule (codes "as-if-fence")
+    ∷ repeated_rule (codes "as-if-fence")
     ∷ []
 
--- the numbers are of executions in which loads come early and stores late
+-- the numbers are of executions in which loads come early and stores late, of so many steps at most
 abbrev pub weak_rules : List Rule
-weak_rules = flag_rule (codes "weak") ∷ []
+weak_rules = flag_rule (codes "weak") ∷ number_given_rule (codes "steps") ∷ []
 
 -- the plan of the family that is made smaller
 abbrev pub shrink_rules : List Rule

@@ -3,7 +3,7 @@ ghost use Rattle.std.specs.Prelude.{◌≡◌, IfOk, false, map};
 ghost use Rattle.clap.specs.Words.{app_of, rule_of};
 ghost use Rattle.clap.specs.declared.builder.command.Command.TheViews.{out-Command};
 ghost use Rattle.command_options.specs.Arguments.{rule_told};
-ghost use Rattle.command_options.specs.Options.{defaulted_rule, flag_rule, number_wanted_rule, object_rule, optional_rule, positional_rule, see_rule, several_rule, text_rule, with_parser, with_rules};
+ghost use Rattle.command_options.specs.Options.{defaulted_rule, flag_rule, number_wanted_rule, object_rule, optional_rule, positional_rule, repeated_rule, see_rule, several_rule, text_rule, with_parser, with_rules};
 
 use clap::builder::ValueParser;
 use clap::{Arg, ArgAction, Command};
@@ -32,6 +32,8 @@ pub(crate) enum Argument<'a> {
     File(&'a str, &'a str),
     /// The option `--NAME VALUE`, which has no default: its name, and what the usage calls the value.
     Text(&'a str, &'a str, &'a str),
+    /// The same of an option that may be there several times.
+    Repeated(&'a str, &'a str, &'a str),
     /// The option `--NAME VALUE`: its name, what the usage calls the value, and the default.
     Defaulted(&'a str, &'a str, &'a str, &'a str),
     /// The option `--NAME N`: its name and the default.
@@ -98,6 +100,13 @@ pub(crate) const WEAK: Argument<'static> = Argument::Flag(
     "Numbers of executions: loads early, stores late",
 );
 
+/// The option `--steps N` beside `--weak`.
+pub(crate) const STEPS: Argument<'static> = Argument::NumberGiven(
+    NARROW,
+    "steps",
+    "With --weak: steps of each [default: 1000000]",
+);
+
 /// The option `--hart H` of a hart whose accesses alone are printed.
 pub(crate) const ONE_HART: Argument<'static> = Argument::NumberGiven(
     NARROW,
@@ -149,6 +158,7 @@ fn argument_of<'a>(alloc: Global, argument: Argument<'a>) -> Arg<'a>
         Argument::SeeObject(help) => see_object(alloc, help),
         Argument::File(name, help) => option(alloc, name, "FILE", help),
         Argument::Text(name, value_name, help) => option(alloc, name, value_name, help),
+        Argument::Repeated(name, value_name, help) => repeated(alloc, name, value_name, help),
         Argument::Defaulted(name, value_name, default, help) => {
             defaulted(alloc, name, value_name, default, help)
         }
@@ -246,7 +256,15 @@ fn see_object<'a>(alloc: Global, help: &'a str) -> Arg<'a>
     ensures rule { rule_of result ≡ object_rule }
     ensures local { result.global ≡ false }
 {
-    option(alloc, "see-object", "NAME", help).action(ArgAction::Append)
+    repeated(alloc, "see-object", "NAME", help)
+}
+
+/// The option `--NAME VALUE`, which may be there several times.
+fn repeated<'a>(alloc: Global, name: &'a str, value_name: &'a str, help: &'a str) -> Arg<'a>
+    ensures rule { rule_of result ≡ repeated_rule name.entry.now }
+    ensures local { result.global ≡ false }
+{
+    option(alloc, name, value_name, help).action(ArgAction::Append)
 }
 
 /// The option `--NAME VALUE`, which has no default.

@@ -5,7 +5,7 @@ ghost use Rattle.clap.specs.declared.builder.command.Command.TheViews.{out-Comma
 ghost use Rattle.command_options.specs.Options.{fences_app, hunt_app, merge_app, plan_app, searching, shrink_app};
 
 use crate::arguments::{
-    Argument, HARTS, NARROW, PROGRESS, SAME_OF_OBJECT, SEED, WEAK, WORKERS, with_arguments,
+    Argument, HARTS, NARROW, PROGRESS, SAME_OF_OBJECT, SEED, STEPS, WEAK, WORKERS, with_arguments,
 };
 use crate::program_options::{INPUT, guest_command, named_command};
 use clap::Command;
@@ -30,7 +30,7 @@ static SEARCHING: [Argument<'static>; 7] = [
 ];
 
 /// Which plans of the family a program is run by.
-static HUNT: [Argument<'static>; 4] = [
+static HUNT: [Argument<'static>; 5] = [
     Argument::Number(NARROW, "plans", "1000", "Plans: 1 to 4294967295"),
     Argument::Number(NARROW, "first", "0", "Number of the first plan"),
     Argument::Defaulted(
@@ -40,12 +40,14 @@ static HUNT: [Argument<'static>; 4] = [
         "Exit with 4 on: differ, bad or never",
     ),
     WEAK,
+    STEPS,
 ];
 
-/// Which executions are looked at, and what of the missing fences is told.
-static FENCES: [Argument<'static>; 6] = [
+/// Which executions are looked at, and how far, and what of the missing fences is told.
+static FENCES: [Argument<'static>; 7] = [
     Argument::Number(NARROW, "plans", "1000", "Executions: 1 to 4294967295"),
     Argument::Number(NARROW, "first", "0", "Number of the first execution"),
+    Argument::Number(NARROW, "steps", "1000000", "Steps of an execution, at most"),
     Argument::Defaulted(
         "fail-on",
         "WHAT",
@@ -58,10 +60,10 @@ static FENCES: [Argument<'static>; 6] = [
         "Write each execution that is told to a file in DIR",
     ),
     Argument::File("accept", "Places that are known, and left out"),
-    Argument::Text(
+    Argument::Repeated(
         "as-if-fence",
         "PC",
-        "Search as if a fence stood before this word",
+        "As if a fence stood before it; can be repeated",
     ),
 ];
 

@@ -5,7 +5,7 @@ ghost use Rattle.clap.specs.declared.builder.command.Command.TheViews.{out-Comma
 ghost use Rattle.command_options.specs.Options.{check_app, draw_app, execution_app, order_app, record_app, run_app, running, trace_app};
 
 use crate::arguments::{
-    Argument, HARTS, NARROW, PROGRESS, SAME_OF_OBJECT, WEAK, WIDE, WORKERS, with_arguments,
+    Argument, HARTS, NARROW, PROGRESS, SAME_OF_OBJECT, STEPS, WEAK, WIDE, WORKERS, with_arguments,
 };
 use crate::program_options::{INPUT, guest_command, named_command};
 use clap::Command;
@@ -127,8 +127,8 @@ pub(crate) fn trace_command<'a>(alloc: Global) -> Result<Command<'a>, AllocError
     with_arguments(alloc, command, TRACED.as_slice())
 }
 
-/// Whether the number is that of a plan or of an execution.
-static EXECUTED: [Argument<'static>; 1] = [WEAK];
+/// Whether the number is that of a plan or of an execution, and how far that goes.
+static EXECUTED: [Argument<'static>; 2] = [WEAK, STEPS];
 
 /// The subcommand `execution`: how the program is run, and of what the number is.
 pub(crate) fn execution_command<'a>(alloc: Global) -> Result<Command<'a>, AllocError>

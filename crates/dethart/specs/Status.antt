@@ -39,8 +39,9 @@ is_doubtful Differ rows = not (is_one_exit rows)
 is_doubtful Bad rows = not (all_end_well rows)
 is_doubtful Never rows = false
 
--- a table of missing fences is answered so: one is missing, or else some number fails as an ordinary run may
+-- a table of missing fences is answered so: one is missing, or else some number fails as an ordinary run may, or of some nothing is known
+-- from where harts still ran
 abbrev pub fences_answer : FencesFailOn → FenceTable → ExitStatus
 fences_answer fences.Never t = Done
 fences_answer fences.Missing t =
-    if length t.missing.items == 0 then (if t.ordinary.plans == 0 && (t.unnamed.plans == 0) then Done else Doubtful) else Lacking
+    if length t.missing.items == 0 then (if (t.ordinary.plans == 0 && (t.unnamed.plans == 0)) && (t.running.plans == 0) then Done else Doubtful) else Lacking

@@ -2,13 +2,14 @@
 
 ghost use Rattle.std.specs.Prelude.{IfOk};
 ghost use Rattle.gdb_session.specs.Serving.{begun};
-ghost use Rattle.gdb_session.specs.Sessions.{IsReady};
+ghost use Rattle.gdb_resumes.specs.Sessions.{IsReady};
 
 use crate::failure::Failure;
 use crate::past::read_recording_of;
 use crate::world::HostFiles;
 use command_line::Gdb;
-use gdb_session::{Debugged, open, refuse_each, serve};
+use gdb_resumes::Debugged;
+use gdb_session::{open, refuse_each, serve};
 use host_io::{ReadSource, WriteSink};
 use machine::{Format, Settings};
 use program_world::ExitStatus;

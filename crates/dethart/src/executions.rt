@@ -27,22 +27,24 @@ pub(crate) fn write_execution_of<R: Threads + Wait + Sync, W: Write>(
     out: &mut W,
 ) -> Result<(), Failure> {
     match (asked.weak, asked.run.plan.number) {
-        (true, Some(number)) => write_weak_execution(rt, &asked.run, number, out),
+        (true, Some(number)) => write_weak_execution(rt, &asked.run, asked.steps, number, out),
         _ => write_run_as_execution(rt, threads, &asked.run, out),
     }
 }
 
-/// Writes the execution of a number, in which loads come early and stores late.
+/// Writes the execution of a number, of so many steps at most, in which loads come early and stores late.
 fn write_weak_execution<W: Write>(
     rt: &HostRuntime,
     run: &Run<'_>,
+    steps: u32,
     number: u32,
     out: &mut W,
 ) -> Result<(), Failure> {
     let program = &run.program;
     let files = read_program(&HostFiles::new(rt), rt.alloc(), program)?;
     let settings = program_settings(rt.alloc(), program, run.plan.seed);
-    let file = weak_execution(rt.alloc(), &files.image, &files.input, &settings, number)?;
+    let (image, input) = (files.image.as_slice(), files.input.as_slice());
+    let file = weak_execution(rt.alloc(), image, input, &settings, steps, number)?;
     Ok(write_execution(rt.alloc(), &file, &mut WriteSink::new(out))?)
 }
 

@@ -4,6 +4,7 @@ ghost use Rattle.host_io.specs.declared.error.RunError.TheVariants as refusals;
 ghost use Rattle.dethart.specs.declared.failure.Failure.TheVariants as failures;
 
 use crate::merging::Apart;
+use crate::places::Misplaced;
 use execution_scripts::Cause;
 use fence_table::AcceptError;
 use host_io::RunError;
@@ -41,8 +42,8 @@ pub(crate) enum Failure {
     WeakHunt(WeakHuntError),
     /// The list of places that are accepted wasn't read.
     Accept(AcceptError),
-    /// A fence was to be assumed before this address, which is not one of an instruction of the image.
-    NotCode(u64),
+    /// A fence was to be assumed before the instruction that this word names, and it names none, for this reason.
+    NoPlace(String, Misplaced),
     /// The tables weren't merged.
     Merge(MergeError),
     /// The file of this path has no table.
@@ -161,7 +162,7 @@ impl Failure {
             Failure::Hunt(error) => Some(error.number()),
             Failure::WeakHunt(error) => Some(error.number()),
             Failure::Accept(error) => Some(error.number()),
-            Failure::NotCode(_) => Some(77),
+            Failure::NoPlace(_, _) => Some(77),
             Failure::Merge(error) => Some(error.number()),
             Failure::NotATable(_) => Some(MergeError::NotATable.number()),
             Failure::Apart(_, _, _) => Some(MergeError::Apart.number()),
@@ -192,10 +193,9 @@ impl Failure {
             Failure::Hunt(error) => eprintln!(rt; "{error}"),
             Failure::WeakHunt(error) => eprintln!(rt; "{error}"),
             Failure::Accept(error) => eprintln!(rt; "{error}"),
-            Failure::NotCode(pc) => {
-                eprintln!(rt;
-                    "there is no instruction at {pc:#x}, before which a fence is to be assumed"
-                )
+            Failure::NoPlace(word, why) => {
+                let why = why.words();
+                eprintln!(rt; "no fence can be assumed before {word}: {why}")
             }
             Failure::Merge(error) => eprintln!(rt; "{error}"),
             Failure::NotATable(path) => eprintln!(rt; "the file {path} is no table of a hunt"),

@@ -3,14 +3,13 @@
 use crate::failure::Failure;
 use crate::hunting::{named_in, settings_of};
 use crate::keeping::keep;
+use crate::places::instructions_of;
 use crate::progress::Progress;
 use crate::world::HostFiles;
 use command_line::Fences;
 use fence_finder::{FenceSettings, FoundFences, find_fences};
 use fence_table::Accepted;
 use host_io::WriteSink;
-use hunter::{HuntSettings, check_hunt};
-use machine::load;
 use program_files::{ProgramFiles, read_file, read_program};
 use program_world::ProgressLine;
 use std::alloc::Global;
@@ -30,10 +29,11 @@ pub(crate) fn write_fences_of<R: Threads + Wait + Sync, W: Write>(
     let accepted = accepted_in(rt, asked.accept)?;
     let named = named_in(rt.alloc(), &asked.search, &files)?;
     let hunt = settings_of(rt.alloc(), &asked.search, &named, asked.first, asked.plans)?;
-    check_code(rt.alloc(), &hunt, &files, asked.as_if_fence)?;
+    let assumed = instructions_of(rt, &asked.as_if_fence, &hunt, &files)?;
     let settings = FenceSettings {
         hunt,
-        assumed: asked.as_if_fence,
+        steps: asked.steps,
+        assumed,
         accepted,
         keeps: asked.keep.is_some(),
     };
@@ -72,31 +72,4 @@ fn accepted_in(rt: &HostRuntime, path: Option<&str>) -> Result<Accepted, Failure
         None => Vec::new(rt.alloc()),
     };
     Ok(Accepted::read(rt.alloc(), &text)?)
-}
-
-/// Refuses a fence before what is no instruction of the image. Settings and an image that are refused for themselves are left to the search.
-fn check_code(
-    alloc: Global,
-    settings: &HuntSettings,
-    files: &ProgramFiles,
-    pc: Option<u64>,
-) -> Result<(), Failure> {
-    let Some(pc) = pc else {
-        return Ok(());
-    };
-    if check_hunt(settings).is_err() {
-        return Ok(());
-    }
-    let Ok(image) = load(alloc, settings.format, &files.image, settings.pages) else {
-        return Ok(());
-    };
-    let is_code = image
-        .code()
-        .iter()
-        .any(|range| range.start <= pc && pc - range.start < range.len);
-    if pc % 4 == 0 && is_code {
-        Ok(())
-    } else {
-        Err(Failure::NotCode(pc))
-    }
 }

@@ -32,24 +32,36 @@ pub(crate) fn write_hunt<R: Threads + Wait + Sync, W: Write>(
     let mut settings = settings_of(rt.alloc(), &asked.search, &named, asked.first, asked.plans)?;
     settings.header.is_weak = asked.weak;
     let mut progress = Progress::new(rt, asked.search.program.progress, asked.plans);
-    let answer = rows_of(threads, rt.alloc(), &files, &settings, &mut progress, out);
+    let steps = asked.steps;
+    let answer = rows_of(
+        threads,
+        rt.alloc(),
+        &files,
+        &settings,
+        steps,
+        &mut progress,
+        out,
+    );
     progress.end();
     named.explain(answer)
 }
 
-/// Hunts by plans or, where the table is to be a weak one, by executions, and writes the table of endings. Answers its rows.
+/// Hunts by plans or, where the table is to be a weak one, by executions of so many steps, and writes the table of endings. Answers its rows.
 fn rows_of<R: Threads + Wait + Sync, O: HuntObserver, W: Write>(
     threads: &R,
     alloc: Global,
     files: &ProgramFiles,
     settings: &HuntSettings,
+    steps: u32,
     observer: &mut O,
     out: &mut W,
 ) -> Result<Vec<Row>, Failure> {
     let mut sink = WriteSink::new(out);
     let (image, input) = (files.image.as_slice(), files.input.as_slice());
     if settings.header.is_weak {
-        return Ok(hunt_weakly(threads, alloc, image, input, settings, observer, &mut sink)?);
+        return Ok(hunt_weakly(
+            threads, alloc, image, input, settings, steps, observer, &mut sink,
+        )?);
     }
     Ok(hunt(threads, alloc, image, input, settings, observer, &mut sink)?)
 }

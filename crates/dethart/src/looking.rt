@@ -64,7 +64,7 @@ fn step_of(hart: u32, number: u64) -> Option<HartStep> {
 }
 
 /// Refuses a question about rounds.
-fn refuse_rounds(asked: bool) -> Result<(), Failure> {
+pub(crate) fn refuse_rounds(asked: bool) -> Result<(), Failure> {
     if asked {
         Err(Failure::NoRounds)
     } else {
@@ -73,19 +73,19 @@ fn refuse_rounds(asked: bool) -> Result<(), Failure> {
 }
 
 /// Refuses a number of workers as the questions about recordings do.
-fn refuse_workers(workers: u32) -> Result<(), Failure> {
+pub(crate) fn refuse_workers(workers: u32) -> Result<(), Failure> {
     if workers < 1 || workers > 16 {
         return Err(Failure::Refused(RunError::WorkersOutOfRange));
     }
     Ok(())
 }
 
-fn is_allowed(checked: &Checked) -> bool {
+pub(crate) fn is_allowed(checked: &Checked) -> bool {
     checked.finding == Finding::Judged(Verdict::Allowed)
 }
 
 /// Writes whether RVWMO allows an execution.
-fn write_verdict<W: Write>(
+pub(crate) fn write_verdict<W: Write>(
     alloc: Global,
     checked: &Checked,
     out: &mut W,

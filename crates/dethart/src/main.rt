@@ -3,6 +3,7 @@
 #![tactic(auto)]
 
 mod debugging;
+mod execution_pictures;
 mod executions;
 mod failure;
 mod fences;
@@ -14,6 +15,7 @@ mod merging;
 mod output;
 mod past;
 mod pictures;
+mod places;
 mod printing;
 mod progress;
 mod ranges;

@@ -11,7 +11,7 @@ use std::alloc::Global;
 const RECORDING: &[u8] = b"RVDETREC";
 
 /// As many that an execution begins with.
-const EXECUTION: &[u8] = b"executio";
+pub(crate) const EXECUTION: &[u8] = b"executio";
 
 /// What a question about the past is put to.
 #[derive(Drop)]

@@ -1,7 +1,10 @@
 //! The commands that draw a run, and that write its trace for viewers of traces.
 
+use crate::execution_pictures::write_execution_drawing;
 use crate::failure::Failure;
+use crate::past::EXECUTION;
 use crate::ranges::{NamedBytes, access_ranges, named_bytes};
+use crate::recordings::Replayed;
 use crate::run::progress_of;
 use crate::world::HostFiles;
 use command_line::{Bytes, Draw, Program, Run};
@@ -15,14 +18,18 @@ use std::io::Write;
 use std::sync::Wait;
 use std::thread::Threads;
 
-/// Reads the files of a run, runs the guest program, and writes a picture of the run.
+/// Reads the files of a run, runs the guest program, and writes a picture of the run; or of an execution, where that is what the image's
+/// file holds.
 pub(crate) fn write_drawing<R: Threads + Wait + Sync, W: Write>(
     rt: &HostRuntime,
     threads: &R,
     asked: &Draw<'_>,
     out: &mut W,
-) -> Result<(), Failure> {
+) -> Result<Replayed, Failure> {
     let files = read_run(&HostFiles::new(rt), rt.alloc(), &asked.run)?;
+    if !asked.run.program.flat && files.program.image.starts_with(EXECUTION) {
+        return write_execution_drawing(rt, &files.program.image, asked, out);
+    }
     let NamedBytes { bytes, fault } = named_bytes(
         rt.alloc(),
         &files.program.image,
@@ -35,7 +42,10 @@ pub(crate) fn write_drawing<R: Threads + Wait + Sync, W: Write>(
             refuse_run(rt.alloc(), &asked.run.program, &files)?;
             Err(fault)
         }
-        None => draw_files(rt, threads, asked, &files, &bytes, out),
+        None => {
+            draw_files(rt, threads, asked, &files, &bytes, out)?;
+            Ok(Replayed::Done)
+        }
     }
 }
 

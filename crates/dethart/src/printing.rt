@@ -10,7 +10,9 @@ use crate::merging::write_merged;
 use crate::output::{finish, standard_output};
 use crate::pictures::{write_drawing, write_trace};
 use crate::recordings::{Replayed, write_replay, write_watch};
-use crate::repeating::{tell_endings, tell_missing, tell_plan, tell_shrunk};
+use crate::repeating::{
+    tell_endings, tell_missing, tell_plan, tell_running, tell_shrunk, tell_weak_running,
+};
 use crate::run::progress_of;
 use crate::world::{HostFiles, HostMessages, HostOutput};
 use command_line::{
@@ -130,6 +132,7 @@ pub(crate) fn print_hunt<R: Threads + Wait + Sync>(
     let written = write_hunt(rt, threads, asked, &mut out);
     let rows = finish(out, written)?;
     let _untold = tell_endings(rt, asked, &rows);
+    tell_weak_running(rt, asked, &rows);
     Ok(if is_doubtful(asked.fail_on, &rows) {
         ExitStatus::Doubtful
     } else {
@@ -146,7 +149,10 @@ fn fences_answer(fail_on: FencesFailOn, table: &FenceTable) -> ExitStatus
         FencesFailOn::Missing => {
             if table.missing.len() != 0 {
                 ExitStatus::Lacking
-            } else if table.ordinary.plans == 0 && table.unnamed.plans == 0 {
+            } else if table.ordinary.plans == 0
+                && table.unnamed.plans == 0
+                && table.running.plans == 0
+            {
                 ExitStatus::Done
             } else {
                 ExitStatus::Doubtful
@@ -165,6 +171,7 @@ pub(crate) fn print_fences<R: Threads + Wait + Sync>(
     let written = write_fences_of(rt, threads, asked, &mut out);
     let found = finish(out, written)?;
     let _untold = tell_missing(rt, asked, &found.table.missing);
+    tell_running(rt, asked, &found.table);
     Ok(fences_answer(asked.fail_on, &found.table))
 }
 
@@ -198,7 +205,7 @@ pub(crate) fn print_plan(rt: &HostRuntime, asked: &Plan) -> Result<ExitStatus, F
     Ok(ExitStatus::Done)
 }
 
-/// Runs the guest program, and prints a picture of the run.
+/// Runs the guest program, and prints a picture of the run, or prints that of an execution.
 pub(crate) fn print_drawing<R: Threads + Wait + Sync>(
     rt: &HostRuntime,
     threads: &R,
@@ -206,8 +213,7 @@ pub(crate) fn print_drawing<R: Threads + Wait + Sync>(
 ) -> Result<ExitStatus, Failure> {
     let mut out = standard_output(rt)?;
     let written = write_drawing(rt, threads, asked, &mut out);
-    finish(out, written)?;
-    Ok(ExitStatus::Done)
+    Ok(answer_of(finish(out, written)?))
 }
 
 /// Runs the guest program, and prints its trace for viewers of traces.

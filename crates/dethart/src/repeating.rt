@@ -2,8 +2,8 @@
 //! can't be written, or there is no memory for them.
 
 use command_line::{Fences, Hunt, Plan, Program, Shrink};
-use fence_table::Missing;
-use plan_hunt::Row;
+use fence_table::{FenceTable, Missing};
+use plan_hunt::{HartEnding, Row};
 use std::alloc::{AllocError, Global};
 
 /// Says on standard error, for each ending of a table, the line that runs the program by its first plan, or that writes its first
@@ -13,17 +13,16 @@ pub(crate) fn tell_endings(
     asked: &Hunt<'_>,
     rows: &[Row],
 ) -> Result<(), AllocError> {
-    let (command, weak) = if asked.weak {
-        ("execution", " --weak")
+    let program = if asked.weak {
+        weak_line_of(rt.alloc(), &asked.search.program, asked.steps)?
     } else {
-        ("run", "")
+        line_of(rt.alloc(), "run", &asked.search.program)?
     };
-    let program = line_of(rt.alloc(), command, &asked.search.program)?;
     let seed = asked.search.seed;
     for (place, row) in rows.iter().enumerate() {
         let (number, first) = (place.saturating_add(1), row.first);
         let _unwritten = eprintln!(rt;
-            "ending {number}: {program}{weak} --plan-number {first} --seed {seed}"
+            "ending {number}: {program} --plan-number {first} --seed {seed}"
         );
     }
     Ok(())
@@ -35,15 +34,36 @@ pub(crate) fn tell_missing(
     asked: &Fences<'_>,
     missing: &[Missing],
 ) -> Result<(), AllocError> {
-    let program = line_of(rt.alloc(), "execution", &asked.search.program)?;
+    let program = weak_line_of(rt.alloc(), &asked.search.program, asked.steps)?;
     let seed = asked.search.seed;
     for (place, missing) in missing.iter().enumerate() {
         let (number, shown) = (place.saturating_add(1), missing.shown.number);
         let _unwritten = eprintln!(rt;
-            "missing {number}: {program} --weak --plan-number {shown} --seed {seed}"
+            "missing {number}: {program} --plan-number {shown} --seed {seed}"
         );
     }
     Ok(())
+}
+
+/// Says on standard error how far executions were followed that still ran then, if there are some.
+pub(crate) fn tell_running(rt: &HostRuntime, asked: &Fences<'_>, table: &FenceTable) {
+    if table.running.plans != 0 {
+        tell_bounds(rt, asked.steps, asked.search.program.rounds);
+    }
+}
+
+/// The same of a hunt over executions.
+pub(crate) fn tell_weak_running(rt: &HostRuntime, asked: &Hunt<'_>, rows: &[Row]) {
+    let runs = |row: &Row| row.ending.stops().contains(&HartEnding::Runs);
+    if asked.weak && rows.iter().any(runs) {
+        tell_bounds(rt, asked.steps, asked.search.program.rounds);
+    }
+}
+
+fn tell_bounds(rt: &HostRuntime, steps: u32, rounds: u32) {
+    let _unwritten = eprintln!(rt;
+        "running: an execution was followed up to --steps {steps} and --rounds {rounds}, and what harts do then isn't known"
+    );
 }
 
 /// Says on standard error the line that runs the program by the plan that was printed, once that is in a file, and the plan's
@@ -64,6 +84,12 @@ pub(crate) fn tell_plan(rt: &HostRuntime, asked: &Plan, budget: u32) {
     let _unwritten = eprintln!(rt;
         "budget {budget}\ndethart run IMAGE --harts {harts} --plan FILE --budget {budget}"
     );
+}
+
+/// The line that writes an execution of a program, of so many steps at most, but for its number: each option that the outcome depends on.
+fn weak_line_of(alloc: Global, program: &Program<'_>, steps: u32) -> Result<String, AllocError> {
+    let line = line_of(alloc, "execution", program)?;
+    format!(in alloc; "{line} --steps {steps} --weak")
 }
 
 /// The line of a command on a program, but for its plan: each option that the outcome depends on.

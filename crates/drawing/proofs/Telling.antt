@@ -1,5 +1,5 @@
 -- What is told of one event more.
-use Rattle.std.proofs.Common.{◌≡◌, ℕ, ◌+◌, ◌<◌, List, [], ◌∷◌, ◌++◌, length, get_or, map, take, Option, option_map, ap, ◌∙◌}
+use Rattle.std.proofs.Common.{◌≡◌, ℕ, zero, suc, ◌+◌, ◌<◌, List, [], ◌∷◌, ◌++◌, length, get_or, map, take, Option, option_map, refl, ap, ◌∙◌, arith}
 use Rattle.std.proofs.lemmas.List.{get_or-map, map-append}
 use Rattle.round_schedule.specs.declared.event.Event.{Event}
 use Rattle.machine.specs.declared.settings.Format.{Format}
@@ -7,7 +7,15 @@ use Rattle.elf_symbols.specs.Parts.{Part, as_part}
 use Rattle.picture.specs.Titles.{Told, told}
 use Rattle.picture.specs.declared.site.Site.{Site}
 use Rattle.drawing.specs.Drawn.{object_touched, told_by}
-use Rattle.replayer.proofs.Located.{one_more}
+
+-- one more of a list is told
+snoc : {X A : Type 0} (f : X → A) (xs : List X) (i : ℕ) (d : X) → i < length xs → map f (take i xs) ++ f (get_or xs i d) ∷ [] ≡ map f (take (i + 1) xs)
+snoc f [] i d lt = absurd (omega (arith, lt))
+snoc f (z ∷ zs) zero d lt = refl
+snoc f (z ∷ zs) (suc i) d lt = let n : suc i + 1 ≡ suc (i + 1) = omega arith in rw n (ap (λ ys. f z ∷ ys) (snoc f zs i d (omega (arith, lt))))
+
+one_more : {X A : Type 0} (f : X → A) (xs : List X) (i : ℕ) (d : X) (a : A) (old new : List A) → i < length xs → old ≡ map f (take i xs) → new ≡ old ++ a ∷ [] → a ≡ f (get_or xs i d) → new ≡ map f (take (i + 1) xs)
+one_more f xs i d a old new lt o n e = n ∙ ap (λ z. z ++ a ∷ []) o ∙ ap (λ z. map f (take i xs) ++ z ∷ []) e ∙ snoc f xs i d lt
 
 -- what a site tells
 pub told_is : (s : Site) (format : Format) (file : List ℕ) (e : Event) (pc : Option ℕ) → s.pc ≡ pc → option_map as_part s.object ≡ object_touched format file e → told s ≡ told_by format file e pc

@@ -15,7 +15,7 @@ use Rattle.machine.specs.Untraced.{IsUntraced, Untraced}
 use Rattle.machine.specs.declared.settings.Format.{Format}
 use Rattle.machine.specs.declared.settings.Format.TheVariants.{Elf, Flat}
 use Rattle.machine.specs.declared.settings.Settings.{Settings}
-use Rattle.replayer.specs.Past.{pc_before}
+use Rattle.event_pcs.specs.Pcs.{pc_before}
 
 -- ---- what is drawn
 

@@ -7,4 +7,5 @@ mod tracing;
 
 pub use drawing::draw_run;
 pub use picture::View;
+pub use sites::object_touched;
 pub use tracing::trace_run;

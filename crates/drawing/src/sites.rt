@@ -23,7 +23,7 @@ use std::thread::Threads;
 use trace::Trace;
 
 /// The object that an access touches, by its first byte: where the file is ELF, the one that its symbol table names.
-fn object_touched<'a>(format: Format, image: &'a [u8], event: &Event) -> Option<SymbolPart<'a>>
+pub fn object_touched<'a>(format: Format, image: &'a [u8], event: &Event) -> Option<SymbolPart<'a>>
     ensures { option_map as_part result ≡ object_touched format image.now event.now }
 {
     match format {

@@ -17,7 +17,7 @@ use crate::findings::Findings;
 use crate::guest::Guest;
 use crate::settings::FenceSettings;
 use execution_scripts::ExecutionFile;
-use fence_search::{FenceGuest, FenceObserver, search_fences};
+use fence_search::{FenceGuest, FenceObserver, Reach, search_fences};
 use fence_table::{FenceTable, write_fences};
 use host_io::Sink;
 use hunter::{check_hunt, check_ranges};
@@ -97,6 +97,7 @@ fn told(findings: Findings, settings: FenceSettings) -> FoundFences
             count: settings.hunt.header.count,
             ordinary: findings.ordinary,
             unnamed: findings.unnamed,
+            running: findings.running,
             accepted: findings.accepted,
             missing: findings.missing,
             ranges: settings.into_ranges(),
@@ -162,9 +163,12 @@ fn findings_of<O: FenceObserver, R: Threads + Wait + Sync>(
             alloc,
             opening,
             hunt.header.seed,
-            hunt.rounds,
+            Reach {
+                rounds: hunt.rounds,
+                steps: settings.steps,
+            },
             &hunt.header.ranges,
-            settings.assumed,
+            &settings.assumed,
         ),
     };
     let (first, count) = (hunt.header.first, hunt.header.count);

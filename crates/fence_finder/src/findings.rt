@@ -20,6 +20,8 @@ pub(crate) struct Findings {
     pub ordinary: Tally,
     /// Numbers that fail only with departures, but by interleavings.
     pub unnamed: Tally,
+    /// Numbers whose executions were cut off while harts ran.
+    pub running: Tally,
     /// Numbers that fail for want of a fence at a place that is accepted.
     pub accepted: Tally,
     /// At which other places fences are missing.
@@ -54,6 +56,7 @@ impl Findings {
         let mut findings = Findings {
             ordinary: search.ordinary,
             unnamed: search.unnamed,
+            running: search.running,
             accepted: Tally { plans: 0, first: 0 },
             missing: Vec::new(guest.alloc),
             executions: Vec::new(guest.alloc),

@@ -9,8 +9,10 @@ use hunter::HuntSettings;
 pub struct FenceSettings {
     /// The guest, and the numbers of its executions: as of a weak hunt.
     pub hunt: HuntSettings,
-    /// Before the instruction of which address a full fence is assumed.
-    pub assumed: Option<u64>,
+    /// How many steps an execution has at most.
+    pub steps: u32,
+    /// Before the instructions of which addresses a full fence is assumed.
+    pub assumed: Vec<u64>,
     /// Places of which is known that a fence is missing there.
     pub accepted: Accepted,
     /// Whether the executions that are shown are kept.

@@ -13,6 +13,17 @@ pub enum Failing {
     Stuck,
 }
 
+/// What comes of an execution.
+#[derive(Clone, Copy, Debug, PartialEq, Eq)]
+pub(crate) enum Outcome {
+    /// It ends as it has to, or it is none.
+    Well,
+    /// It fails.
+    Fails(Failing),
+    /// It is cut off while a hart runs, and whether that one would go on for ever can't be told.
+    Cut,
+}
+
 impl Failing {
     /// Whether two executions fail in one way, whichever hart it is that stops, and how.
     pub(crate) fn is_like(self, other: Failing) -> bool {

@@ -8,38 +8,58 @@ use std::alloc::Global;
 use timed_machine::{Bounds, TimedMachine};
 use weak_executions::{Opening, WeakGuest};
 
+/// How far the executions of a search go at most.
+#[derive(Clone, Copy, Debug, PartialEq, Eq)]
+pub struct Reach {
+    pub rounds: u32,
+    /// Steps of all harts together.
+    pub steps: u32,
+}
+
+impl Reach {
+    /// The same as bounds of an execution, which ends where a hart fails.
+    fn bounds(self) -> Bounds {
+        Bounds {
+            rounds: self.rounds,
+            steps: u64::from(self.steps),
+            until_fault: true,
+        }
+    }
+}
+
 /// A guest program in which missing fences are searched for.
 #[derive(Drop)]
 pub struct FenceGuest<'a> {
     pub(crate) alloc: Global,
     pub(crate) opening: Opening<'a>,
     pub(crate) maker: WeakGuest<'a>,
-    /// How many rounds an execution has at most.
-    pub(crate) rounds: u32,
+    /// How far an execution goes.
+    pub(crate) bounds: Bounds,
     /// The bytes that are looked at when one ends.
     pub(crate) ranges: &'a [SeenRange],
     ghost few: { length opening.harts.now ≤ 64 },
 }
 
 impl<'a> FenceGuest<'a> {
-    /// A guest whose executions go through so many rounds at most, by the plans and the departures of a seed. Of each, these ranges
-    /// are looked at when it ends. A full fence is assumed before the instruction at `fence`, if there is one.
+    /// A guest whose executions go through so many rounds and steps at most, by the plans and the departures of a seed. Of each, these
+    /// ranges are looked at when it ends. A full fence is assumed before the instructions at the addresses of `fences`.
     pub fn new(
         alloc: Global,
         opening: Opening<'a>,
         seed: u64,
-        rounds: u32,
+        reach: Reach,
         ranges: &'a [SeenRange],
-        fence: Option<u64>,
+        fences: &'a [u64],
     ) -> FenceGuest<'a>
         requires some { 1 ≤ length opening.harts.now }
         requires few { length opening.harts.now ≤ 64 }
     {
+        let bounds = reach.bounds();
         FenceGuest {
             alloc,
             opening,
-            maker: WeakGuest::new(alloc, opening, seed, rounds).with_fence(fence),
-            rounds,
+            maker: WeakGuest::new(alloc, opening, seed, bounds).with_fences(fences),
+            bounds,
             ranges,
         }
     }
@@ -73,12 +93,11 @@ impl<'a> FenceGuest<'a> {
         }
     }
 
-    /// How far an execution goes.
+    /// How far an execution of so many steps goes.
     fn bounds(&self, steps: u64) -> Bounds {
         Bounds {
-            rounds: self.rounds,
             steps,
-            until_fault: true,
+            ..self.bounds
         }
     }
 

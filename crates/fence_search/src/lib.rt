@@ -17,6 +17,6 @@ mod working;
 pub use departing::Departing;
 pub use failing::Failing;
 pub use gathering::Weakness;
-pub use guest::FenceGuest;
+pub use guest::{FenceGuest, Reach};
 pub use searching::{FenceObserver, Search, UnobservedSearch, search_fences};
 pub use trying::Found;

@@ -1,7 +1,7 @@
 //! What runs without departures come to.
 
 use crate::departing::Departing;
-use crate::failing::Failing;
+use crate::failing::{Failing, Outcome};
 use crate::guest::FenceGuest;
 use hart_step::Stop;
 use pages::OutOfMemory;
@@ -31,6 +31,9 @@ pub(crate) struct Ordinary {
     pub seen: Option<Vec<u8>>,
     /// How many steps an execution may take.
     pub steps: u64,
+    /// After how many steps one that runs on is taken to do so for ever. Nothing says that where no ordinary run ends, or where no
+    /// execution goes so far.
+    pub hangs_after: Option<u64>,
 }
 
 /// How far an execution has come.
@@ -82,20 +85,28 @@ pub(crate) fn ordinary_runs(guest: &FenceGuest<'_>) -> Result<Ordinary, OutOfMem
         ends_well: true,
         output: None,
         seen: None,
-        steps: 0,
+        steps: guest.bounds.steps,
+        hangs_after: None,
     };
+    let mut longest = 0;
     for number in 0..RUNS {
-        let machine = guest.execute(number, Departing::NONE, false, u64::MAX)?;
+        let machine = guest.execute(number, Departing::NONE, false, guest.bounds.steps)?;
         add_run(guest, &mut ordinary, number, &machine)?;
+        if state_of(&machine, guest.harts()) == State::Ended {
+            longest = machine.steps().max(longest);
+        }
     }
     if !ordinary.ends_well {
         ordinary.output = None;
         ordinary.seen = None;
     }
-    ordinary.steps = match ordinary.steps {
-        0 => u64::MAX,
-        steps => steps.saturating_mul(MOST_TIMES).saturating_add(MORE_STEPS),
-    };
+    let hanging = longest
+        .saturating_mul(MOST_TIMES)
+        .saturating_add(MORE_STEPS);
+    if longest > 0 && hanging <= guest.bounds.steps {
+        ordinary.steps = hanging;
+        ordinary.hangs_after = Some(hanging);
+    }
     Ok(ordinary)
 }
 
@@ -106,9 +117,8 @@ fn add_run(
     number: u32,
     machine: &TimedMachine,
 ) -> Result<(), OutOfMemory> {
-    match state_of(machine, guest.harts()) {
-        State::Ended => ordinary.steps = ordinary.steps.max(machine.steps()),
-        State::Runs | State::Failed(_, _) => ordinary.ends_well = false,
+    if state_of(machine, guest.harts()) != State::Ended {
+        ordinary.ends_well = false;
     }
     let seen = seen_of(guest.alloc, machine.pages(), guest.ranges)?;
     ordinary.output = agreed(
@@ -122,20 +132,20 @@ fn add_run(
 }
 
 impl Ordinary {
-    /// How an execution fails of which each hart exited with 0, if it does.
+    /// What comes of an execution of which each hart exited with 0.
     fn other_outcome(
         &self,
         guest: &FenceGuest<'_>,
         machine: &TimedMachine,
-    ) -> Result<Option<Failing>, OutOfMemory> {
+    ) -> Result<Outcome, OutOfMemory> {
         if differs(&self.output, machine.output()) {
-            return Ok(Some(Failing::Output));
+            return Ok(Outcome::Fails(Failing::Output));
         }
         let seen = seen_of(guest.alloc, machine.pages(), guest.ranges)?;
         if differs(&self.seen, &seen) {
-            return Ok(Some(Failing::Seen));
+            return Ok(Outcome::Fails(Failing::Seen));
         }
-        Ok(None)
+        Ok(Outcome::Well)
     }
 
     /// How the execution of a number with these departures seems to fail, if it does: one that runs on is taken to do so by any plan.
@@ -150,50 +160,56 @@ impl Ordinary {
         departing: Departing<'_>,
     ) -> Result<Option<Failing>, OutOfMemory> {
         let machine = guest.execute(number, departing, false, self.steps)?;
-        self.failing_now(guest, &machine)
+        match self.outcome_now(guest, &machine)? {
+            Outcome::Fails(failing) => Ok(Some(failing)),
+            Outcome::Cut if self.hangs_after.is_some() => Ok(Some(Failing::Stuck)),
+            Outcome::Cut | Outcome::Well => Ok(None),
+        }
     }
 
-    /// How the execution of a number with these departures fails, if it does.
+    /// What comes of the execution of a number with these departures.
     ///
     /// # Errors
     ///
     /// `OutOfMemory` alone.
-    pub(crate) fn failing(
+    pub(crate) fn outcome(
         &self,
         guest: &FenceGuest<'_>,
         number: u32,
         departing: Departing<'_>,
-    ) -> Result<Option<Failing>, OutOfMemory> {
+    ) -> Result<Outcome, OutOfMemory> {
         let mut machine = guest.execute(number, departing, false, self.steps)?;
-        match self.failing_now(guest, &machine)? {
-            Some(Failing::Stuck) => self.stuck(guest, &mut machine, number),
-            failing => Ok(failing),
+        match (self.outcome_now(guest, &machine)?, self.hangs_after) {
+            (Outcome::Cut, Some(steps)) => self.running(guest, &mut machine, number, steps),
+            (outcome, _) => Ok(outcome),
         }
     }
 
-    /// How an execution fails that has come so far, if it is one.
-    fn failing_now(
+    /// What comes of an execution that goes no further.
+    fn outcome_now(
         &self,
         guest: &FenceGuest<'_>,
         machine: &TimedMachine,
-    ) -> Result<Option<Failing>, OutOfMemory> {
+    ) -> Result<Outcome, OutOfMemory> {
         if machine.is_void() {
-            return Ok(None);
+            return Ok(Outcome::Well);
         }
         match state_of(machine, guest.harts()) {
-            State::Failed(hart, stop) => Ok(Some(Failing::Stopped(hart, stop))),
+            State::Failed(hart, stop) => Ok(Outcome::Fails(Failing::Stopped(hart, stop))),
             State::Ended => self.other_outcome(guest, machine),
-            State::Runs => Ok(Some(Failing::Stuck)),
+            State::Runs => Ok(Outcome::Cut),
         }
     }
 
-    /// Whether an execution that runs on does so too by another plan and without further departures.
-    fn stuck(
+    /// What comes of an execution that runs on, by another plan and without further departures: it hangs where it still runs after so
+    /// many steps.
+    fn running(
         &self,
         guest: &FenceGuest<'_>,
         machine: &mut TimedMachine,
         number: u32,
-    ) -> Result<Option<Failing>, OutOfMemory> {
+        hanging: u64,
+    ) -> Result<Outcome, OutOfMemory> {
         machine.depart(Vec::new(guest.alloc));
         let steps = machine
             .steps()
@@ -201,8 +217,9 @@ impl Ordinary {
             .saturating_add(LAST_STEPS);
         guest.go_on(machine, number.wrapping_add(1), steps)?;
         match state_of(machine, guest.harts()) {
-            State::Runs => Ok(Some(Failing::Stuck)),
-            _ => Ok(None),
+            State::Runs if machine.steps() >= hanging => Ok(Outcome::Fails(Failing::Stuck)),
+            State::Runs => Ok(Outcome::Cut),
+            State::Ended | State::Failed(_, _) => Ok(Outcome::Well),
         }
     }
 }

@@ -48,6 +48,8 @@ pub struct Search {
     pub ordinary: Tally,
     /// Numbers that fail only with departures, by executions that are sequentially consistent.
     pub unnamed: Tally,
+    /// Numbers whose executions were cut off while harts ran, and of which nothing else is known.
+    pub running: Tally,
     /// The first number of which the checker of executions allows no order.
     pub unconfirmed: Option<u32>,
 }
@@ -58,6 +60,7 @@ struct Trials {
     founds: Vec<Found>,
     ordinary: Tally,
     unnamed: Tally,
+    running: Tally,
     unconfirmed: Option<u32>,
 }
 
@@ -82,6 +85,7 @@ pub fn search_fences<O: FenceObserver, R: Threads + Sync>(
         founds: Vec::new(guest.alloc),
         ordinary: NOBODY,
         unnamed: NOBODY,
+        running: NOBODY,
         unconfirmed: None,
     };
     let mut done = 0;
@@ -98,6 +102,7 @@ pub fn search_fences<O: FenceObserver, R: Threads + Sync>(
         weaknesses: fewest_places(guest.alloc, trials.founds)?,
         ordinary: trials.ordinary,
         unnamed: trials.unnamed,
+        running: trials.running,
         unconfirmed: trials.unconfirmed,
     })
 }
@@ -130,6 +135,7 @@ impl Trials {
             Trial::Well => {}
             Trial::Ordinary => count(&mut self.ordinary, number),
             Trial::Unnamed => count(&mut self.unnamed, number),
+            Trial::Running => count(&mut self.running, number),
             Trial::Fails(found) => self.founds.push(found)?,
             Trial::Unconfirmed => {
                 self.unconfirmed = Some(self.unconfirmed.unwrap_or(number));

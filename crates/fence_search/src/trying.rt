@@ -1,5 +1,5 @@
 use crate::departing::Departing;
-use crate::failing::Failing;
+use crate::failing::{Failing, Outcome};
 use crate::guest::{FenceGuest, copied};
 use crate::ordinary::Ordinary;
 use crate::shortening::shortened;
@@ -38,6 +38,8 @@ pub(crate) enum Trial {
     Well,
     /// Its plan fails without departures too.
     Ordinary,
+    /// It is cut off while harts run, and nothing else is known of it.
+    Running,
     /// It fails only with its departures, but is sequentially consistent, so that another plan fails without any; or it runs on, and not
     /// all ordinary runs end well.
     Unnamed,
@@ -57,11 +59,25 @@ pub(crate) fn try_number(
     ordinary: &Ordinary,
     number: u32,
 ) -> Result<Trial, OutOfMemory> {
-    let Some(failing) = ordinary.failing(guest, number, Departing::Drawn)? else {
-        return Ok(Trial::Well);
-    };
-    if ordinary.failing(guest, number, Departing::NONE)?.is_some() {
-        return Ok(Trial::Ordinary);
+    match ordinary.outcome(guest, number, Departing::Drawn)? {
+        Outcome::Well => Ok(Trial::Well),
+        Outcome::Cut => Ok(Trial::Running),
+        Outcome::Fails(failing) => look_into(guest, ordinary, number, failing),
+    }
+}
+
+/// Looks for what the execution of a number fails by.
+fn look_into(
+    guest: &FenceGuest<'_>,
+    ordinary: &Ordinary,
+    number: u32,
+    failing: Failing,
+) -> Result<Trial, OutOfMemory> {
+    match ordinary.outcome(guest, number, Departing::NONE)? {
+        Outcome::Fails(_) => return Ok(Trial::Ordinary),
+        // What hangs isn't told from what would only take longer.
+        Outcome::Cut if failing == Failing::Stuck => return Ok(Trial::Running),
+        Outcome::Cut | Outcome::Well => {}
     }
     if failing == Failing::Stuck && !ordinary.ends_well {
         return Ok(Trial::Unnamed);
@@ -70,7 +86,11 @@ pub(crate) fn try_number(
     let fewer = shortened(guest, ordinary, number, failing, &drawn)?;
     // What seemed to run on for ever may end after all.
     for departures in [fewer, drawn] {
-        if let Some(failing) = ordinary.failing(guest, number, Departing::Listed(&departures))? {
+        if let Outcome::Fails(failing) = ordinary.outcome(
+            guest,
+            number,
+            Departing::Listed(&departures),
+        )? {
             return explain(guest, ordinary, number, failing, departures);
         }
     }

@@ -137,7 +137,8 @@ numbers_line first count seed = codes "fences " ++ decimal first ++ codes " " ++
 unfoldable pub header_text : FenceTable → List ℕ
 header_text t =
     numbers_line t.first t.count t.seed ++ tally_line (codes "ordinary ") t.ordinary
-    ++ tally_line (codes "unnamed ") t.unnamed ++ tally_line (codes "accepted ") t.accepted
+    ++ tally_line (codes "unnamed ") t.unnamed ++ tally_line (codes "running ") t.running
+    ++ tally_line (codes "accepted ") t.accepted
 
 -- what the search found, as text
 unfoldable pub fences_text : FenceTable → List ℕ

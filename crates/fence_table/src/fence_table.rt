@@ -14,6 +14,8 @@ pub struct FenceTable {
     pub ordinary: Tally,
     /// Numbers that fail with departures alone, but whose executions are interleavings all the same: no fence would forbid them.
     pub unnamed: Tally,
+    /// Numbers whose executions were cut off while harts ran, and of which nothing else is known.
+    pub running: Tally,
     /// Numbers that fail for want of a fence at a place that was to be left out.
     pub accepted: Tally,
     /// Beginning with the fence for want of which the most numbers fail.

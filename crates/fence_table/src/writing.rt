@@ -49,6 +49,7 @@ fn add_header(line: &mut Line, table: &FenceTable) -> Result<(), OutOfMemory>
     add_numbers(line, table.first, table.count, table.seed)?;
     add_tally(line, "ordinary ", table.ordinary)?;
     add_tally(line, "unnamed ", table.unnamed)?;
+    add_tally(line, "running ", table.running)?;
     add_tally(line, "accepted ", table.accepted)
 }
 

@@ -1,4 +1,4 @@
--- What a debugger is answered about a hart of a run at a moment, byte by byte.
+-- What a debugger is answered about a hart of a run at a point, byte by byte.
 use Rattle.std.specs.Prelude.{ℕ, zero, suc, List, [], ◌∷◌, ◌++◌, codes, slice_get, Option, Some, None}
 use Rattle.hex.specs.Hex.{encode_lower}
 use Rattle.hart_step.specs.declared.hart.Hart.{Hart}
@@ -6,15 +6,16 @@ use Rattle.machine.specs.Machine.{Running, after_rounds}
 use Rattle.moments.specs.Sights.{Sight}
 use Rattle.seeing.specs.Bytes.{bytes_from}
 use Rattle.round_steps.specs.declared.moment.Moment.{Moment}
-use Rattle.round_steps.specs.Shown.{shown_at}
+use Rattle.round_steps.specs.declared.point.Point.{Point}
+use Rattle.round_steps.specs.Shown.{shown_at_point}
 use Rattle.gdb_replies.specs.Replies.{note_text, part_of, stop_text, thread_element, thread_list_begin, thread_list_end}
 use Rattle.gdb_replies.specs.Words.{numbers_of, register_text, registers_text}
 use Rattle.gdb_replies.specs.declared.stop_reply.Reason.{Reason}
 use Rattle.gdb_sights.specs.Told.{note_of, registers_of, stop_reply_of}
 
--- hart i at a moment of the run
-abbrev pub seen : Running → Moment → ℕ → Option (Sight Hart)
-seen m at i = shown_at (after_rounds at.rounds m) at.place i
+-- hart i at a point of the run
+abbrev pub seen : Running → Point → ℕ → Option (Sight Hart)
+seen m at i = shown_at_point (after_rounds at.moment.rounds m) at.side at.moment.place i
 
 -- `E01` where there is no such hart
 abbrev pub or_missing : Option (Sight Hart) → (Sight Hart → List ℕ) → List ℕ
@@ -48,11 +49,11 @@ abbrev pub thread_entry : ℕ → Moment → Option (Sight Hart) → List ℕ
 thread_entry i at None = []
 thread_entry i at (Some s) = thread_element (note_of i s.hart at)
 
-unfoldable pub thread_entries : Running → Moment → ℕ → List ℕ
+unfoldable pub thread_entries : Running → Point → ℕ → List ℕ
 thread_entries m at zero = []
-thread_entries m at (suc i) = thread_entries m at i ++ thread_entry i at (seen m at i)
+thread_entries m at (suc i) = thread_entries m at i ++ thread_entry i at.moment (seen m at i)
 
-abbrev pub thread_list_answer : Running → Moment → ℕ → ℕ → ℕ → List ℕ
+abbrev pub thread_list_answer : Running → Point → ℕ → ℕ → ℕ → List ℕ
 thread_list_answer m at harts offset count = part_of (thread_list_begin ++ thread_entries m at harts ++ thread_list_end) offset count
 
 abbrev pub stop_answer : Reason → ℕ → Option (Sight Hart) → List ℕ

@@ -16,7 +16,7 @@ use std::alloc::Global;
 use std::sync::Wait;
 use std::thread::Threads;
 
-/// Answers with all registers of a hart at a moment. It may wait.
+/// Answers with all registers of a hart at a point. It may wait.
 ///
 /// # Errors
 ///
@@ -28,23 +28,23 @@ pub fn answer_registers<R: Threads + Wait + Sync, K: Sink>(
     look: Look,
     out: &mut K,
 ) -> Result<(), RunError>
-    requires within { look.moment.rounds ≤ timeline.old.rounds }
+    requires within { look.point.moment.rounds ≤ timeline.old.rounds }
     requires workers { (1 ≤ look.workers) × (look.workers ≤ 16) }
     ensures stays { timeline.new ≡ timeline.old }
     ensures writes { (m : Running) → IsUntraced m timeline.old.start → OnOk result
-        (K.took out.new ≡ K.took out.old ++ packet_text (registers_answer look.moment (seen m look.moment look.hart))) }
+        (K.took out.new ≡ K.took out.old ++ packet_text (registers_answer look.point.moment (seen m look.point look.hart))) }
     ensures memory { result ≡ Err refusals.OutOfMemory → K.took out.new ≡ K.took out.old }
 {
-    match timeline.shown(rt, &look.moment, look.hart, look.workers)? {
+    match timeline.shown_at(rt, &look.point, look.hart, look.workers)? {
         Some(sight) => {
-            let registers = registers_of(&sight.hart(), look.moment);
+            let registers = registers_of(&sight.hart(), look.point.moment);
             write_reply(alloc, &Reply::Registers(&registers), out)
         }
         None => write_reply(alloc, &Reply::Missing, out),
     }
 }
 
-/// Answers with one register of a hart at a moment, by its number. It may wait.
+/// Answers with one register of a hart at a point, by its number. It may wait.
 ///
 /// # Errors
 ///
@@ -57,16 +57,16 @@ pub fn answer_register<R: Threads + Wait + Sync, K: Sink>(
     number: u64,
     out: &mut K,
 ) -> Result<(), RunError>
-    requires within { look.moment.rounds ≤ timeline.old.rounds }
+    requires within { look.point.moment.rounds ≤ timeline.old.rounds }
     requires workers { (1 ≤ look.workers) × (look.workers ≤ 16) }
     ensures stays { timeline.new ≡ timeline.old }
     ensures writes { (m : Running) → IsUntraced m timeline.old.start → OnOk result
-        (K.took out.new ≡ K.took out.old ++ packet_text (register_answer number look.moment (seen m look.moment look.hart))) }
+        (K.took out.new ≡ K.took out.old ++ packet_text (register_answer number look.point.moment (seen m look.point look.hart))) }
     ensures memory { result ≡ Err refusals.OutOfMemory → K.took out.new ≡ K.took out.old }
 {
-    match timeline.shown(rt, &look.moment, look.hart, look.workers)? {
+    match timeline.shown_at(rt, &look.point, look.hart, look.workers)? {
         Some(sight) => {
-            let registers = registers_of(&sight.hart(), look.moment);
+            let registers = registers_of(&sight.hart(), look.point.moment);
             match register_of(&registers, number) {
                 Some(value) => write_reply(alloc, &Reply::Register(value), out),
                 None => write_reply(alloc, &Reply::Missing, out),
@@ -92,7 +92,7 @@ fn register_of(registers: &Registers, number: u64) -> Option<u64>
     }
 }
 
-/// Answers with at most `count` bytes of memory from an address on, as a hart sees them at a moment. It may wait.
+/// Answers with at most `count` bytes of memory from an address on, as a hart sees them at a point. It may wait.
 ///
 /// # Errors
 ///
@@ -106,14 +106,14 @@ pub fn answer_memory<R: Threads + Wait + Sync, K: Sink>(
     count: u64,
     out: &mut K,
 ) -> Result<(), RunError>
-    requires within { look.moment.rounds ≤ timeline.old.rounds }
+    requires within { look.point.moment.rounds ≤ timeline.old.rounds }
     requires workers { (1 ≤ look.workers) × (look.workers ≤ 16) }
     ensures stays { timeline.new ≡ timeline.old }
     ensures writes { (m : Running) → IsUntraced m timeline.old.start → OnOk result
-        (K.took out.new ≡ K.took out.old ++ packet_text (memory_answer address count (seen m look.moment look.hart))) }
+        (K.took out.new ≡ K.took out.old ++ packet_text (memory_answer address count (seen m look.point look.hart))) }
     ensures memory { result ≡ Err refusals.OutOfMemory → K.took out.new ≡ K.took out.old }
 {
-    match timeline.shown(rt, &look.moment, look.hart, look.workers)? {
+    match timeline.shown_at(rt, &look.point, look.hart, look.workers)? {
         Some(sight) => {
             let bytes = sight.bytes(alloc, address, count)?;
             answer_bytes(alloc, bytes.as_slice(), out)
@@ -122,7 +122,7 @@ pub fn answer_memory<R: Threads + Wait + Sync, K: Sink>(
     }
 }
 
-/// Answers with what is said of a hart at a moment. It may wait.
+/// Answers with what is said of a hart at a point. It may wait.
 ///
 /// # Errors
 ///
@@ -134,24 +134,24 @@ pub fn answer_note<R: Threads + Wait + Sync, K: Sink>(
     look: Look,
     out: &mut K,
 ) -> Result<(), RunError>
-    requires within { look.moment.rounds ≤ timeline.old.rounds }
+    requires within { look.point.moment.rounds ≤ timeline.old.rounds }
     requires workers { (1 ≤ look.workers) × (look.workers ≤ 16) }
-    requires rounds { look.moment.rounds + 1 < 2 ^ 32 }
+    requires rounds { look.point.moment.rounds + 1 < 2 ^ 32 }
     ensures stays { timeline.new ≡ timeline.old }
     ensures writes { (m : Running) → IsUntraced m timeline.old.start → OnOk result
-        (K.took out.new ≡ K.took out.old ++ packet_text (note_answer look.hart look.moment (seen m look.moment look.hart))) }
+        (K.took out.new ≡ K.took out.old ++ packet_text (note_answer look.hart look.point.moment (seen m look.point look.hart))) }
     ensures memory { result ≡ Err refusals.OutOfMemory → K.took out.new ≡ K.took out.old }
 {
-    match timeline.shown(rt, &look.moment, look.hart, look.workers)? {
+    match timeline.shown_at(rt, &look.point, look.hart, look.workers)? {
         Some(sight) => {
-            let note = note_of(look.hart, &sight.hart(), look.moment);
+            let note = note_of(look.hart, &sight.hart(), look.point.moment);
             write_reply(alloc, &Reply::Note(note), out)
         }
         None => write_reply(alloc, &Reply::Missing, out),
     }
 }
 
-/// Answers that the run stands at a hart at a moment, for a reason. It may wait.
+/// Answers that the run stands at a hart at a point, for a reason. It may wait.
 ///
 /// # Errors
 ///
@@ -164,15 +164,15 @@ pub fn answer_stop<R: Threads + Wait + Sync, K: Sink>(
     reason: Reason,
     out: &mut K,
 ) -> Result<(), RunError>
-    requires within { look.moment.rounds ≤ timeline.old.rounds }
+    requires within { look.point.moment.rounds ≤ timeline.old.rounds }
     requires workers { (1 ≤ look.workers) × (look.workers ≤ 16) }
     requires hart { look.hart + 1 < 2 ^ 32 }
     ensures stays { timeline.new ≡ timeline.old }
     ensures writes { (m : Running) → IsUntraced m timeline.old.start → OnOk result
-        (K.took out.new ≡ K.took out.old ++ packet_text (stop_answer reason look.hart (seen m look.moment look.hart))) }
+        (K.took out.new ≡ K.took out.old ++ packet_text (stop_answer reason look.hart (seen m look.point look.hart))) }
     ensures memory { result ≡ Err refusals.OutOfMemory → K.took out.new ≡ K.took out.old }
 {
-    match timeline.shown(rt, &look.moment, look.hart, look.workers)? {
+    match timeline.shown_at(rt, &look.point, look.hart, look.workers)? {
         Some(sight) => {
             let stop = stop_reply_of(reason, look.hart, &sight.hart());
             write_reply(alloc, &Reply::Stopped(stop), out)

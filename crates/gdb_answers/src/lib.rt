@@ -1,4 +1,4 @@
-//! What a debugger is answered about a hart of a run at a moment.
+//! What a debugger is answered about a hart of a run at a point.
 #![tactic(auto)]
 
 mod answering;

@@ -1,10 +1,10 @@
-use round_steps::Moment;
+use round_steps::Point;
 
 /// What a debugger looks at.
 #[derive(Clone, Copy, Debug, PartialEq, Eq)]
 pub struct Look {
-    /// A moment of the run.
-    pub moment: Moment,
+    /// Where in the run.
+    pub point: Point,
     /// A hart's number.
     pub hart: u32,
     /// On how many workers rounds are run, 1 to 16.

@@ -15,7 +15,7 @@ use std::alloc::Global;
 use std::sync::Wait;
 use std::thread::Threads;
 
-/// Answers with a part of the list of so many threads at a moment. It may wait.
+/// Answers with a part of the list of so many threads at a point. It may wait.
 ///
 /// # Errors
 ///
@@ -29,12 +29,12 @@ pub fn answer_threads<R: Threads + Wait + Sync, K: Sink>(
     count: u64,
     out: &mut K,
 ) -> Result<(), RunError>
-    requires within { look.moment.rounds ≤ timeline.old.rounds }
+    requires within { look.point.moment.rounds ≤ timeline.old.rounds }
     requires workers { (1 ≤ look.workers) × (look.workers ≤ 16) }
-    requires rounds { look.moment.rounds + 1 < 2 ^ 32 }
+    requires rounds { look.point.moment.rounds + 1 < 2 ^ 32 }
     ensures stays { timeline.new ≡ timeline.old }
     ensures writes { (m : Running) → IsUntraced m timeline.old.start → OnOk result (K.took out.new ≡ K.took out.old
-        ++ packet_text (thread_list_answer m look.moment look.hart offset count)) }
+        ++ packet_text (thread_list_answer m look.point look.hart offset count)) }
     ensures memory { result ≡ Err refusals.OutOfMemory → K.took out.new ≡ K.took out.old }
 {
     let text = thread_list(rt, alloc, timeline, look)?;
@@ -54,12 +54,12 @@ fn thread_list<R: Threads + Wait + Sync>(
     timeline: &mut Timeline,
     look: Look,
 ) -> Result<Vec<u8>, RunError>
-    requires within { look.moment.rounds ≤ timeline.old.rounds }
+    requires within { look.point.moment.rounds ≤ timeline.old.rounds }
     requires workers { (1 ≤ look.workers) × (look.workers ≤ 16) }
-    requires rounds { look.moment.rounds + 1 < 2 ^ 32 }
+    requires rounds { look.point.moment.rounds + 1 < 2 ^ 32 }
     ensures stays { timeline.new ≡ timeline.old }
     ensures list { (m : Running) → IsUntraced m timeline.old.start → IfOk result (λ text. text.items ≡
-        thread_list_begin ++ thread_entries m look.moment look.hart ++ thread_list_end) }
+        thread_list_begin ++ thread_entries m look.point look.hart ++ thread_list_end) }
     ensures refused { IfErr result (λ e. e ≡ refusals.OutOfMemory) }
 {
     let mut text = begin_thread_list(alloc)?;
@@ -77,17 +77,17 @@ fn add_entry<R: Threads + Wait + Sync>(
     look: Look,
     text: &mut Vec<u8>,
 ) -> Result<(), RunError>
-    requires within { look.moment.rounds ≤ timeline.old.rounds }
+    requires within { look.point.moment.rounds ≤ timeline.old.rounds }
     requires workers { (1 ≤ look.workers) × (look.workers ≤ 16) }
-    requires rounds { look.moment.rounds + 1 < 2 ^ 32 }
+    requires rounds { look.point.moment.rounds + 1 < 2 ^ 32 }
     requires hart { look.hart + 1 < 2 ^ 32 }
     ensures stays { timeline.new ≡ timeline.old }
     ensures entry { (m : Running) → IsUntraced m timeline.old.start → OnOk result (text.new.items ≡
-        text.old.items ++ thread_entry look.hart look.moment (seen m look.moment look.hart)) }
+        text.old.items ++ thread_entry look.hart look.point.moment (seen m look.point look.hart)) }
     ensures refused { IfErr result (λ e. e ≡ refusals.OutOfMemory) }
 {
-    if let Some(sight) = timeline.shown(rt, &look.moment, look.hart, look.workers)? {
-        let note = note_of(look.hart, &sight.hart(), look.moment);
+    if let Some(sight) = timeline.shown_at(rt, &look.point, look.hart, look.workers)? {
+        let note = note_of(look.hart, &sight.hart(), look.point.moment);
         add_thread(text, &note)?;
     }
     Ok(())

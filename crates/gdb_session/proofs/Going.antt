@@ -6,9 +6,9 @@ use Rattle.gdb_packets.specs.Reads.{EndsBy, GoesOn, TellsBy}
 use Rattle.gdb_packets.specs.Stream.{Told, next_of}
 use Rattle.gdb_requests.specs.declared.request.Request.{Request}
 use Rattle.gdb_requests.specs.declared.request.Request.TheVariants as requests
-use Rattle.gdb_session.specs.declared.debugged.Debugged.{Debugged}
-use Rattle.gdb_session.specs.Sessions.{OfRun, Recorded, State, recorded_of}
-use Rattle.gdb_session.proofs.Runs.{of_same}
+use Rattle.gdb_resumes.specs.declared.debugged.Debugged.{Debugged}
+use Rattle.gdb_resumes.specs.Sessions.{OfRun, Recorded, State, recorded_of}
+use Rattle.gdb_resumes.proofs.Runs.{of_same}
 use Rattle.gdb_session.specs.Serving.{Goes, Goes_on, Hears, Begins, Nothing, Refused, Served, Talking, begun, Replies, RepliesTo, refusal_of, refused_text}
 
 -- bytes behind those that were given, and what is held behind them

@@ -1,3 +1,2 @@
-pub mod Runs
 pub mod Arriving
 pub mod Going

@@ -1,17 +1,24 @@
 -- What a debugger is answered, and what its session is then.
-use Rattle.std.specs.Prelude.{◌≡◌, ℕ, ◌+◌, ◌-◌, ◌==◌, ◌||◌, not, nat_lt, if◌then◌else◌, Bool, List, [], ◌∷◌, ◌++◌, filter, codes, Option, Some, None}
+use Rattle.std.specs.Prelude.{◌≡◌, ℕ, ◌+◌, ◌-◌, ◌==◌, ◌&&◌, ◌||◌, not, nat_lt, if◌then◌else◌, Bool, List, [], ◌∷◌, ◌++◌, filter, codes, Option, Some, None}
+use Rattle.std.specs.List.{list_any}
 use Rattle.walking.specs.Stops.{is_one_of}
+use Rattle.watching.specs.declared.watchpoint.WatchKind.{WatchKind}
+use Rattle.watching.specs.declared.watchpoint.WatchKind.TheVariants as kinds
+use Rattle.watching.specs.declared.watchpoint.Watchpoint.{Watchpoint}
+use Rattle.watching.specs.declared.watchpoint.Way.TheVariants.{On, Back}
 use Rattle.gdb_packets.specs.Writing.{packet_text}
 use Rattle.gdb_requests.specs.declared.request.Request.{Request}
 use Rattle.gdb_requests.specs.declared.request.Request.TheVariants as requests
+use Rattle.gdb_requests.specs.declared.request.Watch.{Watch}
+use Rattle.gdb_requests.specs.declared.request.Watch.TheVariants as asked
 use Rattle.gdb_replies.specs.Description.{target_text}
 use Rattle.gdb_replies.specs.Replies.{part_of, payload_of}
 use Rattle.gdb_replies.specs.Words.{thread_text, threads_text}
 use Rattle.gdb_replies.specs.declared.reply.Reply.TheVariants as replies
 use Rattle.gdb_answers.specs.Answers.{memory_answer, note_answer, register_answer, registers_answer, seen, stop_answer, thread_list_answer}
-use Rattle.gdb_session.specs.declared.session.Standing.{Standing}
-use Rattle.gdb_session.specs.Sessions.{Recorded, State}
-use Rattle.gdb_session.specs.Resumes.{Continues, ContinuesBack, Steps, StepsAlone, StepsBack}
+use Rattle.gdb_resumes.specs.declared.session.Standing.{Standing}
+use Rattle.gdb_resumes.specs.Sessions.{Recorded, State}
+use Rattle.gdb_resumes.specs.Resumes.{Continues, Steps, StepsAlone, StepsBack}
 
 -- threads are numbered from 1
 abbrev pub hart_of_thread : ℕ → ℕ → Option ℕ
@@ -24,11 +31,11 @@ done_or_missing (Some hart) = codes "OK"
 -- ---- requests that change nothing
 
 abbrev pub stands_text : Recorded → Standing → List ℕ
-stands_text r t = stop_answer t.reason t.told (seen r.run t.moment t.told)
+stands_text r t = stop_answer t.reason t.told (seen r.run t.point t.told)
 
 abbrev pub note_text_of : Recorded → Standing → Option ℕ → List ℕ
 note_text_of r t None = codes "E01"
-note_text_of r t (Some hart) = note_answer hart t.moment (seen r.run t.moment hart)
+note_text_of r t (Some hart) = note_answer hart t.point.moment (seen r.run t.point hart)
 
 -- what isn't about the moment
 abbrev pub fixed_text : ℕ → Standing → Request → Option (List ℕ)
@@ -42,19 +49,17 @@ fixed_text harts t requests.Change = Some (payload_of replies.PastStands)
 fixed_text harts t requests.Actions = Some (codes "vCont;c;C;s;S")
 fixed_text harts t requests.Detach = Some (codes "OK")
 fixed_text harts t requests.Unknown = Some []
-fixed_text harts t (requests.AddWatch kind address count) = Some []
-fixed_text harts t (requests.RemoveWatch kind address count) = Some []
 fixed_text harts t request = None
 
 -- what is
 abbrev pub text_at : Recorded → Standing → Request → Option (List ℕ)
 text_at r t requests.WhyStopped = Some (stands_text r t)
-text_at r t (requests.ThreadList offset count) = Some (thread_list_answer r.run t.moment r.harts offset count)
+text_at r t (requests.ThreadList offset count) = Some (thread_list_answer r.run t.point r.harts offset count)
 text_at r t (requests.Note thread) = Some (note_text_of r t (hart_of_thread r.harts thread))
 text_at r t (requests.IsAlive thread) = Some (done_or_missing (hart_of_thread r.harts thread))
-text_at r t requests.ReadRegisters = Some (registers_answer t.moment (seen r.run t.moment t.general))
-text_at r t (requests.ReadRegister number) = Some (register_answer number t.moment (seen r.run t.moment t.general))
-text_at r t (requests.ReadMemory address count) = Some (memory_answer address count (seen r.run t.moment t.general))
+text_at r t requests.ReadRegisters = Some (registers_answer t.point.moment (seen r.run t.point t.general))
+text_at r t (requests.ReadRegister number) = Some (register_answer number t.point.moment (seen r.run t.point t.general))
+text_at r t (requests.ReadMemory address count) = Some (memory_answer address count (seen r.run t.point t.general))
 text_at r t request = None
 
 abbrev pub or_else : Option (List ℕ) → Option (List ℕ) → Option (List ℕ)
@@ -108,6 +113,29 @@ differs_from address stop = not (stop == address)
 abbrev pub without_one : List ℕ → ℕ → List ℕ
 without_one stops address = filter (differs_from address) stops
 
+-- watchpoints too
+abbrev pub kind_of : Watch → WatchKind
+kind_of asked.Write = kinds.Changes
+kind_of asked.Read = kinds.Reads
+kind_of asked.Access = kinds.Accesses
+
+abbrev pub watch_of : Watch → ℕ → ℕ → Watchpoint
+watch_of kind address count = record { kind = kind_of kind; range = record { start = address; len = count } }
+
+abbrev pub kind_number : WatchKind → ℕ
+kind_number kinds.Changes = 0
+kind_number kinds.Reads = 1
+kind_number kinds.Accesses = 2
+
+abbrev pub same_watch : Watchpoint → Watchpoint → Bool
+same_watch w x = kind_number w.kind == kind_number x.kind && (w.range.start == x.range.start && w.range.len == x.range.len)
+
+abbrev pub with_watch : List Watchpoint → Watchpoint → List Watchpoint
+with_watch ws w = if list_any (same_watch w) ws then ws else ws ++ w ∷ []
+
+abbrev pub without_watch : List Watchpoint → Watchpoint → List Watchpoint
+without_watch ws w = filter (λ (x : Watchpoint). not (same_watch w x)) ws
+
 -- the run is resumed: where it stands then; none where there is no such thread
 abbrev pub MovesTo : (Standing → Type 0) → Option Standing → Type 0
 MovesTo To None = ⊥
@@ -118,11 +146,11 @@ MovesBy To None x = x ≡ None
 MovesBy To (Some hart) x = MovesTo (To hart) x
 
 abbrev pub Moves : Recorded → State → Request → Option Standing → Type 0
-Moves r s requests.Continue x = MovesTo (Continues r s) x
+Moves r s requests.Continue x = MovesTo (Continues r s On) x
 Moves r s (requests.Step thread) x = MovesBy (Steps r s) (hart_of_thread r.harts thread) x
 Moves r s (requests.StepAlone thread) x = MovesBy (StepsAlone r s) (hart_of_thread r.harts thread) x
 Moves r s requests.StepBack x = MovesTo (StepsBack r s) x
-Moves r s requests.ContinueBack x = MovesTo (ContinuesBack r s) x
+Moves r s requests.ContinueBack x = MovesTo (Continues r s Back) x
 Moves r s request x = ⊥
 
 -- it is told where it stands
@@ -142,6 +170,8 @@ Changes r s (requests.AddStop address) text t = Says (codes "OK") (record s { so
 Changes r s (requests.RemoveStop address) text t = Says (codes "OK") (record s { software = without_one s.software address }) text t
 Changes r s (requests.AddHardwareStop address) text t = Says (codes "OK") (record s { hardware = with_one s.hardware address }) text t
 Changes r s (requests.RemoveHardwareStop address) text t = Says (codes "OK") (record s { hardware = without_one s.hardware address }) text t
+Changes r s (requests.AddWatch kind address count) text t = Says (codes "OK") (record s { watches = with_watch s.watches (watch_of kind address count) }) text t
+Changes r s (requests.RemoveWatch kind address count) text t = Says (codes "OK") (record s { watches = without_watch s.watches (watch_of kind address count) }) text t
 Changes r s request text t = Resumes r s request text t
 
 abbrev pub AnswersBy : Option (List ℕ) → Recorded → State → Request → List ℕ → State → Type 0

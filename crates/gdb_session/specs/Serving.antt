@@ -9,7 +9,7 @@ use Rattle.gdb_requests.specs.declared.request.Request.{Request}
 use Rattle.gdb_requests.specs.declared.request.Request.TheVariants as requests
 use Rattle.gdb_replies.specs.declared.stop_reply.Reason.TheVariants.{Step}
 use Rattle.gdb_session.specs.Answers.{Answers}
-use Rattle.gdb_session.specs.Sessions.{Recorded, State, start_of, state_of}
+use Rattle.gdb_resumes.specs.Sessions.{Recorded, State, start_of, state_of}
 use Rattle.gdb_session.specs.declared.talk.Talk.{Talk}
 
 -- a debugger's session, and what it asked for last
@@ -20,13 +20,14 @@ pub record Talking : Type 0 where
 abbrev pub talking : Talk → Talking
 talking t = record { state = state_of t.session; last = t.last }
 
--- it stands at the first moment, and there are no breakpoints
+-- it stands at the first moment, and there are no breakpoints and watchpoints
 abbrev pub begun : Talking
 begun = record {
   state = record {
-    standing = record { moment = start_of 0; ahead = false; reason = Step; told = 0; general = 0; moving = None };
+    standing = record { point = start_of 0; reason = Step; told = 0; general = 0; moving = None };
     software = [];
     hardware = [];
+    watches = [];
   };
   last = None;
 }

@@ -1,22 +1,17 @@
-//! A debugger is served: its session with a recorded run, what it is answered, and where the run stands then.
+//! A debugger is served: what each of its requests is answered, and what its session is then.
 #![tactic(auto)]
 
 mod answering;
-mod asking;
 mod breakpoints;
-mod debugged;
 mod opening;
 mod reading;
 mod refusing;
-mod resuming;
 mod selecting;
 mod serving;
-mod session;
-mod stepping;
 mod talk;
+mod watchpoints;
 
-pub use debugged::Debugged;
+pub use answering::answer;
 pub use opening::open;
 pub use refusing::refuse_each;
 pub use serving::serve;
-pub use session::{Session, Standing};

@@ -4,9 +4,9 @@ ghost use Rattle.machine.specs.Settings.{IsPlan, image_for};
 ghost use Rattle.machine.specs.Untraced.{IsUntraced};
 ghost use Rattle.round_planner.specs.Quotas.{Planned};
 ghost use Rattle.gdb_session.specs.Serving.{begun};
-ghost use Rattle.gdb_session.specs.Sessions.{IsReady};
+ghost use Rattle.gdb_resumes.specs.Sessions.{IsReady};
 
-use crate::debugged::Debugged;
+use gdb_resumes::Debugged;
 use host_io::RunError;
 use machine::{Settings, load, prepare_untraced};
 use pages::Range;

@@ -5,17 +5,16 @@ ghost use Rattle.host_io.specs.declared.error.RunError.TheVariants as refusals;
 ghost use Rattle.gdb_packets.specs.Writing.{packet_text};
 ghost use Rattle.gdb_replies.specs.Replies.{payload_of};
 ghost use Rattle.gdb_session.specs.Answers.{Replied, fixed_text, hart_of_thread, note_text_of, stands_text};
-ghost use Rattle.gdb_session.specs.Sessions.{IsReady, OfRun};
+ghost use Rattle.gdb_resumes.specs.Sessions.{IsReady, OfRun};
 
-use crate::debugged::Debugged;
 use crate::selecting::{hart_of_thread, say_done};
-use crate::session::Standing;
 use gdb_answers::{
     Look, answer_memory, answer_note, answer_register, answer_registers, answer_stop,
     answer_threads,
 };
 use gdb_replies::{Reply, Window, target_description, write_reply};
 use gdb_requests::Request;
+use gdb_resumes::{Debugged, Standing};
 use host_io::{RunError, Sink};
 use std::alloc::Global;
 use std::sync::Wait;
@@ -56,7 +55,7 @@ fn reply_at<R: Threads + Wait + Sync, K: Sink>(
     ensures memory { result ≡ Err refusals.OutOfMemory → K.took out.new ≡ K.took out.old }
 {
     let look = Look {
-        moment: standing.moment,
+        point: standing.point,
         hart: standing.general,
         workers: run.workers,
     };
@@ -103,8 +102,6 @@ fn fixed_reply(harts: u32, standing: Standing, request: Request) -> Option<Reply
         Request::Actions => Some(Reply::Actions),
         Request::Detach => Some(Reply::Done),
         Request::Unknown => Some(Reply::Unknown),
-        Request::AddWatch(_, _, _) => Some(Reply::Unknown),
-        Request::RemoveWatch(_, _, _) => Some(Reply::Unknown),
         _ => None,
     }
 }
@@ -123,7 +120,7 @@ pub(crate) fn say_where<R: Threads + Wait + Sync, K: Sink>(
     ensures memory { result ≡ Err refusals.OutOfMemory → K.took out.new ≡ K.took out.old }
 {
     let look = Look {
-        moment: standing.moment,
+        point: standing.point,
         hart: standing.told,
         workers: run.workers,
     };
@@ -147,7 +144,7 @@ fn say_note<R: Threads + Wait + Sync, K: Sink>(
     match hart_of_thread(run.harts, thread) {
         Some(hart) => {
             let look = Look {
-                moment: standing.moment,
+                point: standing.point,
                 hart,
                 workers: run.workers,
             };

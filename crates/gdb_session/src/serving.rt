@@ -1,10 +1,10 @@
 ghost use Rattle.std.specs.Prelude.{◌≡◌, ◌∷◌, ◌++◌, ℕ, List, IfOk, OnOk};
-ghost use Rattle.gdb_session.specs.Sessions.{IsReady, OfRun};
+ghost use Rattle.gdb_resumes.specs.Sessions.{IsReady, OfRun};
 ghost use Rattle.gdb_session.specs.Serving.{HasEnded, Served, ServesOn, Talking, begun, refused_text, talking};
 
-use crate::debugged::Debugged;
 use crate::talk::{Talk, refuse};
 use gdb_packets::Reader;
+use gdb_resumes::Debugged;
 use host_io::{RunError, Sink, Source, put_all};
 use std::alloc::Global;
 use std::sync::Wait;

@@ -3,13 +3,13 @@
 ghost use Rattle.std.specs.Prelude.{◌≡◌, ◌++◌, ℕ, List, OnOk};
 ghost use Rattle.host_io.specs.declared.error.RunError.TheVariants as refusals;
 ghost use Rattle.gdb_packets.specs.Views.{told_in};
-ghost use Rattle.gdb_session.specs.Sessions.{IsReady, OfRun, state_of};
+ghost use Rattle.gdb_resumes.specs.Sessions.{IsReady, OfRun, state_of};
 ghost use Rattle.gdb_session.specs.Serving.{Hears, Replies, RepliesTo, again_of, asked_by, begun, ends, refused_text, talking};
 
-use crate::debugged::Debugged;
-use crate::session::Session;
+use crate::answering::answer;
 use gdb_packets::{Item, acknowledge};
 use gdb_requests::{Request, request_of};
+use gdb_resumes::{Debugged, Session};
 use host_io::{RunError, Sink, put_all};
 use std::alloc::Global;
 use std::sync::Wait;
@@ -115,12 +115,12 @@ fn reply<R: Threads + Wait + Sync, K: Sink>(
 {
     match request {
         Request::Kill => Ok(()),
-        _ => answer(rt, alloc, run, session, request, out),
+        _ => answer_or_refuse(rt, alloc, run, session, request, out),
     }
 }
 
 /// Answers a request, or says that it found no memory.
-fn answer<R: Threads + Wait + Sync, K: Sink>(
+fn answer_or_refuse<R: Threads + Wait + Sync, K: Sink>(
     rt: &R,
     alloc: Global,
     run: &mut Debugged,
@@ -133,7 +133,7 @@ fn answer<R: Threads + Wait + Sync, K: Sink>(
     ensures ready { OnOk result (IsReady run.old session.new.standing) }
     ensures replies { OfRun run.old (λ r. OnOk result ((written : List ℕ) × Replies r (state_of session.old) request written (state_of session.new) × (K.took out.new ≡ K.took out.old ++ written))) }
 {
-    match session.answer(rt, alloc, run, request, out) {
+    match answer(rt, alloc, run, session, request, out) {
         Ok(()) => Ok(()),
         Err(RunError::OutOfMemory) => refuse(out),
         Err(error) => Err(error),

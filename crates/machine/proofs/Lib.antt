@@ -24,3 +24,6 @@ pub mod NumbersAsked
 pub mod Tallied
 pub mod GuestRounds
 pub mod KeptStarts
+pub mod TurnHartsTabled
+pub mod TurnHartsAsked
+pub mod TurnHartsFound

@@ -1,11 +1,10 @@
 -- Whether a hart asks for the number of a round: turn by turn, and from the rounds of all harts.
-use Rattle.std.proofs.Common.{◌<◌, ◌≤◌, length, drop, take, ◌-◌, get_or, arith, ◌≡◌, ℕ, zero, suc, ◌+◌, ◌||◌, Bool, true, false, cond, List, [], ◌∷◌, Option, refl, sym, ap, subst, ◌∙◌}
+use Rattle.std.proofs.Common.{◌<◌, ◌≤◌, length, take, ◌-◌, get_or, arith, ◌≡◌, ℕ, suc, ◌+◌, ◌||◌, Bool, true, false, cond, List, [], ◌∷◌, Option, refl, sym, ap, subst, ◌∙◌}
 use Rattle.pages.specs.Memory.{IsBytes, Memory, stored}
 use Rattle.pages.specs.Paged.{Paged}
 use Rattle.pages.specs.declared.access.Range.{Range}
 use Rattle.round_schedule.specs.declared.event.Event.{Event}
 use Rattle.round_schedule.specs.declared.span.Span.{Span}
-use Rattle.round_schedule.specs.ByTable.{Tabled}
 use Rattle.round_schedule.specs.TabledTurn.{TabledPhase, TabledTurn, tabled_phase_joined, tabled_turn_from, tabled_turn_of}
 use Rattle.round_schedule.specs.Schedule.{HartRound, State, all_stores, hart_rounds}
 use Rattle.round_schedule.specs.Tables.{Tied}

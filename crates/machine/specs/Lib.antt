@@ -8,4 +8,6 @@ pub mod Rounds
 pub mod Settings
 pub mod Asked
 pub mod NumberAsked
+pub mod TurnHarts
+pub mod TabledTurnHarts
 pub mod Untraced

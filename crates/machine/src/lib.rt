@@ -27,6 +27,7 @@ mod running;
 mod settings;
 mod spare_lists;
 mod tally;
+mod turn_harts;
 mod untraced;
 mod untraced_running;
 
@@ -39,4 +40,5 @@ pub use preparing_untraced::prepare_untraced;
 pub use running::RoundNote;
 pub use settings::{Format, Settings};
 pub use trace::Trace;
+pub use turn_harts::turns_end_the_past;
 pub use untraced::UntracedMachine;

@@ -150,7 +150,8 @@ impl UntracedMachine {
 
     /// Memory.
     pub fn pages(&self) -> &Pages
-        ensures { result.now.memory.bytes ≡ self.now.bytes }
+        ensures bytes { result.now.memory.bytes ≡ self.now.bytes }
+        ensures code { result.now.memory.code ≡ self.now.code }
     {
         self.guest.pages()
     }

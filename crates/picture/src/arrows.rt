@@ -68,7 +68,7 @@ fn arrow(line: &mut Line, from: &EventBox, to: &EventBox) -> Result<(), OutOfMem
 }
 
 /// Adds the arrow from one box to another, where the first one has the place of a source.
-fn arrow_from(
+pub fn arrow_from(
     line: &mut Line,
     found: &[Option<usize>],
     to: &EventBox,
@@ -103,7 +103,11 @@ fn arrows_from(
 
 /// Adds the arrow from above, where the event read a byte that memory opened with.
 #[tactic(auto, unfolding(crate::specs::Arrows::opening_text))]
-fn opening_arrow(line: &mut Line, found: &[Option<usize>], to: &EventBox) -> Result<(), OutOfMemory>
+pub fn opening_arrow(
+    line: &mut Line,
+    found: &[Option<usize>],
+    to: &EventBox,
+) -> Result<(), OutOfMemory>
     ensures { OnOk result (line.new ≡ line.old ++ opening_text found.now to.now) }
 {
     if !has_opening(found) {

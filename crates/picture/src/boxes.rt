@@ -56,7 +56,7 @@ fn last_line(line: &mut Line, shown: &EventBox) -> Result<(), OutOfMemory>
 
 /// Adds the three lines of a box.
 #[tactic(auto, unfolding(crate::specs::Boxes::lines_text))]
-fn lines(line: &mut Line, shown: &EventBox) -> Result<(), OutOfMemory>
+pub fn lines(line: &mut Line, shown: &EventBox) -> Result<(), OutOfMemory>
     ensures { OnOk result (line.new ≡ line.old ++ lines_text shown.now) }
 {
     let done = &shown.event.access;

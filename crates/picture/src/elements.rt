@@ -8,14 +8,14 @@ use report_lines::Line;
 
 /// A point, so far from the left and from the top.
 #[derive(Clone, Copy, Debug, PartialEq, Eq)]
-pub(crate) struct Point {
+pub struct Point {
     pub x: u64,
     pub y: u64,
 }
 
 /// A rectangle, by its upper left corner.
 #[derive(Clone, Copy, Debug, PartialEq, Eq)]
-pub(crate) struct Rectangle {
+pub struct Rectangle {
     pub x: u64,
     pub y: u64,
     pub width: u64,
@@ -24,7 +24,7 @@ pub(crate) struct Rectangle {
 
 /// A curve that leaves one point and enters another level, on the way to `leaving` and from `entering`.
 #[derive(Clone, Copy, Debug, PartialEq, Eq)]
-pub(crate) struct Curve {
+pub struct Curve {
     pub start: Point,
     pub leaving: u64,
     pub entering: u64,
@@ -42,11 +42,7 @@ pub(crate) fn attribute(line: &mut Line, name: &str, value: u64) -> Result<(), O
 
 /// Adds a rectangle of a class.
 #[tactic(auto, unfolding(crate::specs::Elements::rectangle_text))]
-pub(crate) fn add_rectangle(
-    line: &mut Line,
-    class: &str,
-    shape: Rectangle,
-) -> Result<(), OutOfMemory>
+pub fn add_rectangle(line: &mut Line, class: &str, shape: Rectangle) -> Result<(), OutOfMemory>
     ensures { OnOk result (line.new ≡ line.old ++ rectangle_text class.now shape) }
 {
     line.text("<rect class='")?;
@@ -60,7 +56,7 @@ pub(crate) fn add_rectangle(
 
 /// Adds the start of a text of a class at a point.
 #[tactic(auto, unfolding(crate::specs::Elements::label_start))]
-pub(crate) fn start_label(line: &mut Line, class: &str, at: Point) -> Result<(), OutOfMemory>
+pub fn start_label(line: &mut Line, class: &str, at: Point) -> Result<(), OutOfMemory>
     ensures { OnOk result (line.new ≡ line.old ++ label_start class.now at) }
 {
     line.text("<text class='")?;
@@ -90,12 +86,7 @@ fn start_path(line: &mut Line, class: &str, at: Point) -> Result<(), OutOfMemory
 
 /// Adds a line of a class straight down from a point.
 #[tactic(auto, unfolding(crate::specs::Elements::down_text))]
-pub(crate) fn line_down(
-    line: &mut Line,
-    class: &str,
-    from: Point,
-    bottom: u64,
-) -> Result<(), OutOfMemory>
+pub fn line_down(line: &mut Line, class: &str, from: Point, bottom: u64) -> Result<(), OutOfMemory>
     ensures { OnOk result (line.new ≡ line.old ++ down_text class.now from bottom) }
 {
     start_path(line, class, from)?;
@@ -106,7 +97,7 @@ pub(crate) fn line_down(
 
 /// Adds a curve of a class.
 #[tactic(auto, unfolding(crate::specs::Elements::curve_text))]
-pub(crate) fn add_curve(line: &mut Line, class: &str, shape: Curve) -> Result<(), OutOfMemory>
+pub fn add_curve(line: &mut Line, class: &str, shape: Curve) -> Result<(), OutOfMemory>
     ensures { OnOk result (line.new ≡ line.old ++ curve_text class.now shape) }
 {
     let leaving = Point {

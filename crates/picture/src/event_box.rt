@@ -3,7 +3,7 @@ use round_schedule::Event;
 /// The box of an event: where the event stands in the trace, how many in a row are the same load, and how far from the top the box
 /// stands.
 #[derive(Clone, Copy, Debug, PartialEq, Eq)]
-pub(crate) struct EventBox {
+pub struct EventBox {
     pub place: usize,
     pub event: Event,
     pub times: u64,

@@ -12,7 +12,7 @@ use std::alloc::Global;
 use trace::Trace;
 
 /// The left edge of a hart's column.
-pub(crate) fn left_of(hart: u64) -> u64
+pub fn left_of(hart: u64) -> u64
     requires { hart ≤ 255 }
     ensures { result ≡ left_of hart }
 {
@@ -20,7 +20,7 @@ pub(crate) fn left_of(hart: u64) -> u64
 }
 
 /// How wide the picture of so many harts is.
-pub(crate) fn width_for(harts: usize) -> u64
+pub fn width_for(harts: usize) -> u64
     requires { harts ≤ 64 }
     ensures { result ≡ width_for harts }
 {

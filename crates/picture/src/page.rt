@@ -37,7 +37,7 @@ fn view_box(line: &mut Line, width: u64, height: u64) -> Result<(), OutOfMemory>
 }
 
 #[tactic(auto, unfolding(crate::specs::Picture::start_text))]
-fn start(line: &mut Line, width: u64, height: u64) -> Result<(), OutOfMemory>
+pub fn start(line: &mut Line, width: u64, height: u64) -> Result<(), OutOfMemory>
     ensures { OnOk result (line.new ≡ line.old ++ start_text width height) }
 {
     line.text(root())?;
@@ -47,7 +47,7 @@ fn start(line: &mut Line, width: u64, height: u64) -> Result<(), OutOfMemory>
 }
 
 #[tactic(auto, unfolding(crate::specs::Picture::page_text))]
-fn page(line: &mut Line, width: u64, height: u64) -> Result<(), OutOfMemory>
+pub fn page(line: &mut Line, width: u64, height: u64) -> Result<(), OutOfMemory>
     ensures { OnOk result (line.new ≡ line.old ++ page_text width height) }
 {
     let shape = Rectangle {

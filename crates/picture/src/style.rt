@@ -75,7 +75,7 @@ pub(crate) fn root() -> &'static str
 }
 
 #[tactic(auto, unfolding(crate::specs::Style::style_text))]
-pub(crate) fn style() -> &'static str
+pub fn style() -> &'static str
     ensures { result.now ≡ style_text }
 {
     STYLE

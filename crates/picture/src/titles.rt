@@ -38,7 +38,7 @@ fn escaped(line: &mut Line, name: &[u8]) -> Result<(), OutOfMemory>
     }
 }
 
-fn pc(line: &mut Line, pc: Option<u64>) -> Result<(), OutOfMemory>
+pub fn pc(line: &mut Line, pc: Option<u64>) -> Result<(), OutOfMemory>
     ensures { OnOk result (line.new ≡ line.old ++ pc_text pc) }
 {
     match pc {
@@ -75,7 +75,7 @@ fn part(line: &mut Line, part: &SymbolPart<'_>) -> Result<(), OutOfMemory>
     offset(line, part.offset)
 }
 
-fn object(line: &mut Line, object: Option<SymbolPart<'_>>) -> Result<(), OutOfMemory>
+pub fn object(line: &mut Line, object: Option<SymbolPart<'_>>) -> Result<(), OutOfMemory>
     ensures { OnOk result (line.new ≡ line.old ++ object_text (option_map as_part object.entry)) }
 {
     match object {

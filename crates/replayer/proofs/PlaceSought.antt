@@ -6,10 +6,11 @@ use Rattle.machine.specs.Machine.{Running, after_rounds}
 use Rattle.machine.proofs.Repeated.{no_rounds}
 use Rattle.round_planner.specs.Quotas.{Planned}
 use Rattle.recording.specs.Recorded.{Recorded}
-use Rattle.replayer.specs.Past.{Begins, IsBefore, IsRoundOf, IsStateBefore, hart_at}
+use Rattle.event_pcs.specs.Pcs.{hart_at}
+use Rattle.replayer.specs.Past.{Begins, IsBefore, IsRoundOf, IsStateBefore}
 use Rattle.replayer.specs.Replayed.{IsPlanFor, start_of}
 use Rattle.replayer.proofs.Begun.{one_plan}
-use Rattle.replayer.proofs.PastAt.{after_last, from_before}
+use Rattle.event_pcs.proofs.RoundsAt.{after_last, from_before}
 use Rattle.replayer.proofs.RoundCount.{OneRound, hart_in, none_before}
 
 -- the hart did so many instructions in so many rounds, and none of them is the one of the place

@@ -10,9 +10,10 @@ use Rattle.round_schedule.proofs.PastEnds.{no_past, past_ends}
 use Rattle.machine.specs.Machine.{Running, after_rounds}
 use Rattle.machine.specs.Untraced.{IsUntraced, Untraced}
 use Rattle.machine.proofs.Repeated.{next_round}
-use Rattle.replayer.specs.Past.{Begins, IsBefore, IsCountAt, hart_at}
+use Rattle.event_pcs.specs.Pcs.{hart_at}
+use Rattle.replayer.specs.Past.{Begins, IsBefore, IsCountAt}
 use Rattle.replayer.proofs.Counted.{harts_after, rounds_after}
-use Rattle.replayer.proofs.PastAt.{from_before}
+use Rattle.event_pcs.proofs.RoundsAt.{from_before}
 use Rattle.replayer.proofs.PastDone.{Past, past_rises}
 
 -- ---- places of a list

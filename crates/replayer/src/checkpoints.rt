@@ -5,7 +5,7 @@ ghost use Rattle.machine.specs.Machine.{Running, after_rounds};
 ghost use Rattle.machine.specs.Untraced.{IsUntraced};
 ghost use Rattle.recording.specs.Grammar.{is_due};
 ghost use Rattle.replayer.specs.Checkpoints.{AreCheckpoints, IsOpened, checkpoints_of, kept_machine};
-ghost use Rattle.replayer.specs.Past.{hart_at};
+ghost use Rattle.event_pcs.specs.Pcs.{hart_at};
 ghost use Rattle.replayer.specs.Refusals.{AreNoWorkers, AreWorkers, RefusedInOrder};
 ghost use Rattle.replayer.specs.Replayed.{IsPlanFor, IsVerdict};
 

@@ -6,7 +6,8 @@ ghost use Rattle.hart_step.specs.Words.{words_of};
 ghost use Rattle.machine.specs.Machine.{Running, after_rounds};
 ghost use Rattle.machine.specs.Untraced.{IsUntraced};
 ghost use Rattle.moments.specs.Sights.{sight_after};
-ghost use Rattle.replayer.specs.Past.{hart_at, sight_at};
+ghost use Rattle.event_pcs.specs.Pcs.{hart_at};
+ghost use Rattle.replayer.specs.Past.{sight_at};
 ghost use Rattle.replayer.specs.Refusals.{RefusedInOrder};
 ghost use Rattle.replayer.specs.Replayed.{IsPlanFor, start_of};
 

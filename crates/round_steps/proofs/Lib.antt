@@ -1,4 +1,5 @@
 pub mod Turning
+pub mod TurnsAlong
 pub mod Searching
 pub mod RoundParts
 pub mod ShownThere

@@ -1,10 +1,16 @@
--- Where nothing is asked for, nothing is told.
-use Rattle.std.proofs.Common.{◌≡◌, ℕ, zero, suc, ◌&&◌, Bool, true, false, cond, List, [], ◌∷◌, ◌++◌, length, drop, is_some, slice_get, Option, Some, None, refl, sym, ◌∙◌, ap}
+-- Where nothing is asked for, nothing is told, and without watchpoints no move is.
+use Rattle.std.proofs.Common.{◌≡◌, ◌<◌, ℕ, zero, suc, arith, ◌&&◌, Bool, true, false, cond, List, [], ◌∷◌, ◌++◌, length, drop, is_some, slice_get, Option, Some, None, refl, sym, ◌∙◌, ap}
+use Rattle.round_schedule.specs.declared.access.Access.{Access}
 use Rattle.round_schedule.specs.declared.event.Phase.TheVariants.{Parallel, Serial}
 use Rattle.hart_step.specs.declared.hart.Hart.{Hart}
 use Rattle.machine.specs.Machine.{Running}
+use Rattle.moments.specs.Moves.{Move}
 use Rattle.walking.specs.declared.asked.Asked.{Asked}
 use Rattle.walking.specs.Hits.{hits_from, is_moment, tells}
+use Rattle.watching.specs.declared.hits.Hit.{Hit}
+use Rattle.watching.specs.declared.watchpoint.Watchpoint.{Watchpoint}
+use Rattle.watching.specs.declared.watchpoint.Way.{Way}
+use Rattle.watching.specs.Watches.{access_hits, beside, hits_after, hits_of}
 use Rattle.round_steps.specs.declared.place.Place.{Place}
 use Rattle.round_steps.specs.Places.{Begun, begun_of, parallel_places, part_counts, part_of, part_places, past_at, places, round_places, serial_places, turn_of, turn_places}
 
@@ -44,3 +50,19 @@ turns_silent a s m (suc i) = ap (λ (xs : List Place). xs ++ turn_places a i (pa
 pub no_places : (a : Asked) → IsSilent a → (m : Running) (xs : List Place) → xs ≡ [] → xs ≡ round_places a m
 no_places a s m xs e =
     e ∙ sym (ap (λ (ps : List Place). ps ++ serial_places a m (length m.state.harts)) (parts_silent a s (begun_of m) (length m.state.harts)) ∙ turns_silent a s m (length m.state.harts))
+
+no_access : {H : Type 0} (others : List (Move H)) (m : Move H) (o : Option Access) → access_hits [] others m o ≡ []
+no_access others m None = refl
+no_access others m (Some a) = refl
+
+none_after : {H : Type 0} (way : Way) (earlier ms : List (Move H)) → hits_after way [] earlier ms ≡ []
+none_after way earlier [] = refl
+none_after way earlier (m ∷ ms) =
+    ap (λ (xs : List Hit). xs ++ hits_after way [] (earlier ++ m ∷ []) ms) (no_access (beside way earlier ms) m m.access) ∙ none_after way (earlier ++ m ∷ []) ms
+
+no_elements : {A : Type 0} (xs : List A) → length xs < 1 → xs ≡ []
+no_elements [] e = refl
+no_elements (x ∷ xs) e = absurd (omega (arith, e))
+
+pub unwatched : {H : Type 0} (way : Way) (ws : List Watchpoint) (ms : List (Move H)) (hs : List Hit) → length ws < 1 → hs ≡ [] → hs ≡ hits_of way ws ms
+unwatched way ws ms hs few e = e ∙ sym (ap (λ (xs : List Watchpoint). hits_of way xs ms) (no_elements ws few) ∙ none_after way [] ms)

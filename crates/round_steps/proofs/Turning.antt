@@ -1,66 +1,41 @@
--- A walk over what a hart is from where its turn comes on.
-use Rattle.std.proofs.Common.{◌≡◌, ℕ, zero, suc, ◌+◌, Bool, true, false, cond, ◌&&◌, List, [], ◌∷◌, ◌++◌, drop, slice_get, is_some, Some, None, refl, sym, ◌∙◌, ap, append_assoc, append-nil, add-one}
+-- A walk over what a hart is along its turn.
+use Rattle.std.proofs.Common.{◌≡◌, ℕ, zero, suc, ◌+◌, ◌-◌, ◌<◌, ◌≤◌, Bool, true, false, cond, ◌&&◌, ◌||◌, List, [], ◌∷◌, ◌++◌, length, drop, get_or, slice_get, slice_index, is_some, Option, Some, None, refl, sym, ◌∙◌, ap, append_assoc, append-nil, arith}
+use Rattle.std.proofs.lemmas.List.{drop_all, drop_more}
 use Rattle.round_schedule.specs.declared.event.Phase.TheVariants.{Serial}
 use Rattle.hart_step.specs.declared.hart.Hart.{Hart}
-use Rattle.walking.specs.Hits.{hits_from}
+use Rattle.walking.specs.Hits.{hits_from, is_moment}
 use Rattle.round_steps.specs.declared.place.Place.{Place}
 use Rattle.round_steps.specs.Places.{place_in, places}
 
--- ---- lists
+-- what is told of the turn's rest: of these harts, of which the first has this count, those from c on
+abbrev pub told_from : (Hart → Bool) → ℕ → ℕ → List Hart → ℕ → List Place
+told_from f i begun xs c = places Serial i (hits_from f (begun + c) (drop c xs))
 
-pub there : {A : Type 0} (xs : List A) (c : ℕ) (x : A) → slice_get xs c ≡ Some x → drop c xs ≡ x ∷ drop (suc c) xs
-there [] c x e = absurd cc
-there (y ∷ ys) zero x e = let same : y ≡ x = cc in ap (λ z. z ∷ ys) same
-there (y ∷ ys) (suc c) x e = there ys c x e
+pub told_whole : (f : Hart → Bool) (i begun : ℕ) (xs : List Hart) (old : List Place) → old ++ places Serial i (hits_from f begun xs) ≡ old ++ told_from f i begun xs 0
+told_whole f i begun xs old = ap (λ (n : ℕ). old ++ places Serial i (hits_from f n xs)) (omega arith)
 
-pub past_end : {A : Type 0} (xs : List A) (c : ℕ) → slice_get xs c ≡ None → drop c xs ≡ []
-past_end [] zero e = refl
-past_end [] (suc c) e = refl
-past_end (y ∷ ys) zero e = absurd cc
-past_end (y ∷ ys) (suc c) e = past_end ys c e
+pub told_all : (f : Hart → Bool) (i begun : ℕ) (xs : List Hart) (c : ℕ) (new : List Place) → length xs ≤ c → new ++ told_from f i begun xs c ≡ new
+told_all f i begun xs c new le = ap (λ (hs : List Hart). new ++ places Serial i (hits_from f (begun + c) hs)) (drop_all c xs le) ∙ append-nil new
 
--- ---- the walk
+-- whether a hart is at a moment, by whether another one comes behind it
+moment_is : (xs : List Hart) (c : ℕ) (h : Hart) (goes_on : Bool) → (goes_on ≡ true → c + 1 < length xs) → (goes_on ≡ false → length xs ≤ c + 1) → is_moment h (drop (c + 1) xs) ≡ (goes_on || is_some h.stop)
+moment_is xs c h true on off = ap (is_moment h) (drop_more xs (c + 1) h (on refl))
+moment_is xs c h false on off = ap (is_moment h) (drop_all (c + 1) xs (off refl))
 
--- what is told of the turn's rest: of these harts those from c on
-abbrev pub told_from : (Hart → Bool) → ℕ → List Hart → ℕ → List Place
-told_from f i xs c = places Serial i (hits_from f c (drop c xs))
+module _ (f : Hart → Bool) (i begun : ℕ) (xs : List Hart) (c : ℕ) (h d : Hart) (new : List Place) (low : c < length xs) (here : h ≡ get_or xs c d) where
+  now : drop c xs ≡ h ∷ drop (c + 1) xs
+  now = drop_more xs c d low ∙ ap (λ (x : Hart). x ∷ drop (c + 1) xs) (sym here)
 
--- the hart after c is this, and these places are all up to it
-pub record Turning (f : Hart → Bool) (i : ℕ) (xs : List Hart) (first : ℕ) (old new : List Place) (c : ℕ) (h : Hart) : Type 0 where
-  pub here : slice_get xs c ≡ Some h
-  pub total : old ++ told_from f i xs first ≡ new ++ told_from f i xs c
+  abbrev later_told : List Place
+  later_told = places Serial i (hits_from f (suc (begun + c)) (drop (c + 1) xs))
 
-pub turn_begins : (f : Hart → Bool) (i : ℕ) (xs : List Hart) (first : ℕ) (old : List Place) (h : Hart) → slice_get xs first ≡ Some h → Turning f i xs first old old first h
-turn_begins f i xs first old h e = record { here = e; total = refl }
+  one_told : (t : Bool) (later : List Place) → (is_moment h (drop (c + 1) xs) && f h) ≡ t → later ≡ cond t (new ++ place_in Serial i (begun + c) ∷ []) new → new ++ told_from f i begun xs c ≡ later ++ later_told
+  one_told true later ht is =
+      rw (now, ht) (sym (append_assoc new (place_in Serial i (begun + c) ∷ []) later_told) ∙ ap (λ (ps : List Place). ps ++ later_told) (sym is))
+  one_told false later ht is = rw (now, ht) (ap (λ (ps : List Place). ps ++ later_told) (sym is))
 
-pub no_turn : (f : Hart → Bool) (i : ℕ) (xs : List Hart) (first : ℕ) (old : List Place) → slice_get xs first ≡ None → old ≡ old ++ told_from f i xs first
-no_turn f i xs first old e = rw (past_end xs first e) (sym (append-nil old))
-
-module _ (f : Hart → Bool) (i : ℕ) (xs : List Hart) (first : ℕ) (old new : List Place) (c : ℕ) (h : Hart) (on : Turning f i xs first old new c h) where
-  now : drop c xs ≡ h ∷ drop (suc c) xs
-  now = there xs c h on.here
-
-  one_told : (t : Bool) (g : Hart) (later : List Place) → slice_get xs (suc c) ≡ Some g → f h ≡ t → later ≡ cond t (new ++ place_in Serial i c ∷ []) new →
-      new ++ told_from f i xs c ≡ later ++ told_from f i xs (suc c)
-  one_told true g later e ht is =
-      rw (now, there xs (suc c) g e, ht) (
-      sym (append_assoc new (place_in Serial i c ∷ []) (places Serial i (hits_from f (suc c) (g ∷ drop (suc (suc c)) xs))))
-      ∙ ap (λ (ps : List Place). ps ++ places Serial i (hits_from f (suc c) (g ∷ drop (suc (suc c)) xs))) (sym is))
-  one_told false g later e ht is =
-      rw (now, there xs (suc c) g e, ht) (ap (λ (ps : List Place). ps ++ places Serial i (hits_from f (suc c) (g ∷ drop (suc (suc c)) xs))) (sym is))
-
-  pub turn_goes_on : (t : Bool) (g : Hart) (later : List Place) → slice_get xs (c + 1) ≡ Some g → f h ≡ t → later ≡ cond t (new ++ place_in Serial i c ∷ []) new → Turning f i xs first old later (c + 1) g
-  turn_goes_on t g later e ht is = record {
-    here = e;
-    total =
-        on.total
-        ∙ one_told t g later (ap (λ (k : ℕ). slice_get xs k) (sym (add-one c)) ∙ e) ht is
-        ∙ ap (λ (k : ℕ). later ++ told_from f i xs k) (sym (add-one c));
-  }
-
-  last_told : (t : Bool) (later : List Place) → drop (suc c) xs ≡ [] → (is_some h.stop && f h) ≡ t → later ≡ cond t (new ++ place_in Serial i c ∷ []) new → new ++ told_from f i xs c ≡ later
-  last_told true later e ht is = rw (now, e, ht) (sym is)
-  last_told false later e ht is = rw (now, e, ht) (append-nil new ∙ sym is)
-
-  pub turn_ends : (t : Bool) (later : List Place) → slice_get xs (c + 1) ≡ None → (is_some h.stop && f h) ≡ t → later ≡ cond t (new ++ place_in Serial i c ∷ []) new → later ≡ old ++ told_from f i xs first
-  turn_ends t later e ht is = sym (on.total ∙ last_told t later (past_end xs (suc c) (ap (λ (k : ℕ). slice_get xs k) (sym (add-one c)) ∙ e)) ht is)
+  pub told_more : (t goes_on : Bool) (count : ℕ) (later : List Place) → (goes_on ≡ true → c + 1 < length xs) → (goes_on ≡ false → length xs ≤ c + 1) → count ≡ begun + c → ((goes_on || is_some h.stop) && f h) ≡ t →
+      later ≡ cond t (new ++ place_in Serial i count ∷ []) new → new ++ told_from f i begun xs c ≡ later ++ told_from f i begun xs (c + 1)
+  told_more t goes_on count later on off at told is =
+      one_told t later (ap (λ (b : Bool). b && f h) (moment_is xs c h goes_on on off) ∙ told) (is ∙ ap (λ (n : ℕ). cond t (new ++ place_in Serial i n ∷ []) new) at)
+      ∙ ap (λ (n : ℕ). later ++ places Serial i (hits_from f n (drop (c + 1) xs))) (omega arith)

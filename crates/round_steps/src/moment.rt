@@ -1,5 +1,5 @@
-ghost use Rattle.std.specs.Prelude.{◌≡◌, filter, OnSome};
-ghost use Rattle.round_steps.specs.Moments.{comes_before, first_of, is_before, is_behind, is_earlier, last_one, moments_at, phase_number};
+ghost use Rattle.std.specs.Prelude.{◌≡◌};
+ghost use Rattle.round_steps.specs.Moments.{comes_before, is_before, phase_number};
 
 use crate::place::Place;
 use round_schedule::Phase;
@@ -20,17 +20,6 @@ impl Moment {
     {
         self.rounds < other.rounds
             || (self.rounds == other.rounds && comes_before(&self.place, &other.place))
-    }
-
-    /// Whether another one comes behind it, or with `too` is it.
-    pub fn is_behind(&self, too: bool, other: &Moment) -> bool
-        ensures { result ≡ is_behind too self.now other.now }
-    {
-        if too {
-            !other.is_before(self)
-        } else {
-            self.is_before(other)
-        }
     }
 }
 
@@ -53,47 +42,4 @@ fn comes_before(place: &Place, other: &Place) -> bool
     phase < later
         || (phase == later
             && (place.hart < other.hart || (place.hart == other.hart && place.count < other.count)))
-}
-
-/// The first of the places of a round that is behind a moment.
-pub(crate) fn first_behind(
-    places: &[Place],
-    rounds: u32,
-    too: bool,
-    here: &Moment,
-) -> Option<Moment>
-    ensures { result ≡ first_of (filter (is_behind too here.now) (moments_at rounds places.now)) }
-{
-    for place in places {
-        let moment = Moment {
-            rounds,
-            place: *place,
-        };
-        if here.is_behind(too, &moment) {
-            return Some(moment);
-        }
-    }
-    None
-}
-
-/// The last of the places of a round that is before a moment; another one where none is.
-pub(crate) fn last_before(
-    places: &[Place],
-    rounds: u32,
-    here: &Moment,
-    otherwise: Option<Moment>,
-) -> Option<Moment>
-    ensures { result ≡ last_one otherwise (filter (is_earlier here.now) (moments_at rounds places.now)) }
-{
-    let mut last = otherwise;
-    for place in places {
-        let moment = Moment {
-            rounds,
-            place: *place,
-        };
-        if moment.is_before(here) {
-            last = Some(moment);
-        }
-    }
-    last
 }

@@ -43,19 +43,21 @@ impl Point {
         ensures { result ≡ point_before self.now other.now }
     {
         self.moment.is_before(&other.moment)
-            || (is_same(&self.moment, &other.moment)
+            || (self.moment.is_same(&other.moment)
                 && side_number(self.side) < side_number(other.side))
     }
 }
 
-/// Whether two moments are one.
-fn is_same(moment: &Moment, other: &Moment) -> bool
-    ensures { result ≡ same_moment moment.now other.now }
-{
-    moment.rounds == other.rounds
-        && phase_number(moment.place.phase) == phase_number(other.place.phase)
-        && moment.place.hart == other.place.hart
-        && moment.place.count == other.place.count
+impl Moment {
+    /// Whether it is another one.
+    pub fn is_same(&self, other: &Moment) -> bool
+        ensures { result ≡ same_moment self.now other.now }
+    {
+        self.rounds == other.rounds
+            && phase_number(self.place.phase) == phase_number(other.place.phase)
+            && self.place.hart == other.place.hart
+            && self.place.count == other.place.count
+    }
 }
 
 /// The order of the sides of a moment.

@@ -96,8 +96,36 @@ fn is_silent(asked: &Asked) -> bool
     }
 }
 
-/// What watchpoints tell of in the next round of a run. The machine does that round. It may wait.
+/// What watchpoints tell of in the next round of a run. The machine does that round; its events are noted only where there are
+/// watchpoints. It may wait.
 fn hits_in_next<R: Threads + Wait + Sync>(
+    rt: &R,
+    machine: &mut UntracedMachine,
+    watches: &[Watchpoint],
+    way: Way,
+    workers: u32,
+) -> Result<Vec<Hit>, RunError>
+    requires run { (m : Running) × IsUntraced m machine.old }
+    requires rounds { machine.old.rounds + 1 < 2 ^ 32 }
+    requires workers { (1 ≤ workers) × (workers ≤ 16) }
+    ensures runs { OnOk result (IsAfter 1 machine.old machine.new) }
+    ensures counted { OnOk result (machine.new.rounds ≡ machine.old.rounds + 1) }
+    ensures hits { (m : Running) → IsUntraced m machine.old →
+        IfOk result (λ v. v.items ≡ hits_of way watches.now
+        (moves_of (words_of m.code) m.plan.budget (quotas_of m.plan) m.state)) }
+    ensures refused { IfErr result (λ e. e ≡ refusals.OutOfMemory) }
+{
+    match watches {
+        [] => {
+            machine.run(rt, 1, workers)?;
+            Ok(Vec::new(machine.pages().allocator()))
+        }
+        [_, ..] => hits_noted(rt, machine, watches, way, workers),
+    }
+}
+
+/// The same from the round's events.
+fn hits_noted<R: Threads + Wait + Sync>(
     rt: &R,
     machine: &mut UntracedMachine,
     watches: &[Watchpoint],

@@ -1,25 +1,20 @@
 ghost use Rattle.std.specs.Prelude.{◌≡◌, ◌≤◌, ◌+◌, ◌<◌, ◌^◌, true, length, IfOk, IfErr};
 ghost use Rattle.host_io.specs.declared.error.RunError.TheVariants as refusals;
 ghost use Rattle.round_planner.specs.Quotas.{quotas_of};
-ghost use Rattle.hart_step.specs.CodeTables.{Shows};
 ghost use Rattle.machine.specs.Machine.{Running};
 ghost use Rattle.machine.specs.Untraced.{IsUntraced};
 ghost use Rattle.round_steps.specs.Places.{begun_of, parallel_places, round_places, turns_of};
 
 use crate::part::{Before, add_part};
 use crate::place::Place;
-use crate::turn::add_turn;
-use hart_step::CodeTable;
+use crate::turn::add_turns;
 use host_io::RunError;
 use machine::UntracedMachine;
-use pages::{OutOfMemory, Pages, Range};
+use pages::{OutOfMemory, Range};
 use std::alloc::Global;
 use std::sync::Wait;
 use std::thread::Threads;
-use walking::Asked;
-
-/// The most words that are decoded beforehand. They take 4 MiB.
-const MOST_WORDS: u64 = 1 << 18;
+use walking::{Asked, decoded};
 
 /// What the parts of the parallel phase of a round came to.
 #[derive(Drop)]
@@ -49,13 +44,8 @@ pub fn places_in_round<R: Threads + Wait + Sync>(
         IfOk result (λ v. v.items ≡ round_places asked.now m) }
     ensures refused { IfErr result (λ e. e ≡ refusals.OutOfMemory) }
 {
-    // At most 64, as many as the plan says.
-    let _harts = machine.plan().harts();
-    let _count = machine.harts();
     let Parts { mut found, turns } = parts_in_round(machine, code, asked)?;
-    for number in 0..turns.len() {
-        add_turn(rt, machine, number as u32, turns[number], asked, &mut found)?;
-    }
+    add_turns(rt, machine, &turns, asked, &mut found)?;
     Ok(found)
 }
 
@@ -84,7 +74,7 @@ fn parts_in_round(
         // A run keeps its code.
         return Err(OutOfMemory);
     }
-    let table = decoded(pages)?;
+    let table = decoded(pages, u64::MAX)?;
     let mut found = Vec::new(pages.allocator());
     let mut turns = Vec::new(pages.allocator());
     // At most 64.
@@ -99,19 +89,6 @@ fn parts_in_round(
         turns.push(add_part(before, pages, &table, asked, &mut found)?)?;
     }
     Ok(Parts { found, turns })
-}
-
-/// The decoded words of the first range of code.
-pub(crate) fn decoded(pages: &Pages) -> Result<CodeTable, OutOfMemory>
-    ensures { IfOk result (λ t. Shows pages.now.memory t.first t.instructions) }
-{
-    match pages.code() {
-        [] => CodeTable::new(pages.allocator(), pages, 0, 0),
-        [range, ..] => {
-            let count = (range.len / 4).min(MOST_WORDS);
-            CodeTable::new(pages.allocator(), pages, range.start, count as usize)
-        }
-    }
 }
 
 /// Whether these are the same ranges.

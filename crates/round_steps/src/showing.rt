@@ -12,7 +12,7 @@ ghost use Rattle.round_steps.specs.Shown.{behind_move, beside_part, beside_turn,
 use crate::moment::phase_number;
 use crate::place::Place;
 use crate::point::Side;
-use crate::round::{are_same, decoded};
+use crate::round::are_same;
 use hart_step::Hart;
 use host_io::RunError;
 use machine::UntracedMachine;
@@ -21,6 +21,7 @@ use round_schedule::Phase;
 use seeing::Sight;
 use std::sync::Wait;
 use std::thread::Threads;
+use walking::decoded;
 
 /// What hart `number` is and sees at a place of the next round of a run; none where there is no such hart or place. Of the run there
 /// is the machine without its trace, and its code. It may wait.
@@ -241,7 +242,7 @@ fn end_of_moves(
         // A run keeps its code.
         return Err(OutOfMemory);
     }
-    let table = decoded(pages)?;
+    let table = decoded(pages, u64::MAX)?;
     // As many as the machine has.
     let _harts = machine.harts();
     let quota = machine.plan().quota(machine.rounds() + 1, number);
@@ -270,7 +271,7 @@ fn end_of_part(
         // A run keeps its code.
         return Err(OutOfMemory);
     }
-    let table = decoded(pages)?;
+    let table = decoded(pages, u64::MAX)?;
     // As many as the machine has.
     let _harts = machine.harts();
     let quota = machine.plan().quota(machine.rounds() + 1, number);

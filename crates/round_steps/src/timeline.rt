@@ -2,16 +2,13 @@ ghost use Rattle.std.specs.Prelude.{◌≡◌, ◌≤◌, ◌+◌, ◌-◌, ◌<
 ghost use Rattle.host_io.specs.declared.error.RunError.TheVariants as refusals;
 ghost use Rattle.machine.specs.Machine.{Running, after_rounds};
 ghost use Rattle.machine.specs.Untraced.{IsUntraced};
-ghost use Rattle.round_steps.specs.Moments.{next_of, previous_of};
 ghost use Rattle.round_steps.specs.Points.{next_point_of, previous_point_of};
-ghost use Rattle.round_steps.specs.Shown.{shown_at, shown_at_point};
+ghost use Rattle.round_steps.specs.Shown.{shown_at_point};
 
-use crate::moment::Moment;
 use crate::point::{Point, Told};
 use crate::point_search::{next_point, previous_point};
 use crate::points::Telling;
-use crate::search::{next_told, previous_told};
-use crate::showing::{shown, shown_at_side};
+use crate::showing::shown_at_side;
 use host_io::RunError;
 use machine::UntracedMachine;
 use pages::Range;
@@ -19,12 +16,11 @@ use seeing::Sight;
 use std::marker::Model;
 use std::sync::Wait;
 use std::thread::Threads;
-use walking::Asked;
 
 /// How much longer each stretch of rounds is that is looked through on the way back.
 const LONGER: u32 = 8;
 
-/// A run of so many rounds, which can be looked at at each of its moments.
+/// A run of so many rounds, which can be looked at at each of its points.
 #[derive(Drop)]
 pub struct Timeline {
     /// The machine before the first round.
@@ -79,86 +75,6 @@ impl Timeline {
         ensures { result ≡ self.now.rounds }
     {
         self.rounds
-    }
-
-    /// The first moment behind another one, or with `too` at it, at which something is told. Rounds are run on 1 to 16 workers. It may
-    /// wait.
-    ///
-    /// # Errors
-    ///
-    /// `OutOfMemory` alone.
-    pub fn next<R: Threads + Wait + Sync>(
-        &mut self,
-        rt: &R,
-        asked: &Asked,
-        too: bool,
-        here: &Moment,
-        workers: u32,
-    ) -> Result<Option<Moment>, RunError>
-        requires within { here.now.rounds ≤ self.old.rounds }
-        requires workers { (1 ≤ workers) × (workers ≤ 16) }
-        ensures stays { self.new ≡ self.old }
-        ensures next { (m : Running) → IsUntraced m self.old.start → IfOk result (λ x. x ≡ next_of
-            asked.now (after_rounds here.now.rounds m) (self.old.rounds - here.now.rounds) too here.now) }
-        ensures refused { IfErr result (λ e. e ≡ refusals.OutOfMemory) }
-    {
-        let machine = self.machine_at(rt, here.rounds, workers)?;
-        let rounds = self.rounds - here.rounds;
-        next_told(rt, machine, &self.code, rounds, asked, too, here, workers)
-    }
-
-    /// The last moment before another one at which something is told. It may wait.
-    ///
-    /// # Errors
-    ///
-    /// `OutOfMemory` alone.
-    pub fn previous<R: Threads + Wait + Sync>(
-        &mut self,
-        rt: &R,
-        asked: &Asked,
-        here: &Moment,
-        workers: u32,
-    ) -> Result<Option<Moment>, RunError>
-        requires within { here.now.rounds ≤ self.old.rounds }
-        requires workers { (1 ≤ workers) × (workers ≤ 16) }
-        ensures stays { self.new ≡ self.old }
-        ensures previous { (m : Running) → IsUntraced m self.old.start → IfOk result (λ x. x ≡
-            previous_of asked.now m (min self.old.rounds (here.now.rounds + 1)) here.now) }
-        ensures refused { IfErr result (λ e. e ≡ refusals.OutOfMemory) }
-    {
-        let mut end = self.rounds.min(here.rounds.saturating_add(1));
-        let mut size: u32 = 1;
-        while end > 0 {
-            let begin = end - size.min(end);
-            if let Some(found) = self.last_between(rt, begin, end, asked, here, workers)? {
-                return Ok(Some(found));
-            }
-            end = begin;
-            size = size.saturating_mul(LONGER);
-        }
-        Ok(None)
-    }
-
-    /// The same in the rounds after `begin` others up to `end`.
-    fn last_between<R: Threads + Wait + Sync>(
-        &mut self,
-        rt: &R,
-        begin: u32,
-        end: u32,
-        asked: &Asked,
-        here: &Moment,
-        workers: u32,
-    ) -> Result<Option<Moment>, RunError>
-        requires order { begin ≤ end }
-        requires within { end ≤ self.old.rounds }
-        requires workers { (1 ≤ workers) × (workers ≤ 16) }
-        ensures stays { self.new ≡ self.old }
-        ensures previous { (m : Running) → IsUntraced m self.old.start → IfOk result (λ x. x ≡
-            previous_of asked.now (after_rounds begin m) (end - begin) here.now) }
-        ensures refused { IfErr result (λ e. e ≡ refusals.OutOfMemory) }
-    {
-        let machine = self.machine_at(rt, begin, workers)?;
-        previous_told(rt, machine, &self.code, end - begin, asked, here, workers)
     }
 
     /// The earliest point behind another one at which something is told. Rounds are run on 1 to 16 workers. It may wait.
@@ -240,29 +156,6 @@ impl Timeline {
     {
         let machine = self.machine_at(rt, begin, workers)?;
         previous_point(rt, machine, &self.code, end - begin, telling, here, workers)
-    }
-
-    /// What hart `number` is and sees at a moment; none where there is no such hart or moment. It may wait.
-    ///
-    /// # Errors
-    ///
-    /// `OutOfMemory` alone.
-    pub fn shown<R: Threads + Wait + Sync>(
-        &mut self,
-        rt: &R,
-        moment: &Moment,
-        number: u32,
-        workers: u32,
-    ) -> Result<Option<Sight>, RunError>
-        requires within { moment.now.rounds ≤ self.old.rounds }
-        requires workers { (1 ≤ workers) × (workers ≤ 16) }
-        ensures stays { self.new ≡ self.old }
-        ensures sight { (m : Running) → IsUntraced m self.old.start → IfOk result (λ s. s ≡
-            shown_at (after_rounds moment.now.rounds m) moment.now.place number) }
-        ensures refused { IfErr result (λ e. e ≡ refusals.OutOfMemory) }
-    {
-        let mut machine = self.machine_at(rt, moment.rounds, workers)?;
-        shown(rt, &mut machine, &self.code, &moment.place, number)
     }
 
     /// What hart `number` is and sees at a point; none where there is no such hart or moment. It may wait.

@@ -1,104 +1,106 @@
-ghost use Rattle.std.specs.Prelude.{◌≡◌, ◌++◌, ◌+◌, ◌<◌, ◌^◌, drop, IfOk, IfErr, OnOk};
+ghost use Rattle.std.specs.Prelude.{◌≡◌, ◌++◌, ◌+◌, ◌<◌, ◌^◌, ◌||◌, ◌&&◌, [], length, is_some, IfErr, OnOk};
+ghost use Rattle.std.specs.List.{list_any};
+ghost use Rattle.std.specs.Option.{option_map_or};
 ghost use Rattle.host_io.specs.declared.error.RunError.TheVariants as refusals;
 ghost use Rattle.round_schedule.specs.declared.event.Phase.TheVariants.{Serial};
-ghost use Rattle.round_schedule.specs.Past.{hart_after};
-ghost use Rattle.round_planner.specs.Quotas.{quotas_of};
-ghost use Rattle.hart_step.specs.Words.{words_of};
 ghost use Rattle.machine.specs.Machine.{Running};
 ghost use Rattle.machine.specs.Untraced.{IsUntraced};
 ghost use Rattle.walking.specs.Hits.{hits_from, tells};
-ghost use Rattle.round_steps.specs.Places.{past_at, places, turn_places};
+ghost use Rattle.round_steps.specs.Places.{begun_of, places, serial_places, turns_of};
 
 use crate::place::{Place, note};
 use hart_step::Hart;
 use host_io::RunError;
 use machine::UntracedMachine;
+use pages::OutOfMemory;
 use round_schedule::Phase;
 use std::sync::Wait;
 use std::thread::Threads;
 use walking::Asked;
 
-/// The most instructions of a turn.
-const MOST_OF_TURN: u64 = 1_000;
-
-/// Adds the places of a hart's serial turn in the next round, where it comes, after so many instructions of the hart. It may wait.
-pub(crate) fn add_turn<R: Threads + Wait + Sync>(
+/// Adds the places of the serial turns of the next round of a run, of which each comes after so many instructions of its hart, where it
+/// does. The turns are done once, all together, and not at all where none comes. It may wait.
+pub(crate) fn add_turns<R: Threads + Wait + Sync>(
     rt: &R,
     machine: &mut UntracedMachine,
-    number: u32,
-    turn: Option<u32>,
+    turns: &[Option<u32>],
     asked: &Asked,
     found: &mut Vec<Place>,
 ) -> Result<(), RunError>
     requires run { (m : Running) × IsUntraced m machine.old }
     requires rounds { machine.old.rounds + 1 < 2 ^ 32 }
+    requires turns { length turns.now ≡ length machine.old.harts }
     ensures stays { machine.new ≡ machine.old }
-    ensures places { (m : Running) → IsUntraced m machine.old → OnOk result (found.new.items ≡
-        found.old.items ++ turn_places asked.now number (past_at m number) turn) }
+    ensures places { (m : Running) → IsUntraced m machine.old →
+        turns.now ≡ turns_of (begun_of m) (length m.state.harts) → OnOk result (found.new.items ≡
+        found.old.items ++ serial_places asked.now m (length m.state.harts)) }
     ensures refused { IfErr result (λ e. e ≡ refusals.OutOfMemory) }
 {
+    if !some_comes(turns) {
+        return Ok(());
+    }
+    // At most 64, as many as the plan says.
+    let _harts = machine.plan().harts();
+    let _count = machine.harts();
+    let copy = machine.share()?;
+    let along = copy.harts_in_turns(rt, 1)?;
+    for number in 0..turns.len() {
+        add_turn(number as u32, turns[number], &along[number], asked, found)?;
+    }
+    Ok(())
+}
+
+/// Whether one of the turns comes.
+fn some_comes(turns: &[Option<u32>]) -> bool
+    ensures { result ≡ list_any is_some turns.now }
+{
+    turns.iter().any(|turn| turn.is_some())
+}
+
+/// Adds the places of one hart's turn, where it comes, along which the hart is these.
+fn add_turn(
+    number: u32,
+    turn: Option<u32>,
+    along: &[Hart],
+    asked: &Asked,
+    found: &mut Vec<Place>,
+) -> Result<(), OutOfMemory>
+    ensures { OnOk result (found.new.items ≡ found.old.items ++ option_map_or (λ n. places Serial number
+        (hits_from (tells asked.now number) n along.now)) turn []) }
+{
     match turn {
-        Some(begun) => walk_turn(rt, machine, number, begun, asked, found),
+        Some(begun) => walk_turn(number, begun, along, asked, found),
         None => Ok(()),
     }
 }
 
 /// The same of a turn that comes.
-fn walk_turn<R: Threads + Wait + Sync>(
-    rt: &R,
-    machine: &mut UntracedMachine,
+fn walk_turn(
     number: u32,
     begun: u32,
+    along: &[Hart],
     asked: &Asked,
     found: &mut Vec<Place>,
-) -> Result<(), RunError>
-    requires run { (m : Running) × IsUntraced m machine.old }
-    requires rounds { machine.old.rounds + 1 < 2 ^ 32 }
-    ensures stays { machine.new ≡ machine.old }
-    ensures places { (m : Running) → IsUntraced m machine.old → OnOk result (found.new.items ≡
-        found.old.items ++ places Serial number
-        (hits_from (tells asked.now number) begun (drop begun (past_at m number)))) }
-    ensures refused { IfErr result (λ e. e ≡ refusals.OutOfMemory) }
+) -> Result<(), OutOfMemory>
+    ensures { OnOk result (found.new.items ≡ found.old.items ++
+        places Serial number (hits_from (tells asked.now number) begun along.now)) }
 {
-    let mut count = u64::from(begun);
-    let end = count + MOST_OF_TURN + 1;
-    let Some(first) = hart_there(rt, machine, number, count)? else {
-        return Ok(());
-    };
-    let mut here = first;
-    while count < end {
+    for passed in 0..along.len() {
+        let goes_on = passed + 1 < along.len();
+        let told = is_told(number, &along[passed], goes_on, asked);
         let place = Place {
             phase: Phase::Serial,
             hart: number,
-            count,
+            count: u64::from(begun) + passed as u64,
         };
-        let Some(next) = hart_there(rt, machine, number, count + 1)? else {
-            let told = here.stop.is_some() && asked.tells(number, &here);
-            note(found, told, place)?;
-            return Ok(());
-        };
-        note(found, asked.tells(number, &here), place)?;
-        here = next;
-        count += 1;
+        note(found, told, place)?;
     }
-    // No turn is as long.
-    Err(RunError::OutOfMemory)
+    Ok(())
 }
 
-/// The hart after so many of the instructions that it does in the next round.
-fn hart_there<R: Threads + Wait + Sync>(
-    rt: &R,
-    machine: &mut UntracedMachine,
-    number: u32,
-    count: u64,
-) -> Result<Option<Hart>, RunError>
-    requires run { (m : Running) × IsUntraced m machine.old }
-    requires rounds { machine.old.rounds + 1 < 2 ^ 32 }
-    ensures stays { machine.new ≡ machine.old }
-    ensures hart { (m : Running) → IsUntraced m machine.old → IfOk result (λ h. h ≡ hart_after
-        (words_of m.code) m.plan.budget (quotas_of m.plan) m.state number count) }
-    ensures refused { IfErr result (λ e. e ≡ refusals.OutOfMemory) }
+/// Whether something is told of a hart, where it goes on or has stopped.
+fn is_told(number: u32, hart: &Hart, goes_on: bool, asked: &Asked) -> bool
+    ensures { result ≡ ((goes_on || is_some hart.now.stop) && tells asked.now number hart.now) }
 {
-    let copy = machine.share()?;
-    copy.hart_after(rt, number, count, 1)
+    (goes_on || hart.stop.is_some()) && asked.tells(number, hart)
 }

@@ -73,7 +73,7 @@ impl TimedMachine {
                 draws,
                 listed: Listed::new(Vec::new(alloc)),
                 promise: None,
-                fence_at: None,
+                fences: Vec::new(alloc),
                 operations: 0,
                 steps: 0,
                 held: 0,
@@ -105,9 +105,9 @@ impl TimedMachine {
         self.common.promise.is_some_and(|promise| promise.is_kept())
     }
 
-    /// From now on a full fence is assumed before each instruction at an address.
-    pub fn assume_fence(&mut self, pc: u64) {
-        self.common.fence_at = Some(pc);
+    /// From now on a full fence is assumed before each instruction at one of these addresses, and nowhere else.
+    pub fn assume_fences(&mut self, pcs: Vec<u64>) {
+        self.common.fences = pcs;
     }
 
     /// A hart, by its number.

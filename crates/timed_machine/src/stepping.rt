@@ -41,7 +41,7 @@ pub(crate) fn step(
     round: u32,
     forced: bool,
 ) -> Result<Outcome, OutOfMemory> {
-    if common.fence_at == Some(hart.state.pc) {
+    if common.has_fence_before(hart.state.pc) {
         hart.timing.pass_fence(ALL, ALL, FenceMode::Normal);
     }
     if let Some(promise) = common.promise {

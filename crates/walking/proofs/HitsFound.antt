@@ -28,17 +28,17 @@ by_outcome : {H C : Type 0} (w : Words H C) (n : ℕ) (s : Sight H) (o : Outcome
 unfolding part_sights
 by_outcome w n s o e hs = rw (hs, e) refl
 
-rest_by : (code : List Range) (n : ℕ) (h : Hart) (m : Memory) (a : Stepped) → m.code ≡ code → h.stop ≡ None → (stepped h m).answer ≡ a →
+pub rest_by : (code : List Range) (n : ℕ) (h : Hart) (m : Memory) (a : Stepped) → m.code ≡ code → h.stop ≡ None → (stepped h m).answer ≡ a →
     rest code (suc n) h m ≡ harts_of (part_by a (sight_of h m) (stepped h m) (part_sights (words_of code) n))
 rest_by code n h m a e hs ha =
     ap harts_of (by_outcome (words_of code) n (sight_of h m) (stepped h m) (is_next code h m e) (ap is_some hs))
     ∙ ap (λ (x : Stepped). harts_of (part_by x (sight_of h m) (stepped h m) (part_sights (words_of code) n))) ha
 
-rest_none : (code : List Range) (h : Hart) (m : Memory) → rest code 0 h m ≡ h ∷ []
+pub rest_none : (code : List Range) (h : Hart) (m : Memory) → rest code 0 h m ≡ h ∷ []
 unfolding part_sights
 rest_none code h m = refl
 
-rest_stopped : (code : List Range) (n : ℕ) (h : Hart) (m : Memory) → is_some h.stop ≡ true → rest code n h m ≡ h ∷ []
+pub rest_stopped : (code : List Range) (n : ℕ) (h : Hart) (m : Memory) → is_some h.stop ≡ true → rest code n h m ≡ h ∷ []
 unfolding part_sights
 rest_stopped code zero h m hs = refl
 rest_stopped code (suc n) h m hs = rw hs refl
@@ -57,7 +57,7 @@ unfolding part_sights
 some_sight w zero s = omega arith
 some_sight w (suc n) s = one_more w n s (w.stopped s.hart) (next_seen w s).answer refl refl
 
-some_rest : (code : List Range) (n : ℕ) (h : Hart) (m : Memory) → 1 ≤ length (rest code n h m)
+pub some_rest : (code : List Range) (n : ℕ) (h : Hart) (m : Memory) → 1 ≤ length (rest code n h m)
 some_rest code n h m = omega (arith, some_sight (words_of code) n (sight_of h m), length-map (part_sights (words_of code) n (sight_of h m)) (λ (x : Sight Hart). x.hart))
 
 is_before : (h : Hart) (hs : List Hart) → 1 ≤ length hs → is_moment h hs ≡ true

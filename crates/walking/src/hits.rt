@@ -1,13 +1,12 @@
-ghost use Rattle.std.specs.Prelude.{◌≡◌, ◌++◌, ◌+◌, [], ◌∷◌, IfOk, OnOk, Some, None, length};
+ghost use Rattle.std.specs.Prelude.{◌≡◌, ◌++◌, ◌+◌, [], ◌∷◌, IfOk, OnOk, Some, length};
 ghost use Rattle.hart_step.specs.CodeTables.{Shows};
-ghost use Rattle.hart_step.specs.Step.{stepped};
-ghost use Rattle.hart_step.specs.Performs.{Performs};
 ghost use Rattle.round_schedule.specs.Past.{last_of};
 ghost use Rattle.walking.specs.Hits.{Walked, harts_in_part, hits_from, tells};
 ghost use Rattle.walking.specs.Stops.{sight_of};
 
 use crate::asked::Asked;
-use hart_step::{Bus, CodeTable, Hart, step, step_decoded};
+use crate::stepping::step_by;
+use hart_step::{Bus, CodeTable, Hart};
 use pages::OutOfMemory;
 use round_schedule::Stepped;
 use std::alloc::Global;
@@ -100,23 +99,4 @@ fn walk<B: Bus>(
         done += 1;
     }
     Ok(done)
-}
-
-/// Does the hart's next instruction, decoded by a table where it has it.
-#[inline(always)]
-fn step_by<B: Bus>(h: &mut Hart, b: &mut B, table: &CodeTable) -> Result<Stepped, OutOfMemory>
-    requires running { h.old.stop ≡ None }
-    requires shows { Shows (B.memory b.old) table.now.first table.now.instructions }
-    ensures { Performs (λ s. s) (B.has_room b.old) (B.takes b.old)
-        (record { hart = h.old; memory = B.memory b.old }) (stepped h.old (B.memory b.old)) (record {
-          result = result;
-          hart = h.new;
-          memory = B.memory b.new;
-          bus = b.new;
-        }) }
-{
-    match table.get(h.pc) {
-        Some(i) => step_decoded(h, b, i),
-        None => step(h, b),
-    }
 }

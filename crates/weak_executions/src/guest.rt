@@ -19,16 +19,17 @@ pub struct WeakGuest<'a> {
     alloc: Global,
     opening: Opening<'a>,
     seed: u64,
-    rounds: u32,
-    /// Before the instruction of which address a full fence is assumed.
-    fence: Option<u64>,
+    /// How far an execution goes.
+    bounds: Bounds,
+    /// Before the instructions of which addresses a full fence is assumed.
+    fences: &'a [u64],
     ghost some: { 1 ≤ length opening.harts.now },
     ghost few: { length opening.harts.now ≤ 64 },
 }
 
 impl<'a> WeakGuest<'a> {
-    /// A guest whose executions go through so many rounds at most, by the plans and the departures of a seed.
-    pub fn new(alloc: Global, opening: Opening<'a>, seed: u64, rounds: u32) -> WeakGuest<'a>
+    /// A guest whose executions go so far, by the plans and the departures of a seed.
+    pub fn new(alloc: Global, opening: Opening<'a>, seed: u64, bounds: Bounds) -> WeakGuest<'a>
         requires some { 1 ≤ length opening.harts.now }
         requires few { length opening.harts.now ≤ 64 }
     {
@@ -36,15 +37,15 @@ impl<'a> WeakGuest<'a> {
             alloc,
             opening,
             seed,
-            rounds,
-            fence: None,
+            bounds,
+            fences: &[],
         }
     }
 
-    /// The same guest, in which a full fence is assumed before the instruction at an address, if there is one.
-    pub fn with_fence(self, fence: Option<u64>) -> WeakGuest<'a> {
+    /// The same guest, in which a full fence is assumed before the instructions at some addresses.
+    pub fn with_fences(self, fences: &'a [u64]) -> WeakGuest<'a> {
         let mut guest = self;
-        guest.fence = fence;
+        guest.fences = fences;
         guest
     }
 
@@ -54,15 +55,10 @@ impl<'a> WeakGuest<'a> {
     ///
     /// `OutOfMemory` alone.
     pub fn execute(&self, number: u32, is_recorded: bool) -> Result<TimedMachine, OutOfMemory> {
-        let bounds = Bounds {
-            rounds: self.rounds,
-            steps: u64::MAX,
-            until_fault: false,
-        };
-        self.execute_within(number, is_recorded, bounds)
+        self.execute_within(number, is_recorded, self.bounds)
     }
 
-    /// The same within some bounds. In each fifth number a store comes early, where an execution without departures has one that
+    /// The same within other bounds. In each fifth number a store comes early, where an execution without departures has one that
     /// can; in the others loads read old and stores come late.
     ///
     /// # Errors
@@ -132,8 +128,8 @@ impl<'a> WeakGuest<'a> {
     /// What the plan of a number does without departures, from which it is drawn which store comes early.
     fn ordinary(&self, number: u32) -> Result<TimedMachine, OutOfMemory> {
         let bounds = Bounds {
-            rounds: self.rounds,
-            steps: MOST_STEPS,
+            rounds: self.bounds.rounds,
+            steps: self.bounds.steps.min(MOST_STEPS),
             until_fault: true,
         };
         self.execute_with(number, Vec::new(self.alloc), true, bounds)
@@ -172,8 +168,8 @@ impl<'a> WeakGuest<'a> {
             draws,
             is_recorded,
         )?;
-        if let Some(pc) = self.fence {
-            machine.assume_fence(pc);
+        if !self.fences.is_empty() {
+            machine.assume_fences(Vec::from_slice(self.alloc, self.fences)?);
         }
         Ok(machine)
     }

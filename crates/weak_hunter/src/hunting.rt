@@ -12,6 +12,7 @@ ghost use Rattle.plan_hunt.specs.declared.row.Row.{Row as TableRow};
 ghost use Rattle.weak_hunter.specs.WeakHunts.{IsTabled, IsWeakReason, IsWeaklyHunted};
 ghost use Rattle.weak_hunter.specs.declared.error.WeakHuntError.TheVariants.{Hunt};
 
+use crate::bounds::bounds_of;
 use crate::confirming::confirm;
 use crate::error::WeakHuntError;
 use crate::guest::Guest;
@@ -27,7 +28,7 @@ use std::sync::Wait;
 use std::thread::Threads;
 use weak_executions::{Opening, WeakGuest};
 
-/// Makes a guest's executions of the numbers that a hunt names, writes the table of the endings that they lead to, and answers its
+/// Makes a guest's executions of the numbers that a hunt names, of so many steps each, writes the table of the endings that they lead to, and answers its
 /// rows. The first execution of each ending was put to the checker of executions. The observer looks on between two blocks of
 /// executions.
 ///
@@ -42,6 +43,7 @@ pub fn hunt_weakly<S: Sink, O: HuntObserver, R: Threads + Wait + Sync>(
     image: &[u8],
     input: &[u8],
     settings: &HuntSettings,
+    steps: u32,
     observer: &mut O,
     out: &mut S,
 ) -> Result<Vec<Row>, WeakHuntError>
@@ -69,7 +71,7 @@ pub fn hunt_weakly<S: Sink, O: HuntObserver, R: Threads + Wait + Sync>(
     // No hunt looks at a range that is empty, or not all in memory.
     ensures ranges { IfOk result (λ _. has_bad_range settings.now ≡ false) }
 {
-    let rows = tabulate_weakly(rt, alloc, image, input, settings, observer)?;
+    let rows = tabulate_weakly(rt, alloc, image, input, settings, steps, observer)?;
     write_table(alloc, &settings.header, &rows, out)?;
     Ok(rows)
 }
@@ -81,6 +83,7 @@ fn tabulate_weakly<O: HuntObserver, R: Threads + Wait + Sync>(
     image: &[u8],
     input: &[u8],
     settings: &HuntSettings,
+    steps: u32,
     observer: &mut O,
 ) -> Result<Vec<Row>, WeakHuntError>
     ensures table { IfOk result (λ rows. IsWeaklyHunted settings.now image.now input.now rows.items) }
@@ -102,7 +105,7 @@ fn tabulate_weakly<O: HuntObserver, R: Threads + Wait + Sync>(
         input,
         harts: &harts,
     };
-    let rows = table_of(rt, alloc, opening, settings, observer)?;
+    let rows = table_of(rt, alloc, opening, settings, steps, observer)?;
     Ok(rows)
 }
 
@@ -112,6 +115,7 @@ fn table_of<O: HuntObserver, R: Threads + Wait + Sync>(
     alloc: Global,
     opening: Opening<'_>,
     settings: &HuntSettings,
+    steps: u32,
     observer: &mut O,
 ) -> Result<Vec<Row>, WeakHuntError>
     requires hunt { IsHunt settings.now }
@@ -124,7 +128,7 @@ fn table_of<O: HuntObserver, R: Threads + Wait + Sync>(
     let guest = Guest {
         alloc,
         opening,
-        maker: WeakGuest::new(alloc, opening, header.seed, settings.rounds),
+        maker: WeakGuest::new(alloc, opening, header.seed, bounds_of(settings, steps)),
         ranges: &header.ranges,
     };
     let rows = tabulate(

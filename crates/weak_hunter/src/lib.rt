@@ -2,6 +2,7 @@
 //! executions says that RVWMO allows each of these endings.
 #![tactic(auto)]
 
+mod bounds;
 mod confirming;
 mod error;
 mod executing;

@@ -1,5 +1,6 @@
 ghost use Rattle.std.specs.Prelude.{◌≤◌};
 
+use crate::bounds::bounds_of;
 use crate::error::WeakHuntError;
 use crate::opening::opening_harts;
 use execution_scripts::{ExecutionFile, ScriptedGuest, execution_of_script};
@@ -8,7 +9,7 @@ use machine::load;
 use std::alloc::Global;
 use weak_executions::{Opening, Verdict, WeakGuest, check};
 
-/// The execution of a number, as a file, which the checker of executions allows. Of the settings, the header's `first`, `count` and
+/// The execution of a number, of so many steps at most, as a file, which the checker of executions allows. Of the settings, the header's `first`, `count` and
 /// `ranges` are not looked at.
 ///
 /// # Errors
@@ -19,6 +20,7 @@ pub fn weak_execution(
     image: &[u8],
     input: &[u8],
     settings: &HuntSettings,
+    steps: u32,
     number: u32,
 ) -> Result<ExecutionFile, WeakHuntError> {
     check_guest(settings)?;
@@ -29,7 +31,12 @@ pub fn weak_execution(
         input,
         harts: &harts,
     };
-    let maker = WeakGuest::new(alloc, opening, settings.header.seed, settings.rounds);
+    let maker = WeakGuest::new(
+        alloc,
+        opening,
+        settings.header.seed,
+        bounds_of(settings, steps),
+    );
     let machine = maker.execute(number, true)?;
     let Some(record) = machine.record() else {
         return Err(WeakHuntError::Unconfirmed(number));

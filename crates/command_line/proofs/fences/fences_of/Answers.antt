@@ -12,8 +12,9 @@ returns c =
       search = c.in_ok-search.ensures;
       plans = c.number_of.ensures ∙ ap (number_or 1000) (one_text-rows f (codes "plans"));
       first = c.number_of-2.ensures ∙ ap (number_or 0) (one_text-rows f (codes "first"));
+      steps = c.number_of-3.ensures ∙ ap (number_or 1000000) (one_text-rows f (codes "steps"));
       fail_on = c.unwrap_or.ensures ∙ ap (λ o. unwrap_or o fences_fail_on.Missing) c.fences_fail_on_given.ensures;
       keep = c.get_str.ensures ∙ first_value-rows f (codes "keep");
       accept = c.get_str-2.ensures ∙ first_value-rows f (codes "accept");
-      as_if_fence = c.pc_given.ensures;
+      as_if_fence = c.in_ok-as_if_fence.ensures;
     }

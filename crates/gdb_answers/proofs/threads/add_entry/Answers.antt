@@ -10,7 +10,7 @@ use Rattle.gdb_answers.proofs.threads.add_entry.Goals as goal
 pub returns-in_ok-add_thread-clause-entry : goal.returns-in_ok-add_thread-clause-entry
 returns-in_ok-add_thread-clause-entry g c = λ m is.
     let i = c.args.look.hart in
-    let at = c.args.look.moment in
+    let at = c.args.look.point.moment in
     let before = c.args.text.now.items in
     let P : Option (Sight Hart) → Type 0 = λ o. c.add_thread.new.text.items ≡ before ++ thread_entry i at o in
     let note = c.note_of-note.ensures ∙ ap (λ (h : Hart). note_of i h at) c.hart.ensures in

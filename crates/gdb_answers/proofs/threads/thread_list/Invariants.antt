@@ -8,4 +8,4 @@ use Rattle.gdb_answers.proofs.threads.thread_list.Given as goal
 abbrev pub invariant-loop-hart : goal.invariant-loop-hart
 invariant-loop-hart g l =
     (l.timeline ≡ l.fn.timeline)
-    × ((m : Running) → IsUntraced m l.fn.timeline.start → l.text.items ≡ thread_list_begin ++ thread_entries m l.fn.look.moment l.hart)
+    × ((m : Running) → IsUntraced m l.fn.timeline.start → l.text.items ≡ thread_list_begin ++ thread_entries m l.fn.look.point l.hart)

@@ -4,7 +4,7 @@ use Rattle.gdb_packets.specs.Stream.{next_of}
 use Rattle.gdb_packets.specs.Views.{told_in}
 use Rattle.gdb_packets.specs.declared.item.Item.{Item}
 use Rattle.gdb_session.specs.Serving.{talking}
-use Rattle.gdb_session.specs.Sessions.{recorded_of}
+use Rattle.gdb_resumes.specs.Sessions.{recorded_of}
 use Rattle.gdb_session.proofs.Going.{serves_lost, serves_more}
 use Rattle.gdb_session.proofs.serving.hear_next.Goals as goal
 

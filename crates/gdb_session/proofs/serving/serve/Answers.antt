@@ -1,6 +1,6 @@
 use Rattle.std.proofs.Common.{ℕ, List, [], refl, sym, subst}
 use Rattle.gdb_session.specs.Serving.{Served, Talking, talking}
-use Rattle.gdb_session.specs.Sessions.{IsReady, recorded_of}
+use Rattle.gdb_resumes.specs.Sessions.{IsReady, recorded_of}
 use Rattle.gdb_session.proofs.Going.{serves_none}
 use Rattle.gdb_session.proofs.serving.serve.Goals as goal
 

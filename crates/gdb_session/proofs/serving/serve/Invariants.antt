@@ -1,7 +1,7 @@
 use Rattle.std.proofs.Common.{◌≡◌}
 use Rattle.machine.specs.Machine.{Running}
 use Rattle.machine.specs.Untraced.{IsUntraced}
-use Rattle.gdb_session.specs.Sessions.{IsReady, recorded_of}
+use Rattle.gdb_resumes.specs.Sessions.{IsReady, recorded_of}
 use Rattle.gdb_session.specs.Serving.{Served, talking}
 use Rattle.gdb_session.proofs.serving.serve.Given as goal
 

@@ -5,7 +5,7 @@ use Rattle.machine.proofs.Repeated.{more_rounds}
 use Rattle.replayer.specs.Replayed.{start_of}
 use Rattle.replayer.proofs.Begun.{begins, harts_of}
 use Rattle.replayer.proofs.Refused.{out_of_memory}
-use Rattle.replayer.proofs.PastAt.{after_last, first_is_1}
+use Rattle.event_pcs.proofs.RoundsAt.{after_last, first_is_1}
 use Rattle.replayer.proofs.RoundCount.{count_is, never_less, no_hart, one_round, reads_after, reads_before}
 use Rattle.replayer.proofs.counting.count_at.Goals as goal
 use Rattle.replayer.proofs.counting.count_at.Goals.{then-round-eq0-via-then-round-eq0, then-round-eq0-via-else-round-eq0+then-round-rounds, then-round-eq0-via-else-round-eq0+else-round-rounds+then-hart-harts}

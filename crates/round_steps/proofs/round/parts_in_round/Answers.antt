@@ -16,7 +16,7 @@ loop-number-preserved c =
     let code : c.pages-pages.result.now.memory.code ≡ c.args.code.now = sym c.code.ensures ∙ c.are_same.ensures c.if-not-are_same.false in
     let quota = same_quota c.args.machine.now.plan c.args.machine.now.rounds c.loop-number.number c.quota.result (c.quota.ensures.quota ∙ grind arith) in
     let q2 : ℕ = slice_index (quotas_of c.args.machine.now.plan c.args.machine.now.rounds) c.loop-number.number in
-    let part = λ (h : Hart). same_part c.pages-pages.result.now.memory.code c.args.code.now c.quota.result q2 h c.pages-pages.result.now.memory.bytes c.args.machine.now.bytes code quota c.pages-pages.ensures in
+    let part = λ (h : Hart). same_part c.pages-pages.result.now.memory.code c.args.code.now c.quota.result q2 h c.pages-pages.result.now.memory.bytes c.args.machine.now.bytes code quota c.pages-pages.ensures.bytes in
     let within : c.loop-number.number < length c.args.machine.now.harts = omega (arith, ap length c.harts-harts-2.ensures.harts) in
     let d : Hart = record { x = []; pc = 0; stop = None; done = 0 } in
     let h : Hart = get_or c.harts-harts-2.result.now c.loop-number.number d in

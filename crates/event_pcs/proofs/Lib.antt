@@ -1,0 +1,5 @@
+pub mod RoundsAt
+pub mod StretchByStretch
+pub mod InParts
+pub mod Located
+pub mod TurnPcs

@@ -1,0 +1,2 @@
+pub mod Pcs
+pub mod Parts

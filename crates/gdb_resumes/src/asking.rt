@@ -1,0 +1,121 @@
+//! What is told on the way.
+
+ghost use Rattle.std.specs.Prelude.{◌≡◌, ◌≤◌, IfOk, IfErr, IfSome};
+ghost use Rattle.host_io.specs.declared.error.RunError.TheVariants as refusals;
+ghost use Rattle.gdb_resumes.specs.Searches.{AsksFor, Finds, Wanted, all_told, nearest_of, only_of, watched_of};
+ghost use Rattle.gdb_resumes.specs.Sessions.{IsWithin, OfRun, state_of};
+
+use crate::debugged::Debugged;
+use crate::session::Session;
+use host_io::RunError;
+use pages::OutOfMemory;
+use round_steps::{Asked, Point, Telling, Told};
+use std::alloc::Global;
+use std::sync::Wait;
+use std::thread::Threads;
+use watching::Way;
+
+/// All that is told in a session, and each moment of a hart beside.
+pub(crate) fn all_told(
+    alloc: Global,
+    session: &Session,
+    each: Option<u32>,
+) -> Result<Telling, OutOfMemory>
+    ensures { IfOk result (λ t. AsksFor (all_told (state_of session.now) each) t) }
+{
+    let mut stops = Vec::from_slice(alloc, session.software.as_slice())?;
+    stops.extend_from_slice(session.hardware.as_slice())?;
+    let watches = Vec::from_slice(alloc, session.watches.as_slice())?;
+    Ok(Telling {
+        asked: Asked {
+            each,
+            faults: true,
+            stops,
+        },
+        watches,
+    })
+}
+
+/// The moments of a hart, and what watchpoints tell of.
+pub(crate) fn watched_of(
+    alloc: Global,
+    session: &Session,
+    hart: u32,
+) -> Result<Telling, OutOfMemory>
+    ensures { IfOk result (λ t. AsksFor (watched_of (state_of session.now) hart) t) }
+{
+    let mut telling = only_of(alloc, hart);
+    telling.watches = Vec::from_slice(alloc, session.watches.as_slice())?;
+    Ok(telling)
+}
+
+/// The moments of a hart, and nothing else.
+pub(crate) fn only_of(alloc: Global, hart: u32) -> Telling
+    ensures { AsksFor (only_of hart) result }
+{
+    Telling {
+        asked: Asked {
+            each: Some(hart),
+            faults: false,
+            stops: Vec::new(alloc),
+        },
+        watches: Vec::new(alloc),
+    }
+}
+
+/// The nearest point at which this is told, one way. It may wait.
+pub(crate) fn find<R: Threads + Wait + Sync>(
+    rt: &R,
+    run: &mut Debugged,
+    way: Way,
+    telling: &Telling,
+    from: &Point,
+) -> Result<Option<Told>, RunError>
+    requires within { from.now.moment.rounds ≤ run.old.timeline.rounds }
+    requires workers { (1 ≤ run.old.workers) × (run.old.workers ≤ 16) }
+    ensures stays { run.new ≡ run.old }
+    ensures finds { OfRun run.old (λ r. (w : Wanted) → AsksFor w telling.now → IfOk result (λ x. Finds r way w from.now x)) }
+    ensures within { IfOk result (λ x. IfSome x (λ told. IsWithin run.old told.point)) }
+    ensures refused { IfErr result (λ e. e ≡ refusals.OutOfMemory) }
+{
+    let found = nearest(rt, run, way, telling, from)?;
+    within(run, found)
+}
+
+fn nearest<R: Threads + Wait + Sync>(
+    rt: &R,
+    run: &mut Debugged,
+    way: Way,
+    telling: &Telling,
+    from: &Point,
+) -> Result<Option<Told>, RunError>
+    requires within { from.now.moment.rounds ≤ run.old.timeline.rounds }
+    requires workers { (1 ≤ run.old.workers) × (run.old.workers ≤ 16) }
+    ensures stays { run.new ≡ run.old }
+    ensures nearest { OfRun run.old (λ r. IfOk result (λ x. x ≡ nearest_of r way telling.now from.now)) }
+    ensures refused { IfErr result (λ e. e ≡ refusals.OutOfMemory) }
+{
+    match way {
+        Way::On => run.timeline.next_point(rt, telling, from, run.workers),
+        Way::Back => run.timeline.previous_point(rt, telling, from, run.workers),
+    }
+}
+
+/// The point that was found, of a hart that there is.
+fn within(run: &Debugged, found: Option<Told>) -> Result<Option<Told>, RunError>
+    ensures found { IfOk result (λ x. x ≡ found) }
+    ensures within { IfOk result (λ x. IfSome x (λ told. IsWithin run.now told.point)) }
+    ensures refused { IfErr result (λ e. e ≡ refusals.OutOfMemory) }
+{
+    match found {
+        Some(told) => {
+            let moment = told.point.moment;
+            if moment.rounds > run.timeline.rounds() || moment.place.hart >= run.harts {
+                // What is found is in the run.
+                return Err(RunError::OutOfMemory);
+            }
+            Ok(Some(told))
+        }
+        None => Ok(None),
+    }
+}

@@ -1,0 +1,77 @@
+ghost use Rattle.std.specs.Prelude.{◌≡◌, ◌≤◌, ◌<◌, ◌+◌, ◌^◌, length, IfOk, IfErr};
+ghost use Rattle.host_io.specs.declared.error.RunError.TheVariants as refusals;
+ghost use Rattle.machine.specs.Machine.{Running};
+ghost use Rattle.machine.specs.Untraced.{IsUntraced};
+ghost use Rattle.gdb_resumes.specs.Sessions.{OfRun, hart_seen};
+
+use hart_step::Hart;
+use host_io::RunError;
+use machine::UntracedMachine;
+use pages::Range;
+use round_steps::{Point, Timeline};
+use std::sync::Wait;
+use std::thread::Threads;
+
+/// A recorded run that a debugger looks at.
+#[derive(Drop)]
+pub struct Debugged {
+    /// The run.
+    pub timeline: Timeline,
+    /// How many harts it has.
+    pub harts: u32,
+    /// On how many workers its rounds are run, 1 to 16.
+    pub workers: u32,
+}
+
+impl Debugged {
+    /// So many rounds of the run of a machine before its first one, which has this code.
+    ///
+    /// # Errors
+    ///
+    /// `OutOfMemory` alone.
+    pub fn new(
+        machine: UntracedMachine,
+        code: Vec<Range>,
+        rounds: u32,
+        workers: u32,
+    ) -> Result<Debugged, RunError>
+        requires run { (m : Running) × IsUntraced m machine }
+        requires fresh { machine.rounds ≡ 0 }
+        requires code { (m : Running) → IsUntraced m machine → m.code ≡ code.items }
+        requires rounds { rounds + 1 < 2 ^ 32 }
+        ensures start { IfOk result (λ d. d.timeline.start ≡ machine) }
+        ensures rounds { IfOk result (λ d. d.timeline.rounds ≡ rounds) }
+        ensures harts { IfOk result (λ d. d.harts ≡ length machine.harts) }
+        ensures workers { IfOk result (λ d. d.workers ≡ workers) }
+        ensures refused { IfErr result (λ e. e ≡ refusals.OutOfMemory) }
+    {
+        // At most 64, as many as the plan says.
+        let _harts = machine.plan().harts();
+        let harts = machine.harts().len() as u32;
+        let timeline = Timeline::new(machine, code, rounds)?;
+        Ok(Debugged {
+            timeline,
+            harts,
+            workers,
+        })
+    }
+
+    /// A hart at a point; none where there is no such hart or moment. It may wait.
+    pub(crate) fn hart_at<R: Threads + Wait + Sync>(
+        &mut self,
+        rt: &R,
+        point: &Point,
+        number: u32,
+    ) -> Result<Option<Hart>, RunError>
+        requires within { point.now.moment.rounds ≤ self.old.timeline.rounds }
+        requires workers { (1 ≤ self.old.workers) × (self.old.workers ≤ 16) }
+        ensures stays { self.new ≡ self.old }
+        ensures hart { OfRun self.old (λ r. IfOk result (λ h. h ≡ hart_seen r.run point.now number)) }
+        ensures refused { IfErr result (λ e. e ≡ refusals.OutOfMemory) }
+    {
+        match self.timeline.shown_at(rt, point, number, self.workers)? {
+            Some(sight) => Ok(Some(sight.hart())),
+            None => Ok(None),
+        }
+    }
+}

@@ -1,0 +1,160 @@
+//! On and back to what is told next.
+
+ghost use Rattle.std.specs.Prelude.{◌≡◌, ℕ, IfOk, IfErr, IfSome, slice_get};
+ghost use Rattle.host_io.specs.declared.error.RunError.TheVariants as refusals;
+ghost use Rattle.gdb_replies.specs.declared.stop_reply.Reason.TheVariants.{Step};
+ghost use Rattle.gdb_resumes.specs.Resumes.{Continues, end_of, told_at, told_or};
+ghost use Rattle.gdb_resumes.specs.Sessions.{IsReady, IsWithin, OfRun, named, or_hardware, state_of, watch_reason, why, why_told};
+
+use crate::asking::{all_told, find};
+use crate::debugged::Debugged;
+use crate::session::{Session, Standing, start_of};
+use gdb_replies::Reason;
+use gdb_sights::reason_of;
+use hart_step::Hart;
+use host_io::RunError;
+use round_steps::{Told, WatchKind, Watchpoint};
+use std::alloc::Global;
+use std::sync::Wait;
+use std::thread::Threads;
+use watching::Way;
+
+/// On or back to what is told next. It may wait.
+///
+/// # Errors
+///
+/// `OutOfMemory` alone.
+pub fn go<R: Threads + Wait + Sync>(
+    rt: &R,
+    alloc: Global,
+    run: &mut Debugged,
+    session: &Session,
+    way: Way,
+) -> Result<Standing, RunError>
+    requires ready { IsReady run.old session.now.standing }
+    ensures stays { run.new ≡ run.old }
+    ensures continues { OfRun run.old (λ r. IfOk result (λ t. Continues r (state_of session.now) way t)) }
+    ensures ready { IfOk result (λ t. IsReady run.old t) }
+    ensures refused { IfErr result (λ e. e ≡ refusals.OutOfMemory) }
+{
+    let telling = all_told(alloc, session, None)?;
+    let found = find(rt, run, way, &telling, &session.standing.point)?;
+    let end = end_of(run, session.standing, way);
+    tell_or(rt, run, session, found, end)
+}
+
+/// Where nothing is told any more.
+pub(crate) fn end_of(run: &Debugged, standing: Standing, way: Way) -> Standing
+    requires ready { IsReady run.now standing }
+    ensures end { result ≡ end_of run.now.timeline.rounds standing way }
+    ensures ready { IsReady run.now result }
+{
+    match way {
+        Way::On => standing.moved(start_of(run.timeline.rounds()), Reason::End, standing.told),
+        Way::Back => standing.moved(start_of(0), Reason::Begin, standing.told),
+    }
+}
+
+/// Where it stands at what was found; elsewhere where nothing was.
+pub(crate) fn tell_or<R: Threads + Wait + Sync>(
+    rt: &R,
+    run: &mut Debugged,
+    session: &Session,
+    found: Option<Told>,
+    otherwise: Standing,
+) -> Result<Standing, RunError>
+    requires ready { IsReady run.old session.now.standing }
+    requires otherwise { IsReady run.old otherwise }
+    requires within { IfSome found (λ x. IsWithin run.old x.point) }
+    ensures stays { run.new ≡ run.old }
+    ensures standing { OfRun run.old (λ r. IfOk result (λ t. t ≡ told_or r (state_of session.now) otherwise found)) }
+    ensures ready { IfOk result (λ t. IsReady run.old t) }
+    ensures refused { IfErr result (λ e. e ≡ refusals.OutOfMemory) }
+{
+    match found {
+        Some(told) => tell(rt, run, session, told),
+        None => Ok(otherwise),
+    }
+}
+
+/// Where it stands at what is told.
+pub(crate) fn tell<R: Threads + Wait + Sync>(
+    rt: &R,
+    run: &mut Debugged,
+    session: &Session,
+    told: Told,
+) -> Result<Standing, RunError>
+    requires ready { IsReady run.old session.now.standing }
+    requires within { IsWithin run.old told.point }
+    ensures stays { run.new ≡ run.old }
+    ensures standing { OfRun run.old (λ r. IfOk result (λ t. t ≡ told_at r (state_of session.now) told)) }
+    ensures ready { IfOk result (λ t. IsReady run.old t) }
+    ensures refused { IfErr result (λ e. e ≡ refusals.OutOfMemory) }
+{
+    let number = told.point.moment.place.hart;
+    let there = run.hart_at(rt, &told.point, number)?;
+    let reason = why_told(session, told.watch, there);
+    Ok(session.standing.moved(told.point, reason, number))
+}
+
+/// Why one stands where this is told, by a watchpoint or at a hart.
+pub(crate) fn why_told(session: &Session, watch: Option<usize>, hart: Option<Hart>) -> Reason
+    ensures { result ≡ why_told (state_of session.now) watch hart }
+{
+    match watch {
+        Some(place) => named(&session.watches, place),
+        None => why(&session.software, &session.hardware, hart),
+    }
+}
+
+/// The word for a watchpoint in a list.
+fn named(watches: &[Watchpoint], place: usize) -> Reason
+    ensures { result ≡ named (slice_get watches.now place) }
+{
+    match watches.get(place) {
+        Some(watch) => watch_reason(watch.kind, watch.range.start),
+        None => Reason::Step,
+    }
+}
+
+/// The word for a watchpoint at an address.
+fn watch_reason(kind: WatchKind, address: u64) -> Reason
+    ensures { result ≡ watch_reason kind address }
+{
+    match kind {
+        WatchKind::Changes => Reason::Watch(address),
+        WatchKind::Reads => Reason::ReadWatch(address),
+        WatchKind::Accesses => Reason::AccessWatch(address),
+    }
+}
+
+/// Why one stands at a hart, with breakpoints at these addresses.
+pub(crate) fn why(software: &[u64], hardware: &[u64], hart: Option<Hart>) -> Reason
+    ensures { result ≡ why software.now hardware.now hart }
+{
+    match hart {
+        Some(hart) => or_hardware(reason_of(software, &hart), hardware.contains(&hart.pc)),
+        None => Reason::Step,
+    }
+}
+
+/// The same reason, or that of a hardware breakpoint in place of a step's end.
+fn or_hardware(reason: Reason, is_hardware: bool) -> Reason
+    ensures { result ≡ or_hardware reason is_hardware }
+{
+    match reason {
+        Reason::Step => hardware_or_step(is_hardware),
+        other => other,
+    }
+}
+
+/// Why one stands where no fault and no software breakpoint is.
+fn hardware_or_step(is_hardware: bool) -> Reason
+    ensures { result ≡ or_hardware Step is_hardware }
+{
+    if is_hardware {
+        Reason::HardwareBreakpoint
+    } else {
+        Reason::Step
+    }
+}

@@ -1,0 +1,31 @@
+ghost use Rattle.std.specs.Prelude.{◌≡◌, None};
+ghost use Rattle.hart_step.specs.CodeTables.{Shows};
+ghost use Rattle.hart_step.specs.Step.{stepped};
+ghost use Rattle.hart_step.specs.Performs.{Performs};
+
+use hart_step::{Bus, CodeTable, Hart, step, step_decoded};
+use pages::OutOfMemory;
+use round_schedule::Stepped;
+
+/// Does the hart's next instruction, decoded by a table where it has it.
+#[inline(always)]
+pub(crate) fn step_by<B: Bus>(
+    h: &mut Hart,
+    b: &mut B,
+    table: &CodeTable,
+) -> Result<Stepped, OutOfMemory>
+    requires running { h.old.stop ≡ None }
+    requires shows { Shows (B.memory b.old) table.now.first table.now.instructions }
+    ensures { Performs (λ s. s) (B.has_room b.old) (B.takes b.old)
+        (record { hart = h.old; memory = B.memory b.old }) (stepped h.old (B.memory b.old)) (record {
+          result = result;
+          hart = h.new;
+          memory = B.memory b.new;
+          bus = b.new;
+        }) }
+{
+    match table.get(h.pc) {
+        Some(i) => step_decoded(h, b, i),
+        None => step(h, b),
+    }
+}
