@@ -234,13 +234,13 @@ pub record HoldsHunt (rows : List Row) (hunt : Hunt) : Type 0 where
   pub first : hunt.first ≡ number_or 0 (one_of (codes "first") rows)
   pub fail_on : hunt.fail_on ≡ unwrap_or (fail_on_given rows) fail_on.Differ
   pub weak : hunt.weak ≡ is_set (codes "weak") rows
-  pub steps : hunt.steps ≡ number_or 1000000 (one_of (codes "steps") rows)
+  pub steps : hunt.steps ≡ number_or 100000000 (one_of (codes "steps") rows)
 
 pub record HoldsFences (rows : List Row) (fences : Fences) : Type 0 where
   pub search : HoldsSearch rows fences.search
   pub plans : fences.plans ≡ number_or 1000 (one_of (codes "plans") rows)
   pub first : fences.first ≡ number_or 0 (one_of (codes "first") rows)
-  pub steps : fences.steps ≡ number_or 1000000 (one_of (codes "steps") rows)
+  pub steps : fences.steps ≡ number_or 100000000 (one_of (codes "steps") rows)
   pub fail_on : fences.fail_on ≡ unwrap_or (fences_fail_on_given rows) fences_fail_on.Missing
   pub keep : option_map (λ s. s.now) fences.keep ≡ first_of (codes "keep") rows
   pub accept : option_map (λ s. s.now) fences.accept ≡ first_of (codes "accept") rows
@@ -268,7 +268,7 @@ pub record HoldsDraw (rows : List Row) (draw : Draw) : Type 0 where
 pub record HoldsExecution (rows : List Row) (execution : Execution) : Type 0 where
   pub run : HoldsRun rows execution.run
   pub weak : execution.weak ≡ is_set (codes "weak") rows
-  pub steps : execution.steps ≡ number_or 1000000 (one_of (codes "steps") rows)
+  pub steps : execution.steps ≡ number_or 100000000 (one_of (codes "steps") rows)
 
 pub record HoldsCheck (rows : List Row) (check : Check) : Type 0 where
   pub file : check.file.now ≡ unwrap_or (first_of (codes "file") rows) []

@@ -39,7 +39,7 @@ pub(crate) fn hunt_of<'a>(alloc: Global, matches: &ArgMatches<'a>) -> Result<Hun
         first: number_of(matches, "first", 0),
         fail_on: fail_on_given(matches).unwrap_or(FailOn::Differ),
         weak: is_set(matches, "weak"),
-        steps: number_of(matches, "steps", 1000000),
+        steps: number_of(matches, "steps", 100000000),
     })
 }
 

@@ -24,7 +24,7 @@ pub(crate) fn fences_of<'a>(
         search,
         plans: number_of(matches, "plans", 1000),
         first: number_of(matches, "first", 0),
-        steps: number_of(matches, "steps", 1000000),
+        steps: number_of(matches, "steps", 100000000),
         fail_on: fences_fail_on_given(matches).unwrap_or(FencesFailOn::Missing),
         keep: matches.get_str("keep"),
         accept: matches.get_str("accept"),

@@ -133,7 +133,7 @@ pub(crate) fn execution_of<'a>(matches: &ArgMatches<'a>) -> Execution<'a>
     Execution {
         run: run_of(matches),
         weak: is_set(matches, "weak"),
-        steps: number_of(matches, "steps", 1000000),
+        steps: number_of(matches, "steps", 100000000),
     }
 }
 

@@ -157,7 +157,7 @@ abbrev pub fence_rules : List Rule
 fence_rules =
     number_rule (codes "plans") (codes "1000")
     ∷ number_rule (codes "first") (codes "0")
-    ∷ number_rule (codes "steps") (codes "1000000")
+    ∷ number_rule (codes "steps") (codes "100000000")
     ∷ defaulted_rule (codes "fail-on") (codes "missing")
     ∷ text_rule (codes "keep")
     ∷ text_rule (codes "accept")

@@ -104,7 +104,7 @@ pub(crate) const WEAK: Argument<'static> = Argument::Flag(
 pub(crate) const STEPS: Argument<'static> = Argument::NumberGiven(
     NARROW,
     "steps",
-    "With --weak: steps of each [default: 1000000]",
+    "With --weak: steps of each [default: 100000000]",
 );
 
 /// The option `--hart H` of a hart whose accesses alone are printed.

@@ -8,7 +8,7 @@ use Rattle.command_line.specs.declared.settings.FailOn.TheVariants.{Bad, Differ,
 use Rattle.hunter.specs.Hunts.{all_end_well, is_one_exit}
 use Rattle.plan_hunt.specs.declared.row.Row.{Row}
 use Rattle.dethart.specs.declared.failure.Failure.{Failure}
-use Rattle.dethart.specs.declared.failure.Failure.TheVariants.{Accept, Apart, Hunt, Line, Merge, NoExecution, NoObject, NoRounds, NoSymbols, NotATable, NotCode, NotText, ReaderGone, Refused, Run, Unread, Unwritten, WeakHunt}
+use Rattle.dethart.specs.declared.failure.Failure.TheVariants.{Accept, Apart, Hunt, Line, Merge, NoExecution, NoObject, NoRounds, NoSymbols, NotATable, NoPlace, NotText, ReaderGone, Refused, Run, Unread, Unwritten, WeakHunt}
 use Rattle.program_world.specs.declared.exit_status.ExitStatus.{ExitStatus}
 use Rattle.program_world.specs.declared.exit_status.ExitStatus.TheVariants.{BadLine, Done, Doubtful, Lacking, Refused as Refusal}
 
@@ -23,7 +23,7 @@ status_of NoRounds = Refusal
 status_of (Hunt error) = Refusal
 status_of (WeakHunt error) = Refusal
 status_of (Accept error) = Refusal
-status_of (NotCode pc) = Refusal
+status_of (NoPlace word why) = Refusal
 status_of (Merge error) = Refusal
 status_of (NotATable path) = Refusal
 status_of (Apart last path apart) = Refusal

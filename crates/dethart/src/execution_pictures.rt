@@ -1,6 +1,4 @@
 //! Pictures of executions that are in files.
-ghost use Rattle.std.specs.Prelude.{◌≤◌, length};
-
 use crate::executions::read_execution_of;
 use crate::failure::Failure;
 use crate::looking::{is_allowed, refuse_rounds, refuse_workers, write_verdict};
@@ -10,7 +8,6 @@ use command_line::{Bytes, Draw};
 use drawing::object_touched;
 use execution_picture::{ExecutionScene, write_execution_picture};
 use execution_scripts::{Checked, ExecutionFile, check_file, positions_sought};
-use hart_step::Hart;
 use host_io::WriteSink;
 use machine::Format;
 use pages::OutOfMemory;
@@ -61,20 +58,9 @@ fn draw_checked<W: Write>(
         order: &checked.order.0,
         positions: &positions,
         sites: &sites,
-        harts: drawn_harts(checked.execution.harts()),
+        harts: checked.execution.harts(),
     };
     Ok(write_execution_picture(alloc, &scene, &mut WriteSink::new(out))?)
-}
-
-/// The harts that have a column: all of them, since no execution has more than 64.
-fn drawn_harts(harts: &[Hart]) -> &[Hart]
-    ensures { length result.now ≤ 64 }
-{
-    if harts.len() <= 64 {
-        harts
-    } else {
-        &harts[..64]
-    }
 }
 
 /// The positions in the order of the operations that touch these bytes; of all of them where there are none.

@@ -77,9 +77,10 @@ impl Execution {
         take_step(&mut self.progress, step)
     }
 
-    /// The harts.
+    /// The harts, 64 at most.
     pub fn harts(&self) -> &[Hart]
         ensures { result.now ≡ self.now.standing.harts }
+        ensures few { length result.now ≤ 64 }
     {
         self.progress.harts.as_slice()
     }

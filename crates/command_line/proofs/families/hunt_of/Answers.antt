@@ -14,5 +14,5 @@ returns c =
       first = c.number_of-2.ensures ∙ ap (number_or 0) (one_text-rows f (codes "first"));
       fail_on = c.unwrap_or.ensures ∙ ap (λ o. unwrap_or o fail_on.Differ) c.fail_on_given.ensures;
       weak = c.is_set.ensures;
-      steps = c.number_of-3.ensures ∙ ap (number_or 1000000) (one_text-rows f (codes "steps"));
+      steps = c.number_of-3.ensures ∙ ap (number_or 100000000) (one_text-rows f (codes "steps"));
     }

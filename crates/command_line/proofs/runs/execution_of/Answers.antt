@@ -8,5 +8,5 @@ pub returns : goal.returns
 returns c = record {
   run = c.run_of.ensures;
   weak = c.is_set.ensures;
-  steps = c.number_of.ensures ∙ ap (number_or 1000000) (one_text-rows (found_of c.args.matches.now) (codes "steps"));
+  steps = c.number_of.ensures ∙ ap (number_or 100000000) (one_text-rows (found_of c.args.matches.now) (codes "steps"));
 }
