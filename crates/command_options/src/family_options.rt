@@ -47,7 +47,12 @@ static HUNT: [Argument<'static>; 5] = [
 static FENCES: [Argument<'static>; 7] = [
     Argument::Number(NARROW, "plans", "1000", "Executions: 1 to 4294967295"),
     Argument::Number(NARROW, "first", "0", "Number of the first execution"),
-    Argument::Number(NARROW, "steps", "100000000", "Steps of an execution, at most"),
+    Argument::Number(
+        NARROW,
+        "steps",
+        "100000000",
+        "Steps of an execution, at most",
+    ),
     Argument::Defaulted(
         "fail-on",
         "WHAT",
