@@ -170,6 +170,14 @@ impl Failure {
         }
     }
 
+    /// Whether standard output couldn't be written.
+    pub(crate) fn is_of_output(&self) -> bool {
+        match self {
+            Failure::Unwritten(_) => false,
+            failure => failure.number() == Some(RunError::SinkFailed.number()),
+        }
+    }
+
     /// Prints on standard error the line `error N` of a refusal and then a line of words, and what is wrong with a bad line.
     pub(crate) fn print(&self, rt: &HostRuntime) -> io::Result<()> {
         if let Some(number) = self.number() {

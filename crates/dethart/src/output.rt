@@ -51,10 +51,12 @@ pub(crate) fn finish<T: Drop>(
         },
         Err(failure) => Err(failure),
     };
-    match finished {
-        Err(Failure::Refused(RunError::SinkFailed)) if out.get_ref().reader_is_gone => {
-            Err(Failure::ReaderGone)
-        }
-        finished => finished,
+    let has_nobody = match &finished {
+        Ok(_) => false,
+        Err(failure) => out.get_ref().reader_is_gone && failure.is_of_output(),
+    };
+    if has_nobody {
+        return Err(Failure::ReaderGone);
     }
+    finished
 }
