@@ -51,14 +51,14 @@ of dethart check accepted it. Standard error has for each the line that prints
 all that its number does:
   missing K: dethart execution IMAGE .. --weak --plan-number NUMBER --seed S
 
---keep DIR writes execution K to DIR/K.execution, for dethart check. --accept
-FILE has two words a line, as hart_main+0x3c or as a PC: the instructions
-between which a fence is known to be missing. What fails there isn't told, but
-counted as 'accepted'. --as-if-fence PC asks whether a fence is enough: the
-program is run as if a fence rw,rw stood before the instruction at PC. Given
-several times, it asks whether fences at all of these places are. PC is 16
-digits or FUNCTION+0xOFFSET, as the table has it, or any address: hexadecimal
-after 0x, or decimal without leading zeros.
+--keep DIR writes execution K to DIR/K.execution, for dethart check, replay,
+watch and draw. --accept FILE has two words a line, as hart_main+0x3c or as a
+PC: the instructions between which a fence is known to be missing. What fails
+there isn't told, but counted as 'accepted'. --as-if-fence PC asks whether a
+fence is enough: the program is run as if a fence rw,rw stood before the
+instruction at PC. Given several times, it asks whether fences at all of these
+places are. PC is 16 digits or FUNCTION+0xOFFSET, as the table has it, or any
+address: hexadecimal after 0x, or decimal without leading zeros.
 
 A refusal is the line 'error N' on standard error, with the exit status 1;
 dethart run --help lists what each N means.
