@@ -79,7 +79,7 @@ impl Execution {
 
     /// The harts, 64 at most.
     pub fn harts(&self) -> &[Hart]
-        ensures { result.now ≡ self.now.standing.harts }
+        ensures harts { result.now ≡ self.now.standing.harts }
         ensures few { length result.now ≤ 64 }
     {
         self.progress.harts.as_slice()
