@@ -75,7 +75,7 @@ fn reads_hunt(rt: HostRuntime) -> Result<(), Fail> {
             first: 0,
             fail_on: *fail_on,
             weak: false,
-            steps: 1000000,
+            steps: 100000000,
         };
         assert!(rt; is_read(&rt, line, &Command::Hunt(defaults)));
     }
@@ -106,7 +106,7 @@ fn reads_fences(rt: HostRuntime) -> Result<(), Fail> {
             search: search(rt.alloc(), 1, &[], &[])?,
             plans: 1000,
             first: 0,
-            steps: 1000000,
+            steps: 100000000,
             fail_on: FencesFailOn::Missing,
             keep: None,
             accept: None,

@@ -111,7 +111,7 @@ static EXECUTIONS: [(&str, Execution<'static>); 2] = [
         Execution {
             run: DEFAULTS,
             weak: false,
-            steps: 1000000,
+            steps: 100000000,
         },
     ),
     (
