@@ -1,14 +1,10 @@
 -- The exit status.
-use Rattle.std.specs.Prelude.{◌==◌, ◌&&◌, Bool, false, if◌then◌else◌, length, not, List}
-use Rattle.command_line.specs.declared.settings.FailOn.{FailOn}
+use Rattle.std.specs.Prelude.{◌==◌, ◌&&◌, if◌then◌else◌, length}
 use Rattle.command_line.specs.declared.settings.FencesFailOn.{FencesFailOn}
 use Rattle.command_line.specs.declared.settings.FencesFailOn.TheVariants as fences
 use Rattle.fence_table.specs.declared.fence_table.FenceTable.{FenceTable}
-use Rattle.command_line.specs.declared.settings.FailOn.TheVariants.{Bad, Differ, Never}
-use Rattle.hunter.specs.Hunts.{all_end_well, is_one_exit}
-use Rattle.plan_hunt.specs.declared.row.Row.{Row}
 use Rattle.dethart.specs.declared.failure.Failure.{Failure}
-use Rattle.dethart.specs.declared.failure.Failure.TheVariants.{Accept, Apart, Hunt, Line, Merge, NoExecution, NoObject, NoRounds, NoSymbols, NotATable, NoPlace, NotText, ReaderGone, Refused, Run, Unread, Unwritten, WeakHunt}
+use Rattle.dethart.specs.declared.failure.Failure.TheVariants.{Accept, Apart, Hunt, Line, Merge, Naming, NoExecution, NoRounds, NotATable, NoPlace, NotText, ReaderGone, Refused, Run, Unread, Unwritten, WeakHunt}
 use Rattle.program_world.specs.declared.exit_status.ExitStatus.{ExitStatus}
 use Rattle.program_world.specs.declared.exit_status.ExitStatus.TheVariants.{BadLine, Done, Doubtful, Lacking, Refused as Refusal}
 
@@ -27,17 +23,10 @@ status_of (NoPlace word why) = Refusal
 status_of (Merge error) = Refusal
 status_of (NotATable path) = Refusal
 status_of (Apart last path apart) = Refusal
-status_of (NoObject name others) = Refusal
-status_of (NoSymbols name) = Refusal
+status_of (Naming fault) = Refusal
 status_of ReaderGone = Refusal
 status_of (Line error) = BadLine
 status_of NotText = BadLine
-
--- a hunt with this table is doubtful
-abbrev pub is_doubtful : FailOn → List Row → Bool
-is_doubtful Differ rows = not (is_one_exit rows)
-is_doubtful Bad rows = not (all_end_well rows)
-is_doubtful Never rows = false
 
 -- a table of missing fences is answered so: one is missing, or else some number fails as an ordinary run may, or of some nothing is known
 -- from where harts still ran

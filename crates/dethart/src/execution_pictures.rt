@@ -2,7 +2,7 @@
 use crate::executions::read_execution_of;
 use crate::failure::Failure;
 use crate::looking::{is_allowed, refuse_rounds, refuse_workers, write_verdict};
-use crate::ranges::{NamedBytes, access_ranges, named_bytes};
+use crate::ranges::access_ranges;
 use crate::recordings::Replayed;
 use command_line::{Bytes, Draw};
 use drawing::object_touched;
@@ -10,6 +10,7 @@ use execution_picture::{ExecutionScene, write_execution_picture};
 use execution_scripts::{Checked, ExecutionFile, check_file, positions_sought};
 use host_io::WriteSink;
 use machine::Format;
+use named_bytes::{NamedBytes, named_bytes};
 use pages::OutOfMemory;
 use picture::Site;
 use std::alloc::Global;
@@ -37,7 +38,7 @@ pub(crate) fn write_execution_drawing<W: Write>(
         &asked.objects,
     )?;
     if let Some(fault) = fault {
-        return Err(fault);
+        return Err(Failure::Naming(fault));
     }
     draw_checked(rt.alloc(), &file, &checked, &bytes, out)?;
     Ok(Replayed::Done)

@@ -1,7 +1,6 @@
 //! The commands of executions: a run as one, and whether RVWMO allows one.
 
 use crate::failure::Failure;
-use crate::hunting::program_settings;
 use crate::run::progress_of;
 use crate::world::HostFiles;
 use command_line::{Check, Execution, Run};
@@ -10,6 +9,7 @@ use execution_scripts::{
     read_execution, write_execution,
 };
 use host_io::{RunError, Sink, WriteSink, put_all};
+use hunt_commands::program_settings;
 use program_files::{read_file, read_program, read_run, settings_of};
 use program_world::ProgressLine;
 use report::write_hart;

@@ -8,8 +8,10 @@ use crate::places::Misplaced;
 use execution_scripts::Cause;
 use fence_table::AcceptError;
 use host_io::RunError;
+use hunt_commands::HuntFailure;
 use hunt_table::MergeError;
 use hunter::HuntError;
+use named_bytes::NamingFault;
 use program_files::RunFailure;
 use program_world::ExitStatus;
 use replayer::ReadError;
@@ -50,10 +52,8 @@ pub(crate) enum Failure {
     NotATable(String),
     /// The tables of these files aren't of two slices of a hunt that follow on one another.
     Apart(String, String, Apart),
-    /// The image's symbol table has no object of this name; the second text names those that it has of a like name.
-    NoObject(String, String),
-    /// The image has no symbol table, and so no object of this name.
-    NoSymbols(String),
+    /// The bytes that the line names can't be looked at.
+    Naming(NamingFault),
     /// What reads standard output has gone, as `head` does.
     ReaderGone,
 }
@@ -96,6 +96,24 @@ impl From<WeakHuntError> for Failure {
         match error {
             WeakHuntError::Hunt(error) => Failure::Hunt(error),
             error => Failure::WeakHunt(error),
+        }
+    }
+}
+
+impl From<NamingFault> for Failure {
+    ghost from_gives = { λ fault failure. failure ≡ failures.Naming fault };
+
+    fn from(fault: NamingFault) -> Failure {
+        Failure::Naming(fault)
+    }
+}
+
+impl From<HuntFailure> for Failure {
+    fn from(failure: HuntFailure) -> Failure {
+        match failure {
+            HuntFailure::Run(failure) => Failure::from(failure),
+            HuntFailure::Refused(error) => Failure::from(error),
+            HuntFailure::Naming(fault) => Failure::Naming(fault),
         }
     }
 }
@@ -166,7 +184,7 @@ impl Failure {
             Failure::Merge(error) => Some(error.number()),
             Failure::NotATable(_) => Some(MergeError::NotATable.number()),
             Failure::Apart(_, _, _) => Some(MergeError::Apart.number()),
-            Failure::NoObject(_, _) | Failure::NoSymbols(_) => Some(75),
+            Failure::Naming(fault) => Some(fault.number()),
         }
     }
 
@@ -211,15 +229,7 @@ impl Failure {
                 let why = apart.words();
                 eprintln!(rt; "the table {path} doesn't go on where {last} ends: {why}")
             }
-            Failure::NoObject(name, others) if others.is_empty() => {
-                eprintln!(rt; "the image's symbol table has no object {name}")
-            }
-            Failure::NoObject(name, others) => {
-                eprintln!(rt; "the image's symbol table has no object {name}, but {others}")
-            }
-            Failure::NoSymbols(name) => {
-                eprintln!(rt; "the image has no symbol table, which would say where {name} is")
-            }
+            Failure::Naming(fault) => eprintln!(rt; "{fault}"),
             Failure::ReaderGone => Ok(()),
         }
     }

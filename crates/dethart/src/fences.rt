@@ -1,7 +1,6 @@
 //! The command that looks for missing fences.
 
 use crate::failure::Failure;
-use crate::hunting::{named_in, settings_of};
 use crate::keeping::keep;
 use crate::places::instructions_of;
 use crate::progress::Progress;
@@ -10,6 +9,8 @@ use command_line::Fences;
 use fence_finder::{FenceSettings, FoundFences, find_fences};
 use fence_table::Accepted;
 use host_io::WriteSink;
+use hunt_commands::{named_in, refused_for, settings_of};
+use named_bytes::NamedBytes;
 use program_files::{ProgramFiles, read_file, read_program};
 use program_world::ProgressLine;
 use std::alloc::Global;
@@ -27,9 +28,13 @@ pub(crate) fn write_fences_of<R: Threads + Wait + Sync, W: Write>(
 ) -> Result<FoundFences, Failure> {
     let files = read_program(&HostFiles::new(rt), rt.alloc(), &asked.search.program)?;
     let accepted = accepted_in(rt, asked.accept)?;
-    let named = named_in(rt.alloc(), &asked.search, &files)?;
-    let hunt = settings_of(rt.alloc(), &asked.search, &named, asked.first, asked.plans)?;
+    let search = &asked.search;
+    let NamedBytes { bytes, fault } = named_in(rt.alloc(), search, &files)?;
+    let hunt = settings_of(rt.alloc(), search, &bytes, asked.first, asked.plans, false)?;
     let assumed = instructions_of(rt, &asked.as_if_fence, &hunt, &files)?;
+    if let Some(fault) = fault {
+        return Err(Failure::from(refused_for(rt.alloc(), &files.image, &hunt, fault)));
+    }
     let settings = FenceSettings {
         hunt,
         steps: asked.steps,
@@ -40,7 +45,7 @@ pub(crate) fn write_fences_of<R: Threads + Wait + Sync, W: Write>(
     let mut progress = Progress::new(rt, asked.search.program.progress, asked.plans);
     let answer = found_in(threads, rt.alloc(), &files, settings, &mut progress, out);
     progress.end();
-    let found = named.explain(answer)?;
+    let found = answer?;
     if let Some(folder) = asked.keep {
         keep(rt, folder, &found.executions)?;
     }

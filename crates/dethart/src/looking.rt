@@ -2,7 +2,7 @@
 
 use crate::executions::{read_execution_of, write_checked};
 use crate::failure::Failure;
-use crate::ranges::{NamedBytes, access_ranges, named_bytes, seen_ranges, watched_bytes};
+use crate::ranges::{access_ranges, watched_bytes};
 use crate::recordings::{Replayed, put_number, tell_of_bytes};
 use command_line::{Replay, Watch};
 use execution_scripts::{
@@ -11,6 +11,7 @@ use execution_scripts::{
 };
 use host_io::{RunError, Sink, WriteSink, put_all};
 use hunt_table::{SeenRange, write_seen};
+use named_bytes::{NamedBytes, named_bytes, seen_ranges};
 use report::{write_event, write_hart};
 use round_schedule::Event;
 use std::alloc::Global;
@@ -44,7 +45,7 @@ pub(crate) fn write_replay_of<W: Write>(
         &asked.objects,
     )?;
     if let Some(fault) = fault {
-        return Err(fault);
+        return Err(Failure::Naming(fault));
     }
     let seen = seen_ranges(rt.alloc(), &bytes, &asked.objects)?;
     put_before(

@@ -3,7 +3,7 @@
 use crate::execution_pictures::write_execution_drawing;
 use crate::failure::Failure;
 use crate::past::EXECUTION;
-use crate::ranges::{NamedBytes, access_ranges, named_bytes};
+use crate::ranges::access_ranges;
 use crate::recordings::Replayed;
 use crate::run::progress_of;
 use crate::world::HostFiles;
@@ -11,6 +11,7 @@ use command_line::{Bytes, Draw, Program, Run};
 use drawing::{View, draw_run, trace_run};
 use host_io::WriteSink;
 use machine::prepare;
+use named_bytes::{NamedBytes, named_bytes};
 use program_files::{RunFiles, guest_files, read_run, settings_of};
 use program_world::ProgressLine;
 use std::alloc::Global;
@@ -40,7 +41,7 @@ pub(crate) fn write_drawing<R: Threads + Wait + Sync, W: Write>(
     match fault {
         Some(fault) => {
             refuse_run(rt.alloc(), &asked.run.program, &files)?;
-            Err(fault)
+            Err(Failure::Naming(fault))
         }
         None => {
             draw_files(rt, threads, asked, &files, &bytes, out)?;

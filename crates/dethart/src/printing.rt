@@ -1,29 +1,25 @@
 //! What the commands print to standard output, and the exit status that goes with it.
 ghost use Rattle.std.specs.Prelude.{◌≡◌};
-ghost use Rattle.dethart.specs.Status.{fences_answer, is_doubtful};
+ghost use Rattle.dethart.specs.Status.{fences_answer};
 
 use crate::executions::{write_check, write_execution_of};
 use crate::failure::Failure;
 use crate::fences::write_fences_of;
-use crate::hunting::{write_hunt, write_plan, write_shrunk};
+use crate::hunting::write_shrunk;
 use crate::merging::write_merged;
 use crate::output::{finish, standard_output};
 use crate::pictures::{write_drawing, write_trace};
+use crate::progress::Progress;
 use crate::recordings::{Replayed, write_replay, write_watch};
-use crate::repeating::{
-    tell_endings, tell_missing, tell_plan, tell_running, tell_shrunk, tell_weak_running,
-};
+use crate::repeating::{tell_missing, tell_running, tell_shrunk};
 use crate::run::progress_of;
 use crate::world::{HostFiles, HostMessages, HostOutput};
 use command_line::{
-    Check, Draw, Execution, FailOn, Fences, FencesFailOn, Hunt, Merge, Plan, Print, Replay, Run,
-    Shrink, Watch,
+    Check, Draw, Execution, Fences, FencesFailOn, Hunt, Merge, Plan, Print, Replay, Run, Shrink,
+    Watch,
 };
 use fence_table::FenceTable;
-use host_io::RunError;
-use hunter::{all_end_well, is_one_exit};
-use plan_hunt::Row;
-use program_files::RunFailure;
+use hunt_commands::{WeakHunter, hunt_command, plan_command};
 use program_world::ExitStatus;
 use run_commands::{order_command, run_command};
 use std::sync::Wait;
@@ -69,15 +65,22 @@ pub(crate) fn print_order<R: Threads + Wait + Sync>(
 }
 
 /// What came of a command that printed to an output, of which the reader may have gone.
-fn told(
-    answer: Result<ExitStatus, RunFailure>,
-    out: &HostOutput<'_>,
-) -> Result<ExitStatus, Failure> {
+fn told<E: Drop>(answer: Result<ExitStatus, E>, out: &HostOutput<'_>) -> Result<ExitStatus, Failure>
+where
+    Failure: From<E>,
+{
     match answer {
-        Err(RunFailure::Refused(RunError::SinkFailed)) if out.reader_is_gone() => {
-            Err(Failure::ReaderGone)
-        }
-        answer => Ok(answer?),
+        Ok(status) => Ok(status),
+        Err(error) => Err(told_of(Failure::from(error), out)),
+    }
+}
+
+/// The failure of a command that printed to an output.
+fn told_of(failure: Failure, out: &HostOutput<'_>) -> Failure {
+    if out.reader_is_gone() && failure.is_of_output() {
+        Failure::ReaderGone
+    } else {
+        failure
     }
 }
 
@@ -111,33 +114,25 @@ pub(crate) fn print_watch<R: Threads + Wait + Sync>(
     Ok(answer_of(finish(out, written)?))
 }
 
-/// Whether a hunt with this table is doubtful.
-fn is_doubtful(fail_on: FailOn, rows: &[Row]) -> bool
-    ensures { result ≡ is_doubtful fail_on rows.now }
-{
-    match fail_on {
-        FailOn::Differ => !is_one_exit(rows),
-        FailOn::Bad => !all_end_well(rows),
-        FailOn::Never => false,
-    }
-}
-
 /// Runs the guest program by many plans, and prints the table of its endings.
 pub(crate) fn print_hunt<R: Threads + Wait + Sync>(
     rt: &HostRuntime,
     threads: &R,
     asked: &Hunt<'_>,
 ) -> Result<ExitStatus, Failure> {
-    let mut out = standard_output(rt)?;
-    let written = write_hunt(rt, threads, asked, &mut out);
-    let rows = finish(out, written)?;
-    let _untold = tell_endings(rt, asked, &rows);
-    tell_weak_running(rt, asked, &rows);
-    Ok(if is_doubtful(asked.fail_on, &rows) {
-        ExitStatus::Doubtful
-    } else {
-        ExitStatus::Done
-    })
+    let mut out = HostOutput::new(rt)?;
+    let mut progress = Progress::new(rt, asked.search.program.progress, asked.plans);
+    let answer = hunt_command(
+        threads,
+        rt.alloc(),
+        &HostFiles::new(rt),
+        &WeakHunter,
+        asked,
+        &mut progress,
+        &mut out,
+        &HostMessages::new(rt),
+    );
+    told(answer, &out)
 }
 
 /// What a table of missing fences is answered with.
@@ -198,11 +193,9 @@ pub(crate) fn print_merged(rt: &HostRuntime, asked: &Merge<'_>) -> Result<ExitSt
 
 /// Prints a plan of the family, and on standard error its budget, which a plan's text has no place for.
 pub(crate) fn print_plan(rt: &HostRuntime, asked: &Plan) -> Result<ExitStatus, Failure> {
-    let mut out = standard_output(rt)?;
-    let written = write_plan(rt.alloc(), asked, &mut out);
-    let budget = finish(out, written)?;
-    tell_plan(rt, asked, budget);
-    Ok(ExitStatus::Done)
+    let mut out = HostOutput::new(rt)?;
+    let answer = plan_command(rt.alloc(), asked, &mut out, &HostMessages::new(rt));
+    told(answer, &out)
 }
 
 /// Runs the guest program, and prints a picture of the run, or prints that of an execution.

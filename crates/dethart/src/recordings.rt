@@ -5,15 +5,14 @@ use crate::failure::Failure;
 use crate::looking::{write_replay_of, write_watch_of};
 use crate::past::{Past, read_past_of, read_recording_of};
 use crate::progress::Progress;
-use crate::ranges::{
-    NamedBytes, access_ranges, is_in_memory, named_bytes, seen_ranges, watched_bytes,
-};
+use crate::ranges::{access_ranges, watched_bytes};
 use crate::run::progress_of;
 use crate::world::HostFiles;
 use command_line::{Bytes, Migrate, Record, Replay, Watch};
 use host_io::{RunError, Sink, WriteSink, put_all};
 use hunt_table::{SeenRange, write_seen};
 use machine::Unobserved;
+use named_bytes::{NamedBytes, is_in_memory, named_bytes, seen_ranges};
 use program_files::{read_run, settings_of};
 use program_world::{FileText, Files, ProgressLine};
 use replayer::{
@@ -165,7 +164,7 @@ fn write_answer<R: Threads + Wait + Sync, W: Write>(
     )?;
     if let Some(fault) = fault {
         refuse_recording(alloc, threads, recording, asked.workers)?;
-        return Err(fault);
+        return Err(Failure::Naming(fault));
     }
     let seen = seen_ranges(alloc, &bytes, &asked.objects)?;
     let told = tell(alloc, threads, recording, asked)?;

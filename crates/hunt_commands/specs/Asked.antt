@@ -1,0 +1,112 @@
+-- What a hunt that a line asks for is given, the table that it makes, and why it is refused. `holds` and `begins` say what files hold, and
+-- `weakly` that rows are the table that a weak hunt makes in executions of so many steps.
+use Rattle.std.specs.Prelude.{◌≡◌, ◌⊎◌, ℕ, List, Bool, true, false, Option, Some, None}
+use Rattle.command_line.specs.declared.settings.Hunt.{Hunt}
+use Rattle.command_line.specs.declared.settings.Search.{Search}
+use Rattle.host_io.specs.declared.error.RunError.TheVariants as refusals
+use Rattle.host_io.specs.declared.load_error.LoadError.{LoadError as ImageCause}
+use Rattle.hunt_commands.specs.declared.failure.HuntFailure.{HuntFailure}
+use Rattle.hunt_commands.specs.declared.failure.HuntFailure.TheVariants.{Naming, Refused, Run}
+use Rattle.hunt_commands.specs.Settings.{HasNumbers, HasRanges, IsNamed}
+use Rattle.hunt_table.specs.Text.{table_text}
+use Rattle.hunter.specs.Hunts.{IsHuntReason, IsHunted, IsImageCause, hunt_fault}
+use Rattle.hunter.specs.declared.error.HuntError.{HuntError}
+use Rattle.hunter.specs.declared.error.HuntError.TheVariants as hunting
+use Rattle.hunter.specs.declared.settings.HuntSettings.{HuntSettings}
+use Rattle.named_bytes.specs.declared.fault.NamingFault.{NamingFault}
+use Rattle.plan_hunt.specs.declared.row.Row.{Row}
+use Rattle.program_files.specs.Asked.{IsProgramOf}
+use Rattle.program_files.specs.Failures.{IsFileFailure}
+use Rattle.program_files.specs.declared.failure.RunFailure.TheVariants as runs
+use Rattle.weak_hunter.specs.WeakHunts.{IsWeaklyHunted}
+use Rattle.weak_hunter.specs.declared.error.WeakHuntError.{WeakHuntError}
+use Rattle.weak_hunter.specs.declared.error.WeakHuntError.TheVariants as hunts
+
+-- ---- tables
+
+-- the rows are the table of the hunt: of its runs or, if it is weak, of executions of so many steps that RVWMO allows
+abbrev pub IsTableBy : (HuntSettings → List ℕ → List ℕ → ℕ → List Row → Type 0) → ℕ → Bool → HuntSettings → List ℕ → List ℕ → List Row → Type 0
+IsTableBy weakly steps false s image input rows = IsHunted s image input rows
+IsTableBy weakly steps true s image input rows = IsWeaklyHunted s image input rows × weakly s image input steps rows
+
+-- a hunt by what the line says: its settings, and its table
+pub record SetHunt (weakly : HuntSettings → List ℕ → List ℕ → ℕ → List Row → Type 0) (asked : Hunt) (image input : List ℕ) : Type 0 where
+  pub settings : HuntSettings
+  pub rows : List Row
+  pub numbers : HasNumbers asked.search asked.first asked.plans asked.weak settings
+  pub ranges : HasRanges asked.search image settings
+  pub table : IsTableBy weakly asked.steps asked.weak settings image input rows
+
+-- the text of its table
+abbrev pub hunt_text : {weakly : HuntSettings → List ℕ → List ℕ → ℕ → List Row → Type 0} {asked : Hunt} {image input : List ℕ} → SetHunt weakly asked image input → List ℕ
+hunt_text h = table_text h.settings.header h.rows
+
+-- the hunt that a line asks for
+pub record AskedHunt (holds : List ℕ → List ℕ → Type 0) (begins : List ℕ → ℕ → List ℕ → Type 0)
+    (weakly : HuntSettings → List ℕ → List ℕ → ℕ → List Row → Type 0) (asked : Hunt) : Type 0 where
+  pub image : List ℕ
+  pub input : List ℕ
+  pub given : IsProgramOf holds begins asked.search.program image input
+  pub made : SetHunt weakly asked image input
+
+-- ---- refusals
+
+-- memory is refused, the output can't be written, or the image is refused
+abbrev pub IsGuestReason : HuntSettings → List ℕ → HuntError → Type 0
+IsGuestReason s image e = (e ≡ hunting.Run refusals.OutOfMemory) ⊎ (e ≡ hunting.Run refusals.SinkFailed)
+    ⊎ ((cause : ImageCause) × IsImageCause s image cause × (e ≡ hunting.Run (refusals.Image cause)))
+
+-- why a hunt with settings in range is refused, but for the bytes that it looks at; a weak one also where an execution isn't confirmed
+abbrev pub IsReason : Bool → HuntSettings → List ℕ → WeakHuntError → Type 0
+IsReason weak s image (hunts.Hunt e) = IsGuestReason s image e
+IsReason weak s image (hunts.Unconfirmed number) = weak ≡ true
+
+-- why the hunt that a line asks for is refused where its settings are in range
+abbrev pub IsReasonOf : Search → Bool → HuntSettings → List ℕ → HuntFailure → Type 0
+IsReasonOf search weak s image (Run failure) = ⊥
+IsReasonOf search weak s image (Refused error) = IsReason weak s image error
+IsReasonOf search weak s image (Naming fault) = IsNamed search image (Some fault)
+
+-- a search with these settings is refused: for what is out of range, then for the image, then for the bytes that it looks at, or for
+-- want of memory
+pub record IsRefusedSo (search : Search) (weak : Bool) (fault : Option HuntError) (s : HuntSettings) (image : List ℕ) (f : HuntFailure) : Type 0 where
+  pub of_settings : (e : HuntError) → fault ≡ Some e → f ≡ Refused (hunts.Hunt e)
+  pub of_image : (cause : ImageCause) → fault ≡ None → IsImageCause s image cause →
+      (f ≡ Refused (hunts.Hunt (hunting.Run (refusals.Image cause)))) ⊎ (f ≡ Refused (hunts.Hunt (hunting.Run refusals.OutOfMemory)))
+  pub reason : fault ≡ None → IsReasonOf search weak s image f
+
+-- the search of a line is refused
+pub record RefusedSearch (search : Search) (first count : ℕ) (weak : Bool) (fault_of : HuntSettings → Option HuntError) (image : List ℕ) (f : HuntFailure) : Type 0 where
+  pub settings : HuntSettings
+  pub numbers : HasNumbers search first count weak settings
+  pub refused : IsRefusedSo search weak (fault_of settings) settings image f
+
+-- why a search is refused whose bytes can't be looked at: the image is refused before
+abbrev pub IsFaultReason : NamingFault → HuntSettings → List ℕ → HuntFailure → Type 0
+IsFaultReason fault s image f = (f ≡ Naming fault) ⊎ ((e : HuntError) × IsGuestReason s image e × (f ≡ Refused (hunts.Hunt e)))
+
+-- the same as the hunter tells it, which knows ranges alone
+abbrev pub IsHuntRefusal : Bool → HuntSettings → List ℕ → WeakHuntError → Type 0
+IsHuntRefusal weak s image (hunts.Hunt e) = IsHuntReason s image e ⊎ (e ≡ hunting.Run refusals.SinkFailed)
+IsHuntRefusal weak s image (hunts.Unconfirmed number) = weak ≡ true
+
+-- a file can't be read, memory is refused, or the output can't be written
+abbrev pub IsFileEnd : HuntFailure → Type 0
+IsFileEnd (Run failure) = IsFileFailure failure ⊎ (failure ≡ runs.Refused refusals.SinkFailed)
+IsFileEnd (Refused error) = ⊥
+IsFileEnd (Naming fault) = ⊥
+
+-- why a hunt ends without its table, where its files were read
+abbrev pub IsHuntEnd : Hunt → List ℕ → HuntFailure → Type 0
+IsHuntEnd asked image f = IsFileEnd f ⊎ RefusedSearch asked.search asked.first asked.plans asked.weak hunt_fault image f
+
+-- the hunt that a line asks for is refused
+pub record RefusedHunt (holds : List ℕ → List ℕ → Type 0) (begins : List ℕ → ℕ → List ℕ → Type 0) (asked : Hunt) (f : HuntFailure) : Type 0 where
+  pub image : List ℕ
+  pub input : List ℕ
+  pub given : IsProgramOf holds begins asked.search.program image input
+  pub refused : RefusedSearch asked.search asked.first asked.plans asked.weak hunt_fault image f
+
+-- why the command ends without its table
+abbrev pub EndsHunt : (List ℕ → List ℕ → Type 0) → (List ℕ → ℕ → List ℕ → Type 0) → Hunt → HuntFailure → Type 0
+EndsHunt holds begins asked f = IsFileEnd f ⊎ RefusedHunt holds begins asked f

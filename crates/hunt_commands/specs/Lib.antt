@@ -1,0 +1,5 @@
+pub mod Settings
+pub mod Asked
+pub mod Failures
+pub mod Plans
+pub mod Status

@@ -1,0 +1,20 @@
+-- What `plan` prints, and why it ends without it.
+use Rattle.std.specs.Prelude.{◌≡◌, ◌⊎◌, ◌||◌, ℕ, nat_lt, Bool, true, List}
+use Rattle.command_line.specs.declared.settings.Plan.{Plan}
+use Rattle.host_io.specs.declared.error.RunError.TheVariants as refusals
+use Rattle.program_files.specs.Asked.{IsFamilyPlan}
+use Rattle.program_files.specs.declared.failure.RunFailure.{RunFailure}
+use Rattle.program_files.specs.declared.failure.RunFailure.TheVariants.{Refused}
+
+-- no family has plans for so many harts
+abbrev pub has_bad_harts : ℕ → Bool
+has_bad_harts harts = nat_lt harts 1 || nat_lt 64 harts
+
+-- the text is that of the plan of the family that the line asks for
+abbrev pub IsAskedPlan : Plan → List ℕ → Type 0
+IsAskedPlan asked text = (budget : ℕ) × IsFamilyPlan asked.seed asked.harts asked.number text budget
+
+-- why the command ends without it: for the number of harts, for want of memory, or where the output can't be written
+abbrev pub EndsPlan : Plan → RunFailure → Type 0
+EndsPlan asked f = ((has_bad_harts asked.harts ≡ true) × (f ≡ Refused refusals.HartsOutOfRange))
+    ⊎ (f ≡ Refused refusals.OutOfMemory) ⊎ (f ≡ Refused refusals.SinkFailed)

@@ -1,0 +1,108 @@
+ghost use Rattle.std.specs.Prelude.{◌≡◌, ◌⊎◌, ◌++◌, IfErr, IfOk, OnErr};
+ghost use Rattle.host_io.specs.Taken.{BeganText};
+ghost use Rattle.hunt_commands.specs.Asked.{AskedHunt, EndsHunt, IsHuntEnd, SetHunt, hunt_text};
+ghost use Rattle.hunt_commands.specs.Status.{hunt_status};
+
+use crate::failure::HuntFailure;
+use crate::refusing::refused_for;
+use crate::repeating::{tell_endings, tell_weak_running};
+use crate::settings::{named_in, settings_of};
+use crate::status::hunt_status;
+use crate::tabling::write_rows;
+use crate::weak_hunts::WeakHunts;
+use command_line::Hunt;
+use named_bytes::NamedBytes;
+use plan_hunt::{HuntObserver, Row};
+use program_files::{ProgramFiles, read_program};
+use program_world::{ExitStatus, Files, Messages, Output, ProgressLine};
+use std::alloc::Global;
+use std::sync::Wait;
+use std::thread::Threads;
+
+/// Runs a guest program by many plans or, in a weak hunt, makes many of its executions, and prints the table of their endings. Standard
+/// error says for each ending the line that runs the program so.
+///
+/// # Errors
+///
+/// `Run` where a file can't be read or the output can't be written; `Refused` for the settings, then for the image, and for an execution
+/// that isn't confirmed; then `Naming` for bytes that can't be looked at; the refusal of memory at any time.
+pub fn hunt_command<
+    F: Files,
+    O: Output,
+    M: Messages,
+    W: WeakHunts,
+    P: HuntObserver + ProgressLine,
+    R: Threads + Wait + Sync,
+>(
+    threads: &R,
+    alloc: Global,
+    files: &F,
+    weakly: &W,
+    asked: &Hunt<'_>,
+    progress: &mut P,
+    out: &mut O,
+    messages: &M,
+) -> Result<ExitStatus, HuntFailure>
+    // All that was printed is the table of the hunt that the line asks for, and the status is that of this table.
+    ensures hunts { IfOk result (λ status. (a : AskedHunt (F.holds files.now) (F.begins files.now) W.hunts asked.now) ×
+        (O.took out.new ≡ O.took out.old ++ hunt_text a.made) × O.is_out out.new ×
+        (status ≡ hunt_status asked.now.fail_on a.made.rows)) }
+    // Else nothing was printed, or a beginning of that table.
+    ensures begun { OnErr result ((O.took out.new ≡ O.took out.old) ⊎
+        ((a : AskedHunt (F.holds files.now) (F.begins files.now) W.hunts asked.now) ×
+        BeganText (O.took out.old) (O.took out.new) (hunt_text a.made))) }
+    ensures errors { IfErr result (EndsHunt (F.holds files.now) (F.begins files.now) asked.now) }
+{
+    let given = read_program(files, alloc, &asked.search.program)?;
+    let rows = hunt_given(threads, alloc, weakly, &given, asked, progress, out)?;
+    out.hand_on()?;
+    // What was asked for is out.
+    let _untold = tell_endings(alloc, asked, &rows, messages);
+    tell_weak_running(asked, &rows, messages);
+    Ok(hunt_status(asked.fail_on, &rows))
+}
+
+/// Hunts in what the files gave, and prints the table. Answers its rows.
+fn hunt_given<O: Output, W: WeakHunts, P: HuntObserver + ProgressLine, R: Threads + Wait + Sync>(
+    threads: &R,
+    alloc: Global,
+    weakly: &W,
+    files: &ProgramFiles,
+    asked: &Hunt<'_>,
+    progress: &mut P,
+    out: &mut O,
+) -> Result<Vec<Row>, HuntFailure>
+    ensures hunts { IfOk result (λ rows. (h : SetHunt W.hunts asked.now files.now.image.items files.now.input.items) ×
+        (O.took out.new ≡ O.took out.old ++ hunt_text h) × (rows.items ≡ h.rows)) }
+    ensures begun { OnErr result ((O.took out.new ≡ O.took out.old) ⊎
+        ((h : SetHunt W.hunts asked.now files.now.image.items files.now.input.items) ×
+        BeganText (O.took out.old) (O.took out.new) (hunt_text h))) }
+    ensures errors { IfErr result (IsHuntEnd asked.now files.now.image.items) }
+{
+    let NamedBytes { bytes, fault } = named_in(alloc, &asked.search, files)?;
+    let settings = settings_of(
+        alloc,
+        &asked.search,
+        &bytes,
+        asked.first,
+        asked.plans,
+        asked.weak,
+    )?;
+    match fault {
+        Some(fault) => Err(refused_for(alloc, &files.image, &settings, fault)),
+        None => {
+            let answer = write_rows(
+                threads,
+                alloc,
+                weakly,
+                files,
+                &settings,
+                asked.steps,
+                progress,
+                out,
+            );
+            progress.end();
+            Ok(answer?)
+        }
+    }
+}

@@ -1,0 +1,83 @@
+ghost use Rattle.std.specs.Prelude.{◌≡◌, [], IfOk, false};
+ghost use Rattle.hunt_commands.specs.Settings.{HasNumbers, IsOfProgram, names_of};
+ghost use Rattle.named_bytes.specs.Naming.{IsNaming, named_in, seen_ranges};
+
+use command_line::{Bytes, Program, Search};
+use hunt_table::Header;
+use hunter::HuntSettings;
+use named_bytes::{NamedBytes, named_bytes, seen_ranges};
+use program_files::{ProgramFiles, format_of};
+use std::alloc::{AllocError, Global};
+
+/// The bytes that are looked at when a run ends.
+///
+/// # Errors
+///
+/// The allocator's alone.
+pub fn named_in(
+    alloc: Global,
+    search: &Search<'_>,
+    files: &ProgramFiles,
+) -> Result<NamedBytes, AllocError>
+    ensures bytes { IfOk result (λ n. n.bytes.items ≡
+        named_in files.now.image.items search.now.seen.items (names_of search.now)) }
+    ensures fault { IfOk result (λ n. IsNaming files.now.image.items search.now.program.pages
+        search.now.seen.items (names_of search.now) n.fault) }
+{
+    named_bytes(
+        alloc,
+        &files.image,
+        search.program.pages,
+        &search.seen,
+        &search.objects,
+    )
+}
+
+/// What the line says of a hunt by so many plans from a first one on, with these bytes, which the line names, to be looked at when a
+/// run ends.
+///
+/// # Errors
+///
+/// The allocator's alone.
+pub fn settings_of(
+    alloc: Global,
+    search: &Search<'_>,
+    named: &[Bytes],
+    first: u32,
+    count: u32,
+    is_weak: bool,
+) -> Result<HuntSettings, AllocError>
+    ensures numbers { IfOk result (HasNumbers search.now first count is_weak) }
+    ensures ranges { IfOk result (λ s. s.header.ranges.items ≡
+        seen_ranges named.now (names_of search.now)) }
+{
+    let ranges = seen_ranges(alloc, named, &search.objects)?;
+    let mut settings = program_settings(alloc, &search.program, search.seed);
+    settings.header.is_weak = is_weak;
+    settings.header.first = first;
+    settings.header.count = count;
+    settings.header.ranges = ranges;
+    Ok(settings)
+}
+
+/// What the line says of a program, as settings of a hunt by no plan of a seed, in which no bytes are looked at.
+pub fn program_settings(alloc: Global, program: &Program<'_>, seed: u64) -> HuntSettings
+    ensures program { IsOfProgram program.now seed result }
+    ensures plain { result.header.is_weak ≡ false }
+    ensures unseen { result.header.ranges.items ≡ [] }
+{
+    HuntSettings {
+        format: format_of(program),
+        harts: program.harts,
+        pages: program.pages,
+        rounds: program.rounds,
+        workers: program.workers,
+        header: Header {
+            is_weak: false,
+            seed,
+            first: 0,
+            count: 0,
+            ranges: Vec::new(alloc),
+        },
+    }
+}
