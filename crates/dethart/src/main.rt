@@ -7,7 +7,6 @@ mod execution_pictures;
 mod executions;
 mod failure;
 mod fences;
-mod hunting;
 mod keeping;
 mod line;
 mod looking;

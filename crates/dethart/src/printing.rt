@@ -5,13 +5,12 @@ ghost use Rattle.dethart.specs.Status.{fences_answer};
 use crate::executions::{write_check, write_execution_of};
 use crate::failure::Failure;
 use crate::fences::write_fences_of;
-use crate::hunting::write_shrunk;
 use crate::merging::write_merged;
 use crate::output::{finish, standard_output};
 use crate::pictures::{write_drawing, write_trace};
 use crate::progress::Progress;
 use crate::recordings::{Replayed, write_replay, write_watch};
-use crate::repeating::{tell_missing, tell_running, tell_shrunk};
+use crate::repeating::{tell_missing, tell_running};
 use crate::run::progress_of;
 use crate::world::{HostFiles, HostMessages, HostOutput};
 use command_line::{
@@ -19,7 +18,7 @@ use command_line::{
     Watch,
 };
 use fence_table::FenceTable;
-use hunt_commands::{WeakHunter, hunt_command, plan_command};
+use hunt_commands::{WeakHunter, hunt_command, plan_command, shrink_command};
 use program_world::ExitStatus;
 use run_commands::{order_command, run_command};
 use std::sync::Wait;
@@ -176,11 +175,18 @@ pub(crate) fn print_shrunk<R: Threads + Wait + Sync>(
     threads: &R,
     asked: &Shrink<'_>,
 ) -> Result<ExitStatus, Failure> {
-    let mut out = standard_output(rt)?;
-    let written = write_shrunk(rt, threads, asked, &mut out);
-    let budget = finish(out, written)?;
-    let _untold = tell_shrunk(rt, asked, budget);
-    Ok(ExitStatus::Done)
+    let mut out = HostOutput::new(rt)?;
+    let mut progress = Progress::new(rt, asked.search.program.progress, 0);
+    let answer = shrink_command(
+        threads,
+        rt.alloc(),
+        &HostFiles::new(rt),
+        asked,
+        &mut progress,
+        &mut out,
+        &HostMessages::new(rt),
+    );
+    told(answer, &out)
 }
 
 /// Prints the table of all plans of the tables in some files.

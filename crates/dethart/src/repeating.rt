@@ -2,9 +2,9 @@
 //! can't be written, or there is no memory for them.
 
 use crate::world::HostMessages;
-use command_line::{Fences, Shrink};
+use command_line::Fences;
 use fence_table::{FenceTable, Missing};
-use hunt_commands::{line_of, tell_bounds, weak_line_of};
+use hunt_commands::{tell_bounds, weak_line_of};
 use std::alloc::AllocError;
 
 /// Says on standard error, for each missing fence, the line that writes the execution of the number that shows it.
@@ -33,16 +33,4 @@ pub(crate) fn tell_running(rt: &HostRuntime, asked: &Fences<'_>, table: &FenceTa
             &HostMessages::new(rt),
         );
     }
-}
-
-/// Says on standard error the line that runs the program by the plan that was printed, once that is in a file, and the plan's
-/// budget.
-pub(crate) fn tell_shrunk(
-    rt: &HostRuntime,
-    asked: &Shrink<'_>,
-    budget: u32,
-) -> Result<(), AllocError> {
-    let program = line_of(rt.alloc(), "run", &asked.search.program)?;
-    let _unwritten = eprintln!(rt; "budget {budget}\n{program} --plan FILE --budget {budget}");
-    Ok(())
 }

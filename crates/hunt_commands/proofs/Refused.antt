@@ -58,3 +58,22 @@ fault_so search weak fault s image wrong f named settings loads reason = record 
   reason = λ none. ⊎_elim (λ is. subst (λ (x : HuntFailure). IsReasonOf search weak s image x) (sym is) named)
       (λ g. subst (λ (x : HuntFailure). IsReasonOf search weak s image x) (sym g.2) g.1) (reason none);
 }
+
+-- the same of a search for a smaller plan
+pub guest_told_so : {X : Type 0} (search : Search) (fault : Option HuntError) (s : HuntSettings) (image : List ℕ) (e : HuntError) →
+    has_bad_range s ≡ false →
+    ((r : HuntError) → fault ≡ Some r → ◌≡◌ {A = Result X HuntError} (Err e) (Err r)) →
+    (fault ≡ None → IsHuntReason s image e) →
+    ((cause : ImageCause) → fault ≡ None → IsImageCause s image cause →
+    ◌≡◌ {A = Result X HuntError} (Err e) (Err (hunting.Run (refusals.Image cause)))
+    ⊎ ◌≡◌ {A = Result X HuntError} (Err e) (Err (hunting.Run refusals.OutOfMemory))) →
+    IsRefusedSo search false fault s image (Refused (hunts.Hunt e))
+guest_told_so {X} search fault s image e good settings errors loads = record {
+  of_settings = λ r f. ap (λ (x : HuntError). Refused (hunts.Hunt x)) (same r (settings r f));
+  of_image = λ cause f i. ⊎_elim (λ h. inl (ap (λ (x : HuntError). Refused (hunts.Hunt x)) (same (hunting.Run (refusals.Image cause)) h)))
+      (λ h. inr (ap (λ (x : HuntError). Refused (hunts.Hunt x)) (same (hunting.Run refusals.OutOfMemory) h))) (loads cause f i);
+  reason = λ f. guest_reason s image e good (inl (errors f));
+}
+  where
+    same : (r : HuntError) → ◌≡◌ {A = Result X HuntError} (Err e) (Err r) → e ≡ r
+    same r q = cc

@@ -2,4 +2,5 @@ pub mod Settings
 pub mod Asked
 pub mod Failures
 pub mod Plans
+pub mod Shrinks
 pub mod Status

@@ -3,8 +3,10 @@ ghost use Rattle.host_io.specs.declared.error.RunError.TheVariants as refusals;
 ghost use Rattle.hunt_commands.specs.Failures.{failure_number};
 ghost use Rattle.hunt_commands.specs.declared.failure.HuntFailure.TheVariants as failures;
 ghost use Rattle.program_files.specs.declared.failure.RunFailure.TheVariants as runs;
+ghost use Rattle.weak_hunter.specs.declared.error.WeakHuntError.TheVariants.{Hunt};
 
 use host_io::RunError;
+use hunter::HuntError;
 use named_bytes::NamingFault;
 use program_files::RunFailure;
 use std::alloc::AllocError;
@@ -74,5 +76,21 @@ impl From<WeakHuntError> for HuntFailure {
 
     fn from(error: WeakHuntError) -> HuntFailure {
         HuntFailure::Refused(error)
+    }
+}
+
+impl From<HuntError> for HuntFailure {
+    ghost from_gives = { λ x failure. failure ≡ failures.Refused (Hunt x) };
+
+    fn from(error: HuntError) -> HuntFailure {
+        HuntFailure::Refused(WeakHuntError::Hunt(error))
+    }
+}
+
+impl From<pages::OutOfMemory> for HuntFailure {
+    ghost from_gives = { λ _ failure. failure ≡ failures.Run (runs.Refused refusals.OutOfMemory) };
+
+    fn from(_refused: pages::OutOfMemory) -> HuntFailure {
+        HuntFailure::Run(RunFailure::Refused(RunError::OutOfMemory))
     }
 }

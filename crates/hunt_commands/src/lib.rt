@@ -1,4 +1,4 @@
-//! The commands that run a guest program by many plans, and print what these runs end in: `hunt`.
+//! The commands that run a guest program by the plans of a family: `hunt` and `shrink`; and `plan`, which prints such a plan.
 #![tactic(auto)]
 
 mod failure;
@@ -7,6 +7,7 @@ mod planning;
 mod refusing;
 mod repeating;
 mod settings;
+mod shrinking;
 mod status;
 mod tabling;
 mod weak_hunts;
@@ -15,7 +16,8 @@ pub use failure::HuntFailure;
 pub use hunting::hunt_command;
 pub use planning::plan_command;
 pub use refusing::refused_for;
-pub use repeating::{line_of, tell_bounds, weak_line_of};
+pub use repeating::{tell_bounds, weak_line_of};
 pub use settings::{named_in, program_settings, settings_of};
+pub use shrinking::shrink_command;
 pub use status::hunt_status;
 pub use weak_hunts::{WeakHunter, WeakHunts};

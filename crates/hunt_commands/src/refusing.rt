@@ -3,13 +3,13 @@ ghost use Rattle.host_io.specs.declared.load_error.LoadError.{LoadError as Image
 ghost use Rattle.host_io.specs.declared.error.RunError.TheVariants as refusals;
 ghost use Rattle.hunt_commands.specs.Asked.{IsFaultReason};
 ghost use Rattle.hunt_commands.specs.declared.failure.HuntFailure.TheVariants as failures;
-ghost use Rattle.hunter.specs.Hunts.{IsImageCause, hunt_fault};
+ghost use Rattle.hunter.specs.Hunts.{IsImageCause, hunt_fault, shrink_fault};
 ghost use Rattle.hunter.specs.declared.error.HuntError.{HuntError as Refusal};
 ghost use Rattle.hunter.specs.declared.error.HuntError.TheVariants as hunting;
 ghost use Rattle.weak_hunter.specs.declared.error.WeakHuntError.TheVariants.{Hunt};
 
 use crate::failure::HuntFailure;
-use hunter::{HuntError, HuntSettings, check_hunt};
+use hunter::{HuntError, HuntSettings, check_guest, check_hunt};
 use machine::load;
 use named_bytes::NamingFault;
 use std::alloc::Global;
@@ -37,8 +37,30 @@ pub fn refused_for(
     }
 }
 
+/// The same of a search whose plans are not looked at.
+pub(crate) fn refused_for_guest(
+    alloc: Global,
+    image: &[u8],
+    settings: &HuntSettings,
+    fault: NamingFault,
+) -> HuntFailure
+    ensures settings { (e : Refusal) → shrink_fault settings.now ≡ Some e →
+        result ≡ failures.Refused (Hunt e) }
+    ensures image { (cause : ImageCause) → shrink_fault settings.now ≡ None →
+        IsImageCause settings.now image.now cause →
+        (result ≡ failures.Refused (Hunt (hunting.Run (refusals.Image cause)))) ⊎
+        (result ≡ failures.Refused (Hunt (hunting.Run refusals.OutOfMemory))) }
+    ensures reason { shrink_fault settings.now ≡ None →
+        IsFaultReason fault settings.now image.now result }
+{
+    match check_guest(settings) {
+        Ok(()) => refused_for_image(alloc, image, settings, fault),
+        Err(error) => HuntFailure::Refused(WeakHuntError::Hunt(error)),
+    }
+}
+
 /// The same of settings that are in range.
-pub(crate) fn refused_for_image(
+fn refused_for_image(
     alloc: Global,
     image: &[u8],
     settings: &HuntSettings,

@@ -1,7 +1,7 @@
 //! Lines that repeat a run which was found. They are told when what was asked for is out already, so it is no failure where they
 //! can't be written, or there is no memory for them.
 
-use command_line::{Hunt, Plan, Program};
+use command_line::{Hunt, Plan, Program, Shrink};
 use plan_hunt::{HartEnding, Row};
 use program_world::Messages;
 use std::alloc::{AllocError, Global};
@@ -44,6 +44,18 @@ pub fn tell_bounds<M: Messages>(steps: u32, rounds: u32, messages: &M) {
     ));
 }
 
+/// Says on standard error the budget of the plan that was printed, and the line that runs the program by it, once it is in a file.
+pub(crate) fn tell_shrunk<M: Messages>(
+    alloc: Global,
+    asked: &Shrink<'_>,
+    budget: u32,
+    messages: &M,
+) -> Result<(), AllocError> {
+    let program = line_of(alloc, "run", &asked.search.program)?;
+    messages.tell(format_args!("budget {budget}\n{program} --plan FILE --budget {budget}"));
+    Ok(())
+}
+
 /// Says on standard error the budget of a plan of the family, and the line that runs any program by it.
 pub(crate) fn tell_plan<M: Messages>(asked: &Plan, budget: u32, messages: &M) {
     let harts = asked.harts;
@@ -67,11 +79,7 @@ pub fn weak_line_of(
 }
 
 /// The line of a command on a program, but for its plan: each option that the outcome depends on.
-///
-/// # Errors
-///
-/// The allocator's alone.
-pub fn line_of(alloc: Global, command: &str, program: &Program<'_>) -> Result<String, AllocError> {
+fn line_of(alloc: Global, command: &str, program: &Program<'_>) -> Result<String, AllocError> {
     let image = quoted(alloc, program.image)?;
     let flat = if program.flat { " --flat" } else { "" };
     let (harts, pages, rounds) = (program.harts, program.pages, program.rounds);

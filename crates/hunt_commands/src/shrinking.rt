@@ -1,0 +1,99 @@
+ghost use Rattle.std.specs.Prelude.{◌≡◌, ◌⊎◌, ◌++◌, IfErr, IfOk, OnErr, OnOk};
+ghost use Rattle.host_io.specs.Taken.{BeganText};
+ghost use Rattle.hunt_commands.specs.Asked.{IsFileEnd};
+ghost use Rattle.hunt_commands.specs.Shrinks.{AskedShrink, EndsShrink, IsShrinkEnd, SetShrink, shrunk_text};
+ghost use Rattle.program_world.specs.declared.exit_status.ExitStatus.TheVariants as statuses;
+ghost use Rattle.round_planner.specs.PlanText.{plan_text};
+
+use crate::failure::HuntFailure;
+use crate::refusing::refused_for_guest;
+use crate::repeating::tell_shrunk;
+use crate::settings::{named_in, settings_of};
+use command_line::Shrink;
+use host_io::put_all;
+use hunter::{ShrinkObserver, shrink};
+use named_bytes::NamedBytes;
+use program_files::{ProgramFiles, read_program};
+use program_world::{ExitStatus, Files, Messages, Output, ProgressLine};
+use round_planner::Plan;
+use std::alloc::Global;
+use std::sync::Wait;
+use std::thread::Threads;
+
+/// Looks for a smaller plan that leads to the same ending, and prints it. Standard error says its budget, and the line that runs the
+/// program by it.
+///
+/// # Errors
+///
+/// `Run` where a file can't be read or the output can't be written; `Refused` for the settings and then for the image; then `Naming` for
+/// bytes that can't be looked at; the refusal of memory at any time.
+pub fn shrink_command<
+    F: Files,
+    O: Output,
+    M: Messages,
+    P: ShrinkObserver + ProgressLine,
+    R: Threads + Wait + Sync,
+>(
+    threads: &R,
+    alloc: Global,
+    files: &F,
+    asked: &Shrink<'_>,
+    progress: &mut P,
+    out: &mut O,
+    messages: &M,
+) -> Result<ExitStatus, HuntFailure>
+    // All that was printed is the text of a plan that the search of the line leads to.
+    ensures shrinks { IfOk result (λ status. (a : AskedShrink (F.holds files.now) (F.begins files.now) asked.now) ×
+        (O.took out.new ≡ O.took out.old ++ shrunk_text a.made) × O.is_out out.new × (status ≡ statuses.Done)) }
+    // Else nothing was printed, or a beginning of such a text.
+    ensures begun { OnErr result ((O.took out.new ≡ O.took out.old) ⊎
+        ((a : AskedShrink (F.holds files.now) (F.begins files.now) asked.now) ×
+        BeganText (O.took out.old) (O.took out.new) (shrunk_text a.made))) }
+    ensures errors { IfErr result (EndsShrink (F.holds files.now) (F.begins files.now) asked.now) }
+{
+    let given = read_program(files, alloc, &asked.search.program)?;
+    let plan = shrink_given(threads, alloc, &given, asked, progress)?;
+    put_plan(alloc, &plan, out)?;
+    out.hand_on()?;
+    // What was asked for is out.
+    let _untold = tell_shrunk(alloc, asked, plan.budget(), messages);
+    Ok(ExitStatus::Done)
+}
+
+/// Looks for a smaller plan with what the files gave.
+fn shrink_given<P: ShrinkObserver + ProgressLine, R: Threads + Wait + Sync>(
+    threads: &R,
+    alloc: Global,
+    files: &ProgramFiles,
+    asked: &Shrink<'_>,
+    progress: &mut P,
+) -> Result<Plan, HuntFailure>
+    ensures shrinks { IfOk result (λ plan. (s : SetShrink asked.now files.now.image.items files.now.input.items) ×
+        (plan ≡ s.plan)) }
+    ensures errors { IfErr result (IsShrinkEnd asked.now files.now.image.items) }
+{
+    let NamedBytes { bytes, fault } = named_in(alloc, &asked.search, files)?;
+    let settings = settings_of(alloc, &asked.search, &bytes, asked.plan_number, 1, false)?;
+    match fault {
+        Some(fault) => Err(refused_for_guest(alloc, &files.image, &settings, fault)),
+        None => {
+            let (image, input) = (files.image.as_slice(), files.input.as_slice());
+            let number = asked.plan_number;
+            let answer = shrink(threads, alloc, image, input, &settings, number, progress);
+            progress.end();
+            Ok(answer?)
+        }
+    }
+}
+
+/// Prints a plan.
+fn put_plan<O: Output>(alloc: Global, plan: &Plan, out: &mut O) -> Result<(), HuntFailure>
+    ensures puts { OnOk result (O.took out.new ≡ O.took out.old ++ plan_text plan.now.rows) }
+    ensures begun { OnErr result ((O.took out.new ≡ O.took out.old) ⊎
+        BeganText (O.took out.old) (O.took out.new) (plan_text plan.now.rows)) }
+    ensures errors { IfErr result IsFileEnd }
+{
+    let text = plan.text(alloc)?;
+    put_all(out, text.as_slice())?;
+    Ok(())
+}
