@@ -1,0 +1,6 @@
+pub mod Noting
+pub mod Sorting
+pub mod Stopping
+pub mod Timing
+pub mod Rising
+pub mod Showing

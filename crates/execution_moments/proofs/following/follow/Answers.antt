@@ -1,0 +1,29 @@
+use Rattle.execution.proofs.Answering.{like_itself}
+use Rattle.execution_checker.specs.Allowed.{follows-none}
+use Rattle.execution_checker.proofs.Followed.{at_none, followed, followed_on}
+use Rattle.execution_moments.proofs.Noting.{nothing_noted}
+use Rattle.execution_moments.proofs.following.follow.Goals as goal
+
+pub loop-place-init : goal.loop-place-init
+loop-place-init c = record {
+  like = like_itself c.args.execution.now.memory;
+  follows = follows-none c.args.execution.now.standing;
+  moments = nothing_noted c.args.execution.now.memory c.args.execution.now.standing _ c.requires c.new-moments.ensures.items;
+}
+
+pub returns-in-Some-clause-moments : goal.returns-in-Some-clause-moments
+returns-in-Some-clause-moments c =
+    let m = c.args.execution.now.memory in
+    let i = c.loop-place.invariant in
+    c.in_ok-fault.ensures.moments m c.args.execution.now.standing i.like (followed m _ c.args.execution.now.standing c.loop-place.execution.standing i.follows) i.moments
+
+pub loop-place-preserved : goal.loop-place-preserved
+loop-place-preserved c =
+    let m = c.args.execution.now.memory in
+    let i = c.loop-place.invariant in
+    record {
+      like = c.in_ok-fault.ensures.like m i.like;
+      follows = followed_on m c.loop-place.execution.memory c.args.script.now c.loop-place.place c.args.execution.now.standing c.loop-place.execution.standing c.take_noted.new.execution.standing
+          c.loop-place-test.true i.follows i.like (at_none c.in_ok-fault.field-0 _ _ c.in-None.is c.in_ok-fault.ensures.took);
+      moments = c.in_ok-fault.ensures.moments m c.args.execution.now.standing i.like (followed m _ c.args.execution.now.standing c.loop-place.execution.standing i.follows) i.moments;
+    }

@@ -1,0 +1,12 @@
+use Rattle.std.specs.Prelude.{take}
+use Rattle.execution.specs.Executions.{IsLike}
+use Rattle.execution_checker.specs.Allowed.{Follows}
+use Rattle.execution_moments.specs.Courses.{AreBefore}
+use Rattle.execution_moments.proofs.following.follow.Given as goal
+
+abbrev pub invariant-loop-place : goal.invariant-loop-place
+invariant-loop-place l = record {
+  like : IsLike l.fn.execution.memory l.execution.memory;
+  follows : Follows l.fn.execution.memory (take l.place l.script) l.fn.execution.standing l.execution.standing;
+  moments : AreBefore l.fn.execution.memory l.fn.execution.standing l.execution.standing l.moments.items;
+}

@@ -1,0 +1,6 @@
+use Rattle.std.proofs.Common.{slice_index}
+use Rattle.execution_moments.proofs.Timing.{LatestSoFar}
+use Rattle.execution_moments.proofs.times.latest_loads.Given as goal
+
+abbrev pub invariant-loop-place : goal.invariant-loop-place
+invariant-loop-place l = LatestSoFar l.events (λ i. slice_index l.positions i) l.place l.latest.items l.found.items

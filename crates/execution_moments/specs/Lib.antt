@@ -1,0 +1,5 @@
+pub mod Times
+pub mod Courses
+pub mod Shown
+pub mod Told
+pub mod Laws
