@@ -1,0 +1,134 @@
+-- What a debugger is answered: facts by cases of its request.
+use Rattle.std.proofs.Common.{◌≡◌, ℕ, List, [], ◌++◌, Option, None, Result, Ok, Err, OnOk, refl, subst, sym}
+use Rattle.gdb_packets.specs.Writing.{packet_text}
+use Rattle.gdb_requests.specs.declared.request.Request.{Request}
+use Rattle.gdb_requests.specs.declared.request.Request.TheVariants as requests
+use Rattle.execution_session.specs.declared.session.Standing.{Standing}
+use Rattle.execution_session.specs.Answers.{Answered, answer_to, fixed_text, moment_text, reply_at, says}
+use Rattle.execution_session.specs.Sessions.{Looked, State}
+
+pub both : {T E P Q R : Type 0} (r : Result T E) → (P → Q → R) → OnOk r P → OnOk r Q → OnOk r R
+both (Ok x) f p q = f p q
+both (Err e) f p q = p
+
+-- the answer to a request is that to the one which it is
+pub answered_with : (r : Looked) (s : State) (request q : Request) (took took_then : List ℕ) (t : State) → request ≡ q → t ≡ (answer_to r s q).state →
+    took_then ≡ took ++ packet_text (answer_to r s q).text → Answered r s request took took_then t
+answered_with r s request q took took_then t is state wrote = subst (λ (x : Request). Answered r s x took took_then t) (sym is) (wrote, state)
+
+-- a request that changes nothing
+pub nothing_changes : (r : Looked) (s : State) (request : Request) → ((n : Option ℕ) → request ≡ requests.SelectGeneral n → ⊥) → ((n : Option ℕ) → request ≡ requests.SelectMoving n → ⊥) → ((a : ℕ) → request ≡ requests.AddStop a → ⊥) → ((a : ℕ) → request ≡ requests.RemoveStop a → ⊥) → ((a : ℕ) → request ≡ requests.AddHardwareStop a → ⊥) → ((a : ℕ) → request ≡ requests.RemoveHardwareStop a → ⊥) → (request ≡ requests.Continue → ⊥) → ((n : ℕ) → request ≡ requests.Step n → ⊥) → ((n : ℕ) → request ≡ requests.StepAlone n → ⊥) → (request ≡ requests.StepBack → ⊥) → (request ≡ requests.ContinueBack → ⊥) →
+    answer_to r s request ≡ says s (reply_at r s.standing request)
+nothing_changes r s requests.Features _ _ _ _ _ _ _ _ _ _ _ = refl
+nothing_changes r s (requests.Description o c) _ _ _ _ _ _ _ _ _ _ _ = refl
+nothing_changes r s requests.WhyStopped _ _ _ _ _ _ _ _ _ _ _ = refl
+nothing_changes r s (requests.ThreadList o c) _ _ _ _ _ _ _ _ _ _ _ = refl
+nothing_changes r s requests.FirstThreads _ _ _ _ _ _ _ _ _ _ _ = refl
+nothing_changes r s requests.MoreThreads _ _ _ _ _ _ _ _ _ _ _ = refl
+nothing_changes r s requests.PresentThread _ _ _ _ _ _ _ _ _ _ _ = refl
+nothing_changes r s (requests.Note n) _ _ _ _ _ _ _ _ _ _ _ = refl
+nothing_changes r s requests.Attached _ _ _ _ _ _ _ _ _ _ _ = refl
+nothing_changes r s (requests.SelectGeneral n) x0 _ _ _ _ _ _ _ _ _ _ = absurd (x0 n refl)
+nothing_changes r s (requests.SelectMoving n) _ x1 _ _ _ _ _ _ _ _ _ = absurd (x1 n refl)
+nothing_changes r s (requests.IsAlive n) _ _ _ _ _ _ _ _ _ _ _ = refl
+nothing_changes r s requests.ReadRegisters _ _ _ _ _ _ _ _ _ _ _ = refl
+nothing_changes r s (requests.ReadRegister n) _ _ _ _ _ _ _ _ _ _ _ = refl
+nothing_changes r s (requests.ReadMemory a n) _ _ _ _ _ _ _ _ _ _ _ = refl
+nothing_changes r s (requests.Checksum a n) _ _ _ _ _ _ _ _ _ _ _ = refl
+nothing_changes r s (requests.ImageName o c) _ _ _ _ _ _ _ _ _ _ _ = refl
+nothing_changes r s (requests.File f) _ _ _ _ _ _ _ _ _ _ _ = refl
+nothing_changes r s (requests.Command k) _ _ _ _ _ _ _ _ _ _ _ = refl
+nothing_changes r s requests.Change _ _ _ _ _ _ _ _ _ _ _ = refl
+nothing_changes r s (requests.AddStop a) _ _ x2 _ _ _ _ _ _ _ _ = absurd (x2 a refl)
+nothing_changes r s (requests.RemoveStop a) _ _ _ x3 _ _ _ _ _ _ _ = absurd (x3 a refl)
+nothing_changes r s (requests.AddHardwareStop a) _ _ _ _ x4 _ _ _ _ _ _ = absurd (x4 a refl)
+nothing_changes r s (requests.RemoveHardwareStop a) _ _ _ _ _ x5 _ _ _ _ _ = absurd (x5 a refl)
+nothing_changes r s (requests.AddWatch k a n) _ _ _ _ _ _ _ _ _ _ _ = refl
+nothing_changes r s (requests.RemoveWatch k a n) _ _ _ _ _ _ _ _ _ _ _ = refl
+nothing_changes r s requests.Actions _ _ _ _ _ _ _ _ _ _ _ = refl
+nothing_changes r s requests.Continue _ _ _ _ _ _ x6 _ _ _ _ = absurd (x6 refl)
+nothing_changes r s (requests.Step n) _ _ _ _ _ _ _ x7 _ _ _ = absurd (x7 n refl)
+nothing_changes r s (requests.StepAlone n) _ _ _ _ _ _ _ _ x8 _ _ = absurd (x8 n refl)
+nothing_changes r s requests.StepBack _ _ _ _ _ _ _ _ _ x9 _ = absurd (x9 refl)
+nothing_changes r s requests.ContinueBack _ _ _ _ _ _ _ _ _ _ x10 = absurd (x10 refl)
+nothing_changes r s requests.Detach _ _ _ _ _ _ _ _ _ _ _ = refl
+nothing_changes r s requests.Kill _ _ _ _ _ _ _ _ _ _ _ = refl
+nothing_changes r s requests.Unknown _ _ _ _ _ _ _ _ _ _ _ = refl
+
+-- one that is about the time
+pub not_fixed : (r : Looked) (t : Standing) (request : Request) → (request ≡ requests.Features → ⊥) → ((o : ℕ) (c : ℕ) → request ≡ requests.Description o c → ⊥) → (request ≡ requests.FirstThreads → ⊥) → (request ≡ requests.MoreThreads → ⊥) → (request ≡ requests.PresentThread → ⊥) → (request ≡ requests.Attached → ⊥) → (request ≡ requests.Change → ⊥) → (request ≡ requests.Actions → ⊥) → (request ≡ requests.Detach → ⊥) →
+    fixed_text r t request ≡ None
+not_fixed r t requests.Features x0 _ _ _ _ _ _ _ _ = absurd (x0 refl)
+not_fixed r t (requests.Description o c) _ x1 _ _ _ _ _ _ _ = absurd (x1 o c refl)
+not_fixed r t requests.WhyStopped _ _ _ _ _ _ _ _ _ = refl
+not_fixed r t (requests.ThreadList o c) _ _ _ _ _ _ _ _ _ = refl
+not_fixed r t requests.FirstThreads _ _ x2 _ _ _ _ _ _ = absurd (x2 refl)
+not_fixed r t requests.MoreThreads _ _ _ x3 _ _ _ _ _ = absurd (x3 refl)
+not_fixed r t requests.PresentThread _ _ _ _ x4 _ _ _ _ = absurd (x4 refl)
+not_fixed r t (requests.Note n) _ _ _ _ _ _ _ _ _ = refl
+not_fixed r t requests.Attached _ _ _ _ _ x5 _ _ _ = absurd (x5 refl)
+not_fixed r t (requests.SelectGeneral n) _ _ _ _ _ _ _ _ _ = refl
+not_fixed r t (requests.SelectMoving n) _ _ _ _ _ _ _ _ _ = refl
+not_fixed r t (requests.IsAlive n) _ _ _ _ _ _ _ _ _ = refl
+not_fixed r t requests.ReadRegisters _ _ _ _ _ _ _ _ _ = refl
+not_fixed r t (requests.ReadRegister n) _ _ _ _ _ _ _ _ _ = refl
+not_fixed r t (requests.ReadMemory a n) _ _ _ _ _ _ _ _ _ = refl
+not_fixed r t (requests.Checksum a n) _ _ _ _ _ _ _ _ _ = refl
+not_fixed r t (requests.ImageName o c) _ _ _ _ _ _ _ _ _ = refl
+not_fixed r t (requests.File f) _ _ _ _ _ _ _ _ _ = refl
+not_fixed r t (requests.Command k) _ _ _ _ _ _ _ _ _ = refl
+not_fixed r t requests.Change _ _ _ _ _ _ x6 _ _ = absurd (x6 refl)
+not_fixed r t (requests.AddStop a) _ _ _ _ _ _ _ _ _ = refl
+not_fixed r t (requests.RemoveStop a) _ _ _ _ _ _ _ _ _ = refl
+not_fixed r t (requests.AddHardwareStop a) _ _ _ _ _ _ _ _ _ = refl
+not_fixed r t (requests.RemoveHardwareStop a) _ _ _ _ _ _ _ _ _ = refl
+not_fixed r t (requests.AddWatch k a n) _ _ _ _ _ _ _ _ _ = refl
+not_fixed r t (requests.RemoveWatch k a n) _ _ _ _ _ _ _ _ _ = refl
+not_fixed r t requests.Actions _ _ _ _ _ _ _ x7 _ = absurd (x7 refl)
+not_fixed r t requests.Continue _ _ _ _ _ _ _ _ _ = refl
+not_fixed r t (requests.Step n) _ _ _ _ _ _ _ _ _ = refl
+not_fixed r t (requests.StepAlone n) _ _ _ _ _ _ _ _ _ = refl
+not_fixed r t requests.StepBack _ _ _ _ _ _ _ _ _ = refl
+not_fixed r t requests.ContinueBack _ _ _ _ _ _ _ _ _ = refl
+not_fixed r t requests.Detach _ _ _ _ _ _ _ _ x8 = absurd (x8 refl)
+not_fixed r t requests.Kill _ _ _ _ _ _ _ _ _ = refl
+not_fixed r t requests.Unknown _ _ _ _ _ _ _ _ _ = refl
+
+-- one that isn't answered
+pub not_known : (r : Looked) (t : Standing) (request : Request) → (request ≡ requests.WhyStopped → ⊥) → ((o : ℕ) (c : ℕ) → request ≡ requests.ThreadList o c → ⊥) → ((n : ℕ) → request ≡ requests.IsAlive n → ⊥) → (request ≡ requests.ReadRegisters → ⊥) → ((n : ℕ) → request ≡ requests.ReadRegister n → ⊥) → ((a : ℕ) (n : ℕ) → request ≡ requests.ReadMemory a n → ⊥) →
+    moment_text r t request ≡ []
+not_known r t requests.Features _ _ _ _ _ _ = refl
+not_known r t (requests.Description o c) _ _ _ _ _ _ = refl
+not_known r t requests.WhyStopped x0 _ _ _ _ _ = absurd (x0 refl)
+not_known r t (requests.ThreadList o c) _ x1 _ _ _ _ = absurd (x1 o c refl)
+not_known r t requests.FirstThreads _ _ _ _ _ _ = refl
+not_known r t requests.MoreThreads _ _ _ _ _ _ = refl
+not_known r t requests.PresentThread _ _ _ _ _ _ = refl
+not_known r t (requests.Note n) _ _ _ _ _ _ = refl
+not_known r t requests.Attached _ _ _ _ _ _ = refl
+not_known r t (requests.SelectGeneral n) _ _ _ _ _ _ = refl
+not_known r t (requests.SelectMoving n) _ _ _ _ _ _ = refl
+not_known r t (requests.IsAlive n) _ _ x2 _ _ _ = absurd (x2 n refl)
+not_known r t requests.ReadRegisters _ _ _ x3 _ _ = absurd (x3 refl)
+not_known r t (requests.ReadRegister n) _ _ _ _ x4 _ = absurd (x4 n refl)
+not_known r t (requests.ReadMemory a n) _ _ _ _ _ x5 = absurd (x5 a n refl)
+not_known r t (requests.Checksum a n) _ _ _ _ _ _ = refl
+not_known r t (requests.ImageName o c) _ _ _ _ _ _ = refl
+not_known r t (requests.File f) _ _ _ _ _ _ = refl
+not_known r t (requests.Command k) _ _ _ _ _ _ = refl
+not_known r t requests.Change _ _ _ _ _ _ = refl
+not_known r t (requests.AddStop a) _ _ _ _ _ _ = refl
+not_known r t (requests.RemoveStop a) _ _ _ _ _ _ = refl
+not_known r t (requests.AddHardwareStop a) _ _ _ _ _ _ = refl
+not_known r t (requests.RemoveHardwareStop a) _ _ _ _ _ _ = refl
+not_known r t (requests.AddWatch k a n) _ _ _ _ _ _ = refl
+not_known r t (requests.RemoveWatch k a n) _ _ _ _ _ _ = refl
+not_known r t requests.Actions _ _ _ _ _ _ = refl
+not_known r t requests.Continue _ _ _ _ _ _ = refl
+not_known r t (requests.Step n) _ _ _ _ _ _ = refl
+not_known r t (requests.StepAlone n) _ _ _ _ _ _ = refl
+not_known r t requests.StepBack _ _ _ _ _ _ = refl
+not_known r t requests.ContinueBack _ _ _ _ _ _ = refl
+not_known r t requests.Detach _ _ _ _ _ _ = refl
+not_known r t requests.Kill _ _ _ _ _ _ = refl
+not_known r t requests.Unknown _ _ _ _ _ _ = refl

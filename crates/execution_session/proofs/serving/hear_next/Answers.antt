@@ -1,0 +1,31 @@
+use Rattle.std.proofs.Common.{◌≡◌, Option, Some, Err, inl, sym, ap, subst, ◌∙◌, arith}
+use Rattle.gdb_packets.specs.Reads.{Reads}
+use Rattle.gdb_packets.specs.Stream.{next_of}
+use Rattle.gdb_packets.specs.Views.{told_in}
+use Rattle.gdb_packets.specs.declared.item.Item.{Item}
+use Rattle.execution_session.specs.Serving.{talking}
+use Rattle.execution_session.specs.Sessions.{looked_at}
+use Rattle.execution_session.proofs.Going.{serves_lost, serves_more}
+use Rattle.execution_session.proofs.serving.hear_next.Goals as goal
+
+pub returns-in-Err-OutOfMemory : goal.returns-in-Err-OutOfMemory
+returns-in-Err-OutOfMemory g c = λ gave k so.
+    let lost = c.next.ensures.lost (c.in-Err-OutOfMemory.is ∙ ap Err c.in-Err-OutOfMemory.field-0-is) in
+    serves_lost (looked_at c.args.past.now) gave k _ _ _ (talking c.args.talk.now) _ _ _ lost.0 so lost.1 c.in_ok-refuse_lost-in-Err-OutOfMemory.ensures
+
+pub returns-then-has_ended : goal.returns-then-has_ended
+returns-then-has_ended g c = λ gave k so.
+    let P : Option Item → Type 0 = λ x. Reads next_of (g.S.Source.gave c.args.src.now) c.args.reader.now (g.S.Source.gave c.next.new.src) c.next.new.self x in
+    let e : c.in-Ok.heard ≡ Some c.in-Some.item = grind (arith, c.in-Some.is, c.in-Ok.heard-is) in
+    let told = subst P e c.in-Ok.ensures.told in
+    let h = c.in_ok-hear.ensures in
+    let served = serves_more (looked_at c.args.past.now) gave k _ _ _ (talking c.args.talk.now) _ _ _ (told_in c.in-Some.item) h.0 (talking c.hear.new.self) so told h.1 h.2 in
+    (c.next.new.self, served, inl (told_in c.in-Some.item, sym c.has_ended.ensures ∙ c.if-has_ended.true))
+
+pub returns : goal.returns
+returns g c = λ gave k so.
+    let P : Option Item → Type 0 = λ x. Reads next_of (g.S.Source.gave c.args.src.now) c.args.reader.now (g.S.Source.gave c.next.new.src) c.next.new.self x in
+    let e : c.in-Ok.heard ≡ Some c.in-Some.item = grind (arith, c.in-Some.is, c.in-Ok.heard-is) in
+    let told = subst P e c.in-Ok.ensures.told in
+    let h = c.in_ok-hear.ensures in
+    serves_more (looked_at c.args.past.now) gave k _ _ _ (talking c.args.talk.now) _ _ _ (told_in c.in-Some.item) h.0 (talking c.hear.new.self) so told h.1 h.2

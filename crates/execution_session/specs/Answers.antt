@@ -1,0 +1,181 @@
+-- What a debugger is answered about an execution, and what its session is then.
+use Rattle.std.specs.Prelude.{◌≡◌, ℕ, ◌+◌, ◌-◌, ◌==◌, Bool, not, min, nat_le, false, if◌then◌else◌, List, [], ◌∷◌, ◌++◌, codes, filter, slice_get, slice_set, Option, Some, None}
+use Rattle.hex.specs.Hex.{encode_lower}
+use Rattle.hart_step.specs.declared.hart.Hart.{Hart}
+use Rattle.walking.specs.Stops.{is_one_of}
+use Rattle.execution_moments.specs.Shown.{hart_at, view_at}
+use Rattle.execution_views.specs.Moments.{bytes_at}
+use Rattle.gdb_packets.specs.Writing.{packet_text}
+use Rattle.gdb_requests.specs.declared.request.Request.{Request}
+use Rattle.gdb_requests.specs.declared.request.Request.TheVariants as requests
+use Rattle.gdb_replies.specs.Description.{target_text}
+use Rattle.gdb_replies.specs.Replies.{features_text, part_of, stop_text}
+use Rattle.gdb_replies.specs.Words.{numbers_of, register_text, registers_text, thread_text, threads_text}
+use Rattle.gdb_replies.specs.declared.registers.Registers.{Registers}
+use Rattle.gdb_sights.specs.Told.{stop_reply_of}
+use Rattle.execution_session.specs.declared.session.Standing.{Standing}
+use Rattle.execution_session.specs.Sessions.{Looked, State, hart_of_thread, position_at}
+use Rattle.execution_session.specs.Moving.{goes_back, goes_on, steps, steps_alone, steps_back}
+use Rattle.execution_session.specs.Threads.{thread_list}
+
+-- ---- breakpoints that come and go
+
+abbrev pub with_one : List ℕ → ℕ → List ℕ
+with_one stops address = if is_one_of stops address then stops else stops ++ address ∷ []
+
+abbrev pub differs_from : ℕ → ℕ → Bool
+differs_from address stop = not (stop == address)
+
+abbrev pub without_one : List ℕ → ℕ → List ℕ
+without_one stops address = filter (differs_from address) stops
+
+-- ---- texts
+
+abbrev pub missing : List ℕ
+missing = codes "E01"
+
+abbrev pub done : List ℕ
+done = codes "OK"
+
+abbrev pub done_or_missing : Option ℕ → List ℕ
+done_or_missing None = missing
+done_or_missing (Some h) = done
+
+-- where the execution stands, and why
+abbrev pub stop_answer : Standing → Option Hart → List ℕ
+stop_answer t None = missing
+stop_answer t (Some h) = stop_text (stop_reply_of t.reason t.told h)
+
+abbrev pub stands_text : Looked → Standing → List ℕ
+stands_text r t = stop_answer t (hart_at r.course t.time t.told)
+
+-- registers: those of the hart, of which x0 reads 0, and where its next operation stands in the order
+abbrev pub registers_of : Hart → ℕ → Registers
+registers_of h position = record { x = slice_set h.x 0 0; pc = h.pc; round = position; place = h.done; phase = 0 }
+
+abbrev pub number_text : Option ℕ → List ℕ
+number_text None = missing
+number_text (Some v) = register_text v
+
+abbrev pub registers_said : Option ℕ → Registers → List ℕ
+registers_said None r = registers_text r
+registers_said (Some number) r = number_text (slice_get (numbers_of r) number)
+
+abbrev pub registers_answer : Option ℕ → ℕ → Option Hart → List ℕ
+registers_answer number position None = missing
+registers_answer number position (Some h) = registers_said number (registers_of h position)
+
+abbrev pub registers_at : Looked → Standing → Option ℕ → List ℕ
+registers_at r t number = registers_answer number (position_at r t.time t.general) (hart_at r.course t.time t.general)
+
+-- memory: as many bytes as there are, and 32,000 at most
+abbrev pub bytes_seen : Looked → ℕ → ℕ → ℕ → ℕ → List ℕ
+bytes_seen r time h address count =
+    if nat_le r.size address then [] else
+    bytes_at r.events r.opening r.order (view_at r.course r.events r.order time h) address (min (min count (r.size - address)) 32000)
+
+abbrev pub bytes_answer : List ℕ → List ℕ
+bytes_answer [] = missing
+bytes_answer (b ∷ bs) = encode_lower (b ∷ bs)
+
+abbrev pub memory_at : Looked → Standing → ℕ → ℕ → List ℕ
+memory_at r t address count = bytes_answer (bytes_seen r t.time t.general address count)
+
+-- ---- requests that change nothing: those that aren't about the time, and those that are. Others are answered by nothing
+
+abbrev pub fixed_text : Looked → Standing → Request → Option (List ℕ)
+fixed_text r t requests.Features = Some (features_text false)
+fixed_text r t (requests.Description offset count) = Some (part_of target_text offset count)
+fixed_text r t requests.FirstThreads = Some (threads_text r.harts)
+fixed_text r t requests.MoreThreads = Some (codes "l")
+fixed_text r t requests.PresentThread = Some (codes "QC" ++ thread_text (t.general + 1))
+fixed_text r t requests.Attached = Some (codes "1")
+fixed_text r t requests.Change = Some (codes "E.the past of a recording cannot be changed")
+fixed_text r t requests.Actions = Some (codes "vCont;c;C;s;S")
+fixed_text r t requests.Detach = Some done
+fixed_text r t request = None
+
+abbrev pub moment_text : Looked → Standing → Request → List ℕ
+moment_text r t requests.WhyStopped = stands_text r t
+moment_text r t (requests.ThreadList offset count) = part_of (thread_list r t.time) offset count
+moment_text r t (requests.IsAlive thread) = done_or_missing (hart_of_thread r.harts thread)
+moment_text r t requests.ReadRegisters = registers_at r t None
+moment_text r t (requests.ReadRegister number) = registers_at r t (Some number)
+moment_text r t (requests.ReadMemory address count) = memory_at r t address count
+moment_text r t request = []
+
+abbrev pub or_else : Option (List ℕ) → List ℕ → List ℕ
+or_else None text = text
+or_else (Some text) other = text
+
+abbrev pub reply_at : Looked → Standing → Request → List ℕ
+reply_at r t request = or_else (fixed_text r t request) (moment_text r t request)
+
+-- ---- requests that resume the execution: where it stands then; none where there is no such thread
+
+abbrev pub by_thread : (ℕ → Standing) → Option ℕ → Option Standing
+by_thread to None = None
+by_thread to (Some h) = Some (to h)
+
+abbrev pub standing_after : Looked → State → Request → Option Standing
+standing_after r s (requests.Step thread) = by_thread (steps r s) (hart_of_thread r.harts thread)
+standing_after r s (requests.StepAlone thread) = by_thread (steps_alone r s) (hart_of_thread r.harts thread)
+standing_after r s requests.StepBack = Some (steps_back r s)
+standing_after r s requests.ContinueBack = Some (goes_back r s)
+standing_after r s request = Some (goes_on r s)
+
+-- ---- each request: the reply, and the session then
+
+pub record Answer : Type 0 where
+  pub text : List ℕ
+  pub state : State
+
+abbrev pub says : State → List ℕ → Answer
+says s text = record { text = text; state = s }
+
+abbrev pub stands_by : Looked → State → Option Standing → Answer
+stands_by r s None = says s missing
+stands_by r s (Some t) = record { text = stands_text r t; state = record s { standing = t } }
+
+abbrev pub resumed : Looked → State → Request → Answer
+resumed r s request = stands_by r s (standing_after r s request)
+
+abbrev pub general_by : State → Option ℕ → Answer
+general_by s None = says s missing
+general_by s (Some h) = record { text = done; state = record s { standing = record s.standing { general = h } } }
+
+abbrev pub selects_general : Looked → State → Option ℕ → Answer
+selects_general r s None = says s done
+selects_general r s (Some thread) = general_by s (hart_of_thread r.harts thread)
+
+abbrev pub moving_by : State → Option ℕ → Answer
+moving_by s None = says s missing
+moving_by s (Some h) = record { text = done; state = record s { standing = record s.standing { moving = Some h } } }
+
+abbrev pub selects_moving : Looked → State → Option ℕ → Answer
+selects_moving r s None = record { text = done; state = record s { standing = record s.standing { moving = None } } }
+selects_moving r s (Some thread) = moving_by s (hart_of_thread r.harts thread)
+
+abbrev pub answer_to : Looked → State → Request → Answer
+answer_to r s (requests.SelectGeneral thread) = selects_general r s thread
+answer_to r s (requests.SelectMoving thread) = selects_moving r s thread
+answer_to r s (requests.AddStop address) = record { text = done; state = record s { software = with_one s.software address } }
+answer_to r s (requests.RemoveStop address) = record { text = done; state = record s { software = without_one s.software address } }
+answer_to r s (requests.AddHardwareStop address) = record { text = done; state = record s { hardware = with_one s.hardware address } }
+answer_to r s (requests.RemoveHardwareStop address) = record { text = done; state = record s { hardware = without_one s.hardware address } }
+answer_to r s requests.Continue = resumed r s requests.Continue
+answer_to r s (requests.Step thread) = resumed r s (requests.Step thread)
+answer_to r s (requests.StepAlone thread) = resumed r s (requests.StepAlone thread)
+answer_to r s requests.StepBack = resumed r s requests.StepBack
+answer_to r s requests.ContinueBack = resumed r s requests.ContinueBack
+answer_to r s request = says s (reply_at r s.standing request)
+
+-- it is written as one packet
+abbrev pub Wrote : List ℕ → List ℕ → State → Answer → Type 0
+Wrote took took_then t a = (took_then ≡ took ++ packet_text a.text) × (t ≡ a.state)
+
+abbrev pub Answered : Looked → State → Request → List ℕ → List ℕ → State → Type 0
+Answered r s request took took_then t = Wrote took took_then t (answer_to r s request)
+
+abbrev pub Answers : Looked → State → Request → List ℕ → State → Type 0
+Answers r s request text t = (text ≡ (answer_to r s request).text) × (t ≡ (answer_to r s request).state)

@@ -1,0 +1,5 @@
+pub mod Sessions
+pub mod Moving
+pub mod Threads
+pub mod Answers
+pub mod Serving

@@ -1,0 +1,71 @@
+//! Breakpoints that come and go.
+
+ghost use Rattle.std.specs.Prelude.{◌≡◌, ◌++◌, Err, IfOk, OnOk, codes};
+ghost use Rattle.host_io.specs.declared.error.RunError.TheVariants as refusals;
+ghost use Rattle.gdb_packets.specs.Writing.{packet_text};
+ghost use Rattle.execution_session.specs.Answers.{with_one, without_one};
+
+use gdb_replies::{Reply, write_reply};
+use host_io::{RunError, Sink};
+use pages::OutOfMemory;
+use std::alloc::Global;
+
+/// The addresses with this one.
+fn with_one(alloc: Global, stops: &[u64], address: u64) -> Result<Vec<u64>, OutOfMemory>
+    ensures { IfOk result (λ v. v.items ≡ with_one stops.now address) }
+{
+    let mut changed = Vec::from_slice(alloc, stops)?;
+    if !stops.contains(&address) {
+        changed.push(address)?;
+    }
+    Ok(changed)
+}
+
+/// The addresses without this one.
+fn without_one(alloc: Global, stops: &[u64], address: u64) -> Result<Vec<u64>, OutOfMemory>
+    ensures { IfOk result (λ v. v.items ≡ without_one stops.now address) }
+{
+    let mut changed = Vec::new(alloc);
+    for stop in stops {
+        if *stop != address {
+            changed.push(*stop)?;
+        }
+    }
+    Ok(changed)
+}
+
+/// Adds a breakpoint, and says that this is done.
+pub(crate) fn add_stop<K: Sink>(
+    alloc: Global,
+    stops: &mut Vec<u64>,
+    address: u64,
+    out: &mut K,
+) -> Result<(), RunError>
+    ensures stops { OnOk result (stops.new.items ≡ with_one stops.old.items address) }
+    ensures writes { OnOk result (K.took out.new ≡ K.took out.old ++ packet_text (codes "OK")) }
+    ensures memory { result ≡ Err refusals.OutOfMemory →
+        (K.took out.new ≡ K.took out.old) × (stops.new ≡ stops.old) }
+{
+    let changed = with_one(alloc, stops.as_slice(), address)?;
+    write_reply(alloc, &Reply::Done, out)?;
+    *stops = changed;
+    Ok(())
+}
+
+/// Removes a breakpoint, and says that this is done.
+pub(crate) fn remove_stop<K: Sink>(
+    alloc: Global,
+    stops: &mut Vec<u64>,
+    address: u64,
+    out: &mut K,
+) -> Result<(), RunError>
+    ensures stops { OnOk result (stops.new.items ≡ without_one stops.old.items address) }
+    ensures writes { OnOk result (K.took out.new ≡ K.took out.old ++ packet_text (codes "OK")) }
+    ensures memory { result ≡ Err refusals.OutOfMemory →
+        (K.took out.new ≡ K.took out.old) × (stops.new ≡ stops.old) }
+{
+    let changed = without_one(alloc, stops.as_slice(), address)?;
+    write_reply(alloc, &Reply::Done, out)?;
+    *stops = changed;
+    Ok(())
+}

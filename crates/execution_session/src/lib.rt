@@ -1,0 +1,20 @@
+//! A debugger is served that looks at an execution: what each of its requests is answered, and where its session stands then.
+#![tactic(auto)]
+
+mod answering;
+mod breakpoints;
+mod knowing;
+mod moving;
+mod opening;
+mod past;
+mod serving;
+mod session;
+mod starting;
+mod talk;
+mod threads;
+
+pub use answering::answer;
+pub use opening::{Opened, open};
+pub use past::Past;
+pub use serving::serve;
+pub use session::{Session, Standing};

@@ -1,0 +1,72 @@
+ghost use Rattle.std.specs.Prelude.{◌≡◌, ◌∷◌, ◌++◌, ℕ, List, IfOk, OnOk};
+ghost use Rattle.execution_session.specs.Sessions.{looked_at};
+ghost use Rattle.execution_session.specs.Serving.{HasEnded, Served, ServesOn, Talking, refused_text, talking};
+
+use crate::past::Past;
+use crate::talk::{Talk, refuse};
+use gdb_packets::Reader;
+use host_io::{RunError, Sink, Source, put_all};
+use std::alloc::Global;
+
+/// Serves a debugger: reads what it says from a source, and answers it by a sink, until it leaves or the source ends.
+///
+/// # Errors
+///
+/// `SourceFailed` and `SinkFailed`.
+pub fn serve<S: Source, K: Sink>(
+    alloc: Global,
+    past: &Past,
+    src: &mut S,
+    out: &mut K,
+) -> Result<(), RunError>
+    ensures { OnOk result ((t : Talking) × (rest : List ℕ) × Served (looked_at past.now) (S.gave src.old) (S.gave src.new) (K.took out.old) (K.took out.new) rest t × HasEnded t rest) }
+{
+    let mut talk = Talk::new(alloc);
+    let mut reader = Reader::new();
+    for _i in 0..u64::MAX {
+        if !hear_next(alloc, past, &mut talk, &mut reader, src, out)? {
+            return Ok(());
+        }
+    }
+    // More than a source gives in any time.
+    Err(RunError::SourceFailed)
+}
+
+/// Hears what the debugger says next, and answers it. False: it has left, or the source has ended.
+fn hear_next<S: Source, K: Sink>(
+    alloc: Global,
+    past: &Past,
+    talk: &mut Talk,
+    reader: &mut Reader,
+    src: &mut S,
+    out: &mut K,
+) -> Result<bool, RunError>
+    ensures { IfOk result (λ more. (g k : List ℕ) →
+        Served (looked_at past.now) g (S.gave src.old) k (K.took out.old) reader.old (talking talk.old) →
+        ServesOn (looked_at past.now) g (S.gave src.new) k (K.took out.new) reader.new (talking talk.new) more) }
+{
+    let heard = match reader.next(alloc, src) {
+        Ok(heard) => heard,
+        Err(RunError::OutOfMemory) => {
+            refuse_lost(out)?;
+            return Ok(true);
+        }
+        Err(error) => return Err(error),
+    };
+    let Some(item) = heard else {
+        return Ok(false);
+    };
+    talk.hear(alloc, past, &item, out)?;
+    if talk.has_ended(&item) {
+        return Ok(false);
+    }
+    Ok(true)
+}
+
+/// Acknowledges something that found no memory, and says so.
+fn refuse_lost<K: Sink>(out: &mut K) -> Result<(), RunError>
+    ensures { OnOk result (K.took out.new ≡ K.took out.old ++ 43 ∷ refused_text) }
+{
+    put_all(out, b"+")?;
+    refuse(out)
+}

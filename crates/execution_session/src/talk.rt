@@ -1,0 +1,134 @@
+//! What a debugger says, one thing after another.
+
+ghost use Rattle.std.specs.Prelude.{◌≡◌, ◌++◌, ℕ, List, OnOk};
+ghost use Rattle.gdb_packets.specs.Views.{told_in};
+ghost use Rattle.execution_session.specs.Sessions.{looked_at, state_of};
+ghost use Rattle.execution_session.specs.Serving.{Hears, Replies, RepliesTo, again_of, asked_by, begun, ends, refused_text, talking};
+
+use crate::answering::answer;
+use crate::past::Past;
+use crate::session::Session;
+use gdb_packets::{Item, acknowledge};
+use gdb_requests::{Request, request_of};
+use host_io::{RunError, Sink, put_all};
+use std::alloc::Global;
+
+/// What says that a request found no memory: the packet of `E.error 20`.
+const REFUSED: &[u8] = b"$E.error 20#1f";
+
+/// A debugger's session, and what it asked for last.
+#[derive(Drop)]
+pub(crate) struct Talk {
+    pub(crate) session: Session,
+    pub(crate) last: Option<Request>,
+}
+
+impl Talk {
+    /// Nothing was said yet.
+    pub(crate) fn new(alloc: Global) -> Talk
+        ensures { talking result ≡ begun }
+    {
+        Talk {
+            session: Session::new(alloc),
+            last: None,
+        }
+    }
+
+    /// Hears what a debugger says, and answers it.
+    pub(crate) fn hear<K: Sink>(
+        &mut self,
+        alloc: Global,
+        past: &Past,
+        item: &Item,
+        out: &mut K,
+    ) -> Result<(), RunError>
+        ensures { OnOk result ((written : List ℕ) × Hears (looked_at past.now) (talking self.old) (told_in item.now) written (talking self.new) × (K.took out.new ≡ K.took out.old ++ written)) }
+    {
+        acknowledge(item, out)?;
+        let Some(request) = asked_by(item, self.last) else {
+            return Ok(());
+        };
+        reply(alloc, past, &mut self.session, request, out)?;
+        self.last = Some(request);
+        Ok(())
+    }
+
+    /// Whether the debugger has left, where this is what it said last.
+    pub(crate) fn has_ended(&self, item: &Item) -> bool
+        ensures { result ≡ ends (told_in item.now) (talking self.now).last }
+    {
+        match self.last {
+            Some(Request::Kill) => true,
+            Some(Request::Detach) => matches!(item, Item::Accepted),
+            _ => false,
+        }
+    }
+}
+
+/// What is asked for: by a packet, or by the wish to be told the last reply again.
+fn asked_by(item: &Item, last: Option<Request>) -> Option<Request>
+    ensures { result ≡ asked_by (told_in item.now) last }
+{
+    match item {
+        Item::Packet(payload) => Some(request_of(payload.as_slice())),
+        Item::Again => match last {
+            Some(request) => Some(again_of(request)),
+            None => None,
+        },
+        Item::Accepted | Item::Interrupt | Item::Spoilt => None,
+    }
+}
+
+/// What is asked for where the reply to a request is to be told again: an execution that was resumed stands where it stands.
+fn again_of(request: Request) -> Request
+    ensures { result ≡ again_of request }
+{
+    match request {
+        Request::Continue
+        | Request::Step(_)
+        | Request::StepAlone(_)
+        | Request::StepBack
+        | Request::ContinueBack => Request::WhyStopped,
+        other => other,
+    }
+}
+
+/// Replies to a request, but for one that the execution is to end.
+fn reply<K: Sink>(
+    alloc: Global,
+    past: &Past,
+    session: &mut Session,
+    request: Request,
+    out: &mut K,
+) -> Result<(), RunError>
+    ensures { OnOk result ((written : List ℕ) × RepliesTo (looked_at past.now) (state_of session.old) request written (state_of session.new) × (K.took out.new ≡ K.took out.old ++ written)) }
+{
+    match request {
+        Request::Kill => Ok(()),
+        _ => answer_or_refuse(alloc, past, session, request, out),
+    }
+}
+
+/// Answers a request, or says that it found no memory.
+fn answer_or_refuse<K: Sink>(
+    alloc: Global,
+    past: &Past,
+    session: &mut Session,
+    request: Request,
+    out: &mut K,
+) -> Result<(), RunError>
+    ensures { OnOk result ((written : List ℕ) × Replies (looked_at past.now) (state_of session.old) request written (state_of session.new) × (K.took out.new ≡ K.took out.old ++ written)) }
+{
+    match answer(alloc, past, session, request, out) {
+        Ok(()) => Ok(()),
+        Err(RunError::OutOfMemory) => refuse(out),
+        Err(error) => Err(error),
+    }
+}
+
+/// Says that a request found no memory.
+pub(crate) fn refuse<K: Sink>(out: &mut K) -> Result<(), RunError>
+    ensures { OnOk result (K.took out.new ≡ K.took out.old ++ refused_text) }
+{
+    put_all(out, REFUSED)
+}
