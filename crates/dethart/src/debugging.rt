@@ -4,10 +4,12 @@ ghost use Rattle.std.specs.Prelude.{IfOk};
 ghost use Rattle.gdb_session.specs.Serving.{begun};
 ghost use Rattle.gdb_resumes.specs.Sessions.{IsReady};
 
+use crate::executions::{read_execution_of, write_checked};
 use crate::failure::Failure;
-use crate::past::read_recording_of;
+use crate::past::{Past, read_past_of};
 use crate::world::HostFiles;
 use command_line::Gdb;
+use execution_session::Opened;
 use gdb_resumes::Debugged;
 use gdb_session::{open, refuse_each, serve};
 use host_io::{ReadSource, WriteSink};
@@ -18,35 +20,72 @@ use std::io;
 use std::sync::Wait;
 use std::thread::Threads;
 
-/// Serves a debugger that looks at the recording of a file, over standard input and output. Where the recording is refused, it is told so
-/// too: a debugger shows no more of a program that has ended.
+/// Serves a debugger that looks at the recording or the execution of a file, over standard input and output. Where that is refused, it is
+/// told so too: a debugger shows no more of a program that has ended.
 pub(crate) fn serve_debugger<R: Threads + Wait + Sync>(
     rt: &HostRuntime,
     threads: &R,
     asked: &Gdb<'_>,
 ) -> Result<ExitStatus, Failure> {
-    let mut requests = ReadSource::new(rt.reader());
-    let mut replies = WriteSink::new(io::writer(rt));
-    match opened(rt, asked) {
-        Ok(mut run) => {
-            serve(threads, rt.alloc(), &mut run, &mut requests, &mut replies)?;
-            Ok(ExitStatus::Done)
-        }
+    let served = match read_past_of(&HostFiles::new(rt), rt.alloc(), asked.recording) {
+        Ok(Past::Recording(recording)) => serve_recording(rt, threads, &recording),
+        Ok(Past::Execution(text)) => serve_execution(rt, &text),
+        Err(failure) => Err(failure),
+    };
+    match served {
+        Ok(status) => Ok(status),
         Err(failure) => {
             let _unwritten = failure.print(rt);
-            let number = failure.number().unwrap_or(0);
-            refuse_each(rt.alloc(), number, &mut requests, &mut replies)?;
+            refuse(rt, failure.number().unwrap_or(0))?;
             Ok(failure.status())
         }
     }
 }
 
+/// Answers each request by the number of a refusal.
+fn refuse(rt: &HostRuntime, number: u32) -> Result<(), Failure> {
+    let mut requests = ReadSource::new(rt.reader());
+    let mut replies = WriteSink::new(io::writer(rt));
+    Ok(refuse_each(rt.alloc(), number, &mut requests, &mut replies)?)
+}
+
+/// Serves a debugger that looks at a recording.
+fn serve_recording<R: Threads + Wait + Sync>(
+    rt: &HostRuntime,
+    threads: &R,
+    recording: &Recording,
+) -> Result<ExitStatus, Failure> {
+    let mut run = opened(rt, recording)?;
+    let mut requests = ReadSource::new(rt.reader());
+    let mut replies = WriteSink::new(io::writer(rt));
+    serve(threads, rt.alloc(), &mut run, &mut requests, &mut replies)?;
+    Ok(ExitStatus::Done)
+}
+
+/// Serves a debugger that looks at an execution. One that RVWMO doesn't allow is refused: what was found stands on standard error.
+fn serve_execution(rt: &HostRuntime, text: &[u8]) -> Result<ExitStatus, Failure> {
+    let file = read_execution_of(rt, text)?;
+    match execution_session::open(rt.alloc(), &file)? {
+        Opened::Past(past) => {
+            let mut requests = ReadSource::new(rt.reader());
+            let mut replies = WriteSink::new(io::writer(rt));
+            execution_session::serve(rt.alloc(), &past, &mut requests, &mut replies)?;
+            Ok(ExitStatus::Done)
+        }
+        Opened::Refused(checked) => {
+            let mut errors = WriteSink::new(rt.stderr());
+            write_checked(rt.alloc(), &checked, &mut errors)?;
+            refuse(rt, 0)?;
+            Ok(ExitStatus::Differs)
+        }
+    }
+}
+
 /// The run of the recording.
-fn opened(rt: &HostRuntime, asked: &Gdb<'_>) -> Result<Debugged, Failure>
+fn opened(rt: &HostRuntime, recording: &Recording) -> Result<Debugged, Failure>
     ensures ready { IfOk result (λ d. IsReady d begun.state.standing) }
 {
-    let recording = read_recording_of(&HostFiles::new(rt), rt.alloc(), asked.recording)?;
-    let settings = settings_of(&recording);
+    let settings = settings_of(recording);
     let image = recording.image();
     Ok(open(rt.alloc(), image, recording.input(), &settings)?)
 }
