@@ -33,7 +33,7 @@ pub fn check_moments(
     ensures verdict { IfOk result (λ r. IsVerdict r.0 execution.old.memory (opening_at opening.now.opening)
         script.now order.now.0.items execution.old.standing execution.new.standing) }
     ensures course { IfOk result (λ r. MatchOption r.1 (r.0 ≢ verdicts.Allowed)
-        (λ c. IsCourse execution.old.memory execution.old.standing execution.new.standing order.now.0.items c)) }
+        (λ c. (r.0 ≡ verdicts.Allowed) × IsCourse execution.old.memory execution.old.standing execution.new.standing order.now.0.items c)) }
 {
     execution.is_small();
     let (broken, moments) = follow(alloc, execution, script)?;
