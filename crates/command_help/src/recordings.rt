@@ -112,7 +112,12 @@ hart: hart 0 is thread 1. Each hart sees its own memory: in a parallel phase tha
 of the round's start under its own stores. Registers round, place and phase say
 where in the run a hart is. Registers and memory can't be changed.
 
+The file may also be an execution, as dethart execution and fences --keep write
+it: gdb then goes along the order of memory, where round is the position of the
+hart's next operation, and a hart sees what its next load reads.
+
 A refusal is the line 'error N' on standard error, and each packet is answered by
 it then, until the input ends; dethart run --help lists what each N means.
 
-Exit status: 0 gdb has left, 1 a refusal, 2 a bad command line.";
+Exit status: 0 gdb has left, 1 a refusal, 2 a bad command line, 3 an execution
+that RVWMO doesn't allow.";
