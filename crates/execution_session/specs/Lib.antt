@@ -3,3 +3,4 @@ pub mod Moving
 pub mod Threads
 pub mod Answers
 pub mod Serving
+pub mod Opening

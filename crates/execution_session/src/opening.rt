@@ -1,6 +1,13 @@
+ghost use Rattle.std.specs.Prelude.{◌≡◌, ◌≤◌, ℕ, if◌then◌else◌, length, slice_index, IfOk, OnOk};
+ghost use Rattle.execution_file.specs.Views.{as_recorded};
+ghost use Rattle.execution_scripts.specs.Findings.{guest_in, image_in, start_of};
+ghost use Rattle.execution_session.specs.Opening.{IsOpened};
+ghost use Rattle.trace.specs.Traced.{opening_at};
+
 use crate::past::Past;
 use crate::starting::open_execution;
-use execution_checker::Verdict;
+use elf_loader::Image;
+use execution_checker::{Execution, Verdict};
 use execution_file::ExecutionFile;
 use execution_moments::check_moments;
 use execution_scripts::{Checked, Finding, Sights, check_file};
@@ -21,22 +28,27 @@ pub enum Opened {
 
 /// The execution of a file, before a debugger looks at it.
 ///
+/// The file's checker makes the script; what is opened is an execution that the script leads to, judged anew.
+///
 /// # Errors
 ///
 /// The refusals of the numbers of harts and pages, then of the image; `OutOfMemory`.
-pub fn open(alloc: Global, file: &ExecutionFile) -> Result<Opened, RunError> {
+pub fn open(alloc: Global, file: &ExecutionFile) -> Result<Opened, RunError>
+    ensures { IfOk result (λ o. IsOpened (as_recorded file.now) o) }
+{
     let checked = check_file(alloc, file, None)?;
-    if checked.finding != Finding::Judged(Verdict::Allowed) {
-        return Ok(Opened::Refused(checked));
+    match checked.finding {
+        Finding::Judged(Verdict::Allowed) => open_allowed(alloc, file, checked),
+        _ => Ok(Opened::Refused(checked)),
     }
-    let harts = file.harts.len();
-    if harts < 1 || harts > MOST_HARTS as usize || file.pages < 1 || file.pages > MOST_PAGES {
-        // Such a file is refused before.
-        return Err(RunError::HartsOutOfRange);
-    }
-    let format = if file.flat { Format::Flat } else { Format::Elf };
-    let image = load(alloc, format, &file.image, file.pages)?;
-    let mut execution = open_execution(alloc, &image, &file.input, harts as u32)?;
+}
+
+/// The same of a file that RVWMO allows.
+fn open_allowed(alloc: Global, file: &ExecutionFile, checked: Checked) -> Result<Opened, RunError>
+    requires { (x : ℕ) → opening_at checked.opening.opening x ≡ slice_index (guest_in (as_recorded file.now)).shared.memory.bytes x }
+    ensures { IfOk result (λ o. IsOpened (as_recorded file.now) o) }
+{
+    let mut execution = start(alloc, file)?;
     let Checked {
         script,
         order,
@@ -50,7 +62,7 @@ pub fn open(alloc: Global, file: &ExecutionFile) -> Result<Opened, RunError> {
             course,
             order,
             opening,
-            harts: harts as u8,
+            harts: file.harts.len() as u8,
             size: file.pages * 4096,
         })),
         None => Ok(Opened::Refused(Checked {
@@ -65,4 +77,37 @@ pub fn open(alloc: Global, file: &ExecutionFile) -> Result<Opened, RunError> {
             },
         })),
     }
+}
+
+/// The execution of a file in which nothing is done yet.
+fn start(alloc: Global, file: &ExecutionFile) -> Result<Execution, RunError>
+    ensures memory { IfOk result (λ e. e.memory ≡ (guest_in (as_recorded file.now)).shared.memory) }
+    ensures standing { IfOk result (λ e. e.standing ≡ start_of (guest_in (as_recorded file.now))) }
+    ensures harts { OnOk result (length file.now.harts.items ≤ 64) }
+    ensures pages { OnOk result (file.now.pages ≤ 16384) }
+{
+    let harts = file.harts.len();
+    if harts < 1 || harts > MOST_HARTS as usize {
+        return Err(RunError::HartsOutOfRange);
+    }
+    if file.pages < 1 || file.pages > MOST_PAGES {
+        return Err(RunError::PagesOutOfRange);
+    }
+    let image = load_image(alloc, file)?;
+    Ok(open_execution(alloc, &image, &file.input, harts as u32)?)
+}
+
+/// The image of a file.
+fn load_image(alloc: Global, file: &ExecutionFile) -> Result<Image, RunError>
+    requires some_pages { 1 ≤ file.now.pages }
+    requires few_pages { file.now.pages ≤ 16384 }
+    ensures { IfOk result (λ i. i ≡ image_in (as_recorded file.now)) }
+{
+    load(alloc, format_of(file), &file.image, file.pages)
+}
+
+fn format_of(file: &ExecutionFile) -> Format
+    ensures { result ≡ (if file.now.flat then Format.Flat else Format.Elf) }
+{
+    if file.flat { Format::Flat } else { Format::Elf }
 }

@@ -1,0 +1,11 @@
+use Rattle.std.proofs.Common.{None, subst}
+use Rattle.execution_file.specs.Views.{as_recorded}
+use Rattle.execution_scripts.specs.Findings.{IsFound, guest_in}
+use Rattle.execution_scripts.specs.declared.checking.Finding.{Finding}
+use Rattle.execution_session.proofs.opening.open.Goals as goal
+
+pub open_allowed-requires : goal.open_allowed-requires
+open_allowed-requires c =
+    let r = as_recorded c.args.file.now in
+    let P : Finding → Type 0 = λ f. IsFound (guest_in r) r.harts r.order None f c.in_ok-checked.checked in
+    (subst P c.in-Judged-Allowed.is c.in_ok-checked.ensures).opening
