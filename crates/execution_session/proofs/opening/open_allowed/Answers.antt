@@ -1,4 +1,4 @@
-use Rattle.std.proofs.Common.{◌≡◌, ℕ, List, arith, length, refl, subst, sym, ◌∙◌}
+use Rattle.std.proofs.Common.{◌≡◌, ℕ, arith, length, refl, subst, sym, ◌∙◌}
 use Rattle.pages.specs.Memory.{Memory}
 use Rattle.trace.specs.Traced.{opening_at}
 use Rattle.execution.specs.Executions.{Standing}
