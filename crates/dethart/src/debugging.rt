@@ -27,19 +27,18 @@ pub(crate) fn serve_debugger<R: Threads + Wait + Sync>(
     threads: &R,
     asked: &Gdb<'_>,
 ) -> Result<ExitStatus, Failure> {
-    let served = match read_past_of(&HostFiles::new(rt), rt.alloc(), asked.recording) {
+    match read_past_of(&HostFiles::new(rt), rt.alloc(), asked.recording) {
         Ok(Past::Recording(recording)) => serve_recording(rt, threads, &recording),
         Ok(Past::Execution(text)) => serve_execution(rt, &text),
-        Err(failure) => Err(failure),
-    };
-    match served {
-        Ok(status) => Ok(status),
-        Err(failure) => {
-            let _unwritten = failure.print(rt);
-            refuse(rt, failure.number().unwrap_or(0))?;
-            Ok(failure.status())
-        }
+        Err(failure) => tell_refusal(rt, failure),
     }
+}
+
+/// Says why there is nothing to look at, and answers each request so.
+fn tell_refusal(rt: &HostRuntime, failure: Failure) -> Result<ExitStatus, Failure> {
+    let _unwritten = failure.print(rt);
+    refuse(rt, failure.number().unwrap_or(0))?;
+    Ok(failure.status())
 }
 
 /// Answers each request by the number of a refusal.
@@ -55,30 +54,40 @@ fn serve_recording<R: Threads + Wait + Sync>(
     threads: &R,
     recording: &Recording,
 ) -> Result<ExitStatus, Failure> {
-    let mut run = opened(rt, recording)?;
-    let mut requests = ReadSource::new(rt.reader());
-    let mut replies = WriteSink::new(io::writer(rt));
-    serve(threads, rt.alloc(), &mut run, &mut requests, &mut replies)?;
-    Ok(ExitStatus::Done)
+    match opened(rt, recording) {
+        Ok(mut run) => {
+            let mut requests = ReadSource::new(rt.reader());
+            let mut replies = WriteSink::new(io::writer(rt));
+            serve(threads, rt.alloc(), &mut run, &mut requests, &mut replies)?;
+            Ok(ExitStatus::Done)
+        }
+        Err(failure) => tell_refusal(rt, failure),
+    }
 }
 
 /// Serves a debugger that looks at an execution. One that RVWMO doesn't allow is refused: what was found stands on standard error.
 fn serve_execution(rt: &HostRuntime, text: &[u8]) -> Result<ExitStatus, Failure> {
-    let file = read_execution_of(rt, text)?;
-    match execution_session::open(rt.alloc(), &file)? {
-        Opened::Past(past) => {
+    match opened_execution(rt, text) {
+        Ok(Opened::Past(past)) => {
             let mut requests = ReadSource::new(rt.reader());
             let mut replies = WriteSink::new(io::writer(rt));
             execution_session::serve(rt.alloc(), &past, &mut requests, &mut replies)?;
             Ok(ExitStatus::Done)
         }
-        Opened::Refused(checked) => {
+        Ok(Opened::Refused(checked)) => {
             let mut errors = WriteSink::new(rt.stderr());
             write_checked(rt.alloc(), &checked, &mut errors)?;
             refuse(rt, 0)?;
             Ok(ExitStatus::Differs)
         }
+        Err(failure) => tell_refusal(rt, failure),
     }
+}
+
+/// The execution that a text says, or what was found against it.
+fn opened_execution(rt: &HostRuntime, text: &[u8]) -> Result<Opened, Failure> {
+    let file = read_execution_of(rt, text)?;
+    Ok(execution_session::open(rt.alloc(), &file)?)
 }
 
 /// The run of the recording.
