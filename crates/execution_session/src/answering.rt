@@ -163,7 +163,7 @@ fn fixed_reply(past: &Past, standing: Standing, request: Request) -> Option<Repl
         (λ reply. fixed_text (looked_at past.now) standing request ≡ Some (payload_of reply)) }
 {
     match request {
-        Request::Features => Some(Reply::Features(false)),
+        Request::Features => Some(Reply::Features),
         Request::Description(offset, count) => Some(Reply::Part(Window {
             text: target_description(),
             offset,
