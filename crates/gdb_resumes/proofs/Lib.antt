@@ -1,2 +1,4 @@
 pub mod Runs
+pub mod Passing
 pub mod Arriving
+pub mod Come

@@ -1,0 +1,17 @@
+use Rattle.std.proofs.Common.{ap, subst, sym, ◌∙◌}
+use Rattle.machine.specs.Machine.{Running}
+use Rattle.machine.specs.Untraced.{IsUntraced, Untraced}
+use Rattle.round_steps.proofs.Stretches.{from_start}
+use Rattle.gdb_resumes.proofs.stretches.Stretches.new.Goals as goal
+
+pub invariant_of-result : goal.invariant_of-result
+invariant_of-result c =
+    let stays = c.in_ok-here.ensures.stays in
+    let back = λ (m : Running) (is : IsUntraced m c.share.new.self). subst (λ (u : Untraced). IsUntraced m u) stays is in
+    record {
+      run = (c.requires.run.0, subst (λ (u : Untraced). IsUntraced c.requires.run.0 u) (sym stays) c.requires.run.1);
+      fresh = ap (λ (u : Untraced). u.rounds) stays ∙ c.requires.fresh;
+      has_code = λ m is. c.requires.code m (back m is);
+      later = λ m is. from_start m c.args.machine c.in_ok-here.here (back m is) c.requires.fresh c.in_ok-here.ensures.same;
+      few = c.requires.rounds;
+    }
