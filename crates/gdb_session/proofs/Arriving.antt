@@ -1,11 +1,10 @@
 -- What a change of the breakpoints or watchpoints is answered.
-use Rattle.std.proofs.Common.{◌≡◌, ℕ, List, codes, Option, Some, Result, Ok, Err, sym, subst}
+use Rattle.std.proofs.Common.{◌≡◌, ℕ, List, codes, Result, Ok, Err, sym, subst}
 use Rattle.std.specs.Prelude.{◌++◌, OnOk}
 use Rattle.gdb_packets.specs.Writing.{packet_text}
 use Rattle.gdb_requests.specs.declared.request.Request.{Request}
 use Rattle.gdb_resumes.specs.Sessions.{Recorded, State}
-use Rattle.gdb_resumes.specs.declared.session.Standing.{Standing}
-use Rattle.gdb_session.specs.Answers.{Answered, Answers, Replied, reply_at}
+use Rattle.gdb_session.specs.Answers.{Answered, Answers}
 
 pub both : {T E P Q R : Type 0} (r : Result T E) → (P → Q → R) → OnOk r P → OnOk r Q → OnOk r R
 both (Ok x) f p q = f p q
@@ -16,11 +15,3 @@ pub stop_changed : (r : Recorded) (s : State) (request q : Request) (took took_t
 stop_changed r s request q took took_then t is answers wrote =
     let P : Request → Type 0 = λ x. Answers r s x (codes "OK") t in
     record { text = codes "OK"; answers = subst P (sym is) answers; wrote = wrote }
-
--- ---- replies
-
-pub replied_with : (r : Recorded) (t : Standing) (request q : Request) (said took took_then : List ℕ) → request ≡ q → reply_at r t q ≡ Some said →
-    took_then ≡ took ++ packet_text said → Replied r t request took took_then
-replied_with r t request q said took took_then is same wrote =
-    let P : Request → Type 0 = λ x. reply_at r t x ≡ Some said in
-    record { said = said; is = subst P (sym is) same; wrote = wrote }
