@@ -6,3 +6,5 @@ pub mod ShownThere
 pub mod Stretches
 pub mod PointsFound
 pub mod Silent
+pub mod GoingOn
+pub mod StopsAlone

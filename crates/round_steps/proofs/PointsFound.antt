@@ -161,3 +161,9 @@ first_of_points a ws m here told x e f = f ∙ ap (λ (ts : List Told). earliest
 
 pub last_of_points : (a : Asked) (ws : List Watchpoint) (m : Running) (here : Point) (told : List Told) (x : Option Told) → told ≡ points_of Back a ws m → x ≡ latest None (filter (λ (t : Told). point_before t.point here) told) → x ≡ last_in a ws m here
 last_of_points a ws m here told x e f = f ∙ ap (λ (ts : List Told). latest None (filter (λ (t : Told). point_before t.point here) ts)) e
+
+-- ---- a search
+
+pub found_in_all : (a : Asked) (ws : List Watchpoint) (m : Running) (k n : ℕ) (here : Point) (x : Option Told) → k ≤ n → (x ≡ None → k ≡ n) → x ≡ next_point_of a ws m k here → x ≡ next_point_of a ws m n here
+found_in_all a ws m k n here None le all e = e ∙ ap (λ (j : ℕ). next_point_of a ws m j here) (all refl)
+found_in_all a ws m k n here (Some t) le all e = sym (still_found a ws m k n here t le (sym e))

@@ -1,8 +1,10 @@
 -- The machine after so many rounds.
-use Rattle.std.proofs.Common.{◌≡◌, ℕ, ◌+◌, sym, subst}
+use Rattle.std.proofs.Common.{◌≡◌, ℕ, ◌+◌, ◌++◌, List, [], ◌∷◌, All, Bool, true, false, cond, refl, sym, subst}
+use Rattle.std.proofs.lemmas.List.Elements.{All-nil, All-push, All-same}
 use Rattle.machine.specs.Machine.{Running, after_rounds}
 use Rattle.machine.specs.Untraced.{IsAfter, IsUntraced, Untraced}
 use Rattle.machine.proofs.Repeated.{more_rounds}
+use Rattle.round_steps.specs.Timelines.{IsThere}
 use Rattle.round_steps.proofs.Searching.{begins_there}
 
 pub from_start : (m : Running) (start u : Untraced) → IsUntraced m start → start.rounds ≡ 0 → u ≡ start → IsUntraced (after_rounds u.rounds m) u
@@ -19,3 +21,17 @@ arrives m k more n u v is after e = subst (λ (j : ℕ). IsUntraced (after_round
 pub is_there : (m : Running) (n : ℕ) (u v : Untraced) → IsUntraced (after_rounds n m) u → u.rounds ≡ n → v ≡ u → IsUntraced (after_rounds v.rounds m) v
 is_there m n u v is e same =
     subst (λ (w : Untraced). IsUntraced (after_rounds w.rounds m) w) (sym same) (subst (λ (j : ℕ). IsUntraced (after_rounds j m) u) (sym e) is)
+
+pub start_there : (start : Untraced) → start.rounds ≡ 0 → IsThere start start
+start_there start none = λ m is. from_start m start start is none refl
+
+pub none_kept : (start : Untraced) (us : List Untraced) → us ≡ [] → All (IsThere start) us
+none_kept start us e = All-same (IsThere start) us [] e (All-nil (IsThere start))
+
+pub one_kept : (start u v : Untraced) (us vs : List Untraced) (b : Bool) → All (IsThere start) us → IsThere start u → v ≡ u → vs ≡ cond b (us ++ v ∷ []) us → All (IsThere start) vs
+one_kept start u v us vs true all is same e = All-same (IsThere start) vs (us ++ v ∷ []) e (All-push (IsThere start) us v all (subst (IsThere start) (sym same) is))
+one_kept start u v us vs false all is same e = All-same (IsThere start) vs us e all
+
+-- a machine some rounds after one that is there
+pub goes_there : (m : Running) (b d : ℕ) (v : Untraced) → IsUntraced (after_rounds d (after_rounds b m)) v → v.rounds ≡ b + d → IsUntraced (after_rounds v.rounds m) v
+goes_there m b d v is e = subst (λ (n : ℕ). IsUntraced (after_rounds n m) v) (sym e) (subst (λ (r : Running). IsUntraced r v) (more_rounds b d m) is)

@@ -1,11 +1,11 @@
 -- The turns of a round are what the harts' pasts end with.
-use Rattle.std.proofs.Common.{◌≡◌, ℕ, zero, suc, ◌+◌, ◌-◌, ◌<◌, ◌==◌, ◌||◌, Bool, true, false, cond, List, [], ◌∷◌, ◌++◌, length, drop, map, slice_get, slice_index, is_some, Option, Some, None, refl, sym, ◌∙◌, ap, arith, append-nil}
+use Rattle.std.proofs.Common.{◌≡◌, ℕ, zero, suc, ◌-◌, ◌==◌, ◌||◌, Bool, true, false, cond, List, [], ◌∷◌, ◌++◌, length, drop, slice_get, slice_index, is_some, Option, Some, None, refl, sym, ◌∙◌, ap, append-nil}
 use Rattle.std.specs.List.{list_any}
 use Rattle.std.specs.Option.{option_map_or}
 use Rattle.std.proofs.lemmas.List.Folds.{list_any-append}
 use Rattle.round_schedule.specs.declared.event.Phase.TheVariants.{Serial}
 use Rattle.round_schedule.specs.Past.{last_of}
-use Rattle.round_schedule.specs.Schedule.{Words, began}
+use Rattle.round_schedule.specs.Schedule.{began}
 use Rattle.round_planner.specs.Quotas.{quotas_of}
 use Rattle.hart_step.specs.declared.hart.Hart.{Hart}
 use Rattle.hart_step.specs.Console.{ConsoleState}
@@ -17,7 +17,7 @@ use Rattle.machine.proofs.TurnHartsAsked.{turns_end}
 use Rattle.walking.specs.Hits.{hits_from, tells}
 use Rattle.walking.specs.declared.asked.Asked.{Asked}
 use Rattle.round_steps.specs.declared.place.Place.{Place}
-use Rattle.round_steps.specs.Places.{Begun, begun_of, ends_stopped, part_of, past_at, places, serial_places, turn_at, turn_comes, turn_of, turn_places, turns_of}
+use Rattle.round_steps.specs.Places.{begun_of, ends_stopped, part_of, past_at, places, serial_places, turn_at, turn_comes, turn_of, turn_places, turns_of}
 
 abbrev there : {X : Type 0} → X → Option X
 there x = Some x

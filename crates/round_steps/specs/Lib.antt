@@ -3,3 +3,5 @@ pub mod Moments
 pub mod Points
 pub mod Shown
 pub mod Timelines
+pub mod Stopping
+pub mod Searching

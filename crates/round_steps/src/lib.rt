@@ -9,6 +9,7 @@ mod point_search;
 mod points;
 mod round;
 mod showing;
+mod stops_alone;
 mod timeline;
 mod turn;
 

@@ -42,7 +42,8 @@ pub(crate) fn points_in_round<R: Threads + Wait + Sync>(
     rt: &R,
     machine: &mut UntracedMachine,
     code: &[Range],
-    telling: &Telling,
+    asked: &Asked,
+    watches: &[Watchpoint],
     way: Way,
     workers: u32,
 ) -> Result<Vec<Told>, RunError>
@@ -52,16 +53,16 @@ pub(crate) fn points_in_round<R: Threads + Wait + Sync>(
     ensures runs { OnOk result (IsAfter 1 machine.old machine.new) }
     ensures counted { OnOk result (machine.new.rounds ≡ machine.old.rounds + 1) }
     ensures told { (m : Running) → IsUntraced m machine.old → m.code ≡ code.now →
-        IfOk result (λ v. v.items ≡ points_of way telling.now.asked telling.now.watches.items m) }
+        IfOk result (λ v. v.items ≡ points_of way asked.now watches.now m) }
     ensures refused { IfErr result (λ e. e ≡ refusals.OutOfMemory) }
 {
     let rounds = machine.rounds();
     let alloc = machine.pages().allocator();
-    let places = places_asked(rt, machine, code, &telling.asked)?;
+    let places = places_asked(rt, machine, code, asked)?;
     let mut told = Vec::new(alloc);
     add_places(&mut told, rounds, &places)?;
     let harts = copied(alloc, machine.harts())?;
-    let hits = hits_in_next(rt, machine, &telling.watches, way, workers)?;
+    let hits = hits_in_next(rt, machine, watches, way, workers)?;
     add_hits(&mut told, rounds, &harts, &hits, way)?;
     Ok(told)
 }

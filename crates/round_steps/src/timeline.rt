@@ -4,6 +4,7 @@ ghost use Rattle.machine.specs.Machine.{Running, after_rounds};
 ghost use Rattle.machine.specs.Untraced.{IsUntraced};
 ghost use Rattle.round_steps.specs.Points.{next_point_of, previous_point_of};
 ghost use Rattle.round_steps.specs.Shown.{shown_at_point};
+ghost use Rattle.round_steps.specs.Timelines.{IsThere};
 
 use crate::point::{Point, Told};
 use crate::point_search::{next_point, previous_point};
@@ -20,6 +21,12 @@ use std::thread::Threads;
 /// How much longer each stretch of rounds is that is looked through on the way back.
 const LONGER: u32 = 8;
 
+/// The most machines that are kept to go on from.
+const MOST_KEPT: u32 = 128;
+
+/// The most pages that they may have of their own: 256 MiB.
+const MOST_PAGES: u32 = 65_536;
+
 /// A run of so many rounds, which can be looked at at each of its points.
 #[derive(Drop)]
 pub struct Timeline {
@@ -27,6 +34,10 @@ pub struct Timeline {
     start: UntracedMachine,
     /// The machine before the round that was looked at last.
     here: UntracedMachine,
+    /// Machines after some rounds, to go on from.
+    kept: Vec<UntracedMachine>,
+    /// How many rounds lie between two of them, at least.
+    apart: u32,
     code: Vec<Range>,
     rounds: u32,
 }
@@ -38,7 +49,7 @@ impl Model for Timeline {
 
     ghost view = { λ t. record { start = t.start; rounds = t.rounds } };
 
-    ghost invariant = { λ t. Holds t.start t.here t.code.items t.rounds };
+    ghost invariant = { λ t. Holds t.start t.here t.kept.items t.apart t.code.items t.rounds };
 }
 
 impl Timeline {
@@ -62,9 +73,13 @@ impl Timeline {
     {
         let mut start = machine;
         let here = start.share()?;
+        let kept = Vec::new(start.pages().allocator());
+        let apart = rounds_apart(rounds, start.pages().count());
         Ok(Timeline {
             start,
             here,
+            kept,
+            apart,
             code,
             rounds,
         })
@@ -97,9 +112,37 @@ impl Timeline {
             (after_rounds here.now.moment.rounds m) (self.old.rounds - here.now.moment.rounds) here.now) }
         ensures refused { IfErr result (λ e. e ≡ refusals.OutOfMemory) }
     {
-        let machine = self.machine_at(rt, here.moment.rounds, workers)?;
-        let rounds = self.rounds - here.moment.rounds;
-        next_point(rt, machine, &self.code, rounds, telling, here, workers)
+        let begin = here.moment.rounds;
+        self.earliest_in(rt, begin, self.rounds - begin, telling, here, workers)
+    }
+
+    /// The same in `count` rounds after `begin` others.
+    ///
+    /// # Errors
+    ///
+    /// `OutOfMemory` alone.
+    pub fn earliest_in<R: Threads + Wait + Sync>(
+        &mut self,
+        rt: &R,
+        begin: u32,
+        count: u32,
+        telling: &Telling,
+        here: &Point,
+        workers: u32,
+    ) -> Result<Option<Told>, RunError>
+        requires within { begin + count ≤ self.old.rounds }
+        requires workers { (1 ≤ workers) × (workers ≤ 16) }
+        ensures stays { self.new ≡ self.old }
+        ensures next { (m : Running) → IsUntraced m self.old.start → IfOk result (λ x. x ≡
+            next_point_of telling.now.asked telling.now.watches.items (after_rounds begin m) count here.now) }
+        ensures refused { IfErr result (λ e. e ≡ refusals.OutOfMemory) }
+    {
+        let mut machine = self.machine_at(rt, begin, workers)?;
+        let found = next_point(rt, &mut machine, &self.code, count, telling, here, workers)?;
+        if found.is_none() {
+            self.keep(&mut machine)?;
+        }
+        Ok(found)
     }
 
     /// The latest point before another one at which something is told. It may wait.
@@ -126,7 +169,7 @@ impl Timeline {
         let mut size: u32 = 1;
         while end > 0 {
             let begin = end - size.min(end);
-            if let Some(found) = self.point_between(rt, begin, end, telling, here, workers)? {
+            if let Some(found) = self.latest_in(rt, begin, end, telling, here, workers)? {
                 return Ok(Some(found));
             }
             end = begin;
@@ -136,7 +179,11 @@ impl Timeline {
     }
 
     /// The same in the rounds after `begin` others up to `end`.
-    fn point_between<R: Threads + Wait + Sync>(
+    ///
+    /// # Errors
+    ///
+    /// `OutOfMemory` alone.
+    pub fn latest_in<R: Threads + Wait + Sync>(
         &mut self,
         rt: &R,
         begin: u32,
@@ -154,8 +201,11 @@ impl Timeline {
             (after_rounds begin m) (end - begin) here.now) }
         ensures refused { IfErr result (λ e. e ≡ refusals.OutOfMemory) }
     {
-        let machine = self.machine_at(rt, begin, workers)?;
-        previous_point(rt, machine, &self.code, end - begin, telling, here, workers)
+        let mut machine = self.machine_at(rt, begin, workers)?;
+        let rounds = end - begin;
+        let found = previous_point(rt, &mut machine, &self.code, rounds, telling, here, workers)?;
+        self.keep(&mut machine)?;
+        Ok(found)
     }
 
     /// What hart `number` is and sees at a point; none where there is no such hart or moment. It may wait.
@@ -189,21 +239,24 @@ impl Timeline {
         )
     }
 
-    /// A machine of the run after so many rounds, or fewer.
-    fn nearest(&mut self, rounds: u32) -> Result<UntracedMachine, RunError>
-        ensures stays { self.new ≡ self.old }
-        ensures machine { (m : Running) → IsUntraced m self.old.start →
-            IfOk result (λ u. IsUntraced (after_rounds u.rounds m) u) }
-        ensures rounds { IfOk result (λ u. u.rounds ≤ rounds) }
-        ensures refused { IfErr result (λ e. e ≡ refusals.OutOfMemory) }
+    /// The machine that did the most rounds, of those that did so many at most.
+    fn nearest(&self, rounds: u32) -> &UntracedMachine
+        ensures there { IsThere self.now.start result.now }
+        ensures rounds { result.now.rounds ≤ rounds }
     {
-        if rounds < self.here.rounds() {
-            return self.start.share();
+        let mut nearest = &self.start;
+        if self.here.rounds() <= rounds {
+            nearest = &self.here;
         }
-        self.here.share()
+        for machine in &self.kept {
+            if machine.rounds() <= rounds && machine.rounds() > nearest.rounds() {
+                nearest = machine;
+            }
+        }
+        nearest
     }
 
-    /// The machine after so many rounds. It goes on from where it was last, unless that is behind.
+    /// The machine after so many rounds. It goes on from the nearest one, and machines are kept on the way.
     fn machine_at<R: Threads + Wait + Sync>(
         &mut self,
         rt: &R,
@@ -218,10 +271,49 @@ impl Timeline {
         ensures rounds { IfOk result (λ u. u.rounds ≡ rounds) }
         ensures refused { IfErr result (λ e. e ≡ refusals.OutOfMemory) }
     {
-        let mut machine = self.nearest(rounds)?;
-        let more = rounds - machine.rounds();
-        machine.run(rt, more, workers)?;
-        self.here = machine.share()?;
+        let mut machine = self.nearest(rounds).copy()?;
+        while machine.rounds() < rounds {
+            let more = self.apart.min(rounds - machine.rounds());
+            machine.run(rt, more, workers)?;
+            self.keep(&mut machine)?;
+        }
         Ok(machine)
     }
+
+    /// Keeps a machine to go on from: until another one is looked at, and for good where it is far enough behind those that are kept.
+    fn keep(&mut self, machine: &mut UntracedMachine) -> Result<(), RunError>
+        requires there { IsThere self.old.start machine.old }
+        ensures stays { self.new ≡ self.old }
+        ensures same { machine.new ≡ machine.old }
+        ensures refused { IfErr result (λ e. e ≡ refusals.OutOfMemory) }
+    {
+        self.here = machine.share()?;
+        if self.kept.len() >= MOST_KEPT as usize
+            || !is_far(&self.kept, self.apart, machine.rounds())
+        {
+            return Ok(());
+        }
+        let kept = machine.share()?;
+        self.kept.push(kept).map_err(|_| RunError::OutOfMemory)?;
+        Ok(())
+    }
+}
+
+/// Whether none of these machines did so many rounds, or fewer than `apart` less.
+fn is_far(kept: &[UntracedMachine], apart: u32, rounds: u32) -> bool {
+    for machine in kept {
+        let done = machine.rounds();
+        if done <= rounds && rounds - done < apart {
+            return false;
+        }
+    }
+    true
+}
+
+/// How many rounds lie between two machines that are kept, of a run of so many with memory of so many pages.
+fn rounds_apart(rounds: u32, pages: u32) -> u32
+    ensures { 1 ≤ result }
+{
+    let most = (MOST_PAGES / pages.max(1)).min(MOST_KEPT).max(1);
+    (rounds / most).saturating_add(1)
 }

@@ -60,11 +60,11 @@ some_sight w (suc n) s = one_more w n s (w.stopped s.hart) (next_seen w s).answe
 pub some_rest : (code : List Range) (n : ℕ) (h : Hart) (m : Memory) → 1 ≤ length (rest code n h m)
 some_rest code n h m = omega (arith, some_sight (words_of code) n (sight_of h m), length-map (part_sights (words_of code) n (sight_of h m)) (λ (x : Sight Hart). x.hart))
 
-is_before : (h : Hart) (hs : List Hart) → 1 ≤ length hs → is_moment h hs ≡ true
+pub is_before : (h : Hart) (hs : List Hart) → 1 ≤ length hs → is_moment h hs ≡ true
 is_before h [] le = absurd (omega (arith, le))
 is_before h (g ∷ gs) le = refl
 
-last_more : (h : Hart) (hs : List Hart) → 1 ≤ length hs → last_of (h ∷ hs) ≡ last_of hs
+pub last_more : (h : Hart) (hs : List Hart) → 1 ≤ length hs → last_of (h ∷ hs) ≡ last_of hs
 last_more h [] le = absurd (omega (arith, le))
 last_more h (g ∷ gs) le = refl
 

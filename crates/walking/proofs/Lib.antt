@@ -1,3 +1,5 @@
 pub mod Walked
 pub mod HitsFound
 pub mod PcsFound
+pub mod Passed
+pub mod QuietRuns

@@ -1,13 +1,14 @@
 -- Of the harts that a hart is after 0, 1, 2, .. of its instructions, those at which something is told.
-use Rattle.std.specs.Prelude.{◌≡◌, ℕ, suc, ◌+◌, ◌==◌, ◌||◌, ◌&&◌, not, Bool, true, false, if◌then◌else◌, List, [], ◌∷◌, ◌++◌, map, length, is_some, Option, Some, None}
+use Rattle.std.specs.Prelude.{◌≡◌, ℕ, suc, ◌+◌, ◌-◌, ◌≤◌, ◌==◌, ◌||◌, ◌&&◌, not, Bool, true, false, if◌then◌else◌, List, [], ◌∷◌, ◌++◌, map, length, is_some, Option, Some, None}
 use Rattle.hart_step.specs.declared.hart.Hart.{Hart}
 use Rattle.hart_step.specs.declared.hart.Stop.{Stop}
 use Rattle.hart_step.specs.Words.{words_of}
 use Rattle.pages.specs.declared.access.Range.{Range}
+use Rattle.pages.specs.Memory.{Memory}
 use Rattle.round_schedule.specs.Past.{last_of}
 use Rattle.moments.specs.Sights.{Sight, part_sights}
 use Rattle.walking.specs.declared.asked.Asked.{Asked}
-use Rattle.walking.specs.Stops.{is_one_of}
+use Rattle.walking.specs.Stops.{is_one_of, sight_of}
 
 -- any stop but the exit call is a fault
 abbrev pub is_fault : Option Stop → Bool
@@ -49,3 +50,9 @@ pub record Walked (f : Hart → Bool) (hs : List Hart) (counts : List ℕ) (done
   pub hits : hits_from f 0 hs ≡ counts ++ hits_from f done (h ∷ [])
   pub size : length hs ≡ done + 1
   pub end : last_of hs ≡ Some h
+
+-- n instructions are passed over: nothing is told of the harts before them, memory is as it was, and the rest of a part is that of the hart behind them
+pub record PassesOver (f : Hart → Bool) (m : Memory) (n : ℕ) (h g : Hart) : Type 0 where
+  pub hits : (quota c : ℕ) → n ≤ quota → hits_from f c (harts_in_part m.code quota (sight_of h m)) ≡ hits_from f (c + n) (harts_in_part m.code (quota - n) (sight_of g m))
+  pub size : (quota : ℕ) → n ≤ quota → length (harts_in_part m.code quota (sight_of h m)) ≡ n + length (harts_in_part m.code (quota - n) (sight_of g m))
+  pub end : (quota : ℕ) → n ≤ quota → last_of (harts_in_part m.code quota (sight_of h m)) ≡ last_of (harts_in_part m.code (quota - n) (sight_of g m))

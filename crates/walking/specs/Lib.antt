@@ -1,3 +1,4 @@
 pub mod Stops
 pub mod Hits
 pub mod Pcs
+pub mod Quiet

@@ -28,7 +28,7 @@ impl Asked {
 
 /// Whether this is the hart, where there is one.
 #[inline(always)]
-fn is_hart(hart: Option<u32>, number: u32) -> bool
+pub(crate) fn is_hart(hart: Option<u32>, number: u32) -> bool
     ensures { result ≡ is_hart hart number }
 {
     match hart {

@@ -6,6 +6,7 @@ mod asked;
 mod decoding;
 mod hits;
 mod pcs;
+mod quiet;
 mod stepping;
 mod walk;
 
@@ -13,4 +14,5 @@ pub use asked::Asked;
 pub use decoding::decoded;
 pub use hits::{PartHits, hits_in_part};
 pub use pcs::add_pcs_in_part;
+pub use quiet::quiet_runs;
 pub use walk::first_in_part;

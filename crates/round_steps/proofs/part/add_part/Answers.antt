@@ -1,5 +1,5 @@
 use Rattle.seeing.proofs.Parts.{shows_through}
 use Rattle.round_steps.proofs.part.add_part.Goals as goal
 
-pub hits_in_part-requires : goal.hits_in_part-requires
-hits_in_part-requires c = shows_through c.args.pages.now.memory c.new-view.result c.args.table.now.first c.args.table.now.instructions c.new-view.ensures c.requires
+pub hits_in_part-requires-clause-shows : goal.hits_in_part-requires-clause-shows
+hits_in_part-requires-clause-shows c = shows_through c.args.pages.now.memory c.new-view.result c.args.table.now.first c.args.table.now.instructions c.new-view.ensures c.requires.shows

@@ -1,29 +1,19 @@
-use Rattle.std.proofs.Common.{◌≡◌, ℕ, ap, ◌∙◌, arith}
-use Rattle.machine.specs.Machine.{after_rounds}
-use Rattle.round_steps.specs.Points.{previous_point_of}
-use Rattle.round_steps.proofs.PointsFound.{last_at_first, last_now, last_of_points}
-use Rattle.round_steps.proofs.Searching.{begins_there, goes_on_there}
+use Rattle.std.proofs.Common.{List, subst, sym, ap, ◌∙◌}
+use Rattle.machine.specs.Untraced.{IsUntraced, Untraced}
+use Rattle.watching.specs.declared.watchpoint.Watchpoint.{Watchpoint}
+use Rattle.round_steps.specs.Searching.{FindsLast}
+use Rattle.round_steps.proofs.StopsAlone.{last_kept}
 use Rattle.round_steps.proofs.point_search.previous_point.Goals as goal
 
-pub loop-done-init : goal.loop-done-init
-loop-done-init g c = (omega arith, λ m is. begins_there m c.args.machine is, λ m is code. last_at_first c.args.telling.now.asked c.args.telling.now.watches.items m c.args.here.now)
-
-pub points_in_round-requires-clause-run : goal.points_in_round-requires-clause-run
-points_in_round-requires-clause-run g c = λ κs within. (after_rounds c.loop-done.done c.requires.run.0, c.loop-done.invariant.1 c.requires.run.0 c.requires.run.1)
-
-pub loop-done-preserved : goal.loop-done-preserved
-loop-done-preserved g c =
-    let inv = c.loop-done.invariant in
-    let a = c.args.telling.now.asked in
-    let ws = c.args.telling.now.watches.items in (
-      omega (arith, c.in_ok-told.ensures.counted, inv.0),
-      λ m is. goes_on_there c.loop-done.done m c.points_in_round.new.machine (c.in_ok-told.ensures.runs (after_rounds c.loop-done.done m) (inv.1 m is)),
-      λ m is code.
-          let here = last_of_points a ws (after_rounds c.loop-done.done m) c.args.here.now _ _ (c.deref.ensures.value ∙ c.in_ok-told.ensures.told (after_rounds c.loop-done.done m) (inv.1 m is) code) c.latest_before.ensures in
-          last_now a ws m c.loop-done.done c.args.here.now _ _ _ (inv.2 m is code) here c.or_else-last.ensures,
-    )
-
-pub returns-clause-previous : goal.returns-clause-previous
-returns-clause-previous g c = λ m is code.
-    let all : c.loop-done.done ≡ c.args.rounds = omega arith in
-    c.loop-done.invariant.2 m is code ∙ ap (λ (n : ℕ). previous_point_of c.args.telling.now.asked c.args.telling.now.watches.items m n c.args.here.now) all
+pub returns-then-have_no_new_stop-clause-last : goal.returns-then-have_no_new_stop-clause-last
+returns-then-have_no_new_stop-clause-last g c = λ m is code.
+    let t = c.args.telling.now in
+    let u : Untraced = c.share.new.self in
+    let v : Untraced = c.last_in-2.new.machine in
+    let stays = c.in_ok-before.ensures.stays in
+    let there : IsUntraced m u = subst (λ (x : Untraced). IsUntraced m x) (sym stays) is in
+    let harts = c.harts-2.ensures.harts ∙ ap (λ (x : Untraced). x.harts) (c.in_ok-before.ensures.same ∙ sym stays) in
+    let found = last_kept t.asked c.nothing_asked-nothing.result (c.asks_of_stops_alone.ensures c.if-not-asks_of_stops_alone.false) m c.nothing_asked-nothing.ensures c.as_slice-watches.result.now c.args.rounds c.args.here.now u v
+    c.harts-2.result.now c.harts-3.result.now c.in_ok-found.found there harts c.harts-3.ensures.harts (c.have_no_new_stop.ensures c.if-have_no_new_stop.true) (c.in_ok-found.ensures.last m there code) in
+    subst (λ (ws : List Watchpoint). FindsLast t.asked ws m c.args.rounds c.args.here.now c.args.machine.now v c.in_ok-found.found) c.as_slice-watches.ensures.value
+    (subst (λ (x : Untraced). FindsLast t.asked c.as_slice-watches.result.now m c.args.rounds c.args.here.now x v c.in_ok-found.found) stays found)

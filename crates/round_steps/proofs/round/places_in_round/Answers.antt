@@ -1,5 +1,5 @@
-use Rattle.std.proofs.Common.{◌≡◌, ℕ, ◌++◌, length, List, Option, ap, sym, ◌∙◌}
-use Rattle.round_steps.specs.Places.{Begun, begun_of, parallel_places, serial_places, turns_of}
+use Rattle.std.proofs.Common.{◌≡◌, ℕ, ◌++◌, length, List, ap, ◌∙◌}
+use Rattle.round_steps.specs.Places.{Begun, parallel_places, serial_places, turns_of}
 use Rattle.round_steps.specs.declared.place.Place.{Place}
 use Rattle.round_steps.proofs.RoundParts.{begun_by, begun_same, turns_count}
 use Rattle.round_steps.proofs.round.places_in_round.Goals as goal

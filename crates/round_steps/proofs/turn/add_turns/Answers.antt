@@ -1,12 +1,11 @@
-use Rattle.std.proofs.Common.{◌≡◌, ℕ, ◌<◌, ◌≤◌, suc, ◌++◌, [], List, Vec, Global, Option, Some, None, length, map, slice_get, get_or, subst, ap, sym, ◌∙◌, arith, refl}
+use Rattle.std.proofs.Common.{◌≡◌, ℕ, ◌<◌, ◌++◌, [], List, Vec, Global, Option, Some, None, length, map, slice_get, get_or, subst, ap, sym, ◌∙◌, arith, refl}
 use Rattle.std.proofs.lemmas.List.{get_or-map, length-map}
 use Rattle.round_planner.specs.Quotas.{Planned, quotas_of}
 use Rattle.hart_step.specs.declared.hart.Hart.{Hart}
 use Rattle.hart_step.specs.Words.{words_of}
-use Rattle.machine.specs.Machine.{Running}
 use Rattle.machine.specs.Untraced.{IsUntraced, Untraced}
 use Rattle.machine.proofs.TurnHartsAsked.{turns_size}
-use Rattle.round_steps.specs.Places.{begun_of, past_at, serial_places, turn_of, turn_places}
+use Rattle.round_steps.specs.Places.{begun_of, serial_places, turn_of}
 use Rattle.round_steps.specs.declared.place.Place.{Place}
 use Rattle.round_steps.proofs.RoundParts.{got, serial_first, serial_more, turns_at}
 use Rattle.round_steps.proofs.TurnsAlong.{none_comes, turn_told, turns_along}

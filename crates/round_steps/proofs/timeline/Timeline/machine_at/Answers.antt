@@ -1,31 +1,28 @@
-use Rattle.std.proofs.Common.{◌≡◌, ◌+◌, ◌-◌, ap, subst, sym, ◌∙◌, arith}
+use Rattle.std.proofs.Common.{ap, subst, sym, ◌∙◌, arith}
 use Rattle.machine.specs.Machine.{after_rounds}
 use Rattle.machine.specs.Untraced.{IsUntraced, Untraced}
 use Rattle.round_steps.specs.Timelines.{Line}
-use Rattle.round_steps.proofs.Stretches.{arrives, is_there}
+use Rattle.round_steps.proofs.Stretches.{arrives}
 use Rattle.round_steps.proofs.timeline.Timeline.machine_at.Goals as goal
 
-pub invariant_of-self : goal.invariant_of-self
-invariant_of-self g c =
-    let same = ap (λ (l : Line). l.start) (c.self.view_is ∙ c.in_ok-machine.ensures.stays) in
-    let u : Untraced = c.in_ok-machine.machine in
+pub keep-requires : goal.keep-requires
+keep-requires g c =
+    let inv = c.loop-self.invariant in
+    let u : Untraced = c.loop-self.machine in
     let v : Untraced = c.run.new.self in
-    let sum : u.rounds + (c.args.rounds - c.rounds.result) ≡ c.args.rounds = omega (arith, c.rounds.ensures, c.in_ok-machine.ensures.rounds) in
     record {
-      run = c.self.invariant.run;
-      fresh = c.self.invariant.fresh;
-      has_code = c.self.invariant.has_code;
-      later = λ m is.
-          is_there m c.args.rounds v c.in_ok-self-inside.field-0
-          (arrives m u.rounds (c.args.rounds - c.rounds.result) c.args.rounds u v (c.in_ok-machine.ensures.machine m (subst (λ (w : Untraced). IsUntraced m w) same is)) c.in_ok-run.ensures.ok sum)
-          (c.in_ok-run.ensures.counted ∙ sum) c.in_ok-self-inside.ensures.same;
-      few = c.self.invariant.few;
+      there = λ m is. arrives m u.rounds c.min-more.result v.rounds u v (inv.1 m (subst (λ (l : Line). IsUntraced m l.start) inv.0 is)) c.in_ok-run.ensures.ok (sym c.in_ok-run.ensures.counted);
     }
 
-pub returns-clause-machine : goal.returns-clause-machine
-returns-clause-machine g c = λ m is.
-    let u : Untraced = c.in_ok-machine.machine in
+pub loop-self-preserved : goal.loop-self-preserved
+loop-self-preserved g c =
+    let inv = c.loop-self.invariant in
+    let u : Untraced = c.loop-self.machine in
     let v : Untraced = c.run.new.self in
-    let sum : u.rounds + (c.args.rounds - c.rounds.result) ≡ c.args.rounds = omega (arith, c.rounds.ensures, c.in_ok-machine.ensures.rounds) in
-    subst (λ (w : Untraced). IsUntraced (after_rounds c.args.rounds m) w) (sym c.in_ok-self-inside.ensures.stays)
-    (arrives m u.rounds (c.args.rounds - c.rounds.result) c.args.rounds u v (c.in_ok-machine.ensures.machine m is) c.in_ok-run.ensures.ok sum)
+    let same = c.in_ok-keep.ensures.same in
+    let rounds = ap (λ (w : Untraced). w.rounds) same in (
+      c.in_ok-keep.ensures.stays ∙ inv.0,
+      λ m is. subst (λ (w : Untraced). IsUntraced (after_rounds w.rounds m) w) (sym same)
+          (arrives m u.rounds c.min-more.result v.rounds u v (inv.1 m is) c.in_ok-run.ensures.ok (sym c.in_ok-run.ensures.counted)),
+      omega (arith, rounds, c.in_ok-run.ensures.counted, c.min-more.ensures, inv.2),
+    )

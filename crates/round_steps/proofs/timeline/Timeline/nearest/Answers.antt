@@ -1,11 +1,13 @@
-use Rattle.std.proofs.Common.{subst, sym}
-use Rattle.std.proofs.lemmas.Result.{IfOk-weaker}
-use Rattle.machine.specs.Untraced.{IsUntraced}
-use Rattle.round_steps.specs.Timelines.{Line}
-use Rattle.round_steps.proofs.Stretches.{from_start}
+use Rattle.std.proofs.Common.{subst, arith}
+use Rattle.round_steps.specs.Timelines.{IsThere, Line}
+use Rattle.round_steps.proofs.Stretches.{start_there}
+use Rattle.round_steps.proofs.timeline.Timeline.nearest.Goals.{then-rounds, else-rounds}
 use Rattle.round_steps.proofs.timeline.Timeline.nearest.Goals as goal
 
-pub returns-then-rounds-clause-machine : goal.returns-then-rounds-clause-machine
-returns-then-rounds-clause-machine c = λ m is.
-    let inside : IsUntraced m c.self.inside.start = subst (λ (l : Line). IsUntraced m l.start) (sym c.self.view_is) is in
-    IfOk-weaker c.share.result _ _ (λ u same. from_start m c.self.inside.start u inside c.self.invariant.fresh same) c.share.ensures.same
+pub loop-machine-init : goal.loop-machine-init
+loop-machine-init c =
+    let inv = c.self.invariant in
+    elim c.if-rounds.branch [
+      | then-rounds w ↦ rw w.nearest-is (subst (λ (l : Line). IsThere l.start c.self.inside.here) c.self.view_is inv.later, omega (arith, c.rounds.ensures, w.if-rounds.true))
+      | else-rounds w ↦ rw w.nearest-is (subst (λ (l : Line). IsThere l.start c.self.inside.start) c.self.view_is (start_there c.self.inside.start inv.fresh), omega (arith, inv.fresh))
+    ]
