@@ -4,6 +4,7 @@ ghost use Rattle.std.specs.Prelude.{◌≡◌, ◌%◌, ◌<◌};
 ghost use Rattle.pages.specs.Memory.{width_bytes};
 
 use crate::ending::Ending;
+use host_io::RunError;
 use pages::{OutOfMemory, Pages, Piece, Range, Store, Width};
 use std::alloc::Global;
 use store_buffer::StoreBuffer;
@@ -90,7 +91,7 @@ pub(crate) fn has_bytes(pages: &Pages) -> bool {
 }
 
 /// Makes one more page ready, and a spare. A refused call changes no byte, and the page that was ready stays ready.
-pub(crate) fn try_prepare(alloc: Global) -> Result<Ending, OutOfMemory> {
+pub(crate) fn try_prepare(alloc: Global) -> Result<Ending, RunError> {
     let mut pages = pages(alloc)?;
     if !is_opened(&pages) || pages.count() != 4 {
         return Ok(Ending::Wrong);

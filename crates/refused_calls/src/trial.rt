@@ -137,44 +137,44 @@ impl Trial {
 
     /// Makes the trial.
     pub(crate) fn ending<R: Threads + Wait + Sync>(self, rt: &R, alloc: Global) -> Ending {
-        match self.made(rt, alloc) {
-            Ok(ending) => ending,
-            Err(error) => Ending::before(error),
-        }
-    }
-
-    /// The same, or what was refused before the call.
-    fn made<R: Threads + Wait + Sync>(self, rt: &R, alloc: Global) -> Result<Ending, RunError> {
-        Ok(match self {
-            Trial::RoundOnOne => try_round(rt, alloc, 1)?,
-            Trial::RoundOnFour => try_round(rt, alloc, 4)?,
-            Trial::RunOnOne => try_run(rt, alloc, 1)?,
-            Trial::RunOnFour => try_run(rt, alloc, 4)?,
-            Trial::Loops => try_loops(rt, alloc)?,
+        match self {
+            Trial::RoundOnOne => told(try_round(rt, alloc, 1)),
+            Trial::RoundOnFour => told(try_round(rt, alloc, 4)),
+            Trial::RunOnOne => told(try_run(rt, alloc, 1)),
+            Trial::RunOnFour => told(try_run(rt, alloc, 4)),
+            Trial::Loops => told(try_loops(rt, alloc)),
             Trial::TraceRun => try_trace(rt, alloc),
             Trial::PrepareMachine => runs::try_prepare(alloc),
-            Trial::Open => try_open(alloc)?,
-            Trial::OpenUntraced => try_open_untraced(alloc)?,
-            Trial::HartAfter => try_hart_after(rt, alloc)?,
-            Trial::Step => try_step(alloc)?,
+            Trial::Open => told(try_open(alloc)),
+            Trial::OpenUntraced => told(try_open_untraced(alloc)),
+            Trial::HartAfter => told(try_hart_after(rt, alloc)),
+            Trial::Step => told(try_step(alloc)),
             Trial::Put => try_put(alloc),
-            Trial::Prepare => memory::try_prepare(alloc)?,
+            Trial::Prepare => told(memory::try_prepare(alloc)),
             Trial::ReadAll => try_read_all(alloc),
             Trial::LoadElf => try_elf(alloc),
             Trial::LoadFlat => try_flat(alloc),
             Trial::Plan => try_plan(alloc),
-            Trial::Order => try_order(rt, alloc)?,
-            Trial::Check => try_check(rt, alloc)?,
+            Trial::Order => told(try_order(rt, alloc)),
+            Trial::Check => told(try_check(rt, alloc)),
             Trial::Record => try_record(rt, alloc),
             Trial::Read => try_read(alloc),
-            Trial::Replay => try_replay(rt, alloc)?,
-            Trial::ReplayOpen => try_replay_open(rt, alloc)?,
-            Trial::StateAt => try_state_at(rt, alloc)?,
-            Trial::StateBefore => try_state_before(rt, alloc)?,
-            Trial::CountAt => try_count_at(rt, alloc)?,
-            Trial::Watch => try_watch(rt, alloc)?,
-            Trial::Writing(writing) => writing.made(rt, alloc)?,
-            Trial::Copy(copied) => copied.made(rt, alloc)?,
-        })
+            Trial::Replay => told(try_replay(rt, alloc)),
+            Trial::ReplayOpen => told(try_replay_open(rt, alloc)),
+            Trial::StateAt => told(try_state_at(rt, alloc)),
+            Trial::StateBefore => told(try_state_before(rt, alloc)),
+            Trial::CountAt => told(try_count_at(rt, alloc)),
+            Trial::Watch => told(try_watch(rt, alloc)),
+            Trial::Writing(writing) => told(writing.made(rt, alloc)),
+            Trial::Copy(copied) => told(copied.made(rt, alloc)),
+        }
+    }
+}
+
+/// How a trial ended, or that something was refused before the call.
+fn told(made: Result<Ending, RunError>) -> Ending {
+    match made {
+        Ok(ending) => ending,
+        Err(error) => Ending::before(error),
     }
 }
