@@ -4,9 +4,7 @@ ghost use Rattle.std.specs.Prelude.{IfOk};
 ghost use Rattle.gdb_session.specs.Serving.{begun};
 ghost use Rattle.gdb_resumes.specs.Sessions.{IsReady};
 
-use crate::executions::{read_execution_of, write_checked};
 use crate::failure::Failure;
-use crate::past::{Past, read_past_of};
 use crate::world::HostFiles;
 use command_line::Gdb;
 use execution_session::Opened;
@@ -14,8 +12,9 @@ use gdb_resumes::Debugged;
 use gdb_session::{open, refuse_each, serve};
 use host_io::{ReadSource, WriteSink};
 use machine::{Format, Settings};
+use past_commands::{Past, execution_of, read_past, write_checked};
 use program_world::ExitStatus;
-use replayer::Recording;
+use recording::Recording;
 use std::io;
 use std::sync::Wait;
 use std::thread::Threads;
@@ -27,10 +26,10 @@ pub(crate) fn serve_debugger<R: Threads + Wait + Sync>(
     threads: &R,
     asked: &Gdb<'_>,
 ) -> Result<ExitStatus, Failure> {
-    match read_past_of(&HostFiles::new(rt), rt.alloc(), asked.recording) {
+    match read_past(&HostFiles::new(rt), rt.alloc(), asked.recording) {
         Ok(Past::Recording(recording)) => serve_recording(rt, threads, &recording),
         Ok(Past::Execution(text)) => serve_execution(rt, &text),
-        Err(failure) => tell_refusal(rt, failure),
+        Err(failure) => tell_refusal(rt, Failure::from(failure)),
     }
 }
 
@@ -76,9 +75,9 @@ fn serve_execution(rt: &HostRuntime, text: &[u8]) -> Result<ExitStatus, Failure>
         }
         Ok(Opened::Refused(checked)) => {
             let mut errors = WriteSink::new(rt.stderr());
-            write_checked(rt.alloc(), &checked, &mut errors)?;
+            let status = write_checked(rt.alloc(), &checked, &mut errors)?;
             refuse(rt, 0)?;
-            Ok(ExitStatus::Differs)
+            Ok(status)
         }
         Err(failure) => tell_refusal(rt, failure),
     }
@@ -86,7 +85,7 @@ fn serve_execution(rt: &HostRuntime, text: &[u8]) -> Result<ExitStatus, Failure>
 
 /// The execution that a text says, or what was found against it.
 fn opened_execution(rt: &HostRuntime, text: &[u8]) -> Result<Opened, Failure> {
-    let file = read_execution_of(rt, text)?;
+    let file = execution_of(rt.alloc(), text)?;
     Ok(execution_session::open(rt.alloc(), &file)?)
 }
 

@@ -1,9 +1,5 @@
 //! Pictures of executions that are in files.
-use crate::executions::read_execution_of;
 use crate::failure::Failure;
-use crate::looking::{is_allowed, refuse_rounds, refuse_workers, write_verdict};
-use crate::ranges::access_ranges;
-use crate::recordings::Replayed;
 use command_line::{Bytes, Draw};
 use drawing::object_touched;
 use execution_picture::{ExecutionScene, write_execution_picture};
@@ -12,7 +8,11 @@ use host_io::WriteSink;
 use machine::Format;
 use named_bytes::{NamedBytes, named_bytes};
 use pages::OutOfMemory;
+use past_commands::{
+    access_ranges, execution_of, is_allowed, refuse_rounds, refuse_workers, write_checked,
+};
 use picture::Site;
+use program_world::ExitStatus;
 use std::alloc::Global;
 use std::io::Write;
 
@@ -22,13 +22,13 @@ pub(crate) fn write_execution_drawing<W: Write>(
     text: &[u8],
     asked: &Draw<'_>,
     out: &mut W,
-) -> Result<Replayed, Failure> {
-    let file = read_execution_of(rt, text)?;
+) -> Result<ExitStatus, Failure> {
+    let file = execution_of(rt.alloc(), text)?;
     refuse_rounds(asked.from.is_some() || asked.to.is_some())?;
     refuse_workers(asked.run.program.workers)?;
     let checked = check_file(rt.alloc(), &file, None)?;
     if !is_allowed(&checked) {
-        return write_verdict(rt.alloc(), &checked, out);
+        return Ok(write_checked(rt.alloc(), &checked, &mut WriteSink::new(out))?);
     }
     let NamedBytes { bytes, fault } = named_bytes(
         rt.alloc(),
@@ -41,7 +41,7 @@ pub(crate) fn write_execution_drawing<W: Write>(
         return Err(Failure::Naming(fault));
     }
     draw_checked(rt.alloc(), &file, &checked, &bytes, out)?;
-    Ok(Replayed::Done)
+    Ok(ExitStatus::Done)
 }
 
 /// Writes a picture of what an execution that is allowed does to these bytes, and to all where there are none.

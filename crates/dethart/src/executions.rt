@@ -4,16 +4,12 @@ use crate::failure::Failure;
 use crate::run::progress_of;
 use crate::world::HostFiles;
 use command_line::{Check, Execution, Run};
-use execution_scripts::{
-    Checked, ExecutionFile, Finding, ReadError, Refusal, Verdict, check_file, execution_of_run,
-    read_execution, write_execution,
-};
-use host_io::{RunError, Sink, WriteSink, put_all};
+use execution_scripts::{check_file, execution_of_run, write_execution};
+use host_io::WriteSink;
 use hunt_commands::program_settings;
+use past_commands::{execution_of, write_checked};
 use program_files::{read_file, read_program, read_run, settings_of};
-use program_world::ProgressLine;
-use report::write_hart;
-use std::alloc::{AllocError, Global};
+use program_world::{ExitStatus, ProgressLine};
 use std::io::Write;
 use std::sync::Wait;
 use std::thread::Threads;
@@ -70,75 +66,14 @@ fn write_run_as_execution<R: Threads + Wait + Sync, W: Write>(
     Ok(write_execution(rt.alloc(), &file, &mut WriteSink::new(out))?)
 }
 
-/// Checks the execution of a file, and writes whether RVWMO allows it. Answers that too.
+/// Checks the execution of a file, and writes whether RVWMO allows it. Answers the exit status.
 pub(crate) fn write_check<W: Write>(
     rt: &HostRuntime,
     asked: &Check<'_>,
     out: &mut W,
-) -> Result<bool, Failure> {
-    let file = read_execution_of(rt, &read_file(&HostFiles::new(rt), rt.alloc(), asked.file)?)?;
+) -> Result<ExitStatus, Failure> {
+    let text = read_file(&HostFiles::new(rt), rt.alloc(), asked.file)?;
+    let file = execution_of(rt.alloc(), &text)?;
     let checked = check_file(rt.alloc(), &file, None)?;
     Ok(write_checked(rt.alloc(), &checked, &mut WriteSink::new(out))?)
-}
-
-/// The execution that a text says.
-///
-/// # Errors
-///
-/// `NoExecution`, and `OutOfMemory`.
-pub(crate) fn read_execution_of(rt: &HostRuntime, text: &[u8]) -> Result<ExecutionFile, Failure> {
-    match read_execution(rt.alloc(), text) {
-        Ok(file) => Ok(file),
-        Err(ReadError::OutOfMemory) => Err(Failure::Refused(RunError::OutOfMemory)),
-        Err(ReadError::Refused(refusal)) => Err(Failure::NoExecution(
-            refusal.cause,
-            line_of(text, &refusal),
-        )),
-    }
-}
-
-/// The number of the line where a text is refused, from 1 on.
-fn line_of(text: &[u8], refusal: &Refusal) -> usize {
-    let before = text.len().saturating_sub(refusal.left);
-    let mut line = 1usize;
-    for byte in &text[..before] {
-        if *byte == b'\n' {
-            line = line.wrapping_add(1);
-        }
-    }
-    line
-}
-
-/// Writes what was found of an execution. Answers whether RVWMO allows it.
-pub(crate) fn write_checked<S: Sink>(
-    alloc: Global,
-    checked: &Checked,
-    out: &mut S,
-) -> Result<bool, RunError> {
-    if checked.finding == Finding::Judged(Verdict::Allowed) {
-        put_all(out, b"allowed\n")?;
-        let mut number = 0u32;
-        for hart in checked.execution.harts() {
-            write_hart(alloc, number, hart, out)?;
-            number = number.wrapping_add(1);
-        }
-        return Ok(true);
-    }
-    put_all(out, b"refused\n")?;
-    let Ok(reason) = reason_of(alloc, checked) else {
-        return Err(RunError::OutOfMemory);
-    };
-    put_all(out, reason.as_bytes())?;
-    Ok(false)
-}
-
-/// The line that says why an execution is refused.
-fn reason_of(alloc: Global, checked: &Checked) -> Result<String, AllocError> {
-    match checked.finding {
-        Finding::Fault(fault) => format!(in alloc; "{fault}\n"),
-        Finding::Judged(verdict) => {
-            let why = verdict.reason(&checked.script, checked.execution.events());
-            format!(in alloc; "{why}\n")
-        }
-    }
 }

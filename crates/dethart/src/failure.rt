@@ -12,9 +12,11 @@ use hunt_commands::HuntFailure;
 use hunt_table::MergeError;
 use hunter::HuntError;
 use named_bytes::NamingFault;
+use past_commands::PastFailure;
 use program_files::RunFailure;
 use program_world::ExitStatus;
-use replayer::ReadError;
+use record_commands::RecordFailure;
+use recording::ReadError;
 use std::alloc::{AllocError, AllocFailed};
 use std::io;
 use weak_hunter::WeakHuntError;
@@ -114,6 +116,28 @@ impl From<HuntFailure> for Failure {
             HuntFailure::Run(failure) => Failure::from(failure),
             HuntFailure::Refused(error) => Failure::from(error),
             HuntFailure::Naming(fault) => Failure::Naming(fault),
+        }
+    }
+}
+
+impl From<RecordFailure> for Failure {
+    fn from(failure: RecordFailure) -> Failure {
+        match failure {
+            RecordFailure::Run(failure) => Failure::from(failure),
+            RecordFailure::Unread(error) => Failure::Unread(error),
+            RecordFailure::Unwritten(path) => Failure::Unwritten(path),
+        }
+    }
+}
+
+impl From<PastFailure> for Failure {
+    fn from(failure: PastFailure) -> Failure {
+        match failure {
+            PastFailure::Run(failure) => Failure::from(failure),
+            PastFailure::Unread(error) => Failure::Unread(error),
+            PastFailure::NoExecution(cause, line) => Failure::NoExecution(cause, line),
+            PastFailure::NoRounds => Failure::NoRounds,
+            PastFailure::Naming(fault) => Failure::Naming(fault),
         }
     }
 }

@@ -9,15 +9,12 @@ mod failure;
 mod fences;
 mod keeping;
 mod line;
-mod looking;
 mod merging;
 mod output;
-mod past;
 mod pictures;
 mod places;
 mod printing;
 mod progress;
-mod ranges;
 mod recordings;
 mod repeating;
 mod run;
@@ -77,16 +74,10 @@ fn obey<R: Threads + Wait + Sync>(
     match command {
         Command::Run(asked) => print_run(rt, threads, asked),
         Command::Order(run) => print_order(rt, threads, run),
-        Command::Record(asked) => {
-            make_recording(rt, threads, asked)?;
-            Ok(ExitStatus::Done)
-        }
+        Command::Record(asked) => make_recording(rt, threads, asked),
         Command::Replay(asked) => print_replay(rt, threads, asked),
         Command::Watch(asked) => print_watch(rt, threads, asked),
-        Command::Migrate(asked) => {
-            migrate_file(rt, asked)?;
-            Ok(ExitStatus::Done)
-        }
+        Command::Migrate(asked) => migrate_file(rt, asked),
         Command::Gdb(asked) => serve_debugger(rt, threads, asked),
         Command::Hunt(asked) => print_hunt(rt, threads, asked),
         Command::Fences(asked) => print_fences(rt, threads, asked),

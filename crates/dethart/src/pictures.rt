@@ -2,9 +2,6 @@
 
 use crate::execution_pictures::write_execution_drawing;
 use crate::failure::Failure;
-use crate::past::EXECUTION;
-use crate::ranges::access_ranges;
-use crate::recordings::Replayed;
 use crate::run::progress_of;
 use crate::world::HostFiles;
 use command_line::{Bytes, Draw, Program, Run};
@@ -12,12 +9,16 @@ use drawing::{View, draw_run, trace_run};
 use host_io::WriteSink;
 use machine::prepare;
 use named_bytes::{NamedBytes, named_bytes};
+use past_commands::access_ranges;
 use program_files::{RunFiles, guest_files, read_run, settings_of};
-use program_world::ProgressLine;
+use program_world::{ExitStatus, ProgressLine};
 use std::alloc::Global;
 use std::io::Write;
 use std::sync::Wait;
 use std::thread::Threads;
+
+/// The bytes that an execution begins with.
+const EXECUTION: &[u8] = b"executio";
 
 /// Reads the files of a run, runs the guest program, and writes a picture of the run; or of an execution, where that is what the image's
 /// file holds.
@@ -26,7 +27,7 @@ pub(crate) fn write_drawing<R: Threads + Wait + Sync, W: Write>(
     threads: &R,
     asked: &Draw<'_>,
     out: &mut W,
-) -> Result<Replayed, Failure> {
+) -> Result<ExitStatus, Failure> {
     let files = read_run(&HostFiles::new(rt), rt.alloc(), &asked.run)?;
     if !asked.run.program.flat && files.program.image.starts_with(EXECUTION) {
         return write_execution_drawing(rt, &files.program.image, asked, out);
@@ -45,7 +46,7 @@ pub(crate) fn write_drawing<R: Threads + Wait + Sync, W: Write>(
         }
         None => {
             draw_files(rt, threads, asked, &files, &bytes, out)?;
-            Ok(Replayed::Done)
+            Ok(ExitStatus::Done)
         }
     }
 }

@@ -9,7 +9,6 @@ use crate::merging::write_merged;
 use crate::output::{finish, standard_output};
 use crate::pictures::{write_drawing, write_trace};
 use crate::progress::Progress;
-use crate::recordings::{Replayed, write_replay, write_watch};
 use crate::repeating::{tell_missing, tell_running};
 use crate::run::progress_of;
 use crate::world::{HostFiles, HostMessages, HostOutput};
@@ -19,6 +18,7 @@ use command_line::{
 };
 use fence_table::FenceTable;
 use hunt_commands::{WeakHunter, hunt_command, plan_command, shrink_command};
+use past_commands::{replay_command, watch_command};
 use program_world::ExitStatus;
 use run_commands::{order_command, run_command};
 use std::sync::Wait;
@@ -89,17 +89,17 @@ pub(crate) fn print_replay<R: Threads + Wait + Sync>(
     threads: &R,
     asked: &Replay<'_>,
 ) -> Result<ExitStatus, Failure> {
-    let mut out = standard_output(rt)?;
-    let written = write_replay(rt, threads, asked, &mut out);
-    Ok(answer_of(finish(out, written)?))
-}
-
-/// The answer to a question about the past.
-fn answer_of(replayed: Replayed) -> ExitStatus {
-    match replayed {
-        Replayed::Done => ExitStatus::Done,
-        Replayed::Differs => ExitStatus::Differs,
-    }
+    let mut out = HostOutput::new(rt)?;
+    let mut progress = Progress::new(rt, asked.progress, 0);
+    let answer = replay_command(
+        threads,
+        rt.alloc(),
+        &HostFiles::new(rt),
+        asked,
+        &mut progress,
+        &mut out,
+    );
+    told(answer, &out)
 }
 
 /// Runs the recording of a file anew, and prints which accesses hit.
@@ -108,9 +108,18 @@ pub(crate) fn print_watch<R: Threads + Wait + Sync>(
     threads: &R,
     asked: &Watch<'_>,
 ) -> Result<ExitStatus, Failure> {
-    let mut out = standard_output(rt)?;
-    let written = write_watch(rt, threads, asked, &mut out);
-    Ok(answer_of(finish(out, written)?))
+    let mut out = HostOutput::new(rt)?;
+    let mut progress = Progress::new(rt, asked.progress, 0);
+    let answer = watch_command(
+        threads,
+        rt.alloc(),
+        &HostFiles::new(rt),
+        asked,
+        &mut progress,
+        &mut out,
+        &HostMessages::new(rt),
+    );
+    told(answer, &out)
 }
 
 /// Runs the guest program by many plans, and prints the table of its endings.
@@ -212,7 +221,7 @@ pub(crate) fn print_drawing<R: Threads + Wait + Sync>(
 ) -> Result<ExitStatus, Failure> {
     let mut out = standard_output(rt)?;
     let written = write_drawing(rt, threads, asked, &mut out);
-    Ok(answer_of(finish(out, written)?))
+    finish(out, written)
 }
 
 /// Runs the guest program, and prints its trace for viewers of traces.
@@ -243,9 +252,5 @@ pub(crate) fn print_execution<R: Threads + Wait + Sync>(
 pub(crate) fn print_check(rt: &HostRuntime, asked: &Check<'_>) -> Result<ExitStatus, Failure> {
     let mut out = standard_output(rt)?;
     let written = write_check(rt, asked, &mut out);
-    Ok(if finish(out, written)? {
-        ExitStatus::Done
-    } else {
-        ExitStatus::Differs
-    })
+    finish(out, written)
 }

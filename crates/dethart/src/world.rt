@@ -5,6 +5,7 @@ ghost use Rattle.std.specs.Prelude.{⊤, length};
 use crate::output::{Pipe, standard_output};
 use crate::saving::{save, write_to};
 use host_io::{History, ReadSource, RunError, Sink, SinkFault, read_all};
+use past_commands::PastFiles;
 use program_world::{FileFault, FileText, Files, Messages, Output};
 use std::fmt::Display;
 use std::fs::{self, File};
@@ -36,34 +37,6 @@ impl<'a> HostFiles<'a> {
                 _ => FileFault::Other,
             }),
         }
-    }
-
-    /// All the bytes of the file of a path, if it begins with the first mark; if it begins with the second, which is as long, the same up
-    /// to 1 GiB; and else only as many bytes as the marks have.
-    ///
-    /// # Errors
-    ///
-    /// `TooLarge` where a file with the second mark has 1 GiB or more, or never ends; any other `FileFault` where it can't be opened or read.
-    pub(crate) fn read_either(
-        &self,
-        path: &str,
-        first: &[u8],
-        second: &[u8],
-    ) -> Result<Vec<u8>, FileFault> {
-        let file = self.open(path)?;
-        let beginning = self.read_up(path, (&file).take(first.len() as u64))?;
-        if beginning.as_slice() == first {
-            return self.read_up(path, beginning.as_slice().chain(&file));
-        }
-        if beginning.as_slice() != second {
-            return Ok(beginning);
-        }
-        let rest = (&file).take(MOST_BYTES);
-        let bytes = self.read_up(path, beginning.as_slice().chain(rest))?;
-        if bytes.len() as u64 >= MOST_BYTES {
-            return Err(FileFault::TooLarge);
-        }
-        Ok(bytes)
     }
 
     /// All that a reader of the file at a path gives.
@@ -131,6 +104,28 @@ impl Files for HostFiles<'_> {
     fn make_folder(&mut self, path: &str) {
         // Where that fails, a file in it can't be made either.
         let _made = fs::create_dir_all(self.rt, path);
+    }
+}
+
+impl PastFiles for HostFiles<'_> {
+    ghost either = { λ _ _ _ _ _. ⊤ };
+
+    fn read_either(&self, path: &str, first: &[u8], second: &[u8]) -> Result<Vec<u8>, FileFault> {
+        let file = self.open(path)?;
+        let beginning = self.read_up(path, (&file).take(first.len() as u64))?;
+        if beginning.as_slice() == first {
+            let bytes = self.read_up(path, beginning.as_slice().chain(&file))?;
+            return Ok(bytes);
+        }
+        if beginning.as_slice() != second {
+            return Ok(beginning);
+        }
+        let rest = (&file).take(MOST_BYTES);
+        let bytes = self.read_up(path, beginning.as_slice().chain(rest))?;
+        if bytes.len() as u64 >= MOST_BYTES {
+            return Err(FileFault::TooLarge);
+        }
+        Ok(bytes)
     }
 }
 

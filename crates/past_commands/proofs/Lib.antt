@@ -1,0 +1,5 @@
+pub mod Asking
+pub mod HitsLeft
+pub mod Printing
+pub mod Refusals
+pub mod SightsBefore

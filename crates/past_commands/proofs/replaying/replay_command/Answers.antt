@@ -1,0 +1,30 @@
+use Rattle.std.proofs.Common.{◌∙◌, ◌++◌, List, ap, inr, refl, subst, ℕ}
+use Rattle.host_io.specs.Taken.{BeganText}
+use Rattle.past_commands.proofs.Printing.{on_err, whole}
+use Rattle.past_commands.proofs.replaying.replay_command.Goals as goal
+
+pub returns-in_err-put_all-clause-begun : goal.returns-in_err-put_all-clause-begun
+returns-in_err-put_all-clause-begun g c =
+    let old = g.O.Sink.took c.args.out.now in
+    let new = g.O.Sink.took c.put_all.new.out in
+    on_err c.from_residual-in_err-put_all.result _ (inr (
+      record { past = c.in_ok-past.past; holds = c.in_ok-past.ensures.holds; answer = c.in_ok-answer.answer; is_answer = c.in_ok-answer.ensures.answers },
+      subst (λ (t : List ℕ). BeganText old new t) c.as_bytes.ensures c.in_err-put_all.ensures.begun,
+    ))
+
+pub returns-in_err-hand_on-clause-begun : goal.returns-in_err-hand_on-clause-begun
+returns-in_err-hand_on-clause-begun g c =
+    let old = g.O.Sink.took c.args.out.now in
+    on_err c.from_residual-in_err-hand_on.result _ (inr (
+      record { past = c.in_ok-past.past; holds = c.in_ok-past.ensures.holds; answer = c.in_ok-answer.answer; is_answer = c.in_ok-answer.ensures.answers },
+      whole _ _ _ (c.in_err-hand_on.ensures.took ∙ c.in_ok-put_all.ensures.ok ∙ ap (λ (t : List ℕ). old ++ t) c.as_bytes.ensures),
+    ))
+
+pub returns-clause-answers : goal.returns-clause-answers
+returns-clause-answers g c =
+    let old = g.O.Sink.took c.args.out.now in (
+      record { past = c.in_ok-past.past; holds = c.in_ok-past.ensures.holds; answer = c.in_ok-answer.answer; is_answer = c.in_ok-answer.ensures.answers },
+      c.in_ok-hand_on.ensures.took ∙ c.in_ok-put_all.ensures.ok ∙ ap (λ (t : List ℕ). old ++ t) c.as_bytes.ensures,
+      c.in_ok-hand_on.ensures.out,
+      refl,
+    )

@@ -1,0 +1,47 @@
+-- Why a question about the past isn't answered, and its number.
+use Rattle.std.specs.Prelude.{◌≡◌, ℕ, List, Option, Some, None, Err}
+use Rattle.execution_file.specs.Grammar.{reading}
+use Rattle.execution_file.specs.Refusals.{cause_number}
+use Rattle.host_io.specs.declared.error.RunError.TheVariants as refusals
+use Rattle.named_bytes.specs.Naming.{IsMissing, IsNoObject, first_missing, naming_number}
+use Rattle.past_commands.specs.declared.failure.PastFailure.{PastFailure}
+use Rattle.past_commands.specs.declared.failure.PastFailure.TheVariants.{Naming, NoExecution, NoRounds, Run, Unread}
+use Rattle.program_files.specs.Failures.{failure_number as run_number}
+use Rattle.program_files.specs.declared.failure.RunFailure.TheVariants as runs
+use Rattle.recording.specs.Refusals.{refusal_number}
+
+-- the number of the refusal
+abbrev pub failure_number : PastFailure → ℕ
+failure_number (Run failure) = run_number failure
+failure_number (Unread error) = refusal_number error
+failure_number (NoExecution cause line) = cause_number cause
+failure_number NoRounds = 88
+failure_number (Naming fault) = naming_number fault
+
+-- memory was refused
+abbrev pub out_of_memory : PastFailure
+out_of_memory = Run (runs.Refused refusals.OutOfMemory)
+
+-- the text is no execution, for this cause, or memory was refused
+abbrev pub IsNoExecution : List ℕ → PastFailure → Type 0
+IsNoExecution text (Run failure) = failure ≡ runs.Refused refusals.OutOfMemory
+IsNoExecution text (Unread error) = ⊥
+IsNoExecution text (NoExecution cause line) = (left : ℕ) × (reading text ≡ Err (record { cause = cause; left = left }))
+IsNoExecution text NoRounds = ⊥
+IsNoExecution text (Naming fault) = ⊥
+
+-- the image has no object of a name, or memory was refused
+abbrev pub IsNotNamed : List ℕ → List ℕ → PastFailure → Type 0
+IsNotNamed image name (Run failure) = failure ≡ runs.Refused refusals.OutOfMemory
+IsNotNamed image name (Unread error) = ⊥
+IsNotNamed image name (NoExecution cause line) = ⊥
+IsNotNamed image name NoRounds = ⊥
+IsNotNamed image name (Naming fault) = IsNoObject image name fault
+
+-- it has none of the first of these names of which it has none, or memory was refused
+abbrev pub IsUnnamed : List ℕ → List (List ℕ) → PastFailure → Type 0
+IsUnnamed image names (Run failure) = failure ≡ runs.Refused refusals.OutOfMemory
+IsUnnamed image names (Unread error) = ⊥
+IsUnnamed image names (NoExecution cause line) = ⊥
+IsUnnamed image names NoRounds = ⊥
+IsUnnamed image names (Naming fault) = IsMissing image (first_missing image names) (Some fault)

@@ -1,0 +1,10 @@
+pub mod Failures
+pub mod Past
+pub mod Questions
+pub mod Answers
+pub mod Checks
+pub mod Executions
+pub mod Replays
+pub mod Watched
+pub mod Watches
+pub mod Refused

@@ -1,0 +1,34 @@
+-- Recordings and executions that files hold. `either` says that bytes are all that the file of a path held, if they begin with one of
+-- two marks, and else a beginning of it.
+use Rattle.std.specs.Prelude.{ℕ, List, codes}
+use Rattle.past_commands.specs.declared.failure.PastFailure.{PastFailure}
+use Rattle.past_commands.specs.declared.failure.PastFailure.TheVariants.{Naming, NoExecution, NoRounds, Run, Unread}
+use Rattle.past_commands.specs.declared.past.Past.{Past}
+use Rattle.past_commands.specs.declared.past.Past.TheVariants.{Execution, Recording}
+use Rattle.program_files.specs.Failures.{IsFileFailure}
+use Rattle.recording.specs.Grammar.{IsRecording, reading}
+use Rattle.recording.specs.Views.{Fails}
+
+-- what every recording begins with, and what every execution does
+abbrev pub recording_mark : List ℕ
+recording_mark = codes "RVDETREC"
+
+abbrev pub execution_mark : List ℕ
+execution_mark = codes "executio"
+
+-- the file of a path has this text, as far as it was read
+abbrev pub HasText : (List ℕ → List ℕ → List ℕ → List ℕ → Type 0) → List ℕ → List ℕ → Type 0
+HasText either path text = either path recording_mark execution_mark text
+
+-- the file of a path holds this recording, or has this text, which is to be that of an execution
+abbrev pub HoldsPast : (List ℕ → List ℕ → List ℕ → List ℕ → Type 0) → List ℕ → Past → Type 0
+HoldsPast either path (Recording r) = (text : List ℕ) × HasText either path text × IsRecording text r
+HoldsPast either path (Execution text) = HasText either path text.items
+
+-- why neither was read of it: the file can't be read, memory was refused, or it holds no recording
+abbrev pub EndsReading : (List ℕ → List ℕ → List ℕ → List ℕ → Type 0) → List ℕ → PastFailure → Type 0
+EndsReading either path (Run failure) = IsFileFailure failure
+EndsReading either path (Unread error) = (text : List ℕ) × HasText either path text × Fails error (reading text)
+EndsReading either path (NoExecution cause line) = ⊥
+EndsReading either path NoRounds = ⊥
+EndsReading either path (Naming fault) = ⊥

@@ -1,0 +1,93 @@
+ghost use Rattle.std.specs.Prelude.{◌≡◌};
+ghost use Rattle.host_io.specs.declared.error.RunError.TheVariants as refusals;
+ghost use Rattle.past_commands.specs.Failures.{failure_number};
+ghost use Rattle.past_commands.specs.declared.failure.PastFailure.TheVariants as failures;
+ghost use Rattle.program_files.specs.declared.failure.RunFailure.TheVariants as runs;
+
+use execution_file::Cause;
+use host_io::RunError;
+use named_bytes::NamingFault;
+use pages::OutOfMemory;
+use program_files::RunFailure;
+use recording::ReadError;
+use std::alloc::{AllocError, AllocFailed};
+use std::fmt::{self, Display, Formatter, Write};
+
+/// Why a question about the past isn't answered.
+#[derive(Debug, Drop)]
+pub enum PastFailure {
+    /// A file couldn't be read, the output couldn't be written, the run was refused, or memory was.
+    Run(RunFailure),
+    /// The file is no recording.
+    Unread(ReadError),
+    /// The file is no execution: why, and in which line.
+    NoExecution(Cause, usize),
+    /// An execution was asked about rounds.
+    NoRounds,
+    /// The bytes that the line names can't be looked at.
+    Naming(NamingFault),
+}
+
+impl PastFailure {
+    /// The number of the refusal.
+    pub fn number(&self) -> u32
+        ensures { result ≡ failure_number self.now }
+    {
+        match self {
+            PastFailure::Run(failure) => failure.number(),
+            PastFailure::Unread(error) => error.number(),
+            PastFailure::NoExecution(cause, _) => cause.number(),
+            PastFailure::NoRounds => 88,
+            PastFailure::Naming(fault) => fault.number(),
+        }
+    }
+}
+
+impl Display for PastFailure {
+    fn fmt<W: Write>(&self, f: &mut Formatter<W>) -> Result<(), fmt::Error> {
+        match self {
+            PastFailure::Run(failure) => write!(f, "{failure}"),
+            PastFailure::Unread(error) => write!(f, "{error}"),
+            PastFailure::NoExecution(cause, line) => write!(f, "{cause}: line {line}"),
+            PastFailure::NoRounds => {
+                write!(
+                    f,
+                    "an execution has no rounds: ask for a step of a hart by --hart and --place"
+                )
+            }
+            PastFailure::Naming(fault) => write!(f, "{fault}"),
+        }
+    }
+}
+
+impl From<RunError> for PastFailure {
+    ghost from_gives = { λ x failure. failure ≡ failures.Run (runs.Refused x) };
+
+    fn from(error: RunError) -> PastFailure {
+        PastFailure::Run(RunFailure::Refused(error))
+    }
+}
+
+impl From<OutOfMemory> for PastFailure {
+    ghost from_gives = { λ _ failure. failure ≡ failures.Run (runs.Refused refusals.OutOfMemory) };
+
+    fn from(_refused: OutOfMemory) -> PastFailure {
+        PastFailure::Run(RunFailure::Refused(RunError::OutOfMemory))
+    }
+}
+
+impl From<AllocError> for PastFailure {
+    ghost from_gives = { λ _ failure. failure ≡ failures.Run (runs.Refused refusals.OutOfMemory) };
+
+    fn from(_refused: AllocError) -> PastFailure {
+        PastFailure::Run(RunFailure::Refused(RunError::OutOfMemory))
+    }
+}
+
+impl<T: Drop> From<AllocFailed<T>> for PastFailure {
+    ghost from_gives = { λ _ failure. failure ≡ failures.Run (runs.Refused refusals.OutOfMemory) };
+
+    fn from(_refused: AllocFailed<T>) -> PastFailure {
+        PastFailure::Run(RunFailure::Refused(RunError::OutOfMemory))
+    }
+}

@@ -1,0 +1,42 @@
+//! What a question about the past is put to.
+ghost use Rattle.std.specs.Prelude.{IfErr, IfOk};
+ghost use Rattle.past_commands.specs.Past.{EndsReading, HoldsPast};
+
+use crate::failure::PastFailure;
+use crate::files::PastFiles;
+use program_files::unreadable;
+use recording::{Recording, read_recording};
+use std::alloc::Global;
+
+/// What a question about the past is put to.
+#[derive(Drop)]
+pub enum Past {
+    /// A recording of a run.
+    Recording(Recording),
+    /// The text of an execution.
+    Execution(Vec<u8>),
+}
+
+/// The recording or the text of an execution that a file holds, as its first bytes say. Of a file that begins as neither, no more than
+/// that is read.
+///
+/// # Errors
+///
+/// `Run` where the file can't be read, for an execution that is too large, and for want of memory; `Unread` where the file begins as
+/// neither, or is no recording.
+pub fn read_past<F: PastFiles>(files: &F, alloc: Global, path: &str) -> Result<Past, PastFailure>
+    ensures holds { IfOk result (HoldsPast (F.either files.now) path.now) }
+    ensures errors { IfErr result (EndsReading (F.either files.now) path.now) }
+{
+    let text = match files.read_either(path, b"RVDETREC", b"executio") {
+        Ok(text) => text,
+        Err(fault) => return Err(PastFailure::Run(unreadable(alloc, path, fault))),
+    };
+    if text.starts_with(b"executio") {
+        return Ok(Past::Execution(text));
+    }
+    match read_recording(alloc, &text) {
+        Ok(recorded) => Ok(Past::Recording(recorded)),
+        Err(error) => Err(PastFailure::Unread(error)),
+    }
+}

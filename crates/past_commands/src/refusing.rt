@@ -1,0 +1,27 @@
+ghost use Rattle.past_commands.specs.Refused.{IsRefusedFor};
+
+use crate::failure::PastFailure;
+use machine::Unobserved;
+use named_bytes::NamingFault;
+use recording::Recording;
+use replayer::{Rounds, watch_rounds};
+use std::alloc::Global;
+use std::sync::Wait;
+use std::thread::Threads;
+
+/// Why a recording isn't asked about bytes of which this is wrong: what refuses its run comes before.
+pub(crate) fn refused_for<R: Threads + Wait + Sync>(
+    threads: &R,
+    alloc: Global,
+    recorded: &Recording,
+    workers: u32,
+    fault: NamingFault,
+) -> PastFailure
+    ensures { IsRefusedFor fault workers recorded.now result }
+{
+    let no_rounds = Rounds { first: 0, last: 0 };
+    match watch_rounds(threads, alloc, recorded, &[], no_rounds, workers, &mut Unobserved) {
+        Ok(_) => PastFailure::Naming(fault),
+        Err(error) => PastFailure::from(error),
+    }
+}
