@@ -4,7 +4,7 @@ use Rattle.command_line.specs.declared.settings.FencesFailOn.{FencesFailOn}
 use Rattle.command_line.specs.declared.settings.FencesFailOn.TheVariants as fences
 use Rattle.fence_table.specs.declared.fence_table.FenceTable.{FenceTable}
 use Rattle.dethart.specs.declared.failure.Failure.{Failure}
-use Rattle.dethart.specs.declared.failure.Failure.TheVariants.{Accept, Apart, Hunt, Line, Merge, Naming, NoExecution, NoRounds, NotATable, NoPlace, NotText, ReaderGone, Refused, Run, Unread, Unwritten, WeakHunt}
+use Rattle.dethart.specs.declared.failure.Failure.TheVariants.{Accept, Draw, Execution, Hunt, Line, Merge, Naming, NoPlace, NoRounds, NotText, ReaderGone, Refused, Run, Unread, Unwritten, WeakHunt}
 use Rattle.program_world.specs.declared.exit_status.ExitStatus.{ExitStatus}
 use Rattle.program_world.specs.declared.exit_status.ExitStatus.TheVariants.{BadLine, Done, Doubtful, Lacking, Refused as Refusal}
 
@@ -14,15 +14,14 @@ status_of (Refused error) = Refusal
 status_of (Run failure) = Refusal
 status_of (Unwritten path) = Refusal
 status_of (Unread error) = Refusal
-status_of (NoExecution cause line) = Refusal
+status_of (Execution failure) = Refusal
 status_of NoRounds = Refusal
 status_of (Hunt error) = Refusal
 status_of (WeakHunt error) = Refusal
 status_of (Accept error) = Refusal
 status_of (NoPlace word why) = Refusal
-status_of (Merge error) = Refusal
-status_of (NotATable path) = Refusal
-status_of (Apart last path apart) = Refusal
+status_of (Merge failure) = Refusal
+status_of (Draw failure) = Refusal
 status_of (Naming fault) = Refusal
 status_of ReaderGone = Refusal
 status_of (Line error) = BadLine

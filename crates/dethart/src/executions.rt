@@ -1,15 +1,14 @@
-//! The commands of executions: a run as one, and whether RVWMO allows one.
+//! The command that prints a run as an execution.
 
 use crate::failure::Failure;
 use crate::run::progress_of;
 use crate::world::HostFiles;
-use command_line::{Check, Execution, Run};
-use execution_scripts::{check_file, execution_of_run, write_execution};
+use command_line::{Execution, Run};
+use execution_scripts::{execution_of_run, write_execution};
 use host_io::WriteSink;
 use hunt_commands::program_settings;
-use past_commands::{execution_of, write_checked};
-use program_files::{read_file, read_program, read_run, settings_of};
-use program_world::{ExitStatus, ProgressLine};
+use program_files::{read_program, read_run, settings_of};
+use program_world::ProgressLine;
 use std::io::Write;
 use std::sync::Wait;
 use std::thread::Threads;
@@ -64,16 +63,4 @@ fn write_run_as_execution<R: Threads + Wait + Sync, W: Write>(
     progress.end();
     let file = files.plan.explain(rt.alloc(), run.program.harts, made)?;
     Ok(write_execution(rt.alloc(), &file, &mut WriteSink::new(out))?)
-}
-
-/// Checks the execution of a file, and writes whether RVWMO allows it. Answers the exit status.
-pub(crate) fn write_check<W: Write>(
-    rt: &HostRuntime,
-    asked: &Check<'_>,
-    out: &mut W,
-) -> Result<ExitStatus, Failure> {
-    let text = read_file(&HostFiles::new(rt), rt.alloc(), asked.file)?;
-    let file = execution_of(rt.alloc(), &text)?;
-    let checked = check_file(rt.alloc(), &file, None)?;
-    Ok(write_checked(rt.alloc(), &checked, &mut WriteSink::new(out))?)
 }

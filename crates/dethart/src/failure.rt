@@ -3,13 +3,11 @@ ghost use Rattle.dethart.specs.Status.{status_of};
 ghost use Rattle.host_io.specs.declared.error.RunError.TheVariants as refusals;
 ghost use Rattle.dethart.specs.declared.failure.Failure.TheVariants as failures;
 
-use crate::merging::Apart;
 use crate::places::Misplaced;
-use execution_scripts::Cause;
+use execution_commands::ExecutionFailure;
 use fence_table::AcceptError;
 use host_io::RunError;
-use hunt_commands::HuntFailure;
-use hunt_table::MergeError;
+use hunt_commands::{HuntFailure, MergeFailure};
 use hunter::HuntError;
 use named_bytes::NamingFault;
 use past_commands::PastFailure;
@@ -19,6 +17,7 @@ use record_commands::RecordFailure;
 use recording::ReadError;
 use std::alloc::{AllocError, AllocFailed};
 use std::io;
+use view_commands::DrawFailure;
 use weak_hunter::WeakHuntError;
 
 /// Why the program ends without what it was asked for.
@@ -36,8 +35,8 @@ pub(crate) enum Failure {
     Unwritten(String),
     /// The file is no recording.
     Unread(ReadError),
-    /// The file is no execution: why, and in which line.
-    NoExecution(Cause, usize),
+    /// The file is no execution.
+    Execution(ExecutionFailure),
     /// An execution was asked about rounds.
     NoRounds,
     /// The hunt was refused.
@@ -49,11 +48,9 @@ pub(crate) enum Failure {
     /// A fence was to be assumed before the instruction that this word names, and it names none, for this reason.
     NoPlace(String, Misplaced),
     /// The tables weren't merged.
-    Merge(MergeError),
-    /// The file of this path has no table.
-    NotATable(String),
-    /// The tables of these files aren't of two slices of a hunt that follow on one another.
-    Apart(String, String, Apart),
+    Merge(MergeFailure),
+    /// The picture wasn't drawn.
+    Draw(DrawFailure),
     /// The bytes that the line names can't be looked at.
     Naming(NamingFault),
     /// What reads standard output has gone, as `head` does.
@@ -135,7 +132,9 @@ impl From<PastFailure> for Failure {
         match failure {
             PastFailure::Run(failure) => Failure::from(failure),
             PastFailure::Unread(error) => Failure::Unread(error),
-            PastFailure::NoExecution(cause, line) => Failure::NoExecution(cause, line),
+            PastFailure::NoExecution(cause, line) => {
+                Failure::Execution(ExecutionFailure::NoExecution(cause, line))
+            }
             PastFailure::NoRounds => Failure::NoRounds,
             PastFailure::Naming(fault) => Failure::Naming(fault),
         }
@@ -148,11 +147,30 @@ impl From<AcceptError> for Failure {
     }
 }
 
-impl From<MergeError> for Failure {
-    ghost from_gives = { λ error failure. failure ≡ failures.Merge error };
+impl From<MergeFailure> for Failure {
+    fn from(failure: MergeFailure) -> Failure {
+        match failure {
+            MergeFailure::Run(failure) => Failure::from(failure),
+            failure => Failure::Merge(failure),
+        }
+    }
+}
 
-    fn from(error: MergeError) -> Failure {
-        Failure::Merge(error)
+impl From<ExecutionFailure> for Failure {
+    fn from(failure: ExecutionFailure) -> Failure {
+        match failure {
+            ExecutionFailure::Run(failure) => Failure::from(failure),
+            failure => Failure::Execution(failure),
+        }
+    }
+}
+
+impl From<DrawFailure> for Failure {
+    fn from(failure: DrawFailure) -> Failure {
+        match failure {
+            DrawFailure::Run(failure) => Failure::from(failure),
+            failure => Failure::Draw(failure),
+        }
     }
 }
 
@@ -199,15 +217,14 @@ impl Failure {
             Failure::Run(failure) => Some(failure.number()),
             Failure::Unwritten(_) => Some(RunError::SinkFailed.number()),
             Failure::Unread(error) => Some(error.number()),
-            Failure::NoExecution(cause, _) => Some(cause.number()),
+            Failure::Execution(failure) => Some(failure.number()),
             Failure::NoRounds => Some(88),
             Failure::Hunt(error) => Some(error.number()),
             Failure::WeakHunt(error) => Some(error.number()),
             Failure::Accept(error) => Some(error.number()),
             Failure::NoPlace(_, _) => Some(77),
-            Failure::Merge(error) => Some(error.number()),
-            Failure::NotATable(_) => Some(MergeError::NotATable.number()),
-            Failure::Apart(_, _, _) => Some(MergeError::Apart.number()),
+            Failure::Merge(failure) => Some(failure.number()),
+            Failure::Draw(failure) => Some(failure.number()),
             Failure::Naming(fault) => Some(fault.number()),
         }
     }
@@ -234,7 +251,7 @@ impl Failure {
                 eprintln!(rt; "the file {path} couldn't be made or written")
             }
             Failure::Unread(error) => eprintln!(rt; "{error}"),
-            Failure::NoExecution(cause, line) => { eprintln!(rt; "{cause}: line {line}") }
+            Failure::Execution(failure) => eprintln!(rt; "{failure}"),
             Failure::NoRounds => {
                 eprintln!(rt;
                     "an execution has no rounds: ask for a step of a hart by --hart and --place"
@@ -247,12 +264,8 @@ impl Failure {
                 let why = why.words();
                 eprintln!(rt; "no fence can be assumed before {word}: {why}")
             }
-            Failure::Merge(error) => eprintln!(rt; "{error}"),
-            Failure::NotATable(path) => eprintln!(rt; "the file {path} is no table of a hunt"),
-            Failure::Apart(last, path, apart) => {
-                let why = apart.words();
-                eprintln!(rt; "the table {path} doesn't go on where {last} ends: {why}")
-            }
+            Failure::Merge(failure) => eprintln!(rt; "{failure}"),
+            Failure::Draw(failure) => eprintln!(rt; "{failure}"),
             Failure::Naming(fault) => eprintln!(rt; "{fault}"),
             Failure::ReaderGone => Ok(()),
         }

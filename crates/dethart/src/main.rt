@@ -3,15 +3,12 @@
 #![tactic(auto)]
 
 mod debugging;
-mod execution_pictures;
 mod executions;
 mod failure;
 mod fences;
 mod keeping;
 mod line;
-mod merging;
 mod output;
-mod pictures;
 mod places;
 mod printing;
 mod progress;

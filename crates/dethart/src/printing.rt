@@ -2,12 +2,10 @@
 ghost use Rattle.std.specs.Prelude.{◌≡◌};
 ghost use Rattle.dethart.specs.Status.{fences_answer};
 
-use crate::executions::{write_check, write_execution_of};
+use crate::executions::write_execution_of;
 use crate::failure::Failure;
 use crate::fences::write_fences_of;
-use crate::merging::write_merged;
 use crate::output::{finish, standard_output};
-use crate::pictures::{write_drawing, write_trace};
 use crate::progress::Progress;
 use crate::repeating::{tell_missing, tell_running};
 use crate::run::progress_of;
@@ -16,13 +14,15 @@ use command_line::{
     Check, Draw, Execution, Fences, FencesFailOn, Hunt, Merge, Plan, Print, Replay, Run, Shrink,
     Watch,
 };
+use execution_commands::check_command;
 use fence_table::FenceTable;
-use hunt_commands::{WeakHunter, hunt_command, plan_command, shrink_command};
+use hunt_commands::{WeakHunter, hunt_command, merge_command, plan_command, shrink_command};
 use past_commands::{replay_command, watch_command};
 use program_world::ExitStatus;
 use run_commands::{order_command, run_command};
 use std::sync::Wait;
 use std::thread::Threads;
+use view_commands::{draw_command, trace_command};
 
 /// Runs the guest program, and prints what is asked for of the run.
 pub(crate) fn print_run<R: Threads + Wait + Sync>(
@@ -200,10 +200,9 @@ pub(crate) fn print_shrunk<R: Threads + Wait + Sync>(
 
 /// Prints the table of all plans of the tables in some files.
 pub(crate) fn print_merged(rt: &HostRuntime, asked: &Merge<'_>) -> Result<ExitStatus, Failure> {
-    let mut out = standard_output(rt)?;
-    let written = write_merged(rt, asked, &mut out);
-    finish(out, written)?;
-    Ok(ExitStatus::Done)
+    let mut out = HostOutput::new(rt)?;
+    let answer = merge_command(rt.alloc(), &HostFiles::new(rt), asked, &mut out);
+    told(answer, &out)
 }
 
 /// Prints a plan of the family, and on standard error its budget, which a plan's text has no place for.
@@ -219,9 +218,17 @@ pub(crate) fn print_drawing<R: Threads + Wait + Sync>(
     threads: &R,
     asked: &Draw<'_>,
 ) -> Result<ExitStatus, Failure> {
-    let mut out = standard_output(rt)?;
-    let written = write_drawing(rt, threads, asked, &mut out);
-    finish(out, written)
+    let mut out = HostOutput::new(rt)?;
+    let mut progress = progress_of(rt, &asked.run.program);
+    let answer = draw_command(
+        threads,
+        rt.alloc(),
+        &HostFiles::new(rt),
+        asked,
+        &mut progress,
+        &mut out,
+    );
+    told(answer, &out)
 }
 
 /// Runs the guest program, and prints its trace for viewers of traces.
@@ -230,10 +237,17 @@ pub(crate) fn print_trace<R: Threads + Wait + Sync>(
     threads: &R,
     run: &Run<'_>,
 ) -> Result<ExitStatus, Failure> {
-    let mut out = standard_output(rt)?;
-    let written = write_trace(rt, threads, run, &mut out);
-    finish(out, written)?;
-    Ok(ExitStatus::Done)
+    let mut out = HostOutput::new(rt)?;
+    let mut progress = progress_of(rt, &run.program);
+    let answer = trace_command(
+        threads,
+        rt.alloc(),
+        &HostFiles::new(rt),
+        run,
+        &mut progress,
+        &mut out,
+    );
+    told(answer, &out)
 }
 
 /// Prints an execution of the guest program.
@@ -250,7 +264,7 @@ pub(crate) fn print_execution<R: Threads + Wait + Sync>(
 
 /// Checks the execution of a file, and prints whether RVWMO allows it.
 pub(crate) fn print_check(rt: &HostRuntime, asked: &Check<'_>) -> Result<ExitStatus, Failure> {
-    let mut out = standard_output(rt)?;
-    let written = write_check(rt, asked, &mut out);
-    finish(out, written)
+    let mut out = HostOutput::new(rt)?;
+    let answer = check_command(rt.alloc(), &HostFiles::new(rt), asked, &mut out);
+    told(answer, &out)
 }

@@ -1,4 +1,5 @@
 pub mod Begun
 pub mod Ranges
 pub mod Refused
+pub mod TableFiles
 pub mod Tables

@@ -1,23 +1,32 @@
-//! The commands that run a guest program by the plans of a family: `hunt` and `shrink`; and `plan`, which prints such a plan.
+//! The commands that run a guest program by the plans of a family: `hunt` and `shrink`; `merge`, which joins tables of hunts; and `plan`,
+//! which prints such a plan.
 #![tactic(auto)]
 
 mod failure;
 mod hunting;
+mod merge_failure;
+mod merging;
+mod neighbours;
 mod planning;
 mod refusing;
 mod repeating;
 mod settings;
 mod shrinking;
 mod status;
+mod table_files;
 mod tabling;
 mod weak_hunts;
 
 pub use failure::HuntFailure;
 pub use hunting::hunt_command;
+pub use merge_failure::MergeFailure;
+pub use merging::merge_command;
+pub use neighbours::Apart;
 pub use planning::plan_command;
 pub use refusing::refused_for;
 pub use repeating::{tell_bounds, weak_line_of};
 pub use settings::{named_in, program_settings, settings_of};
 pub use shrinking::shrink_command;
 pub use status::hunt_status;
+pub use table_files::TableFile;
 pub use weak_hunts::{WeakHunter, WeakHunts};

@@ -78,7 +78,7 @@ placed_after image input plan low few (suc n) lt =
     let last : ℕ = 1001000 * n in
     let ih = placed_after image input plan low few n (omega (arith, lt)) in
     let next = places_kept (words_of m.code) (λ (h : Hart). h.done) (counts_done m.code) last 1000000 plan.budget (quotas_of plan) (after_rounds n m).state
-        (λ k. low_all (quotas_of plan k) (low k)) (omega (arith, few, lt)) ih in
+    (λ k. low_all (quotas_of plan k) (low k)) (omega (arith, few, lt)) ih in
     let more : n + 1 ≡ suc n = omega arith in
     subst (λ (r : Running). Placed (λ (h : Hart). h.done) (1001000 * suc n) r.state.harts r.state.trace) (next_round n m ∙ ap (λ (k : ℕ). after_rounds k m) more)
     (placed_more (last + 1000000 + plan.budget) (1001000 * suc n) _ _ (omega (arith, few)) next)
@@ -160,7 +160,7 @@ module _ (r : Recorded) (plan : Planned) (hart place n count : ℕ) (h : Hart) (
   count_is : (start : Sight Hart) → sight_at r.rounds m (suc n) hart 0 ≡ Some start → place - start.hart.done ≡ count
   count_is start first =
       let e = counts_on image r.input plan n hart count start.hart h b low
-          (past_is 0 ∙ hart_of_sight r.rounds m (suc n) hart 0 ∙ ap (option_map (λ (s : Sight Hart). s.hart)) first) (past_is count ∙ is.here) in
+      (past_is 0 ∙ hart_of_sight r.rounds m (suc n) hart 0 ∙ ap (option_map (λ (s : Sight Hart). s.hart)) first) (past_is count ∙ is.here) in
       omega (arith, e, is.done)
 
   -- what was found at that count

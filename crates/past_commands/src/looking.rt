@@ -62,8 +62,13 @@ fn answer_checked(
     if asked.place.is_none() || !is_allowed(checked) {
         return Ok(check_answer(alloc, checked)?);
     }
-    let NamedBytes { bytes, fault } =
-        named_bytes(alloc, &file.image, file.pages, &asked.seen, &asked.objects)?;
+    let NamedBytes { bytes, fault } = named_bytes(
+        alloc,
+        &file.image,
+        file.pages,
+        &asked.seen,
+        &asked.objects,
+    )?;
     match fault {
         Some(fault) => Err(PastFailure::Naming(fault)),
         None => {

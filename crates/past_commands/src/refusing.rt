@@ -20,7 +20,15 @@ pub(crate) fn refused_for<R: Threads + Wait + Sync>(
     ensures { IsRefusedFor fault workers recorded.now result }
 {
     let no_rounds = Rounds { first: 0, last: 0 };
-    match watch_rounds(threads, alloc, recorded, &[], no_rounds, workers, &mut Unobserved) {
+    match watch_rounds(
+        threads,
+        alloc,
+        recorded,
+        &[],
+        no_rounds,
+        workers,
+        &mut Unobserved,
+    ) {
         Ok(_) => PastFailure::Naming(fault),
         Err(error) => PastFailure::from(error),
     }

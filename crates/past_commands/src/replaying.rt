@@ -32,7 +32,12 @@ use std::thread::Threads;
 /// `Run` where the file can't be read, the output can't be written or memory is refused, and for the refusals of the run; `Unread` and
 /// `NoExecution` where the file is no recording, or no execution; `NoRounds` where an execution is asked about rounds; then `Naming` for
 /// bytes that can't be looked at.
-pub fn replay_command<F: PastFiles, O: Output, P: Observer + ProgressLine, R: Threads + Wait + Sync>(
+pub fn replay_command<
+    F: PastFiles,
+    O: Output,
+    P: Observer + ProgressLine,
+    R: Threads + Wait + Sync,
+>(
     threads: &R,
     alloc: Global,
     files: &F,

@@ -127,7 +127,15 @@ fn watch_bytes<P: Observer + ProgressLine, R: Threads + Wait + Sync>(
         last: asked.to.unwrap_or(u32::MAX),
     };
     progress.expect(recorded.rounds());
-    let found = watch_rounds(threads, alloc, recorded, &ranges, rounds, asked.workers, progress);
+    let found = watch_rounds(
+        threads,
+        alloc,
+        recorded,
+        &ranges,
+        rounds,
+        asked.workers,
+        progress,
+    );
     progress.end();
     let events = choose(alloc, found?, asked.hart, asked.stores)?;
     let pcs = pcs_of(threads, alloc, recorded, &events, asked)?;

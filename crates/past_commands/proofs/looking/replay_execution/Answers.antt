@@ -27,8 +27,12 @@ pub returns-clause-errors : goal.returns-clause-errors
 returns-clause-errors c =
     let asked = c.args.asked.now in
     let none : is_some asked.round ≡ false = cc (c.is_some.ensures, c.in_ok-refuse_rounds.ensures.ok) in
-    on_error c.answer_checked.result _ _ (λ f h. inr (as_recorded c.in_ok-file.file, c.in_ok-file.ensures.says, record {
-      of_rounds = λ is_true. absurd (clash (is_some asked.round) none is_true);
-      of_workers = λ is_false bad. absurd (no_workers asked.workers c.in_ok-refuse_workers.ensures.ok bad);
-      of_rest = λ is_false good. inr h;
-    })) c.answer_checked.ensures.errors
+    on_error c.answer_checked.result _ _ (λ f h. inr (
+      as_recorded c.in_ok-file.file,
+      c.in_ok-file.ensures.says,
+      record {
+        of_rounds = λ is_true. absurd (clash (is_some asked.round) none is_true);
+        of_workers = λ is_false bad. absurd (no_workers asked.workers c.in_ok-refuse_workers.ensures.ok bad);
+        of_rest = λ is_false good. inr h;
+      },
+    )) c.answer_checked.ensures.errors

@@ -22,8 +22,12 @@ pub returns-clause-errors : goal.returns-clause-errors
 returns-clause-errors g c =
     let asked = c.args.asked.now in
     let none = neither asked.from asked.to c.in_ok-refuse_some_rounds.ensures.from c.in_ok-refuse_some_rounds.ensures.to in
-    on_error c.watch_checked.result _ _ (λ f h. inr (as_recorded c.in_ok-file.file, c.in_ok-file.ensures.says, record {
-      of_rounds = λ is_true. absurd (clash (is_some asked.from || is_some asked.to) none is_true);
-      of_workers = λ is_false bad. absurd (no_workers asked.workers c.in_ok-refuse_workers.ensures.ok bad);
-      of_rest = λ is_false good. inr h;
-    })) c.watch_checked.ensures.errors
+    on_error c.watch_checked.result _ _ (λ f h. inr (
+      as_recorded c.in_ok-file.file,
+      c.in_ok-file.ensures.says,
+      record {
+        of_rounds = λ is_true. absurd (clash (is_some asked.from || is_some asked.to) none is_true);
+        of_workers = λ is_false bad. absurd (no_workers asked.workers c.in_ok-refuse_workers.ensures.ok bad);
+        of_rest = λ is_false good. inr h;
+      },
+    )) c.watch_checked.ensures.errors

@@ -1,0 +1,51 @@
+-- The execution that `check` looks at, and why it ends without a verdict. `holds` says what files hold.
+use Rattle.std.specs.Prelude.{◌≡◌, ◌⊎◌, List, None, ℕ}
+use Rattle.execution_commands.specs.Texts.{IsRefusedIn}
+use Rattle.execution_commands.specs.declared.failure.ExecutionFailure.{ExecutionFailure}
+use Rattle.execution_commands.specs.declared.failure.ExecutionFailure.TheVariants.{NoExecution, Run}
+use Rattle.execution_file.specs.Grammar.{IsExecution}
+use Rattle.execution_file.specs.Recorded.{Recorded}
+use Rattle.execution_scripts.specs.Findings.{IsFound, guest_in}
+use Rattle.execution_scripts.specs.declared.checking.Checked.{Checked}
+use Rattle.host_io.specs.declared.error.RunError.{RunError}
+use Rattle.host_io.specs.declared.error.RunError.TheVariants as refusals
+use Rattle.program_files.specs.Failures.{IsFileFailure}
+use Rattle.program_files.specs.declared.failure.RunFailure.{RunFailure}
+use Rattle.program_files.specs.declared.failure.RunFailure.TheVariants as runs
+
+-- the execution that a text says, and what is found of it
+pub record CheckedText (text : List ℕ) : Type 0 where
+  pub execution : Recorded
+  pub checked : Checked
+  pub says : IsExecution text execution
+  pub found : IsFound (guest_in execution) execution.harts execution.order None checked.finding checked
+
+-- the same of the text that a file held
+pub record CheckedFile (holds : List ℕ → List ℕ → Type 0) (path : List ℕ) : Type 0 where
+  pub text : List ℕ
+  pub held : holds path text
+  pub made : CheckedText text
+
+-- the checked execution
+abbrev pub checked_in : {holds : List ℕ → List ℕ → Type 0} {path : List ℕ} → CheckedFile holds path → Checked
+checked_in a = a.made.checked
+
+-- the text is an execution, and it isn't checked for this error: its guest is refused, or memory
+pub record IsUnchecked (text : List ℕ) (failure : RunFailure) : Type 0 where
+  pub execution : Recorded
+  pub says : IsExecution text execution
+  pub error : RunError
+  pub is_error : failure ≡ runs.Refused error
+
+-- the file of the path held a text of which this is so
+pub record Held (holds : List ℕ → List ℕ → Type 0) (path : List ℕ) (P : List ℕ → Type 0) : Type 0 where
+  pub text : List ℕ
+  pub held : holds path text
+  pub so : P text
+
+-- why the command ends without a verdict: the file can't be read, its text is no execution, its guest is refused, memory is, or the output
+-- can't be written
+abbrev pub EndsCheck : (List ℕ → List ℕ → Type 0) → List ℕ → ExecutionFailure → Type 0
+EndsCheck holds path (Run failure) =
+    IsFileFailure failure ⊎ (failure ≡ runs.Refused refusals.SinkFailed) ⊎ Held holds path (λ text. IsUnchecked text failure)
+EndsCheck holds path (NoExecution cause line) = Held holds path (λ text. IsRefusedIn text cause line)

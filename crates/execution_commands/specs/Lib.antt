@@ -1,0 +1,4 @@
+pub mod Texts
+pub mod Failures
+pub mod Verdicts
+pub mod Checks

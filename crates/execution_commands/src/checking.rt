@@ -1,0 +1,70 @@
+ghost use Rattle.std.specs.Prelude.{◌≡◌, ◌⊎◌, ◌++◌, ℕ, IfErr, IfOk, List, OnErr};
+ghost use Rattle.execution_commands.specs.Checks.{CheckedFile, EndsCheck, checked_in};
+ghost use Rattle.execution_commands.specs.Verdicts.{IsVerdictText, verdict_status};
+ghost use Rattle.host_io.specs.Taken.{BeganText};
+ghost use Rattle.host_io.specs.declared.error.RunError.TheVariants as refusals;
+
+use crate::failure::ExecutionFailure;
+use crate::reading::read_execution_text;
+use crate::verdicts::put_verdict;
+use command_line::Check;
+use execution_scripts::{Checked, check_file};
+use host_io::RunError;
+use program_files::read_file;
+use program_world::{ExitStatus, Files, Output};
+use std::alloc::Global;
+
+/// Checks the execution of a file, and prints whether RVWMO allows it.
+///
+/// # Errors
+///
+/// `Run` where the file can't be read; `NoExecution` where it has no execution; then `Run` where the guest of this is refused, for its harts
+/// and pages and then for its image; the refusal of memory at any time; and `Run` at last where the output can't be written.
+pub fn check_command<F: Files, O: Output>(
+    alloc: Global,
+    files: &F,
+    asked: &Check<'_>,
+    out: &mut O,
+) -> Result<ExitStatus, ExecutionFailure>
+    // All that was printed is what is found of the execution in the file of the line, and the status is 0 where RVWMO allows it, and else 3.
+    ensures checks { IfOk result (λ status. (a : CheckedFile (F.holds files.now) asked.now.file.now) × (text : List ℕ) ×
+        IsVerdictText (checked_in a) text × (O.took out.new ≡ O.took out.old ++ text) × O.is_out out.new ×
+        (status ≡ verdict_status (checked_in a).finding)) }
+    // Else nothing was printed, or a beginning of that.
+    ensures begun { OnErr result ((O.took out.new ≡ O.took out.old) ⊎
+        ((a : CheckedFile (F.holds files.now) asked.now.file.now) × (text : List ℕ) × IsVerdictText (checked_in a) text ×
+        BeganText (O.took out.old) (O.took out.new) text)) }
+    ensures errors { IfErr result (EndsCheck (F.holds files.now) asked.now.file.now) }
+{
+    let checked = checked_file(files, alloc, asked.file)?;
+    let printed = print_verdict(alloc, &checked, out);
+    drop(checked);
+    Ok(printed?)
+}
+
+/// Prints what was found of an execution.
+fn print_verdict<O: Output>(
+    alloc: Global,
+    checked: &Checked,
+    out: &mut O,
+) -> Result<ExitStatus, RunError>
+    ensures puts { IfOk result (λ status. (text : List ℕ) × IsVerdictText checked.now text ×
+        (O.took out.new ≡ O.took out.old ++ text) × O.is_out out.new × (status ≡ verdict_status checked.now.finding)) }
+    ensures begun { OnErr result ((O.took out.new ≡ O.took out.old) ⊎
+        ((text : List ℕ) × IsVerdictText checked.now text × BeganText (O.took out.old) (O.took out.new) text)) }
+    ensures errors { IfErr result (λ e. (e ≡ refusals.OutOfMemory) ⊎ (e ≡ refusals.SinkFailed)) }
+{
+    let status = put_verdict(alloc, checked, out)?;
+    out.hand_on()?;
+    Ok(status)
+}
+
+/// Checks the execution of the file of a path.
+fn checked_file<F: Files>(files: &F, alloc: Global, path: &str) -> Result<Checked, ExecutionFailure>
+    ensures checks { IfOk result (λ c. (a : CheckedFile (F.holds files.now) path.now) × (c ≡ checked_in a)) }
+    ensures errors { IfErr result (EndsCheck (F.holds files.now) path.now) }
+{
+    let text = read_file(files, alloc, path)?;
+    let file = read_execution_text(alloc, &text)?;
+    Ok(check_file(alloc, &file, None)?)
+}

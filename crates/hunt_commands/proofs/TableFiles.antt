@@ -1,0 +1,42 @@
+-- Tables that are read file by file.
+use Rattle.std.proofs.Common.{◌≡◌, ◌∙◌, ◌+◌, ◌<◌, ◌++◌, ◌∷◌, [], Bor, List, ap, drop, get_or, length, map, subst, sym, take, ℕ}
+use Rattle.std.proofs.lemmas.List.{drop_more, map-append, take-append-drop, take_more}
+use Rattle.std.proofs.lemmas.List.Elements.{All-push}
+use Rattle.hunt_commands.specs.Merges.{AreRead, HoldsTable, IsReadEnd, IsUntabled, path_of}
+use Rattle.hunt_commands.specs.declared.merge_failure.MergeFailure.{MergeFailure}
+use Rattle.hunt_commands.specs.declared.merge_failure.MergeFailure.TheVariants as failures
+use Rattle.hunt_commands.specs.declared.table_files.TableFile.{TableFile}
+
+abbrev words_of : List (Bor (List ℕ)) → List (List ℕ)
+words_of paths = map (λ s. s.now) paths
+
+-- one more file is read
+pub read_more : (holds : List ℕ → List ℕ → Type 0) (paths : List (Bor (List ℕ))) (i : ℕ) (d : Bor (List ℕ)) (files : List TableFile) (f : TableFile) →
+    i < length paths → f.path.now ≡ (get_or paths i d).now → HoldsTable holds f → AreRead holds (words_of (take i paths)) files →
+    AreRead holds (words_of (take (i + 1) paths)) (files ++ f ∷ [])
+read_more holds paths i d files f lt path held read = record {
+  of_paths = map-append path_of files (f ∷ []) ∙ ap (λ (ps : List (List ℕ)). ps ++ f.path.now ∷ []) read.of_paths
+      ∙ ap (λ (p : List ℕ). words_of (take i paths) ++ p ∷ []) path
+      ∙ sym (map-append (λ (s : Bor (List ℕ)). s.now) (take i paths) (get_or paths i d ∷ []))
+      ∙ ap words_of (sym (take_more paths i d lt));
+  held = All-push (HoldsTable holds) files f read.held held;
+}
+
+-- the file of the next path gives no table
+pub untabled_so : (holds : List ℕ → List ℕ → Type 0) (paths : List (Bor (List ℕ))) (i : ℕ) (d : Bor (List ℕ)) (files : List TableFile) (e : MergeFailure) →
+    i < length paths → AreRead holds (words_of (take i paths)) files → IsUntabled holds (get_or paths i d).now e → IsReadEnd holds (words_of paths) e
+untabled_so holds paths i d files (failures.Run failure) lt read h = h
+untabled_so holds paths i d files (failures.NotATable path) lt read h = record {
+  before = files;
+  after = words_of (drop (i + 1) paths);
+  stands = ap words_of (sym (take-append-drop i paths) ∙ ap (λ (ps : List (Bor (List ℕ))). take i paths ++ ps) (drop_more paths i d lt))
+      ∙ map-append (λ (s : Bor (List ℕ)). s.now) (take i paths) (get_or paths i d ∷ drop (i + 1) paths)
+      ∙ ap (λ (ps : List (List ℕ)). ps ++ (get_or paths i d).now ∷ words_of (drop (i + 1) paths)) (sym read.of_paths)
+      ∙ ap (λ (p : List ℕ). map path_of files ++ p ∷ words_of (drop (i + 1) paths)) (sym h.0);
+  tables = read.held;
+  text = h.1;
+  held = subst (λ (p : List ℕ). holds p h.1) (sym h.0) h.2;
+  no_table = h.3;
+}
+untabled_so holds paths i d files (failures.Apart last next why) lt read h = h
+untabled_so holds paths i d files (failures.Merge error) lt read h = h

@@ -1,0 +1,84 @@
+//! Tables that go on where others end.
+ghost use Rattle.std.specs.Prelude.{◌≡◌};
+ghost use Rattle.hunt_commands.specs.Merges.{HasFirstApart, IsApartFor};
+ghost use Rattle.hunt_table.specs.Merging.{harts_of};
+
+use crate::table_files::TableFile;
+use hunt_table::{Table, are_same_ranges};
+use plan_hunt::Row;
+use std::fmt::{self, Display, Formatter, Write};
+
+/// How a table isn't that of the slice which follows on another one.
+#[derive(Clone, Copy, Debug, PartialEq, Eq, Drop)]
+pub enum Apart {
+    /// Its executions are made otherwise.
+    Kind,
+    /// Its hunt has another seed.
+    Seed,
+    /// Its hunt looks at other bytes.
+    Bytes,
+    /// Its hunt has another number of harts.
+    Harts,
+    /// There are plans between them.
+    Gap,
+    /// A plan is in both.
+    Overlap,
+}
+
+impl Display for Apart {
+    fn fmt<W: Write>(&self, f: &mut Formatter<W>) -> Result<(), fmt::Error> {
+        match self {
+            Apart::Kind => write!(f, "one hunt is weak, and the other isn't"),
+            Apart::Seed => write!(f, "it has another seed"),
+            Apart::Bytes => write!(f, "it has other bytes that are seen"),
+            Apart::Harts => write!(f, "it has another number of harts"),
+            Apart::Gap => write!(f, "there are plans between the two"),
+            Apart::Overlap => write!(f, "the two have plans in common"),
+        }
+    }
+}
+
+/// The place of the first table that isn't that of the slice which follows on the one before it, and how it isn't.
+pub(crate) fn first_apart(files: &[TableFile<'_>]) -> Option<(usize, Apart)>
+    ensures { HasFirstApart files.now result }
+{
+    for place in 1..files.len() {
+        if let Some(why) = apart_from(&files[place - 1].table, &files[place].table) {
+            return Some((place, why));
+        }
+    }
+    None
+}
+
+/// How a table isn't that of the slice which follows on another one, if it isn't.
+fn apart_from(last: &Table, next: &Table) -> Option<Apart>
+    ensures { IsApartFor result last.now next.now }
+{
+    let end = u64::from(last.header.first) + u64::from(last.header.count);
+    let first = u64::from(next.header.first);
+    if next.header.is_weak != last.header.is_weak {
+        Some(Apart::Kind)
+    } else if next.header.seed != last.header.seed {
+        Some(Apart::Seed)
+    } else if !are_same_ranges(&next.header.ranges, &last.header.ranges) {
+        Some(Apart::Bytes)
+    } else if harts_of(&next.rows) != harts_of(&last.rows) {
+        Some(Apart::Harts)
+    } else if end < first {
+        Some(Apart::Gap)
+    } else if first < end {
+        Some(Apart::Overlap)
+    } else {
+        None
+    }
+}
+
+/// How many harts the endings have, by the first; 0 where there is none.
+fn harts_of(rows: &[Row]) -> usize
+    ensures { result ≡ harts_of rows.now }
+{
+    match rows {
+        [] => 0,
+        [first, ..] => first.ending.stops().len(),
+    }
+}

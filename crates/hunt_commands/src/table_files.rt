@@ -1,0 +1,83 @@
+//! The files that have the tables of slices of a hunt.
+ghost use Rattle.std.specs.Prelude.{◌≡◌, IfErr, IfOk, map};
+ghost use Rattle.hunt_commands.specs.Merges.{AreRead, AreTables, HoldsTable, IsReadEnd, IsUntabled, text_of};
+
+use crate::merge_failure::MergeFailure;
+use host_io::RunError;
+use hunt_table::{ReadError, Table, read_table};
+use program_files::read_file;
+use program_world::Files;
+use std::alloc::{AllocError, Global};
+
+/// A table, and the file that has it.
+#[derive(Drop)]
+pub struct TableFile<'a> {
+    /// The path of the file.
+    pub path: &'a str,
+    /// What it holds.
+    pub text: Vec<u8>,
+    /// The table that this says.
+    pub table: Table,
+}
+
+/// Reads the tables of the files of some paths, and puts them in the order of their first plans.
+///
+/// # Errors
+///
+/// `Run` where a file can't be read, and `NotATable`, each for the first such file of the line; the refusal of memory at any time.
+pub(crate) fn tables_in_order<'a, F: Files>(
+    files: &F,
+    alloc: Global,
+    paths: &[&'a str],
+) -> Result<Vec<TableFile<'a>>, MergeFailure>
+    ensures tables { IfOk result (λ v. AreTables (F.holds files.now) (map (λ s. s.now) paths.now) v.items) }
+    ensures errors { IfErr result (IsReadEnd (F.holds files.now) (map (λ s. s.now) paths.now)) }
+{
+    let mut tables = read_tables(files, alloc, paths)?;
+    tables.sort_by_key(|file| file.table.header.first)?;
+    Ok(tables)
+}
+
+/// Reads the tables of the files of some paths.
+fn read_tables<'a, F: Files>(
+    files: &F,
+    alloc: Global,
+    paths: &[&'a str],
+) -> Result<Vec<TableFile<'a>>, MergeFailure>
+    ensures read { IfOk result (λ v. AreRead (F.holds files.now) (map (λ s. s.now) paths.now) v.items) }
+    ensures errors { IfErr result (IsReadEnd (F.holds files.now) (map (λ s. s.now) paths.now)) }
+{
+    let mut tables = Vec::new(alloc);
+    for path in paths {
+        tables.push(read_table_of(files, alloc, path)?)?;
+    }
+    Ok(tables)
+}
+
+/// Reads the table of the file of a path.
+fn read_table_of<'a, F: Files>(
+    files: &F,
+    alloc: Global,
+    path: &'a str,
+) -> Result<TableFile<'a>, MergeFailure>
+    ensures path { IfOk result (λ f. f.path.now ≡ path.now) }
+    ensures held { IfOk result (HoldsTable (F.holds files.now)) }
+    ensures errors { IfErr result (IsUntabled (F.holds files.now) path.now) }
+{
+    let text = read_file(files, alloc, path)?;
+    match read_table(alloc, &text) {
+        Ok(table) => Ok(TableFile { path, text, table }),
+        Err(ReadError::NotATable) => {
+            Err(MergeFailure::NotATable(String::from_str(alloc, path)?))
+        }
+        Err(ReadError::OutOfMemory) => Err(MergeFailure::from(RunError::OutOfMemory)),
+    }
+}
+
+/// The texts of some tables.
+pub(crate) fn texts_of(alloc: Global, files: Vec<TableFile<'_>>) -> Result<Vec<Vec<u8>>, AllocError>
+    ensures texts { IfOk result (λ v. v.items ≡ map text_of files.entry.items) }
+{
+    let texts: Vec<Vec<u8>> = files.into_iter().map(|file| file.text).collect(alloc)?;
+    Ok(texts)
+}

@@ -1,0 +1,76 @@
+ghost use Rattle.std.specs.Prelude.{◌≡◌, ◌⊎◌, IfErr, IfOk, OnErr};
+ghost use Rattle.view_commands.specs.Drawings.{AskedDraw, Draws, EndsDraw, IsBegun, IsDrawEnd, is_of_execution};
+
+use crate::executions::draw_execution;
+use crate::failure::DrawFailure;
+use crate::guests::draw_guest;
+use command_line::Draw;
+use execution_commands::is_execution;
+use machine::Observer;
+use program_files::{RunFiles, read_run};
+use program_world::{ExitStatus, Files, Output, ProgressLine};
+use std::alloc::Global;
+use std::sync::Wait;
+use std::thread::Threads;
+
+/// Runs a guest program, and prints a picture of the run. Where the image's file holds an execution, it prints a picture of that, or what
+/// `check` prints, where RVWMO doesn't allow it.
+///
+/// # Errors
+///
+/// `Run` where a file can't be read. Of a run, `Run` for the settings, the image and the plan in this order, and then `Naming` for bytes
+/// that can't be looked at. Of an execution `NoExecution`, `NoRounds` where the line has --from or --to, `Run` for the number of workers and
+/// then for its guest, and `Naming`. `Run` for the refusal of memory at any time, and where the output can't be written.
+pub fn draw_command<F: Files, O: Output, P: Observer + ProgressLine, R: Threads + Wait + Sync>(
+    threads: &R,
+    alloc: Global,
+    files: &F,
+    asked: &Draw<'_>,
+    progress: &mut P,
+    out: &mut O,
+) -> Result<ExitStatus, DrawFailure>
+    // All that was printed is the picture that the line asks for, or else what is found of the execution.
+    ensures draws { IfOk result (λ status. (a : AskedDraw (F.holds files.now) (F.begins files.now) asked.now) ×
+        Draws asked.now a.image a.input a.text a.budget (O.took out.old) (O.took out.new) status × O.is_out out.new) }
+    // Else nothing was printed, or a beginning of that.
+    ensures begun { OnErr result ((O.took out.new ≡ O.took out.old) ⊎
+        ((a : AskedDraw (F.holds files.now) (F.begins files.now) asked.now) ×
+        IsBegun asked.now a.image a.input a.text a.budget (O.took out.old) (O.took out.new))) }
+    ensures errors { IfErr result (EndsDraw (F.holds files.now) (F.begins files.now) asked.now) }
+{
+    let given = read_run(files, alloc, &asked.run)?;
+    let status = draw_given(threads, alloc, &given, asked, progress, out)?;
+    out.hand_on()?;
+    Ok(status)
+}
+
+/// Does the same with what the files gave.
+fn draw_given<O: Output, P: Observer + ProgressLine, R: Threads + Wait + Sync>(
+    threads: &R,
+    alloc: Global,
+    given: &RunFiles,
+    asked: &Draw<'_>,
+    progress: &mut P,
+    out: &mut O,
+) -> Result<ExitStatus, DrawFailure>
+    ensures draws { IfOk result (Draws asked.now given.now.program.image.items given.now.program.input.items
+        given.now.plan.text.items given.now.plan.budget (O.took out.old) (O.took out.new)) }
+    ensures begun { OnErr result ((O.took out.new ≡ O.took out.old) ⊎
+        IsBegun asked.now given.now.program.image.items given.now.program.input.items
+        given.now.plan.text.items given.now.plan.budget (O.took out.old) (O.took out.new)) }
+    ensures errors { IfErr result (IsDrawEnd asked.now given.now.program.image.items
+        given.now.plan.text.items given.now.plan.budget) }
+{
+    if is_of_execution(asked, &given.program.image) {
+        draw_execution(alloc, &given.program.image, asked, out)
+    } else {
+        draw_guest(threads, alloc, given, asked, progress, out)
+    }
+}
+
+/// Whether the bytes of the image are an execution's, and no program's.
+fn is_of_execution(asked: &Draw<'_>, image: &[u8]) -> bool
+    ensures { result ≡ is_of_execution asked.now image.now }
+{
+    !asked.run.program.flat && is_execution(image)
+}

@@ -1,0 +1,75 @@
+ghost use Rattle.std.specs.Prelude.{◌≡◌, ◌⊎◌, ◌++◌, IfErr, IfOk, OnErr, OnOk};
+ghost use Rattle.drawing.specs.Drawn.{trace_events_after};
+ghost use Rattle.host_io.specs.Taken.{BeganText};
+ghost use Rattle.program_files.specs.Asked.{AskedRun, EndsFor, RefusedSetRun, SetRun};
+ghost use Rattle.program_world.specs.declared.exit_status.ExitStatus.TheVariants as statuses;
+
+use command_line::Run;
+use drawing::trace_run;
+use machine::Observer;
+use program_files::{RunFailure, RunFiles, guest_files, read_run, settings_of};
+use program_world::{ExitStatus, Files, Output, ProgressLine};
+use std::alloc::Global;
+use std::sync::Wait;
+use std::thread::Threads;
+
+/// Runs a guest program, and prints its trace for viewers of traces.
+///
+/// # Errors
+///
+/// `File` where a file can't be read, the refusals of the run, and `SinkFailed`.
+pub fn trace_command<F: Files, O: Output, P: Observer + ProgressLine, R: Threads + Wait + Sync>(
+    threads: &R,
+    alloc: Global,
+    files: &F,
+    run: &Run<'_>,
+    progress: &mut P,
+    out: &mut O,
+) -> Result<ExitStatus, RunFailure>
+    // All that was printed is the trace of the run that the line asks for, as JSON.
+    ensures traces { IfOk result (λ status. (a : AskedRun (F.holds files.now) (F.begins files.now) run.now) ×
+        (O.took out.new ≡ O.took out.old ++ trace_events_after a.made.settings a.image a.input a.made.plan) ×
+        O.is_out out.new × (status ≡ statuses.Done)) }
+    // Else nothing was printed, or a beginning of that.
+    ensures begun { OnErr result ((O.took out.new ≡ O.took out.old) ⊎
+        ((a : AskedRun (F.holds files.now) (F.begins files.now) run.now) × BeganText (O.took out.old) (O.took out.new)
+        (trace_events_after a.made.settings a.image a.input a.made.plan))) }
+    ensures errors { IfErr result (EndsFor (F.holds files.now) (F.begins files.now) run.now) }
+{
+    let given = read_run(files, alloc, run)?;
+    trace_given(threads, alloc, &given, run, progress, out)?;
+    out.hand_on()?;
+    Ok(ExitStatus::Done)
+}
+
+/// Does the same with what the files gave.
+fn trace_given<O: Output, P: Observer + ProgressLine, R: Threads + Wait + Sync>(
+    threads: &R,
+    alloc: Global,
+    given: &RunFiles,
+    run: &Run<'_>,
+    progress: &mut P,
+    out: &mut O,
+) -> Result<(), RunFailure>
+    ensures traces { OnOk result ((r : SetRun run.now.program given.now.plan.text.items given.now.plan.budget) ×
+        (O.took out.new ≡ O.took out.old ++ trace_events_after r.settings given.now.program.image.items
+        given.now.program.input.items r.plan)) }
+    ensures begun { OnErr result ((O.took out.new ≡ O.took out.old) ⊎
+        ((r : SetRun run.now.program given.now.plan.text.items given.now.plan.budget) ×
+        BeganText (O.took out.old) (O.took out.new) (trace_events_after r.settings given.now.program.image.items
+        given.now.program.input.items r.plan))) }
+    ensures errors { IfErr result (RefusedSetRun run.now.program given.now.plan.text.items given.now.plan.budget
+        given.now.program.image.items) }
+{
+    let settings = settings_of(&run.program, &given.plan);
+    let answer = trace_run(
+        threads,
+        alloc,
+        &guest_files(&given.program),
+        &settings,
+        progress,
+        out,
+    );
+    progress.end();
+    given.plan.explain(alloc, settings.harts, answer)
+}
