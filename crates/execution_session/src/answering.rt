@@ -47,7 +47,6 @@ pub fn answer<K: Sink>(
         }
         Request::Continue
         | Request::Step(_)
-        | Request::StepIn(_, _, _)
         | Request::StepAlone(_)
         | Request::StepBack
         | Request::ContinueBack => resume(alloc, past, session, request, out),
@@ -86,13 +85,10 @@ fn standing_after(
     ensures { IfOk result (λ x. x ≡ standing_after (looked_at past.now) (state_of session.now) request) }
 {
     let standing = match request {
-        // A step in a range ends behind its first step: gdb asks for the next one.
-        Request::Step(thread) | Request::StepIn(thread, _, _) => {
-            match past.hart_of_thread(thread) {
-                Some(hart) => step(alloc, past, session, hart)?,
-                None => return Ok(None),
-            }
-        }
+        Request::Step(thread) => match past.hart_of_thread(thread) {
+            Some(hart) => step(alloc, past, session, hart)?,
+            None => return Ok(None),
+        },
         Request::StepAlone(thread) => match past.hart_of_thread(thread) {
             Some(hart) => step_alone(past, session, hart),
             None => return Ok(None),
@@ -167,7 +163,7 @@ fn fixed_reply(past: &Past, standing: Standing, request: Request) -> Option<Repl
         (λ reply. fixed_text (looked_at past.now) standing request ≡ Some (payload_of reply)) }
 {
     match request {
-        Request::Features => Some(Reply::Features(false)),
+        Request::Features => Some(Reply::Features),
         Request::Description(offset, count) => Some(Reply::Part(Window {
             text: target_description(),
             offset,

@@ -1,5 +1,1 @@
-pub mod Checksums
-pub mod Files
 pub mod Answers
-pub mod Commands
-pub mod Buffers

@@ -1,5 +1,3 @@
 pub mod Words
 pub mod Description
-pub mod FileReplies
 pub mod Replies
-pub mod CommandTexts

@@ -1,4 +1,1 @@
-pub mod Parts
-pub mod Files
-pub mod Commands
 pub mod Grammar
