@@ -1,5 +1,5 @@
 -- What a debugger is answered about an execution, and what its session is then.
-use Rattle.std.specs.Prelude.{◌≡◌, ℕ, ◌+◌, ◌-◌, ◌==◌, Bool, not, min, nat_le, if◌then◌else◌, List, [], ◌∷◌, ◌++◌, codes, filter, slice_get, slice_set, Option, Some, None}
+use Rattle.std.specs.Prelude.{◌≡◌, ℕ, ◌+◌, ◌-◌, ◌==◌, Bool, not, min, nat_le, false, if◌then◌else◌, List, [], ◌∷◌, ◌++◌, codes, filter, slice_get, slice_set, Option, Some, None}
 use Rattle.hex.specs.Hex.{encode_lower}
 use Rattle.hart_step.specs.declared.hart.Hart.{Hart}
 use Rattle.walking.specs.Stops.{is_one_of}
@@ -9,10 +9,9 @@ use Rattle.gdb_packets.specs.Writing.{packet_text}
 use Rattle.gdb_requests.specs.declared.request.Request.{Request}
 use Rattle.gdb_requests.specs.declared.request.Request.TheVariants as requests
 use Rattle.gdb_replies.specs.Description.{target_text}
-use Rattle.gdb_replies.specs.Replies.{part_of, payload_of, stop_text}
+use Rattle.gdb_replies.specs.Replies.{features_text, part_of, stop_text}
 use Rattle.gdb_replies.specs.Words.{numbers_of, register_text, registers_text, thread_text, threads_text}
 use Rattle.gdb_replies.specs.declared.registers.Registers.{Registers}
-use Rattle.gdb_replies.specs.declared.reply.Reply.TheVariants as replies
 use Rattle.gdb_sights.specs.Told.{stop_reply_of}
 use Rattle.execution_session.specs.declared.session.Standing.{Standing}
 use Rattle.execution_session.specs.Sessions.{Looked, State, hart_of_thread, position_at}
@@ -85,14 +84,14 @@ memory_at r t address count = bytes_answer (bytes_seen r t.time t.general addres
 -- ---- requests that change nothing: those that aren't about the time, and those that are. Others are answered by nothing
 
 abbrev pub fixed_text : Looked → Standing → Request → Option (List ℕ)
-fixed_text r t requests.Features = Some (payload_of replies.Features)
+fixed_text r t requests.Features = Some (features_text false)
 fixed_text r t (requests.Description offset count) = Some (part_of target_text offset count)
 fixed_text r t requests.FirstThreads = Some (threads_text r.harts)
 fixed_text r t requests.MoreThreads = Some (codes "l")
 fixed_text r t requests.PresentThread = Some (codes "QC" ++ thread_text (t.general + 1))
 fixed_text r t requests.Attached = Some (codes "1")
 fixed_text r t requests.Change = Some (codes "E.the past of a recording cannot be changed")
-fixed_text r t requests.Actions = Some (codes "vCont;c;C;s;S")
+fixed_text r t requests.Actions = Some (codes "vCont;c;C;s;S;r")
 fixed_text r t requests.Detach = Some done
 fixed_text r t request = None
 
@@ -120,6 +119,8 @@ by_thread to (Some h) = Some (to h)
 
 abbrev pub standing_after : Looked → State → Request → Option Standing
 standing_after r s (requests.Step thread) = by_thread (steps r s) (hart_of_thread r.harts thread)
+-- a step in a range ends behind its first step: gdb asks for the next one
+standing_after r s (requests.StepIn thread low high) = by_thread (steps r s) (hart_of_thread r.harts thread)
 standing_after r s (requests.StepAlone thread) = by_thread (steps_alone r s) (hart_of_thread r.harts thread)
 standing_after r s requests.StepBack = Some (steps_back r s)
 standing_after r s requests.ContinueBack = Some (goes_back r s)
@@ -166,6 +167,7 @@ answer_to r s (requests.AddHardwareStop address) = record { text = done; state =
 answer_to r s (requests.RemoveHardwareStop address) = record { text = done; state = record s { hardware = without_one s.hardware address } }
 answer_to r s requests.Continue = resumed r s requests.Continue
 answer_to r s (requests.Step thread) = resumed r s (requests.Step thread)
+answer_to r s (requests.StepIn thread low high) = resumed r s (requests.StepIn thread low high)
 answer_to r s (requests.StepAlone thread) = resumed r s (requests.StepAlone thread)
 answer_to r s requests.StepBack = resumed r s requests.StepBack
 answer_to r s requests.ContinueBack = resumed r s requests.ContinueBack

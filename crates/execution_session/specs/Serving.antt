@@ -26,6 +26,7 @@ begun = record { state = record { standing = opening_standing; software = []; ha
 abbrev pub again_of : Request → Request
 again_of requests.Continue = requests.WhyStopped
 again_of (requests.Step thread) = requests.WhyStopped
+again_of (requests.StepIn thread low high) = requests.WhyStopped
 again_of (requests.StepAlone thread) = requests.WhyStopped
 again_of requests.StepBack = requests.WhyStopped
 again_of requests.ContinueBack = requests.WhyStopped

@@ -47,6 +47,7 @@ pub fn answer<K: Sink>(
         }
         Request::Continue
         | Request::Step(_)
+        | Request::StepIn(_, _, _)
         | Request::StepAlone(_)
         | Request::StepBack
         | Request::ContinueBack => resume(alloc, past, session, request, out),
@@ -85,10 +86,13 @@ fn standing_after(
     ensures { IfOk result (λ x. x ≡ standing_after (looked_at past.now) (state_of session.now) request) }
 {
     let standing = match request {
-        Request::Step(thread) => match past.hart_of_thread(thread) {
-            Some(hart) => step(alloc, past, session, hart)?,
-            None => return Ok(None),
-        },
+        // A step in a range ends behind its first step: gdb asks for the next one.
+        Request::Step(thread) | Request::StepIn(thread, _, _) => {
+            match past.hart_of_thread(thread) {
+                Some(hart) => step(alloc, past, session, hart)?,
+                None => return Ok(None),
+            }
+        }
         Request::StepAlone(thread) => match past.hart_of_thread(thread) {
             Some(hart) => step_alone(past, session, hart),
             None => return Ok(None),
@@ -163,7 +167,7 @@ fn fixed_reply(past: &Past, standing: Standing, request: Request) -> Option<Repl
         (λ reply. fixed_text (looked_at past.now) standing request ≡ Some (payload_of reply)) }
 {
     match request {
-        Request::Features => Some(Reply::Features),
+        Request::Features => Some(Reply::Features(false)),
         Request::Description(offset, count) => Some(Reply::Part(Window {
             text: target_description(),
             offset,

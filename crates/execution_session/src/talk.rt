@@ -86,6 +86,7 @@ fn again_of(request: Request) -> Request
     match request {
         Request::Continue
         | Request::Step(_)
+        | Request::StepIn(_, _, _)
         | Request::StepAlone(_)
         | Request::StepBack
         | Request::ContinueBack => Request::WhyStopped,

@@ -1,5 +1,5 @@
 -- What a debugger is answered about a hart of a run at a point, byte by byte.
-use Rattle.std.specs.Prelude.{ℕ, zero, suc, List, [], ◌∷◌, ◌++◌, codes, slice_get, Option, Some, None}
+use Rattle.std.specs.Prelude.{ℕ, zero, suc, ◌==◌, if◌then◌else◌, List, [], ◌∷◌, ◌++◌, length, codes, slice_get, Option, Some, None}
 use Rattle.hex.specs.Hex.{encode_lower}
 use Rattle.hart_step.specs.declared.hart.Hart.{Hart}
 use Rattle.machine.specs.Machine.{Running, after_rounds}
@@ -8,9 +8,10 @@ use Rattle.seeing.specs.Bytes.{bytes_from}
 use Rattle.round_steps.specs.declared.moment.Moment.{Moment}
 use Rattle.round_steps.specs.declared.point.Point.{Point}
 use Rattle.round_steps.specs.Shown.{shown_at_point}
-use Rattle.gdb_replies.specs.Replies.{note_text, part_of, stop_text, thread_element, thread_list_begin, thread_list_end}
+use Rattle.gdb_replies.specs.Replies.{checksum_text, note_text, part_of, stop_text, thread_element, thread_list_begin, thread_list_end}
 use Rattle.gdb_replies.specs.Words.{numbers_of, register_text, registers_text}
 use Rattle.gdb_replies.specs.declared.stop_reply.Reason.{Reason}
+use Rattle.gdb_answers.specs.Checksums.{checksum_of}
 use Rattle.gdb_sights.specs.Told.{note_of, registers_of, stop_reply_of}
 
 -- hart i at a point of the run
@@ -58,3 +59,10 @@ thread_list_answer m at harts offset count = part_of (thread_list_begin ++ threa
 
 abbrev pub stop_answer : Reason → ℕ → Option (Sight Hart) → List ℕ
 stop_answer why i s = or_missing s (λ (x : Sight Hart). stop_text (stop_reply_of why i x.hart))
+
+-- the checksum of so many bytes, and `E01` where memory ends before
+abbrev pub sum_answer : ℕ → List ℕ → List ℕ
+sum_answer count bs = if length bs == count then checksum_text (checksum_of bs) else codes "E01"
+
+abbrev pub checksum_answer : ℕ → ℕ → Option (Sight Hart) → List ℕ
+checksum_answer address count s = or_missing s (λ (x : Sight Hart). sum_answer count (bytes_from x.bytes address count))

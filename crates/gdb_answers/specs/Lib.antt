@@ -1,1 +1,5 @@
+pub mod Checksums
+pub mod Files
 pub mod Answers
+pub mod Commands
+pub mod Buffers

@@ -1,3 +1,5 @@
 pub mod Words
 pub mod Description
+pub mod FileReplies
 pub mod Replies
+pub mod CommandTexts

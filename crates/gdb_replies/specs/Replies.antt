@@ -1,6 +1,7 @@
 -- What each reply says, byte by byte.
-use Rattle.std.specs.Prelude.{ℕ, ◌+◌, ◌==◌, nat_lt, if◌then◌else◌, List, [], ◌∷◌, ◌++◌, length, take, drop, codes, Option, Some, None}
+use Rattle.std.specs.Prelude.{ℕ, ◌+◌, ◌==◌, nat_lt, Bool, if◌then◌else◌, List, [], ◌∷◌, ◌++◌, length, take, drop, codes, Option, Some, None}
 use Rattle.std.specs.Fmt.{decimal}
+use Rattle.std.specs.Int.{w32, to_be_bytes}
 use Rattle.hex.specs.Hex.{encode_lower}
 use Rattle.round_schedule.specs.declared.event.Phase.{Phase}
 use Rattle.round_schedule.specs.declared.event.Phase.TheVariants.{Parallel, Serial}
@@ -11,6 +12,7 @@ use Rattle.gdb_replies.specs.declared.stop_reply.Reason.{Reason}
 use Rattle.gdb_replies.specs.declared.stop_reply.Reason.TheVariants.{AccessWatch, Begin, Breakpoint, End, HardwareBreakpoint, ReadWatch, Signal, Step, Watch}
 use Rattle.gdb_replies.specs.declared.stop_reply.StopReply.{StopReply}
 use Rattle.gdb_replies.specs.declared.window.Window.{Window}
+use Rattle.gdb_replies.specs.FileReplies.{file_text}
 use Rattle.gdb_replies.specs.Words.{address_text, register_text, registers_text, thread_text, threads_text}
 
 -- ---- why the run stands: a signal, and what is more to be said of it
@@ -74,6 +76,18 @@ part_of text offset count = (if nat_lt (offset + count) (length text) then codes
 abbrev pub part_text : Window → List ℕ
 part_text w = part_of w.text.now w.offset w.count
 
+-- ---- what else there is to be said
+
+-- what of the protocol is offered, and with an image also that
+abbrev pub features_text : Bool → List ℕ
+features_text has_image =
+    codes "PacketSize=10000;qXfer:features:read+;qXfer:threads:read+;"
+    ++ ((if has_image then codes "qXfer:exec-file:read+;" else [])
+    ++ codes "ReverseStep+;ReverseContinue+;swbreak+;hwbreak+;vContSupported+")
+
+abbrev pub checksum_text : ℕ → List ℕ
+checksum_text sum = codes "C" ++ encode_lower (to_be_bytes w32 sum)
+
 -- ---- all of them
 
 abbrev pub payload_of : Reply → List ℕ
@@ -82,8 +96,8 @@ payload_of replies.Done = codes "OK"
 payload_of replies.Missing = codes "E01"
 payload_of (replies.Refused n) = codes "E.error " ++ decimal n
 payload_of replies.PastStands = codes "E.the past of a recording cannot be changed"
-payload_of replies.Features = codes "PacketSize=10000;qXfer:features:read+;qXfer:threads:read+;ReverseStep+;ReverseContinue+;swbreak+;hwbreak+;vContSupported+"
-payload_of replies.Actions = codes "vCont;c;C;s;S"
+payload_of (replies.Features has_image) = features_text has_image
+payload_of replies.Actions = codes "vCont;c;C;s;S;r"
 payload_of replies.Attached = codes "1"
 payload_of (replies.Registers r) = registers_text r.now
 payload_of (replies.Register v) = register_text v
@@ -95,3 +109,6 @@ payload_of (replies.Thread t) = codes "QC" ++ thread_text t
 payload_of (replies.Note n) = encode_lower (note_text n)
 payload_of (replies.Console text) = codes "O" ++ encode_lower text.now
 payload_of (replies.Part w) = part_text w
+payload_of (replies.Checksum sum) = checksum_text sum
+payload_of (replies.File file) = file_text file
+payload_of (replies.Words words) = encode_lower words.now

@@ -1,7 +1,10 @@
 //! Replies of gdb's remote serial protocol: what a debugger is told of a recorded run, and the bytes that say it.
 #![tactic(auto, using(crate::proofs::Texts::assoc))]
 
+mod command_text;
 mod description;
+mod file_payload;
+mod file_reply;
 mod note;
 mod payload;
 mod registers;
@@ -12,7 +15,11 @@ mod thread_list;
 mod window;
 mod writing;
 
+pub use command_text::{
+    add_hart_line, add_plan_head, add_quota, add_store_line, add_where_line, command_help,
+};
 pub use description::target_description;
+pub use file_reply::FileReply;
 pub use note::ThreadNote;
 pub use registers::Registers;
 pub use reply::Reply;

@@ -3,14 +3,15 @@ ghost use Rattle.std.specs.Fmt.{decimal};
 ghost use Rattle.std.specs.List.{flat_map};
 ghost use Rattle.hex.specs.Hex.{encode_lower};
 ghost use Rattle.gdb_replies.specs.declared.reply.Reply.TheVariants as replies;
-ghost use Rattle.gdb_replies.specs.Replies.{note_text, part_text, payload_of, phase_word, reason_text, state_text, stop_text};
+ghost use Rattle.gdb_replies.specs.Replies.{checksum_text, features_text, note_text, part_text, payload_of, phase_word, reason_text, state_text, stop_text};
 ghost use Rattle.gdb_replies.specs.Words.{address_text, register_text, registers_text, thread_text, threads_text};
 
+use crate::file_payload::put_file;
 use crate::note::ThreadNote;
 use crate::registers::Registers;
 use crate::reply::Reply;
 use crate::stop_reply::{Reason, StopReply};
-use crate::text::{put, put_address, put_hex, put_number, put_register, put_thread};
+use crate::text::{put, put_address, put_hex, put_number, put_register, put_thread, put_words};
 use crate::window::Window;
 use pages::OutOfMemory;
 use round_schedule::Phase;
@@ -27,8 +28,8 @@ pub(crate) fn payload_of(alloc: Global, reply: &Reply<'_>) -> Result<Vec<u8>, Ou
         Reply::Missing => put(&mut text, b"E01")?,
         Reply::Refused(number) => put_refusal(&mut text, *number)?,
         Reply::PastStands => put(&mut text, b"E.the past of a recording cannot be changed")?,
-        Reply::Features => put(&mut text, FEATURES)?,
-        Reply::Actions => put(&mut text, b"vCont;c;C;s;S")?,
+        Reply::Features(has_image) => put_features(&mut text, *has_image)?,
+        Reply::Actions => put(&mut text, b"vCont;c;C;s;S;r")?,
         Reply::Attached => put(&mut text, b"1")?,
         Reply::Registers(registers) => put_registers(&mut text, registers)?,
         Reply::Register(value) => put_register(&mut text, *value)?,
@@ -40,13 +41,37 @@ pub(crate) fn payload_of(alloc: Global, reply: &Reply<'_>) -> Result<Vec<u8>, Ou
         Reply::Note(note) => put_note(&mut text, note)?,
         Reply::Console(words) => put_console(&mut text, words)?,
         Reply::Part(window) => put_part(&mut text, window)?,
+        Reply::Checksum(sum) => put_checksum(&mut text, *sum)?,
+        Reply::File(file) => put_file(&mut text, file)?,
+        Reply::Words(words) => put_hex(&mut text, words)?,
     }
     Ok(text)
 }
 
-/// What of the protocol is offered. A packet is of 65,536 bytes at most.
-const FEATURES: &[u8] =
-    b"PacketSize=10000;qXfer:features:read+;qXfer:threads:read+;ReverseStep+;ReverseContinue+;swbreak+;hwbreak+;vContSupported+";
+/// Adds what of the protocol is offered. A packet is of 65,536 bytes at most.
+fn put_features(text: &mut Vec<u8>, has_image: bool) -> Result<(), OutOfMemory>
+    ensures { OnOk result (text.new.items ≡ text.old.items ++ features_text has_image) }
+{
+    put(
+        text,
+        b"PacketSize=10000;qXfer:features:read+;qXfer:threads:read+;",
+    )?;
+    if has_image {
+        put(text, b"qXfer:exec-file:read+;")?;
+    }
+    put(
+        text,
+        b"ReverseStep+;ReverseContinue+;swbreak+;hwbreak+;vContSupported+",
+    )
+}
+
+/// Adds a checksum.
+fn put_checksum(text: &mut Vec<u8>, sum: u32) -> Result<(), OutOfMemory>
+    ensures { OnOk result (text.new.items ≡ text.old.items ++ checksum_text sum) }
+{
+    put(text, b"C")?;
+    put_hex(text, sum.to_be_bytes().as_slice())
+}
 
 fn put_refusal(text: &mut Vec<u8>, number: u32) -> Result<(), OutOfMemory>
     ensures { OnOk result (text.new.items ≡
@@ -178,20 +203,18 @@ fn put_present(text: &mut Vec<u8>, thread: u32) -> Result<(), OutOfMemory>
 fn put_note(text: &mut Vec<u8>, note: &ThreadNote) -> Result<(), OutOfMemory>
     ensures { OnOk result (text.new.items ≡ text.old.items ++ encode_lower (note_text note.now)) }
 {
-    let words = words_of(*text.allocator(), note)?;
+    let mut words = Vec::new(*text.allocator());
+    put_note_words(&mut words, note)?;
     put_hex(text, words.as_slice())
 }
 
-/// What is said of a hart.
-fn words_of(alloc: Global, note: &ThreadNote) -> Result<Vec<u8>, OutOfMemory>
-    ensures { IfOk result (λ text. text.items ≡ note_text note.now) }
+/// Adds what is said of a hart.
+pub(crate) fn put_note_words(text: &mut Vec<u8>, note: &ThreadNote) -> Result<(), OutOfMemory>
+    ensures { OnOk result (text.new.items ≡ text.old.items ++ note_text note.now) }
 {
-    let mut text = Vec::new(alloc);
-    put(&mut text, b"hart ")?;
-    put_number(&mut text, u64::from(note.hart))?;
-    put(&mut text, b", ")?;
-    put_state(&mut text, note)?;
-    Ok(text)
+    put_words(text, b"hart ", u64::from(note.hart))?;
+    put(text, b", ")?;
+    put_state(text, note)
 }
 
 pub(crate) fn put_state(text: &mut Vec<u8>, note: &ThreadNote) -> Result<(), OutOfMemory>
@@ -202,13 +225,6 @@ pub(crate) fn put_state(text: &mut Vec<u8>, note: &ThreadNote) -> Result<(), Out
         Some((1, value)) => put_words(text, b"exit ", value),
         Some((code, _)) => put_words(text, b"stop ", u64::from(code)),
     }
-}
-
-pub(crate) fn put_words(text: &mut Vec<u8>, word: &[u8], number: u64) -> Result<(), OutOfMemory>
-    ensures { OnOk result (text.new.items ≡ text.old.items ++ (word.now ++ decimal number)) }
-{
-    put(text, word)?;
-    put_number(text, number)
 }
 
 fn put_place(text: &mut Vec<u8>, note: &ThreadNote) -> Result<(), OutOfMemory>

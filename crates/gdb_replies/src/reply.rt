@@ -1,3 +1,4 @@
+use crate::file_reply::FileReply;
 use crate::note::ThreadNote;
 use crate::registers::Registers;
 use crate::stop_reply::StopReply;
@@ -16,8 +17,8 @@ pub enum Reply<'a> {
     Refused(u32),
     /// Registers and memory of a recording can't be written.
     PastStands,
-    /// What of the protocol is offered.
-    Features,
+    /// What of the protocol is offered; with this, the program's image too.
+    Features(bool),
     /// The ways in which the run can be resumed.
     Actions,
     /// The run was there before the debugger came.
@@ -42,4 +43,10 @@ pub enum Reply<'a> {
     Console(&'a [u8]),
     /// A part of a document.
     Part(Window<'a>),
+    /// The checksum of bytes of memory.
+    Checksum(u32),
+    /// Something of files.
+    File(FileReply<'a>),
+    /// What a command of the user's says. There is at least one byte.
+    Words(&'a [u8]),
 }

@@ -53,3 +53,23 @@ pub(crate) fn put_thread(text: &mut Vec<u8>, thread: u32) -> Result<(), OutOfMem
 {
     put_hex(text, thread.to_be_bytes().as_slice())
 }
+
+/// Adds a number in decimal behind a word.
+pub(crate) fn put_words(text: &mut Vec<u8>, word: &[u8], number: u64) -> Result<(), OutOfMemory>
+    ensures { OnOk result (text.new.items ≡ text.old.items ++ (word.now ++ decimal number)) }
+{
+    put(text, word)?;
+    put_number(text, number)
+}
+
+/// Adds an address behind a word.
+pub(crate) fn put_addressed(
+    text: &mut Vec<u8>,
+    word: &[u8],
+    address: u64,
+) -> Result<(), OutOfMemory>
+    ensures { OnOk result (text.new.items ≡ text.old.items ++ (word.now ++ address_text address)) }
+{
+    put(text, word)?;
+    put_address(text, address)
+}

@@ -6,8 +6,8 @@ ghost use Rattle.gdb_replies.specs.Replies.{thread_element, thread_list_begin, t
 ghost use Rattle.gdb_replies.specs.Words.{thread_text};
 
 use crate::note::ThreadNote;
-use crate::payload::{put_state, put_words};
-use crate::text::{put, put_thread};
+use crate::payload::put_state;
+use crate::text::{put, put_thread, put_words};
 use pages::OutOfMemory;
 use std::alloc::Global;
 

@@ -1,1 +1,4 @@
+pub mod Parts
+pub mod Files
+pub mod Commands
 pub mod Grammar

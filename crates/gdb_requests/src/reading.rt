@@ -1,8 +1,12 @@
 ghost use Rattle.std.specs.Prelude.{◌≡◌};
-ghost use Rattle.gdb_requests.specs.Grammar.{alone, change_of, moving_of, query_of, reading_of, request_of, resume_of, signalled_by, step_of, watching_of, way_of};
+ghost use Rattle.gdb_requests.specs.Grammar.{change_of, moving_of, query_of, reading_of, request_of, resume_of, signalled_by, watching_of, way_of};
+ghost use Rattle.gdb_requests.specs.Parts.{alone};
 
+use crate::commands::command_of;
+use crate::files::{file_of, name_of};
 use crate::parts::{behind, number_from, thread_of, two_numbers};
 use crate::request::{Request, Watch};
+use crate::steps::{range_of, step_of};
 
 /// What a packet's payload asks for.
 pub fn request_of(text: &[u8]) -> Request
@@ -36,6 +40,18 @@ fn query_of(text: &[u8]) -> Request
             None => Request::Unknown,
         };
     }
+    if let Some(rest) = behind(b"Xfer:exec-file:read:", text) {
+        return name_of(rest);
+    }
+    if let Some(rest) = behind(b"CRC:", text) {
+        return match two_numbers(rest) {
+            Some((address, count)) => Request::Checksum(address, count),
+            None => Request::Unknown,
+        };
+    }
+    if let Some(rest) = behind(b"Rcmd,", text) {
+        return Request::Command(command_of(rest));
+    }
     if let Some(_) = behind(b"fThreadInfo", text) {
         return Request::FirstThreads;
     }
@@ -67,7 +83,7 @@ fn alone(request: Request, rest: &[u8]) -> Request
     }
 }
 
-/// A way to go on, behind its `v`.
+/// A way to go on, or something of files, behind its `v`.
 fn resume_of(text: &[u8]) -> Request
     ensures { result ≡ resume_of text.now }
 {
@@ -83,6 +99,9 @@ fn resume_of(text: &[u8]) -> Request
             None => Request::Unknown,
         };
     }
+    if let Some(rest) = behind(b"Cont;r", text) {
+        return range_of(rest);
+    }
     if let Some(_) = behind(b"Cont;c", text) {
         return Request::Continue;
     }
@@ -92,23 +111,10 @@ fn resume_of(text: &[u8]) -> Request
     if let Some(_) = behind(b"Kill", text) {
         return Request::Detach;
     }
-    Request::Unknown
-}
-
-/// A step, by its thread.
-fn step_of(text: &[u8]) -> Request
-    ensures { result ≡ step_of text.now }
-{
-    let Some(rest) = behind(b":", text) else {
-        return Request::Unknown;
-    };
-    let Some((thread, rest)) = number_from(0, rest) else {
-        return Request::Unknown;
-    };
-    match behind(b";", rest) {
-        Some(_) => Request::Step(thread),
-        None => Request::StepAlone(thread),
+    if let Some(rest) = behind(b"File:", text) {
+        return file_of(rest);
     }
+    Request::Unknown
 }
 
 /// A request that is no query and no way to go on: one to change something, or one of the others.

@@ -1,3 +1,6 @@
+use crate::command::Command;
+use crate::file_request::FileRequest;
+
 /// Which accesses a watchpoint is for.
 #[derive(Clone, Copy, Debug, PartialEq, Eq)]
 pub enum Watch {
@@ -40,6 +43,14 @@ pub enum Request {
     ReadRegister(u64),
     /// Memory from an address on, so many bytes.
     ReadMemory(u64, u64),
+    /// The checksum of memory from an address on, of so many bytes.
+    Checksum(u64, u64),
+    /// The name of the program's image: from an offset of it on, so many bytes.
+    ImageName(u64, u64),
+    /// Something of files.
+    File(FileRequest),
+    /// A command of the user's.
+    Command(Command),
     /// A register or memory is to be written.
     Change,
     /// A breakpoint at an address.
@@ -60,6 +71,8 @@ pub enum Request {
     Continue,
     /// A step of this thread; others may go on.
     Step(u64),
+    /// Steps of this thread as long as its pc is at the first address or behind it, and before the second; others may go on.
+    StepIn(u64, u64, u64),
     /// A step of this thread alone.
     StepAlone(u64),
     /// A step back.

@@ -1,5 +1,5 @@
 -- Where a run stands after it was resumed: on and back to what is told, and by steps of one hart.
-use Rattle.std.specs.Prelude.{◌≡◌, ℕ, ◌==◌, ◌&&◌, ◌||◌, not, Bool, true, false, MatchBool, if◌then◌else◌, [], Option, Some, None}
+use Rattle.std.specs.Prelude.{◌≡◌, ℕ, zero, suc, ◌≤◌, nat_le, nat_lt, ◌==◌, ◌&&◌, ◌||◌, not, Bool, true, false, MatchBool, if◌then◌else◌, [], Option, Some, None}
 use Rattle.hart_step.specs.declared.hart.Hart.{Hart}
 use Rattle.hart_step.specs.Numbers.{plus}
 use Rattle.watching.specs.declared.watchpoint.Way.{Way}
@@ -7,16 +7,20 @@ use Rattle.watching.specs.declared.watchpoint.Way.TheVariants.{On, Back}
 use Rattle.round_steps.specs.declared.moment.Moment.{Moment}
 use Rattle.round_steps.specs.declared.point.Point.{Point}
 use Rattle.round_steps.specs.declared.point.Side.{Side}
-use Rattle.round_steps.specs.declared.point.Side.TheVariants.{RivalAfter, Break, Rival}
+use Rattle.round_steps.specs.declared.point.Side.TheVariants.{After, RivalAfter, Break, Rival}
 use Rattle.round_steps.specs.declared.point.Told.{Told}
 use Rattle.round_steps.specs.Moments.{is_before}
 use Rattle.round_steps.specs.Points.{point_before, same_moment}
 use Rattle.round_steps.specs.Shown.{is_behind_move}
 use Rattle.gdb_replies.specs.declared.stop_reply.Reason.{Reason}
-use Rattle.gdb_replies.specs.declared.stop_reply.Reason.TheVariants.{Begin, End, Step, Watch}
+use Rattle.gdb_replies.specs.declared.stop_reply.Reason.TheVariants.{Begin, End, Signal, Step, Watch}
 use Rattle.gdb_resumes.specs.declared.session.Standing.{Standing}
-use Rattle.gdb_resumes.specs.Sessions.{Recorded, State, hart_seen, is_stopped, start_of, why, why_told}
-use Rattle.gdb_resumes.specs.Searches.{Finds, all_told, only_of, watched_of}
+use Rattle.gdb_resumes.specs.declared.debugged.Debugged.{Debugged}
+use Rattle.gdb_resumes.specs.declared.searching.Search.{Search}
+use Rattle.gdb_resumes.specs.declared.searching.Searched.{Searched}
+use Rattle.gdb_resumes.specs.declared.searching.Searched.TheVariants.{GoesOn, Stands}
+use Rattle.gdb_resumes.specs.Sessions.{IsReady, OfRun, Recorded, State, hart_seen, is_stopped, start_of, why, why_told}
+use Rattle.gdb_resumes.specs.Searches.{AsksFor, Finds, HasCome, all_told, only_of, watched_of}
 
 -- ---- where it stands then
 
@@ -53,6 +57,25 @@ pub record Continues (r : Recorded) (s : State) (way : Way) (t : Standing) : Typ
   pub found : Option Told
   pub finds : Finds r way (all_told s None) s.standing.point found
   pub is : t ≡ told_or r s (end_of r.rounds s.standing way) found
+
+-- the search for it goes on a stretch of rounds at a time, and stands where the whole search does
+abbrev pub SearchesTo : Recorded → State → Way → Searched → Type 0
+SearchesTo r s way (Stands t) = Continues r s way t
+SearchesTo r s way (GoesOn x) = (x.reach.way ≡ way) × HasCome r s x
+
+-- a search of the session
+pub record IsUnderWay (d : Debugged) (s : State) (x : Search) : Type 0 where
+  pub within : x.reach.rounds ≤ d.timeline.rounds
+  pub asks : AsksFor (all_told s None) x.telling
+  pub come : OfRun d (λ r. HasCome r s x)
+
+abbrev pub IsSearched : Debugged → State → Searched → Type 0
+IsSearched d s (Stands t) = IsReady d t
+IsSearched d s (GoesOn x) = IsUnderWay d s x
+
+-- one that is interrupted stands before all that is told in the next round, of the hart that was told last
+abbrev pub interrupted : Standing → ℕ → Standing
+interrupted t n = moved t (record (start_of n) { side = After }) (Signal 2) t.told
 
 -- ---- a step of a hart, in which the others may go on: it ends before the hart's next move, or at what is told on the way. Where the debugger stands
 -- before a move of the hart, that one is the step
@@ -99,6 +122,33 @@ pub record StepsOn (r : Recorded) (s : State) (hart : ℕ) (t : Standing) : Type
 -- a hart that has stopped does no step
 abbrev pub Steps : Recorded → State → ℕ → Standing → Type 0
 Steps r s hart t = MatchBool (is_stopped (hart_seen r.run s.standing.point hart)) (t ≡ stays s.standing End hart) (StepsOn r s hart t)
+
+-- ---- steps that are repeated as long as the hart's pc is in a range of addresses, whose second end is not in it, and nothing else is told
+
+abbrev pub is_in : ℕ → ℕ → Option Hart → Bool
+is_in low high None = false
+is_in low high (Some h) = nat_le low h.pc && nat_lt h.pc high
+
+abbrev pub steps_further : Recorded → ℕ → ℕ → ℕ → Standing → Bool
+steps_further r low high hart t =
+    let there = hart_seen r.run t.point hart in
+    not (not (t.told == hart) || not (is_step t.reason)) && (not (is_stopped there) && is_in low high there)
+
+-- where it stands then
+abbrev pub stands_then : State → Standing → State
+stands_then s t = record s { standing = t }
+
+-- n steps at most
+unfoldable pub StepsUpTo : Recorded → ℕ → ℕ → ℕ → ℕ → State → Standing → Type 0
+StepsUpTo r low high hart zero s t = t ≡ s.standing
+StepsUpTo r low high hart (suc n) s t =
+    (u : Standing) × Steps r s hart u × MatchBool (steps_further r low high hart u) (StepsUpTo r low high hart n (stands_then s u) t) (t ≡ u)
+
+-- so many as a debugger waits for: one at least
+pub record StepsIn (r : Recorded) (low high hart : ℕ) (s : State) (t : Standing) : Type 0 where
+  pub most : ℕ
+  pub some : 1 ≤ most
+  pub steps : StepsUpTo r low high hart most s t
 
 -- a step back of the hart that is asked about
 pub record StepsBackBeside (r : Recorded) (s : State) (hart : ℕ) (t : Standing) : Type 0 where

@@ -1,7 +1,9 @@
 -- A debugger's session with a recorded run.
-use Rattle.std.specs.Prelude.{ℕ, ◌+◌, ◌<◌, ◌≤◌, ◌^◌, Bool, true, false, List, ◌++◌, slice_get, Option, Some, None, option_map, is_some, IfSome}
+use Rattle.std.specs.Prelude.{◌≡◌, ℕ, ◌+◌, ◌<◌, ◌≤◌, ◌^◌, Bool, true, false, if◌then◌else◌, List, ◌++◌, slice_get, Option, Some, None, option_map, is_some, IfSome}
 use Rattle.hart_step.specs.declared.hart.Hart.{Hart}
 use Rattle.machine.specs.Machine.{Running}
+use Rattle.machine.specs.declared.settings.Format.{Format}
+use Rattle.machine.specs.declared.settings.Format.TheVariants.{Elf, Flat}
 use Rattle.machine.specs.Untraced.{IsUntraced}
 use Rattle.moments.specs.Sights.{Sight}
 use Rattle.round_schedule.specs.declared.event.Phase.TheVariants.{Parallel}
@@ -21,14 +23,26 @@ use Rattle.gdb_resumes.specs.declared.debugged.Debugged.{Debugged}
 use Rattle.gdb_resumes.specs.declared.session.Session.{Session}
 use Rattle.gdb_resumes.specs.declared.session.Standing.{Standing}
 
--- the run before its first round, how many rounds of it are recorded, and how many harts there are
+-- the image that a debugger is handed: an ELF file, and no flat image
+abbrev pub is_elf : Format → Bool
+is_elf Elf = true
+is_elf Flat = false
+
+abbrev pub handed : Format → List ℕ → Option (List ℕ)
+handed format image = if is_elf format then Some image else None
+
+abbrev pub image_of : Debugged → Option (List ℕ)
+image_of d = if d.hands_image then Some d.image.items else None
+
+-- the run before its first round, how many rounds of it are recorded, how many harts there are, and the image
 pub record Recorded : Type 0 where
   pub run : Running
   pub rounds : ℕ
   pub harts : ℕ
+  pub image : Option (List ℕ)
 
 abbrev pub recorded_of : Running → Debugged → Recorded
-recorded_of m d = record { run = m; rounds = d.timeline.rounds; harts = d.harts }
+recorded_of m d = record { run = m; rounds = d.timeline.rounds; harts = d.harts; image = image_of d }
 
 -- this is so of the run that is looked at
 abbrev pub OfRun : Debugged → (Recorded → Type 0) → Type 0
@@ -51,6 +65,9 @@ stops_of s = s.software ++ s.hardware
 pub record IsReady (d : Debugged) (t : Standing) : Type 0 where
   pub harts : d.harts ≤ 64
   pub workers : (1 ≤ d.workers) × (d.workers ≤ 16)
+  pub start : d.start ≡ d.timeline.start
+  pub fresh : d.start.rounds ≡ 0
+  pub run : (m : Running) × IsUntraced m d.start
   pub rounds : d.timeline.rounds + 1 < 2 ^ 32
   pub within : t.point.moment.rounds ≤ d.timeline.rounds
   pub told : t.told < d.harts

@@ -102,7 +102,7 @@ fn nearest<R: Threads + Wait + Sync>(
 }
 
 /// The point that was found, of a hart that there is.
-fn within(run: &Debugged, found: Option<Told>) -> Result<Option<Told>, RunError>
+pub(crate) fn within(run: &Debugged, found: Option<Told>) -> Result<Option<Told>, RunError>
     ensures found { IfOk result (λ x. x ≡ found) }
     ensures within { IfOk result (λ x. IfSome x (λ told. IsWithin run.now told.point)) }
     ensures refused { IfErr result (λ e. e ≡ refusals.OutOfMemory) }

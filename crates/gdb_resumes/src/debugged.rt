@@ -1,8 +1,9 @@
-ghost use Rattle.std.specs.Prelude.{◌≡◌, ◌≤◌, ◌<◌, ◌+◌, ◌^◌, length, IfOk, IfErr};
+ghost use Rattle.std.specs.Prelude.{◌≡◌, ◌≤◌, ◌<◌, ◌+◌, ◌^◌, length, if◌then◌else◌, IfOk, IfErr, Some, None};
 ghost use Rattle.host_io.specs.declared.error.RunError.TheVariants as refusals;
 ghost use Rattle.machine.specs.Machine.{Running};
 ghost use Rattle.machine.specs.Untraced.{IsUntraced};
-ghost use Rattle.gdb_resumes.specs.Sessions.{OfRun, hart_seen};
+ghost use Rattle.std.specs.Option.{option_map};
+ghost use Rattle.gdb_resumes.specs.Sessions.{OfRun, hart_seen, image_of};
 
 use hart_step::Hart;
 use host_io::RunError;
@@ -21,19 +22,28 @@ pub struct Debugged {
     pub harts: u32,
     /// On how many workers its rounds are run, 1 to 16.
     pub workers: u32,
+    /// The machine before the first round.
+    pub start: UntracedMachine,
+    /// The program's image.
+    pub image: Vec<u8>,
+    /// Whether a debugger is handed the image.
+    pub hands_image: bool,
 }
 
 impl Debugged {
-    /// So many rounds of the run of a machine before its first one, which has this code.
+    /// So many rounds of the run of a machine before its first one, which has this code. A debugger is
+    /// handed the image, or isn't.
     ///
     /// # Errors
     ///
     /// `OutOfMemory` alone.
     pub fn new(
-        machine: UntracedMachine,
+        mut machine: UntracedMachine,
         code: Vec<Range>,
         rounds: u32,
         workers: u32,
+        image: Vec<u8>,
+        hands_image: bool,
     ) -> Result<Debugged, RunError>
         requires run { (m : Running) × IsUntraced m machine }
         requires fresh { machine.rounds ≡ 0 }
@@ -43,17 +53,34 @@ impl Debugged {
         ensures rounds { IfOk result (λ d. d.timeline.rounds ≡ rounds) }
         ensures harts { IfOk result (λ d. d.harts ≡ length machine.harts) }
         ensures workers { IfOk result (λ d. d.workers ≡ workers) }
+        ensures machine { IfOk result (λ d. d.start ≡ machine) }
+        ensures image { IfOk result (λ d. image_of d ≡ (if hands_image then Some image.items else None)) }
         ensures refused { IfErr result (λ e. e ≡ refusals.OutOfMemory) }
     {
         // At most 64, as many as the plan says.
         let _harts = machine.plan().harts();
         let harts = machine.harts().len() as u32;
+        let start = machine.share()?;
         let timeline = Timeline::new(machine, code, rounds)?;
         Ok(Debugged {
             timeline,
             harts,
             workers,
+            start,
+            image,
+            hands_image,
         })
+    }
+
+    /// The image that a debugger is handed.
+    pub fn image(&self) -> Option<&[u8]>
+        ensures { option_map (λ bytes. bytes.now) result ≡ image_of self.now }
+    {
+        if self.hands_image {
+            Some(self.image.as_slice())
+        } else {
+            None
+        }
     }
 
     /// A hart at a point; none where there is no such hart or moment. It may wait.

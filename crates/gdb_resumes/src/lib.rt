@@ -3,13 +3,17 @@
 
 mod asking;
 mod debugged;
+mod pace;
 mod resuming;
+mod searching;
 mod session;
 mod stepping;
 mod stepping_alone;
+mod stepping_in;
 
 pub use debugged::Debugged;
-pub use resuming::go;
+pub use searching::{Reach, Search, Searched};
 pub use session::{Session, Standing};
 pub use stepping::step;
 pub use stepping_alone::{step_alone, step_back};
+pub use stepping_in::step_in;

@@ -1,12 +1,11 @@
-//! On and back to what is told next.
+//! Where a run stands at what is told next.
 
 ghost use Rattle.std.specs.Prelude.{◌≡◌, ℕ, IfOk, IfErr, IfSome, slice_get};
 ghost use Rattle.host_io.specs.declared.error.RunError.TheVariants as refusals;
 ghost use Rattle.gdb_replies.specs.declared.stop_reply.Reason.TheVariants.{Step};
-ghost use Rattle.gdb_resumes.specs.Resumes.{Continues, end_of, told_at, told_or};
+ghost use Rattle.gdb_resumes.specs.Resumes.{end_of, told_at, told_or};
 ghost use Rattle.gdb_resumes.specs.Sessions.{IsReady, IsWithin, OfRun, named, or_hardware, state_of, watch_reason, why, why_told};
 
-use crate::asking::{all_told, find};
 use crate::debugged::Debugged;
 use crate::session::{Session, Standing, start_of};
 use gdb_replies::Reason;
@@ -14,34 +13,9 @@ use gdb_sights::reason_of;
 use hart_step::Hart;
 use host_io::RunError;
 use round_steps::{Told, WatchKind, Watchpoint};
-use std::alloc::Global;
 use std::sync::Wait;
 use std::thread::Threads;
 use watching::Way;
-
-/// On or back to what is told next. It may wait.
-///
-/// # Errors
-///
-/// `OutOfMemory` alone.
-pub fn go<R: Threads + Wait + Sync>(
-    rt: &R,
-    alloc: Global,
-    run: &mut Debugged,
-    session: &Session,
-    way: Way,
-) -> Result<Standing, RunError>
-    requires ready { IsReady run.old session.now.standing }
-    ensures stays { run.new ≡ run.old }
-    ensures continues { OfRun run.old (λ r. IfOk result (λ t. Continues r (state_of session.now) way t)) }
-    ensures ready { IfOk result (λ t. IsReady run.old t) }
-    ensures refused { IfErr result (λ e. e ≡ refusals.OutOfMemory) }
-{
-    let telling = all_told(alloc, session, None)?;
-    let found = find(rt, run, way, &telling, &session.standing.point)?;
-    let end = end_of(run, session.standing, way);
-    tell_or(rt, run, session, found, end)
-}
 
 /// Where nothing is told any more.
 pub(crate) fn end_of(run: &Debugged, standing: Standing, way: Way) -> Standing

@@ -1,2 +1,3 @@
 pub mod Arriving
 pub mod Going
+pub mod Resuming

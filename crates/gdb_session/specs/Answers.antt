@@ -1,5 +1,5 @@
 -- What a debugger is answered, and what its session is then.
-use Rattle.std.specs.Prelude.{◌≡◌, ℕ, ◌+◌, ◌-◌, ◌==◌, ◌&&◌, ◌||◌, not, nat_lt, if◌then◌else◌, Bool, List, [], ◌∷◌, ◌++◌, filter, codes, Option, Some, None}
+use Rattle.std.specs.Prelude.{◌≡◌, ℕ, ◌+◌, ◌-◌, ◌==◌, ◌&&◌, ◌||◌, not, nat_lt, if◌then◌else◌, Bool, List, [], ◌∷◌, ◌++◌, filter, codes, is_some, Option, Some, None}
 use Rattle.std.specs.List.{list_any}
 use Rattle.walking.specs.Stops.{is_one_of}
 use Rattle.watching.specs.declared.watchpoint.WatchKind.{WatchKind}
@@ -7,18 +7,27 @@ use Rattle.watching.specs.declared.watchpoint.WatchKind.TheVariants as kinds
 use Rattle.watching.specs.declared.watchpoint.Watchpoint.{Watchpoint}
 use Rattle.watching.specs.declared.watchpoint.Way.TheVariants.{On, Back}
 use Rattle.gdb_packets.specs.Writing.{packet_text}
+use Rattle.hex.specs.Hex.{encode_lower}
+use Rattle.machine.specs.Machine.{after_rounds}
+use Rattle.gdb_requests.specs.Files.{image_name}
+use Rattle.gdb_requests.specs.declared.command.Command.{Command}
+use Rattle.gdb_requests.specs.declared.command.Command.TheVariants as commands
 use Rattle.gdb_requests.specs.declared.request.Request.{Request}
 use Rattle.gdb_requests.specs.declared.request.Request.TheVariants as requests
 use Rattle.gdb_requests.specs.declared.request.Watch.{Watch}
 use Rattle.gdb_requests.specs.declared.request.Watch.TheVariants as asked
 use Rattle.gdb_replies.specs.Description.{target_text}
-use Rattle.gdb_replies.specs.Replies.{part_of, payload_of}
+use Rattle.gdb_replies.specs.CommandTexts.{help_text}
+use Rattle.gdb_replies.specs.Replies.{features_text, part_of, payload_of}
 use Rattle.gdb_replies.specs.Words.{thread_text, threads_text}
 use Rattle.gdb_replies.specs.declared.reply.Reply.TheVariants as replies
-use Rattle.gdb_answers.specs.Answers.{memory_answer, note_answer, register_answer, registers_answer, seen, stop_answer, thread_list_answer}
+use Rattle.gdb_answers.specs.Answers.{checksum_answer, memory_answer, note_answer, register_answer, registers_answer, seen, stop_answer, thread_list_answer}
+use Rattle.gdb_answers.specs.Buffers.{buffer_answer}
+use Rattle.gdb_answers.specs.Commands.{harts_answer, output_answer, plan_answer, where_answer}
+use Rattle.gdb_answers.specs.Files.{file_answer}
 use Rattle.gdb_resumes.specs.declared.session.Standing.{Standing}
 use Rattle.gdb_resumes.specs.Sessions.{Recorded, State}
-use Rattle.gdb_resumes.specs.Resumes.{Continues, Steps, StepsAlone, StepsBack}
+use Rattle.gdb_resumes.specs.Resumes.{Continues, Steps, StepsAlone, StepsBack, StepsIn}
 
 -- threads are numbered from 1
 abbrev pub hart_of_thread : ℕ → ℕ → Option ℕ
@@ -37,19 +46,36 @@ abbrev pub note_text_of : Recorded → Standing → Option ℕ → List ℕ
 note_text_of r t None = codes "E01"
 note_text_of r t (Some hart) = note_answer hart t.point.moment (seen r.run t.point hart)
 
+-- the name of the image, where it is handed
+abbrev pub name_answer : Option (List ℕ) → ℕ → ℕ → List ℕ
+name_answer None offset count = []
+name_answer (Some image) offset count = part_of image_name offset count
+
 -- what isn't about the moment
-abbrev pub fixed_text : ℕ → Standing → Request → Option (List ℕ)
-fixed_text harts t requests.Features = Some (payload_of replies.Features)
-fixed_text harts t (requests.Description offset count) = Some (part_of target_text offset count)
-fixed_text harts t requests.FirstThreads = Some (threads_text harts)
-fixed_text harts t requests.MoreThreads = Some (codes "l")
-fixed_text harts t requests.PresentThread = Some (codes "QC" ++ thread_text (t.general + 1))
-fixed_text harts t requests.Attached = Some (codes "1")
-fixed_text harts t requests.Change = Some (payload_of replies.PastStands)
-fixed_text harts t requests.Actions = Some (codes "vCont;c;C;s;S")
-fixed_text harts t requests.Detach = Some (codes "OK")
-fixed_text harts t requests.Unknown = Some []
-fixed_text harts t request = None
+abbrev pub fixed_text : ℕ → Option (List ℕ) → Standing → Request → Option (List ℕ)
+fixed_text harts image t requests.Features = Some (features_text (is_some image))
+fixed_text harts image t (requests.Description offset count) = Some (part_of target_text offset count)
+fixed_text harts image t requests.FirstThreads = Some (threads_text harts)
+fixed_text harts image t requests.MoreThreads = Some (codes "l")
+fixed_text harts image t requests.PresentThread = Some (codes "QC" ++ thread_text (t.general + 1))
+fixed_text harts image t requests.Attached = Some (codes "1")
+fixed_text harts image t requests.Change = Some (payload_of replies.PastStands)
+fixed_text harts image t requests.Actions = Some (codes "vCont;c;C;s;S;r")
+fixed_text harts image t requests.Detach = Some (codes "OK")
+fixed_text harts image t requests.Unknown = Some []
+fixed_text harts image t (requests.ImageName offset count) = Some (name_answer image offset count)
+fixed_text harts image t (requests.File request) = Some (file_answer image request)
+fixed_text harts image t request = None
+
+-- what a command of the user's says
+abbrev pub command_text : Recorded → Standing → Command → List ℕ
+command_text r t commands.Where = where_answer t.point.moment (seen r.run t.point t.point.moment.place.hart)
+command_text r t commands.Harts = harts_answer r.run t.point r.harts
+command_text r t commands.Buffer = buffer_answer r.run t.point t.general (seen r.run t.point t.general)
+command_text r t commands.Plan = plan_answer r.run.plan (t.point.moment.rounds + 1)
+command_text r t commands.Output = output_answer (after_rounds t.point.moment.rounds r.run).state.console.output
+command_text r t commands.Help = encode_lower help_text
+command_text r t command = encode_lower (codes "no such command: monitor help\n")
 
 -- what is
 abbrev pub text_at : Recorded → Standing → Request → Option (List ℕ)
@@ -60,6 +86,8 @@ text_at r t (requests.IsAlive thread) = Some (done_or_missing (hart_of_thread r.
 text_at r t requests.ReadRegisters = Some (registers_answer t.point.moment (seen r.run t.point t.general))
 text_at r t (requests.ReadRegister number) = Some (register_answer number t.point.moment (seen r.run t.point t.general))
 text_at r t (requests.ReadMemory address count) = Some (memory_answer address count (seen r.run t.point t.general))
+text_at r t (requests.Checksum address count) = Some (checksum_answer address count (seen r.run t.point t.general))
+text_at r t (requests.Command command) = Some (command_text r t command)
 text_at r t request = None
 
 abbrev pub or_else : Option (List ℕ) → Option (List ℕ) → Option (List ℕ)
@@ -67,7 +95,7 @@ or_else None y = y
 or_else (Some x) y = Some x
 
 abbrev pub reply_at : Recorded → Standing → Request → Option (List ℕ)
-reply_at r t request = or_else (fixed_text r.harts t request) (text_at r t request)
+reply_at r t request = or_else (fixed_text r.harts r.image t request) (text_at r t request)
 
 -- the reply to such a request was written
 pub record Replied (r : Recorded) (t : Standing) (request : Request) (took took_then : List ℕ) : Type 0 where
@@ -148,6 +176,7 @@ MovesBy To (Some hart) x = MovesTo (To hart) x
 abbrev pub Moves : Recorded → State → Request → Option Standing → Type 0
 Moves r s requests.Continue x = MovesTo (Continues r s On) x
 Moves r s (requests.Step thread) x = MovesBy (Steps r s) (hart_of_thread r.harts thread) x
+Moves r s (requests.StepIn low high thread) x = MovesBy (λ hart. StepsIn r low high hart s) (hart_of_thread r.harts thread) x
 Moves r s (requests.StepAlone thread) x = MovesBy (StepsAlone r s) (hart_of_thread r.harts thread) x
 Moves r s requests.StepBack x = MovesTo (StepsBack r s) x
 Moves r s requests.ContinueBack x = MovesTo (Continues r s Back) x

@@ -13,14 +13,13 @@ use crate::selecting::{hart_of_thread, say_done};
 use crate::watchpoints::{add_watch, remove_watch, watch_of};
 use gdb_replies::{Reply, write_reply};
 use gdb_requests::Request;
-use gdb_resumes::{Debugged, Session, Standing, go, step, step_alone, step_back};
+use gdb_resumes::{Debugged, Session, Standing, step, step_alone, step_back, step_in};
 use host_io::{RunError, Sink};
 use std::alloc::Global;
 use std::sync::Wait;
 use std::thread::Threads;
-use watching::Way;
 
-/// Answers a request about a run. It may wait.
+/// Answers a request about a run, but for one to go on or back until something is told. It may wait.
 ///
 /// # Errors
 ///
@@ -57,11 +56,8 @@ pub fn answer<R: Threads + Wait + Sync, K: Sink>(
             let watch = watch_of(kind, address, count);
             remove_watch(alloc, &mut session.watches, watch, out)
         }
-        Request::Continue
-        | Request::Step(_)
-        | Request::StepAlone(_)
-        | Request::StepBack
-        | Request::ContinueBack => resume(rt, alloc, run, session, request, out),
+        Request::Step(_) | Request::StepIn(..) | Request::StepAlone(_) | Request::StepBack =>
+            resume(rt, alloc, run, session, request, out),
         _ => reply_to(rt, alloc, run, session.standing, request, out),
     }
 }
@@ -93,17 +89,18 @@ fn resume<R: Threads + Wait + Sync, K: Sink>(
     }
 }
 
-/// Where the run stands after it was resumed; none where there is no such thread.
+/// Where the run stands after a step; none where there is no such thread.
 fn standing_after<R: Threads + Wait + Sync>(
     rt: &R,
     alloc: Global,
     run: &mut Debugged,
-    session: &Session,
+    session: &mut Session,
     request: Request,
 ) -> Result<Option<Standing>, RunError>
-    requires ready { IsReady run.old session.now.standing }
+    requires ready { IsReady run.old session.old.standing }
     ensures stays { run.new ≡ run.old }
-    ensures standing { OfRun run.old (λ r. IfOk result (λ x. Moves r (state_of session.now) request x)) }
+    ensures session { session.new ≡ session.old }
+    ensures standing { OfRun run.old (λ r. IfOk result (λ x. Moves r (state_of session.old) request x)) }
     ensures ready { IfOk result (λ x. IfSome x (λ t. IsReady run.old t)) }
     ensures refused { IfErr result (λ e. e ≡ refusals.OutOfMemory) }
 {
@@ -112,13 +109,15 @@ fn standing_after<R: Threads + Wait + Sync>(
             Some(hart) => step(rt, alloc, run, session, hart)?,
             None => return Ok(None),
         },
+        Request::StepIn(low, high, thread) => match hart_of_thread(run.harts, thread) {
+            Some(hart) => step_in(rt, alloc, run, session, hart, low, high)?,
+            None => return Ok(None),
+        },
         Request::StepAlone(thread) => match hart_of_thread(run.harts, thread) {
             Some(hart) => step_alone(rt, alloc, run, session, hart)?,
             None => return Ok(None),
         },
         Request::StepBack => step_back(rt, alloc, run, session)?,
-        Request::ContinueBack => go(rt, alloc, run, session, Way::Back)?,
-        Request::Continue => go(rt, alloc, run, session, Way::On)?,
         // No other request resumes the run.
         _ => return Err(RunError::OutOfMemory),
     };

@@ -6,6 +6,7 @@ mod breakpoints;
 mod opening;
 mod reading;
 mod refusing;
+mod searching;
 mod selecting;
 mod serving;
 mod talk;

@@ -4,11 +4,11 @@ ghost use Rattle.machine.specs.Settings.{IsPlan, image_for};
 ghost use Rattle.machine.specs.Untraced.{IsUntraced};
 ghost use Rattle.round_planner.specs.Quotas.{Planned};
 ghost use Rattle.gdb_session.specs.Serving.{begun};
-ghost use Rattle.gdb_resumes.specs.Sessions.{IsReady};
+ghost use Rattle.gdb_resumes.specs.Sessions.{IsReady, handed, image_of, is_elf};
 
 use gdb_resumes::Debugged;
 use host_io::RunError;
-use machine::{Settings, load, prepare_untraced};
+use machine::{Format, Settings, load, prepare_untraced};
 use pages::Range;
 use std::alloc::Global;
 
@@ -27,6 +27,8 @@ pub fn open(
     ensures run { IfOk result (λ d. (plan : Planned) × IsPlan settings.now plan ×
         IsUntraced (opening (image_for settings.now image.now) input.now plan) d.timeline.start) }
     ensures rounds { IfOk result (λ d. d.timeline.rounds ≡ settings.now.rounds) }
+    // A debugger is handed an ELF file, and no flat image.
+    ensures image { IfOk result (λ d. image_of d ≡ handed settings.now.format image.now) }
     ensures ready { IfOk result (λ d. IsReady d begun.state.standing) }
 {
     let machine = prepare_untraced(alloc, image, input, settings)?;
@@ -34,7 +36,15 @@ pub fn open(
         return Err(RunError::RoundsExhausted);
     }
     let code = code_of(alloc, image, settings)?;
-    Debugged::new(machine, code, settings.rounds, settings.workers)
+    let bytes = Vec::from_slice(alloc, image).map_err(|_| RunError::OutOfMemory)?;
+    Debugged::new(
+        machine,
+        code,
+        settings.rounds,
+        settings.workers,
+        bytes,
+        is_elf(settings.format),
+    )
 }
 
 /// The ranges of an image's code.
@@ -46,5 +56,15 @@ fn code_of(alloc: Global, image: &[u8], settings: &Settings<'_>) -> Result<Vec<R
     match Vec::from_slice(alloc, image.code()) {
         Ok(code) => Ok(code),
         Err(_) => Err(RunError::OutOfMemory),
+    }
+}
+
+/// Whether an image is an ELF file.
+fn is_elf(format: Format) -> bool
+    ensures { result ≡ is_elf format }
+{
+    match format {
+        Format::Elf => true,
+        Format::Flat => false,
     }
 }

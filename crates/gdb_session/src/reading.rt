@@ -1,19 +1,21 @@
 //! Requests that change nothing.
 
 ghost use Rattle.std.specs.Prelude.{◌≡◌, ◌≤◌, ◌<◌, ◌++◌, Err, OnOk, ◌+◌, ◌^◌, IfSome, Some};
+ghost use Rattle.std.specs.Option.{option_map};
 ghost use Rattle.host_io.specs.declared.error.RunError.TheVariants as refusals;
 ghost use Rattle.gdb_packets.specs.Writing.{packet_text};
 ghost use Rattle.gdb_replies.specs.Replies.{payload_of};
-ghost use Rattle.gdb_session.specs.Answers.{Replied, fixed_text, hart_of_thread, note_text_of, stands_text};
+ghost use Rattle.gdb_session.specs.Answers.{Replied, command_text, fixed_text, hart_of_thread, name_answer, note_text_of, stands_text};
 ghost use Rattle.gdb_resumes.specs.Sessions.{IsReady, OfRun};
 
 use crate::selecting::{hart_of_thread, say_done};
 use gdb_answers::{
-    Look, answer_memory, answer_note, answer_register, answer_registers, answer_stop,
-    answer_threads,
+    Look, answer_buffer, answer_checksum, answer_harts, answer_memory, answer_note, answer_output,
+    answer_plan, answer_register, answer_registers, answer_stop, answer_threads, answer_where,
+    file_reply,
 };
-use gdb_replies::{Reply, Window, target_description, write_reply};
-use gdb_requests::Request;
+use gdb_replies::{Reply, Window, command_help, target_description, write_reply};
+use gdb_requests::{Command, IMAGE_NAME, Request};
 use gdb_resumes::{Debugged, Standing};
 use host_io::{RunError, Sink};
 use std::alloc::Global;
@@ -34,7 +36,7 @@ pub(crate) fn reply_to<R: Threads + Wait + Sync, K: Sink>(
     ensures writes { OfRun run.old (λ r. OnOk result (Replied r standing request (K.took out.old) (K.took out.new))) }
     ensures memory { result ≡ Err refusals.OutOfMemory → K.took out.new ≡ K.took out.old }
 {
-    match fixed_reply(run.harts, standing, request) {
+    match fixed_reply(run.harts, run.image(), standing, request) {
         Some(reply) => write_reply(alloc, &reply, out),
         None => reply_at(rt, alloc, run, standing, request, out),
     }
@@ -54,11 +56,7 @@ fn reply_at<R: Threads + Wait + Sync, K: Sink>(
     ensures writes { OfRun run.old (λ r. OnOk result (Replied r standing request (K.took out.old) (K.took out.new))) }
     ensures memory { result ≡ Err refusals.OutOfMemory → K.took out.new ≡ K.took out.old }
 {
-    let look = Look {
-        point: standing.point,
-        hart: standing.general,
-        workers: run.workers,
-    };
+    let look = look_of(standing, run.workers);
     match request {
         Request::WhyStopped => say_where(rt, alloc, run, standing, out),
         Request::Note(thread) => say_note(rt, alloc, run, standing, thread, out),
@@ -76,19 +74,39 @@ fn reply_at<R: Threads + Wait + Sync, K: Sink>(
         Request::ReadMemory(address, count) => {
             answer_memory(rt, alloc, &mut run.timeline, look, address, count, out)
         }
+        Request::Checksum(address, count) => {
+            answer_checksum(rt, alloc, &mut run.timeline, look, address, count, out)
+        }
+        Request::Command(command) => say_command(rt, alloc, run, standing, command, out),
         Request::IsAlive(thread) => say_done(alloc, hart_of_thread(run.harts, thread), out),
         // No other request is about a moment.
         _ => Err(RunError::OutOfMemory),
     }
 }
 
+/// What is looked at where the run stands.
+fn look_of(standing: Standing, workers: u32) -> Look
+    ensures { result ≡ record { point = standing.point; hart = standing.general; workers = workers } }
+{
+    Look {
+        point: standing.point,
+        hart: standing.general,
+        workers,
+    }
+}
+
 /// The reply to a request that isn't about a moment of the run; none for another one.
-fn fixed_reply(harts: u32, standing: Standing, request: Request) -> Option<Reply<'static>>
+fn fixed_reply<'a>(
+    harts: u32,
+    image: Option<&'a [u8]>,
+    standing: Standing,
+    request: Request,
+) -> Option<Reply<'a>>
     requires general { standing.general + 1 < 2 ^ 32 }
-    ensures { IfSome result (λ reply. fixed_text harts standing request ≡ Some (payload_of reply)) }
+    ensures { IfSome result (λ reply. fixed_text harts (option_map (λ bytes. bytes.now) image.entry) standing request ≡ Some (payload_of reply)) }
 {
     match request {
-        Request::Features => Some(Reply::Features),
+        Request::Features => Some(Reply::Features(image.is_some())),
         Request::Description(offset, count) => Some(Reply::Part(Window {
             text: target_description(),
             offset,
@@ -102,7 +120,63 @@ fn fixed_reply(harts: u32, standing: Standing, request: Request) -> Option<Reply
         Request::Actions => Some(Reply::Actions),
         Request::Detach => Some(Reply::Done),
         Request::Unknown => Some(Reply::Unknown),
+        Request::ImageName(offset, count) => Some(name_reply(image, offset, count)),
+        Request::File(request) => Some(Reply::File(file_reply(image, request))),
         _ => None,
+    }
+}
+
+/// The reply to a request for the image's name.
+fn name_reply<'a>(image: Option<&'a [u8]>, offset: u64, count: u64) -> Reply<'a>
+    ensures { payload_of result ≡ name_answer (option_map (λ bytes. bytes.now) image.entry) offset count }
+{
+    match image {
+        Some(_) => Reply::Part(Window {
+            text: IMAGE_NAME,
+            offset,
+            count,
+        }),
+        None => Reply::Unknown,
+    }
+}
+
+/// Answers a command of the user's.
+fn say_command<R: Threads + Wait + Sync, K: Sink>(
+    rt: &R,
+    alloc: Global,
+    run: &mut Debugged,
+    standing: Standing,
+    command: Command,
+    out: &mut K,
+) -> Result<(), RunError>
+    requires ready { IsReady run.old standing }
+    ensures stays { run.new ≡ run.old }
+    ensures writes { OfRun run.old (λ r. OnOk result (K.took out.new ≡ K.took out.old ++ packet_text (command_text r standing command))) }
+    ensures memory { result ≡ Err refusals.OutOfMemory → K.took out.new ≡ K.took out.old }
+{
+    let look = look_of(standing, run.workers);
+    let rounds = look.point.moment.rounds;
+    let workers = look.workers;
+    match command {
+        Command::Where => answer_where(rt, alloc, &mut run.timeline, look.point, workers, out),
+        Command::Harts => {
+            let all = Look {
+                hart: run.harts,
+                ..look
+            };
+            answer_harts(rt, alloc, &mut run.timeline, all, out)
+        }
+        Command::Buffer => {
+            answer_buffer(rt, alloc, &mut run.timeline, &mut run.start, look, out)
+        }
+        Command::Plan => answer_plan(alloc, run.start.plan(), rounds + 1, out),
+        Command::Output => answer_output(rt, alloc, &mut run.start, rounds, workers, out),
+        Command::Help => write_reply(alloc, &Reply::Words(command_help()), out),
+        _ => write_reply(
+            alloc,
+            &Reply::Words(b"no such command: monitor help\n"),
+            out,
+        ),
     }
 }
 

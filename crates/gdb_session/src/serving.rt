@@ -1,8 +1,10 @@
-ghost use Rattle.std.specs.Prelude.{◌≡◌, ◌∷◌, ◌++◌, ℕ, List, IfOk, OnOk};
-ghost use Rattle.gdb_resumes.specs.Sessions.{IsReady, OfRun};
+ghost use Rattle.std.specs.Prelude.{◌≡◌, ◌∷◌, ◌++◌, ℕ, List, IfOk, IfSome, OnOk};
+ghost use Rattle.gdb_resumes.specs.Resumes.{IsUnderWay};
+ghost use Rattle.gdb_resumes.specs.Sessions.{IsReady, OfRun, state_of};
 ghost use Rattle.gdb_session.specs.Serving.{HasEnded, Served, ServesOn, Talking, begun, refused_text, talking};
 
-use crate::talk::{Talk, refuse};
+use crate::searching::refuse;
+use crate::talk::Talk;
 use gdb_packets::Reader;
 use gdb_resumes::Debugged;
 use host_io::{RunError, Sink, Source, put_all};
@@ -48,8 +50,10 @@ fn hear_next<R: Threads + Wait + Sync, S: Source, K: Sink>(
     out: &mut K,
 ) -> Result<bool, RunError>
     requires ready { IsReady run.old talk.old.session.standing }
+    requires search { IfSome talk.old.searching (λ x. IsUnderWay run.old (state_of talk.old.session) x) }
     ensures stays { run.new ≡ run.old }
     ensures ready { OnOk result (IsReady run.old talk.new.session.standing) }
+    ensures search { OnOk result (IfSome talk.new.searching (λ x. IsUnderWay run.old (state_of talk.new.session) x)) }
     ensures serves { OfRun run.old (λ r. (g k : List ℕ) → Served r g (S.gave src.old) k (K.took out.old) reader.old (talking talk.old) →
         IfOk result (ServesOn r g (S.gave src.new) k (K.took out.new) reader.new (talking talk.new))) }
 {

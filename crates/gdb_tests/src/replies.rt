@@ -1,7 +1,8 @@
 //! Replies, with sums worked out by hand.
 
 use gdb_replies::{
-    Reason, Registers, Reply, StopReply, ThreadNote, Window, target_description, write_reply,
+    FileReply, Reason, Registers, Reply, StopReply, ThreadNote, Window, target_description,
+    write_reply,
 };
 use host_io::WriteSink;
 use round_schedule::Phase;
@@ -32,13 +33,20 @@ fn replies_are_written(rt: HostRuntime) -> Result<(), Fail> {
         stop: Some((1, 10)),
         ..running
     };
-    let rows: [(Reply<'_>, &[u8]); 10] = [
+    let rows: [(Reply<'_>, &[u8]); 14] = [
         (Reply::Unknown, b"$#00"),
         (Reply::Done, b"$OK#9a"),
         (Reply::Refused(20), b"$E.error 20#1f"),
         (Reply::Thread(1), b"$QC00000001#15"),
         (Reply::Threads(2), b"$m00000001,00000002#9c"),
         (Reply::Memory(&[1, 255]), b"$01ff#2d"),
+        (Reply::Checksum(0x0376_e6e7), b"$C0376e6e7#4a"),
+        (Reply::File(FileReply::Failed(2)), b"$F-1,2#02"),
+        (
+            Reply::File(FileReply::Bytes(b"a#")),
+            b"$F0000000000000002;a}\x03#64",
+        ),
+        (Reply::Words(b"ok\n"), b"$6f6b0a#c5"),
         (
             Reply::Note(running),
             b"$6861727420312c20726f756e6420332c20706172616c6c656c2c20706c616365203435#d2",

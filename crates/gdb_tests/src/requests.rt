@@ -1,11 +1,11 @@
 //! Requests, as gdb-multiarch 13.1 sends them to a program for RISC-V, and as gdb's manual has them in appendix E.
 
-use gdb_requests::{Request, Watch, request_of};
+use gdb_requests::{Command, FileRequest, Request, Watch, request_of};
 use std::test::Fail;
 
 #[test]
 fn questions_are_read(rt: HostRuntime) -> Result<(), Fail> {
-    let rows: [(&[u8], Request); 21] = [
+    let rows: [(&[u8], Request); 31] = [
         (
             b"qSupported:multiprocess+;swbreak+;hwbreak+",
             Request::Features,
@@ -23,7 +23,35 @@ fn questions_are_read(rt: HostRuntime) -> Result<(), Fail> {
         (b"qsThreadInfo", Request::MoreThreads),
         (b"qThreadExtraInfo,2", Request::Note(2)),
         (b"qC", Request::PresentThread),
-        (b"qCRC:1000,4", Request::Unknown),
+        (b"qCRC:1000,4", Request::Checksum(0x1000, 4)),
+        (
+            b"qXfer:exec-file:read::0,1000",
+            Request::ImageName(0, 0x1000),
+        ),
+        (
+            b"qXfer:exec-file:read:a410:0,1000",
+            Request::ImageName(0, 0x1000),
+        ),
+        (b"vFile:setfs:0", Request::File(FileRequest::Root)),
+        (
+            b"vFile:open:2f7265636f7264696e672f696d616765,0,0",
+            Request::File(FileRequest::OpenImage),
+        ),
+        (
+            b"vFile:open:2f7265636f7264696e672f696d61676573,0,0",
+            Request::File(FileRequest::OpenOther),
+        ),
+        (
+            b"vFile:pread:1,10000,7d00",
+            Request::File(FileRequest::Read(1, 0x10000, 32_000)),
+        ),
+        (b"qRcmd,7768657265", Request::Command(Command::Where)),
+        (b"qRcmd,776865726520", Request::Command(Command::Unknown)),
+        (b"qRcmd,6576656e74", Request::Command(Command::Event)),
+        (
+            b"qRcmd,7265736572766174696f6e73",
+            Request::Command(Command::Reservations),
+        ),
         (b"qAttached:1", Request::Attached),
         (b"Hg0", Request::SelectGeneral(None)),
         (b"Hg2", Request::SelectGeneral(Some(2))),
@@ -44,8 +72,35 @@ fn questions_are_read(rt: HostRuntime) -> Result<(), Fail> {
 }
 
 #[test]
+fn places_to_go_to_are_read(rt: HostRuntime) -> Result<(), Fail> {
+    let rows: [(&[u8], Command); 8] = [
+        (b"qRcmd,676f746f203132", Command::GotoRound(12)),
+        (
+            b"qRcmd,676f746f20312031203135",
+            Command::GotoPlace(1, 1, 15),
+        ),
+        (b"qRcmd,676f746f20656e64", Command::GotoEnd),
+        (b"qRcmd,676f746f", Command::Unknown),
+        (b"qRcmd,676f746f20", Command::Unknown),
+        (b"qRcmd,676f746f20312031", Command::Unknown),
+        (b"qRcmd,676f746f2031203120313520", Command::Unknown),
+        (
+            b"qRcmd,676f746f2031303030303030303030303030303030303030303030",
+            Command::Unknown,
+        ),
+    ];
+    for (payload, expected) in rows {
+        assert!(rt;
+            request_of(payload) == Request::Command(expected),
+            "{payload:?}"
+        );
+    }
+    Ok(())
+}
+
+#[test]
 fn moves_are_read(rt: HostRuntime) -> Result<(), Fail> {
-    let rows: [(&[u8], Request); 22] = [
+    let rows: [(&[u8], Request); 25] = [
         (b"Z0,10b0,4", Request::AddStop(0x10b0)),
         (b"z0,10b0,4", Request::RemoveStop(0x10b0)),
         (b"Z1,10b0,4", Request::AddHardwareStop(0x10b0)),
@@ -62,6 +117,9 @@ fn moves_are_read(rt: HostRuntime) -> Result<(), Fail> {
         (b"vCont;s:2;c", Request::Step(2)),
         (b"vCont;s:2", Request::StepAlone(2)),
         (b"vCont;S05:2", Request::StepAlone(2)),
+        (b"vCont;r10b0,10c8:2;c", Request::StepIn(0x10b0, 0x10c8, 2)),
+        (b"vCont;r10b0,10c8:2", Request::StepAlone(2)),
+        (b"vCont;r10b0:2;c", Request::Unknown),
         (b"bs", Request::StepBack),
         (b"bc", Request::ContinueBack),
         (b"D", Request::Detach),

@@ -47,5 +47,5 @@ returns-in_default-clause-answers g c =
     let s = state_of c.args.session.now in
     let r = looked_at c.args.past.now in
     on_ok_weaker c.reply_to.result
-    (λ wrote. subst (λ (a : Answer). Wrote (g.K.Sink.took c.args.out.now) (g.K.Sink.took c.reply_to.new.out) s a) (sym (nothing_changes r s c.args.request c.in_default.not-SelectGeneral c.in_default.not-SelectMoving c.in_default.not-AddStop c.in_default.not-RemoveStop c.in_default.not-AddHardwareStop c.in_default.not-RemoveHardwareStop c.in_default.not-Continue c.in_default.not-Step c.in_default.not-StepAlone c.in_default.not-StepBack c.in_default.not-ContinueBack)) (wrote, refl))
+    (λ wrote. subst (λ (a : Answer). Wrote (g.K.Sink.took c.args.out.now) (g.K.Sink.took c.reply_to.new.out) s a) (sym (nothing_changes r s c.args.request c.in_default.not-SelectGeneral c.in_default.not-SelectMoving c.in_default.not-AddStop c.in_default.not-RemoveStop c.in_default.not-AddHardwareStop c.in_default.not-RemoveHardwareStop c.in_default.not-Continue c.in_default.not-Step c.in_default.not-StepIn c.in_default.not-StepAlone c.in_default.not-StepBack c.in_default.not-ContinueBack)) (wrote, refl))
     c.reply_to.ensures.writes

@@ -1,9 +1,10 @@
 use Rattle.std.proofs.Common.{ℕ, List, refl, ap, ◌∙◌}
+use Rattle.std.proofs.lemmas.Result.{on_ok_weaker}
 use Rattle.gdb_requests.specs.declared.request.Request.TheVariants as requests
 use Rattle.watching.specs.declared.watchpoint.Watchpoint.{Watchpoint}
 use Rattle.gdb_session.specs.Answers.{with_watch, without_watch}
 use Rattle.gdb_resumes.specs.Sessions.{State, recorded_of, state_of}
-use Rattle.gdb_session.proofs.Arriving.{both, stop_changed}
+use Rattle.gdb_session.proofs.Arriving.{both, replied, step_answered, stop_changed}
 use Rattle.gdb_session.proofs.answering.answer.Goals as goal
 
 pub returns-in-AddStop-clause-answers : goal.returns-in-AddStop-clause-answers
@@ -67,3 +68,21 @@ returns-in-RemoveWatch-clause-answers g c = λ m is.
     (λ watches wrote. stop_changed r s c.args.request (requests.RemoveWatch asked.kind asked.address asked.count) _ _ t asked.is
     (refl, ap (λ (xs : List Watchpoint). record s { watches = xs }) (watches ∙ ap (without_watch s.watches) c.watch_of-watch-in-RemoveWatch.ensures)) wrote)
     c.remove_watch.ensures.watches c.remove_watch.ensures.writes
+
+pub returns-in-Step-clause-answers : goal.returns-in-Step-clause-answers
+returns-in-Step-clause-answers g c = λ m is.
+    on_ok_weaker c.resume.result
+    (step_answered (recorded_of m c.args.run.now) (state_of c.args.session.now) (g.K.Sink.took c.args.out.now) (g.K.Sink.took c.resume.new.out)
+    (state_of c.resume.new.session) c.args.request c.in-Step.is)
+    (c.resume.ensures.resumes m is)
+
+pub returns-in_default : goal.returns-in_default
+returns-in_default g c = record {
+  stays = c.reply_to.ensures.stays;
+  ready = c.requires.ready;
+  answers = λ m is.
+      on_ok_weaker c.reply_to.result
+      (replied (recorded_of m c.args.run.now) (state_of c.args.session.now) c.args.request (g.K.Sink.took c.args.out.now) (g.K.Sink.took c.reply_to.new.out))
+      (c.reply_to.ensures.writes m is);
+  refused = λ e. (c.reply_to.ensures.memory e, refl);
+}

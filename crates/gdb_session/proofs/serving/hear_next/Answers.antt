@@ -19,7 +19,7 @@ returns-then-has_ended-clause-serves g c = λ m is gave k so.
     let e : c.in-Ok.heard ≡ Some c.in-Some.item = grind (arith, c.in-Some.is, c.in-Ok.heard-is) in
     let told = subst P e c.in-Ok.ensures.told in
     let h = c.in_ok-hear.ensures.hears m is in
-    let served = serves_more (recorded_of m c.args.run.now) gave k _ _ _ (talking c.args.talk.now) _ _ _ (told_in c.in-Some.item) h.0 (talking c.hear.new.self) so told h.1 h.2 in
+    let served = serves_more (recorded_of m c.args.run.now) gave k _ _ _ (talking c.args.talk.now) _ _ _ (told_in c.in-Some.item) h.0 (talking c.hear.new.self) so told (inl h.1) h.2 in
     (c.next.new.self, served, inl (told_in c.in-Some.item, sym c.has_ended.ensures ∙ c.if-has_ended.true))
 
 pub returns-clause-serves : goal.returns-clause-serves
@@ -28,5 +28,5 @@ returns-clause-serves g c = λ m is gave k so.
     let e : c.in-Ok.heard ≡ Some c.in-Some.item = grind (arith, c.in-Some.is, c.in-Ok.heard-is) in
     let told = subst P e c.in-Ok.ensures.told in
     let h = c.in_ok-hear.ensures.hears m is in
-    let served = serves_more (recorded_of m c.args.run.now) gave k _ _ _ (talking c.args.talk.now) _ _ _ (told_in c.in-Some.item) h.0 (talking c.hear.new.self) so told h.1 h.2 in
+    let served = serves_more (recorded_of m c.args.run.now) gave k _ _ _ (talking c.args.talk.now) _ _ _ (told_in c.in-Some.item) h.0 (talking c.hear.new.self) so told (inl h.1) h.2 in
     served

@@ -1,0 +1,201 @@
+//! The user's commands.
+
+ghost use Rattle.std.specs.Prelude.{◌≡◌, ◌≤◌, ◌+◌, ◌<◌, ◌^◌, ◌++◌, Err, IfOk, IfErr, OnOk};
+ghost use Rattle.host_io.specs.Taken.{WritesText};
+ghost use Rattle.host_io.specs.declared.error.RunError.TheVariants as refusals;
+ghost use Rattle.machine.specs.Machine.{Running};
+ghost use Rattle.machine.specs.Untraced.{IsUntraced};
+ghost use Rattle.gdb_packets.specs.Writing.{packet_text};
+ghost use Rattle.gdb_replies.specs.CommandTexts.{plan_head, where_line};
+ghost use Rattle.hex.specs.Hex.{encode_lower};
+ghost use Rattle.gdb_answers.specs.Answers.{seen};
+ghost use Rattle.gdb_answers.specs.Commands.{hart_entry, hart_lines, harts_answer, plan_answer, plan_text, quotas_text, where_answer};
+
+use crate::look::Look;
+use gdb_replies::{
+    Reply, ThreadNote, add_hart_line, add_plan_head, add_quota, add_where_line, write_reply,
+};
+use gdb_sights::note_of;
+use host_io::{RunError, Sink};
+use pages::OutOfMemory;
+use round_planner::Plan;
+use round_steps::{Point, Timeline};
+use std::alloc::Global;
+use std::sync::Wait;
+use std::thread::Threads;
+
+/// Answers where the run stands at a point, of its moment's hart. It may wait.
+///
+/// # Errors
+///
+/// `OutOfMemory`: nothing is written then. `SinkFailed`: a beginning of the packet is.
+pub fn answer_where<R: Threads + Wait + Sync, K: Sink>(
+    rt: &R,
+    alloc: Global,
+    timeline: &mut Timeline,
+    point: Point,
+    workers: u32,
+    out: &mut K,
+) -> Result<(), RunError>
+    requires within { point.moment.rounds ≤ timeline.old.rounds }
+    requires workers { (1 ≤ workers) × (workers ≤ 16) }
+    requires rounds { point.moment.rounds + 1 < 2 ^ 32 }
+    ensures stays { timeline.new ≡ timeline.old }
+    ensures writes { (m : Running) → IsUntraced m timeline.old.start → OnOk result (K.took out.new ≡ K.took out.old
+        ++ packet_text (where_answer point.moment (seen m point point.moment.place.hart))) }
+    ensures memory { result ≡ Err refusals.OutOfMemory → K.took out.new ≡ K.took out.old }
+{
+    let moment = point.moment;
+    let place = moment.place;
+    match timeline.shown_at(rt, &point, place.hart, workers)? {
+        Some(sight) => {
+            let hart = sight.hart();
+            let note = note_of(place.hart, &hart, moment);
+            say_where(alloc, &note, place.count, hart.pc, out)
+        }
+        None => write_reply(alloc, &Reply::Missing, out),
+    }
+}
+
+/// Answers with the line of a hart's note, behind so many instructions of the round and with this pc.
+fn say_where<K: Sink>(
+    alloc: Global,
+    note: &ThreadNote,
+    count: u64,
+    pc: u64,
+    out: &mut K,
+) -> Result<(), RunError>
+    ensures writes { WritesText (packet_text (encode_lower (where_line note.now count pc))) (K.took out.old)
+        (K.failures out.old) result (K.took out.new) (K.failures out.new) }
+    ensures memory { result ≡ Err refusals.OutOfMemory → K.took out.new ≡ K.took out.old }
+{
+    match where_line(alloc, note, count, pc) {
+        Ok(text) => write_reply(alloc, &Reply::Words(text.as_slice()), out),
+        Err(_) => Err(RunError::OutOfMemory),
+    }
+}
+
+/// That line.
+fn where_line(alloc: Global, note: &ThreadNote, count: u64, pc: u64) -> Result<Vec<u8>, OutOfMemory>
+    ensures { IfOk result (λ text. text.items ≡ where_line note.now count pc) }
+{
+    let mut text = Vec::new(alloc);
+    add_where_line(&mut text, note, count, pc)?;
+    Ok(text)
+}
+
+/// Answers where each hart before one is at a point. It may wait.
+///
+/// # Errors
+///
+/// `OutOfMemory`: nothing is written then. `SinkFailed`: a beginning of the packet is.
+pub fn answer_harts<R: Threads + Wait + Sync, K: Sink>(
+    rt: &R,
+    alloc: Global,
+    timeline: &mut Timeline,
+    look: Look,
+    out: &mut K,
+) -> Result<(), RunError>
+    requires within { look.point.moment.rounds ≤ timeline.old.rounds }
+    requires workers { (1 ≤ look.workers) × (look.workers ≤ 16) }
+    requires rounds { look.point.moment.rounds + 1 < 2 ^ 32 }
+    ensures stays { timeline.new ≡ timeline.old }
+    ensures writes { (m : Running) → IsUntraced m timeline.old.start → OnOk result
+        (K.took out.new ≡ K.took out.old ++ packet_text (harts_answer m look.point look.hart)) }
+    ensures memory { result ≡ Err refusals.OutOfMemory → K.took out.new ≡ K.took out.old }
+{
+    let text = hart_lines(rt, alloc, timeline, look)?;
+    write_reply(alloc, &Reply::Words(text.as_slice()), out)
+}
+
+/// A line for each hart before one.
+#[tactic(auto, unfolding(crate::specs::Commands::hart_lines))]
+fn hart_lines<R: Threads + Wait + Sync>(
+    rt: &R,
+    alloc: Global,
+    timeline: &mut Timeline,
+    look: Look,
+) -> Result<Vec<u8>, RunError>
+    requires within { look.point.moment.rounds ≤ timeline.old.rounds }
+    requires workers { (1 ≤ look.workers) × (look.workers ≤ 16) }
+    requires rounds { look.point.moment.rounds + 1 < 2 ^ 32 }
+    ensures stays { timeline.new ≡ timeline.old }
+    ensures lines { (m : Running) → IsUntraced m timeline.old.start → IfOk result (λ text. text.items ≡
+        hart_lines m look.point look.hart) }
+    ensures refused { IfErr result (λ e. e ≡ refusals.OutOfMemory) }
+{
+    let mut text = Vec::new(alloc);
+    for hart in 0..look.hart {
+        add_line(rt, timeline, Look { hart, ..look }, &mut text)?;
+    }
+    Ok(text)
+}
+
+/// Adds a hart's line, where there is the hart.
+fn add_line<R: Threads + Wait + Sync>(
+    rt: &R,
+    timeline: &mut Timeline,
+    look: Look,
+    text: &mut Vec<u8>,
+) -> Result<(), RunError>
+    requires within { look.point.moment.rounds ≤ timeline.old.rounds }
+    requires workers { (1 ≤ look.workers) × (look.workers ≤ 16) }
+    requires rounds { look.point.moment.rounds + 1 < 2 ^ 32 }
+    ensures stays { timeline.new ≡ timeline.old }
+    ensures entry { (m : Running) → IsUntraced m timeline.old.start → OnOk result (text.new.items ≡
+        text.old.items ++ hart_entry look.hart look.point.moment (seen m look.point look.hart)) }
+    ensures refused { IfErr result (λ e. e ≡ refusals.OutOfMemory) }
+{
+    if let Some(sight) = timeline.shown_at(rt, &look.point, look.hart, look.workers)? {
+        let note = note_of(look.hart, &sight.hart(), look.point.moment);
+        add_hart_line(text, &note)?;
+    }
+    Ok(())
+}
+
+/// Answers how many instructions each hart may do in a round by a plan.
+///
+/// # Errors
+///
+/// `OutOfMemory`: nothing is written then. `SinkFailed`: a beginning of the packet is.
+pub fn answer_plan<K: Sink>(
+    alloc: Global,
+    plan: &Plan,
+    round: u32,
+    out: &mut K,
+) -> Result<(), RunError>
+    requires round { 1 ≤ round }
+    ensures writes { WritesText (packet_text (plan_answer plan.now round)) (K.took out.old)
+        (K.failures out.old) result (K.took out.new) (K.failures out.new) }
+    ensures memory { result ≡ Err refusals.OutOfMemory → K.took out.new ≡ K.took out.old }
+{
+    match plan_line(alloc, plan, round) {
+        Ok(text) => write_reply(alloc, &Reply::Words(text.as_slice()), out),
+        Err(_) => Err(RunError::OutOfMemory),
+    }
+}
+
+/// The line of a round by a plan.
+fn plan_line(alloc: Global, plan: &Plan, round: u32) -> Result<Vec<u8>, OutOfMemory>
+    requires round { 1 ≤ round }
+    ensures { IfOk result (λ text. text.items ≡ plan_text plan.now round) }
+{
+    let mut text = Vec::new(alloc);
+    add_plan_head(&mut text, round, plan.budget())?;
+    add_quotas(&mut text, plan, round)?;
+    text.push(b'\n')?;
+    Ok(text)
+}
+
+/// Adds what each hart may do.
+#[tactic(auto, using(crate::proofs::Texts::assoc), unfolding(crate::specs::Commands::quotas_text))]
+fn add_quotas(text: &mut Vec<u8>, plan: &Plan, round: u32) -> Result<(), OutOfMemory>
+    requires round { 1 ≤ round }
+    ensures { OnOk result (text.new.items ≡
+        text.old.items ++ quotas_text plan.now round plan.now.harts) }
+{
+    for hart in 0..plan.harts() {
+        add_quota(text, plan.quota(round, hart))?;
+    }
+    Ok(())
+}

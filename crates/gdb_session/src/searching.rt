@@ -1,0 +1,142 @@
+//! Runs that go on or back until something is told, and are interrupted.
+
+ghost use Rattle.std.specs.Prelude.{◌≡◌, ◌++◌, ℕ, List, IfOk, IfSome, OnOk};
+ghost use Rattle.gdb_resumes.specs.Resumes.{IsUnderWay, interrupted};
+ghost use Rattle.gdb_resumes.specs.Sessions.{IsReady, OfRun, state_of};
+ghost use Rattle.gdb_session.specs.Serving.{RepliesOrGoesOn, StandsOrLost, asks_text, refused_text, request_for};
+
+use crate::reading::say_where;
+use gdb_resumes::{Debugged, Search, Searched, Session, Standing};
+use host_io::{RunError, Sink, put_all};
+use std::alloc::Global;
+use std::sync::Wait;
+use std::thread::Threads;
+use watching::Way;
+
+/// What says that a request found no memory: the packet of `E.error 20`.
+const REFUSED: &[u8] = b"$E.error 20#1f";
+
+/// What asks for an acknowledgement: a packet with nothing for the debugger's terminal.
+const ASKS: &[u8] = b"$O#4f";
+
+/// Begins a search, and lets it go on for some rounds; or says that it found no memory. It may wait.
+pub(crate) fn begin_search<R: Threads + Wait + Sync, K: Sink>(
+    rt: &R,
+    alloc: Global,
+    run: &mut Debugged,
+    session: &mut Session,
+    way: Way,
+    out: &mut K,
+) -> Result<Option<Search>, RunError>
+    requires ready { IsReady run.old session.old.standing }
+    ensures stays { run.new ≡ run.old }
+    ensures ready { OnOk result (IsReady run.old session.new.standing) }
+    ensures search { IfOk result (λ x. IfSome x (λ y. IsUnderWay run.old (state_of session.new) y)) }
+    ensures goes { OfRun run.old (λ r. IfOk result (λ x. (written : List ℕ)
+        × RepliesOrGoesOn r (state_of session.old) (request_for way) written (state_of session.new) x
+        × (K.took out.new ≡ K.took out.old ++ written))) }
+{
+    match Search::new(alloc, run, session, way) {
+        Ok(search) => search_on(rt, alloc, run, session, search, out),
+        Err(RunError::OutOfMemory) => {
+            refuse(out)?;
+            Ok(None)
+        }
+        Err(error) => Err(error),
+    }
+}
+
+/// Lets a search go on for some rounds, and says where the run stands then, or asks for an acknowledgement where nothing is told. It may wait.
+pub(crate) fn search_on<R: Threads + Wait + Sync, K: Sink>(
+    rt: &R,
+    alloc: Global,
+    run: &mut Debugged,
+    session: &mut Session,
+    search: Search,
+    out: &mut K,
+) -> Result<Option<Search>, RunError>
+    requires ready { IsReady run.old session.old.standing }
+    requires search { IsUnderWay run.old (state_of session.old) search }
+    ensures stays { run.new ≡ run.old }
+    ensures ready { OnOk result (IsReady run.old session.new.standing) }
+    ensures search { IfOk result (λ x. IfSome x (λ y. IsUnderWay run.old (state_of session.new) y)) }
+    ensures goes { OfRun run.old (λ r. IfOk result (λ x. (written : List ℕ)
+        × RepliesOrGoesOn r (state_of session.old) (request_for search.reach.way) written (state_of session.new) x
+        × (K.took out.new ≡ K.took out.old ++ written))) }
+{
+    match search.go_on(rt, run, session) {
+        Ok(Searched::Stands(standing)) => {
+            stand(rt, alloc, run, session, standing, out)?;
+            Ok(None)
+        }
+        Ok(Searched::GoesOn(further)) => {
+            ask(out)?;
+            Ok(Some(further))
+        }
+        Err(RunError::OutOfMemory) => {
+            refuse(out)?;
+            Ok(None)
+        }
+        Err(error) => Err(error),
+    }
+}
+
+/// Ends a search where it has come to. It may wait.
+pub(crate) fn interrupt<R: Threads + Wait + Sync, K: Sink>(
+    rt: &R,
+    alloc: Global,
+    run: &mut Debugged,
+    session: &mut Session,
+    search: Search,
+    out: &mut K,
+) -> Result<(), RunError>
+    requires ready { IsReady run.old session.old.standing }
+    requires search { IsUnderWay run.old (state_of session.old) search }
+    ensures stays { run.new ≡ run.old }
+    ensures ready { OnOk result (IsReady run.old session.new.standing) }
+    ensures stands { OfRun run.old (λ r. OnOk result (StandsOrLost r (state_of session.old)
+        (interrupted session.old.standing search.reach.rounds) (K.took out.old) (K.took out.new) (state_of session.new))) }
+{
+    let standing = search.interrupted(run, session.standing);
+    stand(rt, alloc, run, session, standing, out)
+}
+
+/// Says where the run stands now; or that this found no memory, and it stays where it stood.
+fn stand<R: Threads + Wait + Sync, K: Sink>(
+    rt: &R,
+    alloc: Global,
+    run: &mut Debugged,
+    session: &mut Session,
+    standing: Standing,
+    out: &mut K,
+) -> Result<(), RunError>
+    requires ready { IsReady run.old session.old.standing }
+    requires there { IsReady run.old standing }
+    ensures stays { run.new ≡ run.old }
+    ensures ready { OnOk result (IsReady run.old session.new.standing) }
+    ensures stands { OfRun run.old (λ r. OnOk result (StandsOrLost r (state_of session.old) standing
+        (K.took out.old) (K.took out.new) (state_of session.new))) }
+{
+    match say_where(rt, alloc, run, standing, out) {
+        Ok(()) => {
+            session.standing = standing;
+            Ok(())
+        }
+        Err(RunError::OutOfMemory) => refuse(out),
+        Err(error) => Err(error),
+    }
+}
+
+/// Asks for an acknowledgement.
+pub(crate) fn ask<K: Sink>(out: &mut K) -> Result<(), RunError>
+    ensures { OnOk result (K.took out.new ≡ K.took out.old ++ asks_text) }
+{
+    put_all(out, ASKS)
+}
+
+/// Says that a request found no memory.
+pub(crate) fn refuse<K: Sink>(out: &mut K) -> Result<(), RunError>
+    ensures { OnOk result (K.took out.new ≡ K.took out.old ++ refused_text) }
+{
+    put_all(out, REFUSED)
+}
