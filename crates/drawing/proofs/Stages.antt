@@ -5,7 +5,7 @@ use Rattle.round_schedule.specs.declared.event.Event.{Event}
 use Rattle.hart_step.specs.declared.hart.Hart.{Hart}
 use Rattle.machine.specs.Machine.{Running, after_rounds}
 use Rattle.machine.specs.Untraced.{IsUntraced, Untraced}
-use Rattle.machine.specs.declared.settings.Settings.{Settings}
+use Rattle.run_settings.specs.declared.settings.Settings.{Settings}
 use Rattle.machine.proofs.Repeated.{more_rounds}
 use Rattle.picture.specs.declared.view.View.{View}
 use Rattle.picture.specs.Picture.{Drawn}

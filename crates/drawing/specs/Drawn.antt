@@ -10,11 +10,12 @@ use Rattle.picture.specs.Titles.{Told}
 use Rattle.picture.specs.declared.view.View.{View}
 use Rattle.trace_events.specs.TraceEvents.{trace_events_text}
 use Rattle.machine.specs.Machine.{Running, after_rounds, opening}
-use Rattle.machine.specs.Settings.{after_run, image_for}
+use Rattle.machine.specs.Runs.{after_run}
+use Rattle.run_settings.specs.Settings.{image_for}
 use Rattle.machine.specs.Untraced.{IsUntraced, Untraced}
-use Rattle.machine.specs.declared.settings.Format.{Format}
-use Rattle.machine.specs.declared.settings.Format.TheVariants.{Elf, Flat}
-use Rattle.machine.specs.declared.settings.Settings.{Settings}
+use Rattle.run_settings.specs.declared.settings.Format.{Format}
+use Rattle.run_settings.specs.declared.settings.Format.TheVariants.{Elf, Flat}
+use Rattle.run_settings.specs.declared.settings.Settings.{Settings}
 use Rattle.event_pcs.specs.Pcs.{pc_before}
 
 -- ---- what is drawn

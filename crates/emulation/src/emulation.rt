@@ -2,7 +2,7 @@ ghost use Rattle.std.specs.Prelude.{◌≡◌, ◌⊎◌, ◌<◌, ◌++◌, Non
 ghost use Rattle.round_planner.specs.Quotas.{Planned};
 ghost use Rattle.host_io.specs.Taken.{BeganText};
 ghost use Rattle.host_io.specs.declared.error.RunError.TheVariants as refusals;
-ghost use Rattle.machine.specs.Settings.{IsPlan, IsReason, RefusedInOrder, settings_fault};
+ghost use Rattle.run_settings.specs.Settings.{IsPlan, IsReason, RefusedInOrder, settings_fault};
 ghost use Rattle.emulation.specs.Reports.{report_after};
 
 use crate::reporting::report_on;

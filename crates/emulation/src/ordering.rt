@@ -3,7 +3,7 @@ ghost use Rattle.round_planner.specs.Quotas.{Planned};
 ghost use Rattle.host_io.specs.Taken.{BeganText};
 ghost use Rattle.host_io.specs.declared.error.RunError.TheVariants as refusals;
 ghost use Rattle.emulation.specs.OrderedRun.{IsOrderOfRun, ordered_text};
-ghost use Rattle.machine.specs.Settings.{IsReason, RefusedInOrder, settings_fault};
+ghost use Rattle.run_settings.specs.Settings.{IsReason, RefusedInOrder, settings_fault};
 
 use crate::tracing::trace_run;
 use host_io::{RunError, Sink};

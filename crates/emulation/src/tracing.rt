@@ -5,7 +5,8 @@ ghost use Rattle.round_schedule.specs.RoundTrace.{IsRoundTrace};
 ghost use Rattle.memory_order.specs.RoundOrder.{IsRoundOrder};
 ghost use Rattle.memory_order.specs.Rvwmo.{MeetsRvwmo};
 ghost use Rattle.trace.specs.Traced.{opening_at};
-ghost use Rattle.machine.specs.Settings.{IsPlan, IsReason, RefusedInOrder, image_for, settings_fault, trace_after};
+ghost use Rattle.run_settings.specs.Settings.{IsPlan, IsReason, RefusedInOrder, image_for, settings_fault};
+ghost use Rattle.machine.specs.Runs.{trace_after};
 
 use host_io::RunError;
 use machine::{Observer, Settings, prepare};

@@ -10,9 +10,9 @@ use Rattle.hart_step.specs.declared.hart.Hart.{Hart}
 use Rattle.hart_step.specs.Numbers.{minus}
 use Rattle.hart_step.specs.Words.{words_of}
 use Rattle.machine.specs.Machine.{Running}
-use Rattle.machine.specs.TurnHarts.{turns_in_round}
+use Rattle.guest_turns.specs.TurnHarts.{turns_in_round}
 use Rattle.machine.specs.Untraced.{IsUntraced, Untraced}
-use Rattle.machine.proofs.TurnHartsAsked.{hart_in_turn}
+use Rattle.guest_turns.proofs.TurnHartsAsked.{hart_in_turn}
 use Rattle.event_pcs.specs.Parts.{pc_in_parts}
 use Rattle.event_pcs.specs.Pcs.{done_by, pc_in_next}
 use Rattle.event_pcs.proofs.InParts.{same_quota, some_found}

@@ -6,7 +6,7 @@ ghost use Rattle.host_io.specs.declared.error.RunError.TheVariants as refusals;
 ghost use Rattle.hart_step.specs.Numbers.{minus};
 ghost use Rattle.hart_step.specs.Words.{words_of};
 ghost use Rattle.machine.specs.Machine.{Running};
-ghost use Rattle.machine.specs.TurnHarts.{turns_in_round};
+ghost use Rattle.guest_turns.specs.TurnHarts.{turns_in_round};
 ghost use Rattle.machine.specs.Untraced.{IsUntraced};
 ghost use Rattle.round_planner.specs.Quotas.{quotas_of};
 ghost use Rattle.event_pcs.specs.Parts.{pc_in_parts};

@@ -6,7 +6,7 @@ use Rattle.pages.specs.Memory.{Memory}
 use Rattle.trace.specs.Traced.{Laid, laid, opening_at}
 use Rattle.trace.proofs.Openings.{bytes_of_pieces, none_beyond, opening_is}
 use Rattle.elf_loader.specs.Image.{Loaded}
-use Rattle.machine.specs.Guests.{opening_guest}
+use Rattle.guest_rounds.specs.Guests.{opening_guest}
 use Rattle.execution.specs.declared.step.ScriptedStep.{ScriptedStep}
 use Rattle.execution.specs.Executions.{Standing}
 use Rattle.execution_checker.specs.declared.verdict.Verdict.{Verdict}

@@ -1,9 +1,9 @@
 -- What is found of a file.
 use Rattle.std.specs.Prelude.{◌≡◌, ℕ, if◌then◌else◌, List, length, map, slice_index, Option}
 use Rattle.elf_loader.specs.Image.{Loaded}
-use Rattle.machine.specs.declared.settings.Format.TheVariants.{Elf, Flat}
-use Rattle.machine.specs.Settings.{image_of}
-use Rattle.machine.specs.Guests.{Guest, opening_guest}
+use Rattle.run_settings.specs.declared.settings.Format.TheVariants.{Elf, Flat}
+use Rattle.run_settings.specs.Settings.{image_of}
+use Rattle.guest_rounds.specs.Guests.{Guest, opening_guest}
 use Rattle.memory_order.specs.Orders.{ListsOperations}
 use Rattle.execution.specs.Executions.{Standing}
 use Rattle.execution.specs.Progressing.{at_start}

@@ -1,5 +1,5 @@
 ghost use Rattle.std.specs.Prelude.{◌≡◌, ◌≤◌, if◌then◌else◌, length, IfOk, true};
-ghost use Rattle.machine.specs.Guests.{opening_guest};
+ghost use Rattle.guest_rounds.specs.Guests.{opening_guest};
 ghost use Rattle.execution_file.specs.Views.{as_recorded};
 ghost use Rattle.execution_scripts.specs.Findings.{IsAsSaid, IsFound, guest_in, image_in};
 

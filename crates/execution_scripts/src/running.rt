@@ -1,7 +1,8 @@
 ghost use Rattle.std.specs.Prelude.{◌≡◌, ◌≤◌, IfOk, OnOk, map};
 ghost use Rattle.round_planner.specs.Quotas.{Planned};
 ghost use Rattle.machine.specs.Machine.{after_rounds};
-ghost use Rattle.machine.specs.Settings.{IsPlan, after_run};
+ghost use Rattle.run_settings.specs.Settings.{IsPlan};
+ghost use Rattle.machine.specs.Runs.{after_run};
 ghost use Rattle.execution_file.specs.Views.{as_recorded, hart_view};
 ghost use Rattle.execution_scripts.specs.Deeds.{deeds};
 ghost use Rattle.execution_scripts.specs.RunFiles.{IsFileOf, IsFileWith, is_flat};

@@ -1,7 +1,7 @@
 -- The execution of a file, as a debugger looks at it.
 use Rattle.std.specs.Prelude.{◌≡◌, ℕ, ◌*◌, length, slice_index}
 use Rattle.trace.specs.Traced.{opening_at}
-use Rattle.machine.specs.Guests.{Guest}
+use Rattle.guest_rounds.specs.Guests.{Guest}
 use Rattle.execution_checker.specs.Allowed.{Allows}
 use Rattle.execution_file.specs.Recorded.{Recorded}
 use Rattle.execution_scripts.specs.Findings.{guest_in, start_of}

@@ -1,7 +1,7 @@
 ghost use Rattle.std.specs.Prelude.{◌≡◌, ◌∷◌, [], ◌++◌, ◌≤◌, length, IfOk, OnOk};
 ghost use Rattle.hart_step.specs.CodeTables.{Shows};
-ghost use Rattle.machine.specs.Guests.{opening_guest};
-ghost use Rattle.machine.specs.Machine.{opening_hart, opening_harts};
+ghost use Rattle.guest_rounds.specs.Guests.{opening_guest};
+ghost use Rattle.guest_rounds.specs.Opening.{opening_hart, opening_harts};
 ghost use Rattle.execution_scripts.specs.Findings.{start_of};
 
 use elf_loader::Image;

@@ -10,8 +10,8 @@ use Rattle.hart_step.specs.declared.hart.Hart.{Hart}
 use Rattle.hart_step.specs.declared.hart.Stop.{Stop}
 use Rattle.hunter.specs.Hunts.{ending_of_stop}
 use Rattle.hunter.specs.declared.settings.HuntSettings.{HuntSettings}
-use Rattle.machine.specs.Machine.{opening_harts}
-use Rattle.machine.specs.Settings.{image_of}
+use Rattle.guest_rounds.specs.Opening.{opening_harts}
+use Rattle.run_settings.specs.Settings.{image_of}
 use Rattle.plan_hunt.specs.Endings.{ends_well}
 use Rattle.weak_executions.specs.AllowedEnds.{IsAllowedEnd}
 

@@ -2,8 +2,8 @@
 use Rattle.std.specs.Prelude.{◌≡◌, ℕ, ◌+◌, ◌<◌, ◌≤◌, ◌^◌, Bool, true, false, if◌then◌else◌, List, ◌++◌, slice_get, Option, Some, None, option_map, is_some, IfSome}
 use Rattle.hart_step.specs.declared.hart.Hart.{Hart}
 use Rattle.machine.specs.Machine.{Running}
-use Rattle.machine.specs.declared.settings.Format.{Format}
-use Rattle.machine.specs.declared.settings.Format.TheVariants.{Elf, Flat}
+use Rattle.run_settings.specs.declared.settings.Format.{Format}
+use Rattle.run_settings.specs.declared.settings.Format.TheVariants.{Elf, Flat}
 use Rattle.machine.specs.Untraced.{IsUntraced}
 use Rattle.moments.specs.Sights.{Sight}
 use Rattle.round_schedule.specs.declared.event.Phase.TheVariants.{Parallel}

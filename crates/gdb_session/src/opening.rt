@@ -1,6 +1,6 @@
 ghost use Rattle.std.specs.Prelude.{◌≡◌, ◌≤◌, IfOk};
 ghost use Rattle.machine.specs.Machine.{opening};
-ghost use Rattle.machine.specs.Settings.{IsPlan, image_for};
+ghost use Rattle.run_settings.specs.Settings.{IsPlan, image_for};
 ghost use Rattle.machine.specs.Untraced.{IsUntraced};
 ghost use Rattle.round_planner.specs.Quotas.{Planned};
 ghost use Rattle.gdb_session.specs.Serving.{begun};

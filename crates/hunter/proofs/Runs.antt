@@ -10,7 +10,7 @@ use Rattle.run_loops.specs.Forgetting.{uncounted}
 use Rattle.hunt_table.specs.declared.seen_range.SeenRange.{SeenRange}
 use Rattle.loop_finder.specs.Finding.{IsLike, is_round, loops_in, some_run}
 use Rattle.machine.specs.Machine.{Running, after_rounds, opening}
-use Rattle.machine.specs.Settings.{image_of}
+use Rattle.run_settings.specs.Settings.{image_of}
 use Rattle.machine.specs.Untraced.{IsUntraced, Untraced}
 use Rattle.round_planner.specs.Quotas.{Planned}
 use Rattle.plan_family.specs.Families.{family_plan}

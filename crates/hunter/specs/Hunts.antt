@@ -9,7 +9,7 @@ use Rattle.hart_step.specs.declared.hart.Stop.{Stop}
 use Rattle.host_io.specs.declared.error.RunError.TheVariants as refusals
 use Rattle.loop_finder.specs.Finding.{is_round}
 use Rattle.machine.specs.Machine.{Running, after_rounds, opening}
-use Rattle.machine.specs.Settings.{StandsIn, image_of}
+use Rattle.run_settings.specs.Settings.{StandsIn, image_of}
 use Rattle.round_planner.specs.Quotas.{Planned}
 use Rattle.plan_family.specs.declared.family.Family.{Family}
 use Rattle.plan_family.specs.Families.{family_plan}

@@ -2,7 +2,7 @@ ghost use Rattle.std.specs.Prelude.{◌≡◌, ◌⊎◌, ◌+◌, ◌≤◌, �
 ghost use Rattle.host_io.specs.declared.load_error.LoadError.{LoadError as ImageCause};
 ghost use Rattle.host_io.specs.declared.error.RunError.TheVariants as refusals;
 ghost use Rattle.machine.specs.Machine.{Running, opening};
-ghost use Rattle.machine.specs.Settings.{image_of};
+ghost use Rattle.run_settings.specs.Settings.{image_of};
 ghost use Rattle.machine.specs.Untraced.{IsUntraced};
 ghost use Rattle.hunter.specs.Hunts.{IsGuest, IsImageCause, ended_of, ending_by, ending_of_stop, family_of, seen_of};
 

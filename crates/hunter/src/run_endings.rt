@@ -1,7 +1,7 @@
 ghost use Rattle.std.specs.Prelude.{◌≡◌, None, IfErr, IfOk};
 ghost use Rattle.round_planner.specs.Quotas.{Planned};
 ghost use Rattle.machine.specs.Machine.{opening};
-ghost use Rattle.machine.specs.Settings.{IsPlan, IsReason, RefusedInOrder, image_for, settings_fault};
+ghost use Rattle.run_settings.specs.Settings.{IsPlan, IsReason, RefusedInOrder, image_for, settings_fault};
 ghost use Rattle.hunter.specs.Hunts.{run_endings};
 
 use crate::guest::stops_by;

@@ -1,9 +1,5 @@
 -- A machine before the first round.
-use Rattle.std.proofs.Common.{◌≡◌, ℕ, zero, suc, ◌*◌, true, List, [], length, All, arith, get_or, replicate, Option, None, refl, sym, ap, subst, ◌∙◌}
-use Rattle.pages.specs.declared.access.Piece.{Piece}
-use Rattle.pages.specs.declared.access.Range.{Range}
-use Rattle.pages.specs.Initial.{initial, bytes_from}
-use Rattle.pages.specs.Paged.{Paged}
+use Rattle.std.proofs.Common.{◌≡◌, ℕ, zero, suc, true, List, [], All, arith, get_or, replicate, Option, None, refl, sym, ap, subst, ◌∙◌}
 use Rattle.round_schedule.specs.declared.span.Span.{Span}
 use Rattle.round_schedule.specs.Held.{held}
 use Rattle.round_schedule.specs.Tables.{Tied, entry}
@@ -12,15 +8,12 @@ use Rattle.hart_step.specs.declared.hart.Hart.{Hart}
 use Rattle.hart_step.specs.Stops.{has_stop}
 use Rattle.round_planner.specs.Quotas.{Planned}
 use Rattle.elf_loader.specs.Image.{Loaded}
-use Rattle.machine.specs.Guests.{Guest, opening_guest}
-use Rattle.machine.specs.Machine.{opening, opening_hart, opening_harts}
+use Rattle.guest_rounds.specs.Guests.{Guest, opening_guest}
+use Rattle.machine.specs.Machine.{opening}
+use Rattle.guest_rounds.specs.Opening.{opening_hart, opening_harts}
 use Rattle.machine.specs.Untraced.{IsUntraced, untraced_of}
-use Rattle.machine.proofs.TraceKept.{placed_first}
+use Rattle.guest_rounds.proofs.TraceKept.{placed_first}
 use Rattle.machine.proofs.UntracedRounds.{no_trace}
-
-pub length-opening : (e n i k : ℕ) → length (opening_harts e n i k) ≡ k
-length-opening e n i zero = refl
-length-opening e n i (suc k) = ap suc (length-opening e n (suc i) k)
 
 none_held : (h : ℕ) → None ≡ held h []
 unfolding held
@@ -33,14 +26,6 @@ none_at (suc n) (suc h) = none_at n h
 
 pub tied_first : (n : ℕ) (table : List (Option Span)) → table ≡ replicate n None → Tied table []
 tied_first n table e = record { each = λ h low. ap (λ (t : List (Option Span)). entry t h) e ∙ none_at n h ∙ none_held h }
-
-pub initial_bytes : (count : ℕ) (pieces : List Piece) (code : List Range) (p : Paged) → p ≡ initial count pieces code → p.memory.bytes ≡ bytes_from pieces 0 (4096 * count)
-unfolding initial
-initial_bytes count pieces code p e = ap (λ (q : Paged). q.memory.bytes) e
-
-pub initial_code : (count : ℕ) (pieces : List Piece) (code : List Range) (p : Paged) → p ≡ initial count pieces code → p.memory.code ≡ code
-unfolding initial
-initial_code count pieces code p e = ap (λ (q : Paged). q.memory.code) e
 
 pub none_stopped : (e n i k : ℕ) → All (λ (h : Hart). has_stop h.stop ≡ true) (opening_harts e n i k)
 none_stopped e n i zero = λ j d l. absurd (omega (arith, l))

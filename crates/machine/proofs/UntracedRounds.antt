@@ -1,5 +1,5 @@
 -- Rounds of a machine that keeps no trace.
-use Rattle.std.proofs.Common.{◌≡◌, ℕ, zero, suc, ◌+◌, ◌-◌, ◌*◌, ◌^◌, ◌<◌, ◌≤◌, List, [], ◌++◌, length, All, refl, sym, ap, ◌∙◌, subst, arith, append_assoc, append-nil, length-append, Result, Ok, Err, OnOk, OnErr}
+use Rattle.std.proofs.Common.{◌≡◌, ℕ, zero, suc, ◌+◌, ◌-◌, ◌*◌, ◌^◌, ◌<◌, ◌≤◌, List, [], ◌++◌, length, All, refl, sym, ap, ◌∙◌, subst, arith, append_assoc, append-nil, length-append}
 use Rattle.std.proofs.lemmas.List.{get_or-append-add}
 use Rattle.pages.specs.declared.access.Range.{Range}
 use Rattle.pages.specs.Memory.{IsBytes}
@@ -23,14 +23,14 @@ use Rattle.hart_step.proofs.Stopping.{stops_fit}
 use Rattle.hart_step.proofs.Soundness.{counts_done, sound}
 use Rattle.trace.specs.Traced.{HasForm, IsTrace}
 use Rattle.trace.proofs.RunForms.{round_leaves_trace}
-use Rattle.machine.specs.Guests.{Guest, guest_events, next_guest}
-use Rattle.machine.specs.Held.{most_of_round}
+use Rattle.guest_rounds.specs.Guests.{Guest, guest_events, next_guest}
+use Rattle.guest_rounds.specs.Held.{most_of_round}
 use Rattle.machine.specs.Machine.{Running, after_round, after_rounds, count_stopped}
-use Rattle.machine.specs.Untraced.{HasRun, IsUntraced, MayGoOn, RanFor, Untraced, next_events, next_of, tabled_of, untraced_of, untraced_round}
+use Rattle.machine.specs.Untraced.{HasRun, IsUntraced, MayGoOn, Untraced, next_events, next_of, tabled_of, untraced_of, untraced_round}
 use Rattle.machine.proofs.Repeated.{more_rounds, next_round, no_rounds, passed}
-use Rattle.machine.proofs.RoundDone.{only_added, rounds_next, traced_parts, whole}
+use Rattle.guest_rounds.proofs.RoundDone.{only_added, rounds_next, traced_parts, whole}
 use Rattle.machine.proofs.SizeKept.{size_kept}
-use Rattle.machine.proofs.TraceKept.{low_quotas, placed_more}
+use Rattle.guest_rounds.proofs.TraceKept.{low_quotas, placed_more}
 
 -- the machine of a run with these events
 abbrev pub with_events : Untraced → List Event → List ℕ → Running
@@ -172,16 +172,6 @@ kept_on k u v a b c x f = record {
   run = x.run;
   events = λ m es i kept. let all = x.events m es i kept in (all.0, all.1, f (es ++ all.0) all.2);
 }
-
--- rounds after rounds that were done or refused
-module _ {A E : Type 0} where
-  pub ran_ok : (r : Result A E) (k m n : ℕ) (u v w : Untraced) (a b c : List Event → Type 0) → HasRun k u v a b → RanFor r m v w b c → k + m ≡ n → OnOk r (HasRun n u w a c)
-  ran_ok (Ok x) k m n u v w a b c h ran e = subst (λ (j : ℕ). HasRun j u w a c) e (then_run k m u v w a b c h ran)
-  ran_ok (Err x) k m n u v w a b c h ran e = tt
-
-  pub ran_fewer : (r : Result A E) (k m n : ℕ) (u v w : Untraced) (a b c : List Event → Type 0) → HasRun k u v a b → RanFor r m v w b c → k + m ≡ n → OnErr r ((j : ℕ) × (j < n) × HasRun j u w a c)
-  ran_fewer (Ok x) k m n u v w a b c h ran e = tt
-  ran_fewer (Err x) k m n u v w a b c h ran e = (k + ran.0, omega (arith, ran.1, e), then_run k ran.0 u v w a b c h ran.2)
 
 -- one round is a round
 pub one_round : (m : Running) → after_round m ≡ after_rounds 1 m

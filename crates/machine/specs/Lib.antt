@@ -1,13 +1,6 @@
-pub mod HartEnds
 pub mod Kept
-pub mod Keepers
 pub mod Machine
-pub mod Guests
 pub mod Held
-pub mod Rounds
-pub mod Settings
-pub mod Asked
-pub mod NumberAsked
-pub mod TurnHarts
-pub mod TabledTurnHarts
+pub mod Runs
 pub mod Untraced
+pub mod Walks

@@ -14,8 +14,8 @@ use Rattle.hart_step.specs.Console.{ConsoleState}
 use Rattle.hart_step.specs.Stops.{has_stop}
 use Rattle.hart_step.specs.Words.{words_of}
 use Rattle.trace.specs.Traced.{IsTrace, Traced, opening_at, opening_bytes}
-use Rattle.machine.specs.Guests.{Guest}
-use Rattle.machine.specs.Held.{most_of_round}
+use Rattle.guest_rounds.specs.Guests.{Guest}
+use Rattle.guest_rounds.specs.Held.{most_of_round}
 use Rattle.machine.specs.Machine.{Running, after_rounds, opening}
 
 -- the harts, the bytes, the console, the harts' reservations, how many events the trace would have, how many rounds were

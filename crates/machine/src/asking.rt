@@ -10,20 +10,16 @@ ghost use Rattle.machine.specs.Machine.{Running};
 ghost use Rattle.seeing.specs.Bytes.{sight_of};
 ghost use Rattle.machine.specs.Untraced.{IsUntraced};
 
-use crate::asked_turn::{TurnPlace, ask_turn};
-use crate::crew::Crew;
-use crate::guest::GuestState;
 use crate::machine::Machine;
-use crate::parallel::parallel;
-use crate::running::{MANY_LINES, MOST_WORKERS};
+use crate::running::MOST_WORKERS;
 use crate::untraced::UntracedMachine;
+use guest_rounds::{Crew, MANY_LINES};
+use guest_turns::sight_in_round;
 use hart_rounds::LogForm;
 use hart_step::Hart;
 use host_io::RunError;
-use pages::OutOfMemory;
 use parallel_phase::Open;
 use seeing::Sight;
-use serial_phase::SharedState;
 use std::sync::Wait;
 use std::thread::Threads;
 
@@ -109,6 +105,8 @@ impl UntracedMachine {
         if self.rounds() == u32::MAX {
             return Err(RunError::RoundsExhausted);
         }
+        // At most 64.
+        let _harts = self.plan.harts();
         if hart as usize >= self.harts().len() {
             return Ok(None);
         }
@@ -119,7 +117,13 @@ impl UntracedMachine {
             least_lines: MANY_LINES,
             form: LogForm::Counted,
         };
-        Ok(self.ask(&crew, hart, count)?)
+        let UntracedMachine {
+            guest,
+            plan,
+            rounds,
+            ..
+        } = self;
+        Ok(sight_in_round(&crew, guest, &plan, rounds, hart, count)?)
     }
 
     /// What `hart_after` of `Machine` gives of the run of which this is the machine without its trace. It may wait.
@@ -148,79 +152,4 @@ impl UntracedMachine {
             None => Ok(None),
         }
     }
-
-    /// What a hart that there is sees, where there is a next round.
-    fn ask<R: Threads + Wait + Sync>(
-        self,
-        crew: &Crew<'_, Open, R>,
-        hart: u32,
-        count: u64,
-    ) -> Result<Option<Sight>, OutOfMemory>
-        requires workers { (1 ≤ crew.now.workers) × (crew.now.workers ≤ 16) }
-        requires rounds { self.rounds + 1 < 2 ^ 32 }
-        requires hart { hart < length self.harts }
-        requires run { (m : Running) × IsUntraced m self }
-        ensures { IfOk result (λ s. (m : Running) → IsUntraced m self →
-            s ≡ sight_after (words_of m.code) m.plan.budget (quotas_of m.plan) m.state hart count) }
-    {
-        // The types keep: bytes in memory, at most 64 harts with quotas in range, and a budget of at most 1,000.
-        self.guest.pages().bytes_fit();
-        let _harts = self.plan.harts();
-        let budget = self.plan.budget();
-        let UntracedMachine {
-            guest,
-            plan,
-            rounds,
-            ..
-        } = self;
-        let GuestState {
-            harts,
-            mut spare,
-            mut shared,
-        } = guest;
-        let before = harts[hart as usize];
-        let round = rounds + 1;
-        let ends = parallel(crew, &shared, &harts, &plan, round, &mut spare)?;
-        let parts = ends.as_slice();
-        let part = &parts[hart as usize];
-        let done = done_since(before, part.hart);
-        if count < done {
-            return Ok(Some(shorter_part(shared, before, count as u32)?));
-        }
-        if !part.waits {
-            if count > done {
-                return Ok(None);
-            }
-            let there = shorter_part(shared, before, count as u32)?;
-            return Ok(Some(there.with_hart(part.hart)));
-        }
-        if count - done > u64::from(budget) {
-            return Ok(None);
-        }
-        let place = TurnPlace {
-            hart,
-            round,
-            budget,
-            count: (count - done) as u32,
-        };
-        ask_turn(crew, &mut shared, parts, part.hart, place)
-    }
-}
-
-/// How many instructions a hart did from one time to another, by its count of them.
-fn done_since(before: Hart, after: Hart) -> u64
-    ensures count { result ≡ minus after.done before.done }
-    ensures fits { before.done < 2 ^ 64 }
-{
-    after.done.wrapping_sub(before.done)
-}
-
-/// What a hart sees after its part of the parallel phase, of so many instructions at most.
-fn shorter_part(shared: SharedState, hart: Hart, quota: u32) -> Result<Sight, OutOfMemory>
-    requires { Shows shared.pages.memory shared.code.first shared.code.instructions }
-    ensures { IfOk result (λ s. last_of (part_sights (words_of shared.pages.memory.code) quota
-        (sight_of hart shared.pages.memory)) ≡ Some s) }
-{
-    let SharedState { pages, code, .. } = shared;
-    Sight::after_part(pages, &code, hart, quota)
 }

@@ -2,9 +2,9 @@ ghost use Rattle.std.specs.Prelude.{◌≡◌, IfOk, IfErr};
 ghost use Rattle.host_io.specs.declared.error.RunError.TheVariants as refusals;
 ghost use Rattle.machine.specs.Untraced.{IsUntraced, untraced_of};
 
-use crate::guest::GuestState;
 use crate::machine::Machine;
 use crate::untraced::UntracedMachine;
+use guest_rounds::GuestState;
 use host_io::RunError;
 
 impl Machine {

@@ -1,4 +1,8 @@
+ghost use Rattle.machine.specs.Walks.{HasStopped};
+
 use crate::untraced::UntracedMachine;
+use crate::visiting::{Next, Visitor};
+use pages::OutOfMemory;
 
 /// Whoever looks at a run between its rounds.
 ///
@@ -14,4 +18,27 @@ pub struct Unobserved;
 
 impl Observer for Unobserved {
     fn after_round(&mut self, _machine: &UntracedMachine) {}
+}
+
+/// Shows each round to an observer, until no hart runs.
+#[derive(Drop)]
+pub(crate) struct Observing<'a, O> {
+    pub(crate) observer: &'a mut O,
+}
+
+impl<'a, O: Observer> Visitor for Observing<'a, O> {
+    ghost knows = { λ first v start rounds done. Unit {0} };
+
+    ghost has_enough = { λ v u. HasStopped u };
+
+    ghost may_fail = { ⊥ };
+
+    fn after_round(&mut self, machine: &UntracedMachine) -> Result<Next, OutOfMemory> {
+        self.observer.after_round(machine);
+        if machine.running_harts() == 0 {
+            Ok(Next::Enough)
+        } else {
+            Ok(Next::Round)
+        }
+    }
 }

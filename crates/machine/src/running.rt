@@ -3,11 +3,12 @@ ghost use Rattle.host_io.specs.declared.error.RunError.TheVariants as refusals;
 ghost use Rattle.round_schedule.specs.Schedule.{hart_rounds};
 ghost use Rattle.round_planner.specs.Quotas.{quotas_of};
 ghost use Rattle.hart_step.specs.Words.{words_of};
-ghost use Rattle.machine.specs.Machine.{after_round, after_rounds, count_stopped, count_waiting};
+ghost use Rattle.machine.specs.Machine.{after_round, after_rounds, count_stopped};
+ghost use Rattle.guest_rounds.specs.Rounds.{count_waiting};
 
-use crate::crew::Crew;
 use crate::machine::Machine;
 use crate::observing::{Observer, Unobserved};
+use guest_rounds::Crew;
 use hart_rounds::LogForm;
 use hart_step::Hart;
 use host_io::RunError;
@@ -20,9 +21,6 @@ pub(crate) const MOST_WORKERS: u32 = 16;
 
 /// How many instructions are worth a worker: starting its thread takes about as long as they do.
 const WORTH_A_WORKER: u64 = 16_384;
-
-/// How many stored lines of 64 bytes are worth starting threads for at the commit.
-pub(crate) const MANY_LINES: usize = 16_384;
 
 /// What a round was.
 #[derive(Clone, Copy, Debug, PartialEq, Eq)]

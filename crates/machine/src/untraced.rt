@@ -5,8 +5,8 @@ ghost use Rattle.hart_step.specs.Stops.{has_stop};
 ghost use Rattle.machine.specs.Machine.{Running, opening};
 ghost use Rattle.machine.specs.Untraced.{IsUntraced};
 
-use crate::guest::GuestState;
 use elf_loader::Image;
+use guest_rounds::GuestState;
 use hart_step::Hart;
 use host_io::RunError;
 use pages::Pages;

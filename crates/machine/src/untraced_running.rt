@@ -6,19 +6,19 @@ ghost use Rattle.round_planner.specs.Quotas.{quotas_of};
 ghost use Rattle.hart_step.specs.Words.{words_of};
 ghost use Rattle.hart_rounds.specs.Starts.{keeps_log};
 ghost use Rattle.trace.specs.Traced.{IsTrace};
-ghost use Rattle.machine.specs.Machine.{count_stopped, count_waiting};
+ghost use Rattle.machine.specs.Machine.{count_stopped};
+ghost use Rattle.guest_rounds.specs.Rounds.{count_waiting};
 ghost use Rattle.machine.specs.Kept.{AreOfNext};
 ghost use Rattle.machine.specs.Untraced.{AreAdded, AreLast, HasRun, IsAfter, MayGoOn, next_events, untraced_round};
 
-use crate::crew::Crew;
-use crate::keeper::{EventKeeper, NoTrace};
-use crate::observing::{Observer, Unobserved};
-use crate::running::{MANY_LINES, MOST_WORKERS, RoundNote, stopped_count, workers_for};
+use crate::observing::{Observer, Observing, Unobserved};
+use crate::running::{MOST_WORKERS, RoundNote, stopped_count, workers_for};
 use crate::untraced::UntracedMachine;
+use guest_rounds::{Crew, EventKeeper, NoTrace};
 use hart_rounds::HartEnd;
 use host_io::RunError;
 use pages::OutOfMemory;
-use parallel_phase::{Gate, Open};
+use parallel_phase::Gate;
 use std::sync::Wait;
 use std::thread::Threads;
 use trace::Trace;
@@ -196,26 +196,15 @@ impl UntracedMachine {
             HasRun k self.old self.new (E.keeps keeper.old) (E.keeps keeper.new)) }
         ensures opening { E.opens_with keeper.new ≡ E.opens_with keeper.old }
     {
-        for done in 0..rounds {
-            if self.running_harts() == 0 {
-                self.pass(rounds - done);
-                return Ok(());
-            }
-            // One worker is never worth two: it is asked first for speed.
-            if workers > 1 && self.worth_workers(workers) > 1 {
-                let workers = workers.min(self.running_harts());
-                return self.run_kept(rt, rounds - done, workers, keeper, observer);
-            }
-            let crew = Crew {
-                rt,
-                workers: 1,
-                gate: &Open,
-                least_lines: MANY_LINES,
-                form: keeper.log_form(),
-            };
-            let ends = self.do_parallel(&crew)?;
-            self.end_round(&crew, keeper, ends)?;
-            observer.after_round(self);
+        if self.running_harts() == 0 {
+            self.pass(rounds);
+            return Ok(());
+        }
+        let mut observing = Observing { observer };
+        let done = self.walk_keeping(rt, rounds, workers, keeper, &mut observing)?;
+        if done < rounds {
+            self.pass(rounds - done);
+            return Ok(());
         }
         Ok(())
     }

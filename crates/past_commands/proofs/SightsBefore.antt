@@ -10,9 +10,9 @@ use Rattle.hart_step.specs.Console.{ConsoleState}
 use Rattle.hart_step.specs.Words.{words_of}
 use Rattle.hart_step.specs.declared.hart.Hart.{Hart}
 use Rattle.machine.proofs.Repeated.{next_round, no_rounds}
-use Rattle.machine.proofs.TraceKept.{placed_first, placed_more}
+use Rattle.guest_rounds.proofs.TraceKept.{placed_first, placed_more}
 use Rattle.machine.specs.Machine.{Running, after_rounds, opening}
-use Rattle.machine.specs.Settings.{image_of}
+use Rattle.run_settings.specs.Settings.{image_of}
 use Rattle.moments.proofs.Past.{harts_in, sights_past}
 use Rattle.moments.specs.Sights.{Sight, sight_after, sights_of}
 use Rattle.past_commands.specs.Answers.{IsSightBefore}

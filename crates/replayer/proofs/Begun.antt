@@ -7,7 +7,7 @@ use Rattle.host_io.specs.declared.plan_error.PlanError.TheVariants as causes
 use Rattle.round_planner.proofs.Unique.{unique}
 use Rattle.host_io.specs.declared.error.RunError.{RunError}
 use Rattle.host_io.specs.declared.error.RunError.TheVariants as refusals
-use Rattle.machine.specs.Settings.{RefusedAs, StandsIn, image_of, plan_of}
+use Rattle.run_settings.specs.Settings.{RefusedAs, StandsIn, image_of, plan_of}
 use Rattle.recording.specs.Recorded.{Recorded}
 use Rattle.replayer.specs.Past.{Begins}
 use Rattle.replayer.specs.Refusals.{HasImage, HasImageCause, HasPlanCause}

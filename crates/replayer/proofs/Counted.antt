@@ -6,7 +6,8 @@ use Rattle.round_schedule.proofs.PastEnds.{rounds_length}
 use Rattle.round_planner.specs.Quotas.{Planned, quotas_of}
 use Rattle.hart_step.specs.declared.hart.Hart.{Hart}
 use Rattle.hart_step.specs.Words.{words_of}
-use Rattle.machine.specs.Machine.{Running, after_round, after_rounds, opening, opening_hart, opening_harts}
+use Rattle.machine.specs.Machine.{Running, after_round, after_rounds, opening}
+use Rattle.guest_rounds.specs.Opening.{opening_hart, opening_harts}
 
 serial_keeps : {H C : Type 0} (w : Words H C) (budget i : ℕ) (rs : List (HartRound H)) (s : State H C) → (serial_from w budget i rs s).rounds ≡ s.rounds
 serial_keeps w budget i [] s = refl

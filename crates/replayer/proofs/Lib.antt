@@ -18,3 +18,5 @@ pub mod PlaceSought
 pub mod HitsAdded
 pub mod Located
 pub mod Refused
+pub mod Compared
+pub mod Recorded

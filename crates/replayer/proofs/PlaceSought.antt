@@ -1,22 +1,21 @@
 -- The round in which a hart does the instruction of a place, sought round after round.
-use Rattle.std.proofs.Common.{◌≡◌, ℕ, zero, suc, ◌+◌, ◌-◌, ◌<◌, ◌≤◌, inl, inr, slice_get, Option, Some, None, sym, ap, subst, ◌∙◌, arith}
+use Rattle.std.proofs.Common.{◌≡◌, ℕ, zero, suc, ◌+◌, ◌-◌, ◌<◌, ◌≤◌, inl, inr, slice_get, Option, Some, None, is_some as has, true, false, refl, sym, ap, subst, ◌∙◌, arith}
+use Rattle.std.specs.Prelude.{◌⊎◌, ◌^◌}
 use Rattle.std.proofs.lemmas.Bool.{cases_lt}
 use Rattle.hart_step.specs.declared.hart.Hart.{Hart}
 use Rattle.machine.specs.Machine.{Running, after_rounds}
-use Rattle.machine.proofs.Repeated.{no_rounds}
-use Rattle.round_planner.specs.Quotas.{Planned}
-use Rattle.recording.specs.Recorded.{Recorded}
+use Rattle.machine.specs.Untraced.{IsUntraced, Untraced}
+use Rattle.machine.specs.Walks.{HasDone}
+use Rattle.machine.proofs.Repeated.{more_rounds, no_rounds}
+use Rattle.machine.proofs.Walked.{none_done}
+use Rattle.round_schedule.specs.Past.{hart_after}
+use Rattle.round_planner.specs.Quotas.{quotas_of}
+use Rattle.hart_step.specs.Words.{words_of}
 use Rattle.event_pcs.specs.Pcs.{hart_at}
 use Rattle.replayer.specs.Past.{Begins, IsBefore, IsRoundOf, IsStateBefore}
-use Rattle.replayer.specs.Replayed.{IsPlanFor, start_of}
-use Rattle.replayer.proofs.Begun.{one_plan}
+use Rattle.replayer.specs.Visits.{HasSought, IsBehind, IsSoFar}
 use Rattle.event_pcs.proofs.RoundsAt.{after_last, from_before}
-use Rattle.replayer.proofs.RoundCount.{OneRound, hart_in, none_before}
-
--- the hart did so many instructions in so many rounds, and none of them is the one of the place
-pub record IsSoFar (rounds : ℕ) (m : Running) (hart place done before : ℕ) : Type 0 where
-  pub here : (h : Hart) → slice_get (after_rounds done m).state.harts hart ≡ Some h → before ≡ h.done
-  pub none_yet : (round count : ℕ) (h : Hart) → round ≤ done → IsBefore rounds m hart place round count h → ⊥
+use Rattle.replayer.proofs.RoundCount.{OneRound, hart_in, none_before, one_round, reads_after}
 
 abbrev there : Hart → Option Hart
 there h = Some h
@@ -94,17 +93,99 @@ pub somewhere : (rounds n : ℕ) (m : Running) (hart place round count : ℕ) (x
 somewhere rounds n m hart place round count x same e b =
     subst (λ (k : ℕ). IsRoundOf k m hart place (Some (round, count))) same (subst (λ (y : Option (ℕ × ℕ)). IsRoundOf n m hart place y) e b)
 
--- what is at that place of the run by another reading of its plan
-same_hart : (r : Recorded) (plan other : Planned) (hart place round count : ℕ) (found : Option Hart) (b : (h : Hart) × IsBefore r.rounds (start_of r plan) hart place round count h) → IsPlanFor r plan → IsPlanFor r other →
-    found ≡ hart_at r.rounds (start_of r other) round hart count → found ≡ Some b.0
-same_hart r plan other hart place round count found b is also e =
-    e ∙ ap (λ (p : Planned). hart_at r.rounds (start_of r p) round hart count) (one_plan r other plan also is) ∙ b.1.here
+-- what the hart was there
+pub is_found : (rounds : ℕ) (m : Running) (hart place round count : ℕ) (found : Option Hart) (b : (h : Hart) × IsBefore rounds m hart place round count h) → found ≡ hart_at rounds m round hart count →
+    (h : Hart) → found ≡ Some h → IsBefore rounds m hart place round count h
+is_found rounds m hart place round count found b e h at = subst (IsBefore rounds m hart place round count) (some_is b.0 h (sym b.1.here ∙ sym e ∙ at)) b.1
 
-pub is_found : (r : Recorded) (plan other : Planned) (hart place round count : ℕ) (found : Option Hart) (b : (h : Hart) × IsBefore r.rounds (start_of r plan) hart place round count h) → IsPlanFor r plan → IsPlanFor r other →
-    found ≡ hart_at r.rounds (start_of r other) round hart count → (h : Hart) → found ≡ Some h → IsBefore r.rounds (start_of r plan) hart place round count h
-is_found r plan other hart place round count found b is also e h at =
-    subst (IsBefore r.rounds (start_of r plan) hart place round count) (some_is b.0 h (sym (same_hart r plan other hart place round count found b is also e) ∙ at)) b.1
+pub is_not_lost : (rounds : ℕ) (m : Running) (hart place round count : ℕ) (found : Option Hart) (b : (h : Hart) × IsBefore rounds m hart place round count h) → found ≡ hart_at rounds m round hart count → found ≡ None → ⊥
+is_not_lost rounds m hart place round count found b e lost = is_some b.0 (sym b.1.here ∙ sym e ∙ lost)
 
-pub is_not_lost : (r : Recorded) (plan other : Planned) (hart place round count : ℕ) (found : Option Hart) (b : (h : Hart) × IsBefore r.rounds (start_of r plan) hart place round count h) → IsPlanFor r plan → IsPlanFor r other →
-    found ≡ hart_at r.rounds (start_of r other) round hart count → found ≡ None → ⊥
-is_not_lost r plan other hart place round count found b is also e lost = is_some b.0 (sym (same_hart r plan other hart place round count found b is also e) ∙ lost)
+-- ---- round after round
+
+pub none_sought : (hart place : ℕ) (last start : Untraced) (rounds : ℕ) → start.rounds ≡ 0 → rounds < 2 ^ 32 → last ≡ start → HasSought hart place 0 None last start rounds 0
+none_sought hart place last start rounds e few same = record {
+  opened = e;
+  fit = few;
+  low = omega arith;
+  there = (start, none_done start);
+  behind =
+      let first : 0 ≡ start.rounds = sym e in
+      subst (λ (u : Untraced). IsBehind start u 0 None) (sym same) (subst (λ (k : ℕ). HasDone k start start) first (none_done start), omega (arith, e));
+  sought = λ m i b. at_first rounds m hart place b;
+}
+
+-- once it was found
+pub still_found : (hart place before : ℕ) (found : Option (ℕ × ℕ)) (last start now : Untraced) (rounds done : ℕ) → has found ≡ true → HasDone (done + 1) start now → HasSought hart place before found last start rounds done →
+    HasSought hart place before found last start rounds (done + 1)
+still_found hart place before None last start now rounds done some d h = absurd cc
+still_found hart place before (Some x) last start now rounds done some d h = record {
+  opened = h.opened;
+  fit = h.fit;
+  low = h.low;
+  there = (now, d);
+  behind = (h.behind.0, h.behind.1, omega (arith, h.behind.2));
+  sought = h.sought;
+}
+
+-- it is found in this round
+pub found_here : (hart place before after n k : ℕ) (found : Option (ℕ × ℕ)) (last start now : Untraced) (rounds done : ℕ) → has found ≡ false → done < rounds → place < after → n ≡ now.rounds → k ≡ place - before →
+    ((h : Hart) → slice_get now.harts hart ≡ Some h → after ≡ h.done) → HasDone (done + 1) start now → HasSought hart place before found last start rounds done →
+    HasSought hart place before (Some (n, k)) last start rounds (done + 1)
+found_here hart place before after n k (Some x) last start now rounds done none few over en ek reads d h = absurd cc
+found_here hart place before after n k None last start now rounds done none few over en ek reads d h =
+    let number : done + 1 ≡ n = omega (arith, d.rounds, h.opened, en) in
+    record {
+      opened = h.opened;
+      fit = h.fit;
+      low = h.low;
+      there = (now, d);
+      behind = (h.behind.0, omega (arith, h.behind.1, number), omega (arith, number));
+      sought = λ m i b.
+          let o = one_round m done hart h.there.0 b (h.there.1.run m i) (omega (arith, few, h.fit)) in
+          subst (λ (j : ℕ). IsRoundOf rounds m hart place (Some (n, j))) (sym ek)
+          (subst (λ (j : ℕ). IsRoundOf rounds m hart place (Some (j, place - before))) number
+          (is_there rounds m hart place done before after o few (reads_after m done hart now o after (d.run m i) reads) h.low over (h.sought m i b)));
+    }
+
+-- it isn't found in this round; the machine is kept, or the one that was kept stays
+pub not_here : (hart place before after : ℕ) (found : Option (ℕ × ℕ)) (last next start now : Untraced) (rounds done : ℕ) → has found ≡ false → done < rounds → after ≤ place →
+    ((h : Hart) → slice_get now.harts hart ≡ Some h → after ≡ h.done) → (next ≡ last) ⊎ (next ≡ now) → HasDone (done + 1) start now → HasSought hart place before found last start rounds done →
+    HasSought hart place after found next start rounds (done + 1)
+not_here hart place before after (Some x) last next start now rounds done none few passed reads kept d h = absurd cc
+not_here hart place before after None last next start now rounds done none few passed reads kept d h =
+    let number : done + 1 ≡ now.rounds = omega (arith, d.rounds, h.opened) in
+    record {
+      opened = h.opened;
+      fit = h.fit;
+      low = passed;
+      there = (now, d);
+      behind = elim kept [
+        | inl same ↦ subst (λ (u : Untraced). IsBehind start u (done + 1) None) (sym same) (h.behind.0, omega (arith, h.behind.1))
+        | inr same ↦ subst (λ (u : Untraced). IsBehind start u (done + 1) None) (sym same) (subst (λ (k : ℕ). HasDone k start now) number d, omega (arith, number))
+      ];
+      sought = λ m i b.
+          let o = one_round m done hart h.there.0 b (h.there.1.run m i) (omega (arith, few, h.fit)) in
+          at_next rounds m hart place done before after o few (reads_after m done hart now o after (d.run m i) reads) passed (h.sought m i b);
+    }
+
+-- all rounds, or the one that was sought
+pub sought_all : (hart place before : ℕ) (found : Option (ℕ × ℕ)) (last start : Untraced) (rounds done : ℕ) (m : Running) → HasSought hart place before found last start rounds done → (done ≡ rounds) ⊎ (found ≡ None → ⊥) →
+    IsUntraced m start → Begins m hart → IsRoundOf rounds m hart place found
+sought_all hart place before (Some x) last start rounds done m h ended i b = h.sought m i b
+sought_all hart place before None last start rounds done m h (inl e) i b = is_nowhere rounds m hart place done before (omega (arith, e)) (h.sought m i b)
+sought_all hart place before None last start rounds done m h (inr some) i b = absurd (some refl)
+
+pub behind_all : (start last : Untraced) (rounds done : ℕ) (found : Option (ℕ × ℕ)) → done ≤ rounds → IsBehind start last done found → IsBehind start last rounds found
+behind_all start last rounds done None few h = (h.0, omega (arith, h.1, few))
+behind_all start last rounds done (Some x) few h = (h.0, h.1, omega (arith, h.2, few))
+
+pub behind_found : (start last : Untraced) (rounds : ℕ) (found : Option (ℕ × ℕ)) (x : ℕ × ℕ) → found ≡ Some x → IsBehind start last rounds found → HasDone last.rounds start last × (last.rounds < x.0) × (x.0 ≤ rounds)
+behind_found start last rounds found x e h = subst (IsBehind start last rounds) e h
+
+-- what is asked of the machine that was kept is asked of the run
+pub asked_there : (rounds between : ℕ) (m : Running) (last : Untraced) (round hart count : ℕ) (found : Option Hart) → 1 ≤ round → round ≤ rounds → last.rounds + between ≡ round - 1 →
+    found ≡ hart_in (after_rounds last.rounds m) between hart count → found ≡ hart_at rounds m round hart count
+asked_there rounds between m last round hart count found some few all e =
+    e ∙ ap (λ (r : Running). hart_after (words_of r.code) r.plan.budget (quotas_of r.plan) r.state hart count) (more_rounds last.rounds between m ∙ ap (λ (k : ℕ). after_rounds k m) all)
+    ∙ from_before rounds m (after_rounds (round - 1) m) round hart count some few refl

@@ -1,5 +1,6 @@
 -- What a hart does in one round of a run.
-use Rattle.std.proofs.Common.{◌≡◌, ℕ, zero, suc, ◌+◌, ◌-◌, ◌*◌, ◌%◌, ◌^◌, ◌<◌, ◌≤◌, Bool, true, false, nat_lt, if◌then◌else◌, List, [], ◌∷◌, length, slice_get, slice_index, Option, Some, None, All, refl, sym, ap, subst, ◌∙◌, arith}
+use Rattle.std.proofs.Common.{◌≡◌, ℕ, zero, suc, ◌+◌, ◌-◌, ◌*◌, ◌%◌, ◌^◌, ◌<◌, ◌≤◌, Bool, true, false, nat_lt, if◌then◌else◌, List, [], ◌∷◌, length, slice_get, slice_index, Option, Some, None, All, inl, inr, refl, sym, ap, subst, ◌∙◌, arith}
+use Rattle.std.specs.Prelude.{◌⊎◌}
 use Rattle.hart_step.specs.declared.hart.Hart.{Hart}
 use Rattle.hart_step.specs.Console.{ConsoleState}
 use Rattle.hart_step.specs.Words.{words_of}
@@ -9,9 +10,12 @@ use Rattle.round_schedule.specs.Past.{hart_after, last_of, past_of}
 use Rattle.round_schedule.proofs.PastEnds.{no_past, past_ends}
 use Rattle.machine.specs.Machine.{Running, after_rounds}
 use Rattle.machine.specs.Untraced.{IsUntraced, Untraced}
+use Rattle.machine.specs.Walks.{HasDone}
 use Rattle.machine.proofs.Repeated.{next_round}
+use Rattle.machine.proofs.Walked.{none_done}
 use Rattle.event_pcs.specs.Pcs.{hart_at}
 use Rattle.replayer.specs.Past.{Begins, IsBefore, IsCountAt}
+use Rattle.replayer.specs.Visits.{HasCounted, IsRead}
 use Rattle.replayer.proofs.Counted.{harts_after, rounds_after}
 use Rattle.event_pcs.proofs.RoundsAt.{from_before}
 use Rattle.replayer.proofs.PastDone.{Past, past_rises}
@@ -144,3 +148,36 @@ reads_before m n hart u o read i reads = reads o.before (ap (λ (hs : List Hart)
 
 pub reads_after : (m : Running) (n hart : ℕ) (u : Untraced) (o : OneRound m n hart) (read : ℕ) → IsUntraced (after_rounds (n + 1) m) u → ((h : Hart) → slice_get u.harts hart ≡ Some h → read ≡ h.done) → read ≡ o.after.done
 reads_after m n hart u o read i reads = reads o.after (ap (λ (hs : List Hart). slice_get hs hart) i.harts ∙ o.at_after)
+
+-- ---- read round after round
+
+pub none_counted : (hart before after : ℕ) (start : Untraced) → ((h : Hart) → slice_get start.harts hart ≡ Some h → after ≡ h.done) → HasCounted hart before after start 0
+none_counted hart before after start reads = ((start, none_done start, reads), λ some. absurd (omega (arith, some)))
+
+pub counted_next : (hart before after next : ℕ) (start now : Untraced) (done : ℕ) → HasCounted hart before after start done → HasDone (done + 1) start now →
+    ((h : Hart) → slice_get now.harts hart ≡ Some h → next ≡ h.done) → HasCounted hart after next start (done + 1)
+counted_next hart before after next start now done x d reads =
+    let less : done ≡ done + 1 - 1 = omega arith in
+    ((now, d, reads), λ some. subst (IsRead hart after start) less x.0)
+
+-- what was read before a round and after it
+pub record Readings (m : Running) (round hart before after : ℕ) : Type 0 where
+  pub one : OneRound m (round - 1) hart
+  pub first : before ≡ one.before.done
+  pub last : after ≡ one.after.done
+
+pub readings : (m : Running) (round hart before after : ℕ) (start : Untraced) → Begins m hart → IsUntraced m start → 1 ≤ round → round < 2 ^ 32 → HasCounted hart before after start round → Readings m round hart before after
+readings m round hart before after start b i some few x =
+    let y = x.1 some in
+    let o = one_round m (round - 1) hart y.0 b (y.1.run m i) (omega (arith, few)) in
+    let all : round ≡ round - 1 + 1 = omega (arith, some) in
+    record {
+      one = o;
+      first = reads_before m (round - 1) hart y.0 o before (y.1.run m i) y.2;
+      last = reads_after m (round - 1) hart x.0.0 o after (subst (λ (k : ℕ). IsUntraced (after_rounds k m) x.0.0) all (x.0.1.run m i)) x.0.2;
+    }
+
+pub all_read : (m : Running) (round hart done : ℕ) (start : Untraced) (before after : ℕ) → Begins m hart → IsUntraced m start → 1 ≤ round → round < 2 ^ 32 → (done ≡ round) ⊎ ⊥ → HasCounted hart before after start done →
+    Readings m round hart before after
+all_read m round hart done start before after b i some few (inl e) x = readings m round hart before after start b i some few (subst (HasCounted hart before after start) e x)
+all_read m round hart done start before after b i some few (inr no_end) x = absurd no_end

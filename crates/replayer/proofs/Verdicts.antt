@@ -1,16 +1,12 @@
 -- The verdict on the rounds so far.
-use Rattle.std.proofs.Common.{◌≡◌, ℕ, ◌+◌, ◌<◌, ◌≤◌, List, length, subst, sym, arith}
+use Rattle.std.proofs.Common.{◌≡◌, ℕ, ◌+◌, List, length, subst, sym, arith}
 use Rattle.machine.specs.Machine.{Running}
 use Rattle.recording.specs.Recorded.{Kept}
 use Rattle.replayer.specs.declared.verdict.Verdict.{Verdict}
 use Rattle.replayer.specs.declared.verdict.Verdict.TheVariants.{Same, Differs}
 use Rattle.replayer.specs.Replayed.{Agrees, IsNextVerdict, IsVerdictOn}
+use Rattle.replayer.specs.Visits.{IsVerdictUpTo}
 use Rattle.replayer.proofs.First.{up_to}
-
--- the first of n rounds after which the run from m has not the state that was kept, or that there is none
-abbrev pub IsVerdictUpTo : List Kept → ℕ → Running → ℕ → Verdict → Type 0
-IsVerdictUpTo ks every m n Same = (j : ℕ) → 1 ≤ j → j ≤ n → Agrees ks every m j
-IsVerdictUpTo ks every m n (Differs k) = (1 ≤ k) × (k ≤ n) × ((j : ℕ) → 1 ≤ j → j < k → Agrees ks every m j) × (Agrees ks every m k → ⊥)
 
 pub up_to_next : (ks : List Kept) (every : ℕ) (m : Running) (n : ℕ) (P : Type 0) (v w : Verdict) → (P → Agrees ks every m (n + 1)) → ((P → ⊥) → Agrees ks every m (n + 1) → ⊥) →
     IsVerdictUpTo ks every m n v → IsNextVerdict v P (n + 1) w → IsVerdictUpTo ks every m (n + 1) w

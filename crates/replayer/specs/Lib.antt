@@ -4,3 +4,4 @@ pub mod Refusals
 pub mod Hits
 pub mod Past
 pub mod Checkpoints
+pub mod Visits

@@ -1,5 +1,5 @@
 -- What a hart was and saw within a round of a run, how many instructions it did in it, and in which round it did one of its instructions.
-use Rattle.std.specs.Prelude.{◌≡◌, ℕ, zero, suc, ◌+◌, ◌-◌, ◌<◌, ◌≤◌, nat_lt, if◌then◌else◌, length, slice_get, slice_index, Option, Some, None}
+use Rattle.std.specs.Prelude.{◌≡◌, ℕ, zero, suc, ◌+◌, ◌<◌, ◌≤◌, nat_lt, if◌then◌else◌, length, slice_get, slice_index, Option, Some, None}
 use Rattle.moments.specs.Sights.{Sight, sight_after}
 use Rattle.round_planner.specs.Quotas.{quotas_of}
 use Rattle.hart_step.specs.Words.{words_of}

@@ -4,10 +4,12 @@ ghost use Rattle.hart_step.specs.declared.hart.Hart.{Hart};
 ghost use Rattle.replayer.specs.Past.{IsCountAt};
 ghost use Rattle.replayer.specs.Refusals.{RefusedInOrder};
 ghost use Rattle.replayer.specs.Replayed.{IsPlanFor, start_of};
+ghost use Rattle.replayer.specs.Visits.{HasCounted};
 
 use crate::opened::opened_untraced;
 use host_io::RunError;
-use machine::UntracedMachine;
+use machine::{Next, UntracedMachine, Visitor};
+use pages::OutOfMemory;
 use recording::Recording;
 use std::alloc::Global;
 use std::sync::Wait;
@@ -38,10 +40,36 @@ pub fn count_at<R: Threads + Wait + Sync>(
     if round == 0 || round > recording.rounds() || hart >= recording.harts() {
         return Ok(None);
     }
-    machine.run(rt, round - 1, workers)?;
-    let before = done_by(&machine, hart);
-    machine.run(rt, 1, workers)?;
-    Ok(Some(done_by(&machine, hart) - before))
+    let mut counting = Counting {
+        hart,
+        before: 0,
+        after: done_by(&machine, hart),
+    };
+    machine.walk(rt, round, workers, &mut counting)?;
+    Ok(Some(counting.after - counting.before))
+}
+
+/// Counts the instructions of a hart before the last round and after it.
+#[derive(Drop)]
+struct Counting {
+    hart: u32,
+    before: u64,
+    after: u64,
+}
+
+impl Visitor for Counting {
+    ghost knows = { λ first v start rounds done.
+        (v.hart ≡ first.hart) × HasCounted first.hart v.before v.after start done };
+
+    ghost has_enough = { λ v u. ⊥ };
+
+    ghost may_fail = { ⊥ };
+
+    fn after_round(&mut self, machine: &UntracedMachine) -> Result<Next, OutOfMemory> {
+        self.before = self.after;
+        self.after = done_by(machine, self.hart);
+        Ok(Next::Round)
+    }
 }
 
 /// How many instructions a hart has done, and 0 where there is no such hart.

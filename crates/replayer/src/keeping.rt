@@ -1,6 +1,5 @@
-ghost use Rattle.std.specs.Prelude.{◌≡◌, ◌≤◌, ◌<◌, ◌↔◌, ◌++◌, ◌∷◌, [], All, true, map, length, IsTrue, IfOk, IfErr, OnOk};
+ghost use Rattle.std.specs.Prelude.{◌≡◌, ◌≤◌, ◌<◌, ◌↔◌, ◌++◌, ◌∷◌, [], All, true, map, length, IsTrue, IfOk, OnOk};
 ghost use Rattle.hart_step.specs.Stops.{has_stop};
-ghost use Rattle.host_io.specs.declared.error.RunError.TheVariants as refusals;
 ghost use Rattle.machine.specs.Machine.{Running};
 ghost use Rattle.machine.specs.Untraced.{IsUntraced};
 ghost use Rattle.std.specs.Int.{w64};
@@ -10,8 +9,8 @@ ghost use Rattle.recording.specs.Views.{hart_view, kept_view, registers_view, su
 ghost use Rattle.replayer.specs.Summaries.{IsSeenOf, code_of, hart_summary_of, kept_in, registers_of, summary_in, value_of};
 
 use hart_step::{Hart, Stop};
-use host_io::RunError;
 use machine::{Machine, UntracedMachine};
+use pages::OutOfMemory;
 use recording::{HartSummary, Kept, Summary};
 use std::alloc::Global;
 
@@ -62,12 +61,11 @@ pub(crate) fn seen_untraced(machine: &UntracedMachine, round: u32) -> Seen<'_>
 }
 
 /// What is kept of a state, with registers where they are due.
-pub(crate) fn keep(alloc: Global, seen: &Seen<'_>, every: u32) -> Result<Kept, RunError>
+pub(crate) fn keep(alloc: Global, seen: &Seen<'_>, every: u32) -> Result<Kept, OutOfMemory>
     requires { All (λ h. has_stop h.stop ≡ true) seen.now.harts.now }
     ensures kept { IfOk result (λ k. kept_view k ≡ kept_in every seen.now) }
     ensures ranges { IfOk result (λ k.
         (kept_after (length seen.now.harts.now) every seen.now.round).Has (kept_view k)) }
-    ensures refused { IfErr result (λ e. e ≡ refusals.OutOfMemory) }
 {
     let summary = summary_of(alloc, seen)?;
     let registers = if every != 0 && seen.round % every == 0 {
@@ -79,11 +77,10 @@ pub(crate) fn keep(alloc: Global, seen: &Seen<'_>, every: u32) -> Result<Kept, R
 }
 
 /// The summary of a state.
-fn summary_of(alloc: Global, seen: &Seen<'_>) -> Result<Summary, RunError>
+fn summary_of(alloc: Global, seen: &Seen<'_>) -> Result<Summary, OutOfMemory>
     requires { All (λ h. has_stop h.stop ≡ true) seen.now.harts.now }
     ensures summary { IfOk result (λ s. summary_view s ≡ summary_in seen.now) }
     ensures ranges { IfOk result (λ s. (summary (length seen.now.harts.now)).Has (summary_view s)) }
-    ensures refused { IfErr result (λ e. e ≡ refusals.OutOfMemory) }
 {
     Ok(Summary {
         output: doubleword(seen.output),
@@ -93,12 +90,11 @@ fn summary_of(alloc: Global, seen: &Seen<'_>) -> Result<Summary, RunError>
 }
 
 /// The summaries of harts.
-fn summaries_of(alloc: Global, harts: &[Hart]) -> Result<Vec<HartSummary>, RunError>
+fn summaries_of(alloc: Global, harts: &[Hart]) -> Result<Vec<HartSummary>, OutOfMemory>
     requires { All (λ h. has_stop h.stop ≡ true) harts.now }
     ensures summaries { IfOk result (λ v. map hart_view v.items ≡ map hart_summary_of harts.now) }
     ensures ranges { IfOk result (λ v.
         HaveEach (length harts.now) 0 (λ i. hart_summary) (map hart_view v.items)) }
-    ensures refused { IfErr result (λ e. e ≡ refusals.OutOfMemory) }
 {
     let mut summaries = Vec::new(alloc);
     for place in 0..harts.len() {
@@ -107,13 +103,12 @@ fn summaries_of(alloc: Global, harts: &[Hart]) -> Result<Vec<HartSummary>, RunEr
     Ok(summaries)
 }
 
-fn add_summary(summaries: &mut Vec<HartSummary>, summary: HartSummary) -> Result<(), RunError>
+fn add_summary(summaries: &mut Vec<HartSummary>, summary: HartSummary) -> Result<(), OutOfMemory>
     ensures ok { OnOk result (summaries.new.items ≡ summaries.old.items ++ summary ∷ []) }
-    ensures err { IfErr result (λ e. e ≡ refusals.OutOfMemory) }
 {
     match summaries.push(summary) {
         Ok(()) => Ok(()),
-        Err(_) => Err(RunError::OutOfMemory),
+        Err(_) => Err(OutOfMemory),
     }
 }
 
@@ -140,11 +135,10 @@ fn doubleword(number: u64) -> u64
 }
 
 /// Registers x1 to x31 of harts.
-fn registers_of_all(alloc: Global, harts: &[Hart]) -> Result<Vec<Vec<u64>>, RunError>
+fn registers_of_all(alloc: Global, harts: &[Hart]) -> Result<Vec<Vec<u64>>, OutOfMemory>
     ensures registers { IfOk result (λ v. map (λ r. r.items) v.items ≡ map registers_of harts.now) }
     ensures ranges { IfOk result (λ v.
         (registers (length harts.now)).Has (map (λ r. r.items) v.items)) }
-    ensures refused { IfErr result (λ e. e ≡ refusals.OutOfMemory) }
 {
     let mut all = Vec::new(alloc);
     for place in 0..harts.len() {
@@ -153,21 +147,19 @@ fn registers_of_all(alloc: Global, harts: &[Hart]) -> Result<Vec<Vec<u64>>, RunE
     Ok(all)
 }
 
-fn add_registers(all: &mut Vec<Vec<u64>>, registers: Vec<u64>) -> Result<(), RunError>
+fn add_registers(all: &mut Vec<Vec<u64>>, registers: Vec<u64>) -> Result<(), OutOfMemory>
     ensures ok { OnOk result (all.new.items ≡ all.old.items ++ registers ∷ []) }
-    ensures err { IfErr result (λ e. e ≡ refusals.OutOfMemory) }
 {
     match all.push(registers) {
         Ok(()) => Ok(()),
-        Err(_) => Err(RunError::OutOfMemory),
+        Err(_) => Err(OutOfMemory),
     }
 }
 
 /// Registers x1 to x31 of a hart.
-fn registers_of(alloc: Global, hart: &Hart) -> Result<Vec<u64>, RunError>
+fn registers_of(alloc: Global, hart: &Hart) -> Result<Vec<u64>, OutOfMemory>
     ensures registers { IfOk result (λ v. v.items ≡ registers_of hart.now) }
     ensures ranges { IfOk result (λ v. HaveEach 31 1 (λ x. any w64) v.items) }
-    ensures refused { IfErr result (λ e. e ≡ refusals.OutOfMemory) }
 {
     match hart.x.split_first() {
         Some((_, registers)) => copied_registers(alloc, registers),
@@ -175,15 +167,14 @@ fn registers_of(alloc: Global, hart: &Hart) -> Result<Vec<u64>, RunError>
     }
 }
 
-fn copied_registers(alloc: Global, registers: &[u64]) -> Result<Vec<u64>, RunError>
+fn copied_registers(alloc: Global, registers: &[u64]) -> Result<Vec<u64>, OutOfMemory>
     requires { length registers.now ≡ 31 }
     ensures registers { IfOk result (λ v. v.items ≡ registers.now) }
     ensures ranges { IfOk result (λ v. HaveEach 31 1 (λ x. any w64) v.items) }
-    ensures refused { IfErr result (λ e. e ≡ refusals.OutOfMemory) }
 {
     match Vec::from_slice(alloc, registers) {
         Ok(copy) => Ok(copy),
-        Err(_) => Err(RunError::OutOfMemory),
+        Err(_) => Err(OutOfMemory),
     }
 }
 

@@ -1,4 +1,4 @@
-ghost use Rattle.std.specs.Prelude.{◌≡◌, ◌≤◌, IfOk, IfErr};
+ghost use Rattle.std.specs.Prelude.{◌≡◌, ◌≤◌, ◌⊎◌, None, IfOk, IfErr};
 ghost use Rattle.round_planner.specs.Quotas.{Planned};
 ghost use Rattle.host_io.specs.declared.error.RunError.TheVariants as refusals;
 ghost use Rattle.machine.specs.Machine.{Running};
@@ -6,13 +6,15 @@ ghost use Rattle.machine.specs.Untraced.{IsUntraced};
 ghost use Rattle.replayer.specs.Past.{Begins, IsRoundOf, IsStateBefore};
 ghost use Rattle.replayer.specs.Refusals.{RefusedInOrder};
 ghost use Rattle.replayer.specs.Replayed.{IsPlanFor, start_of};
+ghost use Rattle.replayer.specs.Visits.{HasSought, IsBehind};
 
 use crate::counting::done_by;
 use crate::opened::opened_untraced;
-use crate::past::state_at;
+use crate::past::hart_in_round;
 use hart_step::Hart;
 use host_io::RunError;
-use machine::UntracedMachine;
+use machine::{Next, UntracedMachine, Visitor};
+use pages::OutOfMemory;
 use recording::Recording;
 use std::alloc::Global;
 use std::sync::Wait;
@@ -44,10 +46,12 @@ pub fn state_before<R: Threads + Wait + Sync>(
         return Ok(None);
     }
     let rounds = recording.rounds();
-    match round_of(rt, &mut machine, rounds, hart, place, workers)? {
+    let Seeking { found, last, .. } = seek(rt, &mut machine, rounds, hart, place, workers)?;
+    match found {
         None => Ok(None),
         Some((round, count)) => {
-            match state_at(rt, alloc, recording, round, hart, count, workers)? {
+            let between = round - 1 - last.rounds();
+            match hart_in_round(rt, last, between, hart, count, workers)? {
                 Some(before) => Ok(Some((round, before))),
                 None => unreachable!(),
             }
@@ -55,30 +59,96 @@ pub fn state_before<R: Threads + Wait + Sync>(
     }
 }
 
-/// The round in which a hart does its instruction of a place, of the next rounds of a machine that was just opened, and how
-/// many it does in that round before it.
-fn round_of<R: Threads + Wait + Sync>(
+/// Seeks the round in which a hart does its instruction of a place, among the next rounds of a machine that was just opened.
+fn seek<R: Threads + Wait + Sync>(
     rt: &R,
     machine: &mut UntracedMachine,
     rounds: u32,
     hart: u32,
     place: u64,
     workers: u32,
-) -> Result<Option<(u32, u64)>, RunError>
+) -> Result<Seeking, RunError>
     requires workers { (1 ≤ workers) × (workers ≤ 16) }
     requires opened { machine.old.rounds ≡ 0 }
     ensures round { (m : Running) → IsUntraced m machine.old → Begins m hart →
-        IfOk result (λ x. IsRoundOf rounds m hart place x) }
+        IfOk result (λ s. IsRoundOf rounds m hart place s.found) }
+    ensures behind { IfOk result (λ s. IsBehind machine.old s.last rounds s.found) }
     ensures refused { IfErr result (λ e. e ≡ refusals.OutOfMemory) }
 {
-    let mut before = 0;
-    for done in 0..rounds {
-        machine.run(rt, 1, workers)?;
-        let after = done_by(machine, hart);
-        if place < after {
-            return Ok(Some((done + 1, place - before)));
+    let last = machine.share()?;
+    let mut seeking = Seeking {
+        hart,
+        place,
+        before: 0,
+        found: None,
+        last,
+    };
+    machine.walk(rt, rounds, workers, &mut seeking)?;
+    Ok(seeking)
+}
+
+/// Seeks the round in which a hart does its instruction of a place.
+#[derive(Drop)]
+struct Seeking {
+    hart: u32,
+    place: u64,
+    /// How many instructions the hart did so far.
+    before: u64,
+    /// That round, and how many instructions the hart does in it before that one.
+    found: Option<(u32, u64)>,
+    /// A machine of the run from before that round.
+    last: UntracedMachine,
+}
+
+impl Visitor for Seeking {
+    ghost knows = { λ first v start rounds done.
+        (v.hart ≡ first.hart) × (v.place ≡ first.place) ×
+        HasSought first.hart first.place v.before v.found v.last start rounds done };
+
+    ghost has_enough = { λ v u. v.found ≡ None → ⊥ };
+
+    ghost may_fail = { Unit {0} };
+
+    fn after_round(&mut self, machine: &UntracedMachine) -> Result<Next, OutOfMemory> {
+        if self.found.is_some() {
+            return Ok(Next::Enough);
         }
-        before = after;
+        let after = done_by(machine, self.hart);
+        if self.place < after {
+            self.found = Some((machine.rounds(), self.place - self.before));
+            return Ok(Next::Enough);
+        }
+        self.before = after;
+        self.stay_behind(machine)?;
+        Ok(Next::Round)
     }
-    Ok(None)
+}
+
+impl Seeking {
+    /// Keeps this machine where the next round may be the one that is sought. Its copies grow rarer, so that a hart that is long in
+    /// coming to its place costs few.
+    fn stay_behind(&mut self, machine: &UntracedMachine) -> Result<(), OutOfMemory>
+        ensures last { (self.new.last ≡ self.old.last) ⊎ (self.new.last ≡ machine.now) }
+        ensures asked { (self.new.hart ≡ self.old.hart) × (self.new.place ≡ self.old.place) }
+        ensures stays { (self.new.before ≡ self.old.before) × (self.new.found ≡ self.old.found) }
+    {
+        if !self.is_near(machine) || machine.rounds() / 2 < self.last.rounds() {
+            return Ok(());
+        }
+        let Ok(copy) = machine.copy() else {
+            return Err(OutOfMemory);
+        };
+        self.last = copy;
+        Ok(())
+    }
+
+    /// Whether the hart may come to its place in the next round.
+    fn is_near(&self, machine: &UntracedMachine) -> bool {
+        let plan = machine.plan();
+        if self.hart >= plan.harts() || machine.rounds() == u32::MAX {
+            return false;
+        }
+        let quota = plan.quota(machine.rounds() + 1, self.hart);
+        self.place.saturating_sub(self.before) < u64::from(quota) + u64::from(plan.budget())
+    }
 }

@@ -1,18 +1,22 @@
-ghost use Rattle.std.specs.Prelude.{◌≡◌, ◌≤◌, ◌<◌, ◌^◌, ◌++◌, ◌∷◌, [], map, length, None, Err, IfOk, IfErr, OnOk};
+ghost use Rattle.std.specs.Prelude.{◌≡◌, ◌≤◌, ◌<◌, ◌^◌, map, length, None, Err, IfOk, IfErr};
 ghost use Rattle.round_planner.specs.Quotas.{Planned};
 ghost use Rattle.host_io.specs.declared.error.RunError.TheVariants as refusals;
 ghost use Rattle.machine.specs.Machine.{Running};
-ghost use Rattle.machine.specs.Settings.{IsInRange, IsPlan, IsReason, RefusedInOrder, settings_fault};
+ghost use Rattle.run_settings.specs.Settings.{IsInRange, IsPlan, IsReason, RefusedInOrder, settings_fault};
 ghost use Rattle.machine.specs.Untraced.{IsUntraced};
 ghost use Rattle.recording.specs.Fields.{HaveEach};
 ghost use Rattle.recording.specs.Grammar.{kept_after};
 ghost use Rattle.recording.specs.Views.{kept_view};
 ghost use Rattle.replayer.specs.Replayed.{number_of, recorded_of, recorded_with};
 ghost use Rattle.replayer.specs.Summaries.{kept_of_rounds};
+ghost use Rattle.replayer.specs.Visits.{HasRecorded};
 
 use crate::keeping::{keep, seen_untraced};
 use host_io::RunError;
-use machine::{Format, Observer, Settings, Unobserved, UntracedMachine, prepare_untraced};
+use machine::{
+    Format, Next, Observer, Settings, Unobserved, UntracedMachine, Visitor, prepare_untraced,
+};
+use pages::OutOfMemory;
 use recording::{Kept, Parts, Recording};
 use std::alloc::Global;
 use std::sync::Wait;
@@ -115,14 +119,43 @@ fn keep_rounds<O: Observer, R: Threads + Wait + Sync>(
         HaveEach rounds 1 (kept_after machine.old.plan.harts every) (map kept_view v.items)) }
     ensures refused { IfErr result (λ e. e ≡ refusals.OutOfMemory) }
 {
-    let mut kept = Vec::new(alloc);
-    for done in 0..rounds {
-        machine.run(rt, 1, workers)?;
-        let of_round = keep(alloc, &seen_untraced(machine, done + 1), every)?;
-        add(&mut kept, of_round)?;
-        observer.after_round(machine);
+    let mut recorder = Recorder {
+        alloc,
+        every,
+        kept: Vec::new(alloc),
+        observer,
+    };
+    machine.walk(rt, rounds, workers, &mut recorder)?;
+    Ok(recorder.kept)
+}
+
+/// Keeps something of each round.
+#[derive(Drop)]
+struct Recorder<'a, O> {
+    alloc: Global,
+    /// Registers are kept after each round whose number is a multiple of it, and after none where it is 0.
+    every: u32,
+    /// What is kept of the rounds that are done.
+    kept: Vec<Kept>,
+    /// It is shown each round.
+    observer: &'a mut O,
+}
+
+impl<'a, O: Observer> Visitor for Recorder<'a, O> {
+    ghost knows = { λ first v start rounds done. (v.every ≡ first.every) ×
+        HasRecorded (map kept_view v.kept.items) first.every start rounds done };
+
+    ghost has_enough = { λ v u. ⊥ };
+
+    ghost may_fail = { Unit {0} };
+
+    fn after_round(&mut self, machine: &UntracedMachine) -> Result<Next, OutOfMemory> {
+        let seen = seen_untraced(machine, machine.rounds());
+        let of_round = keep(self.alloc, &seen, self.every)?;
+        self.kept.push(of_round)?;
+        self.observer.after_round(machine);
+        Ok(Next::Round)
     }
-    Ok(kept)
 }
 
 /// The recording of what a run was asked for, and of what is kept of it.
@@ -176,17 +209,6 @@ fn copied(alloc: Global, bytes: &[u8]) -> Result<Vec<u8>, RunError>
     let _size = bytes.len();
     match Vec::from_slice(alloc, bytes) {
         Ok(copy) => Ok(copy),
-        Err(_) => Err(RunError::OutOfMemory),
-    }
-}
-
-/// Adds what is kept of a round.
-fn add(kept: &mut Vec<Kept>, of_round: Kept) -> Result<(), RunError>
-    ensures ok { OnOk result (kept.new.items ≡ kept.old.items ++ of_round ∷ []) }
-    ensures err { IfErr result (λ e. e ≡ refusals.OutOfMemory) }
-{
-    match kept.push(of_round) {
-        Ok(()) => Ok(()),
         Err(_) => Err(RunError::OutOfMemory),
     }
 }

@@ -7,12 +7,15 @@ ghost use Rattle.recording.specs.Views.{kept_view};
 ghost use Rattle.replayer.specs.Refusals.{RefusedInOrder};
 ghost use Rattle.replayer.specs.Replayed.{IsNextVerdict, IsPlanFor, IsVerdict, IsVerdictOn, start_of};
 ghost use Rattle.replayer.specs.Summaries.{kept_in};
+ghost use Rattle.replayer.specs.Visits.{HasCompared};
+ghost use Rattle.replayer.specs.declared.verdict.Verdict.TheVariants.{Same};
 
 use crate::keeping::{Seen, agrees, seen_untraced};
 use crate::opened::opened_untraced;
 use crate::verdict::Verdict;
 use host_io::RunError;
-use machine::{Observer, Unobserved, UntracedMachine};
+use machine::{Next, Observer, Unobserved, UntracedMachine, Visitor};
+use pages::OutOfMemory;
 use recording::{Kept, Recording};
 use std::alloc::Global;
 use std::sync::Wait;
@@ -84,15 +87,51 @@ fn first_difference<O: Observer, R: Threads + Wait + Sync>(
         IfOk result (λ v. IsVerdictOn (map kept_view kept.now) every m v) }
     ensures refused { IfErr result (λ e. e ≡ refusals.OutOfMemory) }
 {
-    for place in 0..kept.len() {
-        machine.run(rt, 1, workers)?;
-        let round = place as u32 + 1;
-        if !agrees(&kept[place], every, &seen_untraced(machine, round)) {
-            return Ok(Verdict::Differs(round));
+    let mut comparing = Comparing {
+        kept,
+        every,
+        verdict: Verdict::Same,
+        observer,
+    };
+    machine.walk(rt, kept.len() as u32, workers, &mut comparing)?;
+    Ok(comparing.verdict)
+}
+
+/// Compares the state after each round with what was kept of it, and ends at the first difference.
+#[derive(Drop)]
+struct Comparing<'a, O> {
+    /// What was kept of all rounds.
+    kept: &'a [Kept],
+    /// Registers were kept after each round whose number is a multiple of it.
+    every: u32,
+    /// The verdict on the rounds that are done.
+    verdict: Verdict,
+    /// It is shown the rounds whose state is as it was kept.
+    observer: &'a mut O,
+}
+
+impl<'a, O: Observer> Visitor for Comparing<'a, O> {
+    ghost knows = { λ first v start rounds done.
+        (v.kept.now ≡ first.kept.now) × (v.every ≡ first.every) ×
+        HasCompared (map kept_view first.kept.now) first.every v.verdict start rounds done };
+
+    ghost has_enough = { λ v u. v.verdict ≡ Same → ⊥ };
+
+    ghost may_fail = { ⊥ };
+
+    fn after_round(&mut self, machine: &UntracedMachine) -> Result<Next, OutOfMemory> {
+        let round = machine.rounds();
+        let kept = &self.kept[round as usize - 1];
+        let seen = seen_untraced(machine, round);
+        self.verdict = next_verdict(self.verdict, kept, self.every, &seen);
+        match self.verdict {
+            Verdict::Same => {
+                self.observer.after_round(machine);
+                Ok(Next::Round)
+            }
+            Verdict::Differs(_) => Ok(Next::Enough),
         }
-        observer.after_round(machine);
     }
-    Ok(Verdict::Same)
 }
 
 /// The verdict after one more round, where the one on the rounds before it is this.

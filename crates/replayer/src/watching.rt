@@ -1,8 +1,9 @@
-ghost use Rattle.std.specs.Prelude.{◌≡◌, ◌≤◌, ◌+◌, ◌++◌, ◌∷◌, ◌<◌, ◌^◌, [], Err, IfOk, IfErr, OnOk};
+ghost use Rattle.std.specs.Prelude.{◌≡◌, ◌≤◌, ◌+◌, ◌++◌, ◌∷◌, ◌<◌, ◌^◌, [], true, IfOk, IfErr, OnOk};
 ghost use Rattle.round_planner.specs.Quotas.{Planned};
 ghost use Rattle.host_io.specs.declared.error.RunError.TheVariants as refusals;
 ghost use Rattle.machine.specs.Machine.{Running, after_rounds};
-ghost use Rattle.machine.specs.Untraced.{IsUntraced};
+ghost use Rattle.machine.specs.Untraced.{AreAdded, AreLast, IsUntraced};
+ghost use Rattle.machine.specs.Walks.{HasDone};
 ghost use Rattle.round_schedule.specs.Held.{any_byte};
 ghost use Rattle.replayer.specs.Hits.{hits, is_hit, is_watched, of_rounds, sought_in};
 ghost use Rattle.replayer.specs.Refusals.{RefusedInOrder};
@@ -11,7 +12,7 @@ ghost use Rattle.replayer.specs.Replayed.{IsPlanFor, hits_of, start_of};
 use crate::opened::opened_untraced;
 use crate::rounds::Rounds;
 use host_io::RunError;
-use machine::{Observer, Unobserved, UntracedMachine};
+use machine::{Next, Observer, Unobserved, UntracedMachine, Visitor};
 use pages::{OutOfMemory, Range};
 use recording::Recording;
 use round_schedule::Event;
@@ -96,8 +97,8 @@ struct Sought<'a> {
     within: Option<Rounds>,
 }
 
-/// Runs a machine that was just opened for so many rounds, and keeps the events that are sought. The other events of a round are
-/// let go after it. It may wait.
+/// Runs a machine that was just opened for so many rounds, and keeps the events that are sought. The others are let go whenever many
+/// were noted. It may wait.
 fn watch_run<O: Observer, R: Threads + Wait + Sync>(
     rt: &R,
     alloc: Global,
@@ -119,27 +120,77 @@ fn watch_run<O: Observer, R: Threads + Wait + Sync>(
     let mut found = Vec::new(alloc);
     let mut done = 0;
     while done < rounds {
-        let count = rounds_at_once(machine, rounds - done);
         let mut trace = Trace::new(alloc, Vec::new(alloc));
-        machine.run_noting(rt, count, workers, &mut trace)?;
+        done += note_some(rt, machine, rounds - done, workers, &mut trace, observer)?;
         add_sought(&mut found, &trace, sought)?;
-        observer.after_round(machine);
-        done += count;
     }
     Ok(found)
 }
 
-/// How many of the rounds that are left are done at once: one, and all where no hart runs, since those leave no events.
-fn rounds_at_once(machine: &UntracedMachine, left: u32) -> u32
-    requires { 1 ≤ left }
-    ensures some { 1 ≤ result }
-    ensures few { result ≤ left }
+/// So many events of a run are held at once, and those of one more round.
+const MANY_EVENTS: u64 = 1 << 18;
+
+/// Does some of so many rounds, and notes their events: rounds until there are many events, or, where no hart runs, all of them.
+fn note_some<O: Observer, R: Threads + Wait + Sync>(
+    rt: &R,
+    machine: &mut UntracedMachine,
+    rounds: u32,
+    workers: u32,
+    trace: &mut Trace,
+    observer: &mut O,
+) -> Result<u32, RunError>
+    requires workers { (1 ≤ workers) × (workers ≤ 16) }
+    requires rounds { (1 ≤ rounds) × (machine.old.rounds + rounds < 2 ^ 32) }
+    requires last { AreLast machine.old trace.old.events }
+    ensures done { IfOk result (λ k. HasDone k machine.old machine.new) }
+    ensures some { IfOk result (λ k. (1 ≤ k) × (k ≤ rounds)) }
+    ensures events { IfOk result (λ k.
+        AreAdded k machine.old trace.old.events trace.new.events) }
+    ensures refused { IfErr result (λ e. e ≡ refusals.OutOfMemory) }
 {
-    if machine.harts().iter().all(|hart| hart.stop.is_some()) {
-        left
-    } else {
-        1
+    if !some_hart_runs(machine) {
+        machine.run_noting(rt, rounds, workers, trace)?;
+        observer.after_round(machine);
+        return Ok(rounds);
     }
+    let most = machine.events().saturating_add(MANY_EVENTS);
+    let mut gathering = Gathering {
+        most,
+        is_full: false,
+        observer,
+    };
+    Ok(machine.walk_noting(rt, rounds, workers, trace, &mut gathering)?)
+}
+
+/// Lets a run go on until there are so many events, or no hart runs.
+#[derive(Drop)]
+struct Gathering<'a, O> {
+    most: u64,
+    /// Whether it has ended the walk.
+    is_full: bool,
+    /// It is shown each round.
+    observer: &'a mut O,
+}
+
+impl<'a, O: Observer> Visitor for Gathering<'a, O> {
+    ghost knows = { λ first v start rounds done. v.is_full ≡ true → 1 ≤ done };
+
+    ghost has_enough = { λ v u. v.is_full ≡ true };
+
+    ghost may_fail = { ⊥ };
+
+    fn after_round(&mut self, machine: &UntracedMachine) -> Result<Next, OutOfMemory> {
+        self.observer.after_round(machine);
+        if machine.events() < self.most && some_hart_runs(machine) {
+            return Ok(Next::Round);
+        }
+        self.is_full = true;
+        Ok(Next::Enough)
+    }
+}
+
+fn some_hart_runs(machine: &UntracedMachine) -> bool {
+    machine.harts().iter().any(|hart| hart.stop.is_none())
 }
 
 /// Adds the events of a trace that are sought, in the order of the trace.

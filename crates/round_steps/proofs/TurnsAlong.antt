@@ -12,8 +12,8 @@ use Rattle.hart_step.specs.Console.{ConsoleState}
 use Rattle.hart_step.specs.Words.{words_of}
 use Rattle.moments.proofs.Past.{part_is}
 use Rattle.machine.specs.Machine.{Running}
-use Rattle.machine.specs.TurnHarts.{turns_in_round}
-use Rattle.machine.proofs.TurnHartsAsked.{turns_end}
+use Rattle.guest_turns.specs.TurnHarts.{turns_in_round}
+use Rattle.guest_turns.proofs.TurnHartsAsked.{turns_end}
 use Rattle.walking.specs.Hits.{hits_from, tells}
 use Rattle.walking.specs.declared.asked.Asked.{Asked}
 use Rattle.round_steps.specs.declared.place.Place.{Place}

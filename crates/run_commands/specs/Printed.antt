@@ -9,8 +9,8 @@ use Rattle.emulation.specs.declared.run_end.RunEnd.{RunEnd}
 use Rattle.emulation.specs.declared.run_end.RunEnd.TheVariants.{Badly, RunsOn, Well}
 use Rattle.emulation.specs.declared.showing.Shown.{Shown}
 use Rattle.emulation.specs.declared.showing.Shown.TheVariants as parts
-use Rattle.machine.specs.Settings.{after_run}
-use Rattle.machine.specs.declared.settings.Settings.{Settings}
+use Rattle.machine.specs.Runs.{after_run}
+use Rattle.run_settings.specs.declared.settings.Settings.{Settings}
 use Rattle.program_world.specs.declared.exit_status.ExitStatus.{ExitStatus}
 use Rattle.program_world.specs.declared.exit_status.ExitStatus.TheVariants.{Done, Doubtful}
 use Rattle.round_planner.specs.Quotas.{Planned}

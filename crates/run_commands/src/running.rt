@@ -2,7 +2,8 @@ ghost use Rattle.std.specs.Prelude.{◌≡◌, ◌⊎◌, ◌++◌, Err, IfErr, 
 ghost use Rattle.emulation.specs.Showing.{end_of};
 ghost use Rattle.host_io.specs.Taken.{BeganText};
 ghost use Rattle.host_io.specs.declared.error.RunError.TheVariants as refusals;
-ghost use Rattle.machine.specs.Settings.{IsPlan, IsReason, RefusedInOrder, after_run, settings_fault};
+ghost use Rattle.run_settings.specs.Settings.{IsPlan, IsReason, RefusedInOrder, settings_fault};
+ghost use Rattle.machine.specs.Runs.{after_run};
 ghost use Rattle.program_files.specs.Asked.{AskedRun, EndsFor, RefusedSetRun, SetRun};
 ghost use Rattle.program_files.specs.declared.failure.RunFailure.TheVariants as failures;
 ghost use Rattle.round_planner.specs.Quotas.{Planned};

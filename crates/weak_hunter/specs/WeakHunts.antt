@@ -2,8 +2,8 @@
 use Rattle.std.specs.Prelude.{◌≡◌, ◌⊎◌, ℕ, List, All, map, Option, Some, None}
 use Rattle.elf_loader.specs.Image.{Loaded}
 use Rattle.hart_step.specs.declared.hart.Hart.{Hart}
-use Rattle.machine.specs.Machine.{opening_harts}
-use Rattle.machine.specs.Settings.{image_of}
+use Rattle.guest_rounds.specs.Opening.{opening_harts}
+use Rattle.run_settings.specs.Settings.{image_of}
 use Rattle.hunter.specs.Hunts.{IsHuntReason, ending_of_stop}
 use Rattle.hunter.specs.declared.settings.HuntSettings.{HuntSettings}
 use Rattle.plan_hunt.specs.Endings.{Ended}

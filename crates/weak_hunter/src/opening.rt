@@ -1,5 +1,5 @@
 ghost use Rattle.std.specs.Prelude.{◌≡◌, ◌≤◌, IfOk, length};
-ghost use Rattle.machine.specs.Machine.{opening_harts};
+ghost use Rattle.guest_rounds.specs.Opening.{opening_harts};
 
 use elf_loader::Image;
 use hart_step::Hart;

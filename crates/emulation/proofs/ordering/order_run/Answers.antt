@@ -5,7 +5,7 @@ use Rattle.host_io.proofs.Written.{where_done, where_refused}
 use Rattle.memory_order.proofs.Meeting.{meets_rvwmo}
 use Rattle.trace.specs.Traced.{opening_at}
 use Rattle.report.specs.Order.{order_text}
-use Rattle.machine.specs.Settings.{image_for}
+use Rattle.run_settings.specs.Settings.{image_for}
 use Rattle.emulation.proofs.Ordered.{order_of, same_opening}
 use Rattle.emulation.proofs.ordering.order_run.Goals as goal
 

@@ -1,6 +1,6 @@
 use Rattle.std.proofs.Common.{◌≡◌, ℕ, ◌∙◌, ap, subst, IfOk}
 use Rattle.elf_loader.specs.Image.{Loaded}
-use Rattle.machine.specs.Guests.{Guest, opening_guest}
+use Rattle.guest_rounds.specs.Guests.{Guest, opening_guest}
 use Rattle.execution_file.specs.Views.{as_recorded}
 use Rattle.execution_scripts.specs.Findings.{IsFound, guest_in, image_in}
 use Rattle.execution_scripts.proofs.checking.check_file.Goals as goal

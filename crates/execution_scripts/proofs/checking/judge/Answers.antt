@@ -1,6 +1,6 @@
 use Rattle.std.proofs.Common.{◌≡◌, ℕ, List, ap, subst, ◌∙◌}
 use Rattle.pages.specs.Memory.{Memory}
-use Rattle.machine.specs.Guests.{opening_guest}
+use Rattle.guest_rounds.specs.Guests.{opening_guest}
 use Rattle.execution.specs.declared.step.ScriptedStep.{ScriptedStep}
 use Rattle.execution.specs.Executions.{Standing}
 use Rattle.trace.specs.Traced.{Laid, opening_at}

@@ -1,5 +1,5 @@
 use Rattle.std.proofs.Common.{◌≡◌}
-use Rattle.machine.specs.Machine.{opening_harts}
+use Rattle.guest_rounds.specs.Opening.{opening_harts}
 use Rattle.execution_scripts.proofs.opening.opening_harts.Given as goal
 
 abbrev pub invariant-loop-number : goal.invariant-loop-number

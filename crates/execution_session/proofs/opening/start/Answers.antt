@@ -1,7 +1,7 @@
 use Rattle.std.proofs.Common.{◌≡◌, ℕ, List, ◌∙◌, ap, arith, length, sym}
 use Rattle.std.proofs.lemmas.List.{length-map}
 use Rattle.elf_loader.specs.Image.{Loaded}
-use Rattle.machine.specs.Guests.{Guest, opening_guest}
+use Rattle.guest_rounds.specs.Guests.{Guest, opening_guest}
 use Rattle.execution_file.specs.Views.{as_recorded, hart_view}
 use Rattle.execution_file.specs.declared.file.ExecutionFile.{ExecutionFile}
 use Rattle.execution_scripts.specs.Findings.{guest_in, image_in, start_of}

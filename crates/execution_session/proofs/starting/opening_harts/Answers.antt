@@ -1,6 +1,6 @@
 use Rattle.std.proofs.Common.{◌≡◌, ℕ, zero, suc, ◌+◌, List, [], ◌∷◌, ◌++◌, length, refl, sym, ap, ◌∙◌, arith, add-one}
 use Rattle.hart_step.specs.declared.hart.Hart.{Hart}
-use Rattle.machine.specs.Machine.{opening_hart, opening_harts}
+use Rattle.guest_rounds.specs.Opening.{opening_hart, opening_harts}
 use Rattle.execution_session.proofs.starting.opening_harts.Goals as goal
 
 one_more : (entry n i k : ℕ) → opening_harts entry n i (suc k) ≡ opening_harts entry n i k ++ opening_hart entry n (i + k) ∷ []

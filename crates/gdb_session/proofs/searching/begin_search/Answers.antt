@@ -12,6 +12,6 @@ returns-in-Ok-clause-goes g c = λ m is.
     let took = g.K.Sink.took c.args.out.now in
     let took_then = g.K.Sink.took c.search_on.new.out in
     let W : Way → Type 0 = λ w.
-        IfOk c.search_on.result
-        (λ x. (written : List ℕ) × RepliesOrGoesOn r s (request_for w) written (state_of c.search_on.new.session) x × (took_then ≡ took ++ written)) in
+    IfOk c.search_on.result
+    (λ x. (written : List ℕ) × RepliesOrGoesOn r s (request_for w) written (state_of c.search_on.new.session) x × (took_then ≡ took ++ written)) in
     subst W c.in-Ok.ensures.way (c.search_on.ensures.goes m is)

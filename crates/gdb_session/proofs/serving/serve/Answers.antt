@@ -32,8 +32,8 @@ returns-then-not-branch-clause-serves g c = λ m is.
     let t = talking c.hear_next.new.talk in
     let On : Recorded → Bool → Type 0 = λ r b. ServesOn r gave (g.S.Source.gave c.hear_next.new.src) took (g.K.Sink.took c.hear_next.new.out) c.hear_next.new.reader t b in
     let P : Recorded → Type 0 = λ r. (x k : List ℕ) →
-        Served r x (g.S.Source.gave c.loop-i.src) k (g.K.Sink.took c.loop-i.out) c.loop-i.reader (talking c.loop-i.talk) →
-        ServesOn r x (g.S.Source.gave c.hear_next.new.src) k (g.K.Sink.took c.hear_next.new.out) c.hear_next.new.reader t c.in_ok-hear_next.field-0 in
+    Served r x (g.S.Source.gave c.loop-i.src) k (g.K.Sink.took c.loop-i.out) c.loop-i.reader (talking c.loop-i.talk) →
+    ServesOn r x (g.S.Source.gave c.hear_next.new.src) k (g.K.Sink.took c.hear_next.new.out) c.hear_next.new.reader t c.in_ok-hear_next.field-0 in
     let left : c.in_ok-hear_next.field-0 ≡ false = search rules in
     let on = of_same d c.loop-i.run P c.loop-i.invariant.0 c.in_ok-hear_next.ensures.serves m is gave took (c.loop-i.invariant.3 m is) in
     let end = subst (On (recorded_of m d)) left on in

@@ -1,7 +1,7 @@
 use Rattle.std.proofs.Common.{◌≡◌}
 use Rattle.machine.specs.Machine.{after_rounds}
 use Rattle.replayer.specs.Checkpoints.{AreCheckpoints}
-use Rattle.replayer.proofs.Verdicts.{IsVerdictUpTo}
+use Rattle.replayer.specs.Visits.{IsVerdictUpTo}
 use Rattle.replayer.proofs.checkpoints.run_keeping.Given as goal
 
 abbrev pub invariant-loop-place : goal.invariant-loop-place

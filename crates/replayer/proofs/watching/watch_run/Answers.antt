@@ -1,5 +1,4 @@
 use Rattle.std.proofs.Common.{◌≡◌, ◌++◌, ◌∙◌, List, ap, append-nil, arith, sym, ℕ}
-use Rattle.std.proofs.lemmas.Result.{err_from_is_err_and}
 use Rattle.round_schedule.specs.declared.event.Event.{Event}
 use Rattle.machine.specs.Machine.{after_rounds}
 use Rattle.replayer.specs.Hits.{sought_in}
@@ -10,27 +9,21 @@ use Rattle.replayer.proofs.watching.watch_run.Goals as goal
 pub loop-done-init : goal.loop-done-init
 loop-done-init g c = (none_after c.args.machine.now, (c.requires.opened, omega arith), λ m i none. at_first c.args.sought.within c.args.sought.ranges.now m c.new-found.result.items c.new-found.ensures.items none)
 
-pub run_noting-requires-after_bounds : goal.run_noting-requires-after_bounds
-run_noting-requires-after_bounds g c κs within =
+pub note_some-requires-clause-last : goal.note_some-requires-clause-last
+note_some-requires-clause-last g c = λ lifetimes within.
     let run = c.requires.run in
     let t : List Event = (after_rounds c.loop-done.done run.0).state.trace in
     (after_rounds c.loop-done.done run.0, c.loop-done.invariant.0 run.0 run.1, (t, sym (append-nil t) ∙ ap (λ (es : List Event). t ++ es) (sym c.new-trace.ensures.events)))
 
-pub returns-in_err-run_noting-clause-refused : goal.returns-in_err-run_noting-clause-refused
-returns-in_err-run_noting-clause-refused g c =
-    let p = err_from_is_err_and c.from_residual.result c.from_residual.ensures.1 in
-    rw (p.1, p.2)
-    (c.in_err-run_noting.ensures.refused c.requires.workers.0 c.requires.workers.1
-    (omega (arith, c.loop-done.invariant.1.0, c.loop-done.invariant.1.1, c.rounds_at_once-count.ensures.few, c.loop-done-test.true)))
-
 pub loop-done-preserved : goal.loop-done-preserved
-loop-done-preserved g c = (
-  more_after c.loop-done.done c.rounds_at_once-count.result c.args.machine.now c.loop-done.machine c.run_noting.new.self c.loop-done.invariant.0 c.in_ok-run_noting.ensures.ok,
-  (c.in_ok-run_noting.ensures.counted ∙ omega (arith, c.loop-done.invariant.1.0), omega (arith, c.rounds_at_once-count.ensures.few)),
-  λ m i none.
-      at_next c.args.sought.within c.args.sought.ranges.now c.loop-done.done c.rounds_at_once-count.result m c.new-trace.result.events c.run_noting.new.trace.events c.loop-done.found.items c.add_sought.new.found.items (c.loop-done.invariant.2 m i none) c.new-trace.ensures.events
-      (c.in_ok-run_noting.ensures.events (after_rounds c.loop-done.done m) (c.loop-done.invariant.0 m i)) c.in_ok-add_sought.ensures,
-)
+loop-done-preserved g c =
+    let some = c.in_ok-done.ensures in (
+      more_after c.loop-done.done c.in_ok-done.field-0 c.args.machine.now c.loop-done.machine c.note_some.new.machine c.loop-done.invariant.0 some.done.run,
+      (some.done.rounds ∙ omega (arith, c.loop-done.invariant.1.0), omega (arith, some.some.1, c.loop-done-test.true)),
+      λ m i none.
+          at_next c.args.sought.within c.args.sought.ranges.now c.loop-done.done c.in_ok-done.field-0 m c.new-trace.result.events c.note_some.new.trace.events c.loop-done.found.items c.add_sought.new.found.items (c.loop-done.invariant.2 m i none) c.new-trace.ensures.events
+          (some.events (after_rounds c.loop-done.done m) (c.loop-done.invariant.0 m i)) c.in_ok-add_sought.ensures,
+    )
 
 pub returns-clause-hits : goal.returns-clause-hits
 returns-clause-hits g c = λ m i none.

@@ -4,7 +4,7 @@ use Rattle.round_planner.specs.Quotas.{Planned, quotas_of}
 use Rattle.hart_step.specs.declared.hart.Hart.{Hart}
 use Rattle.hart_step.specs.Words.{words_of}
 use Rattle.machine.specs.Untraced.{IsUntraced, Untraced}
-use Rattle.machine.proofs.TurnHartsAsked.{turns_size}
+use Rattle.guest_turns.proofs.TurnHartsAsked.{turns_size}
 use Rattle.round_steps.specs.Places.{begun_of, serial_places, turn_of}
 use Rattle.round_steps.specs.declared.place.Place.{Place}
 use Rattle.round_steps.proofs.RoundParts.{got, serial_first, serial_more, turns_at}

@@ -1,5 +1,5 @@
 use Rattle.std.proofs.Common.{◌∙◌, ap, length}
-use Rattle.machine.specs.Machine.{opening_harts}
+use Rattle.guest_rounds.specs.Opening.{opening_harts}
 use Rattle.plan_family.specs.Families.{family_plan}
 use Rattle.round_planner.specs.Quotas.{Planned}
 use Rattle.weak_hunter.proofs.opening.opening_harts.Goals as goal

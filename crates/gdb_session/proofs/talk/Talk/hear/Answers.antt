@@ -20,7 +20,7 @@ returns-in_default-clause-hears g c = λ m is.
     let took_then = g.K.Sink.took c.hear_alone.new.out in
     let none = sym c.take.ensures.value ∙ c.in_default.is in
     let T : Option Search → Type 0 = λ o.
-        OnOk c.hear_alone.result ((written : List ℕ) × HearsBy r (record s { searching = o }) x (asked_by x s.last) written t × (took_then ≡ took ++ written)) in
+    OnOk c.hear_alone.result ((written : List ℕ) × HearsBy r (record s { searching = o }) x (asked_by x s.last) written t × (took_then ≡ took ++ written)) in
     let G : Option Search → Type 0 = λ o. OnOk c.hear_alone.result ((written : List ℕ) × HearsWhile r s x o written t × (took_then ≡ took ++ written)) in
     subst G (sym none)
     (on_ok_weaker c.hear_alone.result (λ h. (h.0, heard_alone r s x h.0 t h.1, h.2)) (subst T (c.take.ensures.after ∙ sym none) (c.hear_alone.ensures.hears m is)))
@@ -68,11 +68,11 @@ returns-in-Packet-clause-hears g c = λ m is.
     let x = told_in c.args.item.now in
     let some = sym c.take.ensures.value ∙ c.in-Some.is in
     let T : Option Search → Type 0 = λ o.
-        OnOk c.hear_alone-in-Packet.result ((written : List ℕ) × HearsBy r (record s { searching = o }) x (asked_by x s.last) written t × (took_then ≡ took ++ written)) in
+    OnOk c.hear_alone-in-Packet.result ((written : List ℕ) × HearsBy r (record s { searching = o }) x (asked_by x s.last) written t × (took_then ≡ took ++ written)) in
     let Beside : Item → Type 0 = λ i. (o : Option Search) (written : List ℕ) → HearsBy r s (told_in i) (asked_by (told_in i) s.last) written t → HearsWhile r s (told_in i) o written t in
     let beside : Beside c.args.item.now =
-        elim c.in-Packet.is [
-          inl p ↦ subst Beside (sym p.1) (λ o written h. heard_packet r s p.0.items o written t h)
-        | inr e ↦ subst Beside (sym e) (λ o written h. heard_spoilt r s o written t h)
-        ] in
+    elim c.in-Packet.is [
+      | inl p ↦ subst Beside (sym p.1) (λ o written h. heard_packet r s p.0.items o written t h)
+      | inr e ↦ subst Beside (sym e) (λ o written h. heard_spoilt r s o written t h)
+    ] in
     on_ok_weaker c.hear_alone-in-Packet.result (λ h. (h.0, beside s.searching h.0 h.1, h.2)) (subst T (sym some) (c.hear_alone-in-Packet.ensures.hears m is))

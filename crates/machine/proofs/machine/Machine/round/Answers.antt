@@ -4,7 +4,8 @@ use Rattle.round_schedule.specs.Schedule.{hart_rounds}
 use Rattle.round_planner.specs.Quotas.{quotas_of}
 use Rattle.hart_step.specs.Words.{words_of}
 use Rattle.trace.specs.Traced.{IsTrace}
-use Rattle.machine.specs.Machine.{Running, after_round, count_waiting}
+use Rattle.machine.specs.Machine.{Running, after_round}
+use Rattle.guest_rounds.specs.Rounds.{count_waiting}
 use Rattle.machine.specs.Untraced.{HasRun, HoldsTogether, Untraced, next_events, traced}
 use Rattle.machine.proofs.TracedMachine.{all_last, not_run, on_err, traced_run}
 use Rattle.machine.proofs.UntracedRounds.{one_round}

@@ -1,5 +1,5 @@
 use Rattle.round_planner.specs.Quotas.{quotas_of}
-use Rattle.machine.proofs.Asked.{hart_in_none, hart_in_some}
+use Rattle.guest_turns.proofs.Asked.{hart_in_none, hart_in_some}
 use Rattle.machine.proofs.untraced.UntracedMachine.hart_after.Goals as goal
 
 pub returns-in-Some-clause-hart : goal.returns-in-Some-clause-hart

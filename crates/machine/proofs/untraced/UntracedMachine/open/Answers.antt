@@ -1,6 +1,7 @@
 use Rattle.std.proofs.Common.{length, ap, ◌∙◌, arith}
-use Rattle.machine.specs.Guests.{Guest}
-use Rattle.machine.proofs.Opened.{length-opening, opened}
+use Rattle.guest_rounds.specs.Guests.{Guest}
+use Rattle.guest_rounds.proofs.OpeningGuest.{length-opening}
+use Rattle.machine.proofs.Opened.{opened}
 use Rattle.machine.proofs.untraced.UntracedMachine.open.Goals as goal
 
 pub invariant_of-result : goal.invariant_of-result

@@ -1,102 +1,29 @@
-use Rattle.std.proofs.Common.{◌≡◌, Bool, ◌+◌, ◌-◌, ◌++◌, ℕ, List, length, refl, sym, ap, ◌∙◌, subst, arith, rules, Err}
-use Rattle.round_schedule.specs.declared.event.Event.{Event}
-use Rattle.machine.specs.Kept.{AreOfNext}
-use Rattle.machine.specs.Machine.{after_rounds, count_stopped}
-use Rattle.machine.specs.Untraced.{HasRun, IsUntraced, MayGoOn, Untraced, next_events, untraced_round}
-use Rattle.machine.proofs.UntracedRounds.{kept_on, may_next, none_run, passed_by, ran_fewer, ran_ok, rounds_pass, then_run}
+use Rattle.std.proofs.Common.{◌≡◌, ◌+◌, ◌-◌, ℕ, arith, inl, inr, rules, subst, Err}
+use Rattle.machine.specs.Untraced.{HasRun}
+use Rattle.machine.specs.Walks.{HasStopped}
+use Rattle.machine.proofs.UntracedRounds.{then_run}
+use Rattle.machine.proofs.Walked.{fewer, stopped_run}
 use Rattle.machine.proofs.untraced.UntracedMachine.run_within.Goals as goal
-
-pub loop-done-init : goal.loop-done-init
-loop-done-init g c = (
-  none_run c.args.self.now (g.E.EventKeeper.keeps c.args.keeper.now),
-  refl,
-  (c.requires.sound.0, c.requires.sound.1, subst (λ (k : ℕ). MayGoOn g.E.EventKeeper.may_keep k c.requires.sound.0 c.args.self.now) (omega arith) c.requires.sound.2),
-)
-
-pub do_parallel-requires-clause-rounds : goal.do_parallel-requires-clause-rounds
-do_parallel-requires-clause-rounds g c = λ lifetimes within. omega (arith, c.loop-done.invariant.0.rounds, c.requires.rounds, c.loop-done-test.true)
-
-pub end_round-requires-clause-ends : goal.end_round-requires-clause-ends
-end_round-requires-clause-ends g c = λ lifetimes within.
-    subst (λ (u : Untraced). AreOfNext g.E.EventKeeper.logs u c.in_ok-ends.ends.items) (sym c.do_parallel.ensures.stays)
-    (subst (λ (b : Bool). AreOfNext b c.loop-done.self c.in_ok-ends.ends.items) c.log_form.ensures c.in_ok-ends.ensures.ends)
-
-pub end_round-requires-clause-rounds : goal.end_round-requires-clause-rounds
-end_round-requires-clause-rounds g c = λ lifetimes within.
-    omega (arith, c.loop-done.invariant.0.rounds, c.requires.rounds, c.loop-done-test.true, ap (λ (u : Untraced). u.rounds) c.do_parallel.ensures.stays)
-
-pub end_round-requires-clause-sound : goal.end_round-requires-clause-sound
-end_round-requires-clause-sound g c = λ lifetimes within.
-    let i = c.loop-done.invariant in
-    let may = (may_next g.E.EventKeeper.may_keep c.loop-done.done c.args.rounds i.2.0 c.loop-done.self c.loop-done-test.true i.2.2).0 in
-    (i.2.0, i.2.1, subst (λ (u : Untraced). g.E.EventKeeper.may_keep (i.2.0 ++ next_events u)) (sym c.do_parallel.ensures.stays) may)
-
-pub loop-done-preserved : goal.loop-done-preserved
-loop-done-preserved g c =
-    let i = c.loop-done.invariant in
-    let u = c.loop-done.self in
-    let same = c.do_parallel.ensures.stays in
-    let one = c.in_ok-end_round.ensures in
-    let after = g.E.EventKeeper.keeps c.end_round.new.keeper in
-    let ok : c.end_round.new.self ≡ untraced_round u = one.ok ∙ ap untraced_round same in
-    let run = subst (λ (w : Untraced). HasRun 1 w c.end_round.new.self (g.E.EventKeeper.keeps c.loop-done.keeper) after) same one.run in
-    let kept = subst (λ (w : Untraced). (es : List Event) → g.E.EventKeeper.keeps c.loop-done.keeper es → after (es ++ next_events w)) same one.kept in
-    let next = may_next g.E.EventKeeper.may_keep c.loop-done.done c.args.rounds i.2.0 u c.loop-done-test.true i.2.2 in
-    let all = then_run c.loop-done.done 1 c.args.self.now u c.end_round.new.self (g.E.EventKeeper.keeps c.args.keeper.now) (g.E.EventKeeper.keeps c.loop-done.keeper) after i.0 run in
-    let sound = subst (λ (w : Untraced). MayGoOn g.E.EventKeeper.may_keep (c.args.rounds - (c.loop-done.done + 1)) (i.2.0 ++ next_events u) w) (sym ok) next.1 in
-    (all, one.opening ∙ i.1, (i.2.0 ++ next_events u, kept i.2.0 i.2.1, sound))
 
 pub returns-then-running_harts-eq0-clause-ok : goal.returns-then-running_harts-eq0-clause-ok
 returns-then-running_harts-eq0-clause-ok g c =
-    let i = c.loop-done.invariant in
-    let u = c.loop-done.self in
-    let k = c.args.rounds - c.loop-done.done in
-    let all : c.loop-done.done + k ≡ c.args.rounds = omega (arith, c.loop-done-test.true) in
-    let keeps = g.E.EventKeeper.keeps c.loop-done.keeper in
-    let stopped : count_stopped u.harts ≡ length u.harts = omega (arith, c.running_harts.ensures, c.if-running_harts-eq0.true) in
-    let passed = passed_by k u c.pass.new.self keeps (ap (λ (w : Untraced). w.rounds) c.pass.ensures)
-    (λ m is. subst (λ (w : Untraced). IsUntraced (after_rounds k m) w × ((after_rounds k m).state.trace ≡ m.state.trace)) (sym c.pass.ensures) (rounds_pass k u m stopped is)) in
-    subst (λ (n : ℕ). HasRun n c.args.self.now c.pass.new.self (g.E.EventKeeper.keeps c.args.keeper.now) keeps) all
-    (then_run c.loop-done.done k c.args.self.now u c.pass.new.self (g.E.EventKeeper.keeps c.args.keeper.now) keeps keeps i.0 passed)
+    let stopped : HasStopped c.args.self.now = omega (arith, c.running_harts.ensures, c.if-running_harts-eq0.true) in
+    stopped_run c.args.rounds c.args.self.now c.pass.new.self (g.E.EventKeeper.keeps c.args.keeper.now) stopped c.pass.ensures
 
-pub returns-in_err-ends-clause-fewer : goal.returns-in_err-ends-clause-fewer
-returns-in_err-ends-clause-fewer g c =
-    let i = c.loop-done.invariant in
-    let r : c.from_residual.result ≡ Err c.in_err-ends.field-0.0 = search rules in
-    rw r (
-      c.loop-done.done,
-      c.loop-done-test.true,
-      subst (λ (w : Untraced). HasRun c.loop-done.done c.args.self.now w (g.E.EventKeeper.keeps c.args.keeper.now) (g.E.EventKeeper.keeps c.loop-done.keeper)) (sym c.do_parallel.ensures.stays) i.0,
-    )
+pub returns-then-done-rounds-clause-ok : goal.returns-then-done-rounds-clause-ok
+returns-then-done-rounds-clause-ok g c =
+    let u = c.walk_keeping.new.self in
+    let walked = c.in_ok-done.ensures in
+    let k = c.args.rounds - c.in_ok-done.done in
+    let all : c.in_ok-done.done + k ≡ c.args.rounds = omega (arith, c.if-done-rounds.true) in
+    let before = g.E.EventKeeper.keeps c.args.keeper.now in
+    let keeps = g.E.EventKeeper.keeps c.walk_keeping.new.keeper in
+    let stopped : HasStopped u = elim walked.ended [ inl e ↦ absurd (omega (arith, e, c.if-done-rounds.true)) | inr s ↦ s ] in
+    subst (λ (n : ℕ). HasRun n c.args.self.now c.pass-then-done-rounds.new.self before keeps) all
+    (then_run c.in_ok-done.done k c.args.self.now u c.pass-then-done-rounds.new.self before keeps keeps walked.done (stopped_run k u c.pass-then-done-rounds.new.self keeps stopped c.pass-then-done-rounds.ensures))
 
-pub returns-in_err-end_round-clause-fewer : goal.returns-in_err-end_round-clause-fewer
-returns-in_err-end_round-clause-fewer g c =
-    let i = c.loop-done.invariant in
-    let none = c.in_err-end_round.ensures in
-    let keeps = g.E.EventKeeper.keeps c.end_round.new.keeper in
-    let same = none.err ∙ c.do_parallel.ensures.stays in
-    let r : c.from_residual-in_err-end_round.result ≡ Err c.in_err-end_round.field-0.0 = search rules in
-    rw r (
-      c.loop-done.done,
-      c.loop-done-test.true,
-      subst (λ (w : Untraced). HasRun c.loop-done.done c.args.self.now w (g.E.EventKeeper.keeps c.args.keeper.now) keeps) (sym same)
-          (kept_on c.loop-done.done c.args.self.now c.loop-done.self (g.E.EventKeeper.keeps c.args.keeper.now) (g.E.EventKeeper.keeps c.loop-done.keeper) keeps i.0 none.untold),
-    )
-
-pub run_kept-requires-clause-rounds : goal.run_kept-requires-clause-rounds
-run_kept-requires-clause-rounds g c = λ lifetimes within. omega (arith, c.loop-done.invariant.0.rounds, c.requires.rounds, c.loop-done-test.true)
-
-pub run_kept-requires-clause-sound : goal.run_kept-requires-clause-sound
-run_kept-requires-clause-sound g c = λ lifetimes within. c.loop-done.invariant.2
-
-pub returns-then-worth_workers-gt1-clause-ok : goal.returns-then-worth_workers-gt1-clause-ok
-returns-then-worth_workers-gt1-clause-ok g c =
-    let all : c.loop-done.done + (c.args.rounds - c.loop-done.done) ≡ c.args.rounds = omega (arith, c.loop-done-test.true) in
-    ran_ok c.run_kept.result c.loop-done.done (c.args.rounds - c.loop-done.done) c.args.rounds c.args.self.now c.loop-done.self c.run_kept.new.self (g.E.EventKeeper.keeps c.args.keeper.now)
-    (g.E.EventKeeper.keeps c.loop-done.keeper) (g.E.EventKeeper.keeps c.run_kept.new.keeper) c.loop-done.invariant.0 c.run_kept.ensures.ran all
-
-pub returns-then-worth_workers-gt1-clause-fewer : goal.returns-then-worth_workers-gt1-clause-fewer
-returns-then-worth_workers-gt1-clause-fewer g c =
-    let all : c.loop-done.done + (c.args.rounds - c.loop-done.done) ≡ c.args.rounds = omega (arith, c.loop-done-test.true) in
-    ran_fewer c.run_kept.result c.loop-done.done (c.args.rounds - c.loop-done.done) c.args.rounds c.args.self.now c.loop-done.self c.run_kept.new.self (g.E.EventKeeper.keeps c.args.keeper.now)
-    (g.E.EventKeeper.keeps c.loop-done.keeper) (g.E.EventKeeper.keeps c.run_kept.new.keeper) c.loop-done.invariant.0 c.run_kept.ensures.ran all
+pub returns-in_err-done-clause-fewer : goal.returns-in_err-done-clause-fewer
+returns-in_err-done-clause-fewer g c =
+    let r : c.from_residual.result ≡ Err c.in_err-done.field-0.0 = search rules in
+    let cut = c.in_err-done.ensures.cut_off in
+    rw r (cut.0, fewer c.args.rounds cut.0 cut.1, cut.2)

@@ -1,0 +1,17 @@
+pub mod EndParts
+pub mod Fits
+pub mod CodeKept
+pub mod RoundsOfHarts
+pub mod LinesReady
+pub mod Listed
+pub mod AtRest
+pub mod KeptHarts
+pub mod CommittedAtOnce
+pub mod OpeningGuest
+pub mod RoundDone
+pub mod TraceKept
+pub mod Adding
+pub mod Counted
+pub mod Tallied
+pub mod GuestRounds
+pub mod NextStarts

@@ -1,0 +1,152 @@
+ghost use Rattle.std.specs.Prelude.{◌≡◌, ◌≤◌, length, IfOk};
+ghost use Rattle.guest_rounds.specs.Guests.{opening_guest};
+
+use crate::decoding::decode_code;
+use crate::opening::opening_harts;
+use crate::spare_lists::SpareLists;
+use elf_loader::Image;
+use hart_step::{CodeTable, Hart};
+use pages::{OutOfMemory, Pages};
+use reservations::Reservations;
+use serial_phase::{Console, SerialLog, SharedState};
+use std::alloc::Global;
+use std::marker::Model;
+
+/// A guest between two rounds: its harts, and what they share. A round changes this, and nothing else.
+#[derive(Drop)]
+pub struct GuestState {
+    pub(crate) harts: Vec<Hart>,
+    pub(crate) spare: SpareLists,
+    pub(crate) shared: SharedState,
+}
+
+impl Model for GuestState {
+    ghost use Rattle.guest_rounds.specs.Guests.{Guest, guest_of};
+    ghost use Rattle.guest_rounds.specs.Held.{Agrees};
+
+    ghost Value = { Guest };
+
+    ghost view = { λ g. guest_of g.harts.items g.shared };
+
+    ghost invariant = { λ g. Agrees g.harts.items g.spare.ends.items g.shared };
+}
+
+impl GuestState {
+    /// The guest of an image and an input with so many harts, before the first round.
+    pub fn open(
+        alloc: Global,
+        image: &Image,
+        input: Vec<u8>,
+        count: u32,
+    ) -> Result<GuestState, OutOfMemory>
+        requires { count ≤ 64 }
+        ensures { IfOk result (λ g. g ≡ opening_guest image.now input.items count) }
+    {
+        let pages = Pages::new(alloc, image.pages(), image.pieces(), image.code())?;
+        let entry = image.entry();
+        let code = decode_code(alloc, &pages, entry)?;
+        let harts = opening_harts(alloc, entry, count)?;
+        let shared = SharedState {
+            pages,
+            code,
+            reservations: Reservations::new(count),
+            console: Console::new(alloc, input),
+            log: SerialLog::new(alloc),
+        };
+        Ok(GuestState {
+            harts,
+            spare: SpareLists::new(alloc),
+            shared,
+        })
+    }
+
+    /// The harts, in hart order.
+    pub fn harts(&self) -> &[Hart]
+        ensures { result.now ≡ self.now.harts }
+    {
+        self.harts.as_slice()
+    }
+
+    /// Memory.
+    pub fn pages(&self) -> &Pages
+        ensures { result.now.memory ≡ self.now.shared.memory }
+    {
+        &self.shared.pages
+    }
+
+    /// The output so far.
+    pub fn output(&self) -> &[u8]
+        ensures { result.now ≡ self.now.shared.console.output }
+    {
+        self.shared.console.output()
+    }
+
+    /// The input and the output.
+    pub fn console(&self) -> &Console
+        ensures { result.now.console ≡ self.now.shared.console }
+    {
+        &self.shared.console
+    }
+
+    /// The reservations of the harts.
+    pub fn reservations(&self) -> &Reservations
+        ensures { result.now ≡ self.now.shared.table }
+    {
+        &self.shared.reservations
+    }
+
+    /// There is one reservation's place for each hart.
+    pub fn sizes_agree(&self)
+        ensures { length self.now.shared.table ≡ length self.now.harts }
+    {
+        let _harts = &self.harts;
+    }
+
+    /// An equal guest. Pages that were written to are copied, and the words of the code are decoded anew.
+    pub fn copy(&self) -> Result<GuestState, OutOfMemory>
+        ensures { IfOk result (λ g. g ≡ self.now) }
+    {
+        let pages = self.shared.pages.copy(self.shared.pages.allocator())?;
+        self.over(pages)
+    }
+
+    /// An equal guest that shares its pages: each of the two gets its own of a page when it writes there. The words of the code
+    /// are decoded anew.
+    pub fn share(&mut self) -> Result<GuestState, OutOfMemory>
+        ensures same { IfOk result (λ g. g ≡ self.old) }
+        ensures stays { self.new ≡ self.old }
+    {
+        let alloc = self.shared.pages.allocator();
+        let pages = self.shared.pages.share(alloc)?;
+        self.over(pages)
+    }
+
+    /// The same guest over equal pages.
+    fn over(&self, pages: Pages) -> Result<GuestState, OutOfMemory>
+        requires { pages.memory ≡ self.now.shared.memory }
+        ensures { IfOk result (λ g. g ≡ self.now) }
+    {
+        let alloc = pages.allocator();
+        let known = &self.shared.code;
+        let code = CodeTable::new(alloc, &pages, known.first(), known.words().len())?;
+        Ok(GuestState {
+            harts: copied(alloc, &self.harts)?,
+            spare: SpareLists::new(alloc),
+            shared: SharedState {
+                pages,
+                code,
+                reservations: self.shared.reservations.copy(),
+                console: self.shared.console.copy(alloc)?,
+                // No turn is under way between two rounds.
+                log: SerialLog::new(alloc),
+            },
+        })
+    }
+}
+
+/// The same harts.
+fn copied(alloc: Global, harts: &[Hart]) -> Result<Vec<Hart>, OutOfMemory>
+    ensures { IfOk result (λ hs. hs.items ≡ harts.now) }
+{
+    Vec::from_slice(alloc, harts).map_err(|_| OutOfMemory)
+}

@@ -1,0 +1,181 @@
+//! The parallel phase of a guest's round: the rounds of all harts, and what they left.
+
+ghost use Rattle.std.specs.Prelude.{◌≡◌, ◌<◌, ◌≤◌, ◌-◌, ℕ, [], IfOk, OnOk, length, slice_index, vec_capacity};
+ghost use Rattle.round_schedule.specs.Schedule.{hart_rounds};
+ghost use Rattle.round_planner.specs.Quotas.{quota_of, quotas_of};
+ghost use Rattle.hart_step.specs.CodeTables.{Shows};
+ghost use Rattle.hart_step.specs.Words.{words_of};
+ghost use Rattle.hart_rounds.specs.Starts.{keeps_log, rounds_of};
+ghost use Rattle.guest_rounds.specs.HartEnds.{AreAtRest, AreEndsOf, AreKept, harts_of};
+
+use crate::crew::Crew;
+use crate::spare_lists::SpareLists;
+use hart_rounds::{HartEnd, RoundStart, round_in_place};
+use hart_step::{Access, Hart};
+use pages::OutOfMemory;
+use parallel_phase::{Gate, gather};
+use round_lock::BookStart;
+use round_planner::Plan;
+use serial_phase::SharedState;
+use std::marker::Brand;
+use std::sync::Wait;
+use std::thread::Threads;
+
+/// How many harts a plan has at most.
+const MOST_HARTS: usize = 64;
+
+/// Does the rounds of all harts, each on memory as it is, by the workers of a crew. The spare list of what harts left is taken for
+/// its room, and for the harts in it that have stopped, which are those of the machine: the rest of what it holds is let go.
+pub(crate) fn parallel<G: Gate + Sync, R: Threads + Wait + Sync>(
+    crew: &Crew<'_, G, R>,
+    shared: &SharedState,
+    harts: &[Hart],
+    plan: &Plan,
+    round: u32,
+    spare: &mut SpareLists,
+) -> Result<Vec<HartEnd>, OutOfMemory>
+    requires workers { (1 ≤ crew.now.workers) × (crew.now.workers ≤ 16) }
+    requires shows { Shows shared.now.pages.memory shared.now.code.first
+        shared.now.code.instructions }
+    requires harts { length harts.now ≡ plan.now.harts }
+    requires round { 1 ≤ round }
+    requires kept { AreKept harts.now (harts_of spare.old.ends.items) }
+    ensures taken { spare.new.ends.items ≡ [] }
+    ensures ends { IfOk result (λ os. AreEndsOf (keeps_log crew.now.form) shared.now.pages.memory
+        (hart_rounds (words_of shared.now.pages.memory.code) shared.now.pages.memory.bytes
+        (quotas_of plan.now (round - 1)) harts.now) os.items) }
+{
+    // At most 64.
+    let _harts = plan.harts();
+    let mut all = [0; MOST_HARTS];
+    let quotas = &mut all[..harts.len()];
+    set_quotas(plan, round, quotas);
+    let start = RoundStart::new(&shared.pages, &shared.code, harts, quotas).with_form(crew.form);
+    parallel_from::<Brand, G, R>(crew, &start, spare)
+}
+
+/// The same from a start that is tied to the book of the round. A lone worker needs no book.
+fn parallel_from<B: BookStart + Send + Sync, G: Gate + Sync, R: Threads + Wait + Sync>(
+    crew: &Crew<'_, G, R>,
+    start: &RoundStart<'_>,
+    spare: &mut SpareLists,
+) -> Result<Vec<HartEnd>, OutOfMemory>
+    requires workers { (1 ≤ crew.now.workers) × (crew.now.workers ≤ 16) }
+    requires start { start.now ≡ B.start }
+    requires sized { length start.now.quotas ≡ length start.now.harts }
+    requires kept { AreKept start.now.harts (harts_of spare.old.ends.items) }
+    ensures taken { spare.new.ends.items ≡ [] }
+    ensures ends { IfOk result (λ os.
+        AreEndsOf start.now.logs start.now.memory (rounds_of start.now) os.items) }
+{
+    let mut ends = spare.take_ends(start.pages().allocator());
+    if crew.workers == 1 {
+        return parallel_alone(crew.gate, start, ends, &mut spare.accesses);
+    }
+    ends.clear();
+    ends.reserve(start.harts().len())?;
+    gather_ends::<B, G, R>(crew, start, ends)
+}
+
+/// Does the rounds of all harts on the calling thread, in hart order, each in the place of what an earlier round of the hart left.
+fn parallel_alone<G: Gate>(
+    gate: &G,
+    start: &RoundStart<'_>,
+    mut ends: Vec<HartEnd>,
+    accesses: &mut Vec<Access>,
+) -> Result<Vec<HartEnd>, OutOfMemory>
+    requires sized { length start.now.quotas ≡ length start.now.harts }
+    requires kept { AreKept start.now.harts (harts_of ends.items) }
+    ensures { IfOk result (λ os.
+        AreEndsOf start.now.logs start.now.memory (rounds_of start.now) os.items) }
+{
+    make_as_many(start, &mut ends)?;
+    rounds_in_place(gate, start, ends.as_mut_slice(), accesses)?;
+    Ok(ends)
+}
+
+/// Sees that there is a place for each hart, those that are missing as of rounds that did nothing.
+fn make_as_many(start: &RoundStart<'_>, ends: &mut Vec<HartEnd>) -> Result<(), OutOfMemory>
+    requires { AreKept start.now.harts (harts_of ends.old.items) }
+    ensures many { OnOk result (length ends.new.items ≡ length start.now.harts) }
+    ensures kept { OnOk result (AreKept start.now.harts (harts_of ends.new.items)) }
+{
+    let alloc = start.pages().allocator();
+    let harts = start.harts();
+    ends.truncate(harts.len());
+    for number in ends.len()..harts.len() {
+        ends.push(HartEnd::at_rest(alloc, harts[number]))?;
+    }
+    Ok(())
+}
+
+/// Does the rounds of all harts, each in its place.
+fn rounds_in_place<G: Gate>(
+    gate: &G,
+    start: &RoundStart<'_>,
+    ends: &mut [HartEnd],
+    accesses: &mut Vec<Access>,
+) -> Result<(), OutOfMemory>
+    requires sized { length start.now.quotas ≡ length start.now.harts }
+    requires many { length ends.old ≡ length start.now.harts }
+    requires kept { AreKept start.now.harts (harts_of ends.old) }
+    ensures { OnOk result (AreEndsOf start.now.logs start.now.memory
+        (rounds_of start.now) ends.new) }
+{
+    for number in 0..start.harts().len() {
+        gate.pass(number as u32);
+        round_in_place(number, start, &mut ends[number], accesses)?;
+        gate.done(number as u32);
+    }
+    Ok(())
+}
+
+/// Gathers the rounds of all harts, and puts what they left in hart order.
+fn gather_ends<B: BookStart + Send + Sync, G: Gate + Sync, R: Threads + Wait + Sync>(
+    crew: &Crew<'_, G, R>,
+    start: &RoundStart<'_>,
+    mut ends: Vec<HartEnd>,
+) -> Result<Vec<HartEnd>, OutOfMemory>
+    requires workers { (1 ≤ crew.now.workers) × (crew.now.workers ≤ 16) }
+    requires start { start.now ≡ B.start }
+    requires sized { length start.now.quotas ≡ length start.now.harts }
+    requires empty { ends.items ≡ [] }
+    requires room { length start.now.harts ≤ vec_capacity ends }
+    ensures { IfOk result (λ os.
+        AreEndsOf start.now.logs start.now.memory (rounds_of start.now) os.items) }
+{
+    let mut gathered = gather::<B, G, R>(crew.rt, start, crew.workers, crew.gate)?;
+    for number in 0..start.harts().len() {
+        // The history is complete.
+        let Some(round) = gathered.take(number as u32) else {
+            unreachable!()
+        };
+        ends.push_reserved(round.into_end());
+    }
+    Ok(ends)
+}
+
+/// Gives each hart the state that its round left. One that had stopped has it already.
+pub(crate) fn give_harts(ends: &[HartEnd], harts: &mut [Hart])
+    requires count { length harts.old ≡ length ends.now }
+    requires at_rest { AreAtRest harts.old ends.now }
+    ensures { harts.new ≡ harts_of ends.now }
+{
+    for number in 0..ends.len() {
+        if harts[number].stop.is_none() {
+            harts[number] = ends[number].hart;
+        }
+    }
+}
+
+/// Sets how many instructions each hart may do in a round.
+pub(crate) fn set_quotas(plan: &Plan, round: u32, quotas: &mut [u32])
+    requires round { 1 ≤ round }
+    requires sized { length quotas.old ≡ plan.now.harts }
+    ensures { (h : ℕ) → h < plan.now.harts →
+        slice_index quotas.new h ≡ quota_of plan.now round h }
+{
+    for hart in 0..plan.harts() {
+        quotas[hart as usize] = plan.quota(round, hart);
+    }
+}

@@ -1,0 +1,174 @@
+ghost use Rattle.std.specs.Prelude.{◌≡◌, ℕ, ◌<◌, ◌≤◌, ◌+◌, Bool, List, [], length, IfOk, if◌then◌else◌};
+ghost use Rattle.pages.specs.Memory.{TouchesNoCode};
+ghost use Rattle.round_schedule.specs.Schedule.{HartRound, all_stores};
+ghost use Rattle.hart_step.specs.declared.hart.Hart.{Hart};
+ghost use Rattle.hart_step.specs.CodeTables.{Shows};
+ghost use Rattle.hart_step.specs.Room.{HasSpares};
+ghost use Rattle.serial_phase.specs.Roomed.{HasRoom};
+ghost use Rattle.guest_turns.specs.Asked.{HadTurns, tabled_turn_begun, found_at, found_in, one_further};
+ghost use Rattle.guest_rounds.specs.Guests.{shared_of};
+ghost use Rattle.guest_rounds.specs.HartEnds.{AreFit, AreEndsOf, turns_of, waits_of};
+
+use guest_rounds::{Crew, commit, make_turn_room, turns_needed};
+use hart_rounds::HartEnd;
+use hart_step::Hart;
+use pages::OutOfMemory;
+use seeing::Sight;
+use serial_phase::{SharedState, Turn, take_turn};
+use std::thread::Threads;
+
+/// A place in a serial turn.
+#[derive(Clone, Copy)]
+pub(crate) struct TurnPlace {
+    /// Whose turn it is.
+    pub hart: u32,
+    /// In which round.
+    pub round: u32,
+    /// How many instructions a turn may do.
+    pub budget: u32,
+    /// How many of them are done, at most the budget.
+    pub count: u32,
+}
+
+/// What a waiting hart sees at a place in its turn, for which it went out of its part of the round as `start`: after the commit and
+/// the turns of the harts before it. `None` where it does fewer instructions.
+pub(crate) fn ask_turn<G, R: Threads + Sync>(
+    crew: &Crew<'_, G, R>,
+    shared: &mut SharedState,
+    ends: &[HartEnd],
+    start: Hart,
+    place: TurnPlace,
+) -> Result<Option<Sight>, OutOfMemory>
+    requires workers { 1 ≤ crew.now.workers }
+    requires shows { Shows shared.old.pages.memory shared.old.code.first
+        shared.old.code.instructions }
+    requires rounds { (logs : Bool) × (rs : List (HartRound Hart)) ×
+        AreEndsOf logs shared.old.pages.memory rs ends.now ×
+        TouchesNoCode shared.old.pages.memory.code (all_stores rs) }
+    requires few { length ends.now ≤ 64 }
+    requires fits { AreFit shared.old.pages.memory ends.now }
+    requires size { length shared.old.reservations ≡ length ends.now }
+    requires hart { place.hart < length ends.now }
+    requires budget { place.budget ≤ 1000 }
+    requires count { place.count ≤ place.budget }
+    ensures { IfOk result (λ s. (logs : Bool) (rs : List (HartRound Hart)) →
+        AreEndsOf logs shared.old.pages.memory rs ends.now →
+        s ≡ found_in (shared_of shared.old) place start rs) }
+{
+    let earlier = &ends[..place.hart as usize];
+    let turns = turns_needed(earlier, place.budget) + place.budget;
+    make_turn_room(shared, ends, turns)?;
+    commit(crew, &mut shared.pages, &mut shared.reservations, ends);
+    let first = Turn {
+        hart: 0,
+        round: place.round,
+        budget: place.budget,
+    };
+    take_turns(shared, earlier, first);
+    sight_at(shared, start, place)
+}
+
+/// Does the turns of the waiting ones among these harts, of which the first one's turn would be this.
+fn take_turns(shared: &mut SharedState, ends: &[HartEnd], turn: Turn)
+    requires shows { Shows shared.old.pages.memory shared.old.code.first
+        shared.old.code.instructions }
+    requires harts { turn.hart + length ends.now ≤ length shared.old.reservations }
+    requires few { length shared.old.reservations ≤ 64 }
+    requires pages { HasSpares (turns_of turn.budget (waits_of ends.now)) shared.old.pages }
+    requires console { HasRoom (turns_of turn.budget (waits_of ends.now)) shared.old.console }
+    requires log { turns_of turn.budget (waits_of ends.now) ≤ shared.old.log.room }
+    requires began { shared.old.log.current ≡ [] }
+    ensures turns { HadTurns turn ends.now shared.old shared.new }
+    ensures pages { (n : ℕ) → HasSpares (n + turns_of turn.budget (waits_of ends.now))
+        shared.old.pages → HasSpares n shared.new.pages }
+    ensures console { (n : ℕ) → HasRoom (n + turns_of turn.budget (waits_of ends.now))
+        shared.old.console → HasRoom n shared.new.console }
+    ensures log { shared.old.log.room ≤
+        shared.new.log.room + turns_of turn.budget (waits_of ends.now) }
+    ensures began { shared.new.log.current ≡ [] }
+    ensures size { length shared.new.reservations ≡ length shared.old.reservations }
+    ensures shows { Shows shared.new.pages.memory shared.new.code.first
+        shared.new.code.instructions }
+{
+    match ends {
+        [] => {}
+        [end, rest @ ..] => {
+            let mut hart = end.hart;
+            take_turn(&mut hart, shared, turn_of(end, turn));
+            shared.log.clear();
+            let next = Turn {
+                hart: turn.hart + 1,
+                ..turn
+            };
+            take_turns(shared, rest, next);
+        }
+    }
+}
+
+/// The turn of a hart: of no instruction where it does not wait.
+pub(crate) fn turn_of(end: &HartEnd, turn: Turn) -> Turn
+    ensures { result ≡ record turn { budget = if end.now.waits then turn.budget else 0 } }
+{
+    Turn {
+        budget: if end.waits { turn.budget } else { 0 },
+        ..turn
+    }
+}
+
+/// What a hart sees at a place in its turn, which begins here and now.
+fn sight_at(
+    shared: &mut SharedState,
+    start: Hart,
+    place: TurnPlace,
+) -> Result<Option<Sight>, OutOfMemory>
+    requires shows { Shows shared.old.pages.memory shared.old.code.first
+        shared.old.code.instructions }
+    requires hart { place.hart < length shared.old.reservations }
+    requires count { place.count ≤ place.budget }
+    requires pages { HasSpares place.budget shared.old.pages }
+    requires console { HasRoom place.budget shared.old.console }
+    requires log { place.budget ≤ shared.old.log.room }
+    requires began { shared.old.log.current ≡ [] }
+    ensures { IfOk result (λ s. s ≡ found_at shared.old.pages.memory.code place (tabled_turn_begun start
+        shared.old.pages.memory.bytes shared.old.console.console shared.old.reservations)) }
+{
+    let mut here = start;
+    let turn = Turn {
+        hart: place.hart,
+        round: place.round,
+        budget: place.count,
+    };
+    take_turn(&mut here, shared, turn);
+    if here.done.wrapping_sub(start.done) < u64::from(place.count) {
+        return Ok(None);
+    }
+    let seen = shared.pages.share(shared.pages.allocator())?;
+    if place.count == place.budget {
+        return Ok(Some(Sight::of_memory(here, seen)));
+    }
+    // Where one more instruction is not done, the turn ends there, and the hart may have stopped.
+    let next = after_one_more(shared, here, turn)?;
+    if next.done == here.done {
+        Ok(Some(Sight::of_memory(next, seen)))
+    } else {
+        Ok(Some(Sight::of_memory(here, seen)))
+    }
+}
+
+/// A hart after one more instruction of its turn.
+fn after_one_more(shared: &mut SharedState, hart: Hart, turn: Turn) -> Result<Hart, OutOfMemory>
+    requires shows { Shows shared.old.pages.memory shared.old.code.first
+        shared.old.code.instructions }
+    requires hart { turn.hart < length shared.old.reservations }
+    requires console { HasRoom 1 shared.old.console }
+    requires log { 1 ≤ shared.old.log.room }
+    ensures { IfOk result (λ h. h ≡ (one_further shared.old.pages.memory.code turn.round turn.hart
+        (tabled_turn_begun hart shared.old.pages.memory.bytes shared.old.console.console
+        shared.old.reservations)).hart) }
+{
+    shared.pages.prepare(shared.pages.allocator(), &[], 1)?;
+    shared.log.clear();
+    let mut next = hart;
+    take_turn(&mut next, shared, Turn { budget: 1, ..turn });
+    Ok(next)
+}

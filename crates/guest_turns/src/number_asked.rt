@@ -1,0 +1,117 @@
+ghost use Rattle.std.specs.Prelude.{◌≡◌, ◌<◌, ◌≤◌, ◌+◌, ◌^◌, [], Bool, List, length, IfOk};
+ghost use Rattle.pages.specs.Memory.{TouchesNoCode};
+ghost use Rattle.round_schedule.specs.declared.event.Event.{Event};
+ghost use Rattle.round_schedule.specs.Schedule.{HartRound, all_stores};
+ghost use Rattle.round_schedule.specs.Tables.{Tied};
+ghost use Rattle.round_planner.specs.Quotas.{quotas_of};
+ghost use Rattle.hart_step.specs.declared.hart.Hart.{Hart};
+ghost use Rattle.hart_step.specs.CodeTables.{Shows};
+ghost use Rattle.hart_step.specs.Room.{HasSpares};
+ghost use Rattle.hart_step.specs.Words.{words_of};
+ghost use Rattle.run_loops.specs.Asking.{asks_in_round, asks_in_tabled_phase};
+ghost use Rattle.run_loops.specs.Forgetting.{asks_number};
+ghost use Rattle.serial_phase.specs.Roomed.{HasRoom};
+ghost use Rattle.guest_rounds.specs.Guests.{guest_state, shared_of};
+ghost use Rattle.guest_rounds.specs.HartEnds.{AreFit, AreEndsOf, turns_of, waits_of};
+ghost use Rattle.guest_turns.specs.Asked.{ready_for_turns};
+ghost use Rattle.guest_turns.specs.NumberAsked.{TellsAsking};
+
+use crate::asked_turn::turn_of;
+use asking_turn::take_asking_turn;
+use guest_rounds::{Crew, GuestState, HalfRound, commit, make_turn_room, turns_needed};
+use hart_rounds::HartEnd;
+use pages::OutOfMemory;
+use parallel_phase::Open;
+use round_planner::Plan;
+use serial_phase::{SharedState, Turn};
+use std::sync::Wait;
+use std::thread::Threads;
+
+/// Whether a hart of a guest asks for the number of the round in the round after `done` rounds.
+pub fn asks_in_round<R: Threads + Wait + Sync>(
+    crew: &Crew<'_, Open, R>,
+    guest: GuestState,
+    plan: &Plan,
+    done: u32,
+) -> Result<bool, OutOfMemory>
+    requires workers { (1 ≤ crew.now.workers) × (crew.now.workers ≤ 16) }
+    requires harts { length guest.harts ≡ plan.now.harts }
+    requires done { done + 1 < 2 ^ 32 }
+    ensures { IfOk result (λ b. (es : List Event) → Tied guest.shared.table es → b ≡
+        asks_in_round (words_of guest.shared.memory.code) (asks_number guest.shared.memory.code)
+        plan.now.budget (quotas_of plan.now) (guest_state done es guest)) }
+{
+    // The types keep: bytes in memory, at most 64 harts, and a budget of at most 1,000.
+    guest.pages().bytes_fit();
+    let _harts = plan.harts();
+    let budget = plan.budget();
+    let half = guest.into_half_round(crew, plan, done)?;
+    let HalfRound { mut shared, ends } = half;
+    asks_in_turns(crew, &mut shared, ends.as_slice(), done + 1, budget)
+}
+
+/// Whether one of the harts whose rounds left this asks in the serial phase that follows.
+fn asks_in_turns<G, R: Threads + Sync>(
+    crew: &Crew<'_, G, R>,
+    shared: &mut SharedState,
+    ends: &[HartEnd],
+    round: u32,
+    budget: u32,
+) -> Result<bool, OutOfMemory>
+    requires workers { 1 ≤ crew.now.workers }
+    requires shows { Shows shared.old.pages.memory shared.old.code.first
+        shared.old.code.instructions }
+    requires rounds { (logs : Bool) × (rs : List (HartRound Hart)) ×
+        AreEndsOf logs shared.old.pages.memory rs ends.now ×
+        TouchesNoCode shared.old.pages.memory.code (all_stores rs) }
+    requires few { length ends.now ≤ 64 }
+    requires fits { AreFit shared.old.pages.memory ends.now }
+    requires size { length shared.old.reservations ≡ length ends.now }
+    requires budget { budget ≤ 1000 }
+    ensures { IfOk result (λ b. (logs : Bool) (rs : List (HartRound Hart)) →
+        AreEndsOf logs shared.old.pages.memory rs ends.now →
+        b ≡ asks_in_tabled_phase (words_of shared.old.pages.memory.code)
+        (asks_number shared.old.pages.memory.code) budget round 0 rs
+        (ready_for_turns (shared_of shared.old) rs)) }
+{
+    let turns = turns_needed(ends, budget);
+    make_turn_room(shared, ends, turns)?;
+    commit(crew, &mut shared.pages, &mut shared.reservations, ends);
+    let first = Turn {
+        hart: 0,
+        round,
+        budget,
+    };
+    Ok(one_asks(shared, ends, first))
+}
+
+/// Does the turns of the waiting ones among these harts, of which the first one's turn would be this, up to one in which its hart
+/// asks, and answers whether there is one.
+fn one_asks(shared: &mut SharedState, ends: &[HartEnd], turn: Turn) -> bool
+    requires shows { Shows shared.old.pages.memory shared.old.code.first
+        shared.old.code.instructions }
+    requires harts { turn.hart + length ends.now ≤ length shared.old.reservations }
+    requires few { length shared.old.reservations ≤ 64 }
+    requires pages { HasSpares (turns_of turn.budget (waits_of ends.now)) shared.old.pages }
+    requires console { HasRoom (turns_of turn.budget (waits_of ends.now)) shared.old.console }
+    requires log { turns_of turn.budget (waits_of ends.now) ≤ shared.old.log.room }
+    requires began { shared.old.log.current ≡ [] }
+    ensures { TellsAsking turn ends.now shared.old result }
+{
+    match ends {
+        [] => false,
+        [end, rest @ ..] => {
+            let mut hart = end.hart;
+            let asks = take_asking_turn(&mut hart, shared, turn_of(end, turn));
+            if asks {
+                return true;
+            }
+            shared.log.clear();
+            let next = Turn {
+                hart: turn.hart + 1,
+                ..turn
+            };
+            one_asks(shared, rest, next)
+        }
+    }
+}

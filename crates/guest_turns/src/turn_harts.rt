@@ -1,0 +1,176 @@
+ghost use Rattle.std.specs.Prelude.{◌≡◌, ◌<◌, ◌≤◌, ◌+◌, ◌^◌, ◌++◌, [], Bool, List, length, map, IfOk, OnOk, option_to_list};
+ghost use Rattle.pages.specs.Memory.{TouchesNoCode};
+ghost use Rattle.round_schedule.specs.declared.event.Event.{Event};
+ghost use Rattle.round_schedule.specs.Schedule.{HartRound, all_stores};
+ghost use Rattle.round_schedule.specs.Tables.{Tied};
+ghost use Rattle.round_planner.specs.Quotas.{quotas_of};
+ghost use Rattle.hart_step.specs.declared.hart.Hart.{Hart};
+ghost use Rattle.hart_step.specs.CodeTables.{Shows};
+ghost use Rattle.hart_step.specs.Room.{HasSpares};
+ghost use Rattle.hart_step.specs.Words.{words_of};
+ghost use Rattle.serial_phase.specs.Roomed.{HasRoom};
+ghost use Rattle.guest_rounds.specs.Guests.{guest_state, shared_of};
+ghost use Rattle.guest_rounds.specs.HartEnds.{AreFit, AreEndsOf, turns_of, waits_of};
+ghost use Rattle.guest_turns.specs.Asked.{ready_for_turns};
+ghost use Rattle.guest_turns.specs.TabledTurnHarts.{AddsTurns, WalksTurn, turns_in_tabled_phase};
+ghost use Rattle.guest_turns.specs.TurnHarts.{TurnsEndThePast, turns_in_round};
+
+use crate::asked_turn::turn_of;
+use guest_rounds::{Crew, GuestState, HalfRound, commit, make_turn_room, turns_needed};
+use hart_rounds::HartEnd;
+use hart_step::Hart;
+use pages::OutOfMemory;
+use parallel_phase::Open;
+use round_planner::Plan;
+use round_schedule::{Access, Stepped};
+use serial_phase::{SerialLog, SharedState, Turn, serve};
+use std::sync::Wait;
+use std::thread::Threads;
+
+/// What `harts_in_turns` gives of a hart is what its past in the round ends with, from where its part of the parallel phase ends.
+pub fn turns_end_the_past<H, C>()
+    ensures { TurnsEndThePast H C }
+{}
+
+/// The harts along the serial turns of the round after `done` rounds of a guest: of each hart, in hart order, what it is before each
+/// instruction of its turn, and as the turn leaves it, its stop told. One that has no turn is there once, as its part of the parallel
+/// phase left it.
+pub fn turns_in_round<R: Threads + Wait + Sync>(
+    crew: &Crew<'_, Open, R>,
+    guest: GuestState,
+    plan: &Plan,
+    done: u32,
+) -> Result<Vec<Vec<Hart>>, OutOfMemory>
+    requires workers { (1 ≤ crew.now.workers) × (crew.now.workers ≤ 16) }
+    requires harts { length guest.harts ≡ plan.now.harts }
+    requires done { done + 1 < 2 ^ 32 }
+    ensures { IfOk result (λ v. (es : List Event) → Tied guest.shared.table es →
+        map (λ xs. xs.items) v.items ≡ turns_in_round (words_of guest.shared.memory.code) plan.now.budget
+        (quotas_of plan.now) (guest_state done es guest)) }
+{
+    // The types keep: bytes in memory, at most 64 harts, and a budget of at most 1,000.
+    guest.pages().bytes_fit();
+    let _harts = plan.harts();
+    let budget = plan.budget();
+    let half = guest.into_half_round(crew, plan, done)?;
+    let HalfRound { mut shared, ends } = half;
+    walk_turns(crew, &mut shared, ends.as_slice(), done + 1, budget)
+}
+
+/// The harts along the turns of the serial phase that follows what these rounds left.
+fn walk_turns<G, R: Threads + Sync>(
+    crew: &Crew<'_, G, R>,
+    shared: &mut SharedState,
+    ends: &[HartEnd],
+    round: u32,
+    budget: u32,
+) -> Result<Vec<Vec<Hart>>, OutOfMemory>
+    requires workers { 1 ≤ crew.now.workers }
+    requires shows { Shows shared.old.pages.memory shared.old.code.first
+        shared.old.code.instructions }
+    requires rounds { (logs : Bool) × (rs : List (HartRound Hart)) ×
+        AreEndsOf logs shared.old.pages.memory rs ends.now ×
+        TouchesNoCode shared.old.pages.memory.code (all_stores rs) }
+    requires few { length ends.now ≤ 64 }
+    requires fits { AreFit shared.old.pages.memory ends.now }
+    requires size { length shared.old.reservations ≡ length ends.now }
+    requires budget { budget ≤ 1000 }
+    ensures { IfOk result (λ v. (logs : Bool) (rs : List (HartRound Hart)) →
+        AreEndsOf logs shared.old.pages.memory rs ends.now → map (λ xs. xs.items) v.items ≡
+        turns_in_tabled_phase (words_of shared.old.pages.memory.code) budget round 0 rs
+        (ready_for_turns (shared_of shared.old) rs)) }
+{
+    let needed = turns_needed(ends, budget);
+    make_turn_room(shared, ends, needed)?;
+    commit(crew, &mut shared.pages, &mut shared.reservations, ends);
+    let first = Turn {
+        hart: 0,
+        round,
+        budget,
+    };
+    let mut turns = Vec::new(shared.pages.allocator());
+    add_turns(shared, ends, first, &mut turns)?;
+    Ok(turns)
+}
+
+/// Does the turns of the waiting ones among these harts, of which the first one's turn would be this, and adds the harts along each.
+fn add_turns(
+    shared: &mut SharedState,
+    ends: &[HartEnd],
+    turn: Turn,
+    turns: &mut Vec<Vec<Hart>>,
+) -> Result<(), OutOfMemory>
+    requires shows { Shows shared.old.pages.memory shared.old.code.first
+        shared.old.code.instructions }
+    requires harts { turn.hart + length ends.now ≤ length shared.old.reservations }
+    requires few { length shared.old.reservations ≤ 64 }
+    requires pages { HasSpares (turns_of turn.budget (waits_of ends.now)) shared.old.pages }
+    requires console { HasRoom (turns_of turn.budget (waits_of ends.now)) shared.old.console }
+    requires log { turns_of turn.budget (waits_of ends.now) ≤ shared.old.log.room }
+    requires began { shared.old.log.current ≡ [] }
+    ensures { OnOk result (AddsTurns turn ends.now shared.old (map (λ xs. xs.items) turns.old.items)
+        (map (λ xs. xs.items) turns.new.items)) }
+{
+    match ends {
+        [] => Ok(()),
+        [end, rest @ ..] => {
+            let mut hart = end.hart;
+            let mut harts = Vec::new(shared.pages.allocator());
+            walk_turn(&mut hart, shared, turn_of(end, turn), &mut harts)?;
+            harts.push(hart)?;
+            turns.push(harts)?;
+            shared.log.clear();
+            let next = Turn {
+                hart: turn.hart + 1,
+                ..turn
+            };
+            add_turns(shared, rest, next, turns)
+        }
+    }
+}
+
+/// Does the turn of a hart, and adds what the hart is before each of the instructions that it does there.
+fn walk_turn(
+    h: &mut Hart,
+    state: &mut SharedState,
+    turn: Turn,
+    passed: &mut Vec<Hart>,
+) -> Result<(), OutOfMemory>
+    requires shows { Shows state.old.pages.memory state.old.code.first state.old.code.instructions }
+    requires hart { turn.hart < length state.old.reservations }
+    requires pages { HasSpares turn.budget state.old.pages }
+    requires console { HasRoom turn.budget state.old.console }
+    requires log { turn.budget ≤ state.old.log.room }
+    requires began { state.old.log.current ≡ [] }
+    ensures { OnOk result (WalksTurn turn h.old state.old passed.old.items
+        h.new state.new passed.new.items) }
+{
+    let mut left = turn.budget;
+    while left > 0 {
+        if h.stop.is_some() {
+            return Ok(());
+        }
+        let before = *h;
+        match serve(h, state, turn.hart, turn.round) {
+            Stepped::Done(access) => keep(&mut state.log, access),
+            Stepped::Waits => return Ok(()),
+            Stepped::Stopped(_) => return Ok(()),
+        }
+        passed.push(before)?;
+        left -= 1;
+    }
+    Ok(())
+}
+
+/// Adds an access to the turn that is under way, where there is one.
+fn keep(log: &mut SerialLog, access: Option<Access>)
+    requires { 0 < log.old.room }
+    ensures current { log.new.current ≡ log.old.current ++ option_to_list access }
+    ensures closed { log.new.closed ≡ log.old.closed }
+    ensures room { log.old.room ≤ log.new.room + 1 }
+{
+    match access {
+        Some(access) => log.push(access),
+        None => {}
+    }
+}

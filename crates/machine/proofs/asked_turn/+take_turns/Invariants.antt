@@ -1,5 +1,0 @@
-use Rattle.std.proofs.Common.{length}
-use Rattle.machine.proofs.asked_turn.+take_turns.Given as goal
-
-abbrev pub decreases-take_turns : goal.decreases-take_turns
-decreases-take_turns l = length l.ends.now

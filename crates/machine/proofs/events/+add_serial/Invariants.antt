@@ -1,4 +1,0 @@
-use Rattle.machine.proofs.events.+add_serial.Given as goal
-
-abbrev pub decreases-add_serial : goal.decreases-add_serial
-decreases-add_serial l = l.left

@@ -1,6 +1,0 @@
-use Rattle.std.proofs.Common.{◌≡◌}
-use Rattle.machine.specs.Machine.{opening_harts}
-use Rattle.machine.proofs.opening.opening_harts.Given as goal
-
-abbrev pub invariant-loop-number : goal.invariant-loop-number
-invariant-loop-number l = l.opened.items ≡ opening_harts l.entry l.harts 0 l.number

@@ -1,5 +1,0 @@
-use Rattle.machine.proofs.AtRest.{Given}
-use Rattle.machine.proofs.parallel.give_harts.Given as goal
-
-abbrev pub invariant-loop-number : goal.invariant-loop-number
-invariant-loop-number l = Given l.ends l.fn.harts l.number l.harts

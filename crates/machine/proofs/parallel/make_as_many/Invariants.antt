@@ -1,9 +1,0 @@
-use Rattle.std.proofs.Common.{◌≡◌, vec_len}
-use Rattle.machine.specs.HartEnds.{AreKept, harts_of}
-use Rattle.machine.proofs.parallel.make_as_many.Given as goal
-
-abbrev pub invariant-loop-number : goal.invariant-loop-number
-invariant-loop-number l = record {
-  count : vec_len l.ends ≡ l.number;
-  kept : AreKept l.start.harts (harts_of l.ends.items);
-}

@@ -1,5 +1,0 @@
-use Rattle.machine.proofs.Listed.{ready_kept}
-use Rattle.machine.proofs.room.make_spares.Goals as goal
-
-pub returns-clause-ready : goal.returns-clause-ready
-returns-clause-ready c = ready_kept c.args.pages.now c.prepare.new.self c.args.ends.now (record { memory = c.prepare.ensures.memory; count = c.prepare.ensures.count; stays = c.prepare.ensures.stays }) c.requires

@@ -1,0 +1,46 @@
+-- What is known of a run after each of its rounds.
+use Rattle.std.specs.Prelude.{◌≡◌, ℕ, ◌+◌, ◌<◌, ◌≤◌, ◌⊎◌, true, List, length, Result, MatchResult}
+use Rattle.round_schedule.specs.declared.event.Event.{Event}
+use Rattle.machine.specs.Machine.{count_stopped}
+use Rattle.machine.specs.Untraced.{HasRun, IsAfter, MayGoOn, Untraced}
+use Rattle.machine.specs.declared.walks.Walked.{Walked}
+
+-- so many rounds of a run that began so have led there
+pub record HasDone (k : ℕ) (start now : Untraced) : Type 0 where
+  pub rounds : now.rounds ≡ start.rounds + k
+  pub run : IsAfter k start now
+
+-- no hart runs
+abbrev pub HasStopped : Untraced → Type 0
+HasStopped u = count_stopped u.harts ≡ length u.harts
+
+-- where a walk of n rounds was refused, k are done: fewer than n, but where it was the visitor that failed
+abbrev pub IsCutOff : Type 0 → ℕ → ℕ → Type 0
+IsCutOff may_fail n k = (k < n) ⊎ ((k ≤ n) × may_fail)
+
+-- ---- a part of a walk
+
+-- the events of the next n rounds may be kept after those that are kept, or no hart runs
+abbrev pub MayWalk : (List Event → Type 0) → (List Event → Type 0) → ℕ → Untraced → Type 0
+MayWalk may_keep keeps n u = ((es : List Event) × keeps es × MayGoOn may_keep n es u) ⊎ HasStopped u
+
+-- its rounds are done, n at most, or some where it was refused, and who kept the events before has kept those of the rounds too
+abbrev pub HasWalked : {E : Type 0} → Result Walked E → Type 0 → ℕ → Untraced → Untraced → (List Event → Type 0) → (List Event → Type 0) → Type 0
+HasWalked r may_fail n u v before after =
+    MatchResult r (λ w. (w.rounds ≤ n) × HasRun w.rounds u v before after) (λ _. (k : ℕ) × IsCutOff may_fail n k × HasRun k u v before after)
+
+-- it ended after all its n rounds, or as the visitor has enough, or before a round that is worth more workers, where there may be several
+abbrev pub HasEnded : Walked → ℕ → ℕ → Type 0 → Type 0
+HasEnded w n most_workers enough = (w.rounds ≡ n) ⊎ enough ⊎ ((w.wants_workers ≡ true) × (1 < most_workers))
+
+-- ---- what a visitor knows: it is told of the visitor as it began, of it now, of the machine that the walk began with, of how many rounds the walk is
+-- to have, and of how many are done
+
+-- it knows the rounds before this machine, of a walk that is to have n more
+abbrev pub IsUpToDate : {V : Type 0} → (V → V → Untraced → ℕ → ℕ → Type 0) → ℕ → Untraced → V → Type 0
+IsUpToDate {V} knows n now v = (first : V) × (start : Untraced) × (before : ℕ) × HasDone before start now × knows first v start (before + n) before
+
+-- whatever it knew of the rounds before the one machine, it knows k of n more now
+abbrev pub HasLearned : {V : Type 0} → (V → V → Untraced → ℕ → ℕ → Type 0) → ℕ → ℕ → Untraced → V → V → Type 0
+HasLearned {V} knows n k u old new =
+    (first : V) (start : Untraced) (before : ℕ) → HasDone before start u → knows first old start (before + n) before → knows first new start (before + n) (before + k)
