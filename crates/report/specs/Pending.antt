@@ -28,3 +28,8 @@ Wrote text old result new =
     MatchResult result
     (λ _. (new.failures ≡ old.failures) × Split old.took new.took (old.line ++ text) new.line)
     (λ e. Refused e old.failures new.failures × ((rest : List ℕ) × Split old.took new.took (old.line ++ text) rest))
+
+-- a call adds this text to what a sink and a line hold: `Wrote`, by what the sink says that it took and how often it failed
+abbrev pub Puts : {S : Type 0} → (S → List ℕ) → (S → ℕ) → List ℕ → S → List ℕ → Result (Unit {0}) RunError → S → List ℕ → Type 0
+Puts took failures text out line result out_then line_then =
+    Wrote text (way (took out) (failures out) line) result (way (took out_then) (failures out_then) line_then)

@@ -3,7 +3,7 @@
 ghost use Rattle.std.specs.Prelude.{◌≡◌, ◌<◌, ◌≤◌, []};
 ghost use denote.Param.Send.{IsSync};
 ghost use Rattle.report.specs.Blocks.{body_text};
-ghost use Rattle.report.specs.Pending.{Wrote, way};
+ghost use Rattle.report.specs.Pending.{Puts};
 ghost use Rattle.report.specs.RunStates.{body_of};
 
 use crate::block::PutBody;
@@ -26,8 +26,7 @@ fn put_with<B: PutBody + Send + Sync, S: Sink, R: Threads + Wait + Sync>(
     formatting: &Formatting<'_, B>,
     out: &mut S,
 ) -> Result<(), RunError>
-    ensures { Wrote (body_text B.bytes B.output B.events) (way (S.took out.old) (S.failures out.old)
-        []) result (way (S.took out.new) (S.failures out.new) []) }
+    ensures { Puts S.took S.failures (body_text B.bytes B.output B.events) out.old [] result out.new [] }
 {
     if others == 0 {
         put_all_blocks::<B, S, R>(rt, formatting, out)
@@ -45,15 +44,12 @@ fn put_beside<B: PutBody + Send + Sync, S: Sink, R: Threads + Wait + Sync>(
     formatting: &Formatting<'_, B>,
     out: &mut S,
 ) -> Result<(), RunError>
-    ensures { Wrote (body_text B.bytes B.output B.events) (way (S.took out.old) (S.failures out.old)
-        []) result (way (S.took out.new) (S.failures out.new) []) }
+    ensures { Puts S.took S.failures (body_text B.bytes B.output B.events) out.old [] result out.new [] }
 {
     let mut theirs = || formatting.work(rt);
     let mut ours = || -> Result<(), RunError>
         requires { IsSync R.row × IsSync B.row }
-        ensures { Wrote (body_text B.bytes B.output B.events) (way (S.took out.entry.now)
-            (S.failures out.entry.now) []) result
-            (way (S.took out.exit.now) (S.failures out.exit.now) []) }
+        ensures { Puts S.took S.failures (body_text B.bytes B.output B.events) out.entry.now [] result out.exit.now [] }
     { put_with(rt, others, formatting, out) };
     thread::join_mut(rt, &mut theirs, &mut ours).1
 }
@@ -74,8 +70,7 @@ fn put_body_of<B: PutBody + Send + Sync, S: Sink, R: Threads + Wait + Sync>(
     requires events { trace.now.events ≡ B.events }
     requires some { 0 < workers }
     requires few { workers ≤ 16 }
-    ensures { Wrote (body_of state.now trace.now.events) (way (S.took out.old) (S.failures out.old)
-        []) result (way (S.took out.new) (S.failures out.new) []) }
+    ensures { Puts S.took S.failures (body_of state.now trace.now.events) out.old [] result out.new [] }
 {
     let formatting = Formatting::<B>::new(alloc, cut, state, trace, workers);
     // The calling thread is a worker, and one without a block isn't needed.
@@ -96,8 +91,7 @@ pub(crate) fn put_body<S: Sink, R: Threads + Wait + Sync>(
 ) -> Result<(), RunError>
     requires some { 0 < workers }
     requires few { workers ≤ 16 }
-    ensures { Wrote (body_of state.now trace.now.events) (way (S.took out.old) (S.failures out.old)
-        []) result (way (S.took out.new) (S.failures out.new) []) }
+    ensures { Puts S.took S.failures (body_of state.now trace.now.events) out.old [] result out.new [] }
 {
     put_body_of::<Brand, S, R>(rt, workers, alloc, out, cut, state, trace)
 }

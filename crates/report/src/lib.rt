@@ -20,3 +20,4 @@ pub use order::write_order;
 pub use run_state::RunState;
 pub use shown::{write_summary, write_untraced};
 pub use state::{write_state, write_state_on};
+pub use writer::{put_line, put_long};

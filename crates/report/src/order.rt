@@ -4,7 +4,7 @@ ghost use Rattle.round_schedule.specs.RoundTrace.{IsRoundTrace};
 ghost use Rattle.memory_order.specs.Rvwmo.{MeetsRvwmo};
 ghost use Rattle.trace.specs.Traced.{opening_at};
 ghost use Rattle.report.specs.Order.{IsCheckedOrder, checked_text, order_text, places_text};
-ghost use Rattle.report.specs.Pending.{Wrote, way};
+ghost use Rattle.report.specs.Pending.{Puts};
 
 use crate::state::{put_count, put_event};
 use crate::writer::put_line;
@@ -22,8 +22,7 @@ fn put_places<S: Sink>(
     places: &[usize],
 ) -> Result<(), RunError>
     requires { All (λ place. place < length trace.now.events) places.now }
-    ensures { Wrote (places_text trace.now.events places.now) (way (S.took out.old)
-        (S.failures out.old) line.old) result (way (S.took out.new) (S.failures out.new) line.new) }
+    ensures { Puts S.took S.failures (places_text trace.now.events places.now) out.old line.old result out.new line.new }
 {
     let mut tail = Tail::new();
     for place in places {
@@ -33,8 +32,7 @@ fn put_places<S: Sink>(
 }
 
 fn put_checked<S: Sink>(out: &mut S, line: &mut Line, checked: bool) -> Result<(), RunError>
-    ensures wrote { Wrote (checked_text checked) (way (S.took out.old) (S.failures out.old)
-        line.old) result (way (S.took out.new) (S.failures out.new) line.new) }
+    ensures wrote { Puts S.took S.failures (checked_text checked) out.old line.old result out.new line.new }
     ensures empty { OnOk result (line.new ≡ []) }
 {
     line.text(checked_line(checked))?;
@@ -59,8 +57,7 @@ fn put_order<S: Sink>(
     checked: bool,
 ) -> Result<(), RunError>
     requires { All (λ place. place < length trace.now.events) places.now }
-    ensures wrote { Wrote (order_text trace.now.events places.now checked) (way (S.took out.old)
-        (S.failures out.old) line.old) result (way (S.took out.new) (S.failures out.new) line.new) }
+    ensures wrote { Puts S.took S.failures (order_text trace.now.events places.now checked) out.old line.old result out.new line.new }
     ensures empty { OnOk result (line.new ≡ []) }
 {
     put_count(out, line, "order ", places.len() as u64)?;

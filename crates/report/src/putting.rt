@@ -2,7 +2,7 @@
 
 ghost use Rattle.std.specs.Prelude.{◌≡◌, ◌/◌, [], IfOk, OnOk, length};
 ghost use Rattle.report.specs.Blocks.{body_text, middle_text, piece_text};
-ghost use Rattle.report.specs.Pending.{Wrote, way};
+ghost use Rattle.report.specs.Pending.{Puts};
 ghost use Rattle.report.specs.Report.{events_text};
 ghost use Rattle.report_lines.specs.Rows.{memory_rows};
 
@@ -37,8 +37,7 @@ fn next_lines<B: PutBody, R: Wait>(
 
 /// Puts lines that were formatted.
 fn put_lines<S: Sink>(out: &mut S, lines: &Line) -> Result<(), RunError>
-    ensures { Wrote lines.now (way (S.took out.old) (S.failures out.old) []) result
-        (way (S.took out.new) (S.failures out.new) []) }
+    ensures { Puts S.took S.failures lines.now out.old [] result out.new [] }
 {
     put_all(out, lines.as_bytes())
 }
@@ -50,8 +49,7 @@ fn put_block<B: PutBody, S: Sink, R: Wait>(
     out: &mut S,
     piece: Piece,
 ) -> Result<(), RunError>
-    ensures { Wrote (piece_text B.bytes B.events piece) (way (S.took out.old) (S.failures out.old)
-        []) result (way (S.took out.new) (S.failures out.new) []) }
+    ensures { Puts S.took S.failures (piece_text B.bytes B.events piece) out.old [] result out.new [] }
 {
     let lines = next_lines::<B, R>(rt, formatting, piece)?;
     put_lines(out, &lines)?;
@@ -65,8 +63,7 @@ fn put_memory_blocks<B: PutBody, S: Sink, R: Wait>(
     formatting: &Formatting<'_, B>,
     out: &mut S,
 ) -> Result<(), RunError>
-    ensures { Wrote (memory_rows 0 B.bytes (length B.bytes / 16)) (way (S.took out.old)
-        (S.failures out.old) []) result (way (S.took out.new) (S.failures out.new) []) }
+    ensures { Puts S.took S.failures (memory_rows 0 B.bytes (length B.bytes / 16)) out.old [] result out.new [] }
 {
     let count = formatting.page_step();
     let mut first = 0;
@@ -83,8 +80,7 @@ fn put_event_blocks<B: PutBody, S: Sink, R: Wait>(
     formatting: &Formatting<'_, B>,
     out: &mut S,
 ) -> Result<(), RunError>
-    ensures { Wrote (events_text B.events) (way (S.took out.old) (S.failures out.old) []) result
-        (way (S.took out.new) (S.failures out.new) []) }
+    ensures { Puts S.took S.failures (events_text B.events) out.old [] result out.new [] }
 {
     for number in 0..formatting.event_count().div_ceil(EVENTS) {
         let start = EVENTS * number;
@@ -100,8 +96,7 @@ fn put_between<S: Sink>(
     output: &[u8],
     events: usize,
 ) -> Result<(), RunError>
-    ensures wrote { Wrote (middle_text output.now events) (way (S.took out.old)
-        (S.failures out.old) line.old) result (way (S.took out.new) (S.failures out.new) line.new) }
+    ensures wrote { Puts S.took S.failures (middle_text output.now events) out.old line.old result out.new line.new }
     ensures empty { OnOk result (line.new ≡ []) }
 {
     put_output(out, line, output)?;
@@ -116,8 +111,7 @@ fn put_middle<S: Sink>(
     output: &[u8],
     events: usize,
 ) -> Result<(), RunError>
-    ensures { Wrote (middle_text output.now events) (way (S.took out.old) (S.failures out.old) [])
-        result (way (S.took out.new) (S.failures out.new) []) }
+    ensures { Puts S.took S.failures (middle_text output.now events) out.old [] result out.new [] }
 {
     let mut line = Line::new(alloc);
     put_between(out, &mut line, output, events)
@@ -129,8 +123,7 @@ fn put_in_order<B: PutBody, S: Sink, R: Wait>(
     formatting: &Formatting<'_, B>,
     out: &mut S,
 ) -> Result<(), RunError>
-    ensures { Wrote (body_text B.bytes B.output B.events) (way (S.took out.old) (S.failures out.old)
-        []) result (way (S.took out.new) (S.failures out.new) []) }
+    ensures { Puts S.took S.failures (body_text B.bytes B.output B.events) out.old [] result out.new [] }
 {
     put_memory_blocks::<B, S, R>(rt, formatting, out)?;
     put_middle(
@@ -148,8 +141,7 @@ pub(crate) fn put_all_blocks<B: PutBody, S: Sink, R: Wait>(
     formatting: &Formatting<'_, B>,
     out: &mut S,
 ) -> Result<(), RunError>
-    ensures { Wrote (body_text B.bytes B.output B.events) (way (S.took out.old) (S.failures out.old)
-        []) result (way (S.took out.new) (S.failures out.new) []) }
+    ensures { Puts S.took S.failures (body_text B.bytes B.output B.events) out.old [] result out.new [] }
 {
     let result = put_in_order::<B, S, R>(rt, formatting, out);
     formatting.end(rt);

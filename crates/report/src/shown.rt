@@ -1,6 +1,6 @@
 ghost use Rattle.std.specs.Prelude.{◌≡◌, ◌<◌, [], OnOk};
 ghost use Rattle.host_io.specs.Taken.{WritesText};
-ghost use Rattle.report.specs.Pending.{Wrote, way};
+ghost use Rattle.report.specs.Pending.{Puts};
 ghost use Rattle.report.specs.RunStates.{state_of, summary_of};
 ghost use Rattle.report.specs.Shown.{output_line};
 
@@ -29,8 +29,7 @@ pub fn write_untraced<S: Sink>(
 }
 
 fn put_untraced<S: Sink>(out: &mut S, line: &mut Line, state: &RunState<'_>) -> Result<(), RunError>
-    ensures wrote { Wrote (state_of state.now) (way (S.took out.old) (S.failures out.old) line.old)
-        result (way (S.took out.new) (S.failures out.new) line.new) }
+    ensures wrote { Puts S.took S.failures (state_of state.now) out.old line.old result out.new line.new }
     ensures empty { OnOk result (line.new ≡ []) }
 {
     put_head(out, line, state)?;
@@ -54,8 +53,7 @@ pub fn write_summary<S: Sink>(
 }
 
 fn put_summary<S: Sink>(out: &mut S, line: &mut Line, state: &RunState<'_>) -> Result<(), RunError>
-    ensures wrote { Wrote (summary_of state.now) (way (S.took out.old) (S.failures out.old)
-        line.old) result (way (S.took out.new) (S.failures out.new) line.new) }
+    ensures wrote { Puts S.took S.failures (summary_of state.now) out.old line.old result out.new line.new }
     ensures empty { OnOk result (line.new ≡ []) }
 {
     put_count(out, line, "rounds ", state.rounds as u64)?;
@@ -65,8 +63,7 @@ fn put_summary<S: Sink>(out: &mut S, line: &mut Line, state: &RunState<'_>) -> R
 
 /// Puts the line of how many bytes of output there are, and all that was to be put before it.
 fn put_output_line<S: Sink>(out: &mut S, line: &mut Line, output: &[u8]) -> Result<(), RunError>
-    ensures wrote { Wrote (output_line output.now) (way (S.took out.old) (S.failures out.old)
-        line.old) result (way (S.took out.new) (S.failures out.new) line.new) }
+    ensures wrote { Puts S.took S.failures (output_line output.now) out.old line.old result out.new line.new }
     ensures empty { OnOk result (line.new ≡ []) }
 {
     put_count(out, line, "output ", output.len() as u64)?;

@@ -2,7 +2,7 @@ ghost use Rattle.std.specs.Prelude.{◌≡◌, ◌<◌, ◌≤◌, ◌+◌, ◌*
 ghost use Rattle.std.specs.Fmt.{decimal};
 ghost use Rattle.host_io.specs.Taken.{WritesText};
 ghost use Rattle.pages.specs.Flat.{page_bytes};
-ghost use Rattle.report.specs.Pending.{Wrote, way};
+ghost use Rattle.report.specs.Pending.{Puts};
 ghost use Rattle.report.specs.Report.{events_text, harts_text, output_rows, output_text, trace_text};
 ghost use Rattle.report_lines.specs.Rows.{memory_rows};
 ghost use Rattle.report.specs.RunStates.{head_of, report_with, start_of};
@@ -28,16 +28,14 @@ pub(crate) fn put_count<S: Sink>(
     word: &str,
     count: u64,
 ) -> Result<(), RunError>
-    ensures { Wrote (word.now ++ decimal count ++ codes "\n") (way (S.took out.old)
-        (S.failures out.old) line.old) result (way (S.took out.new) (S.failures out.new) line.new) }
+    ensures { Puts S.took S.failures (word.now ++ decimal count ++ codes "\n") out.old line.old result out.new line.new }
 {
     count_line(line, word, count)?;
     put_long(out, line)
 }
 
 fn put_hart<S: Sink>(out: &mut S, line: &mut Line, number: u64, hart: &Hart) -> Result<(), RunError>
-    ensures { Wrote (hart_text number hart.now) (way (S.took out.old) (S.failures out.old) line.old)
-        result (way (S.took out.new) (S.failures out.new) line.new) }
+    ensures { Puts S.took S.failures (hart_text number hart.now) out.old line.old result out.new line.new }
 {
     hart_lines(line, number, hart)?;
     put_long(out, line)
@@ -51,16 +49,14 @@ pub(crate) fn put_event<S: Sink>(
     tail: &mut Tail,
     event: &Event,
 ) -> Result<(), RunError>
-    ensures { Wrote (event_text event.now) (way (S.took out.old) (S.failures out.old) line.old)
-        result (way (S.took out.new) (S.failures out.new) line.new) }
+    ensures { Puts S.took S.failures (event_text event.now) out.old line.old result out.new line.new }
 {
     event_line(line, tail, event)?;
     put_long(out, line)
 }
 
 fn put_events<S: Sink>(out: &mut S, line: &mut Line, trace: &Trace) -> Result<(), RunError>
-    ensures { Wrote (events_text trace.now.events) (way (S.took out.old) (S.failures out.old)
-        line.old) result (way (S.took out.new) (S.failures out.new) line.new) }
+    ensures { Puts S.took S.failures (events_text trace.now.events) out.old line.old result out.new line.new }
 {
     let mut tail = Tail::new();
     for event in trace.events() {
@@ -70,8 +66,7 @@ fn put_events<S: Sink>(out: &mut S, line: &mut Line, trace: &Trace) -> Result<()
 }
 
 fn put_trace<S: Sink>(out: &mut S, line: &mut Line, trace: &Trace) -> Result<(), RunError>
-    ensures { Wrote (trace_text trace.now.events) (way (S.took out.old) (S.failures out.old)
-        line.old) result (way (S.took out.new) (S.failures out.new) line.new) }
+    ensures { Puts S.took S.failures (trace_text trace.now.events) out.old line.old result out.new line.new }
 {
     put_count(out, line, "trace ", trace.len() as u64)?;
     put_events(out, line, trace)
@@ -82,8 +77,7 @@ pub(crate) fn put_harts<S: Sink>(
     line: &mut Line,
     harts: &[Hart],
 ) -> Result<(), RunError>
-    ensures { Wrote (harts_text 0 harts.now) (way (S.took out.old) (S.failures out.old) line.old)
-        result (way (S.took out.new) (S.failures out.new) line.new) }
+    ensures { Puts S.took S.failures (harts_text 0 harts.now) out.old line.old result out.new line.new }
 {
     for (number, hart) in harts.iter().enumerate() {
         put_hart(out, line, number as u64, hart)?;
@@ -94,18 +88,14 @@ pub(crate) fn put_harts<S: Sink>(
 fn put_page<S: Sink>(out: &mut S, line: &mut Line, pages: &Pages, page: u32) -> Result<(), RunError>
     requires page { page < length pages.now.ready }
     requires bytes { 4096 * page + 4096 ≤ length pages.now.memory.bytes }
-    ensures { Wrote (memory_rows (4096 *
-        page) (page_bytes pages.now.memory.bytes page) 256) (way (S.took out.old)
-        (S.failures out.old) line.old) result (way (S.took out.new) (S.failures out.new) line.new) }
+    ensures { Puts S.took S.failures (memory_rows (4096 * page) (page_bytes pages.now.memory.bytes page) 256) out.old line.old result out.new line.new }
 {
     page_lines(line, pages, page)?;
     put_long(out, line)
 }
 
 fn put_pages<S: Sink>(out: &mut S, line: &mut Line, pages: &Pages) -> Result<(), RunError>
-    ensures { Wrote (memory_rows 0 pages.now.memory.bytes (length pages.now.memory.bytes / 16))
-        (way (S.took out.old) (S.failures out.old) line.old) result
-        (way (S.took out.new) (S.failures out.new) line.new) }
+    ensures { Puts S.took S.failures (memory_rows 0 pages.now.memory.bytes (length pages.now.memory.bytes / 16)) out.old line.old result out.new line.new }
 {
     for page in 0..pages.count() {
         put_page(out, line, pages, page)?;
@@ -114,16 +104,14 @@ fn put_pages<S: Sink>(out: &mut S, line: &mut Line, pages: &Pages) -> Result<(),
 }
 
 fn put_row<S: Sink>(out: &mut S, line: &mut Line, output: &[u8]) -> Result<(), RunError>
-    ensures { Wrote (bytes_text (take 32 output.now) ++ codes "\n") (way (S.took out.old)
-        (S.failures out.old) line.old) result (way (S.took out.new) (S.failures out.new) line.new) }
+    ensures { Puts S.took S.failures (bytes_text (take 32 output.now) ++ codes "\n") out.old line.old result out.new line.new }
 {
     output_row(line, output)?;
     put_long(out, line)
 }
 
 fn put_rows<S: Sink>(out: &mut S, line: &mut Line, output: &[u8]) -> Result<(), RunError>
-    ensures { Wrote (output_rows output.now ((length output.now + 31) / 32)) (way (S.took out.old)
-        (S.failures out.old) line.old) result (way (S.took out.new) (S.failures out.new) line.new) }
+    ensures { Puts S.took S.failures (output_rows output.now ((length output.now + 31) / 32)) out.old line.old result out.new line.new }
 {
     for row in 0..(output.len() + 31) / 32 {
         put_row(out, line, &output[32 * row..])?;
@@ -136,16 +124,14 @@ pub(crate) fn put_output<S: Sink>(
     line: &mut Line,
     output: &[u8],
 ) -> Result<(), RunError>
-    ensures { Wrote (output_text output.now) (way (S.took out.old) (S.failures out.old) line.old)
-        result (way (S.took out.new) (S.failures out.new) line.new) }
+    ensures { Puts S.took S.failures (output_text output.now) out.old line.old result out.new line.new }
 {
     put_count(out, line, "output ", output.len() as u64)?;
     put_rows(out, line, output)
 }
 
 pub(crate) fn put_end<S: Sink>(out: &mut S, line: &mut Line) -> Result<(), RunError>
-    ensures wrote { Wrote (codes "end\n") (way (S.took out.old) (S.failures out.old) line.old)
-        result (way (S.took out.new) (S.failures out.new) line.new) }
+    ensures wrote { Puts S.took S.failures (codes "end\n") out.old line.old result out.new line.new }
     ensures empty { OnOk result (line.new ≡ []) }
 {
     line.text("end\n")?;
@@ -154,8 +140,7 @@ pub(crate) fn put_end<S: Sink>(out: &mut S, line: &mut Line) -> Result<(), RunEr
 
 /// Puts what stands before the lines of memory.
 fn put_start<S: Sink>(out: &mut S, line: &mut Line, state: &RunState<'_>) -> Result<(), RunError>
-    ensures { Wrote (start_of state.now) (way (S.took out.old) (S.failures out.old) line.old) result
-        (way (S.took out.new) (S.failures out.new) line.new) }
+    ensures { Puts S.took S.failures (start_of state.now) out.old line.old result out.new line.new }
 {
     put_count(out, line, "rounds ", state.rounds as u64)?;
     put_harts(out, line, state.harts)?;
@@ -168,8 +153,7 @@ pub(crate) fn put_head<S: Sink>(
     line: &mut Line,
     state: &RunState<'_>,
 ) -> Result<(), RunError>
-    ensures { Wrote (head_of state.now) (way (S.took out.old) (S.failures out.old) line.old) result
-        (way (S.took out.new) (S.failures out.new) line.new) }
+    ensures { Puts S.took S.failures (head_of state.now) out.old line.old result out.new line.new }
 {
     put_start(out, line, state)?;
     put_pages(out, line, state.pages)?;
@@ -182,8 +166,7 @@ fn put_state<S: Sink>(
     state: &RunState<'_>,
     trace: &Trace,
 ) -> Result<(), RunError>
-    ensures wrote { Wrote (report_with state.now trace.now.events) (way (S.took out.old)
-        (S.failures out.old) line.old) result (way (S.took out.new) (S.failures out.new) line.new) }
+    ensures wrote { Puts S.took S.failures (report_with state.now trace.now.events) out.old line.old result out.new line.new }
     ensures empty { OnOk result (line.new ≡ []) }
 {
     put_head(out, line, state)?;
@@ -221,8 +204,7 @@ fn put_state_on<S: Sink, R: Threads + Wait + Sync>(
     trace: &Trace,
 ) -> Result<(), RunError>
     requires { workers ≤ 16 }
-    ensures wrote { Wrote (report_with state.now trace.now.events) (way (S.took out.old)
-        (S.failures out.old) line.old) result (way (S.took out.new) (S.failures out.new) line.new) }
+    ensures wrote { Puts S.took S.failures (report_with state.now trace.now.events) out.old line.old result out.new line.new }
     ensures empty { OnOk result (line.new ≡ []) }
 {
     if workers <= 1 {

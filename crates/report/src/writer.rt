@@ -1,5 +1,5 @@
 ghost use Rattle.std.specs.Prelude.{◌≡◌, [], OnOk};
-ghost use Rattle.report.specs.Pending.{Wrote, way};
+ghost use Rattle.report.specs.Pending.{Puts};
 
 use host_io::{RunError, Sink, put_all};
 use report_lines::Line;
@@ -8,9 +8,12 @@ use report_lines::Line;
 const LONG: usize = 32_768;
 
 /// Puts the line, which is empty then.
-pub(crate) fn put_line<S: Sink>(out: &mut S, line: &mut Line) -> Result<(), RunError>
-    ensures wrote { Wrote [] (way (S.took out.old) (S.failures out.old) line.old) result
-        (way (S.took out.new) (S.failures out.new) line.new) }
+///
+/// # Errors
+///
+/// `SinkFailed`: a beginning of the line is out then.
+pub fn put_line<S: Sink>(out: &mut S, line: &mut Line) -> Result<(), RunError>
+    ensures wrote { Puts S.took S.failures [] out.old line.old result out.new line.new }
     ensures empty { OnOk result (line.new ≡ []) }
 {
     put_all(out, line.as_bytes())?;
@@ -19,9 +22,12 @@ pub(crate) fn put_line<S: Sink>(out: &mut S, line: &mut Line) -> Result<(), RunE
 }
 
 /// Puts the line if it is long.
-pub(crate) fn put_long<S: Sink>(out: &mut S, line: &mut Line) -> Result<(), RunError>
-    ensures { Wrote [] (way (S.took out.old) (S.failures out.old) line.old) result
-        (way (S.took out.new) (S.failures out.new) line.new) }
+///
+/// # Errors
+///
+/// `SinkFailed`.
+pub fn put_long<S: Sink>(out: &mut S, line: &mut Line) -> Result<(), RunError>
+    ensures { Puts S.took S.failures [] out.old line.old result out.new line.new }
 {
     if line.as_bytes().len() < LONG {
         return Ok(());

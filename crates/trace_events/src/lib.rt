@@ -4,7 +4,6 @@
 
 mod flows;
 mod located;
-mod putting;
 mod slices;
 mod writers;
 mod writing;

@@ -6,16 +6,16 @@ ghost use Rattle.host_io.specs.Taken.{WritesText};
 ghost use Rattle.round_schedule.specs.Accesses.{address_of};
 ghost use Rattle.round_schedule.specs.Positions.{event};
 ghost use Rattle.trace.specs.Traced.{IsTrace};
-ghost use Rattle.report.specs.Pending.{Wrote, way};
+ghost use Rattle.report.specs.Pending.{Puts};
 ghost use Rattle.trace_events.specs.TraceEvents.{before_place, entries_text, entry_text, head_text, trace_events_text, track_text, tracks_text};
 ghost use Rattle.trace_events.specs.Writers.{Indexes};
 
 use crate::flows::add_flows;
-use crate::putting::{put_line, put_long};
 use crate::slices::{add_event, add_round, add_serial};
 use crate::writers::Writers;
 use host_io::{RunError, Sink};
 use pages::OutOfMemory;
+use report::{put_line, put_long};
 use report_lines::Line;
 use round_schedule::Event;
 use std::alloc::Global;
@@ -107,9 +107,7 @@ fn put_entry<S: Sink>(
     requires place { place < length events.now }
     requires before { Indexes events.now place writers.now }
     requires low { address_of (event events.now place).access < 2 ^ 32 }
-    ensures { Wrote (entry_text events.now place (before_place events.now place) (event events.now place)
-        (drop (place + 1) events.now)) (way (S.took out.old) (S.failures out.old) line.old) result
-        (way (S.took out.new) (S.failures out.new) line.new) }
+    ensures { Puts S.took S.failures (entry_text events.now place (before_place events.now place) (event events.now place) (drop (place + 1) events.now)) out.old line.old result out.new line.new }
 {
     let before = event_before(events, place);
     add_entry(alloc, line, events, writers, place, before)?;
@@ -126,8 +124,7 @@ fn put_entries<S: Sink>(
 ) -> Result<(), RunError>
     requires none { Indexes events.now 0 writers }
     requires sound { IsTrace events.now }
-    ensures { Wrote (entries_text events.now 0 None events.now) (way (S.took out.old) (S.failures out.old)
-        line.old) result (way (S.took out.new) (S.failures out.new) line.new) }
+    ensures { Puts S.took S.failures (entries_text events.now 0 None events.now) out.old line.old result out.new line.new }
 {
     for place in 0..events.len() {
         put_entry(alloc, out, line, events, &writers, place)?;
@@ -138,8 +135,7 @@ fn put_entries<S: Sink>(
 
 /// Puts what stands before the events.
 fn put_head<S: Sink>(out: &mut S, line: &mut Line, harts: u32) -> Result<(), RunError>
-    ensures { Wrote (head_text harts) (way (S.took out.old) (S.failures out.old) line.old) result
-        (way (S.took out.new) (S.failures out.new) line.new) }
+    ensures { Puts S.took S.failures (head_text harts) out.old line.old result out.new line.new }
 {
     add_head(line, harts)?;
     put_long(out, line)
@@ -147,8 +143,7 @@ fn put_head<S: Sink>(out: &mut S, line: &mut Line, harts: u32) -> Result<(), Run
 
 /// Puts the end, and all that wasn't put before.
 fn put_end<S: Sink>(out: &mut S, line: &mut Line) -> Result<(), RunError>
-    ensures wrote { Wrote (codes "\n]}\n") (way (S.took out.old) (S.failures out.old) line.old) result
-        (way (S.took out.new) (S.failures out.new) line.new) }
+    ensures wrote { Puts S.took S.failures (codes "\n]}\n") out.old line.old result out.new line.new }
     ensures empty { OnOk result (line.new ≡ []) }
 {
     line.text("\n]}\n")?;
@@ -166,8 +161,7 @@ fn put_trace<S: Sink>(
 ) -> Result<(), RunError>
     requires none { Indexes events.now 0 writers }
     requires sound { IsTrace events.now }
-    ensures wrote { Wrote (trace_events_text harts events.now) (way (S.took out.old) (S.failures out.old)
-        line.old) result (way (S.took out.new) (S.failures out.new) line.new) }
+    ensures wrote { Puts S.took S.failures (trace_events_text harts events.now) out.old line.old result out.new line.new }
     ensures empty { OnOk result (line.new ≡ []) }
 {
     put_head(out, line, harts)?;
