@@ -110,7 +110,8 @@ gdb's remote serial protocol is read from standard input and answered on standar
 output, until gdb detaches, kills the program or closes the pipe. A thread is a
 hart: hart 0 is thread 1. Each hart sees its own memory: in a parallel phase that
 of the round's start under its own stores. Registers round, place and phase say
-where in the run a hart is. Registers and memory can't be changed.
+where in the run a hart is. Registers and memory can't be changed. gdb's command
+'monitor help' lists commands that dethart answers itself, as 'monitor where'.
 
 The file may also be an execution, as dethart execution and fences --keep write
 it: gdb then goes along the order of memory, where round is the position of the
