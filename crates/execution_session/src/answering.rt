@@ -177,7 +177,7 @@ fn fixed_reply(past: &Past, standing: Standing, request: Request) -> Option<Repl
         Request::MoreThreads => Some(Reply::NoMoreThreads),
         Request::PresentThread => Some(Reply::Thread(u32::from(standing.general) + 1)),
         Request::Attached => Some(Reply::Attached),
-        Request::Change => Some(Reply::PastStands),
+        Request::Change => Some(Reply::ExecutionStands),
         Request::Actions => Some(Reply::Actions),
         Request::Detach => Some(Reply::Done),
         _ => None,

@@ -1,2 +1,4 @@
 pub mod Texts
 pub mod Rounds
+pub mod Behind
+pub mod Ending

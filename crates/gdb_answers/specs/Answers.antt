@@ -23,6 +23,11 @@ abbrev pub or_missing : Option (Sight Hart) → (Sight Hart → List ℕ) → Li
 or_missing None f = codes "E01"
 or_missing (Some s) f = f s
 
+-- a text, and another one where it is empty
+abbrev pub text_or : List ℕ → List ℕ → List ℕ
+text_or none [] = none
+text_or none (b ∷ bs) = b ∷ bs
+
 -- a register by its number, and `E01` where there is none
 abbrev pub number_answer : Option ℕ → List ℕ
 number_answer None = codes "E01"

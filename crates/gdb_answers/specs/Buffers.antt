@@ -1,5 +1,5 @@
 -- The stores of a hart that are not committed: those that it has done in its part of a parallel phase, in the order in which it did them.
-use Rattle.std.specs.Prelude.{ℕ, ◌==◌, ◌&&◌, nat_lt, Bool, true, false, if◌then◌else◌, List, [], ◌∷◌, length, take, drop, codes, Option, Some, None}
+use Rattle.std.specs.Prelude.{ℕ, ◌==◌, ◌&&◌, nat_lt, Bool, if◌then◌else◌, List, [], take, codes, Option}
 use Rattle.std.specs.Int.{w64, to_le_bytes}
 use Rattle.std.specs.List.{flat_map}
 use Rattle.hex.specs.Hex.{encode_lower}
@@ -8,25 +8,16 @@ use Rattle.round_schedule.specs.Accesses.{place_of}
 use Rattle.round_schedule.specs.declared.access.Access.{Access}
 use Rattle.round_schedule.specs.declared.access.Access.TheVariants.{Store}
 use Rattle.round_schedule.specs.declared.event.Event.{Event}
-use Rattle.round_schedule.specs.declared.event.Phase.{Phase}
-use Rattle.round_schedule.specs.declared.event.Phase.TheVariants.{Parallel, Serial}
 use Rattle.hart_step.specs.declared.hart.Hart.{Hart}
 use Rattle.machine.specs.Machine.{Running, after_rounds}
 use Rattle.moments.specs.Sights.{Sight}
 use Rattle.round_steps.specs.declared.moment.Moment.{Moment}
 use Rattle.round_steps.specs.declared.point.Point.{Point}
 use Rattle.gdb_replies.specs.CommandTexts.{store_line}
-use Rattle.gdb_answers.specs.Answers.{or_missing}
-
--- the events of the next round
-abbrev pub round_events : Running → List Event
-round_events m = drop (length m.state.trace) (after_rounds 1 m).state.trace
+use Rattle.gdb_answers.specs.Answers.{or_missing, text_or}
+use Rattle.gdb_answers.specs.Rounds.{is_parallel, round_events}
 
 -- one of hart h's part of the parallel phase, which it has done after so many instructions
-abbrev pub is_parallel : Phase → Bool
-is_parallel Parallel = true
-is_parallel Serial = false
-
 abbrev pub is_own : ℕ → ℕ → Event → Bool
 is_own h done e = e.hart == h && is_parallel e.phase && nat_lt (place_of e.access) done
 
@@ -41,13 +32,9 @@ event_line h done e = if is_own h done e then access_line e.access else []
 abbrev pub event_lines : ℕ → ℕ → List Event → List ℕ
 event_lines h done es = flat_map (event_line h done) es
 
-abbrev pub lines_or_none : List ℕ → List ℕ
-lines_or_none [] = codes "no stores\n"
-lines_or_none (b ∷ bs) = b ∷ bs
-
 -- from the commit on there are none
 abbrev pub buffer_text : Moment → ℕ → ℕ → List Event → List ℕ
-buffer_text at h done es = if is_parallel at.place.phase then lines_or_none (event_lines h done es) else codes "no stores\n"
+buffer_text at h done es = if is_parallel at.place.phase then text_or (codes "no stores\n") (event_lines h done es) else codes "no stores\n"
 
 abbrev pub buffer_answer : Running → Point → ℕ → Option (Sight Hart) → List ℕ
 buffer_answer m at h s = or_missing s (λ (x : Sight Hart). encode_lower (buffer_text at.moment h x.hart.done (round_events (after_rounds at.moment.rounds m))))

@@ -1,26 +1,27 @@
 //! The stores of a hart that are not committed.
 
-ghost use Rattle.std.specs.Prelude.{◌≡◌, ℕ, ◌≤◌, ◌<◌, ◌+◌, ◌^◌, ◌++◌, List, Err, IfErr, IfOk, OnOk};
+ghost use Rattle.std.specs.Prelude.{◌≡◌, ℕ, ◌≤◌, ◌<◌, ◌+◌, ◌^◌, ◌++◌, List, Err, IfOk, OnOk};
 ghost use Rattle.hex.specs.Hex.{encode_lower};
 ghost use Rattle.host_io.specs.Taken.{WritesText};
 ghost use Rattle.host_io.specs.declared.error.RunError.TheVariants as refusals;
-ghost use Rattle.machine.specs.Machine.{Running, after_rounds};
+ghost use Rattle.machine.specs.Machine.{Running};
 ghost use Rattle.machine.specs.Untraced.{IsUntraced};
 ghost use Rattle.gdb_packets.specs.Writing.{packet_text};
 ghost use Rattle.gdb_answers.specs.Answers.{seen};
-ghost use Rattle.gdb_answers.specs.Buffers.{access_line, buffer_answer, buffer_text, event_line, event_lines, is_own, is_parallel, lines_or_none, round_events};
+ghost use Rattle.gdb_answers.specs.Buffers.{access_line, buffer_answer, buffer_text, event_line, event_lines, is_own};
 
 use crate::look::Look;
+use crate::round_events::{events_of_round, is_parallel};
+use crate::saying::say_or;
 use gdb_replies::{Reply, add_store_line, write_reply};
 use host_io::{RunError, Sink};
 use machine::UntracedMachine;
 use pages::OutOfMemory;
-use round_schedule::{Access, Event, Phase};
+use round_schedule::{Access, Event};
 use round_steps::Timeline;
 use std::alloc::Global;
 use std::sync::Wait;
 use std::thread::Threads;
-use trace::Trace;
 
 /// What is said where there are none.
 const NONE: &[u8] = b"no stores\n";
@@ -58,46 +59,6 @@ pub fn answer_buffer<R: Threads + Wait + Sync, K: Sink>(
     }
 }
 
-/// The events of the round after so many.
-fn events_of_round<R: Threads + Wait + Sync>(
-    rt: &R,
-    alloc: Global,
-    start: &mut UntracedMachine,
-    rounds: u32,
-    workers: u32,
-) -> Result<Vec<Event>, RunError>
-    requires run { (m : Running) × IsUntraced m start.old }
-    requires rounds { start.old.rounds + rounds + 1 < 2 ^ 32 }
-    requires workers { (1 ≤ workers) × (workers ≤ 16) }
-    ensures stays { start.new ≡ start.old }
-    ensures events { (m : Running) → IsUntraced m start.old → IfOk result (λ v. v.items ≡
-        round_events (after_rounds rounds m)) }
-    ensures refused { IfErr result (λ e. e ≡ refusals.OutOfMemory) }
-{
-    let mut machine = start.share()?;
-    machine.run(rt, rounds, workers)?;
-    next_events(rt, alloc, machine, workers)
-}
-
-/// The events of the next round of a machine.
-fn next_events<R: Threads + Wait + Sync>(
-    rt: &R,
-    alloc: Global,
-    mut machine: UntracedMachine,
-    workers: u32,
-) -> Result<Vec<Event>, RunError>
-    requires run { (m : Running) × IsUntraced m machine }
-    requires rounds { machine.rounds + 1 < 2 ^ 32 }
-    requires workers { (1 ≤ workers) × (workers ≤ 16) }
-    ensures events { (m : Running) → IsUntraced m machine → IfOk result (λ v. v.items ≡ round_events m) }
-    ensures refused { IfErr result (λ e. e ≡ refusals.OutOfMemory) }
-{
-    let mut trace = Trace::new(alloc, Vec::new(alloc));
-    machine.run_noting(rt, 1, workers, &mut trace)?;
-    let events = trace.to_vec(alloc)?;
-    Ok(events)
-}
-
 /// Answers with the stores among these events of a round, which a hart has done after so many instructions, and that are not committed.
 fn say_buffer<K: Sink>(
     alloc: Global,
@@ -114,30 +75,8 @@ fn say_buffer<K: Sink>(
         return write_reply(alloc, &Reply::Words(NONE), out);
     }
     match event_lines(alloc, events, look.hart, done) {
-        Ok(text) => say_lines(alloc, text.as_slice(), out),
+        Ok(text) => say_or(alloc, text.as_slice(), NONE, out),
         Err(_) => Err(RunError::OutOfMemory),
-    }
-}
-
-/// Answers with some lines, or that there are none.
-fn say_lines<K: Sink>(alloc: Global, lines: &[u8], out: &mut K) -> Result<(), RunError>
-    ensures writes { WritesText (packet_text (encode_lower (lines_or_none lines.now))) (K.took out.old)
-        (K.failures out.old) result (K.took out.new) (K.failures out.new) }
-    ensures memory { result ≡ Err refusals.OutOfMemory → K.took out.new ≡ K.took out.old }
-{
-    match lines {
-        [] => write_reply(alloc, &Reply::Words(NONE), out),
-        [_, ..] => write_reply(alloc, &Reply::Words(lines), out),
-    }
-}
-
-/// Whether a phase is the parallel one.
-fn is_parallel(phase: Phase) -> bool
-    ensures { result ≡ is_parallel phase }
-{
-    match phase {
-        Phase::Parallel => true,
-        Phase::Serial => false,
     }
 }
 

@@ -96,6 +96,7 @@ payload_of replies.Done = codes "OK"
 payload_of replies.Missing = codes "E01"
 payload_of (replies.Refused n) = codes "E.error " ++ decimal n
 payload_of replies.PastStands = codes "E.the past of a recording cannot be changed"
+payload_of replies.ExecutionStands = codes "E.the past of an execution cannot be changed"
 payload_of (replies.Features has_image) = features_text has_image
 payload_of replies.Actions = codes "vCont;c;C;s;S;r"
 payload_of replies.Attached = codes "1"

@@ -2,7 +2,7 @@
 
 ghost use Rattle.std.specs.Prelude.{◌≡◌, ◌++◌, OnOk, codes};
 ghost use Rattle.std.specs.Fmt.{decimal};
-ghost use Rattle.gdb_replies.specs.CommandTexts.{hart_line, help_text, pc_rest, plan_head, quota_text, store_line, where_line, where_rest};
+ghost use Rattle.gdb_replies.specs.CommandTexts.{hart_line, harts_text, help_text, pc_rest, plan_head, quota_text, reservation_line, reserved_rest, rounds_text, store_line, where_line, where_rest};
 ghost use Rattle.gdb_replies.specs.Replies.{note_text};
 
 use crate::note::ThreadNote;
@@ -12,7 +12,7 @@ use pages::OutOfMemory;
 
 /// What the commands are for, in a line each.
 const HELP: &[u8] =
-    b"where   where the run stands\nharts   where each hart is\nbuffer  which stores of the selected hart are not committed\nplan    how many instructions each hart may do in this round\noutput  what the program had put out when this round began\n";
+    b"where         where the run stands\nharts         where each hart is\nbuffer        which stores of the selected hart are not committed\nevent         what the instruction at which the run stands reads or writes\nreservations  which bytes each hart has reserved\nplan          how many instructions each hart may do in this round\noutput        what the program had put out when this round began\ngoto ROUND    the next continue stops where this round begins, once\ngoto ROUND HART PLACE  .. where the hart has done so many instructions\ngoto end      .. behind the last round\n";
 
 /// What the user's commands are for.
 #[tactic(auto, unfolding(crate::specs::CommandTexts::help_text))]
@@ -83,4 +83,42 @@ pub fn add_store_line(text: &mut Vec<u8>, address: u64, bytes: &[u8]) -> Result<
     put(text, b" ")?;
     put_hex(text, bytes)?;
     put(text, b"\n")
+}
+
+/// Adds a line that says how many bytes from an address on a hart has reserved.
+pub fn add_reservation_line(
+    text: &mut Vec<u8>,
+    hart: u32,
+    count: u64,
+    address: u64,
+) -> Result<(), OutOfMemory>
+    ensures { OnOk result (text.new.items ≡ text.old.items ++ reservation_line hart count address) }
+{
+    put_words(text, b"hart ", u64::from(hart))?;
+    put_words(text, b", ", count)?;
+    put_reserved(text, address)
+}
+
+/// Adds where the bytes are, behind how many.
+fn put_reserved(text: &mut Vec<u8>, address: u64) -> Result<(), OutOfMemory>
+    ensures { OnOk result (text.new.items ≡ text.old.items ++ reserved_rest address) }
+{
+    put_addressed(text, b" bytes at ", address)?;
+    put(text, b"\n")
+}
+
+/// Adds a line that says how many rounds a recording has.
+pub fn add_rounds_line(text: &mut Vec<u8>, rounds: u32) -> Result<(), OutOfMemory>
+    ensures { OnOk result (text.new.items ≡ text.old.items ++ rounds_text rounds) }
+{
+    put_words(text, b"the recording has ", u64::from(rounds))?;
+    put(text, b" rounds\n")
+}
+
+/// Adds a line that says how many harts a recording has.
+pub fn add_harts_line(text: &mut Vec<u8>, harts: u32) -> Result<(), OutOfMemory>
+    ensures { OnOk result (text.new.items ≡ text.old.items ++ harts_text harts) }
+{
+    put_words(text, b"the recording has ", u64::from(harts))?;
+    put(text, b" harts\n")
 }

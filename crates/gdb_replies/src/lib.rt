@@ -16,7 +16,8 @@ mod window;
 mod writing;
 
 pub use command_text::{
-    add_hart_line, add_plan_head, add_quota, add_store_line, add_where_line, command_help,
+    add_hart_line, add_harts_line, add_plan_head, add_quota, add_reservation_line, add_rounds_line,
+    add_store_line, add_where_line, command_help,
 };
 pub use description::target_description;
 pub use file_reply::FileReply;

@@ -28,6 +28,9 @@ pub(crate) fn payload_of(alloc: Global, reply: &Reply<'_>) -> Result<Vec<u8>, Ou
         Reply::Missing => put(&mut text, b"E01")?,
         Reply::Refused(number) => put_refusal(&mut text, *number)?,
         Reply::PastStands => put(&mut text, b"E.the past of a recording cannot be changed")?,
+        Reply::ExecutionStands => {
+            put(&mut text, b"E.the past of an execution cannot be changed")?;
+        }
         Reply::Features(has_image) => put_features(&mut text, *has_image)?,
         Reply::Actions => put(&mut text, b"vCont;c;C;s;S;r")?,
         Reply::Attached => put(&mut text, b"1")?,

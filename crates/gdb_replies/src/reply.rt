@@ -17,6 +17,8 @@ pub enum Reply<'a> {
     Refused(u32),
     /// Registers and memory of a recording can't be written.
     PastStands,
+    /// Those of an execution can't either.
+    ExecutionStands,
     /// What of the protocol is offered; with this, the program's image too.
     Features(bool),
     /// The ways in which the run can be resumed.

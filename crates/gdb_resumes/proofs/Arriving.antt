@@ -1,6 +1,6 @@
 -- Where a run stands, by what was found.
-use Rattle.std.proofs.Common.{◌≡◌, ℕ, Bool, false, Option, Some, None, Result, refl, sym, ap, subst, ◌∙◌}
-use Rattle.std.specs.Prelude.{IfOk, MatchBool}
+use Rattle.std.proofs.Common.{◌≡◌, ℕ, Option, Some, Result, ap, subst, ◌∙◌}
+use Rattle.std.specs.Prelude.{IfOk}
 use Rattle.std.proofs.lemmas.Result.{IfOk-weaker}
 use Rattle.watching.specs.declared.watchpoint.Way.{Way}
 use Rattle.watching.specs.declared.watchpoint.Way.TheVariants.{On, Back}
@@ -9,21 +9,15 @@ use Rattle.round_steps.specs.declared.point.Told.{Told}
 use Rattle.round_steps.specs.declared.points.Telling.{Telling}
 use Rattle.gdb_resumes.specs.declared.session.Standing.{Standing}
 use Rattle.gdb_resumes.specs.Searches.{AsksFor, Finds, Wanted, all_told, nearest_of, only_of, watched_of}
-use Rattle.gdb_resumes.specs.Resumes.{Continues, MovesAlone, MovesAloneBy, PassesOne, StepsBackBeside, StepsBy, StepsFrom, StepsOn, alone_at, end_of, later_of, no_step, own_from, sought_from, told_or}
+use Rattle.gdb_resumes.specs.Resumes.{MovesAlone, MovesAloneBy, PassesOne, StepsBackBeside, StepsBy, StepsFrom, StepsOn, alone_at, end_of, later_of, no_step, own_from, sought_from, told_or}
 use Rattle.gdb_resumes.specs.Sessions.{Recorded, State}
 
-pub nearest_found : (r : Recorded) (way : Way) (w : Wanted) (here : Point) (telling : Telling) → AsksFor w telling → (found : Option Told) →
-    found ≡ nearest_of r way telling here → {E : Type 0} (res : Result (Option Told) E) → IfOk res (λ x. x ≡ found) → IfOk res (λ x. Finds r way w here x)
-nearest_found r way w here telling asks found is res same =
-    IfOk-weaker res (λ x. x ≡ found) (λ x. Finds r way w here x) (λ x e. record { telling = telling; asks = asks; is = e ∙ is }) same
+pub nearest_found : (r : Recorded) (way : Way) (w : Wanted) (here : Point) (telling : Telling) → AsksFor w telling →
+    {E : Type 0} (res : Result (Option Told) E) → IfOk res (λ x. x ≡ nearest_of r way telling here) → IfOk res (λ x. Finds r way w here x)
+nearest_found r way w here telling asks res same =
+    IfOk-weaker res (λ x. x ≡ nearest_of r way telling here) (λ x. Finds r way w here x) (λ x e. record { telling = telling; asks = asks; is = e }) same
 
 module _ (r : Recorded) (s : State) (found : Option Told) where
-  pub continues : (way : Way) (end : Standing) → end ≡ end_of r.rounds s.standing way → Finds r way (all_told s None) s.standing.point found →
-      {E : Type 0} (res : Result Standing E) → IfOk res (λ t. t ≡ told_or r s end found) → IfOk res (λ t. Continues r s way t)
-  continues way end is finds res same =
-      IfOk-weaker res (λ t. t ≡ told_or r s end found) (λ t. Continues r s way t)
-      (λ t e. record { found = found; finds = finds; is = e ∙ ap (λ (x : Standing). told_or r s x found) is }) same
-
   module _ (hart : ℕ) where
     pub steps_from : (at from : Point) (end : Standing) → from ≡ later_of s.standing.point at → end ≡ end_of r.rounds s.standing On →
         Finds r On (all_told s (Some hart)) from found →

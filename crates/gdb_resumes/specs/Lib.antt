@@ -1,3 +1,4 @@
 pub mod Sessions
 pub mod Searches
+pub mod Goals
 pub mod Resumes

@@ -1,5 +1,5 @@
 -- A debugger's session with a recorded run.
-use Rattle.std.specs.Prelude.{◌≡◌, ℕ, ◌+◌, ◌<◌, ◌≤◌, ◌^◌, Bool, true, false, if◌then◌else◌, List, ◌++◌, slice_get, Option, Some, None, option_map, is_some, IfSome}
+use Rattle.std.specs.Prelude.{◌≡◌, ℕ, ◌+◌, ◌<◌, ◌≤◌, ◌^◌, Bool, true, false, if◌then◌else◌, List, ◌++◌, length, slice_get, Option, Some, None, option_map, is_some, IfSome}
 use Rattle.hart_step.specs.declared.hart.Hart.{Hart}
 use Rattle.machine.specs.Machine.{Running}
 use Rattle.run_settings.specs.declared.settings.Format.{Format}
@@ -64,6 +64,7 @@ stops_of s = s.software ++ s.hardware
 -- it stands within the run, and speaks of harts that there are
 pub record IsReady (d : Debugged) (t : Standing) : Type 0 where
   pub harts : d.harts ≤ 64
+  pub all : d.harts ≡ length d.start.harts
   pub workers : (1 ≤ d.workers) × (d.workers ≤ 16)
   pub start : d.start ≡ d.timeline.start
   pub fresh : d.start.rounds ≡ 0
@@ -73,6 +74,7 @@ pub record IsReady (d : Debugged) (t : Standing) : Type 0 where
   pub told : t.told < d.harts
   pub general : t.general < d.harts
   pub moving : IfSome t.moving (λ h. h < d.harts)
+  pub goal : IfSome t.goal (λ g. (g.moment.rounds < d.timeline.rounds) × (g.moment.place.hart < d.harts))
 
 -- a point in the run, of a hart that there is
 pub record IsWithin (d : Debugged) (at : Point) : Type 0 where

@@ -1,6 +1,8 @@
 //! What is told on the way.
 
-ghost use Rattle.std.specs.Prelude.{◌≡◌, ◌≤◌, IfOk, IfErr, IfSome};
+ghost use Rattle.std.specs.Prelude.{◌≡◌, ◌≤◌, length, IfOk, IfErr, IfSome};
+ghost use Rattle.machine.specs.Machine.{Running};
+ghost use Rattle.machine.specs.Untraced.{IsUntraced};
 ghost use Rattle.host_io.specs.declared.error.RunError.TheVariants as refusals;
 ghost use Rattle.gdb_resumes.specs.Searches.{AsksFor, Finds, Wanted, all_told, nearest_of, only_of, watched_of};
 ghost use Rattle.gdb_resumes.specs.Sessions.{IsWithin, OfRun, state_of};
@@ -73,13 +75,16 @@ pub(crate) fn find<R: Threads + Wait + Sync>(
 ) -> Result<Option<Told>, RunError>
     requires within { from.now.moment.rounds ≤ run.old.timeline.rounds }
     requires workers { (1 ≤ run.old.workers) × (run.old.workers ≤ 16) }
+    requires start { run.old.start ≡ run.old.timeline.start }
+    requires fresh { run.old.start.rounds ≡ 0 }
+    requires run { (m : Running) × IsUntraced m run.old.start }
+    requires harts { run.old.harts ≡ length run.old.start.harts }
     ensures stays { run.new ≡ run.old }
     ensures finds { OfRun run.old (λ r. (w : Wanted) → AsksFor w telling.now → IfOk result (λ x. Finds r way w from.now x)) }
     ensures within { IfOk result (λ x. IfSome x (λ told. IsWithin run.old told.point)) }
     ensures refused { IfErr result (λ e. e ≡ refusals.OutOfMemory) }
 {
-    let found = nearest(rt, run, way, telling, from)?;
-    within(run, found)
+    nearest(rt, run, way, telling, from)
 }
 
 fn nearest<R: Threads + Wait + Sync>(
@@ -98,24 +103,5 @@ fn nearest<R: Threads + Wait + Sync>(
     match way {
         Way::On => run.timeline.next_point(rt, telling, from, run.workers),
         Way::Back => run.timeline.previous_point(rt, telling, from, run.workers),
-    }
-}
-
-/// The point that was found, of a hart that there is.
-pub(crate) fn within(run: &Debugged, found: Option<Told>) -> Result<Option<Told>, RunError>
-    ensures found { IfOk result (λ x. x ≡ found) }
-    ensures within { IfOk result (λ x. IfSome x (λ told. IsWithin run.now told.point)) }
-    ensures refused { IfErr result (λ e. e ≡ refusals.OutOfMemory) }
-{
-    match found {
-        Some(told) => {
-            let moment = told.point.moment;
-            if moment.rounds > run.timeline.rounds() || moment.place.hart >= run.harts {
-                // What is found is in the run.
-                return Err(RunError::OutOfMemory);
-            }
-            Ok(Some(told))
-        }
-        None => Ok(None),
     }
 }

@@ -3,6 +3,8 @@
 
 mod asking;
 mod debugged;
+mod goals;
+mod going;
 mod pace;
 mod resuming;
 mod searching;
@@ -12,6 +14,7 @@ mod stepping_alone;
 mod stepping_in;
 
 pub use debugged::Debugged;
+pub use goals::{Goal, goal_at_place, goal_at_round};
 pub use searching::{Reach, Search, Searched};
 pub use session::{Session, Standing};
 pub use stepping::step;

@@ -8,8 +8,9 @@ ghost use Rattle.gdb_resumes.specs.Resumes.{IsSearched, IsUnderWay, SearchesTo, 
 ghost use Rattle.gdb_resumes.specs.declared.searching.Searched.TheVariants.{GoesOn, Stands};
 ghost use Rattle.gdb_resumes.specs.Sessions.{IsReady, OfRun, state_of};
 
-use crate::asking::{all_told, within};
+use crate::asking::all_told;
 use crate::debugged::Debugged;
+use crate::going::goal_passed;
 use crate::pace::{MOST_STEPS, stretch_of};
 use crate::resuming::{end_of, tell};
 use crate::session::{Session, Standing, start_of};
@@ -102,7 +103,10 @@ impl Search {
     {
         let here = session.standing.point;
         let (found, reach) = self.reach.look_through(rt, run, &self.telling, &here)?;
-        match within(run, found)? {
+        if let Some(goal) = goal_passed(reach, &here, found, session.standing.goal) {
+            return Ok(Searched::Stands(session.standing.at_goal(goal)));
+        }
+        match found {
             Some(told) => {
                 let standing = tell(rt, run, session, told)?;
                 Ok(Searched::Stands(standing))

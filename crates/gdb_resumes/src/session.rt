@@ -1,12 +1,15 @@
 ghost use Rattle.std.specs.Prelude.{◌≡◌, [], None};
 ghost use Rattle.gdb_replies.specs.declared.stop_reply.Reason.TheVariants.{Step};
-ghost use Rattle.gdb_resumes.specs.Resumes.{moved, stays};
+ghost use Rattle.gdb_resumes.specs.Resumes.{at_goal, moved, stays};
 ghost use Rattle.gdb_resumes.specs.Sessions.{start_of};
 
 use gdb_replies::Reason;
 use round_schedule::Phase;
 use round_steps::{Moment, Place, Point, Side, Watchpoint};
 use std::alloc::Global;
+
+/// gdb's number of the signal that is none.
+const NO_SIGNAL: u8 = 0;
 
 /// Where a debugger's session stands, and of which harts it speaks.
 #[derive(Clone, Copy, Debug, PartialEq, Eq)]
@@ -21,6 +24,8 @@ pub struct Standing {
     pub general: u32,
     /// The hart that is to step back alone; where there is none, the others go back with it.
     pub moving: Option<u32>,
+    /// Where a run is to stop once that goes on or back until something is told.
+    pub goal: Option<Point>,
 }
 
 /// A debugger's session.
@@ -44,6 +49,7 @@ impl Session {
           told = 0;
           general = 0;
           moving = None;
+          goal = None;
         } }
         ensures software { result.software.items ≡ [] }
         ensures hardware { result.hardware.items ≡ [] }
@@ -56,6 +62,7 @@ impl Session {
                 told: 0,
                 general: 0,
                 moving: None,
+                goal: None,
             },
             software: Vec::new(alloc),
             hardware: Vec::new(alloc),
@@ -75,6 +82,17 @@ impl Standing {
             told: hart,
             general: hart,
             moving: self.moving,
+            goal: self.goal,
+        }
+    }
+
+    /// It stands where it was to stop once.
+    pub(crate) fn at_goal(self, goal: Point) -> Standing
+        ensures { result ≡ at_goal self goal }
+    {
+        Standing {
+            goal: None,
+            ..self.moved(goal, Reason::Signal(NO_SIGNAL), goal.moment.place.hart)
         }
     }
 

@@ -2,7 +2,6 @@
 
 ghost use Rattle.std.specs.Prelude.{◌≡◌, ℕ, ◌<◌, ◌≤◌, if◌then◌else◌, IfOk, IfErr, IfSome};
 ghost use Rattle.host_io.specs.declared.error.RunError.TheVariants as refusals;
-ghost use Rattle.round_steps.specs.Shown.{is_behind_move};
 ghost use Rattle.gdb_resumes.specs.Resumes.{Steps, at_side, StepsBackBeside, StepsBy, StepsFrom, StepsOn, begins_step, later_of, no_step, sought_from};
 ghost use Rattle.gdb_resumes.specs.Sessions.{IsReady, IsWithin, OfRun, hart_seen, is_stopped, state_of};
 
@@ -10,6 +9,7 @@ use crate::asking::{all_told, find};
 use crate::debugged::Debugged;
 use crate::resuming::{end_of, tell, tell_or, why_told};
 use crate::session::{Session, Standing};
+use gdb_answers::is_behind_move;
 use gdb_replies::Reason;
 use hart_step::Hart;
 use host_io::RunError;
@@ -84,16 +84,6 @@ pub(crate) fn at_side_if(other: bool, at: Point, side: Side) -> Point
     ensures round { result.moment.rounds ≡ at.moment.rounds }
 {
     if other { Point { side, ..at } } else { at }
-}
-
-/// Whether a side is that behind a move.
-fn is_behind_move(side: Side) -> bool
-    ensures { result ≡ is_behind_move side }
-{
-    match side {
-        Side::After | Side::RivalAfter => true,
-        Side::Break | Side::Rival | Side::Access => false,
-    }
 }
 
 /// A step of the hart where this is found first: a moment at which it begins, or another one that is told.

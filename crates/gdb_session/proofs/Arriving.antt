@@ -40,20 +40,25 @@ read_with r t request q f look workers took took_then is there same res wrote =
     on_ok_weaker res (λ e. replied_with r t request q (f (record { point = t.point; hart = t.general; workers = workers })) took took_then is same e) (subst W there wrote)
 
 -- a command that there isn't
-pub no_command : (r : Recorded) (t : Standing) (k : Command) → (k ≡ commands.Where → ⊥) → (k ≡ commands.Harts → ⊥) → (k ≡ commands.Buffer → ⊥) → (k ≡ commands.Plan → ⊥) →
-    (k ≡ commands.Output → ⊥) → (k ≡ commands.Help → ⊥) → command_text r t k ≡ encode_lower (codes "no such command: monitor help\n")
-no_command r t commands.Where a b c d e f = absurd (a refl)
-no_command r t commands.Harts a b c d e f = absurd (b refl)
-no_command r t commands.Buffer a b c d e f = absurd (c refl)
-no_command r t commands.Plan a b c d e f = absurd (d refl)
-no_command r t commands.Output a b c d e f = absurd (e refl)
-no_command r t commands.Help a b c d e f = absurd (f refl)
-no_command r t commands.Event a b c d e f = refl
-no_command r t commands.Reservations a b c d e f = refl
-no_command r t (commands.GotoRound n) a b c d e f = refl
-no_command r t (commands.GotoPlace n h p) a b c d e f = refl
-no_command r t commands.GotoEnd a b c d e f = refl
-no_command r t commands.Unknown a b c d e f = refl
+pub no_command : (r : Recorded) (t : Standing) (k : Command) → (k ≡ commands.Where → ⊥) → (k ≡ commands.Harts → ⊥) → (k ≡ commands.Buffer → ⊥) → (k ≡ commands.Event → ⊥) →
+    (k ≡ commands.Reservations → ⊥) → (k ≡ commands.Plan → ⊥) → (k ≡ commands.Output → ⊥) → (k ≡ commands.Help → ⊥) → command_text r t k ≡ encode_lower (codes "no such command: monitor help\n")
+no_command r t commands.Where a b c d e f g h = absurd (a refl)
+no_command r t commands.Harts a b c d e f g h = absurd (b refl)
+no_command r t commands.Buffer a b c d e f g h = absurd (c refl)
+no_command r t commands.Event a b c d e f g h = absurd (d refl)
+no_command r t commands.Reservations a b c d e f g h = absurd (e refl)
+no_command r t commands.Plan a b c d e f g h = absurd (f refl)
+no_command r t commands.Output a b c d e f g h = absurd (g refl)
+no_command r t commands.Help a b c d e f g h = absurd (h refl)
+no_command r t (commands.GotoRound n) a b c d e f g h = refl
+no_command r t (commands.GotoPlace n i p) a b c d e f g h = refl
+no_command r t commands.GotoEnd a b c d e f g h = refl
+no_command r t commands.Unknown a b c d e f g h = refl
+
+-- a command is a request
+pub command_answered : (r : Recorded) (s : State) (request : Request) (k : Command) (took took_then : List ℕ) (t : State) → request ≡ requests.Command k →
+    Answered r s (requests.Command k) took took_then t → Answered r s request took took_then t
+command_answered r s request k took took_then t is answered = subst (λ (q : Request). Answered r s q took took_then t) (sym is) answered
 
 -- it is what is answered, and the session stays
 pub replied : (r : Recorded) (s : State) (request : Request) (took took_then : List ℕ) → Replied r s.standing request took took_then → Answered r s request took took_then s

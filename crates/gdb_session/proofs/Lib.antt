@@ -1,3 +1,4 @@
 pub mod Arriving
 pub mod Going
 pub mod Resuming
+pub mod Wanting

@@ -1,5 +1,5 @@
 -- What a debugger is answered, and what its session is then.
-use Rattle.std.specs.Prelude.{◌≡◌, ℕ, ◌+◌, ◌-◌, ◌==◌, ◌&&◌, ◌||◌, not, nat_lt, if◌then◌else◌, Bool, List, [], ◌∷◌, ◌++◌, filter, codes, is_some, Option, Some, None}
+use Rattle.std.specs.Prelude.{◌≡◌, ℕ, ◌+◌, ◌-◌, ◌==◌, ◌&&◌, ◌||◌, not, nat_le, nat_lt, if◌then◌else◌, Bool, true, false, List, [], ◌∷◌, ◌++◌, filter, codes, is_some, Option, Some, None}
 use Rattle.std.specs.List.{list_any}
 use Rattle.walking.specs.Stops.{is_one_of}
 use Rattle.watching.specs.declared.watchpoint.WatchKind.{WatchKind}
@@ -17,15 +17,23 @@ use Rattle.gdb_requests.specs.declared.request.Request.TheVariants as requests
 use Rattle.gdb_requests.specs.declared.request.Watch.{Watch}
 use Rattle.gdb_requests.specs.declared.request.Watch.TheVariants as asked
 use Rattle.gdb_replies.specs.Description.{target_text}
-use Rattle.gdb_replies.specs.CommandTexts.{help_text}
+use Rattle.gdb_replies.specs.CommandTexts.{ahead_text, behind_text, elsewhere_text, harts_text, help_text, here_text, rounds_text}
 use Rattle.gdb_replies.specs.Replies.{features_text, part_of, payload_of}
 use Rattle.gdb_replies.specs.Words.{thread_text, threads_text}
 use Rattle.gdb_replies.specs.declared.reply.Reply.TheVariants as replies
 use Rattle.gdb_answers.specs.Answers.{checksum_answer, memory_answer, note_answer, register_answer, registers_answer, seen, stop_answer, thread_list_answer}
 use Rattle.gdb_answers.specs.Buffers.{buffer_answer}
 use Rattle.gdb_answers.specs.Commands.{harts_answer, output_answer, plan_answer, where_answer}
+use Rattle.gdb_answers.specs.Events.{event_answer}
 use Rattle.gdb_answers.specs.Files.{file_answer}
+use Rattle.gdb_answers.specs.Reserved.{reservations_answer}
+use Rattle.round_steps.specs.declared.point.Point.{Point}
+use Rattle.round_steps.specs.Moments.{is_before}
+use Rattle.round_steps.specs.Points.{same_moment}
+use Rattle.gdb_resumes.specs.declared.goals.Goal.{Goal}
+use Rattle.gdb_resumes.specs.declared.goals.Goal.TheVariants as goals
 use Rattle.gdb_resumes.specs.declared.session.Standing.{Standing}
+use Rattle.gdb_resumes.specs.Goals.{IsPlaceOf, goal_at_round}
 use Rattle.gdb_resumes.specs.Sessions.{Recorded, State}
 use Rattle.gdb_resumes.specs.Resumes.{Continues, Steps, StepsAlone, StepsBack, StepsIn}
 
@@ -72,10 +80,19 @@ abbrev pub command_text : Recorded → Standing → Command → List ℕ
 command_text r t commands.Where = where_answer t.point.moment (seen r.run t.point t.point.moment.place.hart)
 command_text r t commands.Harts = harts_answer r.run t.point r.harts
 command_text r t commands.Buffer = buffer_answer r.run t.point t.general (seen r.run t.point t.general)
+command_text r t commands.Event = event_answer r.rounds r.run t.point (seen r.run t.point t.point.moment.place.hart)
+command_text r t commands.Reservations = reservations_answer r.run t.point r.harts (seen r.run t.point t.point.moment.place.hart)
 command_text r t commands.Plan = plan_answer r.run.plan (t.point.moment.rounds + 1)
 command_text r t commands.Output = output_answer (after_rounds t.point.moment.rounds r.run).state.console.output
 command_text r t commands.Help = encode_lower help_text
 command_text r t command = encode_lower (codes "no such command: monitor help\n")
+
+-- the others say where the next run is to stop
+abbrev pub is_goto : Command → Bool
+is_goto (commands.GotoRound round) = true
+is_goto (commands.GotoPlace round hart place) = true
+is_goto commands.GotoEnd = true
+is_goto command = false
 
 -- what is
 abbrev pub text_at : Recorded → Standing → Request → Option (List ℕ)
@@ -87,7 +104,7 @@ text_at r t requests.ReadRegisters = Some (registers_answer t.point.moment (seen
 text_at r t (requests.ReadRegister number) = Some (register_answer number t.point.moment (seen r.run t.point t.general))
 text_at r t (requests.ReadMemory address count) = Some (memory_answer address count (seen r.run t.point t.general))
 text_at r t (requests.Checksum address count) = Some (checksum_answer address count (seen r.run t.point t.general))
-text_at r t (requests.Command command) = Some (command_text r t command)
+text_at r t (requests.Command command) = if is_goto command then None else Some (command_text r t command)
 text_at r t request = None
 
 abbrev pub or_else : Option (List ℕ) → Option (List ℕ) → Option (List ℕ)
@@ -164,6 +181,39 @@ with_watch ws w = if list_any (same_watch w) ws then ws else ws ++ w ∷ []
 abbrev pub without_watch : List Watchpoint → Watchpoint → List Watchpoint
 without_watch ws w = filter (λ (x : Watchpoint). not (same_watch w x)) ws
 
+-- where the next run that goes on or back is to stop once; it can't where there is no such moment
+abbrev pub IsGoal : Recorded → Command → Goal → Type 0
+IsGoal r (commands.GotoRound round) goal = goal ≡ goal_at_round r.rounds round
+IsGoal r (commands.GotoPlace round hart place) goal = IsPlaceOf r round hart place goal
+IsGoal r commands.GotoEnd goal = goal ≡ goals.End
+IsGoal r command goal = ⊥
+
+abbrev pub side_text : Bool → Bool → List ℕ
+side_text is_here is_ahead = if is_here then here_text else (if is_ahead then ahead_text else behind_text)
+
+abbrev pub goal_text : Recorded → Standing → Goal → List ℕ
+goal_text r t (goals.At at) = side_text (same_moment t.point.moment at.moment) (is_before t.point.moment at.moment)
+goal_text r t goals.End = side_text (nat_le r.rounds t.point.moment.rounds) true
+goal_text r t goals.NoRound = rounds_text r.rounds
+goal_text r t goals.NoHart = harts_text r.harts
+goal_text r t goals.NoPlace = elsewhere_text
+
+-- behind the last round a run stops by itself
+abbrev pub goal_then : Standing → Goal → Option Point
+goal_then t (goals.At at) = if same_moment t.point.moment at.moment then None else Some at
+goal_then t goals.End = None
+goal_then t goals.NoRound = t.goal
+goal_then t goals.NoHart = t.goal
+goal_then t goals.NoPlace = t.goal
+
+abbrev pub with_goal : State → Option Point → State
+with_goal s goal = record s { standing = record s.standing { goal = goal } }
+
+pub record GoesTo (r : Recorded) (s : State) (command : Command) (text : List ℕ) (t : State) : Type 0 where
+  pub goal : Goal
+  pub is : IsGoal r command goal
+  pub says : Says (encode_lower (goal_text r s.standing goal)) (with_goal s (goal_then s.standing goal)) text t
+
 -- the run is resumed: where it stands then; none where there is no such thread
 abbrev pub MovesTo : (Standing → Type 0) → Option Standing → Type 0
 MovesTo To None = ⊥
@@ -201,6 +251,7 @@ Changes r s (requests.AddHardwareStop address) text t = Says (codes "OK") (recor
 Changes r s (requests.RemoveHardwareStop address) text t = Says (codes "OK") (record s { hardware = without_one s.hardware address }) text t
 Changes r s (requests.AddWatch kind address count) text t = Says (codes "OK") (record s { watches = with_watch s.watches (watch_of kind address count) }) text t
 Changes r s (requests.RemoveWatch kind address count) text t = Says (codes "OK") (record s { watches = without_watch s.watches (watch_of kind address count) }) text t
+Changes r s (requests.Command command) text t = GoesTo r s command text t
 Changes r s request text t = Resumes r s request text t
 
 abbrev pub AnswersBy : Option (List ℕ) → Recorded → State → Request → List ℕ → State → Type 0

@@ -31,7 +31,7 @@ talking t = record { state = state_of t.session; last = t.last; searching = t.se
 abbrev pub begun : Talking
 begun = record {
   state = record {
-    standing = record { point = start_of 0; reason = Step; told = 0; general = 0; moving = None };
+    standing = record { point = start_of 0; reason = Step; told = 0; general = 0; moving = None; goal = None };
     software = [];
     hardware = [];
     watches = [];

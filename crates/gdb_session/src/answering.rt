@@ -8,11 +8,12 @@ ghost use Rattle.gdb_session.specs.Answers.{Answered, Moves, Resumes};
 ghost use Rattle.gdb_resumes.specs.Sessions.{IsReady, OfRun, state_of};
 
 use crate::breakpoints::{add_stop, remove_stop};
-use crate::reading::{reply_to, say_where};
+use crate::goto::go_to;
+use crate::reading::{is_goto, reply_to, say_where};
 use crate::selecting::{hart_of_thread, say_done};
 use crate::watchpoints::{add_watch, remove_watch, watch_of};
 use gdb_replies::{Reply, write_reply};
-use gdb_requests::Request;
+use gdb_requests::{Command, Request};
 use gdb_resumes::{Debugged, Session, Standing, step, step_alone, step_back, step_in};
 use host_io::{RunError, Sink};
 use std::alloc::Global;
@@ -58,7 +59,39 @@ pub fn answer<R: Threads + Wait + Sync, K: Sink>(
         }
         Request::Step(_) | Request::StepIn(..) | Request::StepAlone(_) | Request::StepBack =>
             resume(rt, alloc, run, session, request, out),
+        Request::Command(command) => answer_command(rt, alloc, run, session, command, out),
         _ => reply_to(rt, alloc, run, session.standing, request, out),
+    }
+}
+
+/// Answers a command of the user's.
+fn answer_command<R: Threads + Wait + Sync, K: Sink>(
+    rt: &R,
+    alloc: Global,
+    run: &mut Debugged,
+    session: &mut Session,
+    command: Command,
+    out: &mut K,
+) -> Result<(), RunError>
+    requires ready { IsReady run.old session.old.standing }
+    ensures stays { run.new ≡ run.old }
+    ensures ready { IsReady run.old session.new.standing }
+    ensures answers { OfRun run.old (λ r. OnOk result (Answered r (state_of session.old) (requests.Command command)
+        (K.took out.old) (K.took out.new) (state_of session.new))) }
+    ensures refused { result ≡ Err refusals.OutOfMemory →
+        (K.took out.new ≡ K.took out.old) × (state_of session.new ≡ state_of session.old) }
+{
+    if is_goto(command) {
+        go_to(rt, alloc, run, session, command, out)
+    } else {
+        reply_to(
+            rt,
+            alloc,
+            run,
+            session.standing,
+            Request::Command(command),
+            out,
+        )
     }
 }
 

@@ -3,6 +3,7 @@
 
 mod answering;
 mod breakpoints;
+mod goto;
 mod opening;
 mod reading;
 mod refusing;

@@ -5,14 +5,14 @@ ghost use Rattle.std.specs.Option.{option_map};
 ghost use Rattle.host_io.specs.declared.error.RunError.TheVariants as refusals;
 ghost use Rattle.gdb_packets.specs.Writing.{packet_text};
 ghost use Rattle.gdb_replies.specs.Replies.{payload_of};
-ghost use Rattle.gdb_session.specs.Answers.{Replied, command_text, fixed_text, hart_of_thread, name_answer, note_text_of, stands_text};
+ghost use Rattle.gdb_session.specs.Answers.{Replied, command_text, fixed_text, hart_of_thread, is_goto, name_answer, note_text_of, stands_text};
 ghost use Rattle.gdb_resumes.specs.Sessions.{IsReady, OfRun};
 
 use crate::selecting::{hart_of_thread, say_done};
 use gdb_answers::{
-    Look, answer_buffer, answer_checksum, answer_harts, answer_memory, answer_note, answer_output,
-    answer_plan, answer_register, answer_registers, answer_stop, answer_threads, answer_where,
-    file_reply,
+    Look, answer_buffer, answer_checksum, answer_event, answer_harts, answer_memory, answer_note,
+    answer_output, answer_plan, answer_register, answer_registers, answer_reservations,
+    answer_stop, answer_threads, answer_where, file_reply,
 };
 use gdb_replies::{Reply, Window, command_help, target_description, write_reply};
 use gdb_requests::{Command, IMAGE_NAME, Request};
@@ -77,7 +77,13 @@ fn reply_at<R: Threads + Wait + Sync, K: Sink>(
         Request::Checksum(address, count) => {
             answer_checksum(rt, alloc, &mut run.timeline, look, address, count, out)
         }
-        Request::Command(command) => say_command(rt, alloc, run, standing, command, out),
+        Request::Command(command) => {
+            if is_goto(command) {
+                // It changes the session, and isn't asked here.
+                return Err(RunError::OutOfMemory);
+            }
+            say_command(rt, alloc, run, standing, command, out)
+        }
         Request::IsAlive(thread) => say_done(alloc, hart_of_thread(run.harts, thread), out),
         // No other request is about a moment.
         _ => Err(RunError::OutOfMemory),
@@ -140,7 +146,17 @@ fn name_reply<'a>(image: Option<&'a [u8]>, offset: u64, count: u64) -> Reply<'a>
     }
 }
 
-/// Answers a command of the user's.
+/// Whether a command says where the next run is to stop.
+pub(crate) fn is_goto(command: Command) -> bool
+    ensures { result ≡ is_goto command }
+{
+    match command {
+        Command::GotoRound(_) | Command::GotoPlace(..) | Command::GotoEnd => true,
+        _ => false,
+    }
+}
+
+/// Answers a command of the user's that changes nothing.
 fn say_command<R: Threads + Wait + Sync, K: Sink>(
     rt: &R,
     alloc: Global,
@@ -169,6 +185,25 @@ fn say_command<R: Threads + Wait + Sync, K: Sink>(
         Command::Buffer => {
             answer_buffer(rt, alloc, &mut run.timeline, &mut run.start, look, out)
         }
+        Command::Event => answer_event(
+            rt,
+            alloc,
+            &mut run.timeline,
+            &mut run.start,
+            look.point,
+            workers,
+            out,
+        ),
+        Command::Reservations => answer_reservations(
+            rt,
+            alloc,
+            &mut run.timeline,
+            &mut run.start,
+            look.point,
+            run.harts,
+            workers,
+            out,
+        ),
         Command::Plan => answer_plan(alloc, run.start.plan(), rounds + 1, out),
         Command::Output => answer_output(rt, alloc, &mut run.start, rounds, workers, out),
         Command::Help => write_reply(alloc, &Reply::Words(command_help()), out),

@@ -1,8 +1,24 @@
-use Rattle.gdb_resumes.specs.Sessions.{recorded_of}
+use Rattle.std.proofs.lemmas.Result.{IfOk-weaker}
+use Rattle.std.specs.Prelude.{IfSome}
+use Rattle.std.proofs.Common.{◌≡◌, subst}
+use Rattle.machine.specs.Untraced.{IsUntraced, Untraced}
+use Rattle.round_steps.specs.declared.point.Told.{Told}
+use Rattle.gdb_resumes.specs.Searches.{nearest_of}
+use Rattle.gdb_resumes.specs.Sessions.{IsWithin, recorded_of}
 use Rattle.gdb_resumes.proofs.Arriving.{nearest_found}
+use Rattle.gdb_resumes.proofs.Recording.{begun, found_within}
 use Rattle.gdb_resumes.proofs.asking.find.Goals as goal
 
 pub returns-clause-finds : goal.returns-clause-finds
 returns-clause-finds g c = λ m is w asks.
-    nearest_found (recorded_of m c.args.run.now) c.args.way w c.args.from.now c.args.telling.now asks c.in_ok-found.found
-    (c.in_ok-found.ensures.nearest m is) c.within.result c.within.ensures.found
+    nearest_found (recorded_of m c.args.run.now) c.args.way w c.args.from.now c.args.telling.now asks c.nearest.result (c.nearest.ensures.nearest m is)
+
+pub returns-clause-within : goal.returns-clause-within
+returns-clause-within g c =
+    let d = c.args.run.now in
+    let m = c.requires.run.0 in
+    let is = subst (λ (u : Untraced). IsUntraced m u) c.requires.start c.requires.run.1 in
+    let r = recorded_of m d in
+    IfOk-weaker c.nearest.result (λ x. x ≡ nearest_of r c.args.way c.args.telling.now c.args.from.now) (λ x. IfSome x (λ (told : Told). IsWithin d told.point))
+    (λ x e. found_within d m (begun d m is c.requires.start c.requires.fresh c.requires.harts) c.args.telling.now c.args.from.now c.args.way c.requires.within x e)
+    (c.nearest.ensures.nearest m is)

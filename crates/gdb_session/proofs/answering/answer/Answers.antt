@@ -4,7 +4,7 @@ use Rattle.gdb_requests.specs.declared.request.Request.TheVariants as requests
 use Rattle.watching.specs.declared.watchpoint.Watchpoint.{Watchpoint}
 use Rattle.gdb_session.specs.Answers.{with_watch, without_watch}
 use Rattle.gdb_resumes.specs.Sessions.{State, recorded_of, state_of}
-use Rattle.gdb_session.proofs.Arriving.{both, replied, step_answered, stop_changed}
+use Rattle.gdb_session.proofs.Arriving.{both, command_answered, replied, step_answered, stop_changed}
 use Rattle.gdb_session.proofs.answering.answer.Goals as goal
 
 pub returns-in-AddStop-clause-answers : goal.returns-in-AddStop-clause-answers
@@ -75,6 +75,13 @@ returns-in-Step-clause-answers g c = λ m is.
     (step_answered (recorded_of m c.args.run.now) (state_of c.args.session.now) (g.K.Sink.took c.args.out.now) (g.K.Sink.took c.resume.new.out)
     (state_of c.resume.new.session) c.args.request c.in-Step.is)
     (c.resume.ensures.resumes m is)
+
+pub returns-in-Command-clause-answers : goal.returns-in-Command-clause-answers
+returns-in-Command-clause-answers g c = λ m is.
+    on_ok_weaker c.answer_command.result
+    (command_answered (recorded_of m c.args.run.now) (state_of c.args.session.now) c.args.request c.in-Command.command (g.K.Sink.took c.args.out.now)
+    (g.K.Sink.took c.answer_command.new.out) (state_of c.answer_command.new.session) c.in-Command.is)
+    (c.answer_command.ensures.answers m is)
 
 pub returns-in_default : goal.returns-in_default
 returns-in_default g c = record {

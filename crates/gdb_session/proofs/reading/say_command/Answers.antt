@@ -12,5 +12,5 @@ returns-in_default-clause-writes g c = λ m is.
     let P : List ℕ → Type 0 = λ said. OnOk c.write_reply-in_default.result (after ≡ took ++ packet_text said) in
     let other = c.in_default in
     subst P
-    (sym (no_command r c.args.standing c.args.command other.not-Where other.not-Harts other.not-Buffer other.not-Plan other.not-Output other.not-Help))
+    (sym (no_command r c.args.standing c.args.command other.not-Where other.not-Harts other.not-Buffer other.not-Event other.not-Reservations other.not-Plan other.not-Output other.not-Help))
     c.write_reply-in_default.ensures.writes.ok

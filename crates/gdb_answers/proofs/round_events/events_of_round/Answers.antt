@@ -1,7 +1,7 @@
 use Rattle.std.proofs.Common.{sym, subst}
 use Rattle.machine.specs.Machine.{after_rounds}
 use Rattle.machine.specs.Untraced.{IsUntraced, Untraced}
-use Rattle.gdb_answers.proofs.buffer.events_of_round.Goals as goal
+use Rattle.gdb_answers.proofs.round_events.events_of_round.Goals as goal
 
 pub returns-clause-events : goal.returns-clause-events
 returns-clause-events g c = λ m is.

@@ -1,7 +1,7 @@
 use Rattle.std.proofs.Common.{◌++◌, List, append-nil, ap, sym, ◌∙◌}
 use Rattle.round_schedule.specs.declared.event.Event.{Event}
-use Rattle.gdb_answers.proofs.Rounds.{events_are}
-use Rattle.gdb_answers.proofs.buffer.next_events.Goals as goal
+use Rattle.gdb_answers.proofs.Rounds.{events_added, events_are}
+use Rattle.gdb_answers.proofs.round_events.next_events.Goals as goal
 
 pub run_noting-requires-after_bounds : goal.run_noting-requires-after_bounds
 run_noting-requires-after_bounds g c κs within =
@@ -12,4 +12,8 @@ run_noting-requires-after_bounds g c κs within =
 pub returns-clause-events : goal.returns-clause-events
 returns-clause-events g c = λ m is.
     c.in_ok-events.ensures.events
-    ∙ events_are m c.args.machine c.new-trace.result.events c.run_noting.new.trace.events is c.new-trace.ensures.events c.in_ok-run_noting.ensures.events
+    ∙ events_are m c.args.machine.now c.new-trace.result.events c.run_noting.new.trace.events is c.new-trace.ensures.events c.in_ok-run_noting.ensures.events
+
+pub returns-clause-trace : goal.returns-clause-trace
+returns-clause-trace g c = λ m is.
+    events_added m c.args.machine.now c.new-trace.result.events c.run_noting.new.trace.events is c.in_ok-run_noting.ensures.events

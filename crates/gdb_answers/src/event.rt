@@ -1,0 +1,138 @@
+//! What the step at which a run stands reads or writes.
+
+ghost use Rattle.std.specs.Prelude.{◌≡◌, ℕ, ◌≤◌, ◌<◌, ◌+◌, ◌^◌, ◌++◌, List, Err, IfOk, OnOk};
+ghost use Rattle.hex.specs.Hex.{encode_lower};
+ghost use Rattle.host_io.specs.Taken.{WritesText};
+ghost use Rattle.host_io.specs.declared.error.RunError.TheVariants as refusals;
+ghost use Rattle.machine.specs.Machine.{Running};
+ghost use Rattle.machine.specs.Untraced.{IsUntraced};
+ghost use Rattle.round_steps.specs.Shown.{is_behind_move};
+ghost use Rattle.gdb_packets.specs.Writing.{packet_text};
+ghost use Rattle.gdb_answers.specs.Answers.{seen};
+ghost use Rattle.gdb_answers.specs.Events.{event_answer, is_step, step_line, step_lines, step_place, step_text};
+
+use crate::round_events::events_of_round;
+use crate::saying::say_or;
+use gdb_replies::{Reply, write_reply};
+use host_io::{RunError, Sink};
+use machine::UntracedMachine;
+use pages::OutOfMemory;
+use report_lines::{Line, Tail, event_line};
+use round_schedule::Event;
+use round_steps::{Point, Side, Timeline};
+use std::alloc::Global;
+use std::sync::Wait;
+use std::thread::Threads;
+
+/// What is said where the step reads and writes nothing.
+const NO_ACCESS: &[u8] = b"no access\n";
+
+/// What is said behind the last round.
+const ENDS: &[u8] = b"the recording ends here\n";
+
+/// Answers with the access of the step that is next at a point, or that was last where the point is behind a move, of the run which
+/// begins with this machine. It may wait.
+///
+/// # Errors
+///
+/// `OutOfMemory`: nothing is written then. `SinkFailed`: a beginning of the packet is.
+pub fn answer_event<R: Threads + Wait + Sync, K: Sink>(
+    rt: &R,
+    alloc: Global,
+    timeline: &mut Timeline,
+    start: &mut UntracedMachine,
+    point: Point,
+    workers: u32,
+    out: &mut K,
+) -> Result<(), RunError>
+    requires within { point.moment.rounds ≤ timeline.old.rounds }
+    requires workers { (1 ≤ workers) × (workers ≤ 16) }
+    requires rounds { start.old.rounds + point.moment.rounds + 1 < 2 ^ 32 }
+    requires start { start.old ≡ timeline.old.start }
+    requires run { (m : Running) × IsUntraced m start.old }
+    ensures stays { (timeline.new ≡ timeline.old) × (start.new ≡ start.old) }
+    ensures writes { (m : Running) → IsUntraced m timeline.old.start → OnOk result (K.took out.new ≡ K.took out.old
+        ++ packet_text (event_answer timeline.old.rounds m point (seen m point point.moment.place.hart))) }
+    ensures memory { result ≡ Err refusals.OutOfMemory → K.took out.new ≡ K.took out.old }
+{
+    let rounds = point.moment.rounds;
+    if rounds >= timeline.rounds() {
+        return write_reply(alloc, &Reply::Words(ENDS), out);
+    }
+    match timeline.shown_at(rt, &point, point.moment.place.hart, workers)? {
+        Some(sight) => {
+            let events = events_of_round(rt, alloc, start, rounds, workers)?;
+            say_event(alloc, events.as_slice(), point, sight.hart().done, out)
+        }
+        None => write_reply(alloc, &Reply::Missing, out),
+    }
+}
+
+/// Answers with the access of a point's step, by the events of the round and by how many instructions the hart has done.
+fn say_event<K: Sink>(
+    alloc: Global,
+    events: &[Event],
+    point: Point,
+    done: u64,
+    out: &mut K,
+) -> Result<(), RunError>
+    ensures writes { WritesText (packet_text (encode_lower (step_text point done events.now)))
+        (K.took out.old) (K.failures out.old) result (K.took out.new) (K.failures out.new) }
+    ensures memory { result ≡ Err refusals.OutOfMemory → K.took out.new ≡ K.took out.old }
+{
+    let hart = point.moment.place.hart;
+    match step_lines(alloc, events, hart, step_place(&point, done)) {
+        Ok(line) => say_or(alloc, line.as_bytes(), NO_ACCESS, out),
+        Err(_) => Err(RunError::OutOfMemory),
+    }
+}
+
+/// How many instructions the hart of a point had done before the step, where it has done so many there.
+fn step_place(point: &Point, done: u64) -> u64
+    ensures { result ≡ step_place point.now done }
+{
+    if is_behind_move(point.side) && point.moment.place.count > 0 {
+        done.saturating_sub(1)
+    } else {
+        done
+    }
+}
+
+/// Whether a side is that behind a move.
+pub fn is_behind_move(side: Side) -> bool
+    ensures { result ≡ is_behind_move side }
+{
+    match side {
+        Side::After | Side::RivalAfter => true,
+        Side::Break | Side::Rival | Side::Access => false,
+    }
+}
+
+/// The line of a hart's event among some, which it did after so many instructions.
+fn step_lines(alloc: Global, events: &[Event], hart: u32, place: u64) -> Result<Line, OutOfMemory>
+    ensures { IfOk result (λ line. line ≡ step_lines hart place events.now) }
+{
+    let mut line = Line::new(alloc);
+    for event in events {
+        add_step(&mut line, event, hart, place)?;
+    }
+    Ok(line)
+}
+
+/// Adds the line of an event, where it is that one.
+fn add_step(line: &mut Line, event: &Event, hart: u32, place: u64) -> Result<(), OutOfMemory>
+    ensures { OnOk result (line.new ≡ line.old ++ step_line hart place event.now) }
+{
+    if is_step(event, hart, place) {
+        event_line(line, &mut Tail::new(), event)
+    } else {
+        Ok(())
+    }
+}
+
+/// Whether an event is the one of a hart that it did after so many instructions.
+fn is_step(event: &Event, hart: u32, place: u64) -> bool
+    ensures { result ≡ is_step hart place event.now }
+{
+    u32::from(event.hart) == hart && event.access.place() == place
+}
