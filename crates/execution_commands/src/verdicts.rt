@@ -42,7 +42,7 @@ pub fn put_verdict<S: Sink>(
 }
 
 /// The exit status of what was found.
-pub fn verdict_status(checked: &Checked) -> ExitStatus
+fn verdict_status(checked: &Checked) -> ExitStatus
     ensures { result ≡ verdict_status checked.now.finding }
 {
     if is_allowed(checked) {
@@ -53,11 +53,7 @@ pub fn verdict_status(checked: &Checked) -> ExitStatus
 }
 
 /// The lines of what was found.
-///
-/// # Errors
-///
-/// `OutOfMemory` alone.
-pub fn verdict_text(alloc: Global, checked: &Checked) -> Result<Line, OutOfMemory>
+fn verdict_text(alloc: Global, checked: &Checked) -> Result<Line, OutOfMemory>
     ensures { IfOk result (IsVerdictText checked.now) }
 {
     if is_allowed(checked) {

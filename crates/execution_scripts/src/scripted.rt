@@ -1,6 +1,4 @@
-ghost use Rattle.std.specs.Prelude.{◌≡◌, ◌≤◌, IfOk, OnOk, length};
-ghost use Rattle.execution_file.specs.Views.{as_recorded};
-ghost use Rattle.execution_scripts.specs.RunFiles.{IsFileFor};
+ghost use Rattle.std.specs.Prelude.{◌≤◌};
 
 use crate::deeds::deeds;
 use crate::opening::open_execution;
@@ -42,9 +40,7 @@ pub fn execution_of_script(
     guest: &ScriptedGuest<'_>,
     script: &[ScriptedStep],
     order: &Order,
-) -> Result<ExecutionFile, RunError>
-    ensures { IfOk result (λ f. IsFileFor guest.now (as_recorded f)) }
-{
+) -> Result<ExecutionFile, RunError> {
     if guest.harts < 1 || guest.harts > MOST_HARTS {
         return Err(RunError::HartsOutOfRange);
     }
@@ -70,14 +66,12 @@ fn calls_of(
     alloc: Global,
     execution: &mut Execution,
     script: &[ScriptedStep],
-) -> Result<Vec<Turn>, OutOfMemory>
-    ensures { OnOk result (length execution.new.standing.harts ≡ length execution.old.standing.harts) }
-{
+) -> Result<Vec<Turn>, OutOfMemory> {
     let mut calls = Vec::new(alloc);
     for step in script {
         let call = call_number(execution, step.hart);
         let before = execution.instructions().len();
-        take_step(execution, *step)?;
+        let _fault = execution.take_step(*step)?;
         if let Some(Instr::Ecall) = execution.instructions().get(before) {
             if call >= 1 && call <= 3 {
                 calls.push(Turn {
@@ -95,14 +89,6 @@ fn calls_of(
         calls.clear();
     }
     Ok(calls)
-}
-
-/// Takes a step, where the hart has such a one.
-fn take_step(execution: &mut Execution, step: ScriptedStep) -> Result<(), OutOfMemory>
-    ensures { OnOk result (length execution.new.standing.harts ≡ length execution.old.standing.harts) }
-{
-    let _fault = execution.take_step(step)?;
-    Ok(())
 }
 
 /// The number of the call that a hart's next instruction would be.

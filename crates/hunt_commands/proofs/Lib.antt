@@ -1,3 +1,4 @@
+pub mod Begun
 pub mod Ranges
 pub mod Refused
 pub mod TableFiles

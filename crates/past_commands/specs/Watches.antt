@@ -11,8 +11,7 @@ use Rattle.execution_views.specs.Touched.{positions_sought}
 use Rattle.machine.specs.Machine.{Running}
 use Rattle.named_bytes.specs.Naming.{first_missing, objects_in}
 use Rattle.pages.specs.declared.access.Range.{Range}
-use Rattle.execution_commands.specs.Verdicts.{is_allowed}
-use Rattle.past_commands.specs.Checks.{IsCheckAnswer}
+use Rattle.past_commands.specs.Checks.{IsCheckAnswer, is_allowed}
 use Rattle.past_commands.specs.Past.{HoldsPast}
 use Rattle.past_commands.specs.declared.past.Past.{Past}
 use Rattle.past_commands.specs.declared.past.Past.TheVariants.{Execution, Recording}

@@ -1,3 +1,2 @@
 pub mod Hunted
 pub mod Tabled
-mod AllowedFiles

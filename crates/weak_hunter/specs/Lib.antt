@@ -1,3 +1,2 @@
 pub mod WeakHunts
 pub mod Refusals
-pub mod WeakExecutions

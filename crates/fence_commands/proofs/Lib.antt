@@ -1,4 +1,0 @@
-mod Numerals
-pub mod NamedWords
-pub mod Kept
-pub mod Ended
