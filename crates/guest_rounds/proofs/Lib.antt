@@ -15,3 +15,4 @@ pub mod Counted
 pub mod Tallied
 pub mod GuestRounds
 pub mod NextStarts
+pub mod WholeHistories

@@ -1,16 +1,14 @@
-ghost use Rattle.std.specs.Prelude.{◌≡◌, ◌<◌, ◌≤◌, ◌+◌, ◌^◌, ℕ, length, IfOk, IfSome, OnOk, [], Some};
-ghost use Rattle.hart_rounds.specs.Starts.{keeps_log, rounds_of};
-ghost use Rattle.hart_rounds.specs.Ends.{round_at};
-ghost use Rattle.kept_workers.specs.Parts.{Fits, start_of};
+ghost use Rattle.std.specs.Prelude.{◌≡◌, ◌<◌, ◌≤◌, ◌+◌, ◌^◌, ℕ, length, IfOk, []};
+ghost use Rattle.hart_rounds.specs.Starts.{keeps_log};
+ghost use Rattle.kept_workers.specs.Histories.{IsWholeHistory};
 ghost use Rattle.guest_rounds.specs.NextStarts.{AreOfGuest, next_start};
-ghost use Rattle.guest_rounds.specs.HartEnds.{AreEndsOf};
 
 use crate::crew::{Crew, MANY_LINES};
 use crate::guest::GuestState;
 use crate::parallel::set_quotas;
-use hart_rounds::{HartEnd, LogForm, RoundStart, round_from};
+use hart_rounds::{HartEnd, LogForm};
 use hart_step::{CodeTable, Hart};
-use kept_workers::{Board, PostedRound, PostedStart, RunStarts, StartParts};
+use kept_workers::{Board, History, PostedStart, RunStarts, StartParts};
 use pages::{OutOfMemory, Pages};
 use parallel_phase::Open;
 use round_planner::Plan;
@@ -26,6 +24,8 @@ pub struct KeptCrew<'a, S: RunStarts, R> {
     pub crew: Crew<'a, Open, R>,
     /// Where the starts of rounds are posted.
     board: &'a Board<S>,
+    /// The history of the round before, for its room.
+    history: History<S>,
     /// What stands in the guest while the workers hold its parts.
     stand_in: Option<StartParts>,
     ghost within: { (1 ≤ crew.workers) × (crew.workers ≤ 16) },
@@ -45,6 +45,7 @@ impl<'a, S: RunStarts, R> KeptCrew<'a, S, R> {
                 form,
             },
             board,
+            history: board.history(),
             stand_in: None,
         }
     }
@@ -112,6 +113,8 @@ impl<S: RunStarts, R: Wait> KeptCrew<'_, S, R> {
         requires done { done + 1 < 2 ^ 32 }
         ensures guest { guest.new ≡ guest.old }
         ensures form { self.new.crew.form ≡ self.old.crew.form }
+        ensures whole { IfOk result (λ os. IsWholeHistory (next_start
+            (keeps_log self.old.crew.form) plan.now done guest.old) os.items) }
         ensures ends { IfOk result (λ os.
             AreOfGuest (keeps_log self.old.crew.form) plan.now done guest.old os.items) }
     {
@@ -126,66 +129,29 @@ impl<S: RunStarts, R: Wait> KeptCrew<'_, S, R> {
         set_quotas(plan, round, parts.quotas.as_mut_slice());
         swap_parts(&mut guest.harts, &mut guest.shared, &mut parts);
         let start = PostedStart::new(round, parts);
-        let (start, rounds) = self.board.share(self.crew.rt, start);
-        let ends = in_order(&start, rounds, room);
+        let (start, ends) = self.share(start, room);
         let mut parts = start.into_parts();
         swap_parts(&mut guest.harts, &mut guest.shared, &mut parts);
         self.stand_in = Some(parts);
         ends
     }
-}
 
-/// The rounds of all harts in hart order, in an empty list that is taken for its room.
-fn in_order<S: RunStarts>(
-    start: &PostedStart<S>,
-    mut rounds: Vec<PostedRound<S>>,
-    mut room: Vec<HartEnd>,
-) -> Result<Vec<HartEnd>, OutOfMemory>
-    requires fits { Fits start.now.parts }
-    requires empty { room.items ≡ [] }
-    ensures { IfOk result (λ os. AreEndsOf (keeps_log start.now.parts.form)
-        start.now.parts.pages.memory (rounds_of (start_of start.now.parts)) os.items) }
-{
-    let count = start.parts.harts.len();
-    room.reserve(count)?;
-    for number in 0..count {
-        let end = end_of_hart(start, &mut rounds, number)?;
-        room.push_reserved(end);
+    /// Shares the rounds of a start, and gives it back with what they left, in hart order, in an empty list that is taken for its room.
+    fn share(
+        &mut self,
+        start: PostedStart<S>,
+        room: Vec<HartEnd>,
+    ) -> (PostedStart<S>, Result<Vec<HartEnd>, OutOfMemory>)
+        requires empty { room.items ≡ [] }
+        ensures start { result.0 ≡ start }
+        ensures whole { IfOk result.1 (λ os. IsWholeHistory (S.starts start.round) os.items) }
+        ensures form { self.new.crew.form ≡ self.old.crew.form }
+    {
+        let (start, whole) = self.board.share(self.crew.rt, start, &mut self.history);
+        let ends = match whole {
+            Ok(()) => self.history.take_ends(room),
+            Err(refused) => Err(refused),
+        };
+        (start, ends)
     }
-    Ok(room)
-}
-
-/// What the round of a hart left. Where it is missing among those that were done, it is done here and now.
-fn end_of_hart<S: RunStarts>(
-    start: &PostedStart<S>,
-    rounds: &mut Vec<PostedRound<S>>,
-    number: usize,
-) -> Result<HartEnd, OutOfMemory>
-    requires { number < length start.now.parts.harts.items }
-    ensures { IfOk result (λ e. round_at (start_of start.now.parts) number ≡ Some e) }
-{
-    match take_round(rounds, start.round, number) {
-        Some(round) => Ok(round.into_end()),
-        None => end_alone(number, &start.lent()),
-    }
-}
-
-/// The round of a hart, if it is among these.
-fn take_round<S: RunStarts>(
-    rounds: &mut Vec<PostedRound<S>>,
-    round: u32,
-    number: usize,
-) -> Option<PostedRound<S>>
-    ensures { IfSome result (λ r. (r.round ≡ round) × (r.number ≡ number)) }
-{
-    let place = rounds.iter().position(|done| done.is_of(round, number))?;
-    Some(rounds.swap_remove(place))
-}
-
-/// What the round of a hart leaves, done here and now.
-fn end_alone(number: usize, start: &RoundStart<'_>) -> Result<HartEnd, OutOfMemory>
-    requires { number < length start.now.harts }
-    ensures { IfOk result (λ e. round_at start.now number ≡ Some e) }
-{
-    round_from(number, start, &mut Vec::new(start.pages().allocator()))
 }

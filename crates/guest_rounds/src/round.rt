@@ -7,9 +7,10 @@ ghost use Rattle.hart_step.specs.declared.hart.Hart.{Hart};
 ghost use Rattle.hart_step.specs.CodeTables.{Shows};
 ghost use Rattle.hart_step.specs.Words.{words_of};
 ghost use Rattle.hart_rounds.specs.Starts.{keeps_log};
+ghost use Rattle.kept_workers.specs.Histories.{IsWholeHistory};
 ghost use Rattle.guest_rounds.specs.Guests.{guest_events, guest_of, next_guest, shared_of};
 ghost use Rattle.guest_rounds.specs.Held.{most_of_round};
-ghost use Rattle.guest_rounds.specs.NextStarts.{AreOfGuest};
+ghost use Rattle.guest_rounds.specs.NextStarts.{AreOfGuest, next_start};
 ghost use Rattle.guest_rounds.specs.Rounds.{count_waiting};
 ghost use Rattle.guest_rounds.specs.HartEnds.{AreAtRest, AreFit, AreKept, AreEndsOf, count_accesses, count_true, harts_of, mask_of, waits_of};
 ghost use Rattle.guest_rounds.specs.Rounds.{IsFinished, MayFinish};
@@ -51,6 +52,8 @@ impl GuestState {
         requires harts { length self.old.harts ≡ plan.now.harts }
         requires done { done + 1 < 2 ^ 32 }
         ensures stays { self.new ≡ self.old }
+        ensures whole { IfOk result (λ os. IsWholeHistory (next_start (keeps_log crew.now.form)
+            plan.now done self.old) os.items) }
         ensures ends { IfOk result (λ os.
             AreOfGuest (keeps_log crew.now.form) plan.now done self.old os.items) }
     {

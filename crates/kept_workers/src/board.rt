@@ -1,6 +1,8 @@
-ghost use Rattle.std.specs.Prelude.{◌≡◌, ◌≤◌};
+ghost use Rattle.std.specs.Prelude.{◌≡◌, ◌≤◌, [], OnOk};
 ghost use Rattle.std.specs.Arc.{arc_value};
+ghost use Rattle.kept_workers.specs.Histories.{IsWholeHistory, ends_in};
 
+use crate::history::History;
 use crate::posted_round::PostedRound;
 use crate::posted_start::{PostedStart, RunStarts};
 use crate::postings::Postings;
@@ -37,7 +39,7 @@ impl<S: RunStarts> Board<S> {
                 start: None,
                 count: 0,
                 holders: 0,
-                rounds: Vec::new(alloc),
+                history: History::new(alloc),
                 closed: false,
             }),
             news: Condvar::new(),
@@ -45,17 +47,25 @@ impl<S: RunStarts> Board<S> {
         }
     }
 
+    /// A history for the one who posts, with no place yet. This takes no memory.
+    pub fn history(&self) -> History<S>
+        ensures { result.places.items ≡ [] }
+    {
+        History::new(self.alloc)
+    }
+
     /// Works on each start that is posted, until the board is closed. Threads do so at once.
     pub fn serve<R: Wait>(&self, rt: &R) {
         let mut seen = 0;
+        let mut rounds = Vec::new(self.alloc);
         let mut room = Vec::new(self.alloc);
         for _ in rt.forever() {
             let Some(start) = self.next_start(rt, &mut seen) else {
                 return;
             };
-            let rounds = rounds_of(self.alloc, &start, &mut room);
+            do_rounds(&start, &mut rounds, &mut room);
             drop(start);
-            self.posted.lock(rt).leave(rounds);
+            self.posted.lock(rt).leave(&mut rounds);
             self.leaving.notify_one();
         }
     }
@@ -75,47 +85,74 @@ impl<S: RunStarts> Board<S> {
         unreachable!()
     }
 
-    /// Posts a start, works on it beside those who serve, and gives it back with the rounds that were done. Rounds may be missing:
-    /// those that were refused memory.
+    /// Posts a start, works on it beside those who serve, and gives it back. With Ok the history is whole: it has the round of each
+    /// hart, and nothing else. What it has before is let go, and its room kept.
+    ///
+    /// # Errors
+    ///
+    /// The calling thread was refused memory for the history, or for a round that no worker had done.
     pub fn share<R: Wait>(
         &self,
         rt: &R,
         start: PostedStart<S>,
-    ) -> (PostedStart<S>, Vec<PostedRound<S>>)
-        ensures { result.0 ≡ start }
+        history: &mut History<S>,
+    ) -> (PostedStart<S>, Result<(), OutOfMemory>)
+        ensures start { result.0 ≡ start }
+        ensures whole { OnOk result.1 (IsWholeHistory (S.starts start.round)
+            (ends_in history.new.places.items)) }
+    {
+        if history.open(start.round, start.parts.harts.len()).is_err() {
+            return (start, Err(OutOfMemory));
+        }
+        let start = self.work_beside(rt, start, history);
+        let whole = history.complete(&start);
+        (start, whole)
+    }
+
+    /// Posts a start with the history of its round, works on it beside those who serve, and takes both back.
+    fn work_beside<R: Wait>(
+        &self,
+        rt: &R,
+        start: PostedStart<S>,
+        history: &mut History<S>,
+    ) -> PostedStart<S>
+        ensures { result ≡ start }
     {
         let shared = match Arc::new(self.alloc, start) {
             Ok(shared) => shared,
-            Err(refused) => return (refused.value, Vec::new(self.alloc)),
+            Err(refused) => return refused.value,
         };
-        self.post(rt, &shared);
+        self.post(rt, &shared, history);
+        let mut rounds = Vec::new(self.alloc);
         let mut room = Vec::new(self.alloc);
-        let mut rounds = rounds_of(self.alloc, &shared, &mut room);
-        let mut others = self.recall(rt);
-        let _ = rounds.append(&mut others);
-        (sole(rt, shared), rounds)
+        do_rounds(&shared, &mut rounds, &mut room);
+        self.recall(rt, &mut rounds, history);
+        sole(rt, shared)
     }
 
-    /// Posts a start.
-    fn post<R: Wait>(&self, rt: &R, start: &Arc<PostedStart<S>, Global>) {
+    /// Posts a start, with the history of its round.
+    fn post<R: Wait>(&self, rt: &R, start: &Arc<PostedStart<S>, Global>, history: &mut History<S>) {
         let mut posted = self.posted.lock(rt);
         posted.start = Arc::try_clone(start).ok();
         posted.count = posted.count.wrapping_add(1);
+        mem::swap(&mut posted.history, history);
         drop(posted);
         self.news.notify_all();
     }
 
-    /// Takes the start from the board, waits until no worker holds it, and takes the rounds that they left.
-    fn recall<R: Wait>(&self, rt: &R) -> Vec<PostedRound<S>> {
+    /// Takes the start from the board, adds the calling thread's own rounds to the history, waits until no worker holds the start, and
+    /// takes the history.
+    fn recall<R: Wait>(&self, rt: &R, rounds: &mut Vec<PostedRound<S>>, history: &mut History<S>) {
         let mut posted = self.posted.lock(rt);
         posted.start = None;
+        posted.history.put_all(rounds);
         for _ in rt.forever() {
             if posted.holders == 0 {
                 break;
             }
             posted = self.leaving.wait(rt, posted);
         }
-        mem::replace(&mut posted.rounds, Vec::new(self.alloc))
+        mem::swap(&mut posted.history, history);
     }
 
     /// Ends what serves the board.
@@ -125,14 +162,13 @@ impl<S: RunStarts> Board<S> {
     }
 }
 
-/// Claims harts of a start and does their rounds until all are claimed, or memory is refused. `room` is taken for the accesses of a
-/// round while it goes on.
-fn rounds_of<S: RunStarts>(
-    alloc: Global,
+/// Claims harts of a start and does their rounds until all are claimed, or memory is refused. The rounds are added to the list. `room`
+/// is taken for the accesses of a round while it goes on.
+fn do_rounds<S: RunStarts>(
     start: &PostedStart<S>,
+    rounds: &mut Vec<PostedRound<S>>,
     room: &mut Vec<Access>,
-) -> Vec<PostedRound<S>> {
-    let mut rounds = Vec::new(alloc);
+) {
     for _ in 0..start.parts.harts.len() {
         let Some(number) = start.claim() else {
             break;
@@ -144,7 +180,6 @@ fn rounds_of<S: RunStarts>(
             break;
         }
     }
-    rounds
 }
 
 /// The value that no other thread holds any more. It waits until that is so.

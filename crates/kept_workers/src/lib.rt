@@ -1,12 +1,14 @@
 //! Workers that are kept from round to round of a run: they take the start of each round from a board, and leave on it the
-//! rounds of the harts that they did.
+//! rounds of the harts that they did, each in its place of the round's history.
 #![tactic(auto)]
 
 mod board;
+mod history;
 mod posted_round;
 mod posted_start;
 mod postings;
 
 pub use board::Board;
+pub use history::History;
 pub use posted_round::PostedRound;
 pub use posted_start::{PostedStart, RunStarts, StartParts};

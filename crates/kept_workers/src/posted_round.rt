@@ -1,4 +1,4 @@
-ghost use Rattle.std.specs.Prelude.{◌≡◌, ◌<◌, ◌↔◌, true, length, Some};
+ghost use Rattle.std.specs.Prelude.{◌≡◌, ◌<◌, length, IfOk, Some};
 ghost use Rattle.hart_rounds.specs.Ends.{round_at};
 
 use crate::posted_start::{PostedStart, RunStarts};
@@ -28,6 +28,8 @@ impl<S: RunStarts> PostedRound<S> {
         room: &mut Vec<Access>,
     ) -> Result<PostedRound<S>, OutOfMemory>
         requires { number < length start.now.parts.harts.items }
+        ensures round { IfOk result (λ r. r.round ≡ start.now.round) }
+        ensures number { IfOk result (λ r. r.number ≡ number) }
     {
         let end = round_from(number, &start.lent(), room)?;
         Ok(PostedRound {
@@ -36,13 +38,6 @@ impl<S: RunStarts> PostedRound<S> {
             end,
             of: PhantomData,
         })
-    }
-
-    /// Whether it is the round of this hart in this round of the run.
-    pub fn is_of(&self, round: u32, number: usize) -> bool
-        ensures { (result ≡ true) ↔ (self.now.round ≡ round) × (self.now.number ≡ number) }
-    {
-        self.round == round && self.number as usize == number
     }
 
     /// What the round left, handed over.

@@ -1,3 +1,4 @@
+use crate::history::History;
 use crate::posted_round::PostedRound;
 use crate::posted_start::{PostedStart, RunStarts};
 use std::alloc::Global;
@@ -12,8 +13,8 @@ pub(crate) struct Postings<S: RunStarts> {
     pub(crate) count: u64,
     /// How many workers hold the start that was posted last.
     pub(crate) holders: u64,
-    /// The rounds that workers left.
-    pub(crate) rounds: Vec<PostedRound<S>>,
+    /// The history of the round that is under way: what workers left.
+    pub(crate) history: History<S>,
     /// Whether no start will be posted any more.
     pub(crate) closed: bool,
 }
@@ -31,9 +32,9 @@ impl<S: RunStarts> Postings<S> {
         Some(start)
     }
 
-    /// A worker has let the start go, and leaves the rounds that it did. What finds no room is lost, and done anew.
-    pub(crate) fn leave(&mut self, mut rounds: Vec<PostedRound<S>>) {
+    /// A worker has let the start go, and leaves the rounds that it did: each is put into its hart's place. This takes no memory.
+    pub(crate) fn leave(&mut self, rounds: &mut Vec<PostedRound<S>>) {
         self.holders = self.holders.wrapping_sub(1);
-        let _ = self.rounds.append(&mut rounds);
+        self.history.put_all(rounds);
     }
 }

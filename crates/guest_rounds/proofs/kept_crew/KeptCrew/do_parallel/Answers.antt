@@ -1,13 +1,13 @@
-use Rattle.std.proofs.Common.{◌≡◌, Bool, ◌+◌, ◌++◌, ℕ, List, length, take, drop, get_or, sym, ap, ◌∙◌, subst, arith}
+use Rattle.std.proofs.Common.{◌≡◌, ◌+◌, ◌++◌, ℕ, List, length, take, drop, sym, ap, ◌∙◌, subst, arith}
 use Rattle.std.proofs.lemmas.List.{take_at}
 use Rattle.std.proofs.lemmas.Result.{IfOk-weaker}
 use Rattle.kept_workers.specs.declared.posted_start.StartParts.{StartParts}
-use Rattle.kept_workers.specs.Parts.{start_of}
-use Rattle.hart_rounds.specs.Starts.{keeps_log, rounds_of}
+use Rattle.kept_workers.specs.Histories.{IsWholeHistory}
+use Rattle.hart_rounds.specs.Starts.{Start, keeps_log}
 use Rattle.guest_rounds.specs.Guests.{Guest}
 use Rattle.guest_rounds.specs.NextStarts.{next_start}
-use Rattle.guest_rounds.specs.HartEnds.{AreEndsOf}
-use Rattle.guest_rounds.proofs.NextStarts.{of_guest, quotas_set, same_start}
+use Rattle.guest_rounds.proofs.NextStarts.{quotas_set, same_start}
+use Rattle.guest_rounds.proofs.WholeHistories.{of_whole}
 use Rattle.guest_rounds.proofs.kept_crew.KeptCrew.do_parallel.Goals as goal
 
 pub new-start-requires-clause-start : goal.new-start-requires-clause-start
@@ -26,19 +26,11 @@ new-start-requires-clause-start g c =
     (ap (λ (x : StartParts). x.quotas.items) swapped ∙ whole ∙ quotas_set plan (c.args.done + 1) (length i.harts.items) qs (sym many) (λ h low. c.set_quotas.ensures h (omega (arith, low, harts))))
     (ap (λ (x : StartParts). x.harts.items) swapped) (ap (λ (x : StartParts). keeps_log x.form) swapped ∙ ap keeps_log c.in_ok-parts.ensures.form))
 
+pub returns-clause-whole : goal.returns-clause-whole
+returns-clause-whole g c =
+    IfOk-weaker c.share-start.result.1 _ _ (λ os whole. subst (λ (s : Start). IsWholeHistory s os.items) (ap g.S.RunStarts.starts c.new-start.ensures.round ∙ c.requires.start) whole) c.share-start.ensures.whole
+
 pub returns-clause-ends : goal.returns-clause-ends
 returns-clause-ends g c =
-    let i = c.guest.inside in
-    let plan = c.args.plan.now in
-    let s : StartParts = c.share-start.result.0.parts in
-    let swapped = ap (λ x. x.parts) c.share-start.ensures ∙ c.new-start.ensures.parts ∙ c.swap_parts.ensures.parts in
-    let old = c.in_ok-parts.parts.quotas in
-    let qs = c.set_quotas.new.quotas in
-    let whole : take old.len (qs ++ drop (length qs) old.items) ≡ qs = take_at qs _ old.len (omega (arith, c.set_quotas.auto.quotas, c.as_mut_slice.ensures.len, ap length c.as_mut_slice.ensures.value)) in
-    let harts : length i.harts.items ≡ plan.harts = ap (λ (x : Guest). length x.harts) c.guest.view_is ∙ c.requires.harts in
-    let lent : length s.harts.items ≡ length i.harts.items = ap (λ (x : StartParts). length x.harts.items) swapped in
-    IfOk-weaker c.in_order-ends.result _ _ (λ os done. of_guest (keeps_log c.args.self.now.crew.form) plan c.args.done s.pages.memory s.quotas.items s.harts.items c.args.guest.now os.items
-    (λ h low. ap (λ (x : StartParts). get_or x.quotas.items h 0) swapped ∙ ap (λ (xs : List ℕ). get_or xs h 0) whole ∙ c.set_quotas.ensures h (omega (arith, low, harts, lent)))
-    (ap (λ (x : StartParts). x.pages.memory) swapped ∙ ap (λ (x : Guest). x.shared.memory) c.guest.view_is)
-    (ap (λ (x : StartParts). x.harts.items) swapped ∙ ap (λ (x : Guest). x.harts) c.guest.view_is)
-    (subst (λ (b : Bool). AreEndsOf b s.pages.memory (rounds_of (start_of s)) os.items) (ap (λ (x : StartParts). keeps_log x.form) swapped ∙ ap keeps_log c.in_ok-parts.ensures.form) done)) c.in_order-ends.ensures
+    IfOk-weaker c.share-start.result.1 _ _ (λ os whole. of_whole (keeps_log c.args.self.now.crew.form) c.args.plan.now c.args.done c.args.guest.now os.items
+    (subst (λ (s : Start). IsWholeHistory s os.items) (ap g.S.RunStarts.starts c.new-start.ensures.round ∙ c.requires.start) whole)) c.share-start.ensures.whole
