@@ -1,12 +1,12 @@
 -- A walk over a run, round by round and part by part.
 use Rattle.std.proofs.Common.{◌≡◌, ℕ, ◌+◌, ◌-◌, ◌<◌, ◌≤◌, ◌∙◌, Bool, List, ◌++◌, sym, ap, subst, arith, inl, inr, true, false}
-use Rattle.std.specs.Prelude.{◌⊎◌}
+use Rattle.std.specs.Prelude.{◌⊎◌, Result, Ok, Err, IfOk, OnOk, OnErr}
 use Rattle.round_schedule.specs.declared.event.Event.{Event}
 use Rattle.hart_rounds.specs.Starts.{Start}
 use Rattle.machine.specs.Kept.{next_start_of, start_at, untraced_rounds}
 use Rattle.machine.specs.Machine.{Running, after_rounds}
 use Rattle.machine.specs.Untraced.{HasRun, IsUntraced, MayGoOn, Untraced, next_events, untraced_round}
-use Rattle.machine.specs.Walks.{HasDone, HasEnded, HasLearned, HasStopped, IsCutOff, IsUpToDate, MayWalk}
+use Rattle.machine.specs.Walks.{HasDone, HasEnded, HasLearned, HasSeenAll, HasStopped, IsCutOff, IsUpToDate, MayWalk}
 use Rattle.machine.specs.declared.walks.Walked.{Walked}
 use Rattle.machine.proofs.KeptStarts.{one_more, starts_there}
 use Rattle.machine.proofs.Repeated.{more_rounds, no_rounds}
@@ -118,6 +118,10 @@ module _ {V : Type 0} (knows : V → V → Untraced → ℕ → ℕ → Type 0) 
       subst (λ (j : ℕ). knows a b u n j) some
       (subst (λ (j : ℕ). knows a b u j (0 + k)) (sym all) (x a u 0 (none_done u) (subst (λ (j : ℕ). knows a a u j 0) all h)))
 
+  -- the same visitor by another name
+  pub seen_by : (n : ℕ) (u : Untraced) (first a b : V) → HasSeenAll knows first a u n → a ≡ b → HasSeenAll knows first b u n
+  seen_by n u first a b h same = subst (λ (v : V). HasSeenAll knows first v u n) same h
+
 -- ---- how a walk ended
 
 pub ended_alone : (w : Walked) (n most : ℕ) (enough : Type 0) → w.wants_workers ≡ false → HasEnded w n most enough → (w.rounds ≡ n) ⊎ enough
@@ -140,3 +144,12 @@ cut_off_later may_fail k n j few (inr x) = inr (omega (arith, x.0, few), x.1)
 pub fewer : (n k : ℕ) → IsCutOff ⊥ n k → k < n
 fewer n k (inl lt) = lt
 fewer n k (inr x) = absurd x.1
+
+-- cut off or not, some rounds are done
+pub some_walked : {E : Type 0} (r : Result ℕ E) (C P : ℕ → Type 0) → IfOk r P → OnErr r ((k : ℕ) × C k × P k) → (k : ℕ) × P k
+some_walked (Ok k) C P p q = (k, p)
+some_walked (Err e) C P p q = (q.0, q.2)
+
+pub some_run : {A E : Type 0} (r : Result A E) (n : ℕ) (C P : ℕ → Type 0) → OnOk r (P n) → OnErr r ((k : ℕ) × C k × P k) → (k : ℕ) × P k
+some_run (Ok a) n C P p q = (n, p)
+some_run (Err e) n C P p q = (q.0, q.2)

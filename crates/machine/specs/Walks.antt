@@ -14,6 +14,17 @@ pub record HasDone (k : ℕ) (start now : Untraced) : Type 0 where
 abbrev pub HasStopped : Untraced → Type 0
 HasStopped u = count_stopped u.harts ≡ length u.harts
 
+-- no hart runs any more after k rounds from there
+abbrev pub StopsWithin : ℕ → Untraced → Type 0
+StopsWithin k start = (u : Untraced) × HasDone k start u × HasStopped u
+
+-- a visitor that is told of the first so many of n rounds, of all of them or of those after which no hart runs, knows those
+pub record HasSeenAll {V : Type 0} (knows : V → V → Untraced → ℕ → ℕ → Type 0) (first now : V) (start : Untraced) (n : ℕ) : Type 0 where
+  pub shown : ℕ
+  pub most : shown ≤ n
+  pub known : knows first now start n shown
+  pub all : (shown ≡ n) ⊎ StopsWithin shown start
+
 -- where a walk of n rounds was refused, k are done: fewer than n, but where it was the visitor that failed
 abbrev pub IsCutOff : Type 0 → ℕ → ℕ → Type 0
 IsCutOff may_fail n k = (k < n) ⊎ ((k ≤ n) × may_fail)

@@ -12,6 +12,7 @@ mod running;
 mod turn_harts;
 mod untraced;
 mod untraced_running;
+mod visited_runs;
 mod visiting;
 mod walks;
 
@@ -25,4 +26,4 @@ pub use run_settings::{Format, GuestFiles, Settings, load};
 pub use running::RoundNote;
 pub use trace::Trace;
 pub use untraced::UntracedMachine;
-pub use visiting::{Next, Visitor};
+pub use visiting::{Next, UntilStopped, Visitor};

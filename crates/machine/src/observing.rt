@@ -1,5 +1,3 @@
-ghost use Rattle.machine.specs.Walks.{HasStopped};
-
 use crate::untraced::UntracedMachine;
 use crate::visiting::{Next, Visitor};
 use pages::OutOfMemory;
@@ -20,7 +18,7 @@ impl Observer for Unobserved {
     fn after_round(&mut self, _machine: &UntracedMachine) {}
 }
 
-/// Shows each round to an observer, until no hart runs.
+/// Shows each round to an observer.
 #[derive(Drop)]
 pub(crate) struct Observing<'a, O> {
     pub(crate) observer: &'a mut O,
@@ -29,16 +27,12 @@ pub(crate) struct Observing<'a, O> {
 impl<'a, O: Observer> Visitor for Observing<'a, O> {
     ghost knows = { λ first v start rounds done. Unit {0} };
 
-    ghost has_enough = { λ v u. HasStopped u };
+    ghost has_enough = { λ v u. ⊥ };
 
     ghost may_fail = { ⊥ };
 
     fn after_round(&mut self, machine: &UntracedMachine) -> Result<Next, OutOfMemory> {
         self.observer.after_round(machine);
-        if machine.running_harts() == 0 {
-            Ok(Next::Enough)
-        } else {
-            Ok(Next::Round)
-        }
+        Ok(Next::Round)
     }
 }

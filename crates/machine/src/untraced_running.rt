@@ -154,18 +154,19 @@ impl UntracedMachine {
         if workers < 1 || workers > MOST_WORKERS {
             return Err(RunError::WorkersOutOfRange);
         }
+        let mut observing = Observing { observer };
         let left = u32::MAX - self.rounds;
         if rounds > left {
-            self.run_within(rt, left, workers, keeper, observer)?;
+            self.run_within(rt, left, workers, keeper, &mut observing)?;
             return Err(RunError::RoundsExhausted);
         }
-        self.run_within(rt, rounds, workers, keeper, observer)?;
+        self.run_within(rt, rounds, workers, keeper, &mut observing)?;
         Ok(())
     }
 
     /// The last events of a run go on with those of its next rounds, since the types keep: bytes in memory, at most 16,384
     /// pages, at most 64 harts with quotas in range, and a budget of at most 1,000.
-    pub(crate) fn check_to_go_on(&self)
+    pub fn check_to_go_on(&self)
         ensures { (n : ℕ) (es : List Event) → self.now.rounds + n < 2 ^ 32 → AreLast self.now es →
             MayGoOn IsTrace n es self.now }
     {
@@ -175,38 +176,6 @@ impl UntracedMachine {
         let _harts = self.plan.harts();
         let _budget = self.plan.budget();
         let _pages = pages.count();
-    }
-
-    /// Does so many rounds, where as many can be counted, and has their events kept.
-    fn run_within<E: EventKeeper, O: Observer, R: Threads + Wait + Sync>(
-        &mut self,
-        rt: &R,
-        rounds: u32,
-        workers: u32,
-        keeper: &mut E,
-        observer: &mut O,
-    ) -> Result<(), OutOfMemory>
-        requires workers { (1 ≤ workers) × (workers ≤ 16) }
-        requires rounds { self.old.rounds + rounds < 2 ^ 32 }
-        requires sound { (es : List Event) × E.keeps keeper.old es ×
-            MayGoOn E.may_keep rounds es self.old }
-        ensures ok { OnOk result (HasRun rounds self.old self.new (E.keeps keeper.old)
-            (E.keeps keeper.new)) }
-        ensures fewer { OnErr result ((k : ℕ) × (k < rounds) ×
-            HasRun k self.old self.new (E.keeps keeper.old) (E.keeps keeper.new)) }
-        ensures opening { E.opens_with keeper.new ≡ E.opens_with keeper.old }
-    {
-        if self.running_harts() == 0 {
-            self.pass(rounds);
-            return Ok(());
-        }
-        let mut observing = Observing { observer };
-        let done = self.walk_keeping(rt, rounds, workers, keeper, &mut observing)?;
-        if done < rounds {
-            self.pass(rounds - done);
-            return Ok(());
-        }
-        Ok(())
     }
 
     /// How many workers the next round is worth, of these at most.

@@ -1,6 +1,6 @@
 ghost use Rattle.std.specs.Prelude.{◌≡◌, ◌<◌, ◌+◌, ℕ, Ok, OnOk, OnErr};
 ghost use Rattle.machine.specs.Untraced.{Untraced};
-ghost use Rattle.machine.specs.Walks.{HasDone};
+ghost use Rattle.machine.specs.Walks.{HasDone, HasStopped};
 
 use crate::untraced::UntracedMachine;
 use pages::OutOfMemory;
@@ -38,4 +38,31 @@ pub trait Visitor {
             knows first self.new start rounds (done + 1)) }
         ensures enough { result ≡ Ok Next.Enough → has_enough self.new machine.now }
         ensures failed { OnErr result may_fail };
+}
+
+/// Shows each round to another visitor, until no hart runs. That the other one has enough makes no difference.
+#[derive(Drop)]
+pub struct UntilStopped<'a, V> {
+    /// It is shown each round.
+    pub visitor: &'a mut V,
+}
+
+impl<'a, V: Visitor> Visitor for UntilStopped<'a, V> {
+    // It lends the rounds to the same visitor all along, and knows what that one knows.
+    ghost knows = { λ first v start rounds done.
+        (v.visitor.ghost_name ≡ first.visitor.ghost_name) ×
+        V.knows first.visitor.now v.visitor.now start rounds done };
+
+    ghost has_enough = { λ v u. HasStopped u };
+
+    ghost may_fail = { V.may_fail };
+
+    fn after_round(&mut self, machine: &UntracedMachine) -> Result<Next, OutOfMemory> {
+        self.visitor.after_round(machine)?;
+        if machine.running_harts() == 0 {
+            Ok(Next::Enough)
+        } else {
+            Ok(Next::Round)
+        }
+    }
 }

@@ -98,8 +98,12 @@ impl UntracedMachine {
         self.walk_keeping(rt, rounds, workers, trace, visitor)
     }
 
-    /// The same, and has the events of these rounds kept.
-    pub(crate) fn walk_keeping<E: EventKeeper, V: Visitor, R: Threads + Wait + Sync>(
+    /// Does what `walk` does, and hands the events of these rounds to a keeper, which may keep those of each of them.
+    ///
+    /// # Errors
+    ///
+    /// Those of `walk`. The keeper has the events of the rounds that are done.
+    pub fn walk_keeping<E: EventKeeper, V: Visitor, R: Threads + Wait + Sync>(
         &mut self,
         rt: &R,
         rounds: u32,
