@@ -1,3 +1,4 @@
 pub mod Reports
 pub mod OrderedRun
 pub mod Showing
+pub mod Visited

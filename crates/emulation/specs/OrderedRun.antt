@@ -1,5 +1,5 @@
 -- The order of a run's memory operations, and its text.
-use Rattle.std.specs.Prelude.{ℕ, List, slice_index, true}
+use Rattle.std.specs.Prelude.{◌≡◌, ℕ, List, slice_index, true}
 use Rattle.round_planner.specs.Quotas.{Planned}
 use Rattle.memory_order.specs.RoundOrder.{IsRoundOrder}
 use Rattle.memory_order.specs.Rvwmo.{MeetsRvwmo}
@@ -17,3 +17,10 @@ pub record IsOrderOfRun (s : Settings) (file input : List ℕ) (plan : Planned) 
 -- its text, which says that it was checked
 abbrev pub ordered_text : Settings → List ℕ → List ℕ → Planned → List ℕ → List ℕ
 ordered_text s file input plan places = order_text (trace_after s file input plan) places true
+
+-- the text is that of an order of the run that the settings name
+pub record IsOrderText (s : Settings) (file input : List ℕ) (text : List ℕ) : Type 0 where
+  pub plan : Planned
+  pub places : List ℕ
+  pub is_order : IsOrderOfRun s file input plan places
+  pub is_text : text ≡ ordered_text s file input plan places

@@ -2,15 +2,19 @@
 #![tactic(auto)]
 
 mod emulation;
+mod observed;
 mod ordering;
 mod reporting;
 mod run_end;
 mod showing;
 mod tracing;
+mod unvisited;
 
 pub use emulation::emulate;
+pub use observed::Observed;
 pub use ordering::order_run;
 pub use reporting::{Report, report_on};
 pub use run_end::RunEnd;
 pub use showing::{Shown, report_run, show_run};
 pub use tracing::trace_run;
+pub use unvisited::Unvisited;

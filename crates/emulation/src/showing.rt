@@ -1,18 +1,18 @@
-ghost use Rattle.std.specs.Prelude.{◌≡◌, ◌⊎◌, ◌<◌, ◌++◌, Some, None, Err, IfErr, IfOk, OnOk, OnErr};
-ghost use Rattle.round_planner.specs.Quotas.{Planned};
-ghost use Rattle.host_io.specs.Taken.{BeganText};
+ghost use Rattle.std.specs.Prelude.{◌≡◌, ◌⊎◌};
+ghost use Rattle.host_io.specs.Taken.{WritesText};
 ghost use Rattle.host_io.specs.declared.error.RunError.TheVariants as refusals;
 ghost use Rattle.machine.specs.Machine.{Running};
-ghost use Rattle.run_settings.specs.Settings.{IsPlan, IsReason, RefusedInOrder, settings_fault};
-ghost use Rattle.machine.specs.Runs.{after_run};
-ghost use Rattle.emulation.specs.Reports.{report_after};
-ghost use Rattle.emulation.specs.Showing.{end_of, shown_text};
-ghost use Rattle.machine.specs.Untraced.{IsUntraced};
+ghost use Rattle.run_settings.specs.Settings.{IsReason, RefusedInOrder, settings_fault};
+ghost use Rattle.emulation.specs.Reports.{IsReport};
+ghost use Rattle.emulation.specs.Showing.{IsShown, shown_text};
+ghost use Rattle.emulation.specs.Visited.{HasSeenRun};
+ghost use Rattle.machine.specs.Untraced.{IsUntraced, Untraced};
+ghost use Rattle.text_writes.specs.Writes.{IsFaultOr, WritesAnswer};
 
 use crate::reporting::{report_on, untraced_state_of};
 use crate::run_end::{RunEnd, end_of};
 use host_io::{RunError, Sink, put_all};
-use machine::{GuestFiles, Observer, Settings, UntracedMachine, prepare, prepare_untraced};
+use machine::{GuestFiles, Settings, UntracedMachine, Visitor, prepare, prepare_untraced};
 use report::{write_summary, write_untraced};
 use std::alloc::Global;
 use std::sync::Wait;
@@ -30,81 +30,67 @@ pub enum Shown {
 }
 
 /// Runs a guest program for a number of rounds without a trace, and writes what is shown of the state after them. It answers
-/// how its harts have ended. The observer looks at the machine after each round in which a hart runs.
+/// how its harts have ended. The visitor is shown the machine after each round in which a hart runs. That it has enough ends no run.
 ///
 /// # Errors
 ///
 /// The refusals of the settings, then of the image, then of the plan; `OutOfMemory`; `SinkFailed`. Nothing is written
 /// before all rounds are done.
-pub fn show_run<S: Sink, O: Observer, R: Threads + Wait + Sync>(
+pub fn show_run<S: Sink, V: Visitor, R: Threads + Wait + Sync>(
     rt: &R,
     alloc: Global,
     files: &GuestFiles<'_>,
     settings: &Settings<'_>,
     shown: Shown,
-    observer: &mut O,
+    visitor: &mut V,
     out: &mut S,
 ) -> Result<RunEnd, RunError>
-    // The sink took what is shown of the run that the definitions name, and the answer is that of its harts.
-    ensures shows { IfOk result (λ e. (plan : Planned) × IsPlan settings.now plan ×
-        (S.took out.new ≡ S.took out.old ++ shown_text shown (after_run settings.now
-        files.now.image.now files.now.input.now plan).state) × (e ≡ end_of
-        (after_run settings.now files.now.image.now files.now.input.now plan).state.harts)) }
-    // Else it took nothing, or a beginning of that text.
-    ensures begun { OnErr result ((S.took out.new ≡ S.took out.old) ⊎ ((plan : Planned) ×
-        IsPlan settings.now plan × BeganText (S.took out.old) (S.took out.new) (shown_text shown
-        (after_run settings.now files.now.image.now files.now.input.now plan).state))) }
-    // Where anything else than memory or the sink refuses, it took nothing.
-    ensures untouched { IfErr result (λ e. (e ≡ refusals.OutOfMemory) ⊎ (e ≡ refusals.SinkFailed) ⊎
-        (S.took out.new ≡ S.took out.old)) }
+    requires known { (start : Untraced) → V.knows visitor.old visitor.old start settings.now.rounds 0 }
+    // The sink takes what is shown of the run that the definitions name, and the answer is that of its harts.
+    ensures writes { WritesAnswer S.took S.failures
+        (IsShown shown settings.now files.now.image.now files.now.input.now)
+        (IsFaultOr (settings_fault settings.now) (IsReason settings.now files.now.image.now))
+        refusals.OutOfMemory refusals.SinkFailed out.old out.new result }
+    // Unless the visitor knows all rounds of that run, the sink is as it was.
+    ensures waits { (out.new ≡ out.old) ⊎ HasSeenRun V.knows visitor.old visitor.new settings.now
+        files.now.image.now files.now.input.now }
     // Numbers out of range are refused first, then an image, and then a plan.
     ensures in_order { RefusedInOrder settings.now files.now.image.now result }
-    // What is refused then is for a reason that stands.
-    ensures errors { settings_fault settings.now ≡ None →
-        IfErr result (λ e. IsReason settings.now files.now.image.now e ⊎
-        ((e ≡ refusals.SinkFailed) × (S.failures out.old < S.failures out.new))) }
 {
     let mut machine = prepare_untraced(alloc, files.image, files.input, settings)?;
-    machine.run_observed(rt, settings.rounds, settings.workers, observer)?;
+    machine.run_visited(rt, settings.rounds, settings.workers, visitor)?;
     write_shown(alloc, &machine, shown, out)?;
     Ok(end_of(machine.harts()))
 }
 
 /// Runs a guest program for a number of rounds, and writes the report of the state after them. It answers how its harts have
-/// ended. The observer looks at the machine after each round in which a hart runs.
+/// ended. The visitor is shown the machine after each round in which a hart runs. That it has enough ends no run.
 ///
 /// # Errors
 ///
 /// As `show_run`.
-pub fn report_run<S: Sink, O: Observer, R: Threads + Wait + Sync>(
+pub fn report_run<S: Sink, V: Visitor, R: Threads + Wait + Sync>(
     rt: &R,
     alloc: Global,
     files: &GuestFiles<'_>,
     settings: &Settings<'_>,
-    observer: &mut O,
+    visitor: &mut V,
     out: &mut S,
 ) -> Result<RunEnd, RunError>
-    // The sink took the report of the run that the definitions name, and the answer is that of its harts.
-    ensures reports { IfOk result (λ e. (plan : Planned) × IsPlan settings.now plan ×
-        (S.took out.new ≡ S.took out.old ++ report_after settings.now files.now.image.now
-        files.now.input.now plan) × (e ≡ end_of
-        (after_run settings.now files.now.image.now files.now.input.now plan).state.harts)) }
-    // Else it took nothing, or a beginning of that report.
-    ensures begun { OnErr result ((S.took out.new ≡ S.took out.old) ⊎
-        ((plan : Planned) × IsPlan settings.now plan × BeganText (S.took out.old) (S.took out.new)
-        (report_after settings.now files.now.image.now files.now.input.now plan))) }
-    // Where anything else than memory or the sink refuses, it took nothing.
-    ensures untouched { IfErr result (λ e. (e ≡ refusals.OutOfMemory) ⊎ (e ≡ refusals.SinkFailed) ⊎
-        (S.took out.new ≡ S.took out.old)) }
+    requires known { (start : Untraced) → V.knows visitor.old visitor.old start settings.now.rounds 0 }
+    // The sink takes the report of the run that the definitions name, and the answer is that of its harts.
+    ensures writes { WritesAnswer S.took S.failures
+        (IsReport settings.now files.now.image.now files.now.input.now)
+        (IsFaultOr (settings_fault settings.now) (IsReason settings.now files.now.image.now))
+        refusals.OutOfMemory refusals.SinkFailed out.old out.new result }
+    // Unless the visitor knows all rounds of that run, the sink is as it was.
+    ensures waits { (out.new ≡ out.old) ⊎ HasSeenRun V.knows visitor.old visitor.new settings.now
+        files.now.image.now files.now.input.now }
     // Numbers out of range are refused first, then an image, and then a plan.
     ensures in_order { RefusedInOrder settings.now files.now.image.now result }
-    // What is refused then is for a reason that stands.
-    ensures errors { settings_fault settings.now ≡ None →
-        IfErr result (λ e. IsReason settings.now files.now.image.now e ⊎
-        ((e ≡ refusals.SinkFailed) × (S.failures out.old < S.failures out.new))) }
 {
     let mut machine = prepare(alloc, files.image, files.input, settings)?;
-    machine.run_observed(rt, settings.rounds, settings.workers, observer)?;
+    machine.run_visited(rt, settings.rounds, settings.workers, visitor)?;
     report_on(rt, settings.workers, alloc, &machine, out)?;
     Ok(end_of(machine.harts()))
 }
@@ -116,12 +102,8 @@ fn write_shown<S: Sink>(
     shown: Shown,
     out: &mut S,
 ) -> Result<(), RunError>
-    ensures ok { (m : Running) → IsUntraced m machine.now →
-        OnOk result (S.took out.new ≡ S.took out.old ++ shown_text shown m.state) }
-    ensures begun { (m : Running) → IsUntraced m machine.now →
-        OnErr result (BeganText (S.took out.old) (S.took out.new) (shown_text shown m.state)) }
-    ensures sink { result ≡ Err RunError.SinkFailed → S.failures out.old < S.failures out.new }
-    ensures errors { IfErr result (λ e. (e ≡ RunError.OutOfMemory) ⊎ (e ≡ RunError.SinkFailed)) }
+    ensures { (m : Running) → IsUntraced m machine.now → WritesText (shown_text shown m.state)
+        (S.took out.old) (S.failures out.old) result (S.took out.new) (S.failures out.new) }
 {
     match shown {
         Shown::State => write_untraced(alloc, &untraced_state_of(machine), out),

@@ -2,8 +2,8 @@
 
 use crate::devices::{Stride, writes};
 use crate::harness::settings;
-use emulation::{Shown, show_run};
-use machine::{GuestFiles, Settings, Unobserved};
+use emulation::{Shown, Unvisited, show_run};
+use machine::{GuestFiles, Settings};
 use std::alloc::Global;
 use std::sync::Wait;
 use std::thread::Threads;
@@ -31,7 +31,7 @@ fn shows<R: Threads + Wait + Sync>(rt: &R, alloc: Global, shown: Shown, text: &[
         text,
         &[Stride::One, Stride::All],
         &|tray| {
-            match show_run(rt, alloc, &guest, &asked, shown, &mut Unobserved, tray) {
+            match show_run(rt, alloc, &guest, &asked, shown, &mut Unvisited, tray) {
                 Ok(_) => Ok(()),
                 Err(error) => Err(error),
             }

@@ -5,7 +5,7 @@ ghost use Rattle.program_files.specs.Asked.{AskedRun, EndsFor, RefusedSetRun, Se
 ghost use Rattle.program_world.specs.declared.exit_status.ExitStatus.TheVariants as statuses;
 
 use command_line::Run;
-use emulation::order_run;
+use emulation::{Observed, order_run};
 use machine::Observer;
 use program_files::{RunFailure, RunFiles, read_run, settings_of};
 use program_world::{ExitStatus, Files, Output, ProgressLine};
@@ -71,7 +71,9 @@ fn order_given<O: Output, P: Observer + ProgressLine, R: Threads + Wait + Sync>(
         &given.program.image,
         &given.program.input,
         &settings,
-        progress,
+        &mut Observed {
+            observer: &mut *progress,
+        },
         out,
     );
     progress.end();

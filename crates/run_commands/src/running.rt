@@ -1,18 +1,18 @@
-ghost use Rattle.std.specs.Prelude.{◌≡◌, ◌⊎◌, ◌++◌, Err, IfErr, IfOk, OnErr, None};
+ghost use Rattle.std.specs.Prelude.{◌≡◌, ◌⊎◌, ◌++◌, IfErr, IfOk, OnErr};
 ghost use Rattle.emulation.specs.Showing.{end_of};
 ghost use Rattle.host_io.specs.Taken.{BeganText};
 ghost use Rattle.host_io.specs.declared.error.RunError.TheVariants as refusals;
-ghost use Rattle.run_settings.specs.Settings.{IsPlan, IsReason, RefusedInOrder, settings_fault};
+ghost use Rattle.run_settings.specs.Settings.{IsReason, RefusedInOrder, settings_fault};
 ghost use Rattle.machine.specs.Runs.{after_run};
 ghost use Rattle.program_files.specs.Asked.{AskedRun, EndsFor, RefusedSetRun, SetRun};
 ghost use Rattle.program_files.specs.declared.failure.RunFailure.TheVariants as failures;
-ghost use Rattle.round_planner.specs.Quotas.{Planned};
-ghost use Rattle.run_commands.specs.Printed.{printed_text, run_status};
+ghost use Rattle.run_commands.specs.Printed.{IsPrinted, printed_text, run_status};
+ghost use Rattle.text_writes.specs.Writes.{IsFaultOr, WritesAnswer};
 
 use crate::looping::tell_loops;
 use crate::shown::{run_status, shown_of};
 use command_line::{Print, Shown};
-use emulation::{RunEnd, report_run, show_run};
+use emulation::{Observed, RunEnd, report_run, show_run};
 use host_io::RunError;
 use machine::{GuestFiles, Observer, Settings};
 use program_files::{RunFailure, RunFiles, guest_files, read_run, settings_of};
@@ -130,18 +130,15 @@ fn print_guest<O: Output, P: Observer, R: Threads + Wait + Sync>(
     progress: &mut P,
     out: &mut O,
 ) -> Result<RunEnd, RunError>
-    ensures runs { IfOk result (λ end. (plan : Planned) × IsPlan settings.now plan × (O.took out.new ≡
-        O.took out.old ++ printed_text asked.now settings.now guest.now.image.now guest.now.input.now plan) ×
-        (end ≡ end_of (after_run settings.now guest.now.image.now guest.now.input.now plan).state.harts)) }
-    ensures begun { OnErr result ((O.took out.new ≡ O.took out.old) ⊎ ((plan : Planned) × IsPlan settings.now plan ×
-        BeganText (O.took out.old) (O.took out.new)
-        (printed_text asked.now settings.now guest.now.image.now guest.now.input.now plan))) }
+    ensures writes { WritesAnswer O.took O.failures
+        (IsPrinted asked.now settings.now guest.now.image.now guest.now.input.now)
+        (IsFaultOr (settings_fault settings.now) (IsReason settings.now guest.now.image.now))
+        refusals.OutOfMemory refusals.SinkFailed out.old out.new result }
     ensures in_order { RefusedInOrder settings.now guest.now.image.now result }
-    ensures errors { settings_fault settings.now ≡ None →
-        IfErr result (λ e. IsReason settings.now guest.now.image.now e ⊎ (e ≡ refusals.SinkFailed)) }
 {
+    let mut observed = Observed { observer: progress };
     match shown_of(asked) {
-        Some(shown) => show_run(threads, alloc, guest, settings, shown, progress, out),
-        None => report_run(threads, alloc, guest, settings, progress, out),
+        Some(shown) => show_run(threads, alloc, guest, settings, shown, &mut observed, out),
+        None => report_run(threads, alloc, guest, settings, &mut observed, out),
     }
 }

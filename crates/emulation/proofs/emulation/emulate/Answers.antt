@@ -1,21 +1,22 @@
-use Rattle.std.proofs.Common.{◌∙◌, ◌++◌, ℕ, List, ap, inr, subst}
-use Rattle.host_io.specs.Taken.{BeganText}
-use Rattle.host_io.proofs.Written.{refused, where_done, where_refused}
-use Rattle.report.specs.Report.{report_of}
-use Rattle.machine.specs.Machine.{Running, after_rounds}
+use Rattle.std.proofs.lemmas.Result.{err_from_is_err_and}
+use Rattle.text_writes.proofs.Answered.{answered, refused_too}
+use Rattle.emulation.proofs.InOrder.{answered_in_order, refused_in_order}
 use Rattle.emulation.proofs.emulation.emulate.Goals as goal
 
-pub returns-clause-errors : goal.returns-clause-errors
-returns-clause-errors g c = λ none. refused c.report_on.result _ _ c.report_on.ensures.sink c.report_on.ensures.errors
+pub returns-in_err-report_run-clause-writes : goal.returns-in_err-report_run-clause-writes
+returns-in_err-report_run-clause-writes g c =
+    let p = err_from_is_err_and c.from_residual.result c.from_residual.ensures.1 in
+    rw (p.1, p.2) (refused_too _ (λ end text is. (tt, (end, is))) c.in_err-report_run.ensures.writes)
 
-pub returns-clause-reports : goal.returns-clause-reports
-returns-clause-reports g c =
-    let made = c.in_ok-machine.ensures.machine in
-    let after = c.in_ok-run.ensures.ok ∙ ap (after_rounds c.args.settings.now.rounds) made.2 in
-    where_done c.report_on.result _ _ (λ h. (made.0, made.1, h ∙ ap (λ (m : Running). g.S.Sink.took c.args.out.now ++ report_of m.state) after)) c.report_on.ensures.ok
+pub returns-in_err-report_run-clause-in_order : goal.returns-in_err-report_run-clause-in_order
+returns-in_err-report_run-clause-in_order g c =
+    let p = err_from_is_err_and c.from_residual.result c.from_residual.ensures.1 in
+    rw (p.1, p.2) (refused_in_order _ _ _ c.in_err-report_run.ensures.in_order)
 
-pub returns-clause-begun : goal.returns-clause-begun
-returns-clause-begun g c =
-    let made = c.in_ok-machine.ensures.machine in
-    let after = c.in_ok-run.ensures.ok ∙ ap (after_rounds c.args.settings.now.rounds) made.2 in
-    where_refused c.report_on.result _ _ (λ h. inr (made.0, made.1, subst (λ (text : List ℕ). BeganText (g.S.Sink.took c.args.out.now) (g.S.Sink.took c.report_on.new.out) text) (ap (λ (m : Running). report_of m.state) after) h)) c.report_on.ensures.begun
+pub returns-clause-writes : goal.returns-clause-writes
+returns-clause-writes g c =
+    let w = c.in_ok-report_run.ensures.writes.written in
+    answered tt w.text (c.in_ok-report_run.field-0, w.is_text) w.bytes
+
+pub returns-clause-in_order : goal.returns-clause-in_order
+returns-clause-in_order g c = answered_in_order _ _ _ tt c.in_ok-report_run.ensures.in_order

@@ -1,5 +1,5 @@
 use Rattle.std.proofs.Common.{◌∙◌, inl, inr, refl, ⊎_elim}
-use Rattle.run_commands.proofs.Begun.{on_err, whole}
+use Rattle.program_files.proofs.Begun.{on_err, whole}
 use Rattle.run_commands.proofs.ordering.order_command.Goals as goal
 
 pub returns-clause-orders : goal.returns-clause-orders

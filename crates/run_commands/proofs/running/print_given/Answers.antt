@@ -1,25 +1,34 @@
-use Rattle.std.proofs.Common.{inl, inr, ⊎_elim}
+use Rattle.std.proofs.Common.{List, ap, inl, inr, refl, subst, ⊎_elim, ℕ, ◌++◌, ◌∙◌}
+use Rattle.host_io.specs.Taken.{BeganText}
 use Rattle.program_files.proofs.Told.{on_value, told_refusal, told_refused, told_value, where_refused}
+use Rattle.run_settings.specs.Settings.{IsReason, settings_fault}
+use Rattle.text_writes.proofs.Answered.{begun, why_in_range}
 use Rattle.run_commands.proofs.running.print_given.Goals as goal
 
 pub returns-clause-runs : goal.returns-clause-runs
 returns-clause-runs g c =
     let s = c.settings_of-settings.result in
-    told_value _ c.explain.result _ c.explain.ensures (on_value c.print_guest-answer.result _ _ (λ end ran. (
-      record { settings = s; plan = ran.0; set = c.settings_of-settings.ensures; planned = ran.1 },
-      ran.2,
-      ran.3,
-    )) (rw (c.guest_files.ensures.image, c.guest_files.ensures.input) at c.print_guest-answer.ensures.runs))
+    let old = g.O.Sink.took c.args.out.now in
+    told_value _ c.explain.result _ c.explain.ensures (on_value c.print_guest-answer.result _ _ (λ end w. (
+      record { settings = s; plan = w.is_text.plan; set = c.settings_of-settings.ensures; planned = w.is_text.planned },
+      w.bytes ∙ ap (λ (t : List ℕ). old ++ t) w.is_text.is_text,
+      w.is_text.is_end,
+    )) (rw (c.guest_files.ensures.image, c.guest_files.ensures.input) at c.print_guest-answer.ensures.writes.written))
 
 pub returns-clause-begun : goal.returns-clause-begun
 returns-clause-begun g c =
     let s = c.settings_of-settings.result in
+    let old = g.O.Sink.took c.args.out.now in
+    let new = g.O.Sink.took c.print_guest-answer.new.out in
     told_refused _ c.explain.result _ c.explain.ensures (where_refused c.print_guest-answer.result _ _ (λ h. ⊎_elim (λ same. inl same) (λ b. inr (
-      record { settings = s; plan = b.0; set = c.settings_of-settings.ensures; planned = b.1 },
-      b.2,
-    )) h) (rw (c.guest_files.ensures.image, c.guest_files.ensures.input) at c.print_guest-answer.ensures.begun))
+      record { settings = s; plan = b.is_text.plan; set = c.settings_of-settings.ensures; planned = b.is_text.planned },
+      subst (λ (t : List ℕ). BeganText old new t) b.is_text.is_text b.began,
+    )) h) (begun c.print_guest-answer.result (rw (c.guest_files.ensures.image, c.guest_files.ensures.input) at c.print_guest-answer.ensures.writes)))
 
 pub returns-clause-errors : goal.returns-clause-errors
 returns-clause-errors g c =
-    told_refusal _ _ _ _ c.settings_of-settings.result c.print_guest-answer.result c.explain.result c.settings_of-settings.ensures c.explain.ensures
-    (rw c.guest_files.ensures.image at c.print_guest-answer.ensures.in_order) (rw c.guest_files.ensures.image at c.print_guest-answer.ensures.errors)
+    let s = c.settings_of-settings.result in
+    told_refusal _ _ _ _ s c.print_guest-answer.result c.explain.result c.settings_of-settings.ensures c.explain.ensures
+    (rw c.guest_files.ensures.image at c.print_guest-answer.ensures.in_order)
+    (why_in_range (settings_fault s) (IsReason s c.args.given.now.program.image.items) c.print_guest-answer.result
+    (rw c.guest_files.ensures.image at c.print_guest-answer.ensures.writes) (inl refl))

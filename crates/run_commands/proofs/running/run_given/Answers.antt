@@ -1,6 +1,6 @@
 use Rattle.std.proofs.Common.{◌∙◌, ap, inr}
 use Rattle.emulation.specs.declared.run_end.RunEnd.{RunEnd}
-use Rattle.run_commands.proofs.Begun.{on_err, whole}
+use Rattle.program_files.proofs.Begun.{on_err, whole}
 use Rattle.run_commands.specs.Printed.{run_status}
 use Rattle.run_commands.proofs.running.run_given.Goals as goal
 
