@@ -13,19 +13,40 @@ use Rattle.replayer.proofs.Counted.{rounds_after}
 use Rattle.recording.specs.Grammar.{is_due}
 use Rattle.replayer.specs.Checkpoints.{AreCheckpoints, Opened, checkpoints_of, kept_machine}
 
--- ---- quotients
+-- ---- quotients, from a multiple of e on to at most the next one
 
-one_due : (e n : ℕ) → 0 < e → (n + 1) % e ≡ 0 → (n + 1) / e ≡ n / e + 1
-one_due e n some due =
-    let low : n / e < (n + 1) / e = lt_of_mul-lt-mul_left e (omega (arith, some, due)) in
-    let high : (n + 1) / e < n / e + 2 = lt_of_mul-lt-mul_left e (omega (arith, some, due)) in
+one_due : (e n k : ℕ) → 0 < e → n % e ≡ 0 → n < k → k ≤ n + e → k % e ≡ 0 → k / e ≡ n / e + 1
+one_due e n k some at more few due =
+    let low : n / e < k / e = lt_of_mul-lt-mul_left e (omega (arith, some, at, more, due)) in
+    let high : k / e < n / e + 2 = lt_of_mul-lt-mul_left e (omega (arith, some, at, few, due)) in
     omega (arith, low, high)
 
-none_due : (e n : ℕ) → 0 < e → 0 < (n + 1) % e → (n + 1) / e ≡ n / e
-none_due e n some due =
-    let low : n / e < (n + 1) / e + 1 = lt_of_mul-lt-mul_left e (omega (arith, some, due)) in
-    let high : (n + 1) / e < n / e + 1 = lt_of_mul-lt-mul_left e (omega (arith, some, due)) in
+none_due : (e n k : ℕ) → 0 < e → n % e ≡ 0 → n < k → k ≤ n + e → 0 < k % e → k / e ≡ n / e
+none_due e n k some at more few due =
+    let low : n / e < k / e + 1 = lt_of_mul-lt-mul_left e (omega (arith, some, at, more, due)) in
+    let high : k / e < n / e + 1 = lt_of_mul-lt-mul_left e (omega (arith, some, at, few, due)) in
     omega (arith, low, high)
+
+next_multiple : (e n : ℕ) → 0 < e → n % e ≡ 0 → (n + e) % e ≡ 0
+next_multiple e n some at =
+    let low : n / e + 1 < (n + e) / e + 1 = lt_of_mul-lt-mul_left e (omega (arith, some, at)) in
+    let high : (n + e) / e < n / e + 2 = lt_of_mul-lt-mul_left e (omega (arith, some, at)) in
+    let one : (n + e) / e ≡ n / e + 1 = omega (arith, low, high) in
+    let same : e * ((n + e) / e) ≡ e * (n / e + 1) = ap (λ (q : ℕ). e * q) one in
+    omega (arith, some, at, same)
+
+-- n rounds are a multiple; of 0 there is one alone
+abbrev pub IsMultiple : ℕ → ℕ → Type 0
+IsMultiple zero n = n ≡ 0
+IsMultiple (suc e) n = n % suc e ≡ 0
+
+pub none_multiple : (e : ℕ) → IsMultiple e 0
+none_multiple zero = refl
+none_multiple (suc e) = omega arith
+
+pub more_multiple : (e n k : ℕ) → 1 ≤ k → k ≡ e → IsMultiple e n → IsMultiple e (n + k)
+more_multiple zero n k some is at = absurd (omega (arith, some, is))
+more_multiple (suc e) n k some is at = subst (λ (j : ℕ). (n + j) % suc e ≡ 0) (sym is) (next_multiple (suc e) n (omega arith) at)
 
 -- how many are kept where some are
 by_none : (b : Bool) (n : ℕ) → b ≡ false → (if b then 1 else n) ≡ n
@@ -49,7 +70,7 @@ one_longer : {A : Type 0} (xs : List A) (x : A) → length (xs ++ x ∷ []) ≡ 
 one_longer [] x = refl
 one_longer (y ∷ ys) x = ap suc (one_longer ys x)
 
--- ---- one more round
+-- ---- some more rounds
 
 abbrev later_with : Bool → List Running → Running → List Running
 later_with due later now = later ++ (if due then now ∷ [] else [])
@@ -61,37 +82,37 @@ kept_first every start = record { count = counted every; each = λ k lt. absurd 
     counted zero = refl
     counted (suc e) = omega (arith, of_some e 0)
 
-kept_as_before : (every n : ℕ) (start now : Running) (later : List Running) → checkpoints_of every (n + 1) ≡ checkpoints_of every n → AreCheckpoints every n start later → AreCheckpoints every (n + 1) start (later_with false later now)
-kept_as_before every n start now later same before =
-    subst (AreCheckpoints every (n + 1) start) (sym (append-nil later)) (record { count = before.count ∙ sym same; each = before.each })
+kept_as_before : (every n k : ℕ) (start now : Running) (later : List Running) → checkpoints_of every k ≡ checkpoints_of every n → AreCheckpoints every n start later → AreCheckpoints every k start (later_with false later now)
+kept_as_before every n k start now later same before =
+    subst (AreCheckpoints every k start) (sym (append-nil later)) (record { count = before.count ∙ sym same; each = before.each })
 
-kept_with_now : (every n : ℕ) (start now : Running) (later : List Running) → checkpoints_of every (n + 1) ≡ suc (checkpoints_of every n) → suc (length later) * every ≡ n + 1 → now ≡ after_rounds (n + 1) start →
-    AreCheckpoints every n start later → AreCheckpoints every (n + 1) start (later_with true later now)
-kept_with_now every n start now later more place there before = record {
+kept_with_now : (every n k : ℕ) (start now : Running) (later : List Running) → checkpoints_of every k ≡ suc (checkpoints_of every n) → suc (length later) * every ≡ k → now ≡ after_rounds k start →
+    AreCheckpoints every n start later → AreCheckpoints every k start (later_with true later now)
+kept_with_now every n k start now later more place there before = record {
   count = ap suc (one_longer later now) ∙ ap suc before.count ∙ sym more;
   each = by_place;
 }
   where
     last : slice_get (later ++ now ∷ []) (length later) ≡ Some (after_rounds (suc (length later) * every) start)
-    last = at_last later now ∙ ap (λ (m : Running). Some m) there ∙ ap (λ (k : ℕ). Some (after_rounds k start)) (sym place)
+    last = at_last later now ∙ ap (λ (m : Running). Some m) there ∙ ap (λ (j : ℕ). Some (after_rounds j start)) (sym place)
 
-    by_place : (k : ℕ) → k < length (later ++ now ∷ []) → slice_get (later ++ now ∷ []) k ≡ Some (after_rounds (suc k * every) start)
-    by_place k lt = elim (cases_lt k (length later)) [
-      | inl low ↦ at_front later now k low ∙ before.each k low
-      | inr high ↦ subst (λ (j : ℕ). slice_get (later ++ now ∷ []) j ≡ Some (after_rounds (suc j * every) start)) (omega (arith, high, lt, one_longer later now)) last
+    by_place : (j : ℕ) → j < length (later ++ now ∷ []) → slice_get (later ++ now ∷ []) j ≡ Some (after_rounds (suc j * every) start)
+    by_place j lt = elim (cases_lt j (length later)) [
+      | inl low ↦ at_front later now j low ∙ before.each j low
+      | inr high ↦ subst (λ (i : ℕ). slice_get (later ++ now ∷ []) i ≡ Some (after_rounds (suc i * every) start)) (omega (arith, high, lt, one_longer later now)) last
     ]
 
-by_due : (e n : ℕ) (start now : Running) (later : List Running) (due : Bool) → ((n + 1) % suc e == 0) ≡ due → now ≡ after_rounds (n + 1) start →
-    AreCheckpoints (suc e) n start later → AreCheckpoints (suc e) (n + 1) start (later_with due later now)
-by_due e n start now later true is there before =
-    let due : (n + 1) % suc e ≡ 0 = grind (arith, nat_tests, is) in
-    let more : (n + 1) / suc e ≡ n / suc e + 1 = one_due (suc e) n (omega arith) due in
-    let same : suc (length later) ≡ (n + 1) / suc e = omega (arith, more, before.count, of_some e n) in
-    let place : suc (length later) * suc e ≡ n + 1 = ap (λ (k : ℕ). k * suc e) same ∙ omega (arith, due) in
-    kept_with_now (suc e) n start now later (omega (arith, more, of_some e n, of_some e (n + 1))) place there before
-by_due e n start now later false is there before =
-    let due : 0 < (n + 1) % suc e = grind (arith, nat_tests, is) in
-    kept_as_before (suc e) n start now later (omega (arith, none_due (suc e) n (omega arith) due, of_some e n, of_some e (n + 1))) before
+by_due : (e n k : ℕ) (start now : Running) (later : List Running) (due : Bool) → (k % suc e == 0) ≡ due → n % suc e ≡ 0 → n < k → k ≤ n + suc e → now ≡ after_rounds k start →
+    AreCheckpoints (suc e) n start later → AreCheckpoints (suc e) k start (later_with due later now)
+by_due e n k start now later true is at some few there before =
+    let due : k % suc e ≡ 0 = grind (arith, nat_tests, is) in
+    let more : k / suc e ≡ n / suc e + 1 = one_due (suc e) n k (omega arith) at some few due in
+    let same : suc (length later) ≡ k / suc e = omega (arith, more, before.count, of_some e n) in
+    let place : suc (length later) * suc e ≡ k = ap (λ (j : ℕ). j * suc e) same ∙ omega (arith, due) in
+    kept_with_now (suc e) n k start now later (omega (arith, more, of_some e n, of_some e k)) place there before
+by_due e n k start now later false is at some few there before =
+    let due : 0 < k % suc e = grind (arith, nat_tests, is) in
+    kept_as_before (suc e) n k start now later (omega (arith, none_due (suc e) n k (omega arith) at some few due, of_some e n, of_some e k)) before
 
 by_test_alone : (b c : Bool) → b ≡ false → (not b && c) ≡ c
 by_test_alone b c e = rw e refl
@@ -99,13 +120,13 @@ by_test_alone b c e = rw e refl
 due_of_some : (e n : ℕ) → is_due (suc e) n ≡ (n % suc e == 0)
 due_of_some e n = by_test_alone (suc e == 0) (n % suc e == 0) (grind (arith, nat_tests))
 
--- what is kept after one more round, after which the machine is `now`
-pub kept_next : (every n : ℕ) (start now : Running) (later : List Running) → now ≡ after_rounds (n + 1) start →
-    AreCheckpoints every n start later → AreCheckpoints every (n + 1) start (later ++ (if is_due every (n + 1) then now ∷ [] else []))
-kept_next zero n start now later there before = kept_as_before zero n start now later refl before
-kept_next (suc e) n start now later there before =
-    subst (λ (due : Bool). AreCheckpoints (suc e) (n + 1) start (later_with due later now)) (sym (due_of_some e (n + 1)))
-    (by_due e n start now later ((n + 1) % suc e == 0) refl there before)
+-- what is kept after some more rounds, to the next multiple at most, after which the machine is `now`
+pub kept_next : (every n k : ℕ) (start now : Running) (later : List Running) → IsMultiple every n → 1 ≤ k → (0 < every → k ≤ every) → now ≡ after_rounds (n + k) start →
+    AreCheckpoints every n start later → AreCheckpoints every (n + k) start (later ++ (if is_due every (n + k) then now ∷ [] else []))
+kept_next zero n k start now later at some few there before = kept_as_before zero n (n + k) start now later refl before
+kept_next (suc e) n k start now later at some few there before =
+    subst (λ (due : Bool). AreCheckpoints (suc e) (n + k) start (later_with due later now)) (sym (due_of_some e (n + k)))
+    (by_due e n (n + k) start now later ((n + k) % suc e == 0) refl at (omega (arith, some)) (omega (arith, few (omega arith))) there before)
 
 -- ---- what is found of them
 

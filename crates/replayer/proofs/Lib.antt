@@ -15,7 +15,6 @@ pub mod PastDone
 pub mod RoundCount
 pub mod Begun
 pub mod PlaceSought
-pub mod HitsAdded
 pub mod Located
 pub mod Refused
 pub mod Compared

@@ -12,7 +12,7 @@ use Rattle.recording.specs.Recorded.{Kept, Recorded}
 use Rattle.replayer.specs.declared.verdict.Verdict.{Verdict}
 use Rattle.replayer.specs.declared.verdict.Verdict.TheVariants.{Same, Differs}
 use Rattle.replayer.specs.Summaries.{kept_of, kept_of_rounds}
-use Rattle.replayer.specs.Hits.{hits}
+use Rattle.run_hits.specs.Hits.{hits}
 
 abbrev pub format_of : ℕ → Format
 format_of n = if n == 1 then Flat else Elf

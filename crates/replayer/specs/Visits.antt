@@ -1,5 +1,5 @@
 -- What the visitors of a run know of it, round after round.
-use Rattle.std.specs.Prelude.{◌≡◌, ℕ, ◌-◌, ◌^◌, ◌<◌, ◌≤◌, ◌++◌, List, length, slice_get, Option, Some, None}
+use Rattle.std.specs.Prelude.{◌≡◌, ℕ, ◌+◌, ◌-◌, ◌^◌, ◌<◌, ◌≤◌, ◌++◌, List, length, slice_get, Option, Some, None}
 use Rattle.hart_step.specs.declared.hart.Hart.{Hart}
 use Rattle.machine.specs.Machine.{Running, after_rounds}
 use Rattle.machine.specs.Untraced.{IsUntraced, Untraced}
@@ -30,9 +30,12 @@ abbrev pub IsVerdictUpTo : List Kept → ℕ → Running → ℕ → Verdict →
 IsVerdictUpTo ks every m n Same = (j : ℕ) → 1 ≤ j → j ≤ n → Agrees ks every m j
 IsVerdictUpTo ks every m n (Differs k) = (1 ≤ k) × (k ≤ n) × ((j : ℕ) → 1 ≤ j → j < k → Agrees ks every m j) × (Agrees ks every m k → ⊥)
 
--- this is the verdict on the rounds that are done, of a run from its first round for which as many are kept as are to be done
-abbrev pub HasCompared : List Kept → ℕ → Verdict → Untraced → ℕ → ℕ → Type 0
-HasCompared ks every v start rounds done = (start.rounds ≡ 0) × (rounds ≡ length ks) × ((m : Running) → IsUntraced m start → IsVerdictUpTo ks every m done v)
+-- for each round that is to be done something is kept of it, and where the one was the verdict on the rounds of the run before these, the other is the
+-- verdict on those and the ones that are done
+abbrev pub HasCompared : List Kept → ℕ → Verdict → Verdict → Untraced → ℕ → ℕ → Type 0
+HasCompared ks every before v start rounds done =
+    (start.rounds + rounds ≤ length ks)
+    × ((m : Running) → IsUntraced (after_rounds start.rounds m) start → IsVerdictUpTo ks every m start.rounds before → IsVerdictUpTo ks every m (start.rounds + done) v)
 
 -- ---- who seeks the instruction of a place
 

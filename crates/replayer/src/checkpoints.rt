@@ -9,14 +9,13 @@ ghost use Rattle.event_pcs.specs.Pcs.{hart_at};
 ghost use Rattle.replayer.specs.Refusals.{AreNoWorkers, AreWorkers, RefusedInOrder};
 ghost use Rattle.replayer.specs.Replayed.{IsPlanFor, IsVerdict};
 
-use crate::keeping::seen_of;
 use crate::opened::opened;
 use crate::past::hart_in_round;
-use crate::replaying::next_verdict;
+use crate::replaying::Comparing;
 use crate::verdict::Verdict;
 use hart_step::Hart;
 use host_io::RunError;
-use machine::{Machine, UntracedMachine};
+use machine::{Machine, Unobserved, UntracedMachine};
 use recording::Recording;
 use round_schedule::MOST_WORKERS;
 use std::alloc::Global;
@@ -184,19 +183,35 @@ fn run_keeping<R: Threads + Wait + Sync>(
         AreCheckpoints every recording.now.rounds machine.old x.1.items) }
     ensures refused { IfErr result (λ e. e ≡ refusals.OutOfMemory) }
 {
-    let kept = recording.kept();
-    // So many rounds are kept, as 32 bits hold.
-    let _rounds = recording.rounds();
-    let mut verdict = Verdict::Same;
+    let rounds = recording.rounds();
+    let mut nobody = Unobserved;
+    let mut comparing = Comparing {
+        kept: recording.kept(),
+        every: recording.every(),
+        verdict: Verdict::Same,
+        ends: false,
+        observer: &mut nobody,
+    };
     let mut machines = Vec::new(alloc);
-    for place in 0..kept.len() {
-        machine.run(rt, 1, workers)?;
-        let round = place as u32 + 1;
-        let seen = seen_of(machine, round);
-        verdict = next_verdict(verdict, &kept[place], recording.every(), &seen);
-        keep_if_due(&mut machines, machine, every, round)?;
+    let mut done = 0;
+    while done < rounds {
+        let more = next_rounds(every, rounds - done);
+        machine.walk(rt, more, workers, &mut comparing)?;
+        done += more;
+        keep_if_due(&mut machines, machine, every, done)?;
     }
-    Ok((verdict, machines))
+    Ok((comparing.verdict, machines))
+}
+
+/// How many rounds are done at once of those that are left: as many as to the next multiple of `every`.
+fn next_rounds(every: u32, left: u32) -> u32
+    requires { 1 ≤ left }
+    ensures some { 1 ≤ result }
+    ensures most { result ≤ left }
+    ensures few { 0 < every → result ≤ every }
+    ensures multiple { result < left → result ≡ every }
+{
+    if every == 0 { left } else { left.min(every) }
 }
 
 /// Adds a machine that is equal to this one, and shares its pages, after a round that is a multiple of `every`.

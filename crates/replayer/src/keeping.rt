@@ -9,7 +9,7 @@ ghost use Rattle.recording.specs.Views.{hart_view, kept_view, registers_view, su
 ghost use Rattle.replayer.specs.Summaries.{IsSeenOf, code_of, hart_summary_of, kept_in, registers_of, summary_in, value_of};
 
 use hart_step::{Hart, Stop};
-use machine::{Machine, UntracedMachine};
+use machine::UntracedMachine;
 use pages::OutOfMemory;
 use recording::{HartSummary, Kept, Summary};
 use std::alloc::Global;
@@ -27,28 +27,11 @@ pub(crate) struct Seen<'a> {
     pub(crate) round: u32,
 }
 
-/// What is seen of a machine that did so many rounds.
-pub(crate) fn seen_of(machine: &Machine, round: u32) -> Seen<'_>
-    requires { round ≡ machine.now.state.rounds }
-    ensures seen { IsSeenOf result machine.now.state }
-    ensures harts { length result.harts.now ≡ machine.now.plan.harts }
-    ensures round { result.round ≡ round }
-    ensures stops { All (λ h. has_stop h.stop ≡ true) result.harts.now }
-{
-    Seen {
-        harts: machine.harts(),
-        output: machine.output().len() as u64,
-        trace: machine.trace().len() as u64,
-        round,
-    }
-}
-
-/// The same of a machine that keeps no trace.
-pub(crate) fn seen_untraced(machine: &UntracedMachine, round: u32) -> Seen<'_>
-    requires { round ≡ machine.now.rounds }
+/// What is seen of a machine.
+pub(crate) fn seen_of(machine: &UntracedMachine) -> Seen<'_>
     ensures seen { (m : Running) → IsUntraced m machine.now → IsSeenOf result m.state }
     ensures harts { length result.harts.now ≡ machine.now.plan.harts }
-    ensures round { result.round ≡ round }
+    ensures round { result.round ≡ machine.now.rounds }
     ensures stops { (m : Running) → IsUntraced m machine.now →
         All (λ h. has_stop h.stop ≡ true) result.harts.now }
 {
@@ -56,7 +39,7 @@ pub(crate) fn seen_untraced(machine: &UntracedMachine, round: u32) -> Seen<'_>
         harts: machine.harts(),
         output: machine.output().len() as u64,
         trace: machine.events(),
-        round,
+        round: machine.rounds(),
     }
 }
 

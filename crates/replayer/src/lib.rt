@@ -2,7 +2,6 @@
 #![tactic(auto)]
 
 mod checkpoints;
-mod choosing;
 mod counting;
 mod keeping;
 mod locating;
@@ -11,12 +10,10 @@ mod past;
 mod placing;
 mod recorder;
 mod replaying;
-mod rounds;
 mod verdict;
 mod watching;
 
 pub use checkpoints::Replay;
-pub use choosing::choose;
 pub use counting::count_at;
 pub use event_pcs::pcs_of_run;
 pub use locating::pcs_before;
@@ -26,7 +23,7 @@ pub use recorder::{record, record_observed, record_with};
 pub use recording::{Cause, ReadError, Recording, migrate, read_recording, write_recording};
 pub use replaying::{replay, replay_observed};
 pub use round_schedule::Event as Hit;
-pub use rounds::Rounds;
+pub use run_hits::{Rounds, choose};
 pub use seeing::Sight;
 pub use verdict::Verdict;
 pub use watching::{watch, watch_rounds};

@@ -11,7 +11,7 @@ ghost use Rattle.replayer.specs.Replayed.{number_of, recorded_of, recorded_with}
 ghost use Rattle.replayer.specs.Summaries.{kept_of_rounds};
 ghost use Rattle.replayer.specs.Visits.{HasRecorded};
 
-use crate::keeping::{keep, seen_untraced};
+use crate::keeping::{keep, seen_of};
 use host_io::RunError;
 use machine::{
     Format, Next, Observer, Settings, Unobserved, UntracedMachine, Visitor, prepare_untraced,
@@ -150,7 +150,7 @@ impl<'a, O: Observer> Visitor for Recorder<'a, O> {
     ghost may_fail = { Unit {0} };
 
     fn after_round(&mut self, machine: &UntracedMachine) -> Result<Next, OutOfMemory> {
-        let seen = seen_untraced(machine, machine.rounds());
+        let seen = seen_of(machine);
         let of_round = keep(self.alloc, &seen, self.every)?;
         self.kept.push(of_round)?;
         self.observer.after_round(machine);

@@ -1,4 +1,4 @@
-ghost use Rattle.std.specs.Prelude.{◌≡◌, ◌≤◌, ◌<◌, ◌^◌, map, length, IfOk, IfErr};
+ghost use Rattle.std.specs.Prelude.{◌≡◌, ◌≤◌, ◌<◌, ◌^◌, map, length, true, IfOk, IfErr};
 ghost use Rattle.round_planner.specs.Quotas.{Planned};
 ghost use Rattle.host_io.specs.declared.error.RunError.TheVariants as refusals;
 ghost use Rattle.machine.specs.Machine.{Running};
@@ -10,7 +10,7 @@ ghost use Rattle.replayer.specs.Summaries.{kept_in};
 ghost use Rattle.replayer.specs.Visits.{HasCompared};
 ghost use Rattle.replayer.specs.declared.verdict.Verdict.TheVariants.{Same};
 
-use crate::keeping::{Seen, agrees, seen_untraced};
+use crate::keeping::{Seen, agrees, seen_of};
 use crate::opened::opened_untraced;
 use crate::verdict::Verdict;
 use host_io::RunError;
@@ -91,51 +91,56 @@ fn first_difference<O: Observer, R: Threads + Wait + Sync>(
         kept,
         every,
         verdict: Verdict::Same,
+        ends: true,
         observer,
     };
     machine.walk(rt, kept.len() as u32, workers, &mut comparing)?;
     Ok(comparing.verdict)
 }
 
-/// Compares the state after each round with what was kept of it, and ends at the first difference.
+/// Compares the state after each round with what was kept of it.
 #[derive(Drop)]
-struct Comparing<'a, O> {
+pub(crate) struct Comparing<'a, O> {
     /// What was kept of all rounds.
-    kept: &'a [Kept],
+    pub(crate) kept: &'a [Kept],
     /// Registers were kept after each round whose number is a multiple of it.
-    every: u32,
+    pub(crate) every: u32,
     /// The verdict on the rounds that are done.
-    verdict: Verdict,
-    /// It is shown the rounds whose state is as it was kept.
-    observer: &'a mut O,
+    pub(crate) verdict: Verdict,
+    /// Whether it ends the walk at the first difference.
+    pub(crate) ends: bool,
+    /// It is shown the rounds up to the first difference, whose state is as it was kept.
+    pub(crate) observer: &'a mut O,
 }
 
 impl<'a, O: Observer> Visitor for Comparing<'a, O> {
     ghost knows = { λ first v start rounds done.
-        (v.kept.now ≡ first.kept.now) × (v.every ≡ first.every) ×
-        HasCompared (map kept_view first.kept.now) first.every v.verdict start rounds done };
+        (v.kept.now ≡ first.kept.now) × (v.every ≡ first.every) × (v.ends ≡ first.ends) ×
+        HasCompared (map kept_view first.kept.now) first.every first.verdict v.verdict start rounds
+        done };
 
-    ghost has_enough = { λ v u. v.verdict ≡ Same → ⊥ };
+    ghost has_enough = { λ v u. (v.ends ≡ true) × (v.verdict ≡ Same → ⊥) };
 
     ghost may_fail = { ⊥ };
 
     fn after_round(&mut self, machine: &UntracedMachine) -> Result<Next, OutOfMemory> {
         let round = machine.rounds();
         let kept = &self.kept[round as usize - 1];
-        let seen = seen_untraced(machine, round);
+        let seen = seen_of(machine);
         self.verdict = next_verdict(self.verdict, kept, self.every, &seen);
         match self.verdict {
             Verdict::Same => {
                 self.observer.after_round(machine);
                 Ok(Next::Round)
             }
-            Verdict::Differs(_) => Ok(Next::Enough),
+            Verdict::Differs(_) if self.ends => Ok(Next::Enough),
+            Verdict::Differs(_) => Ok(Next::Round),
         }
     }
 }
 
 /// The verdict after one more round, where the one on the rounds before it is this.
-pub(crate) fn next_verdict(before: Verdict, kept: &Kept, every: u32, seen: &Seen<'_>) -> Verdict
+fn next_verdict(before: Verdict, kept: &Kept, every: u32, seen: &Seen<'_>) -> Verdict
     ensures { IsNextVerdict before (kept_view kept.now ≡
         kept_in every seen.now) seen.now.round result }
 {

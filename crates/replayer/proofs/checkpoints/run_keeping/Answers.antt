@@ -1,45 +1,63 @@
-use Rattle.std.proofs.Common.{◌≡◌, ◌∙◌, ap, arith, length, slice_get, Some, subst, sym, ℕ, List}
+use Rattle.std.proofs.Common.{◌≡◌, ◌+◌, ◌-◌, ◌∙◌, ap, arith, false, inl, inr, length, map, refl, subst, sym, true≢false, ℕ, List}
 use Rattle.machine.specs.Machine.{Running, after_rounds}
 use Rattle.machine.proofs.Repeated.{no_rounds, more_rounds}
 use Rattle.recording.specs.Recorded.{Kept}
 use Rattle.recording.specs.Views.{kept_view}
-use Rattle.replayer.specs.Replayed.{IsNextVerdict}
-use Rattle.replayer.specs.Summaries.{kept_in, kept_of}
-use Rattle.replayer.proofs.First.{one_more, none_more, placed, size}
-use Rattle.replayer.proofs.KeptMachines.{kept_first, kept_next}
-use Rattle.replayer.proofs.SeenOf.{seen_is}
-use Rattle.replayer.proofs.Verdicts.{up_to_all, up_to_next}
+use Rattle.replayer.specs.Checkpoints.{AreCheckpoints}
+use Rattle.replayer.proofs.Compared.{compared_more, none_compared}
+use Rattle.replayer.proofs.Counted.{rounds_after}
+use Rattle.replayer.proofs.First.{size}
+use Rattle.replayer.proofs.KeptMachines.{kept_first, kept_next, more_multiple, none_multiple}
+use Rattle.replayer.proofs.Verdicts.{up_to_all}
 use Rattle.replayer.proofs.checkpoints.run_keeping.Goals as goal
 
-pub loop-place-init : goal.loop-place-init
-loop-place-init g c = (
+pub loop-done-init : goal.loop-done-init
+loop-done-init g c = (
   no_rounds c.args.machine.now,
   c.requires.opened,
+  (omega arith, λ lt. none_multiple c.args.every),
+  (c.kept.ensures.value, c.every.ensures, refl),
   λ j lo hi. absurd (omega (arith, lo, hi)),
   rw c.new-machines.ensures.items (kept_first c.args.every c.args.machine.now),
 )
 
-pub loop-place-preserved : goal.loop-place-preserved
-loop-place-preserved g c =
+pub walk-requires-clause-known : goal.walk-requires-clause-known
+walk-requires-clause-known g c = λ lifetimes within u i.
+    let l = c.loop-done in
+    let ks = l.comparing.kept.now in
+    let kept : length (map kept_view ks) ≡ c.rounds-rounds.result = ap length (l.invariant.3.0 ∙ sym c.kept.ensures.value) ∙ size kept_view c.kept.result.now ∙ c.kept.ensures.count ∙ sym c.rounds-rounds.ensures in
+    (refl, refl, refl, none_compared (map kept_view ks) l.comparing.every l.comparing.verdict u c.next_rounds-more.result (omega (arith, i.rounds, l.invariant.1, c.next_rounds-more.ensures.most, l.invariant.2.0, kept)))
+
+pub loop-done-preserved : goal.loop-done-preserved
+loop-done-preserved g c =
     let ks : List Kept = c.args.recording.now.kept in
     let every : ℕ = c.args.recording.now.every in
-    let k : ℕ = c.loop-place.place in
-    let x : Kept = kept_view c.index-kept-place.result in
-    let there = c.in_ok-run.ensures.ok ∙ ap (after_rounds 1) c.loop-place.invariant.0 ∙ more_rounds k 1 c.args.machine.now in
-    let at : slice_get ks k ≡ Some x = subst (λ (xs : List Kept). slice_get xs k ≡ Some x) c.kept-kept.ensures.value (placed kept_view c.kept-kept.result.now k c.index-kept-place.result c.loop-place-test.true c.index-kept-place.is) in
-    let stays = c.keep_if_due.ensures.stays in
-    let same = seen_is c.every.result c.seen_of-seen.result c.run.new.self.state c.seen_of-seen.ensures.seen ∙ ap (λ (n : ℕ). kept_of n c.run.new.self.state) c.every.ensures in (
+    let l = c.loop-done in
+    let m : Running = c.args.machine.now in
+    let n : ℕ = l.done in
+    let more : ℕ = c.next_rounds-more.result in
+    let some = c.next_rounds-more.ensures in
+    let walked = c.in_ok-walk.ensures in
+    let known = walked.known.2 in
+    let ends : c.walk.new.visitor.ends ≡ false = known.2 ∙ l.invariant.3.2 in
+    let all : c.in_ok-walk.field-0 ≡ more = elim walked.ended [ inl e ↦ e | inr x ↦ absurd (true≢false (sym x.2.0 ∙ ends)) ] in
+    let there : c.walk.new.self ≡ after_rounds (n + more) m = walked.done ∙ ap (λ (k : ℕ). after_rounds k l.machine) all ∙ ap (after_rounds more) l.invariant.0 ∙ more_rounds n more m in
+    let stays = c.keep_if_due.ensures.stays in (
       stays ∙ there,
-      ap (λ (m : Running). m.state.rounds) stays ∙ c.in_ok-run.ensures.counted ∙ omega (arith, c.loop-place.invariant.1),
-      up_to_next ks every c.args.machine.now k (x ≡ kept_in c.every.result c.seen_of-seen.result) c.loop-place.verdict c.next_verdict-verdict.result
-          (λ p. one_more ks every c.args.machine.now c.loop-place.machine c.run.new.self k x c.loop-place.invariant.0 c.in_ok-run.ensures.ok at (p ∙ same))
-          (λ q. none_more ks every c.args.machine.now c.loop-place.machine c.run.new.self k x c.loop-place.invariant.0 c.in_ok-run.ensures.ok at (λ e. q (e ∙ sym same)))
-          c.loop-place.invariant.2
-          (subst (λ (n : ℕ). IsNextVerdict c.loop-place.verdict (x ≡ kept_in c.every.result c.seen_of-seen.result) n c.next_verdict-verdict.result) c.seen_of-seen.ensures.round c.next_verdict-verdict.ensures),
-      rw c.in_ok-keep_if_due.ensures.ok (kept_next c.args.every k c.args.machine.now c.run.new.self c.loop-place.machines.items there c.loop-place.invariant.3),
+      ap (λ (r : Running). r.state.rounds) (stays ∙ there) ∙ rounds_after (n + more) m ∙ omega (arith, c.requires.opened),
+      (omega (arith, some.most, c.loop-done-test.true), λ lt. more_multiple c.args.every n more some.some (some.multiple (omega (arith, lt))) (l.invariant.2.1 c.loop-done-test.true)),
+      (ap (map kept_view) known.0 ∙ l.invariant.3.0, known.1 ∙ l.invariant.3.1, ends),
+      compared_more ks (map kept_view l.comparing.kept.now) every l.comparing.every l.comparing.verdict c.walk.new.visitor.verdict walked.known.0 c.in_ok-walk.field-0 more n m l.machine
+          l.invariant.3.0 l.invariant.3.1 all l.invariant.0 l.invariant.1 walked.known.1 known.3 l.invariant.4,
+      rw c.in_ok-keep_if_due.ensures.ok (kept_next c.args.every n more m c.walk.new.self l.machines.items (l.invariant.2.1 c.loop-done-test.true) some.some some.few there l.invariant.5),
     )
 
 pub returns-clause-verdict : goal.returns-clause-verdict
 returns-clause-verdict g c =
-    up_to_all c.args.recording.now.kept c.args.recording.now.every c.args.machine.now c.loop-place.place c.loop-place.verdict
-    (omega (arith, c.loop-place-test.false, size kept_view c.kept-kept.result.now, ap length c.kept-kept.ensures.value)) c.loop-place.invariant.2
+    let whole : c.loop-done.done ≡ length c.args.recording.now.kept = omega (arith, c.loop-done-test.false, c.loop-done.invariant.2.0, c.rounds-rounds.ensures, size kept_view c.kept.result.now, ap length c.kept.ensures.value, c.kept.ensures.count) in
+    up_to_all c.args.recording.now.kept c.args.recording.now.every c.args.machine.now c.loop-done.done c.loop-done.comparing.verdict whole c.loop-done.invariant.4
+
+pub returns-clause-machines : goal.returns-clause-machines
+returns-clause-machines g c =
+    let all : c.loop-done.done ≡ c.args.recording.now.rounds = omega (arith, c.loop-done-test.false, c.loop-done.invariant.2.0, c.rounds-rounds.ensures) in
+    subst (λ (k : ℕ). AreCheckpoints c.args.every k c.args.machine.now c.loop-done.machines.items) all c.loop-done.invariant.5

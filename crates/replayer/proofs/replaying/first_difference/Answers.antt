@@ -1,9 +1,16 @@
-use Rattle.std.proofs.Common.{map}
+use Rattle.std.proofs.Common.{arith, inl, inr, length, map, refl, sym}
 use Rattle.recording.specs.Views.{kept_view}
-use Rattle.replayer.proofs.Compared.{compared_all}
+use Rattle.replayer.specs.declared.verdict.Verdict.TheVariants.{Same}
+use Rattle.replayer.proofs.Compared.{compared_all, none_compared}
+use Rattle.replayer.proofs.First.{size}
 use Rattle.replayer.proofs.replaying.first_difference.Goals as goal
+
+pub walk-requires-clause-known : goal.walk-requires-clause-known
+walk-requires-clause-known g c = λ lifetimes within.
+    (refl, refl, refl, none_compared (map kept_view c.args.kept.now) c.args.every Same c.args.machine.now (length c.args.kept.now) (omega (arith, c.requires.opened, size kept_view c.args.kept.now)))
 
 pub returns-clause-verdict : goal.returns-clause-verdict
 returns-clause-verdict g c = λ m i.
     let walked = c.in_ok-walk.ensures in
-    compared_all (map kept_view c.args.kept.now) c.args.every c.walk.new.visitor.verdict c.args.machine.now _ _ m walked.known.2 walked.most walked.ended i
+    compared_all (map kept_view c.args.kept.now) c.args.every c.walk.new.visitor.verdict c.args.machine.now _ _ m c.requires.opened (sym (size kept_view c.args.kept.now)) walked.known.3 walked.most
+    (elim walked.ended [ inl all ↦ inl all | inr enough ↦ inr enough.1 ]) i

@@ -1,12 +1,17 @@
 use Rattle.std.proofs.Common.{◌∙◌, ap, refl, ℕ}
 use Rattle.std.proofs.lemmas.Result.{IfOk-weaker}
 use Rattle.machine.specs.Machine.{Running, after_rounds}
-use Rattle.replayer.specs.Hits.{hits}
+use Rattle.run_hits.specs.Hits.{hits}
 use Rattle.replayer.specs.Replayed.{start_of}
 use Rattle.replayer.proofs.watching.watch.Goals as goal
+
+pub hits_of_run-requires-clause-run : goal.hits_of_run-requires-clause-run
+hits_of_run-requires-clause-run g c = λ lifetimes within.
+    let made = c.in_ok-machine.ensures.machine in
+    (start_of c.args.recording.now made.0, made.2, refl)
 
 pub returns-clause-hits : goal.returns-clause-hits
 returns-clause-hits g c =
     let made = c.in_ok-machine.ensures.machine in
     let m : Running = start_of c.args.recording.now made.0 in
-    IfOk-weaker c.watch_run.result _ _ (λ v is. (made.0, made.1, is ∙ ap (λ (n : ℕ). hits c.args.ranges.now (after_rounds n m).state.trace) c.rounds-rounds.ensures)) (c.watch_run.ensures.hits m made.2 refl)
+    IfOk-weaker c.hits_of_run.result _ _ (λ v is. (made.0, made.1, is ∙ ap (λ (n : ℕ). hits c.args.ranges.now (after_rounds n m).state.trace) c.rounds-rounds.ensures)) (c.hits_of_run.ensures.hits m made.2 refl)

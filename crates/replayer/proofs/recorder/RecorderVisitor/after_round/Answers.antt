@@ -6,14 +6,14 @@ use Rattle.replayer.proofs.Recorded.{recorded_next}
 use Rattle.replayer.proofs.recorder.RecorderVisitor.after_round.Goals as goal
 
 pub keep-requires : goal.keep-requires
-keep-requires g c = let r = c.requires in c.seen_untraced-seen.ensures.stops (after_rounds (r.3 + 1) r.5.1.1.0) (r.6.run r.5.1.1.0 r.5.1.1.1)
+keep-requires g c = let r = c.requires in c.seen_of-seen.ensures.stops (after_rounds (r.3 + 1) r.5.1.1.0) (r.6.run r.5.1.1.0 r.5.1.1.1)
 
 pub returns-clause-known : goal.returns-clause-known
 returns-clause-known g c = λ first start rounds done few h d. (
   h.0,
   rw c.in_ok-push.ensures.items
       (subst (λ (every : ℕ). HasRecorded (map kept_view (c.args.self.now.kept.items ++ c.in_ok-of_round.of_round ∷ [])) every start rounds (done + 1)) h.0
-      (recorded_next kept_view c.args.self.now.kept.items c.in_ok-of_round.of_round c.args.self.now.every c.seen_untraced-seen.result start c.args.machine.now rounds done few
+      (recorded_next kept_view c.args.self.now.kept.items c.in_ok-of_round.of_round c.args.self.now.every c.seen_of-seen.result start c.args.machine.now rounds done few
       (subst (λ (every : ℕ). HasRecorded (map kept_view c.args.self.now.kept.items) every start rounds done) (sym h.0) h.1)
-      d c.in_ok-of_round.ensures.kept c.seen_untraced-seen.ensures.seen c.in_ok-of_round.ensures.ranges c.seen_untraced-seen.ensures.harts (c.seen_untraced-seen.ensures.round ∙ c.rounds.ensures))),
+      d c.in_ok-of_round.ensures.kept c.seen_of-seen.ensures.seen c.in_ok-of_round.ensures.ranges c.seen_of-seen.ensures.harts c.seen_of-seen.ensures.round)),
 )

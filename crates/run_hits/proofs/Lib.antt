@@ -1,0 +1,5 @@
+pub mod Endings
+pub mod Overlaps
+pub mod Parts
+pub mod Seen
+pub mod Walked

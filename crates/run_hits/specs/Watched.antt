@@ -1,0 +1,15 @@
+-- What who seeks hits has seen of a run's events.
+use Rattle.std.specs.Prelude.{◌≡◌, List, ◌++◌, Option}
+use Rattle.pages.specs.declared.access.Range.{Range}
+use Rattle.round_schedule.specs.declared.event.Event.{Event}
+use Rattle.run_hits.specs.declared.rounds.Rounds.{Rounds}
+use Rattle.run_hits.specs.declared.sought.Sought.{Sought}
+use Rattle.run_hits.specs.Hits.{sought_in}
+
+-- it seeks just this, and has seen these events: the last of them are there, and what is sought of those before was found
+pub record HasWatched (ranges : List Range) (within : Option Rounds) (sought : Sought) (found last events : List Event) : Type 0 where
+  pub same_ranges : sought.ranges.now ≡ ranges
+  pub same_within : sought.within ≡ within
+  pub before : List Event
+  pub whole : events ≡ before ++ last
+  pub hits : found ≡ sought_in within ranges before
