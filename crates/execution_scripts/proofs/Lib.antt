@@ -1,3 +1,5 @@
+mod Counted
 mod Doing
 mod Judging
 mod NamedTurns
+mod Unrefused

@@ -6,9 +6,10 @@ use Rattle.run_settings.specs.Settings.{image_of}
 use Rattle.guest_rounds.specs.Guests.{Guest, opening_guest}
 use Rattle.memory_order.specs.Orders.{ListsOperations}
 use Rattle.execution.specs.Executions.{Standing}
+use Rattle.execution.specs.declared.step.ScriptedStep.{ScriptedStep}
 use Rattle.execution.specs.Progressing.{at_start}
 use Rattle.execution_checker.specs.declared.verdict.Verdict.{Verdict}
-use Rattle.execution_checker.specs.Allowed.{IsVerdict}
+use Rattle.execution_checker.specs.Allowed.{Allows, Follows, IsVerdict}
 use Rattle.execution_views.specs.declared.sights.HartStep.{HartStep}
 use Rattle.execution_views.specs.Walks.{AreSights}
 use Rattle.trace.specs.Traced.{opening_at}
@@ -47,3 +48,13 @@ pub record IsJudged (g : Guest) (parts : List HartPart) (turns : List Turn) (ask
 abbrev pub IsFound : Guest → List HartPart → List Turn → Option HartStep → Finding → Checked → Type 0
 IsFound g parts turns asked (Judged v) c = IsJudged g parts turns asked v c
 IsFound g parts turns asked (Fault f) c = Unit {0}
+
+-- RVWMO allows the execution that a file says: a script leads the file's guest to where its harts have done what the file says of them, and
+-- the order of its memory operations that the file's turns name is one that RVWMO allows
+pub record IsAllowedFile (r : Recorded) : Type 0 where
+  pub script : List ScriptedStep
+  pub order : List ℕ
+  pub end : Standing
+  pub follows : Follows (guest_in r).shared.memory script (start_of (guest_in r)) end
+  pub allows : Allows (λ x. slice_index (guest_in r).shared.memory.bytes x) end order
+  pub as_said : IsAsSaid r.harts r.order end order

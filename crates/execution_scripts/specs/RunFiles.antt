@@ -1,11 +1,12 @@
 -- The files of runs.
-use Rattle.std.specs.Prelude.{◌≡◌, ℕ, Bool, true, false, List}
+use Rattle.std.specs.Prelude.{◌≡◌, ℕ, Bool, true, false, List, length}
 use Rattle.run_settings.specs.declared.settings.Format.{Format}
 use Rattle.run_settings.specs.declared.settings.Format.TheVariants.{Elf, Flat}
 use Rattle.run_settings.specs.declared.settings.Settings.{Settings}
 use Rattle.machine.specs.Machine.{Running}
 use Rattle.execution_file.specs.Recorded.{HartPart, Recorded}
 use Rattle.execution_scripts.specs.Deeds.{deeds}
+use Rattle.execution_scripts.specs.declared.scripted.ScriptedGuest.{ScriptedGuest}
 
 abbrev pub is_flat : Format → Bool
 is_flat Flat = true
@@ -22,3 +23,11 @@ pub record IsFileWith (s : Settings) (file given : List ℕ) (parts : List HartP
 -- in which they do what they did in a run
 abbrev pub IsFileOf : Settings → List ℕ → List ℕ → Running → Recorded → Type 0
 IsFileOf s image input m r = IsFileWith s image input (deeds m.state.harts m.state.trace) r
+
+-- a file of this guest: of its image and its input, and for so many harts
+pub record IsFileFor (g : ScriptedGuest) (r : Recorded) : Type 0 where
+  pub flat : r.flat ≡ is_flat g.format
+  pub pages : r.pages ≡ g.pages
+  pub image : r.image ≡ g.image.now
+  pub input : r.input ≡ g.input.now
+  pub harts : length r.harts ≡ g.harts

@@ -1,7 +1,8 @@
-ghost use Rattle.std.specs.Prelude.{◌≡◌, ◌≤◌, IfOk, OnOk, map};
+ghost use Rattle.std.specs.Prelude.{◌≡◌, ◌≤◌, IfErr, IfOk, None, OnOk, map};
+ghost use Rattle.host_io.specs.declared.error.RunError.TheVariants as refusals;
 ghost use Rattle.round_planner.specs.Quotas.{Planned};
 ghost use Rattle.machine.specs.Machine.{after_rounds};
-ghost use Rattle.run_settings.specs.Settings.{IsPlan};
+ghost use Rattle.run_settings.specs.Settings.{IsPlan, IsReason, RefusedInOrder, settings_fault};
 ghost use Rattle.machine.specs.Runs.{after_run};
 ghost use Rattle.execution_file.specs.Views.{as_recorded, hart_view};
 ghost use Rattle.execution_scripts.specs.Deeds.{deeds};
@@ -18,7 +19,7 @@ use execution_file::{ExecutionFile, HartPart, Turn};
 use host_io::RunError;
 use machine::{Format, Machine, Observer, Settings, load, prepare};
 use memory_order::memory_order;
-use pages::{MOST_PAGES, OutOfMemory};
+use pages::OutOfMemory;
 use std::alloc::Global;
 use std::sync::Wait;
 use std::thread::Threads;
@@ -37,8 +38,13 @@ pub fn execution_of_run<O: Observer, R: Threads + Wait + Sync>(
     settings: &Settings<'_>,
     observer: &mut O,
 ) -> Result<ExecutionFile, RunError>
-    ensures { IfOk result (λ f. (plan : Planned) × IsPlan settings.now plan ×
+    ensures file { IfOk result (λ f. (plan : Planned) × IsPlan settings.now plan ×
         IsFileOf settings.now image.now input.now (after_run settings.now image.now input.now plan) (as_recorded f)) }
+    // Numbers out of range are refused first, then an image, and then a plan.
+    ensures in_order { RefusedInOrder settings.now image.now result }
+    // What is refused then is for a reason that stands.
+    ensures errors { settings_fault settings.now ≡ None →
+        IfErr result (λ e. IsReason settings.now image.now e) }
 {
     let mut machine = prepare(alloc, image, input, settings)?;
     let ran = run_of(rt, alloc, &mut machine, settings, observer);
@@ -67,8 +73,12 @@ fn run_of<O: Observer, R: Threads + Wait + Sync>(
     settings: &Settings<'_>,
     observer: &mut O,
 ) -> Result<Ran, RunError>
-    ensures { IfOk result (λ ran. let m = after_rounds settings.now.rounds machine.old in
+    requires fresh { machine.old.state.rounds ≡ 0 }
+    requires some_workers { 1 ≤ settings.now.workers }
+    requires few_workers { settings.now.workers ≤ 16 }
+    ensures parts { IfOk result (λ ran. let m = after_rounds settings.now.rounds machine.old in
         map hart_view ran.parts.items ≡ deeds m.state.harts m.state.trace) }
+    ensures errors { IfErr result (λ e. e ≡ refusals.OutOfMemory) }
 {
     let (rounds, done) = paces_of(rt, alloc, machine, settings, observer)?;
     let (parts, order) = deeds_of(alloc, machine)?;
@@ -88,7 +98,11 @@ fn paces_of<O: Observer, R: Threads + Wait + Sync>(
     settings: &Settings<'_>,
     observer: &mut O,
 ) -> Result<(Vec<u32>, Vec<u64>), RunError>
-    ensures { OnOk result (machine.new ≡ after_rounds settings.now.rounds machine.old) }
+    requires fresh { machine.old.state.rounds ≡ 0 }
+    requires some_workers { 1 ≤ settings.now.workers }
+    requires few_workers { settings.now.workers ≤ 16 }
+    ensures ran { OnOk result (machine.new ≡ after_rounds settings.now.rounds machine.old) }
+    ensures errors { IfErr result (λ e. e ≡ refusals.OutOfMemory) }
 {
     let mut paces = Paces::new(alloc, observer);
     let ended = machine.run_observed(rt, settings.rounds, settings.workers, &mut paces);
@@ -124,7 +138,10 @@ fn file_of(
     settings: &Settings<'_>,
     ran: Ran,
 ) -> Result<ExecutionFile, RunError>
-    ensures { IfOk result (λ f. IsFileWith settings.now image.now input.now (map hart_view ran.parts.items) (as_recorded f)) }
+    requires some_pages { 1 ≤ settings.now.pages }
+    requires few_pages { settings.now.pages ≤ 16384 }
+    ensures file { IfOk result (λ f. IsFileWith settings.now image.now input.now (map hart_view ran.parts.items) (as_recorded f)) }
+    ensures errors { IfErr result (λ e. IsReason settings.now image.now e) }
 {
     let calls = calls_in(alloc, image, input, settings, &ran)?;
     let image = copied(alloc, image)?;
@@ -156,11 +173,11 @@ fn calls_in(
     input: &[u8],
     settings: &Settings<'_>,
     ran: &Ran,
-) -> Result<Vec<Turn>, RunError> {
-    // `prepare` has refused other numbers.
-    if settings.pages < 1 || settings.pages > MOST_PAGES {
-        return Err(RunError::PagesOutOfRange);
-    }
+) -> Result<Vec<Turn>, RunError>
+    requires some_pages { 1 ≤ settings.now.pages }
+    requires few_pages { settings.now.pages ≤ 16384 }
+    ensures errors { IfErr result (λ e. IsReason settings.now image.now e) }
+{
     let loaded = load(alloc, settings.format, image, settings.pages)?;
     Ok(calls_of(alloc, &loaded, input, &ran.parts, &ran.rounds, &ran.done)?)
 }

@@ -1,4 +1,6 @@
-ghost use Rattle.std.specs.Prelude.{◌≤◌};
+ghost use Rattle.std.specs.Prelude.{◌≡◌, ◌≤◌, IfOk, OnOk, length};
+ghost use Rattle.execution_file.specs.Views.{as_recorded};
+ghost use Rattle.execution_scripts.specs.RunFiles.{IsFileFor};
 
 use crate::deeds::deeds;
 use crate::opening::open_execution;
@@ -40,7 +42,9 @@ pub fn execution_of_script(
     guest: &ScriptedGuest<'_>,
     script: &[ScriptedStep],
     order: &Order,
-) -> Result<ExecutionFile, RunError> {
+) -> Result<ExecutionFile, RunError>
+    ensures { IfOk result (λ f. IsFileFor guest.now (as_recorded f)) }
+{
     if guest.harts < 1 || guest.harts > MOST_HARTS {
         return Err(RunError::HartsOutOfRange);
     }
@@ -66,12 +70,14 @@ fn calls_of(
     alloc: Global,
     execution: &mut Execution,
     script: &[ScriptedStep],
-) -> Result<Vec<Turn>, OutOfMemory> {
+) -> Result<Vec<Turn>, OutOfMemory>
+    ensures { OnOk result (length execution.new.standing.harts ≡ length execution.old.standing.harts) }
+{
     let mut calls = Vec::new(alloc);
     for step in script {
         let call = call_number(execution, step.hart);
         let before = execution.instructions().len();
-        let _fault = execution.take_step(*step)?;
+        take_step(execution, *step)?;
         if let Some(Instr::Ecall) = execution.instructions().get(before) {
             if call >= 1 && call <= 3 {
                 calls.push(Turn {
@@ -89,6 +95,14 @@ fn calls_of(
         calls.clear();
     }
     Ok(calls)
+}
+
+/// Takes a step, where the hart has such a one.
+fn take_step(execution: &mut Execution, step: ScriptedStep) -> Result<(), OutOfMemory>
+    ensures { OnOk result (length execution.new.standing.harts ≡ length execution.old.standing.harts) }
+{
+    let _fault = execution.take_step(step)?;
+    Ok(())
 }
 
 /// The number of the call that a hart's next instruction would be.

@@ -37,10 +37,10 @@ pub fn open(alloc: Global, file: &ExecutionFile) -> Result<Opened, RunError>
     ensures { IfOk result (λ o. IsOpened (as_recorded file.now) o) }
 {
     let checked = check_file(alloc, file, None)?;
-    match checked.finding {
-        Finding::Judged(Verdict::Allowed) => open_allowed(alloc, file, checked),
-        _ => Ok(Opened::Refused(checked)),
+    if checked.finding != Finding::Judged(Verdict::Allowed) {
+        return Ok(Opened::Refused(checked));
     }
+    open_allowed(alloc, file, checked)
 }
 
 /// The same of a file that RVWMO allows.

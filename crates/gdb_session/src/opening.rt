@@ -1,6 +1,8 @@
-ghost use Rattle.std.specs.Prelude.{◌≡◌, ◌≤◌, IfOk};
+ghost use Rattle.std.specs.Prelude.{◌≡◌, ◌⊎◌, ◌≤◌, ◌+◌, ◌^◌, IfErr, IfOk, None};
+ghost use Rattle.host_io.specs.declared.error.RunError.TheVariants as refusals;
+ghost use Rattle.host_io.specs.declared.load_error.LoadError.{LoadError as ImageCause};
 ghost use Rattle.machine.specs.Machine.{opening};
-ghost use Rattle.run_settings.specs.Settings.{IsPlan, image_for};
+ghost use Rattle.run_settings.specs.Settings.{IsImageCause, IsPlan, IsReason, RefusedInOrder, image_for, settings_fault};
 ghost use Rattle.machine.specs.Untraced.{IsUntraced};
 ghost use Rattle.round_planner.specs.Quotas.{Planned};
 ghost use Rattle.gdb_session.specs.Serving.{begun};
@@ -30,6 +32,11 @@ pub fn open(
     // A debugger is handed an ELF file, and no flat image.
     ensures image { IfOk result (λ d. image_of d ≡ handed settings.now.format image.now) }
     ensures ready { IfOk result (λ d. IsReady d begun.state.standing) }
+    // Numbers out of range are refused first, then an image, and then a plan.
+    ensures in_order { RefusedInOrder settings.now image.now result }
+    // What is refused then is for a reason that stands, or for more rounds than can be looked at.
+    ensures errors { settings_fault settings.now ≡ None → IfErr result (λ e. IsReason settings.now image.now e ⊎
+        ((e ≡ refusals.RoundsExhausted) × (2 ^ 32 ≤ settings.now.rounds + 2))) }
 {
     let machine = prepare_untraced(alloc, image, input, settings)?;
     if settings.rounds >= u32::MAX - 1 {
@@ -50,7 +57,9 @@ pub fn open(
 /// The ranges of an image's code.
 fn code_of(alloc: Global, image: &[u8], settings: &Settings<'_>) -> Result<Vec<Range>, RunError>
     requires pages { (1 ≤ settings.now.pages) × (settings.now.pages ≤ 16384) }
-    ensures { IfOk result (λ v. v.items ≡ (image_for settings.now image.now).code) }
+    ensures code { IfOk result (λ v. v.items ≡ (image_for settings.now image.now).code) }
+    ensures errors { IfErr result (λ e. (e ≡ refusals.OutOfMemory) ⊎ ((cause : ImageCause) ×
+        IsImageCause settings.now image.now cause × (e ≡ refusals.Image cause))) }
 {
     let image = load(alloc, settings.format, image, settings.pages)?;
     match Vec::from_slice(alloc, image.code()) {

@@ -1,2 +1,3 @@
 pub mod Hunted
 pub mod Tabled
+mod AllowedFiles

@@ -1,2 +1,3 @@
 pub mod WeakHunts
 pub mod Refusals
+pub mod WeakExecutions

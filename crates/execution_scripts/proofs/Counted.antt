@@ -1,0 +1,40 @@
+-- As many harts stand behind a step as before it, and a file has as many lines.
+use Rattle.std.proofs.Common.{◌≡◌, ◌⊎◌, ◌+◌, ◌∙◌, ℕ, List, [], ◌∷◌, MatchOption, None, Option, Some, ap, length, refl, suc, zero, ⊎_elim}
+use Rattle.std.proofs.lemmas.List.{length-set}
+use Rattle.pages.specs.Memory.{Memory}
+use Rattle.execution.specs.Executions.{Goes, IsLike, Standing, Stops, Takes}
+use Rattle.execution.specs.Progressing.{HasNoStep}
+use Rattle.execution.specs.declared.step_fault.StepFault.{StepFault}
+use Rattle.hart_step.specs.declared.hart.Hart.{Hart}
+use Rattle.round_schedule.specs.declared.event.Event.{Event}
+use Rattle.elf_loader.specs.Image.{Loaded}
+use Rattle.guest_rounds.specs.Guests.{opening_guest}
+use Rattle.guest_rounds.specs.Opening.{opening_harts}
+use Rattle.execution_file.specs.Recorded.{HartPart}
+use Rattle.execution_scripts.specs.Deeds.{deeds, parts_from}
+use Rattle.execution_scripts.specs.Findings.{start_of}
+
+-- a step changes one hart
+pub as_many : (m : Memory) (i n : ℕ) (p q : Standing) (fault : Option StepFault) →
+    MatchOption fault ((image : Memory) → IsLike image m → Takes image i n p q) (λ f. HasNoStep f i n p × (q ≡ p)) → length q.harts ≡ length p.harts
+as_many m i n p q None h =
+    ⊎_elim (λ (g : Goes m i p q). ap (λ (hs : List Hart). length hs) g.harts ∙ length-set p.harts i g.after)
+    (λ (s : Stops m i p q). ap (λ (hs : List Hart). length hs) s.harts ∙ length-set p.harts i s.after)
+    (h m (record { size = refl; code = refl; words = λ pc. refl })).step
+as_many m i n p q (Some f) h = ap (λ (s : Standing). length s.harts) h.1
+
+parts : (h : ℕ) (gs : List Hart) (t : List Event) → length (parts_from h gs t) ≡ length gs
+parts h [] t = refl
+parts h (g ∷ gs) t = ap (λ k. suc k) (parts (h + 1) gs t)
+
+-- as many harts as are opened
+opened : (entry n i k : ℕ) → length (opening_harts entry n i k) ≡ k
+opened entry n i zero = refl
+opened entry n i (suc k) = ap (λ m. suc m) (opened entry n (suc i) k)
+
+-- a part for each hart of a guest that was opened with k harts
+pub a_part_each : (image : Loaded) (input : List ℕ) (k : ℕ) (p q : Standing) (hs : List Hart) (t : List Event) (ps : List HartPart) →
+    p ≡ start_of (opening_guest image input k) → length q.harts ≡ length p.harts → hs ≡ q.harts → ps ≡ deeds hs t → length ps ≡ k
+a_part_each image input k p q hs t ps opens as_many_more are did =
+    ap (λ (xs : List HartPart). length xs) did ∙ parts 0 hs t ∙ ap (λ (xs : List Hart). length xs) are ∙ as_many_more ∙ ap (λ (s : Standing). length s.harts) opens
+    ∙ opened image.entry k 0 k
