@@ -7,12 +7,13 @@ ghost use Rattle.gdb_resumes.specs.Sessions.{IsReady};
 use crate::failure::Failure;
 use crate::world::HostFiles;
 use command_line::Gdb;
+use execution_commands::put_verdict;
 use execution_session::Opened;
 use gdb_resumes::Debugged;
 use gdb_session::{open, refuse_each, serve};
 use host_io::{ReadSource, WriteSink};
 use machine::{Format, Settings};
-use past_commands::{Past, execution_of, read_past, write_checked};
+use past_commands::{Past, execution_of, read_past};
 use program_world::ExitStatus;
 use recording::Recording;
 use std::io;
@@ -75,7 +76,7 @@ fn serve_execution(rt: &HostRuntime, text: &[u8]) -> Result<ExitStatus, Failure>
         }
         Ok(Opened::Refused(checked)) => {
             let mut errors = WriteSink::new(rt.stderr());
-            let status = write_checked(rt.alloc(), &checked, &mut errors)?;
+            let status = put_verdict(rt.alloc(), &checked, &mut errors)?;
             refuse(rt, 0)?;
             Ok(status)
         }

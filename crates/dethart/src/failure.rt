@@ -3,9 +3,8 @@ ghost use Rattle.dethart.specs.Status.{status_of};
 ghost use Rattle.host_io.specs.declared.error.RunError.TheVariants as refusals;
 ghost use Rattle.dethart.specs.declared.failure.Failure.TheVariants as failures;
 
-use crate::places::Misplaced;
 use execution_commands::ExecutionFailure;
-use fence_table::AcceptError;
+use fence_commands::FencesFailure;
 use host_io::RunError;
 use hunt_commands::{HuntFailure, MergeFailure};
 use hunter::HuntError;
@@ -43,10 +42,8 @@ pub(crate) enum Failure {
     Hunt(HuntError),
     /// The weak hunt was refused.
     WeakHunt(WeakHuntError),
-    /// The list of places that are accepted wasn't read.
-    Accept(AcceptError),
-    /// A fence was to be assumed before the instruction that this word names, and it names none, for this reason.
-    NoPlace(String, Misplaced),
+    /// Missing fences weren't looked for.
+    Fences(FencesFailure),
     /// The tables weren't merged.
     Merge(MergeFailure),
     /// The picture wasn't drawn.
@@ -74,36 +71,12 @@ impl From<RunFailure> for Failure {
     }
 }
 
-impl From<ReadError> for Failure {
-    ghost from_gives = { λ error failure. failure ≡ failures.Unread error };
-
-    fn from(error: ReadError) -> Failure {
-        Failure::Unread(error)
-    }
-}
-
-impl From<HuntError> for Failure {
-    ghost from_gives = { λ error failure. failure ≡ failures.Hunt error };
-
-    fn from(error: HuntError) -> Failure {
-        Failure::Hunt(error)
-    }
-}
-
 impl From<WeakHuntError> for Failure {
     fn from(error: WeakHuntError) -> Failure {
         match error {
             WeakHuntError::Hunt(error) => Failure::Hunt(error),
             error => Failure::WeakHunt(error),
         }
-    }
-}
-
-impl From<NamingFault> for Failure {
-    ghost from_gives = { λ fault failure. failure ≡ failures.Naming fault };
-
-    fn from(fault: NamingFault) -> Failure {
-        Failure::Naming(fault)
     }
 }
 
@@ -141,9 +114,13 @@ impl From<PastFailure> for Failure {
     }
 }
 
-impl From<AcceptError> for Failure {
-    fn from(error: AcceptError) -> Failure {
-        Failure::Accept(error)
+impl From<FencesFailure> for Failure {
+    fn from(failure: FencesFailure) -> Failure {
+        match failure {
+            FencesFailure::Hunt(failure) => Failure::from(failure),
+            FencesFailure::Unwritten(path) => Failure::Unwritten(path),
+            failure => Failure::Fences(failure),
+        }
     }
 }
 
@@ -171,14 +148,6 @@ impl From<DrawFailure> for Failure {
             DrawFailure::Run(failure) => Failure::from(failure),
             failure => Failure::Draw(failure),
         }
-    }
-}
-
-impl From<pages::OutOfMemory> for Failure {
-    ghost from_gives = { λ _ failure. failure ≡ failures.Refused refusals.OutOfMemory };
-
-    fn from(_refused: pages::OutOfMemory) -> Failure {
-        Failure::Refused(RunError::OutOfMemory)
     }
 }
 
@@ -221,8 +190,7 @@ impl Failure {
             Failure::NoRounds => Some(88),
             Failure::Hunt(error) => Some(error.number()),
             Failure::WeakHunt(error) => Some(error.number()),
-            Failure::Accept(error) => Some(error.number()),
-            Failure::NoPlace(_, _) => Some(77),
+            Failure::Fences(failure) => Some(failure.number()),
             Failure::Merge(failure) => Some(failure.number()),
             Failure::Draw(failure) => Some(failure.number()),
             Failure::Naming(fault) => Some(fault.number()),
@@ -259,11 +227,7 @@ impl Failure {
             }
             Failure::Hunt(error) => eprintln!(rt; "{error}"),
             Failure::WeakHunt(error) => eprintln!(rt; "{error}"),
-            Failure::Accept(error) => eprintln!(rt; "{error}"),
-            Failure::NoPlace(word, why) => {
-                let why = why.words();
-                eprintln!(rt; "no fence can be assumed before {word}: {why}")
-            }
+            Failure::Fences(failure) => eprintln!(rt; "{failure}"),
             Failure::Merge(failure) => eprintln!(rt; "{failure}"),
             Failure::Draw(failure) => eprintln!(rt; "{failure}"),
             Failure::Naming(fault) => eprintln!(rt; "{fault}"),

@@ -3,17 +3,12 @@
 #![tactic(auto)]
 
 mod debugging;
-mod executions;
 mod failure;
-mod fences;
-mod keeping;
 mod line;
 mod output;
-mod places;
 mod printing;
 mod progress;
 mod recordings;
-mod repeating;
 mod run;
 mod saving;
 mod unread;

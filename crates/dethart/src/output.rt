@@ -1,6 +1,5 @@
 //! Standard output.
 
-use crate::failure::Failure;
 use host_io::RunError;
 use std::io::{self, BufWriter, ErrorKind, Printer, Write};
 
@@ -37,26 +36,4 @@ pub(crate) fn standard_output(rt: &HostRuntime) -> Result<BufWriter<Pipe<'_>>, R
         Ok(out) => Ok(out),
         Err(_) => Err(RunError::OutOfMemory),
     }
-}
-
-/// Hands all that was written on, and answers what came of the writing.
-pub(crate) fn finish<T: Drop>(
-    mut out: BufWriter<Pipe<'_>>,
-    written: Result<T, Failure>,
-) -> Result<T, Failure> {
-    let finished = match written {
-        Ok(answer) => match out.flush() {
-            Ok(()) => Ok(answer),
-            Err(_) => Err(Failure::Refused(RunError::SinkFailed)),
-        },
-        Err(failure) => Err(failure),
-    };
-    let has_nobody = match &finished {
-        Ok(_) => false,
-        Err(failure) => out.get_ref().reader_is_gone && failure.is_of_output(),
-    };
-    if has_nobody {
-        return Err(Failure::ReaderGone);
-    }
-    finished
 }

@@ -1,21 +1,15 @@
 //! What the commands print to standard output, and the exit status that goes with it.
-ghost use Rattle.std.specs.Prelude.{◌≡◌};
-ghost use Rattle.dethart.specs.Status.{fences_answer};
 
-use crate::executions::write_execution_of;
 use crate::failure::Failure;
-use crate::fences::write_fences_of;
-use crate::output::{finish, standard_output};
 use crate::progress::Progress;
-use crate::repeating::{tell_missing, tell_running};
 use crate::run::progress_of;
 use crate::world::{HostFiles, HostMessages, HostOutput};
 use command_line::{
-    Check, Draw, Execution, Fences, FencesFailOn, Hunt, Merge, Plan, Print, Replay, Run, Shrink,
-    Watch,
+    Check, Draw, Execution, Fences, Hunt, Merge, Plan, Print, Replay, Run, Shrink, Watch,
 };
+use executing_commands::{WeakExecuter, execution_command};
 use execution_commands::check_command;
-use fence_table::FenceTable;
+use fence_commands::{FenceSearcher, fences_command};
 use hunt_commands::{WeakHunter, hunt_command, merge_command, plan_command, shrink_command};
 use past_commands::{replay_command, watch_command};
 use program_world::ExitStatus;
@@ -143,39 +137,25 @@ pub(crate) fn print_hunt<R: Threads + Wait + Sync>(
     told(answer, &out)
 }
 
-/// What a table of missing fences is answered with.
-fn fences_answer(fail_on: FencesFailOn, table: &FenceTable) -> ExitStatus
-    ensures { result ≡ fences_answer fail_on table.now }
-{
-    match fail_on {
-        FencesFailOn::Never => ExitStatus::Done,
-        FencesFailOn::Missing => {
-            if table.missing.len() != 0 {
-                ExitStatus::Lacking
-            } else if table.ordinary.plans == 0
-                && table.unnamed.plans == 0
-                && table.running.plans == 0
-            {
-                ExitStatus::Done
-            } else {
-                ExitStatus::Doubtful
-            }
-        }
-    }
-}
-
 /// Looks for missing fences, and prints at which places they are missing.
 pub(crate) fn print_fences<R: Threads + Wait + Sync>(
     rt: &HostRuntime,
     threads: &R,
     asked: &Fences<'_>,
 ) -> Result<ExitStatus, Failure> {
-    let mut out = standard_output(rt)?;
-    let written = write_fences_of(rt, threads, asked, &mut out);
-    let found = finish(out, written)?;
-    let _untold = tell_missing(rt, asked, &found.table.missing);
-    tell_running(rt, asked, &found.table);
-    Ok(fences_answer(asked.fail_on, &found.table))
+    let mut out = HostOutput::new(rt)?;
+    let mut progress = Progress::new(rt, asked.search.program.progress, asked.plans);
+    let answer = fences_command(
+        threads,
+        rt.alloc(),
+        &mut HostFiles::new(rt),
+        &FenceSearcher,
+        asked,
+        &mut progress,
+        &mut out,
+        &HostMessages::new(rt),
+    );
+    told(answer, &out)
 }
 
 /// Prints a smaller plan that leads to the same ending, and on standard error its budget.
@@ -256,10 +236,18 @@ pub(crate) fn print_execution<R: Threads + Wait + Sync>(
     threads: &R,
     asked: &Execution<'_>,
 ) -> Result<ExitStatus, Failure> {
-    let mut out = standard_output(rt)?;
-    let written = write_execution_of(rt, threads, asked, &mut out);
-    finish(out, written)?;
-    Ok(ExitStatus::Done)
+    let mut out = HostOutput::new(rt)?;
+    let mut progress = progress_of(rt, &asked.run.program);
+    let answer = execution_command(
+        threads,
+        rt.alloc(),
+        &HostFiles::new(rt),
+        &WeakExecuter,
+        asked,
+        &mut progress,
+        &mut out,
+    );
+    told(answer, &out)
 }
 
 /// Checks the execution of a file, and prints whether RVWMO allows it.

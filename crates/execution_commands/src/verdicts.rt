@@ -42,7 +42,7 @@ pub fn put_verdict<S: Sink>(
 }
 
 /// The exit status of what was found.
-fn verdict_status(checked: &Checked) -> ExitStatus
+pub fn verdict_status(checked: &Checked) -> ExitStatus
     ensures { result ≡ verdict_status checked.now.finding }
 {
     if is_allowed(checked) {
@@ -53,7 +53,11 @@ fn verdict_status(checked: &Checked) -> ExitStatus
 }
 
 /// The lines of what was found.
-fn verdict_text(alloc: Global, checked: &Checked) -> Result<Line, OutOfMemory>
+///
+/// # Errors
+///
+/// `OutOfMemory` alone.
+pub fn verdict_text(alloc: Global, checked: &Checked) -> Result<Line, OutOfMemory>
     ensures { IfOk result (IsVerdictText checked.now) }
 {
     if is_allowed(checked) {

@@ -1,4 +1,3 @@
-pub mod Begun
 pub mod Ranges
 pub mod Refused
 pub mod TableFiles

@@ -1,6 +1,6 @@
 -- A text that is printed piece by piece.
-use Rattle.std.proofs.Common.{◌≡◌, ◌∙◌, ◌⊎◌, ◌++◌, ◌+◌, [], ℕ, Err, IfErr, List, Ok, OnErr, OnOk, Result, append-nil, append_assoc, ap, arith, inl, inr, length, length-append, refl, subst, sym, take}
-use Rattle.std.proofs.Math.Seq.{take-append-add, take-length}
+use Rattle.std.proofs.Common.{◌≡◌, ◌∙◌, ◌⊎◌, ◌++◌, ◌+◌, [], ℕ, Err, IfErr, List, Ok, OnOk, Result, append-nil, append_assoc, ap, arith, inl, inr, length, length-append, refl, subst, sym, take}
+use Rattle.std.proofs.Math.Seq.{take-append-add}
 use Rattle.std.proofs.lemmas.List.{take-append-le}
 use Rattle.std.proofs.lemmas.Result.{on_err_weaker, on_ok_weaker}
 use Rattle.host_io.specs.Taken.{BeganText, WritesText}
@@ -81,13 +81,3 @@ halfway_stops old mid new all left line rest h e b =
 pub halfway_last : (old new all left : List ℕ) → Halfway old new all left → left ≡ [] → new ≡ old ++ all
 halfway_last old new all left h e =
     h.took ∙ ap (λ (t : List ℕ). old ++ t) (sym (append-nil h.front) ∙ ap (λ (t : List ℕ). h.front ++ t) (sym e) ∙ h.both)
-
--- ---- the whole
-
-pub on_err : {X E : Type 0} (r : Result X E) (A : Type 0) → A → OnErr r A
-on_err (Ok v) A a = tt
-on_err (Err e) A a = a
-
--- a text of which all was printed has begun too
-pub whole : (old new text : List ℕ) → new ≡ old ++ text → BeganText old new text
-whole old new text e = record { count = length text; within = omega arith; bytes = e ∙ ap (λ (t : List ℕ). old ++ t) (sym (take-length text)) }

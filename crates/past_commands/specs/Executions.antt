@@ -12,7 +12,8 @@ use Rattle.execution_views.specs.declared.sights.HartStep.{HartStep}
 use Rattle.hunt_table.specs.Text.{seen_lines}
 use Rattle.hunt_table.specs.declared.seen_range.SeenRange.{SeenRange}
 use Rattle.past_commands.specs.Answers.{all_bytes, number_line}
-use Rattle.past_commands.specs.Checks.{IsCheckAnswer, is_allowed}
+use Rattle.execution_commands.specs.Verdicts.{is_allowed}
+use Rattle.past_commands.specs.Checks.{IsCheckAnswer}
 use Rattle.past_commands.specs.Questions.{IsSeeing, ranges_seen}
 use Rattle.past_commands.specs.declared.answer.Answer.{Answer}
 use Rattle.program_world.specs.declared.exit_status.ExitStatus.TheVariants.{Done}

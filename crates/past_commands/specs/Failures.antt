@@ -1,6 +1,8 @@
 -- Why a question about the past isn't answered, and its number.
-use Rattle.std.specs.Prelude.{◌≡◌, ℕ, List, Option, Some, None, Err}
-use Rattle.execution_file.specs.Grammar.{reading}
+use Rattle.std.specs.Prelude.{◌≡◌, ℕ, List, Option, Some, None}
+use Rattle.execution_commands.specs.Texts.{IsRefusedIn}
+use Rattle.execution_commands.specs.declared.failure.ExecutionFailure.{ExecutionFailure}
+use Rattle.execution_commands.specs.declared.failure.ExecutionFailure.TheVariants as executions
 use Rattle.execution_file.specs.Refusals.{cause_number}
 use Rattle.host_io.specs.declared.error.RunError.TheVariants as refusals
 use Rattle.named_bytes.specs.Naming.{IsMissing, IsNoObject, first_missing, naming_number}
@@ -18,15 +20,20 @@ failure_number (NoExecution cause line) = cause_number cause
 failure_number NoRounds = 88
 failure_number (Naming fault) = naming_number fault
 
+-- why an execution isn't there is why it isn't asked
+abbrev pub past_failure : ExecutionFailure → PastFailure
+past_failure (executions.Run failure) = Run failure
+past_failure (executions.NoExecution cause line) = NoExecution cause line
+
 -- memory was refused
 abbrev pub out_of_memory : PastFailure
 out_of_memory = Run (runs.Refused refusals.OutOfMemory)
 
--- the text is no execution, for this cause, or memory was refused
+-- the text is no execution, for this cause in this line, or memory was refused
 abbrev pub IsNoExecution : List ℕ → PastFailure → Type 0
 IsNoExecution text (Run failure) = failure ≡ runs.Refused refusals.OutOfMemory
 IsNoExecution text (Unread error) = ⊥
-IsNoExecution text (NoExecution cause line) = (left : ℕ) × (reading text ≡ Err (record { cause = cause; left = left }))
+IsNoExecution text (NoExecution cause line) = IsRefusedIn text cause line
 IsNoExecution text NoRounds = ⊥
 IsNoExecution text (Naming fault) = ⊥
 

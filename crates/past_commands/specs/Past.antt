@@ -1,6 +1,7 @@
 -- Recordings and executions that files hold. `either` says that bytes are all that the file of a path held, if they begin with one of
 -- two marks, and else a beginning of it.
-use Rattle.std.specs.Prelude.{ℕ, List, codes}
+use Rattle.std.specs.Prelude.{◌≡◌, ℕ, List, codes, false, true}
+use Rattle.execution_commands.specs.Texts.{is_execution}
 use Rattle.past_commands.specs.declared.failure.PastFailure.{PastFailure}
 use Rattle.past_commands.specs.declared.failure.PastFailure.TheVariants.{Naming, NoExecution, NoRounds, Run, Unread}
 use Rattle.past_commands.specs.declared.past.Past.{Past}
@@ -20,15 +21,15 @@ execution_mark = codes "executio"
 abbrev pub HasText : (List ℕ → List ℕ → List ℕ → List ℕ → Type 0) → List ℕ → List ℕ → Type 0
 HasText either path text = either path recording_mark execution_mark text
 
--- the file of a path holds this recording, or has this text, which is to be that of an execution
+-- the file of a path holds this recording, or it begins as an execution and has this text
 abbrev pub HoldsPast : (List ℕ → List ℕ → List ℕ → List ℕ → Type 0) → List ℕ → Past → Type 0
 HoldsPast either path (Recording r) = (text : List ℕ) × HasText either path text × IsRecording text r
-HoldsPast either path (Execution text) = HasText either path text.items
+HoldsPast either path (Execution text) = HasText either path text.items × (is_execution text.items ≡ true)
 
--- why neither was read of it: the file can't be read, memory was refused, or it holds no recording
+-- why neither was read of it: the file can't be read, memory was refused, or it doesn't begin as an execution and holds no recording
 abbrev pub EndsReading : (List ℕ → List ℕ → List ℕ → List ℕ → Type 0) → List ℕ → PastFailure → Type 0
 EndsReading either path (Run failure) = IsFileFailure failure
-EndsReading either path (Unread error) = (text : List ℕ) × HasText either path text × Fails error (reading text)
+EndsReading either path (Unread error) = (text : List ℕ) × HasText either path text × (is_execution text ≡ false) × Fails error (reading text)
 EndsReading either path (NoExecution cause line) = ⊥
 EndsReading either path NoRounds = ⊥
 EndsReading either path (Naming fault) = ⊥

@@ -11,7 +11,8 @@ use Rattle.execution_views.specs.Touched.{positions_sought}
 use Rattle.machine.specs.Machine.{Running}
 use Rattle.named_bytes.specs.Naming.{first_missing, objects_in}
 use Rattle.pages.specs.declared.access.Range.{Range}
-use Rattle.past_commands.specs.Checks.{IsCheckAnswer, is_allowed}
+use Rattle.execution_commands.specs.Verdicts.{is_allowed}
+use Rattle.past_commands.specs.Checks.{IsCheckAnswer}
 use Rattle.past_commands.specs.Past.{HoldsPast}
 use Rattle.past_commands.specs.declared.past.Past.{Past}
 use Rattle.past_commands.specs.declared.past.Past.TheVariants.{Execution, Recording}
@@ -19,7 +20,7 @@ use Rattle.past_commands.specs.declared.watched.Hits.{Hits as Found}
 use Rattle.past_commands.specs.declared.watched.Watched.{Watched}
 use Rattle.past_commands.specs.declared.watched.Watched.TheVariants.{Hits, Refused}
 use Rattle.recording.specs.Recorded.{Recorded}
-use Rattle.replayer.specs.Hits.{is_chosen, of_rounds}
+use Rattle.run_hits.specs.Hits.{is_chosen, of_rounds}
 use Rattle.replayer.specs.Refusals.{AreWorkers}
 use Rattle.replayer.specs.Replayed.{IsPlanFor, hits_of, start_of}
 use Rattle.round_planner.specs.Quotas.{Planned}

@@ -9,7 +9,8 @@ ghost use Rattle.program_files.specs.declared.failure.RunFailure.TheVariants as 
 ghost use Rattle.replayer.specs.Refusals.{AreNoWorkers, AreWorkers};
 
 use crate::failure::PastFailure;
-use execution_file::{ExecutionFile, ReadError, Refusal, read_execution};
+use execution_commands::read_execution_text;
+use execution_file::ExecutionFile;
 use host_io::RunError;
 use round_schedule::MOST_WORKERS;
 use std::alloc::Global;
@@ -23,26 +24,7 @@ pub fn execution_of(alloc: Global, text: &[u8]) -> Result<ExecutionFile, PastFai
     ensures says { IfOk result (λ file. IsExecution text.now (as_recorded file)) }
     ensures errors { IfErr result (IsNoExecution text.now) }
 {
-    match read_execution(alloc, text) {
-        Ok(file) => Ok(file),
-        Err(ReadError::OutOfMemory) => Err(PastFailure::from(RunError::OutOfMemory)),
-        Err(ReadError::Refused(refusal)) => Err(PastFailure::NoExecution(
-            refusal.cause,
-            line_of(text, &refusal),
-        )),
-    }
-}
-
-/// The number of the line where a text is refused, from 1 on.
-fn line_of(text: &[u8], refusal: &Refusal) -> usize {
-    let before = text.len().saturating_sub(refusal.left);
-    let mut line = 1usize;
-    for byte in &text[..before] {
-        if *byte == b'\n' {
-            line = line.wrapping_add(1);
-        }
-    }
-    line
+    Ok(read_execution_text(alloc, text)?)
 }
 
 /// Refuses a question about rounds.

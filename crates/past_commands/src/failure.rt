@@ -1,9 +1,10 @@
 ghost use Rattle.std.specs.Prelude.{◌≡◌};
 ghost use Rattle.host_io.specs.declared.error.RunError.TheVariants as refusals;
-ghost use Rattle.past_commands.specs.Failures.{failure_number};
+ghost use Rattle.past_commands.specs.Failures.{failure_number, past_failure};
 ghost use Rattle.past_commands.specs.declared.failure.PastFailure.TheVariants as failures;
 ghost use Rattle.program_files.specs.declared.failure.RunFailure.TheVariants as runs;
 
+use execution_commands::ExecutionFailure;
 use execution_file::Cause;
 use host_io::RunError;
 use named_bytes::NamingFault;
@@ -65,6 +66,17 @@ impl From<RunError> for PastFailure {
 
     fn from(error: RunError) -> PastFailure {
         PastFailure::Run(RunFailure::Refused(error))
+    }
+}
+
+impl From<ExecutionFailure> for PastFailure {
+    ghost from_gives = { λ x failure. failure ≡ past_failure x };
+
+    fn from(failure: ExecutionFailure) -> PastFailure {
+        match failure {
+            ExecutionFailure::Run(failure) => PastFailure::Run(failure),
+            ExecutionFailure::NoExecution(cause, line) => PastFailure::NoExecution(cause, line),
+        }
     }
 }
 

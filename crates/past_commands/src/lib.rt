@@ -19,7 +19,6 @@ mod watched;
 mod watching;
 
 pub use answer::Answer;
-pub use checked::{is_allowed, write_checked};
 pub use executions::{execution_of, refuse_rounds, refuse_workers};
 pub use failure::PastFailure;
 pub use files::PastFiles;

@@ -6,10 +6,11 @@ ghost use Rattle.past_commands.specs.Executions.{IsCheckedAnswer, IsExecutionAns
 ghost use Rattle.past_commands.specs.Refused.{EndsExecutionReplay, EndsSeeing};
 
 use crate::answer::{Answer, number_line, word_line};
-use crate::checked::{check_answer, is_allowed};
+use crate::checked::check_answer;
 use crate::executions::{execution_of, refuse_rounds, refuse_workers};
 use crate::failure::PastFailure;
 use command_line::Replay;
+use execution_commands::is_allowed;
 use execution_file::ExecutionFile;
 use execution_scripts::{Before, Checked, HartStep, Moment, bytes_at, check_file, moment_of};
 use hunt_table::{SeenRange, add_ranges};

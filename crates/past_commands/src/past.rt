@@ -4,6 +4,7 @@ ghost use Rattle.past_commands.specs.Past.{EndsReading, HoldsPast};
 
 use crate::failure::PastFailure;
 use crate::files::PastFiles;
+use execution_commands::is_execution;
 use program_files::unreadable;
 use recording::{Recording, read_recording};
 use std::alloc::Global;
@@ -32,7 +33,7 @@ pub fn read_past<F: PastFiles>(files: &F, alloc: Global, path: &str) -> Result<P
         Ok(text) => text,
         Err(fault) => return Err(PastFailure::Run(unreadable(alloc, path, fault))),
     };
-    if text.starts_with(b"executio") {
+    if is_execution(&text) {
         return Ok(Past::Execution(text));
     }
     match read_recording(alloc, &text) {

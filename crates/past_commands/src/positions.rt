@@ -4,13 +4,14 @@ ghost use Rattle.execution_file.specs.Views.{as_recorded};
 ghost use Rattle.past_commands.specs.Refused.{EndsExecutionWatch, EndsLooking};
 ghost use Rattle.past_commands.specs.Watches.{AreExecutionHits, IsCheckedWatch, IsExecutionWatch, event_there, pc_there};
 
-use crate::checked::{check_answer, is_allowed};
+use crate::checked::check_answer;
 use crate::executions::{execution_of, refuse_some_rounds, refuse_workers};
 use crate::failure::PastFailure;
 use crate::naming::{access_ranges, tell_of_bytes, watched_bytes};
 use crate::watched::{Hits, Watched};
 use byte_sources::no_event;
 use command_line::Watch;
+use execution_commands::is_allowed;
 use execution_file::ExecutionFile;
 use execution_scripts::{Checked, check_file, positions_sought};
 use program_world::Messages;

@@ -1,6 +1,6 @@
 use Rattle.std.proofs.Common.{◌∙◌, ap, inl, inr, subst, ⊎_elim}
 use Rattle.execution_scripts.specs.declared.checking.Checked.{Checked}
-use Rattle.execution_commands.proofs.Begun.{on_err}
+use Rattle.program_files.proofs.Begun.{on_err}
 use Rattle.execution_commands.specs.Verdicts.{IsVerdictText, verdict_status}
 use Rattle.execution_commands.proofs.checking.check_command.Goals as goal
 

@@ -1,5 +1,5 @@
 use Rattle.std.proofs.Common.{◌∙◌, inr}
-use Rattle.execution_commands.proofs.Begun.{on_err, whole}
+use Rattle.program_files.proofs.Begun.{on_err, whole}
 use Rattle.execution_commands.proofs.checking.print_verdict.Goals as goal
 
 pub returns-in_err-hand_on-clause-begun : goal.returns-in_err-hand_on-clause-begun

@@ -1,6 +1,6 @@
 use Rattle.std.proofs.Common.{◌∙◌, ap, inl, inr, ⊎_elim}
 use Rattle.hunt_commands.specs.Status.{hunt_status}
-use Rattle.hunt_commands.proofs.Begun.{on_err, whole}
+use Rattle.program_files.proofs.Begun.{on_err, whole}
 use Rattle.hunt_commands.proofs.hunting.hunt_command.Goals as goal
 
 pub returns-in_err-rows-clause-begun : goal.returns-in_err-rows-clause-begun

@@ -2,7 +2,7 @@ use Rattle.std.proofs.Common.{◌≡◌, Bool, None, Option, Some, inl, inr, ref
 use Rattle.std.proofs.lemmas.Result.{err_from_is_err_and}
 use Rattle.hunt_commands.specs.Asked.{IsHuntRefusal}
 use Rattle.hunt_commands.specs.Settings.{IsNamed}
-use Rattle.hunt_commands.proofs.Begun.{on_err}
+use Rattle.program_files.proofs.Begun.{on_err}
 use Rattle.hunt_commands.proofs.Ranges.{none_bad, ranges_so}
 use Rattle.hunt_commands.proofs.Refused.{fault_so, told_so}
 use Rattle.hunt_commands.proofs.Tables.{table_so}

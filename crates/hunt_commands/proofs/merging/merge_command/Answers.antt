@@ -1,5 +1,5 @@
 use Rattle.std.proofs.Common.{◌∙◌, inl, inr, refl, ⊎_elim}
-use Rattle.hunt_commands.proofs.Begun.{on_err, whole}
+use Rattle.program_files.proofs.Begun.{on_err, whole}
 use Rattle.hunt_commands.proofs.merging.merge_command.Goals as goal
 
 pub returns-in_err-put_merged-clause-begun : goal.returns-in_err-put_merged-clause-begun

@@ -1,5 +1,5 @@
 use Rattle.std.proofs.Common.{inl, inr, ⊎_elim}
-use Rattle.hunt_commands.proofs.Begun.{on_err}
+use Rattle.program_files.proofs.Begun.{on_err}
 use Rattle.hunt_commands.proofs.merging.put_merged.Goals as goal
 
 pub returns-in_err-merge-clause-begun : goal.returns-in_err-merge-clause-begun

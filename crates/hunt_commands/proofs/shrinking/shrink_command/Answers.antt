@@ -2,7 +2,7 @@ use Rattle.std.proofs.Common.{◌∙◌, ◌++◌, ap, inl, inr, refl, subst, �
 use Rattle.host_io.specs.Taken.{BeganText}
 use Rattle.round_planner.specs.PlanText.{plan_text}
 use Rattle.round_planner.specs.Quotas.{Planned}
-use Rattle.hunt_commands.proofs.Begun.{on_err, whole}
+use Rattle.program_files.proofs.Begun.{on_err, whole}
 use Rattle.hunt_commands.proofs.shrinking.shrink_command.Goals as goal
 
 pub returns-in_err-put_plan-clause-begun : goal.returns-in_err-put_plan-clause-begun

@@ -1,6 +1,6 @@
 use Rattle.std.proofs.Common.{◌∙◌, ◌++◌, List, ap, inr, refl, subst, ℕ}
 use Rattle.host_io.specs.Taken.{BeganText}
-use Rattle.past_commands.proofs.Printing.{on_err, whole}
+use Rattle.program_files.proofs.Begun.{on_err, whole}
 use Rattle.past_commands.proofs.replaying.replay_command.Goals as goal
 
 pub returns-in_err-put_all-clause-begun : goal.returns-in_err-put_all-clause-begun

@@ -1,5 +1,5 @@
 use Rattle.std.proofs.Common.{◌∙◌, inr}
-use Rattle.past_commands.proofs.Printing.{on_err, whole}
+use Rattle.program_files.proofs.Begun.{on_err, whole}
 use Rattle.past_commands.proofs.watching.watch_command.Goals as goal
 
 pub returns-in_err-status-clause-begun : goal.returns-in_err-status-clause-begun

@@ -1,6 +1,6 @@
 use Rattle.std.proofs.Common.{List, inl, inr, subst, sym, ⊎_elim, ℕ}
 use Rattle.std.proofs.lemmas.Result.{err_from_is_err_and}
-use Rattle.view_commands.proofs.Begun.{on_err}
+use Rattle.program_files.proofs.Begun.{on_err}
 use Rattle.view_commands.proofs.Drawn.{drawn_begun}
 use Rattle.view_commands.specs.Drawings.{Draws, IsBegun, is_of_execution}
 use Rattle.view_commands.proofs.pictures.draw_command.Goals as goal

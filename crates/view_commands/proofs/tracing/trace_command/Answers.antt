@@ -1,5 +1,5 @@
 use Rattle.std.proofs.Common.{◌∙◌, inl, inr, refl, ⊎_elim}
-use Rattle.view_commands.proofs.Begun.{on_err, whole}
+use Rattle.program_files.proofs.Begun.{on_err, whole}
 use Rattle.view_commands.proofs.tracing.trace_command.Goals as goal
 
 pub returns-clause-traces : goal.returns-clause-traces

@@ -1,0 +1,103 @@
+-- The execution of a guest program that a line asks for, and why it isn't printed. `holds` and `begins` say what files hold, and `makes`
+-- that a file says the execution of a number, of so many steps at most.
+use Rattle.std.specs.Prelude.{◌≡◌, ◌⊎◌, ℕ, List, Bool, true, false, Option, Some, None}
+use Rattle.command_line.specs.declared.settings.Execution.{Execution}
+use Rattle.command_line.specs.declared.settings.Program.{Program}
+use Rattle.command_line.specs.declared.settings.Run.{Run}
+use Rattle.execution_file.specs.Recorded.{Recorded}
+use Rattle.execution_scripts.specs.RunFiles.{IsFileOf}
+use Rattle.host_io.specs.declared.error.RunError.TheVariants as refusals
+use Rattle.host_io.specs.declared.load_error.LoadError.{LoadError as ImageCause}
+use Rattle.hunt_commands.specs.Asked.{IsFileEnd}
+use Rattle.hunt_commands.specs.Settings.{IsOfProgram}
+use Rattle.hunt_commands.specs.declared.failure.HuntFailure.{HuntFailure}
+use Rattle.hunt_commands.specs.declared.failure.HuntFailure.TheVariants as failures
+use Rattle.hunter.specs.Hunts.{IsImageCause, shrink_fault}
+use Rattle.hunter.specs.declared.error.HuntError.{HuntError}
+use Rattle.hunter.specs.declared.error.HuntError.TheVariants as hunting
+use Rattle.hunter.specs.declared.settings.HuntSettings.{HuntSettings}
+use Rattle.machine.specs.Runs.{after_run}
+use Rattle.program_files.specs.Asked.{IsGiven, IsProgramOf, RefusedRun, SetRun}
+use Rattle.weak_hunter.specs.WeakExecutions.{IsAllowedExecution, IsUnmade}
+use Rattle.weak_hunter.specs.declared.error.WeakHuntError.{WeakHuntError}
+use Rattle.weak_hunter.specs.declared.error.WeakHuntError.TheVariants.{Hunt}
+
+-- the number of the execution that is asked for, by --weak and --plan-number; none is a run
+abbrev pub number_of : Bool → Option ℕ → Option ℕ
+number_of true number = number
+number_of false number = None
+
+-- ---- what the file says
+
+-- the file says a run of this program by this plan
+pub record IsRunOf (program : Program) (text : List ℕ) (budget : ℕ) (image input : List ℕ) (file : Recorded) : Type 0 where
+  pub made : SetRun program text budget
+  pub says : IsFileOf made.settings image input (after_run made.settings image input made.plan) file
+
+-- the file says the run of a line
+pub record IsRun (holds : List ℕ → List ℕ → Type 0) (begins : List ℕ → ℕ → List ℕ → Type 0) (run : Run) (file : Recorded) : Type 0 where
+  pub image : List ℕ
+  pub input : List ℕ
+  pub text : List ℕ
+  pub budget : ℕ
+  pub given : IsGiven holds begins run image input text budget
+  pub says : IsRunOf run.program text budget image input file
+
+-- the file says the execution of a number of the program, of so many steps at most, which RVWMO allows
+pub record IsNumbered (holds : List ℕ → List ℕ → Type 0) (begins : List ℕ → ℕ → List ℕ → Type 0)
+    (makes : HuntSettings → List ℕ → List ℕ → ℕ → ℕ → Recorded → Type 0) (run : Run) (steps number : ℕ) (file : Recorded) : Type 0 where
+  pub image : List ℕ
+  pub input : List ℕ
+  pub given : IsProgramOf holds begins run.program image input
+  pub settings : HuntSettings
+  pub program : IsOfProgram run.program run.plan.seed settings
+  pub allowed : IsAllowedExecution settings image input file
+  pub made : makes settings image input steps number file
+
+-- the one or the other
+abbrev pub IsAskedBy : Option ℕ → (List ℕ → List ℕ → Type 0) → (List ℕ → ℕ → List ℕ → Type 0) →
+    (HuntSettings → List ℕ → List ℕ → ℕ → ℕ → Recorded → Type 0) → Execution → Recorded → Type 0
+IsAskedBy None holds begins makes asked file = IsRun holds begins asked.run file
+IsAskedBy (Some number) holds begins makes asked file = IsNumbered holds begins makes asked.run asked.steps number file
+
+abbrev pub IsAskedFile : (List ℕ → List ℕ → Type 0) → (List ℕ → ℕ → List ℕ → Type 0) →
+    (HuntSettings → List ℕ → List ℕ → ℕ → ℕ → Recorded → Type 0) → Execution → Recorded → Type 0
+IsAskedFile holds begins makes asked file = IsAskedBy (number_of asked.weak asked.run.plan.number) holds begins makes asked file
+
+-- the execution that a line asks for
+pub record AskedExecution (holds : List ℕ → List ℕ → Type 0) (begins : List ℕ → ℕ → List ℕ → Type 0)
+    (makes : HuntSettings → List ℕ → List ℕ → ℕ → ℕ → Recorded → Type 0) (asked : Execution) : Type 0 where
+  pub file : Recorded
+  pub is_asked : IsAskedFile holds begins makes asked file
+
+-- ---- refusals
+
+-- the execution of a number is refused: for settings that are out of range, then for the image, for want of memory, or since the checker
+-- doesn't allow it
+pub record RefusedNumber (holds : List ℕ → List ℕ → Type 0) (begins : List ℕ → ℕ → List ℕ → Type 0) (run : Run) (number : ℕ) (f : HuntFailure) : Type 0 where
+  pub image : List ℕ
+  pub input : List ℕ
+  pub given : IsProgramOf holds begins run.program image input
+  pub settings : HuntSettings
+  pub program : IsOfProgram run.program run.plan.seed settings
+  pub error : WeakHuntError
+  pub is_error : f ≡ failures.Refused error
+  pub of_settings : (e : HuntError) → shrink_fault settings ≡ Some e → error ≡ Hunt e
+  pub of_image : (cause : ImageCause) → shrink_fault settings ≡ None → IsImageCause settings image cause →
+      (error ≡ Hunt (hunting.Run (refusals.Image cause))) ⊎ (error ≡ Hunt (hunting.Run refusals.OutOfMemory))
+  pub reason : shrink_fault settings ≡ None → IsUnmade settings image number error
+
+-- the run of a line is refused
+abbrev pub IsRefusedRun : (List ℕ → List ℕ → Type 0) → (List ℕ → ℕ → List ℕ → Type 0) → Run → HuntFailure → Type 0
+IsRefusedRun holds begins run (failures.Run failure) = RefusedRun holds begins run failure
+IsRefusedRun holds begins run (failures.Refused error) = ⊥
+IsRefusedRun holds begins run (failures.Naming fault) = ⊥
+
+abbrev pub IsRefused : Option ℕ → (List ℕ → List ℕ → Type 0) → (List ℕ → ℕ → List ℕ → Type 0) → Run → HuntFailure → Type 0
+IsRefused None holds begins run f = IsRefusedRun holds begins run f
+IsRefused (Some number) holds begins run f = RefusedNumber holds begins run number f
+
+-- why the command ends without its execution: a file can't be read, memory is refused, the output can't be written, or what is asked for is
+-- refused
+abbrev pub EndsExecution : (List ℕ → List ℕ → Type 0) → (List ℕ → ℕ → List ℕ → Type 0) → Execution → HuntFailure → Type 0
+EndsExecution holds begins asked f = IsFileEnd f ⊎ IsRefused (number_of asked.weak asked.run.plan.number) holds begins asked.run f

@@ -1,0 +1,4 @@
+mod Numerals
+pub mod NamedWords
+pub mod Kept
+pub mod Ended
