@@ -8,6 +8,7 @@ ghost use Rattle.gdb_answers.specs.Rounds.{is_parallel, round_events};
 
 use host_io::RunError;
 use machine::UntracedMachine;
+use noted_runs::run_noting;
 use round_schedule::{Event, Phase};
 use std::alloc::Global;
 use std::sync::Wait;
@@ -53,7 +54,7 @@ pub(crate) fn next_events<R: Threads + Wait + Sync>(
     ensures refused { IfErr result (λ e. e ≡ refusals.OutOfMemory) }
 {
     let mut trace = Trace::new(alloc, Vec::new(alloc));
-    machine.run_noting(rt, 1, workers, &mut trace)?;
+    run_noting(rt, machine, 1, workers, &mut trace)?;
     let events = trace.to_vec(alloc)?;
     Ok(events)
 }
