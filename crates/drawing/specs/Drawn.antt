@@ -11,7 +11,7 @@ use Rattle.picture.specs.declared.view.View.{View}
 use Rattle.trace_events.specs.TraceEvents.{trace_events_text}
 use Rattle.machine.specs.Machine.{Running, after_rounds, opening}
 use Rattle.machine.specs.Runs.{after_run}
-use Rattle.run_settings.specs.Settings.{IsPlan, image_for}
+use Rattle.run_settings.specs.Settings.{image_for}
 use Rattle.machine.specs.Untraced.{IsUntraced, Untraced}
 use Rattle.run_settings.specs.declared.settings.Format.{Format}
 use Rattle.run_settings.specs.declared.settings.Format.TheVariants.{Elf, Flat}
@@ -63,12 +63,6 @@ pub record IsBeforeDrawn (s : Settings) (v : View) (m x : Running) (u : Untraced
 abbrev pub picture_after : Settings → List ℕ → List ℕ → Planned → View → List ℕ
 picture_after s file input plan v = picture_of s file (opening (image_for s file) input plan) v
 
--- the text is the picture of the run that the settings name
-pub record IsPictureOfRun (s : Settings) (file input : List ℕ) (v : View) (text : List ℕ) : Type 0 where
-  pub plan : Planned
-  pub planned : IsPlan s plan
-  pub is_text : text ≡ picture_after s file input plan v
-
 -- ---- the trace of a run on so many harts, as JSON in the format of Chrome's trace events
 
 abbrev pub trace_events_of : Settings → Running → List ℕ
@@ -76,9 +70,3 @@ trace_events_of s r = trace_events_text s.harts r.state.trace
 
 abbrev pub trace_events_after : Settings → List ℕ → List ℕ → Planned → List ℕ
 trace_events_after s file input plan = trace_events_of s (after_run s file input plan)
-
--- the text is that of the trace of the run that the settings name
-pub record IsTraceOfRun (s : Settings) (file input text : List ℕ) : Type 0 where
-  pub plan : Planned
-  pub planned : IsPlan s plan
-  pub is_text : text ≡ trace_events_after s file input plan

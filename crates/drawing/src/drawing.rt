@@ -1,9 +1,10 @@
-ghost use Rattle.std.specs.Prelude.{◌≡◌, ◌≤◌, Err, IfOk};
+ghost use Rattle.std.specs.Prelude.{◌≡◌, ◌⊎◌, ◌<◌, ◌≤◌, ◌++◌, None, Err, IfErr, IfOk, OnOk, OnErr};
+ghost use Rattle.round_planner.specs.Quotas.{Planned};
+ghost use Rattle.host_io.specs.Taken.{BeganText, WritesText};
 ghost use Rattle.host_io.specs.declared.error.RunError.TheVariants as refusals;
 ghost use Rattle.machine.specs.Machine.{Running};
-ghost use Rattle.run_settings.specs.Settings.{IsReason, RefusedInOrder, settings_fault};
-ghost use Rattle.drawing.specs.Drawn.{IsBeforeDrawn, IsPictureOfRun, before_drawn, last_drawn, picture_of};
-ghost use Rattle.text_writes.specs.Writes.{IsFaultOr, WritesAnswer};
+ghost use Rattle.run_settings.specs.Settings.{IsPlan, IsReason, RefusedInOrder, settings_fault};
+ghost use Rattle.drawing.specs.Drawn.{IsBeforeDrawn, before_drawn, last_drawn, picture_after, picture_of};
 
 use crate::sites::sites_of;
 use hart_step::Hart;
@@ -31,15 +32,23 @@ pub fn draw_run<S: Sink, O: Observer, R: Threads + Wait + Sync>(
     observer: &mut O,
     out: &mut S,
 ) -> Result<(), RunError>
-    // The sink takes the picture of the run that the definitions name.
-    ensures writes { WritesAnswer S.took S.failures
-        (λ _. IsPictureOfRun settings.now files.now.image.now files.now.input.now view.now)
-        (IsFaultOr (settings_fault settings.now) (IsReason settings.now files.now.image.now))
-        refusals.OutOfMemory refusals.SinkFailed out.old out.new result }
-    // Where memory is refused, it took nothing.
-    ensures memory { result ≡ Err refusals.OutOfMemory → S.took out.new ≡ S.took out.old }
+    // The sink took the picture of the run that the definitions name.
+    ensures draws { OnOk result ((plan : Planned) × IsPlan settings.now plan ×
+        (S.took out.new ≡ S.took out.old ++
+        picture_after settings.now files.now.image.now files.now.input.now plan view.now)) }
+    // Else it took nothing, or a beginning of that picture.
+    ensures begun { OnErr result ((S.took out.new ≡ S.took out.old) ⊎
+        ((plan : Planned) × IsPlan settings.now plan × BeganText (S.took out.old) (S.took out.new)
+        (picture_after settings.now files.now.image.now files.now.input.now plan view.now))) }
+    // Where anything else than the sink refuses, it took nothing.
+    ensures untouched { IfErr result (λ e. (e ≡ refusals.SinkFailed) ⊎
+        (S.took out.new ≡ S.took out.old)) }
     // Numbers out of range are refused first, then an image, and then a plan.
     ensures in_order { RefusedInOrder settings.now files.now.image.now result }
+    // What is refused then is for a reason that stands.
+    ensures errors { settings_fault settings.now ≡ None →
+        IfErr result (λ e. IsReason settings.now files.now.image.now e ⊎
+        ((e ≡ refusals.SinkFailed) × (S.failures out.old < S.failures out.new))) }
 {
     let mut machine = prepare(alloc, files.image, files.input, settings)?;
     let drawn = draw_rounds(
@@ -71,9 +80,8 @@ fn draw_rounds<S: Sink, O: Observer, R: Threads + Wait + Sync>(
     requires few_workers { settings.now.workers ≤ 16 }
     requires few_harts { machine.old.plan.harts ≤ 64 }
     requires opened { machine.old.state.rounds ≡ 0 }
-    ensures writes { WritesAnswer S.took S.failures
-        (λ _ text. text ≡ picture_of settings.now image.now machine.old view.now)
-        (λ e. e ≡ refusals.OutOfMemory) refusals.OutOfMemory refusals.SinkFailed out.old out.new result }
+    ensures writes { WritesText (picture_of settings.now image.now machine.old view.now)
+        (S.took out.old) (S.failures out.old) result (S.took out.new) (S.failures out.new) }
     ensures memory { result ≡ Err refusals.OutOfMemory → S.took out.new ≡ S.took out.old }
 {
     let before = before_drawn(settings.rounds, view);
@@ -126,9 +134,8 @@ fn draw_from<S: Sink, O: Observer, R: Threads + Wait + Sync>(
     requires few_harts { machine.old.plan.harts ≤ 64 }
     requires run { (m : Running) × IsBeforeDrawn settings.now view.now m machine.old start.old }
     ensures writes { (m : Running) → IsBeforeDrawn settings.now view.now m machine.old start.old →
-        WritesAnswer S.took S.failures
-        (λ _ text. text ≡ picture_of settings.now image.now m view.now)
-        (λ e. e ≡ refusals.OutOfMemory) refusals.OutOfMemory refusals.SinkFailed out.old out.new result }
+        WritesText (picture_of settings.now image.now m view.now) (S.took out.old)
+        (S.failures out.old) result (S.took out.new) (S.failures out.new) }
     ensures memory { result ≡ Err refusals.OutOfMemory → S.took out.new ≡ S.took out.old }
 {
     let last = last_drawn(settings.rounds, view);

@@ -15,7 +15,6 @@ ghost use Rattle.event_pcs.specs.Pcs.{done_by, pc_in_next};
 use hart_step::Hart;
 use host_io::RunError;
 use machine::UntracedMachine;
-use past_harts::{hart_after, harts_in_turns};
 use round_schedule::Event;
 use std::sync::Wait;
 use std::thread::Threads;
@@ -43,7 +42,7 @@ pub(crate) fn add_pcs<R: Threads + Wait + Sync>(
         return add_found(found, pcs);
     }
     let copy = machine.share()?;
-    let turns = harts_in_turns(rt, copy, workers)?;
+    let turns = copy.harts_in_turns(rt, workers)?;
     add_each(rt, machine, &turns, events, found, workers, pcs)
 }
 
@@ -193,7 +192,7 @@ fn pc_asked<R: Threads + Wait + Sync>(
     let done = done_by(machine, hart);
     let count = event.access.place().saturating_sub(done);
     let copy = machine.share()?;
-    let found = hart_after(rt, copy, hart, count, workers)?;
+    let found = copy.hart_after(rt, hart, count, workers)?;
     Ok(pc_of(found))
 }
 

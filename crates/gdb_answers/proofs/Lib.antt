@@ -1,6 +1,4 @@
 pub mod Texts
 pub mod Rounds
 pub mod Behind
-pub mod OverEachOther
-pub mod Noted
 pub mod Ending

@@ -8,22 +8,21 @@ use Rattle.round_planner.specs.Quotas.{Planned, quota_of}
 use Rattle.round_steps.specs.declared.moment.Moment.{Moment}
 use Rattle.round_steps.specs.declared.point.Point.{Point}
 use Rattle.gdb_replies.specs.CommandTexts.{hart_line, plan_head, quota_text, where_line}
-use Rattle.gdb_replies.specs.declared.note.ThreadNote.{ThreadNote}
 use Rattle.gdb_sights.specs.Told.{note_of}
-use Rattle.gdb_answers.specs.Answers.{note_at, or_missing}
+use Rattle.gdb_answers.specs.Answers.{or_missing, seen}
 
 -- the hart of the moment, and its pc
 abbrev pub where_answer : Moment → Option (Sight Hart) → List ℕ
 where_answer at s = or_missing s (λ (x : Sight Hart). encode_lower (where_line (note_of at.place.hart x.hart at) at.place.count x.hart.pc))
 
 -- a line for each of the first n harts
-abbrev pub hart_entry : Option ThreadNote → List ℕ
-hart_entry None = []
-hart_entry (Some n) = hart_line n
+abbrev pub hart_entry : ℕ → Moment → Option (Sight Hart) → List ℕ
+hart_entry i at None = []
+hart_entry i at (Some s) = hart_line (note_of i s.hart at)
 
 unfoldable pub hart_lines : Running → Point → ℕ → List ℕ
 hart_lines m at zero = []
-hart_lines m at (suc i) = hart_lines m at i ++ hart_entry (note_at m at i)
+hart_lines m at (suc i) = hart_lines m at i ++ hart_entry i at.moment (seen m at i)
 
 abbrev pub harts_answer : Running → Point → ℕ → List ℕ
 harts_answer m at harts = encode_lower (hart_lines m at harts)

@@ -1,7 +1,6 @@
 pub mod Checksums
 pub mod Files
 pub mod Rounds
-pub mod Stores
 pub mod Answers
 pub mod Commands
 pub mod Buffers

@@ -8,11 +8,10 @@ ghost use Rattle.machine.specs.Untraced.{IsUntraced};
 ghost use Rattle.gdb_packets.specs.Writing.{packet_text};
 ghost use Rattle.gdb_replies.specs.CommandTexts.{plan_head, where_line};
 ghost use Rattle.hex.specs.Hex.{encode_lower};
-ghost use Rattle.gdb_answers.specs.Answers.{note_at, seen};
+ghost use Rattle.gdb_answers.specs.Answers.{seen};
 ghost use Rattle.gdb_answers.specs.Commands.{hart_entry, hart_lines, harts_answer, plan_answer, plan_text, quotas_text, where_answer};
 
 use crate::look::Look;
-use crate::noting::note_at;
 use gdb_replies::{
     Reply, ThreadNote, add_hart_line, add_plan_head, add_quota, add_where_line, write_reply,
 };
@@ -127,7 +126,7 @@ fn hart_lines<R: Threads + Wait + Sync>(
 {
     let mut text = Vec::new(alloc);
     for hart in 0..look.hart {
-        add_line(rt, alloc, timeline, Look { hart, ..look }, &mut text)?;
+        add_line(rt, timeline, Look { hart, ..look }, &mut text)?;
     }
     Ok(text)
 }
@@ -135,7 +134,6 @@ fn hart_lines<R: Threads + Wait + Sync>(
 /// Adds a hart's line, where there is the hart.
 fn add_line<R: Threads + Wait + Sync>(
     rt: &R,
-    alloc: Global,
     timeline: &mut Timeline,
     look: Look,
     text: &mut Vec<u8>,
@@ -145,10 +143,11 @@ fn add_line<R: Threads + Wait + Sync>(
     requires rounds { look.point.moment.rounds + 1 < 2 ^ 32 }
     ensures stays { timeline.new ≡ timeline.old }
     ensures entry { (m : Running) → IsUntraced m timeline.old.start → OnOk result (text.new.items ≡
-        text.old.items ++ hart_entry (note_at m look.point look.hart)) }
+        text.old.items ++ hart_entry look.hart look.point.moment (seen m look.point look.hart)) }
     ensures refused { IfErr result (λ e. e ≡ refusals.OutOfMemory) }
 {
-    if let Some(note) = note_at(rt, alloc, timeline, look)? {
+    if let Some(sight) = timeline.shown_at(rt, &look.point, look.hart, look.workers)? {
+        let note = note_of(look.hart, &sight.hart(), look.point.moment);
         add_hart_line(text, &note)?;
     }
     Ok(())

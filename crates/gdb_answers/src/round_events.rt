@@ -8,7 +8,6 @@ ghost use Rattle.gdb_answers.specs.Rounds.{is_parallel, round_events};
 
 use host_io::RunError;
 use machine::UntracedMachine;
-use noted_runs::run_noting;
 use round_schedule::{Event, Phase};
 use std::alloc::Global;
 use std::sync::Wait;
@@ -54,7 +53,7 @@ pub(crate) fn next_events<R: Threads + Wait + Sync>(
     ensures refused { IfErr result (λ e. e ≡ refusals.OutOfMemory) }
 {
     let mut trace = Trace::new(alloc, Vec::new(alloc));
-    run_noting(rt, machine, 1, workers, &mut trace)?;
+    machine.run_noting(rt, 1, workers, &mut trace)?;
     let events = trace.to_vec(alloc)?;
     Ok(events)
 }

@@ -4,7 +4,6 @@
 mod answering;
 mod breakpoints;
 mod goto;
-mod hits;
 mod opening;
 mod reading;
 mod refusing;

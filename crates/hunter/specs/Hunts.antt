@@ -1,6 +1,5 @@
 -- What a hunt is asked for, and what its runs end in.
 use Rattle.std.specs.Prelude.{◌≡◌, ◌⊎◌, ℕ, ◌+◌, ◌*◌, ◌-◌, ◌^◌, ◌<◌, ◌≤◌, ◌==◌, ◌&&◌, ◌||◌, length, nat_lt, if◌then◌else◌, Bool, true, false, List, [], ◌∷◌, ◌++◌, map, take, drop, Option, Some, None}
-use Rattle.std.specs.Global.{Vec}
 use Rattle.std.specs.List.{list_all, list_any}
 use Rattle.elf_loader.specs.Causes.{IsLeast as IsLeastOfImage}
 use Rattle.elf_loader.specs.Image.{Loaded}
@@ -19,7 +18,6 @@ use Rattle.plan_hunt.specs.declared.hart_ending.HartEnding.{HartEnding}
 use Rattle.plan_hunt.specs.declared.hart_ending.HartEnding.TheVariants.{Loops, Runs, Stopped}
 use Rattle.plan_hunt.specs.Tables.{IsTable}
 use Rattle.plan_hunt.specs.declared.row.Row.{Row}
-use Rattle.hunt_table.specs.Text.{table_text}
 use Rattle.hunt_table.specs.declared.seen_range.SeenRange.{SeenRange}
 use Rattle.hunter.specs.declared.error.HuntError.{HuntError}
 use Rattle.hunter.specs.declared.error.HuntError.TheVariants.{Run, PlansOutOfRange, SeenOutside}
@@ -118,11 +116,6 @@ ends_after s file input n = ends_under s file input (family_plan (family_of s) n
 -- the rows are the table of the hunt
 abbrev pub IsHunted : HuntSettings → List ℕ → List ℕ → List Row → Type 0
 IsHunted s file input rows = IsTable (ends_after s file input) s.header.first s.header.count rows
-
--- the rows are that table, and this is its text
-pub record IsHuntText (s : HuntSettings) (file input : List ℕ) (rows : Vec Row) (text : List ℕ) : Type 0 where
-  pub table : IsHunted s file input rows.items
-  pub is_text : text ≡ table_text s.header rows.items
 
 abbrev pub has_exited : HartEnding → Bool
 has_exited Runs = false

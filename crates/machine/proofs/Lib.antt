@@ -2,6 +2,7 @@ pub mod Opened
 pub mod Repeated
 pub mod SizeKept
 pub mod UntracedRounds
+pub mod NextRounds
 pub mod TracedMachine
 pub mod TracedRun
 pub mod KeptStarts

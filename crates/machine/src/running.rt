@@ -17,7 +17,10 @@ use std::sync::Wait;
 use std::thread::Threads;
 
 /// The most workers of a run.
-pub const MOST_WORKERS: u32 = 16;
+pub(crate) const MOST_WORKERS: u32 = 16;
+
+/// How many instructions are worth a worker: starting its thread takes about as long as they do.
+const WORTH_A_WORKER: u64 = 16_384;
 
 /// What a round was.
 #[derive(Clone, Copy, Debug, PartialEq, Eq)]
@@ -142,6 +145,22 @@ impl Machine {
         self.bare.check_to_go_on();
         self.bare
             .run_keeping(rt, rounds, workers, &mut self.trace, observer)
+    }
+}
+
+/// How many workers so much work of so many running harts is worth, of these at most. A hart's round is work for one.
+pub(crate) fn workers_for(work: u64, running: u32, workers: u32) -> u32
+    requires { 1 ≤ workers }
+    ensures some { 1 ≤ result }
+    ensures most { result ≤ workers }
+{
+    let worth = (work / WORTH_A_WORKER).min(u64::from(running));
+    if worth <= 1 {
+        1
+    } else if worth < u64::from(workers) {
+        worth as u32
+    } else {
+        workers
     }
 }
 

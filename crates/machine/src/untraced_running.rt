@@ -12,14 +12,13 @@ ghost use Rattle.machine.specs.Kept.{AreOfNext};
 ghost use Rattle.machine.specs.Untraced.{AreAdded, AreLast, HasRun, IsAfter, MayGoOn, next_events, untraced_round};
 
 use crate::observing::{Observer, Observing, Unobserved};
-use crate::running::{MOST_WORKERS, RoundNote, stopped_count};
+use crate::running::{MOST_WORKERS, RoundNote, stopped_count, workers_for};
 use crate::untraced::UntracedMachine;
 use guest_rounds::{Crew, EventKeeper, NoTrace};
 use hart_rounds::HartEnd;
 use host_io::RunError;
 use pages::OutOfMemory;
 use parallel_phase::Gate;
-use round_work::instructions_done;
 use std::sync::Wait;
 use std::thread::Threads;
 use trace::Trace;
@@ -86,12 +85,44 @@ impl UntracedMachine {
         self.run_keeping(rt, rounds, workers, &mut NoTrace, observer)
     }
 
-    /// Does what `run_observed` does, and hands the events of these rounds to a keeper, which may keep those of each of the next ones.
+    /// Does what `run` does, and adds the events of these rounds to a trace that holds the last events of the run. It may be empty.
     ///
     /// # Errors
     ///
-    /// Those of `run`. The keeper has the events of the rounds that are done.
-    pub fn run_keeping<E: EventKeeper, O: Observer, R: Threads + Wait + Sync>(
+    /// Those of `run`. The trace has the events of the rounds that are done.
+    pub fn run_noting<R: Threads + Wait + Sync>(
+        &mut self,
+        rt: &R,
+        rounds: u32,
+        workers: u32,
+        trace: &mut Trace,
+    ) -> Result<(), RunError>
+        requires { AreLast self.old trace.old.events }
+        ensures last { AreLast self.new trace.new.events }
+        ensures ok { OnOk result (IsAfter rounds self.old self.new) }
+        ensures events { OnOk result (AreAdded rounds self.old trace.old.events trace.new.events) }
+        ensures opening { trace.new.opening ≡ trace.old.opening }
+        ensures enough { OnOk result (self.old.rounds + rounds < 2 ^ 32) }
+        ensures counted { OnOk result (self.new.rounds ≡ self.old.rounds + rounds) }
+        ensures fewer { result ≡ Err refusals.OutOfMemory → (k : ℕ) × (k < rounds) ×
+            IsAfter k self.old self.new × AreAdded k self.old trace.old.events trace.new.events }
+        ensures exhausted { result ≡ Err refusals.RoundsExhausted → (2 ^ 32 ≤
+            self.old.rounds + rounds) × IsAfter (2 ^ 32 - 1 - self.old.rounds) self.old self.new ×
+            AreAdded (2 ^ 32 - 1 - self.old.rounds) self.old trace.old.events trace.new.events }
+        ensures workers { (workers < 1) ⊎ (16 < workers) →
+            (result ≡ Err refusals.WorkersOutOfRange) × (self.new ≡ self.old) ×
+            (trace.new.events ≡ trace.old.events) }
+        ensures errors { 1 ≤ workers → workers ≤ 16 →
+            IfErr result (λ e. (e ≡ refusals.OutOfMemory) ⊎ (e ≡ refusals.RoundsExhausted)) }
+        ensures refused { 1 ≤ workers → workers ≤ 16 → self.old.rounds + rounds < 2 ^ 32 →
+            IfErr result (λ e. e ≡ refusals.OutOfMemory) }
+    {
+        self.check_to_go_on();
+        self.run_keeping(rt, rounds, workers, trace, &mut Unobserved)
+    }
+
+    /// Does so many rounds, and has their events kept.
+    pub(crate) fn run_keeping<E: EventKeeper, O: Observer, R: Threads + Wait + Sync>(
         &mut self,
         rt: &R,
         rounds: u32,
@@ -153,16 +184,14 @@ impl UntracedMachine {
         ensures some { 1 ≤ result }
         ensures most { result ≤ workers }
     {
-        self.work
-            .workers_for(&self.plan, self.rounds, self.running_harts(), workers)
+        workers_for(self.expected_work(), self.running_harts(), workers)
     }
 
     /// Notes how many instructions the last round did, where so many were done before it.
     fn note_work(&mut self, before: u64)
         ensures { self.new ≡ self.old }
     {
-        self.work
-            .note(before, instructions_done(self.guest.harts()));
+        self.work = Some(self.instructions_done().wrapping_sub(before));
     }
 
     /// Does so many rounds of a machine whose harts have all stopped.
@@ -236,8 +265,13 @@ impl UntracedMachine {
         })
     }
 
+    /// How many instructions the harts have done together.
     fn instructions_done(&self) -> u64 {
-        instructions_done(self.guest.harts())
+        let mut done: u64 = 0;
+        for hart in self.guest.harts() {
+            done = done.wrapping_add(hart.done);
+        }
+        done
     }
 
     /// How many harts have not stopped.
@@ -248,5 +282,25 @@ impl UntracedMachine {
         let _harts = self.plan.harts();
         let harts = self.guest.harts();
         harts.len() as u32 - stopped_count(harts)
+    }
+
+    /// About how many instructions the harts do together in the next round: as many as in the last one, or as the plan allows.
+    fn expected_work(&self) -> u64 {
+        match self.work {
+            Some(work) => work,
+            None => self.most_work(),
+        }
+    }
+
+    /// How many instructions the harts may do together in the next round, outside their serial turns.
+    fn most_work(&self) -> u64 {
+        if self.rounds == u32::MAX {
+            return 0;
+        }
+        let mut work: u64 = 0;
+        for hart in 0..self.plan.harts() {
+            work = work.wrapping_add(u64::from(self.plan.quota(self.rounds + 1, hart)));
+        }
+        work
     }
 }

@@ -66,6 +66,38 @@ impl UntracedMachine {
         self.walk_keeping(rt, rounds, workers, &mut NoTrace, visitor)
     }
 
+    /// Does what `walk` does, and adds the events of these rounds to a trace that holds the last events of the run. It may be
+    /// empty.
+    ///
+    /// # Errors
+    ///
+    /// Those of `walk`. The trace has the events of the rounds that are done.
+    pub fn walk_noting<V: Visitor, R: Threads + Wait + Sync>(
+        &mut self,
+        rt: &R,
+        rounds: u32,
+        workers: u32,
+        trace: &mut Trace,
+        visitor: &mut V,
+    ) -> Result<u32, OutOfMemory>
+        requires workers { (1 ≤ workers) × (workers ≤ 16) }
+        requires rounds { self.old.rounds + rounds < 2 ^ 32 }
+        requires last { AreLast self.old trace.old.events }
+        requires known { V.knows visitor.old visitor.old self.old rounds 0 }
+        ensures done { IfOk result (λ k. HasDone k self.old self.new) }
+        ensures most { IfOk result (λ k. k ≤ rounds) }
+        ensures events { IfOk result (λ k.
+            AreAdded k self.old trace.old.events trace.new.events) }
+        ensures known { IfOk result (λ k. V.knows visitor.old visitor.new self.old rounds k) }
+        ensures ended { IfOk result (λ k. (k ≡ rounds) ⊎ V.has_enough visitor.new self.new) }
+        ensures cut_off { OnErr result ((k : ℕ) × IsCutOff V.may_fail rounds k ×
+            HasDone k self.old self.new × AreAdded k self.old trace.old.events trace.new.events) }
+        ensures opening { trace.new.opening ≡ trace.old.opening }
+    {
+        self.check_to_go_on();
+        self.walk_keeping(rt, rounds, workers, trace, visitor)
+    }
+
     /// Does what `walk` does, and hands the events of these rounds to a keeper, which may keep those of each of them.
     ///
     /// # Errors

@@ -7,7 +7,6 @@ use crate::recordings::recorded;
 use crate::stage::{Stage, events};
 use host_io::RunError;
 use pages::Range;
-use past_harts::hart_after;
 use replayer::{Replay, count_at, state_at, state_before, watch};
 use std::alloc::Global;
 use std::sync::Wait;
@@ -78,9 +77,9 @@ pub(crate) fn try_hart_after<R: Threads + Wait + Sync>(
 ) -> Result<Ending, RunError> {
     let (first, second) = (opened(alloc)?, opened(alloc)?);
     let wanted = Some(Stage::Fenced.hart(1));
-    Ok(match hart_after(rt, first.into_untraced(), 1, 5, 1) {
+    Ok(match first.hart_after(rt, 1, 5, 1) {
         Ok(hart) => Ending::first(hart == wanted),
         Err(error) if !error.is_of_memory() => Ending::Other,
-        Err(_) => Ending::second(hart_after(rt, second.into_untraced(), 1, 5, 1) == Ok(wanted)),
+        Err(_) => Ending::second(second.hart_after(rt, 1, 5, 1) == Ok(wanted)),
     })
 }

@@ -15,7 +15,6 @@ use crate::opened::opened_untraced;
 use hart_step::Hart;
 use host_io::RunError;
 use machine::UntracedMachine;
-use past_harts::{hart_after, sight_after};
 use recording::Recording;
 use seeing::Sight;
 use std::alloc::Global;
@@ -99,7 +98,7 @@ fn sight_in_round<R: Threads + Wait + Sync>(
     ensures refused { IfErr result (λ e. e ≡ refusals.OutOfMemory) }
 {
     machine.run(rt, before, workers)?;
-    sight_after(rt, machine, hart, count, workers)
+    machine.sight_after(rt, hart, count, workers)
 }
 
 /// The hart alone.
@@ -119,5 +118,5 @@ pub(crate) fn hart_in_round<R: Threads + Wait + Sync>(
     ensures refused { IfErr result (λ e. e ≡ refusals.OutOfMemory) }
 {
     machine.run(rt, before, workers)?;
-    hart_after(rt, machine, hart, count, workers)
+    machine.hart_after(rt, hart, count, workers)
 }

@@ -20,7 +20,6 @@ use crate::round::places_in_round;
 use hart_step::Hart;
 use host_io::RunError;
 use machine::UntracedMachine;
-use noted_runs::run_noting;
 use pages::{OutOfMemory, Range};
 use std::alloc::Global;
 use std::sync::Wait;
@@ -149,7 +148,7 @@ fn hits_noted<R: Threads + Wait + Sync>(
     let alloc = pages.allocator();
     let saved = save(alloc, pages, watches)?;
     let mut trace = Trace::new(alloc, Vec::new(alloc));
-    run_noting(rt, machine, 1, workers, &mut trace)?;
+    machine.run_noting(rt, 1, workers, &mut trace)?;
     let hits = hits_in_round(alloc, &saved, &trace, watches, way)?;
     Ok(hits)
 }

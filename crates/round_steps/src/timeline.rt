@@ -2,12 +2,10 @@ ghost use Rattle.std.specs.Prelude.{◌≡◌, ◌≤◌, ◌+◌, ◌-◌, ◌<
 ghost use Rattle.host_io.specs.declared.error.RunError.TheVariants as refusals;
 ghost use Rattle.machine.specs.Machine.{Running, after_rounds};
 ghost use Rattle.machine.specs.Untraced.{IsUntraced};
-ghost use Rattle.round_steps.specs.OwnParts.{own_stores, waits_at};
 ghost use Rattle.round_steps.specs.Points.{next_point_of, previous_point_of};
 ghost use Rattle.round_steps.specs.Shown.{shown_at_point};
 ghost use Rattle.round_steps.specs.Timelines.{IsThere};
 
-use crate::own_part::{OwnPart, own_part};
 use crate::point::{Point, Told};
 use crate::point_search::{next_point, previous_point};
 use crate::points::Telling;
@@ -239,34 +237,6 @@ impl Timeline {
             &moment.place,
             number,
         )
-    }
-
-    /// What hart `number` has done of its part of the parallel phase at a point: its stores that are not committed, and whether it waits
-    /// for its serial turn. It may wait.
-    ///
-    /// # Errors
-    ///
-    /// `OutOfMemory` alone.
-    pub fn own_part_at<R: Threads + Wait + Sync>(
-        &mut self,
-        rt: &R,
-        point: &Point,
-        number: u32,
-        workers: u32,
-    ) -> Result<OwnPart, RunError>
-        requires within { point.now.moment.rounds ≤ self.old.rounds }
-        requires workers { (1 ≤ workers) × (workers ≤ 16) }
-        ensures stays { self.new ≡ self.old }
-        ensures stores { (m : Running) → IsUntraced m self.old.start → IfOk result (λ p. p.stores.items ≡ own_stores
-            (after_rounds point.now.moment.rounds m) point.now.moment.place number) }
-        ensures waits { (m : Running) → IsUntraced m self.old.start → IfOk result (λ p. p.waits ≡ waits_at
-            (after_rounds point.now.moment.rounds m) point.now.moment.place number) }
-        ensures refused { IfErr result (λ e. e ≡ refusals.OutOfMemory) }
-    {
-        let moment = point.moment;
-        let machine = self.machine_at(rt, moment.rounds, workers)?;
-        let part = own_part(&machine, &self.code, &moment.place, number)?;
-        Ok(part)
     }
 
     /// The machine that did the most rounds, of those that did so many at most.

@@ -1,7 +1,6 @@
-use Rattle.std.proofs.Common.{◌≡◌, ◌∙◌, ◌-◌, ℕ, List, ap, map, refl, slice_index, sym, arith}
-use Rattle.std.proofs.lemmas.Result.{err_from_is_err_and}
+use Rattle.std.proofs.Common.{◌≡◌, ◌∙◌, ◌-◌, ℕ, List, ap, map, slice_index, subst, sym, arith}
 use Rattle.round_schedule.specs.declared.event.Event.{Event}
-use Rattle.text_writes.proofs.Answered.{of_text, refused_first}
+use Rattle.host_io.specs.Taken.{WritesText}
 use Rattle.trace.specs.Traced.{opening_at}
 use Rattle.machine.specs.Machine.{Running, after_rounds}
 use Rattle.machine.specs.Untraced.{Untraced}
@@ -31,34 +30,6 @@ returns-clause-writes g c = λ m b.
     let ends = c.deref.ensures.value ∙ c.in_ok-ends.ensures ∙ c.harts.ensures.harts ∙ ap (λ (y : Running). y.state.harts) ended in
     let tells = ap (map told) c.deref-2.ensures.value ∙ c.in_ok-sites.ensures.sites m (is_there s v m c.args.machine.now c.args.start.now b)
     ∙ ap (λ (t : List Event). map (told_of s file m) (events_shown v t)) (c.trace.ensures.events ∙ sym c.trace-2.ensures.events) in
-    of_text _ c.write_picture.result
-    (ap (λ (d : Drawn). picture_text d v)
-    (same_drawn s file m v c.trace-2.result.now.events (after_rounds s.rounds m).state.trace (opening_at c.trace-2.result.now.opening) c.harts-2.result.now c.deref.result.now (map told c.deref-2.result.now) trace opens begins ends tells))
+    subst (λ (d : Drawn). WritesText (picture_text d v) (g.S.Sink.took c.args.out.now) (g.S.Sink.failures c.args.out.now) c.write_picture.result (g.S.Sink.took c.write_picture.new.out) (g.S.Sink.failures c.write_picture.new.out))
+    (same_drawn s file m v c.trace-2.result.now.events (after_rounds s.rounds m).state.trace (opening_at c.trace-2.result.now.opening) c.harts-2.result.now c.deref.result.now (map told c.deref-2.result.now) trace opens begins ends tells)
     c.write_picture.ensures.writes
-
-pub returns-in_err-run_observed-clause-writes : goal.returns-in_err-run_observed-clause-writes
-returns-in_err-run_observed-clause-writes g c = λ m b.
-    let p = err_from_is_err_and c.from_residual.result c.from_residual.ensures.1 in
-    let last = c.last_drawn-last.ensures.last in
-    let first = c.before_drawn.ensures.before in
-    let memory = c.in_err-run_observed.ensures.refused c.requires.some_workers c.requires.few_workers (omega (arith, b.rounds, last, first)) in
-    rw (p.1, p.2) (refused_first _ memory refl)
-
-pub returns-in_err-ends-clause-writes : goal.returns-in_err-ends-clause-writes
-returns-in_err-ends-clause-writes g c = λ m b.
-    let p = err_from_is_err_and c.from_residual-in_err-ends.result c.from_residual-in_err-ends.ensures.1 in
-    rw (p.1, p.2) (refused_first _ refl refl)
-
-pub returns-in_err-run_observed-2-clause-writes : goal.returns-in_err-run_observed-2-clause-writes
-returns-in_err-run_observed-2-clause-writes g c = λ m b.
-    let p = err_from_is_err_and c.from_residual-in_err-run_observed-2.result c.from_residual-in_err-run_observed-2.ensures.1 in
-    let last = c.last_drawn-last.ensures.last in
-    let first = c.before_drawn.ensures.before in
-    let memory = c.in_err-run_observed-2.ensures.refused c.requires.some_workers c.requires.few_workers
-    (omega (arith, b.rounds, last, first, c.in_ok-run_observed.ensures.counted)) in
-    rw (p.1, p.2) (refused_first _ memory refl)
-
-pub returns-in_err-sites-clause-writes : goal.returns-in_err-sites-clause-writes
-returns-in_err-sites-clause-writes g c = λ m b.
-    let p = err_from_is_err_and c.from_residual-in_err-sites.result c.from_residual-in_err-sites.ensures.1 in
-    rw (p.1, p.2) (refused_first _ c.in_err-sites.ensures.refused refl)

@@ -1,2 +1,0 @@
-pub mod Debuggees
-pub mod Debugged
