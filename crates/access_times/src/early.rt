@@ -65,7 +65,7 @@ pub enum Stage {
     /// It is in memory, and its hart hasn't come to it.
     Put(PutStore),
     /// Its hart has done it.
-    Kept,
+    Fulfilled,
     /// Its hart does something else, or can't do it so early: this is no execution.
     Broken,
 }
@@ -83,8 +83,8 @@ pub struct Promise {
 
 impl Promise {
     /// Whether its hart has done it.
-    pub fn is_kept(&self) -> bool {
-        matches!(self.stage, Stage::Kept)
+    pub fn is_fulfilled(&self) -> bool {
+        matches!(self.stage, Stage::Fulfilled)
     }
 
     /// Whether it is in memory, and its hart hasn't come to it.

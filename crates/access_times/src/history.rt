@@ -1,5 +1,5 @@
 use crate::doubleword::Bytes;
-use crate::time_table::TimeTable;
+use crate::paged_times::PagedTimes;
 use pages::OutOfMemory;
 use std::alloc::Global;
 
@@ -39,7 +39,7 @@ pub struct Sight {
 #[derive(Drop)]
 pub struct History {
     stores: Vec<MadeStore>,
-    last: TimeTable,
+    last: PagedTimes,
 }
 
 impl History {
@@ -47,7 +47,7 @@ impl History {
     pub fn new(alloc: Global, pages: u32) -> Result<History, OutOfMemory> {
         Ok(History {
             stores: Vec::new(alloc),
-            last: TimeTable::new(alloc, pages)?,
+            last: PagedTimes::new(alloc, pages)?,
         })
     }
 

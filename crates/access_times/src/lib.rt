@@ -13,7 +13,7 @@ mod early;
 mod held;
 mod history;
 mod operation;
-mod time_table;
+mod paged_times;
 mod views;
 
 pub use doubleword::{Bytes, shift_of};

@@ -1,6 +1,6 @@
 //! The times of a hart: before which time what it does next cannot be.
 use crate::operation::Operation;
-use crate::time_table::TimeTable;
+use crate::paged_times::PagedTimes;
 use dependencies::Registers;
 use pages::{OutOfMemory, Width};
 use rv64_decode::{FenceMode, FenceSet, Reg};
@@ -25,7 +25,7 @@ pub struct Views {
     /// The latest of its operations with an annotation.
     annotated: u32,
     /// Of each four bytes, the latest store that it put or read there.
-    met: TimeTable,
+    met: PagedTimes,
 }
 
 impl Views {
@@ -39,7 +39,7 @@ impl Views {
             next_write: 0,
             control: 0,
             annotated: 0,
-            met: TimeTable::new(alloc, pages)?,
+            met: PagedTimes::new(alloc, pages)?,
         })
     }
 
@@ -78,9 +78,9 @@ impl Views {
     }
 
     #[inline]
-    fn meet_four(&mut self, place: u64, time: u32) -> Result<(), OutOfMemory> {
-        if time > self.met.get(place) {
-            self.met.set(place, time)?;
+    fn meet_four(&mut self, cell: u64, time: u32) -> Result<(), OutOfMemory> {
+        if time > self.met.get(cell) {
+            self.met.set(cell, time)?;
         }
         Ok(())
     }
@@ -205,7 +205,7 @@ impl Views {
     }
 
     /// A held store went to memory, behind which fences of then keep later operations.
-    pub fn keep_behind(&mut self, reads: bool, writes: bool, time: u32) {
+    pub fn order_behind(&mut self, reads: bool, writes: bool, time: u32) {
         if reads {
             self.next_read = self.next_read.max(time);
         }

@@ -6,9 +6,9 @@ use Rattle.pages.specs.Memory.{Memory, after, fetched}
 use Rattle.round_schedule.specs.declared.access.Access.{Access}
 use Rattle.round_schedule.specs.declared.access.Stepped.{Stepped}
 use Rattle.round_schedule.specs.declared.access.Stepped.TheVariants.{Done, Waits, Stopped}
-use Rattle.round_schedule.specs.TabledTurn.{TabledTurn, tabled_turn_next, updated_by}
+use Rattle.round_schedule.specs.ReservingTurn.{ReservingTurn, reserving_turn_next, updated_by}
 use Rattle.round_schedule.specs.Schedule.{SerialOutcome}
-use Rattle.round_schedule.specs.Tables.{entry}
+use Rattle.round_schedule.specs.Reservations.{entry}
 use Rattle.hart_step.specs.declared.hart.Hart.{Hart}
 use Rattle.hart_step.specs.Console.{ConsoleState}
 use Rattle.hart_step.specs.SerialStep.{serial_stepped}
@@ -19,18 +19,18 @@ use Rattle.rv64_decode.specs.declared.instruction.Instr.{Instr}
 use Rattle.rv64_decode.specs.Table.{instr_of}
 use Rattle.serial_phase.specs.declared.shared.Turn.{Turn}
 use Rattle.serial_phase.specs.Turns.{Turns}
-use Rattle.serial_phase.specs.UnderWay.{At, Under, tabled_turn_at}
-use Rattle.serial_phase.specs.Words.{answered_table}
+use Rattle.serial_phase.specs.UnderWay.{At, Under, reserving_turn_at}
+use Rattle.serial_phase.specs.Words.{answered_reservations}
 use Rattle.serial_phase.proofs.Came.{Came}
 use Rattle.serial_phase.proofs.TurnUnderWay.{IsNext, outcome_at, went}
-use Rattle.run_loops.specs.Asking.{asks_after, asks_in_tabled_turn, tabled_turn_went}
+use Rattle.run_loops.specs.Asking.{asks_after, asks_in_reserving_turn, reserving_turn_went}
 use Rattle.run_loops.specs.Forgetting.{asks_number, is_ecall}
 use Rattle.run_loops.proofs.Words.{picked, picked_not}
 
 -- whether one of the next k instructions of a turn that began at x and is at y asks
 abbrev pub asks_left : Turn → At → ℕ → At → Bool
 asks_left turn x k y =
-    asks_in_tabled_turn (words_of x.state.pages.memory.code) (asks_number x.state.pages.memory.code) turn.round turn.hart k (tabled_turn_at y)
+    asks_in_reserving_turn (words_of x.state.pages.memory.code) (asks_number x.state.pages.memory.code) turn.round turn.hart k (reserving_turn_at y)
 
 abbrev pub asks_now : At → Bool
 asks_now y = asks_number y.state.pages.memory.code y.hart y.state.pages.memory.bytes
@@ -49,36 +49,36 @@ or_more true b c = refl
 or_more false b c = refl
 
 none_left : (turn : Turn) (x y : At) (left : ℕ) → left ≡ 0 → asks_left turn x left y ≡ false
-unfolding asks_in_tabled_turn
+unfolding asks_in_reserving_turn
 none_left turn x y zero e = refl
 none_left turn x y (suc k) e = absurd (omega (arith, e))
 
 one_left : (turn : Turn) (x y : At) (left rest : ℕ) → left ≡ suc rest → is_some y.hart.stop ≡ false →
     asks_left turn x left y ≡ (asks_number x.state.pages.memory.code y.hart y.state.pages.memory.bytes
-    || asks_after (tabled_turn_next (words_of x.state.pages.memory.code) turn.round turn.hart (tabled_turn_at y)).answer
-    (λ a. asks_in_tabled_turn (words_of x.state.pages.memory.code) (asks_number x.state.pages.memory.code) turn.round turn.hart rest
-    (tabled_turn_went turn.hart (tabled_turn_at y) (tabled_turn_next (words_of x.state.pages.memory.code) turn.round turn.hart (tabled_turn_at y)) a)))
-unfolding asks_in_tabled_turn
+    || asks_after (reserving_turn_next (words_of x.state.pages.memory.code) turn.round turn.hart (reserving_turn_at y)).answer
+    (λ a. asks_in_reserving_turn (words_of x.state.pages.memory.code) (asks_number x.state.pages.memory.code) turn.round turn.hart rest
+    (reserving_turn_went turn.hart (reserving_turn_at y) (reserving_turn_next (words_of x.state.pages.memory.code) turn.round turn.hart (reserving_turn_at y)) a)))
+unfolding asks_in_reserving_turn
 one_left turn x y zero rest e on = absurd (omega (arith, e))
 one_left turn x y (suc k) rest e on = ap (λ (j : ℕ). asks_left turn x (suc j) y) (omega (arith, e)) ∙ picked_not (is_some y.hart.stop) false _ on
 
 stopped_left : (turn : Turn) (x y : At) (left : ℕ) → 0 < left → is_some y.hart.stop ≡ true → asks_left turn x left y ≡ false
-unfolding asks_in_tabled_turn
+unfolding asks_in_reserving_turn
 stopped_left turn x y zero some off = absurd (omega (arith, some))
 stopped_left turn x y (suc k) some off = picked (is_some y.hart.stop) false _ off
 
 same_next : (turn : Turn) (x y : At) → y.state.pages.memory.code ≡ x.state.pages.memory.code →
-    tabled_turn_next (words_of x.state.pages.memory.code) turn.round turn.hart (tabled_turn_at y) ≡ outcome_at turn y
+    reserving_turn_next (words_of x.state.pages.memory.code) turn.round turn.hart (reserving_turn_at y) ≡ outcome_at turn y
 same_next turn x y same =
     ap (λ (code : List Range). serial_stepped turn.round y.hart (record { bytes = y.state.pages.memory.bytes; code = code }) y.state.console.console (entry y.state.reservations turn.hart)) (sym same)
 
 -- the next instruction, as the code does it
 next_left : (turn : Turn) (x y : At) (left : ℕ) (z : Came) → 0 < left → is_some y.hart.stop ≡ false → y.state.pages.memory.code ≡ x.state.pages.memory.code → IsNext turn y z →
-    asks_left turn x left y ≡ (asks_now y || asks_after z.answer (λ a. asks_in_tabled_turn (words_of x.state.pages.memory.code) (asks_number x.state.pages.memory.code) turn.round turn.hart (left - 1)
-    (tabled_turn_went turn.hart (tabled_turn_at y) (outcome_at turn y) a)))
+    asks_left turn x left y ≡ (asks_now y || asks_after z.answer (λ a. asks_in_reserving_turn (words_of x.state.pages.memory.code) (asks_number x.state.pages.memory.code) turn.round turn.hart (left - 1)
+    (reserving_turn_went turn.hart (reserving_turn_at y) (outcome_at turn y) a)))
 next_left turn x y left z some on same n =
     let rest : SerialOutcome Hart ConsoleState → Option Access → Bool =
-    λ o a. asks_in_tabled_turn (words_of x.state.pages.memory.code) (asks_number x.state.pages.memory.code) turn.round turn.hart (left - 1) (tabled_turn_went turn.hart (tabled_turn_at y) o a) in
+    λ o a. asks_in_reserving_turn (words_of x.state.pages.memory.code) (asks_number x.state.pages.memory.code) turn.round turn.hart (left - 1) (reserving_turn_went turn.hart (reserving_turn_at y) o a) in
     one_left turn x y left (left - 1) (omega (arith, some)) on
     ∙ ap (λ (o : SerialOutcome Hart ConsoleState). asks_number x.state.pages.memory.code y.hart y.state.pages.memory.bytes || asks_after o.answer (rest o)) (same_next turn x y same)
     ∙ ap (λ (code : List Range). asks_number code y.hart y.state.pages.memory.bytes || asks_after (outcome_at turn y).answer (rest (outcome_at turn y))) (sym same)
@@ -96,15 +96,15 @@ asks_more turn left asked x y z l a some on is n log u =
     let o = outcome_at turn y in
     let done : o.answer ≡ Done a = sym n.0 ∙ is in
     let bytes : z.state.pages.memory.bytes ≡ after y.state.pages.memory.bytes o.stores = ap (λ (m : Memory). m.bytes) s.pages.memory in
-    let entries : z.state.reservations ≡ updated_by turn.hart a y.state.reservations = s.table ∙ ap (λ (b : Stepped). answered_table turn.hart b y.state.reservations) done in
+    let entries : z.state.reservations ≡ updated_by turn.hart a y.state.reservations = s.reservations ∙ ap (λ (b : Stepped). answered_reservations turn.hart b y.state.reservations) done in
     let current : l.current ≡ y.state.log.current ++ option_to_list a = log ∙ ap (λ (k : Turns). k.current ++ option_to_list a) s.log in
-    let there : tabled_turn_at (went z l) ≡ tabled_turn_went turn.hart (tabled_turn_at y) o a = cc (s.hart, bytes, s.console, entries, current) in
-    let rest : TabledTurn Hart ConsoleState → Bool = asks_in_tabled_turn (words_of x.state.pages.memory.code) (asks_number x.state.pages.memory.code) turn.round turn.hart (left - 1) in
+    let there : reserving_turn_at (went z l) ≡ reserving_turn_went turn.hart (reserving_turn_at y) o a = cc (s.hart, bytes, s.console, entries, current) in
+    let rest : ReservingTurn Hart ConsoleState → Bool = asks_in_reserving_turn (words_of x.state.pages.memory.code) (asks_number x.state.pages.memory.code) turn.round turn.hart (left - 1) in
     u.asks
     ∙ ap (λ (b : Bool). asked || b)
     (next_left turn x y left z some on u.under.keeps.code n
-    ∙ ap (λ (b : Stepped). asks_now y || asks_after b (λ e. rest (tabled_turn_went turn.hart (tabled_turn_at y) o e))) is
-    ∙ ap (λ (d : TabledTurn Hart ConsoleState). asks_now y || rest d) (sym there))
+    ∙ ap (λ (b : Stepped). asks_now y || asks_after b (λ e. rest (reserving_turn_went turn.hart (reserving_turn_at y) o e))) is
+    ∙ ap (λ (d : ReservingTurn Hart ConsoleState). asks_now y || rest d) (sym there))
     ∙ or_more asked (asks_now y) (asks_left turn x (left - 1) (went z l))
 
 asks_ended : (turn : Turn) (left : ℕ) (asked : Bool) (x y : At) (z : Came) → 0 < left → is_some y.hart.stop ≡ false → ((f : Option Access → Bool) → asks_after z.answer f ≡ false) → IsNext turn y z →
@@ -128,15 +128,15 @@ asks_over turn left asked x y none u = or_none asked ∙ sym (u.asks ∙ ap (λ 
 
 -- the whole turn from its beginning, whose log is empty
 pub asks_whole : (turn : Turn) (x : At) (b : Bool) → x.state.log.current ≡ [] → b ≡ asks_left turn x turn.budget x →
-    b ≡ asks_in_tabled_turn (words_of x.state.pages.memory.code) (asks_number x.state.pages.memory.code) turn.round turn.hart turn.budget (record {
+    b ≡ asks_in_reserving_turn (words_of x.state.pages.memory.code) (asks_number x.state.pages.memory.code) turn.round turn.hart turn.budget (record {
       hart = x.hart;
       bytes = x.state.pages.memory.bytes;
       console = x.state.console.console;
-      table = x.state.reservations;
+      reservations = x.state.reservations;
       log = [];
     })
 asks_whole turn x b e f =
-    f ∙ ap (λ (l : List Access). asks_in_tabled_turn (words_of x.state.pages.memory.code) (asks_number x.state.pages.memory.code) turn.round turn.hart turn.budget (record (tabled_turn_at x) { log = l })) e
+    f ∙ ap (λ (l : List Access). asks_in_reserving_turn (words_of x.state.pages.memory.code) (asks_number x.state.pages.memory.code) turn.round turn.hart turn.budget (record (reserving_turn_at x) { log = l })) e
 
 -- ---- one instruction
 

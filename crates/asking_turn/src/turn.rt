@@ -1,9 +1,9 @@
 ghost use Rattle.std.specs.Prelude.{◌≡◌, ℕ, ◌+◌, ◌≤◌, ◌<◌, ◌==◌, ◌++◌, ◌||◌, ◌&&◌, [], length, option_to_list};
-ghost use Rattle.hart_step.specs.CodeTables.{Shows};
+ghost use Rattle.hart_step.specs.DecodedCode.{Shows};
 ghost use Rattle.hart_step.specs.Registers.{reg};
 ghost use Rattle.hart_step.specs.Room.{HasSpares};
 ghost use Rattle.hart_step.specs.Words.{words_of};
-ghost use Rattle.run_loops.specs.Asking.{asks_in_tabled_turn};
+ghost use Rattle.run_loops.specs.Asking.{asks_in_reserving_turn};
 ghost use Rattle.run_loops.specs.Forgetting.{asks_number, is_ecall};
 ghost use Rattle.serial_phase.specs.Phase.{TakesTurn, turn_done};
 ghost use Rattle.serial_phase.specs.Roomed.{HasRoom};
@@ -23,12 +23,12 @@ pub fn take_asking_turn(h: &mut Hart, state: &mut SharedState, turn: Turn) -> bo
     requires console { HasRoom turn.budget state.old.console }
     requires log { turn.budget ≤ state.old.log.room }
     requires began { state.old.log.current ≡ [] }
-    ensures asks { result ≡ asks_in_tabled_turn (words_of state.old.pages.memory.code)
+    ensures asks { result ≡ asks_in_reserving_turn (words_of state.old.pages.memory.code)
         (asks_number state.old.pages.memory.code) turn.round turn.hart turn.budget (record {
           hart = h.old;
           bytes = state.old.pages.memory.bytes;
           console = state.old.console.console;
-          table = state.old.reservations;
+          reservations = state.old.reservations;
           log = [];
         }) }
     ensures turn { TakesTurn (turn_done turn h.old state.old) h.new state.old state.new }
@@ -37,7 +37,7 @@ pub fn take_asking_turn(h: &mut Hart, state: &mut SharedState, turn: Turn) -> bo
     ensures console { (n : ℕ) →
         HasRoom (n + turn.budget) state.old.console → HasRoom n state.new.console }
     ensures log { state.old.log.room ≤ state.new.log.room + turn.budget }
-    ensures table { length state.new.reservations ≡ length state.old.reservations }
+    ensures reservations { length state.new.reservations ≡ length state.old.reservations }
     ensures shows { Shows state.new.pages.memory state.new.code.first state.new.code.instructions }
 {
     let mut asked = false;

@@ -14,7 +14,7 @@ use Rattle.round_schedule.specs.Positions.{event, writes_at}
 use Rattle.round_schedule.specs.RoundTrace.{phase_number}
 use Rattle.memory_order.proofs.Facts.{and_left, and_right}
 use Rattle.byte_sources.specs.Laws.{RepeatsReadFromTheSame}
-use Rattle.byte_sources.specs.Parts.{same_part, same_turn}
+use Rattle.byte_sources.specs.Phases.{one_phase, same_turn}
 use Rattle.byte_sources.specs.Repeats.{repeats, same_load, writes_some}
 use Rattle.byte_sources.specs.Sources.{between, bytes, gives, last_below, sees, source, sources}
 use Rattle.byte_sources.proofs.Sourcing.{any_in_range}
@@ -76,10 +76,10 @@ same_phase Serial Serial h = refl
 
 same_sight : (e f w : Event) → same_turn e f ≡ true → sees f w ≡ sees e w
 same_sight e f w h =
-    let part = and_left (same_part e f) (e.hart == f.hart) h in
+    let part = and_left (one_phase e f) (e.hart == f.hart) h in
     let round : e.round ≡ f.round = eqb-true _ _ (and_left (e.round == f.round) (phase_number e.phase == phase_number f.phase) part) in
     let phase : is_serial e.phase ≡ is_serial f.phase = same_phase e.phase f.phase (eqb-true _ _ (and_right (e.round == f.round) (phase_number e.phase == phase_number f.phase) part)) in
-    let hart : e.hart ≡ f.hart = eqb-true _ _ (and_right (same_part e f) (e.hart == f.hart) h) in
+    let hart : e.hart ≡ f.hart = eqb-true _ _ (and_right (one_phase e f) (e.hart == f.hart) h) in
     cc
 
 -- ---- the last number below a bound

@@ -10,7 +10,7 @@ use Rattle.round_schedule.specs.Events.{is_serial}
 use Rattle.round_schedule.specs.Positions.{IsLatest, event, reads_at, writes_at}
 use Rattle.round_schedule.specs.RoundTrace.{IsRoundTrace, SeenInParallel, SeenInSerial}
 use Rattle.memory_order.specs.Operations.{covers, is_store}
-use Rattle.memory_order.specs.Orders.{place}
+use Rattle.memory_order.specs.Orders.{order_position}
 use Rattle.memory_order.specs.RoundOrder.{IsRoundOrder}
 use Rattle.memory_order.specs.Rvwmo.{IsSource}
 use Rattle.memory_order.proofs.Facts.{and_left, and_right, or_cases, or_left, or_right, store_is_operation, within}
@@ -18,7 +18,7 @@ use Rattle.memory_order.proofs.Placing.{goes_by_rank}
 use Rattle.memory_order.proofs.RoundOrders.{parallel_source, serial_source}
 use Rattle.memory_order.proofs.Sources.{one_source}
 use Rattle.byte_sources.specs.Laws.{ArrowsMeetAxiom, ReadsFrom, SourcesMeetAxiom}
-use Rattle.byte_sources.specs.Sources.{gives, is_opening, is_place, last_below, sees, source, sources}
+use Rattle.byte_sources.specs.Sources.{gives, is_opening, is_index, last_below, sees, source, sources}
 
 -- ---- the last number below a bound
 
@@ -129,26 +129,26 @@ seen_in_serial t r x w p = (and_left (writes_at t w x) (sees (event t r) (event 
 -- ---- the source
 
 pub source_meets : (t : List Event) (opening : ℕ → ℕ) (budget : ℕ) → IsRoundTrace t opening budget → (g : List ℕ) → IsRoundOrder t g →
-    (r x : ℕ) → reads_at t r x ≡ true → IsSource t (place g) r x (source t r x)
+    (r x : ℕ) → reads_at t r x ≡ true → IsSource t (order_position g) r x (source t r x)
 unfolding source
 source_meets t opening budget i g o r x h = by_phase (is_serial (event t r).phase) refl
   where
     found : IsLatest (λ w. w) (Passes (gives t (event t r) x) r) (last_below (gives t (event t r) x) r)
     found = last_is_latest (gives t (event t r) x) r
 
-    by_phase : (b : Bool) → is_serial (event t r).phase ≡ b → IsSource t (place g) r x (last_below (gives t (event t r) x) r)
-    by_phase true s = serial_source t opening budget (place g) i (goes_by_rank t g o) r x h s (last_below (gives t (event t r) x) r)
+    by_phase : (b : Bool) → is_serial (event t r).phase ≡ b → IsSource t (order_position g) r x (last_below (gives t (event t r) x) r)
+    by_phase true s = serial_source t opening budget (order_position g) i (goes_by_rank t g o) r x h s (last_below (gives t (event t r) x) r)
         (same_latest (Passes (gives t (event t r) x) r) (SeenInSerial t r x) (seen_in_serial t r x) (λ w q. given_in_serial t r x w s q) (last_below (gives t (event t r) x) r) found)
-    by_phase false s = parallel_source t opening budget (place g) i (goes_by_rank t g o) r x h s (last_below (gives t (event t r) x) r)
+    by_phase false s = parallel_source t opening budget (order_position g) i (goes_by_rank t g o) r x h s (last_below (gives t (event t r) x) r)
         (same_latest (Passes (gives t (event t r) x) r) (SeenInParallel t r x) (λ w p. seen_in_parallel t r x w s p) (given_in_parallel t opening budget i r x) (last_below (gives t (event t r) x) r) found)
 
 pub sources_meet : SourcesMeetAxiom
 sources_meet t opening budget i g o r x h s = (to, from)
   where
-    to : source t r x ≡ s → IsSource t (place g) r x s
-    to e = let P : Option ℕ → Type 0 = λ u. IsSource t (place g) r x u in subst P e (source_meets t opening budget i g o r x h)
+    to : source t r x ≡ s → IsSource t (order_position g) r x s
+    to e = let P : Option ℕ → Type 0 = λ u. IsSource t (order_position g) r x u in subst P e (source_meets t opening budget i g o r x h)
 
-    from : IsSource t (place g) r x s → source t r x ≡ s
+    from : IsSource t (order_position g) r x s → source t r x ≡ s
     from k = one_source t g r x (source t r x) s o.lists (source_meets t opening budget i g o r x h) k
 
 -- ---- the sources of all bytes
@@ -212,12 +212,12 @@ source_is_any p t r x h q = by_kind (loads (event t r).access) (and_left (loads 
         let l = in_range_from a n x (and_right (loads (event t r).access) (in_range a n x) h) in
         any_of_map p (source t r) (range_with_len a ((a + n) - a)) ∙ any_in_range (λ y. p (source t r y)) a ((a + n) - a) x l.0 (omega (arith, l.1)) q
 
-place_from_test : (w : ℕ) (s : Option ℕ) → is_place w s ≡ true → s ≡ Some w
+place_from_test : (w : ℕ) (s : Option ℕ) → is_index w s ≡ true → s ≡ Some w
 place_from_test w None h = cc
 place_from_test w (Some v) h = ap Some (eq_from_test v w h)
 
-place_test : (w : ℕ) (s : Option ℕ) → s ≡ Some w → is_place w s ≡ true
-place_test w s e = ap (is_place w) e ∙ eq_test w w refl
+place_test : (w : ℕ) (s : Option ℕ) → s ≡ Some w → is_index w s ≡ true
+place_test w s e = ap (is_index w) e ∙ eq_test w w refl
 
 opening_from_test : (s : Option ℕ) → is_opening s ≡ true → s ≡ None
 opening_from_test None h = refl
@@ -226,11 +226,11 @@ opening_from_test (Some v) h = cc
 pub arrows_meet : ArrowsMeetAxiom
 arrows_meet t opening budget i g o r = (λ w. (to_store w, from_store w), (to_opening, from_opening))
   where
-    to_store : (w : ℕ) → list_any (is_place w) (sources t r) ≡ true → ReadsFrom t g r (Some w)
-    to_store w h = let f = any_source (is_place w) t r h in (f.0, f.1, (sources_meet t opening budget i g o r f.0 f.1 (Some w)).0 (place_from_test w (source t r f.0) f.2))
+    to_store : (w : ℕ) → list_any (is_index w) (sources t r) ≡ true → ReadsFrom t g r (Some w)
+    to_store w h = let f = any_source (is_index w) t r h in (f.0, f.1, (sources_meet t opening budget i g o r f.0 f.1 (Some w)).0 (place_from_test w (source t r f.0) f.2))
 
-    from_store : (w : ℕ) → ReadsFrom t g r (Some w) → list_any (is_place w) (sources t r) ≡ true
-    from_store w k = source_is_any (is_place w) t r k.0 k.1 (place_test w (source t r k.0) ((sources_meet t opening budget i g o r k.0 k.1 (Some w)).1 k.2))
+    from_store : (w : ℕ) → ReadsFrom t g r (Some w) → list_any (is_index w) (sources t r) ≡ true
+    from_store w k = source_is_any (is_index w) t r k.0 k.1 (place_test w (source t r k.0) ((sources_meet t opening budget i g o r k.0 k.1 (Some w)).1 k.2))
 
     to_opening : list_any is_opening (sources t r) ≡ true → ReadsFrom t g r None
     to_opening h = let f = any_source is_opening t r h in (f.0, f.1, (sources_meet t opening budget i g o r f.0 f.1 None).0 (opening_from_test (source t r f.0) f.2))

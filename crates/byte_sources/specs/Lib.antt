@@ -1,5 +1,5 @@
 pub mod Sources
-pub mod Parts
+pub mod Phases
 pub mod Repeats
 pub mod Marks
 pub mod Laws

@@ -4,7 +4,7 @@ use Rattle.std.specs.List.{list_all, list_any}
 use Rattle.round_schedule.specs.declared.event.Event.{Event}
 use Rattle.round_schedule.specs.Accesses.{byte_written, stores}
 use Rattle.round_schedule.specs.Positions.{event, reads_at, source_byte, writes_at}
-use Rattle.byte_sources.specs.Sources.{between, bytes, is_place, source}
+use Rattle.byte_sources.specs.Sources.{between, bytes, is_index, source}
 use Rattle.byte_sources.specs.declared.mark.Mark.{Mark}
 use Rattle.byte_sources.specs.declared.mark.Mark.TheVariants.{Lost, Unread, Plain}
 
@@ -15,7 +15,7 @@ abbrev pub first_from : (ℕ → Bool) → ℕ → ℕ → Option ℕ
 first_from test a zero = None
 first_from test a (suc n) = if test a then Some a else first_from test (a + 1) n
 
--- the first store to byte x after place w
+-- the first store to byte x after index w
 abbrev pub overwriter : List Event → ℕ → ℕ → Option ℕ
 overwriter t w x = first_from (λ v. writes_at t v x) (w + 1) (length t - (w + 1))
 
@@ -30,7 +30,7 @@ is_by_other t w (Some v) = not ((event t v).hart == (event t w).hart)
 
 -- whether an event reads byte x of the store at w
 abbrev pub reads_from : List Event → ℕ → ℕ → ℕ → Bool
-reads_from t w x r = reads_at t r x && is_place w (source t r x)
+reads_from t w x r = reads_at t r x && is_index w (source t r x)
 
 abbrev pub is_read : List Event → ℕ → ℕ → Bool
 is_read t w x = list_any (reads_from t w x) (between (w + 1) (length t))

@@ -6,7 +6,7 @@ use Rattle.round_schedule.specs.declared.access.Access.{Access}
 use Rattle.round_schedule.specs.declared.access.Access.TheVariants.{Load, Store, LoadReserved, StoreConditional, Atomic, Fence}
 use Rattle.round_schedule.specs.declared.event.Event.{Event}
 use Rattle.round_schedule.specs.Positions.{event, writes_at}
-use Rattle.byte_sources.specs.Parts.{same_turn}
+use Rattle.byte_sources.specs.Phases.{same_turn}
 use Rattle.byte_sources.specs.Sources.{between, bytes}
 
 -- whether an access is a load of these bytes that reads this number
@@ -31,7 +31,7 @@ same_load (Fence c f m p) b = false
 abbrev pub writes_some : List Event → Access → ℕ → Bool
 writes_some t a k = list_any (λ x. writes_at t k x) (bytes a)
 
--- whether the event at j is a load that repeats the one at i: of the same hart in the same part of a round, of the same bytes, of the same
+-- whether the event at j is a load that repeats the one at i: of the same hart in the same phase of a round, of the same bytes, of the same
 -- number, and no event between them writes one of these bytes
 unfoldable pub repeats : List Event → ℕ → ℕ → Bool
 repeats t i j =

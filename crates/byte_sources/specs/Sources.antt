@@ -21,7 +21,7 @@ last_below test (suc n) = if test n then Some n else last_below test n
 abbrev pub gives : List Event → Event → ℕ → ℕ → Bool
 gives t r x w = writes_at t w x && sees r (event t w)
 
--- the place of the store that the byte x of the event at r is from; none where it is as memory opened
+-- the index of the store that the byte x of the event at r is from; none where it is as memory opened
 unfoldable pub source : List Event → ℕ → ℕ → Option ℕ
 source t r x = last_below (gives t (event t r) x) r
 
@@ -37,9 +37,9 @@ bytes a = between (address_of a) (address_of a + bytes_of a)
 unfoldable pub sources : List Event → ℕ → List (Option ℕ)
 sources t r = if loads (event t r).access then map (source t r) (bytes (event t r).access) else []
 
-abbrev pub is_place : ℕ → Option ℕ → Bool
-is_place w None = false
-is_place w (Some v) = v == w
+abbrev pub is_index : ℕ → Option ℕ → Bool
+is_index w None = false
+is_index w (Some v) = v == w
 
 abbrev pub is_opening : Option ℕ → Bool
 is_opening None = true

@@ -46,13 +46,13 @@ pub fn touches(access: &Access, range: &Range) -> bool
         || (is_in_range(first, count, range.start) && range.len > 0)
 }
 
-/// The event at a place of a trace; past its end a fence that orders nothing.
-pub fn event_at(trace: &Trace, place: usize) -> Event
-    ensures event { result ≡ event trace.now.events place }
+/// The event at an index of a trace; past its end a fence that orders nothing.
+pub fn event_at(trace: &Trace, index: usize) -> Event
+    ensures event { result ≡ event trace.now.events index }
     ensures low { address_of result.access < 2 ^ 32 }
 {
-    if place < trace.len() {
-        trace.event(place)
+    if index < trace.len() {
+        trace.event(index)
     } else {
         no_event()
     }

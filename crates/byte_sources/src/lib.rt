@@ -6,7 +6,7 @@ mod access;
 mod laws;
 mod mark;
 mod marks;
-mod parts;
+mod phases;
 mod repeating;
 mod source;
 
@@ -14,6 +14,6 @@ pub use access::{byte_written, event_at, is_in_range, no_event, touches, writes}
 pub use laws::{arrows_meet_axiom, repeats_read_from_the_same, sources_meet_axiom};
 pub use mark::Mark;
 pub use marks::mark_of;
-pub use parts::{is_same_part, is_same_turn, is_serial};
+pub use phases::{is_same_phase, is_same_turn, is_serial};
 pub use repeating::is_repeated;
-pub use source::{has_opening, has_place, sees, sources};
+pub use source::{has_index, has_opening, sees, sources};

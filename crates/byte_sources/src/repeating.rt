@@ -7,7 +7,7 @@ ghost use Rattle.byte_sources.specs.Repeats.{loads_so, repeats, same_load, write
 ghost use Rattle.byte_sources.specs.Sources.{between};
 
 use crate::access::{event_at, writes};
-use crate::parts::is_same_turn;
+use crate::phases::is_same_turn;
 use round_schedule::Access;
 use trace::Trace;
 
@@ -49,18 +49,18 @@ fn are_same_load(one: &Access, other: &Access) -> bool
     }
 }
 
-/// Whether the event at a place writes a byte of an access.
-fn writes_some(trace: &Trace, access: &Access, place: usize) -> bool
+/// Whether the event at an index writes a byte of an access.
+fn writes_some(trace: &Trace, access: &Access, index: usize) -> bool
     requires { address_of access.now < 2 ^ 32 }
-    ensures { result ≡ writes_some trace.now.events access.now place }
+    ensures { result ≡ writes_some trace.now.events access.now index }
 {
-    let writer = event_at(trace, place).access;
+    let writer = event_at(trace, index).access;
     let first = access.address();
     let end = first + access.byte_count();
     (first..end).any(|byte| writes(&writer, byte))
 }
 
-/// Whether an event between two places writes a byte of an access.
+/// Whether an event between two indexes writes a byte of an access.
 fn is_written_between(trace: &Trace, access: &Access, first: usize, second: usize) -> bool
     requires { address_of access.now < 2 ^ 32 }
     ensures { result ≡ list_any (writes_some trace.now.events access.now) (between (first + 1) second) }
@@ -68,10 +68,10 @@ fn is_written_between(trace: &Trace, access: &Access, first: usize, second: usiz
     if first >= second {
         return false;
     }
-    (first + 1..second).any(|place| writes_some(trace, access, place))
+    (first + 1..second).any(|index| writes_some(trace, access, index))
 }
 
-/// Whether the event at the second place is a load that repeats the one at the first: of the same hart in the same part of a round, of
+/// Whether the event at the second index is a load that repeats the one at the first: of the same hart in the same phase of a round, of
 /// the same bytes, of the same number, and nothing between them writes one of these bytes.
 #[tactic(auto, unfolding(crate::specs::Repeats::repeats))]
 pub fn is_repeated(trace: &Trace, first: usize, second: usize) -> bool

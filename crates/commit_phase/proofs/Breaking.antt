@@ -4,7 +4,7 @@ use Rattle.pages.specs.declared.access.Store.{Store}
 use Rattle.pages.specs.Memory.{covered, covers, width_bytes}
 use Rattle.round_schedule.specs.declared.span.Span.{Span}
 use Rattle.round_schedule.specs.Held.{any_byte, unless}
-use Rattle.round_schedule.specs.Tables.{entry, Breaks}
+use Rattle.round_schedule.specs.Reservations.{entry, Breaks}
 
 no_byte : (f : ℕ → Bool) (a n : ℕ) → ((x : ℕ) → f x ≡ false) → any_byte f a n ≡ false
 no_byte f a zero h = refl
@@ -50,7 +50,7 @@ unless_unless f g (Some s) =
 abbrev pub left_of : ℕ → List Store → ℕ → Option Span → Option Span
 left_of i ss h r = cond (i == h) r (unless (covered ss) r)
 
--- what the rest of the stores will leave of the table now is what all of them leave of the old one
+-- what the rest of the stores will leave of the list now is what all of them leave of the old one
 pub record Breaking (i : ℕ) (ss rest : List Store) (old now : List (Option Span)) : Type 0 where
   pub size : length now ≡ length old
   pub each : (h : ℕ) → h < length old → left_of i rest h (entry now h) ≡ left_of i ss h (entry old h)

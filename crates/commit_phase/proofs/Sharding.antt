@@ -23,8 +23,8 @@ use Rattle.commit_phase.proofs.Writing.{All-after, All-before}
 same_cover : (a c i x : ℕ) → x + a ≡ i + c → in_range a 1 i ≡ in_range c 1 x
 same_cover a c i x e = grind (arith, nat_tests)
 
-same_place : (a c i x : ℕ) → x + a ≡ i + c → i - a ≡ x - c
-same_place a c i x e = omega arith
+same_index : (a c i x : ℕ) → x + a ≡ i + c → i - a ≡ x - c
+same_index a c i x e = omega arith
 
 moved_byte : (a c : ℕ) (l : Line) (j b i x : ℕ) (o : Option ℕ) (es fs : List (ℕ × ℕ)) → x + a ≡ i + c → ((y : ℕ) → last_byte y (stores_of es) i ≡ last_byte y (stores_of fs) x) →
     last_byte b (stores_of (put_first (a + j) o es)) i ≡ last_byte b (stores_of (put_first (c + j) o fs)) x
@@ -32,7 +32,7 @@ moved_byte a c l j b i x None es fs e rest = rest b
 moved_byte a c l j b i x (Some v) es fs e rest =
     let far : x + (a + j) ≡ i + (c + j) = omega arith in
     let byte : (if covers (one_byte (a + j, v)) i then byte_put (one_byte (a + j, v)) i else b) ≡ (if covers (one_byte (c + j, v)) x then byte_put (one_byte (c + j, v)) x else b) =
-    rw (same_cover (a + j) (c + j) i x far, same_place (a + j) (c + j) i x far) refl in
+    rw (same_cover (a + j) (c + j) i x far, same_index (a + j) (c + j) i x far) refl in
     ap (λ (y : ℕ). last_byte y (stores_of es) i) byte ∙ rest (if covers (one_byte (c + j, v)) x then byte_put (one_byte (c + j, v)) x else b)
 
 -- a line that starts elsewhere, and a byte as far from its start
@@ -47,7 +47,7 @@ not_first : (a x : ℕ) (o : Option ℕ) (es : List (ℕ × ℕ)) → (x < a) �
 not_first a x None es h rest = rest
 not_first a x (Some v) es h rest = rw (outside a x h, rest) refl
 
--- a byte that is not one of the line's places
+-- a byte that is not one of the line's indices
 not_in_line : (n a : ℕ) (l : Line) (j x : ℕ) → (x < a + j) ⊎ (a + j + n ≤ x) → covered (stores_of (line_bytes a l j n)) x ≡ false
 not_in_line zero a l j x h = refl
 not_in_line (suc n) a l j x h =
@@ -95,11 +95,11 @@ sharding_skips n ps qs es more start l aligned out k = record {
   may = All-after (λ (e : ℕ × ℕ). n ≤ e.0 / 4096 → e.0 / 4096 < n + length ps → is_ready (page_at ps (e.0 / 4096 - n)) ≡ true) (line_bytes start l 0 64) more k.may;
 }
 
--- a line of page k of the shard, which starts in it at the place `at`
+-- a line of page k of the shard, which starts in it at the index `at`
 pub sharding_takes : (n : ℕ) (ps qs : List Page) (es more : List (ℕ × ℕ)) (start k at : ℕ) (l : Line) (part : Page) → n + k ≡ start / 4096 → k < length ps → at ≡ start % 4096 → start % 64 ≡ 0 →
     Written (whole_line at l) (page_at qs k) part → Sharding n ps qs es (whole_line start l ++ more) → Sharding n ps (set qs k part) es more
 unfolding whole_line
-sharding_takes n ps qs es more start k at l part page inside place aligned w s = record {
+sharding_takes n ps qs es more start k at l part page inside index aligned w s = record {
   count = length-set qs k part ∙ s.count;
   ready = map-set_same is_ready qs k part absent w.ready ∙ s.ready;
   bytes = λ j i low less.
@@ -141,7 +141,7 @@ carried : (o : Option ℕ) (a c : ℕ) (es fs : List (ℕ × ℕ)) (P : ℕ → 
 carried None a c es fs P Q h all rest = rest all
 carried (Some v) a c es fs P Q h all rest = All-cons (λ (e : ℕ × ℕ). Q) (c, v) fs (h (All-head (λ (e : ℕ × ℕ). P e.0) (a, v) es all)) (rest (All-tail (λ (e : ℕ × ℕ). P e.0) (a, v) es all))
 
--- what follows from each covered place of a line, whatever place the line starts at
+-- what follows from each covered index of a line, whatever index the line starts at
 line_ready : (n a c : ℕ) (l : Line) (j : ℕ) (P : ℕ → Type 0) (Q : Type 0) → ((x : ℕ) → a + j ≤ x → x < a + j + n → P x → Q) → All (λ (e : ℕ × ℕ). P e.0) (line_bytes a l j n) → All (λ (e : ℕ × ℕ). Q) (line_bytes c l j n)
 line_ready zero a c l j P Q h all = All-nil (λ (e : ℕ × ℕ). Q)
 line_ready (suc n) a c l j P Q h all =
@@ -202,17 +202,17 @@ whole_memory ps qs ss w =
     ext_get_or 0 (flat qs) (after (flat ps) ss) (length-flat qs ∙ ap (λ (n : ℕ). 4096 * n) w.count ∙ sym (length-flat ps) ∙ sym (length-after (flat ps) ss))
     (λ x h.
     let page : ℕ = x / 4096 in
-    let place : ℕ = x % 4096 in
-    let few : place < 4096 = omega arith in
+    let index : ℕ = x % 4096 in
+    let few : index < 4096 = omega arith in
     let low : page < length ps = omega (arith, length-flat qs, w.count) in
     let low' : page < length qs = omega (arith, w.count) in
-    let at : x ≡ 4096 * page + place = omega arith in
-    let at0 : 4096 * (0 + page) + place ≡ x = omega arith in
+    let at : x ≡ 4096 * page + index = omega arith in
+    let at0 : 4096 * (0 + page) + index ≡ x = omega arith in
     let inside : x < length (flat ps) = omega (arith, length-flat ps) in
     ap (λ (y : ℕ). get_or (flat qs) y 0) at
-    ∙ flat_at qs page place low' few
-    ∙ w.bytes page place low few
-    ∙ ap (λ (b : ℕ). last_byte b ss (4096 * (0 + page) + place)) (sym (flat_at ps page place low few) ∙ ap (λ (y : ℕ). get_or (flat ps) y 0) (sym at))
+    ∙ flat_at qs page index low' few
+    ∙ w.bytes page index low few
+    ∙ ap (λ (b : ℕ). last_byte b ss (4096 * (0 + page) + index)) (sym (flat_at ps page index low few) ∙ ap (λ (y : ℕ). get_or (flat ps) y 0) (sym at))
     ∙ ap (λ (y : ℕ). last_byte (get_or (flat ps) x 0) ss y) at0
     ∙ sym (byte_after (flat ps) x ss inside))
 
@@ -278,10 +278,10 @@ by_chunks ps qs ss count each = record {
       get_or-map is_ready qs k absent false low' ∙ ap is_ready (sym s.new) ∙ ready_at s.behind s.before s.offset s.written.ready s.inside s.written.count ∙ ap is_ready s.old ∙ sym (get_or-map is_ready ps k absent false low));
   bytes = λ k i low less.
       let s = each k low in
-      let place : 4096 * (s.start + s.offset) + i ≡ 4096 * (0 + k) + i = omega (arith, s.at) in
+      let index : 4096 * (s.start + s.offset) + i ≡ 4096 * (0 + k) + i = omega (arith, s.at) in
       ap (λ (p : Page). slice_index (full p) i) (sym s.new) ∙ s.written.bytes s.offset i s.inside less
       ∙ ap (λ (p : Page). last_byte (slice_index (full p) i) ss (4096 * (s.start + s.offset) + i)) s.old
-      ∙ ap (λ (x : ℕ). last_byte (slice_index (full (page_at ps k)) i) ss x) place;
+      ∙ ap (λ (x : ℕ). last_byte (slice_index (full (page_at ps k)) i) ss x) index;
 }
 
 -- ---- the next of some rounds

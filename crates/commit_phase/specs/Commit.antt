@@ -5,10 +5,10 @@ use Rattle.pages.specs.declared.access.Width.TheVariants.{W1}
 use Rattle.pages.specs.Memory.{covered, store_fault, stored}
 use Rattle.pages.specs.Paged.{Paged, is_page_ready}
 use Rattle.round_schedule.specs.declared.span.Span.{Span}
-use Rattle.round_schedule.specs.ByTable.{committed_table}
+use Rattle.round_schedule.specs.ByReservations.{committed_reservations}
 use Rattle.round_schedule.specs.Held.{unless}
 use Rattle.round_schedule.specs.Schedule.{HartRound, all_stores}
-use Rattle.round_schedule.specs.Tables.{Commits, entry}
+use Rattle.round_schedule.specs.Reservations.{Commits, entry}
 use Rattle.store_buffer.specs.Covered.{stores_of}
 
 -- these are bytes of guest memory that are not code, on pages that are ready
@@ -32,12 +32,12 @@ pub record CommitsBuffers (bs : List (List (ℕ × ℕ))) (p q : Paged) (old new
   pub ready : q.ready ≡ p.ready
   pub spare : q.spare ≡ p.spare
   pub size : length new ≡ length old
-  pub table : (h : ℕ) → h < length old → entry new h ≡ unless (covered_from 0 h bs) (entry old h)
+  pub reservations : (h : ℕ) → h < length old → entry new h ≡ unless (covered_from 0 h bs) (entry old h)
 
 -- the stores of all harts are committed
 pub record Committed {H : Type 0} (rs : List (HartRound H)) (p q : Paged) (old new : List (Option Span)) : Type 0 where
   pub memory : q.memory ≡ stored p.memory (all_stores rs)
   pub ready : q.ready ≡ p.ready
   pub spare : q.spare ≡ p.spare
-  pub table : new ≡ committed_table 0 rs old
+  pub reservations : new ≡ committed_reservations 0 rs old
   pub commits : Commits rs old new

@@ -15,10 +15,10 @@ pub record Written (es : List (ℕ × ℕ)) (p q : Page) : Type 0 where
   pub bytes : full q ≡ after (full p) (stores_of es)
   pub ready : is_ready q ≡ is_ready p
 
--- the covered bytes of eight places of a line that starts at a
+-- the covered bytes of eight indices of a line that starts at a
 unfoldable pub word_bytes : ℕ → Line → ℕ → List (ℕ × ℕ)
 word_bytes a l j = line_bytes a l j 8
 
--- the byte of one place, if it is covered
-abbrev pub place_bytes : ℕ → Line → ℕ → List (ℕ × ℕ)
-place_bytes a l j = put_first (a + j) (line_at l j) []
+-- the byte of one index, if it is covered
+abbrev pub index_bytes : ℕ → Line → ℕ → List (ℕ × ℕ)
+index_bytes a l j = put_first (a + j) (line_at l j) []

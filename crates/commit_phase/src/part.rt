@@ -1,11 +1,11 @@
 ghost use Rattle.std.specs.Prelude.{◌≡◌, ◌+◌, ◌%◌, ◌<◌, ◌≤◌};
 ghost use Rattle.store_buffer.specs.Lines.{whole_line};
-ghost use Rattle.commit_phase.specs.Writing.{Written, Writable, place_bytes, word_bytes};
+ghost use Rattle.commit_phase.specs.Writing.{Written, Writable, index_bytes, word_bytes};
 
 use pages::{Part, Store, Width, number_in};
 use store_buffer::Line;
 
-/// Writes the bytes that a line covers to its page, in which it starts at the place `start`. It goes eight bytes at a
+/// Writes the bytes that a line covers to its page, in which it starts at the index `start`. It goes eight bytes at a
 /// time.
 #[inline]
 pub(crate) fn write_line(part: &mut Part, start: u64, line: &Line)
@@ -19,55 +19,55 @@ pub(crate) fn write_line(part: &mut Part, start: u64, line: &Line)
     }
 }
 
-/// Writes the bytes that a line covers of eight places: all at once where each is covered.
+/// Writes the bytes that a line covers of eight indices: all at once where each is covered.
 #[inline]
-fn write_word(part: &mut Part, start: u64, line: &Line, place: u64)
+fn write_word(part: &mut Part, start: u64, line: &Line, index: u64)
     requires aligned { start % 64 ≡ 0 }
     requires inside { start + 64 ≤ 4096 }
-    requires place { (place % 8 ≡ 0) × (place < 64) }
-    requires ready { Writable part.old (word_bytes start line.now place) }
-    ensures { Written (word_bytes start line.now place) part.old part.new }
+    requires index { (index % 8 ≡ 0) × (index < 64) }
+    requires ready { Writable part.old (word_bytes start line.now index) }
+    ensures { Written (word_bytes start line.now index) part.old part.new }
 {
-    let cover = (line.mask >> place) & 0xff;
+    let cover = (line.mask >> index) & 0xff;
     if cover == 0 {
         return;
     }
     if cover == 0xff {
         part.apply(Store {
-            address: start + place,
+            address: start + index,
             width: Width::W8,
-            value: number_in(&line.bytes, place as usize, Width::W8),
+            value: number_in(&line.bytes, index as usize, Width::W8),
         });
         return;
     }
-    write_places(part, start, line, place);
+    write_each(part, start, line, index);
 }
 
-// The same byte by byte, for eight places of which only some are covered.
-fn write_places(part: &mut Part, start: u64, line: &Line, place: u64)
+// The same byte by byte, for eight indices of which only some are covered.
+fn write_each(part: &mut Part, start: u64, line: &Line, index: u64)
     requires inside { start + 64 ≤ 4096 }
-    requires place { place + 8 ≤ 64 }
-    requires ready { Writable part.old (word_bytes start line.now place) }
-    ensures { Written (word_bytes start line.now place) part.old part.new }
+    requires index { index + 8 ≤ 64 }
+    requires ready { Writable part.old (word_bytes start line.now index) }
+    ensures { Written (word_bytes start line.now index) part.old part.new }
 {
-    for j in place..place + 8 {
-        write_place(part, start, line, j);
+    for j in index..index + 8 {
+        write_at(part, start, line, j);
     }
 }
 
-/// Writes the byte at a place, if the line covers it.
+/// Writes the byte at a index, if the line covers it.
 #[inline]
-fn write_place(part: &mut Part, start: u64, line: &Line, place: u64)
+fn write_at(part: &mut Part, start: u64, line: &Line, index: u64)
     requires inside { start + 64 ≤ 4096 }
-    requires place { place < 64 }
-    requires ready { Writable part.old (place_bytes start line.now place) }
-    ensures { Written (place_bytes start line.now place) part.old part.new }
+    requires index { index < 64 }
+    requires ready { Writable part.old (index_bytes start line.now index) }
+    ensures { Written (index_bytes start line.now index) part.old part.new }
 {
-    if (line.mask >> place) & 1 == 1 {
+    if (line.mask >> index) & 1 == 1 {
         part.apply(Store {
-            address: start + place,
+            address: start + index,
             width: Width::W1,
-            value: u64::from(line.bytes[place as usize]),
+            value: u64::from(line.bytes[index as usize]),
         });
     }
 }

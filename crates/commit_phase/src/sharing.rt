@@ -20,7 +20,7 @@ use std::thread::{Threads, for_each_chunk_mut, for_each_mut, join_mut};
 pub fn commit_on<R: Threads + Sync, B: Buffered + Sync, G: ShardGate + Sync>(
     rt: &R,
     pages: &mut Pages,
-    table: &mut Reservations,
+    reservations: &mut Reservations,
     rounds: &[B],
     workers: u32,
     gate: &G,
@@ -28,14 +28,14 @@ pub fn commit_on<R: Threads + Sync, B: Buffered + Sync, G: ShardGate + Sync>(
     requires some_workers { 1 ≤ workers }
     requires few { length rounds.now ≤ MOST_HARTS }
     requires writable { All (IsWritable pages.old) (map B.bytes rounds.now) }
-    ensures { CommitsBuffers (map B.bytes rounds.now) pages.old pages.new table.old table.new }
+    ensures { CommitsBuffers (map B.bytes rounds.now) pages.old pages.new reservations.old reservations.new }
 {
     let count = pages.count();
     let size = count.div_ceil(workers).max(1);
     let unready = pages.unready();
     write_beside(rt, pages.parts(), size as usize, rounds, workers, gate);
     pages.keep_unready(unready);
-    break_all(table, rounds);
+    break_all(reservations, rounds);
 }
 
 /// Writes the bytes of all buffers, shard by shard, and tells the gate of the shards that have no page, each on a thread of
@@ -113,8 +113,8 @@ fn write_one<B: Buffered, G: ShardGate>(
 fn pass_empty<R: Threads + Sync, G: ShardGate + Sync>(rt: &R, first: u32, workers: u32, gate: &G) {
     let mut numbers = [0; MOST_WORKERS as usize];
     let count = workers.saturating_sub(first).min(MOST_WORKERS);
-    for (place, number) in numbers.iter_mut().enumerate() {
-        *number = first.saturating_add(place as u32);
+    for (index, number) in numbers.iter_mut().enumerate() {
+        *number = first.saturating_add(index as u32);
     }
     for_each_mut(
         rt,

@@ -7,7 +7,7 @@ use Rattle.pages.specs.Memory.{Memory, value_at, loaded, store_fault, fetched}
 use Rattle.round_schedule.specs.declared.access.Stepped.TheVariants.{Stopped}
 use Rattle.round_schedule.specs.declared.span.Span.{Span}
 use Rattle.round_schedule.specs.Accesses.{is_full_fence}
-use Rattle.round_schedule.specs.Schedule.{Outcome, SerialOutcome}
+use Rattle.round_schedule.specs.Schedule.{StepOutcome, SerialOutcome}
 use Rattle.rv64_decode.specs.declared.instruction.Instr.{Instr}
 use Rattle.rv64_decode.specs.declared.instruction.Instr.TheVariants.{Ecall}
 use Rattle.rv64_decode.specs.declared.ordering.AcquireRelease.{AcquireRelease}
@@ -41,7 +41,7 @@ both_word P (Some v) x z y f g o p q = both_instr P (instr_of v) z y f g p q
 set_keeps : (x : List ℕ) (r v : ℕ) → length (set_reg x r v) ≡ length x
 set_keeps x r v = of_test (λ (y : List ℕ). length y ≡ length x) (r == 0) _ _ refl (length-set x r v)
 
-abbrev Keeps : Hart → Outcome Hart → Type 0
+abbrev Keeps : Hart → StepOutcome Hart → Type 0
 Keeps h o = length o.hart.x ≡ length h.x
 
 read_keeps : (h : Hart) (rd a : ℕ) (w : Width) (signed : Bool) (r : Result ℕ Fault) → Keeps h (read_by h rd a w signed r)
@@ -80,7 +80,7 @@ performed_keeps h m Call = refl
 
 pub step_keeps : (h : Hart) (m : Memory) → Keeps h (stepped h m)
 unfolding stepped
-step_keeps h m = both_word (λ (o : Outcome Hart) (u : Bool). Keeps h o) (fetched m h.pc) _ _ true _ (λ i. true) refl refl (λ i. performed_keeps h m (action i h.x h.pc))
+step_keeps h m = both_word (λ (o : StepOutcome Hart) (u : Bool). Keeps h o) (fetched m h.pc) _ _ true _ (λ i. true) refl refl (λ i. performed_keeps h m (action i h.x h.pc))
 
 -- ---- what it leaves of the console, in the serial phase
 
@@ -90,7 +90,7 @@ pub record Follows (h : Hart) (c : ConsoleState) (cs : List ConsoleCall) (o : Se
   pub answers : length h.x ≡ 32 → AreAnswered cs c
   pub registers : length o.hart.x ≡ length h.x
 
-silent : (h : Hart) (c : ConsoleState) (o : Outcome Hart) → Keeps h o → Follows h c [] (with_console c o)
+silent : (h : Hart) (c : ConsoleState) (o : StepOutcome Hart) → Keeps h o → Follows h c [] (with_console c o)
 silent h c o k = record { console = refl; answers = λ l. tt; registers = k }
 
 -- a put call by its test

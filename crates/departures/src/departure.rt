@@ -71,7 +71,7 @@ impl Listed {
             .departures
             .binary_search_by_key(&(hart, step), |departure| departure.key())
         {
-            Ok(place) => Some(self.departures[place].way),
+            Ok(index) => Some(self.departures[index].way),
             Err(_) => None,
         }
     }

@@ -9,22 +9,22 @@ const MOST_BACK: u64 = 8;
 /// One number in so many has a store come early, where one can.
 const EARLY_RATE: u32 = 5;
 
-/// The place of its stream from which on it is drawn which store that is: past all other draws.
-const EARLY_PLACE: u64 = 1 << 62;
+/// The position of its stream from which on it is drawn which store that is: past all other draws.
+const EARLY_POSITION: u64 = 1 << 62;
 
 /// The numbers of a stream, one after another.
 #[derive(Clone, Copy)]
 pub struct Stream {
     key: u64,
-    place: u64,
+    position: u64,
 }
 
 impl Stream {
     /// The next number.
     #[inline]
     pub fn next(&mut self) -> u64 {
-        let number = draw(self.key, self.place % 0x8000_0000_0000_0000);
-        self.place = self.place.wrapping_add(1);
+        let number = draw(self.key, self.position % 0x8000_0000_0000_0000);
+        self.position = self.position.wrapping_add(1);
         number
     }
 }
@@ -47,7 +47,10 @@ impl Draws {
     /// No departures.
     pub fn none() -> Draws {
         Draws {
-            stream: Stream { key: 0, place: 0 },
+            stream: Stream {
+                key: 0,
+                position: 0,
+            },
             old_rate: 0,
             late_rate: 0,
             longest: 1,
@@ -66,7 +69,7 @@ impl Draws {
         Draws {
             stream: Stream {
                 key: stream,
-                place: 5,
+                position: 5,
             },
             old_rate: if kinds == 1 { 0 } else { old_rate },
             late_rate: if kinds == 2 { 0 } else { late_rate },
@@ -91,7 +94,7 @@ impl Draws {
         }
         Some(Stream {
             key: draw(seed, u64::from(number)),
-            place: EARLY_PLACE,
+            position: EARLY_POSITION,
         })
     }
 

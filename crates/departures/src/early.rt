@@ -63,8 +63,8 @@ impl<'a> EarlyStores<'a> {
             Some(end) => *end,
             None => self.candidates.len(),
         };
-        let place = first.saturating_add(below(stream, end.saturating_sub(first))?);
-        let candidate = self.candidates.get(place)?;
+        let index = first.saturating_add(below(stream, end.saturating_sub(first))?);
+        let candidate = self.candidates.get(index)?;
         let load = self.deeds.get(candidate.load)?;
         let store = self.deeds.get(candidate.store)?;
         departure_of(load, store, drawn_wait(stream))
@@ -171,8 +171,8 @@ fn add_candidates(
     };
     let mut nearest = None;
     let mut farthest = None;
-    for place in earlier.iter().rev().take(LOOK_BACK) {
-        let Some(other) = deeds.get(*place) else {
+    for index in earlier.iter().rev().take(LOOK_BACK) {
+        let Some(other) = deeds.get(*index) else {
             break;
         };
         if time_of(other) < store.behind {
@@ -187,7 +187,7 @@ fn add_candidates(
             let candidate = Candidate {
                 load_pc: other.pc,
                 store_pc: store.pc,
-                load: *place,
+                load: *index,
                 store: number,
             };
             nearest = nearest.or(Some(candidate));
@@ -233,12 +233,12 @@ pub fn do_meet(access: &Access, other: &Access) -> bool {
 fn beginnings_of(alloc: Global, candidates: &[Candidate]) -> Result<Vec<usize>, OutOfMemory> {
     let mut beginnings = Vec::new(alloc);
     let mut last: Option<&Candidate> = None;
-    for (place, candidate) in candidates.iter().enumerate() {
+    for (index, candidate) in candidates.iter().enumerate() {
         let is_same = last.is_some_and(|last| {
             last.load_pc == candidate.load_pc && last.store_pc == candidate.store_pc
         });
         if !is_same {
-            beginnings.push(place)?;
+            beginnings.push(index)?;
         }
         last = Some(candidate);
     }

@@ -20,7 +20,7 @@ pub struct Deed {
     pub at: u32,
     /// Of a store, an SC or an AMO the time that it has to be behind, by what comes before it in its hart's program; else 0.
     pub behind: u32,
-    /// The place of its event among the events of all harts.
+    /// The index of its event among the events of all harts.
     pub event: usize,
 }
 
@@ -38,7 +38,7 @@ pub enum Placing {
 /// Where a memory operation stands: behind the store of a time, or it is this store. Of operations with one time the earlier step
 /// stands first.
 #[derive(Clone, Copy, Debug, PartialEq, Eq, PartialOrd, Ord)]
-struct Place {
+struct OrderEntry {
     time: u32,
     is_load: bool,
     deed: usize,
@@ -70,7 +70,7 @@ impl Record {
         Ok(())
     }
 
-    /// The step left an event. Gives its place.
+    /// The step left an event. Gives its index.
     pub fn add_event(&mut self) -> usize {
         let event = self.events;
         self.events = self.events.saturating_add(1);
@@ -113,7 +113,7 @@ impl Record {
         self.departures.as_slice()
     }
 
-    /// The global memory order, as places of events: a store stands at its time, a load as early as it can be.
+    /// The global memory order, as indexes of events: a store stands at its time, a load as early as it can be.
     ///
     /// # Errors
     ///
@@ -122,7 +122,7 @@ impl Record {
         self.order_by(alloc, Placing::Earliest)
     }
 
-    /// A global memory order, as places of events.
+    /// A global memory order, as indexes of events.
     ///
     /// # Errors
     ///
@@ -143,20 +143,20 @@ impl Record {
     ///
     /// `OutOfMemory` alone.
     pub fn placed(&self, alloc: Global, placing: Placing) -> Result<Vec<usize>, OutOfMemory> {
-        let mut places = self.places(alloc, placing)?;
-        places.sort_unstable();
-        let mut numbers = Vec::with_capacity(alloc, places.len())?;
-        for place in &places {
-            numbers.push(place.deed)?;
+        let mut entries = self.entries(alloc, placing)?;
+        entries.sort_unstable();
+        let mut numbers = Vec::with_capacity(alloc, entries.len())?;
+        for entry in &entries {
+            numbers.push(entry.deed)?;
         }
         Ok(numbers)
     }
 
     /// Where each operation stands, the last one first.
-    fn places(&self, alloc: Global, placing: Placing) -> Result<Vec<Place>, OutOfMemory> {
+    fn entries(&self, alloc: Global, placing: Placing) -> Result<Vec<OrderEntry>, OutOfMemory> {
         // For each hart the time of the oldest of its later loads that read old.
         let mut oldest = vec![in alloc; u32::MAX; 256]?;
-        let mut places = Vec::with_capacity(alloc, self.deeds.len())?;
+        let mut entries = Vec::with_capacity(alloc, self.deeds.len())?;
         for (number, deed) in self.deeds.iter().enumerate().rev() {
             let is_load = !deed.access.stores();
             let latest = oldest.get_mut(usize::from(deed.hart));
@@ -170,12 +170,12 @@ impl Record {
                     deed.earliest.max(deed.at.min(*latest))
                 }
             };
-            places.push(Place {
+            entries.push(OrderEntry {
                 time,
                 is_load,
                 deed: number,
             })?;
         }
-        Ok(places)
+        Ok(entries)
     }
 }

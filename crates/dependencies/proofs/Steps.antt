@@ -25,8 +25,8 @@ depends_hart is t h j r i (through _ _ m p _ d c s e) = depends_hart is t h m p 
 abbrev pub Stays : List Instr → List Event → ℕ → ℕ → ℕ → Type 0
 Stays is t h j r = (event t j).hart ≡ h → destination_at is t j ≢ r
 
-pub kept_down : (is : List Instr) (t : List Event) (h j k r i : ℕ) → k ≡ j + 1 → Stays is t h j r → Depends is t h k r i → Depends is t h j r i
-kept_down is t h j k r i n stays (directly _ _ _ w) = directly j r i (record {
+pub stays_down : (is : List Instr) (t : List Event) (h j k r i : ℕ) → k ≡ j + 1 → Stays is t h j r → Depends is t h k r i → Depends is t h j r i
+stays_down is t h j k r i n stays (directly _ _ _ w) = directly j r i (record {
   earlier = elim (cases_eq i j) [
     | inl same ↦ absurd (stays (sym (ap (λ a. (event t a).hart) same) ∙ w.hart) (sym (ap (destination_at is t) same) ∙ w.destination))
     | inr other ↦ omega (arith, w.earlier, other, n)
@@ -36,10 +36,10 @@ kept_down is t h j k r i n stays (directly _ _ _ w) = directly j r i (record {
   destination = w.destination;
   last = λ a l m. w.last a l (omega (arith, m, n));
 })
-kept_down is t h j k r i n stays (through _ _ m p _ d c s e) = through j r m p i (kept_down is t h j k r m n stays d) c s e
+stays_down is t h j k r i n stays (through _ _ m p _ d c s e) = through j r m p i (stays_down is t h j k r m n stays d) c s e
 
-pub kept_up : (is : List Instr) (t : List Event) (h j r i : ℕ) → Stays is t h j r → Depends is t h j r i → Depends is t h (j + 1) r i
-kept_up is t h j r i stays (directly _ _ _ w) = directly (j + 1) r i (record {
+pub stays_up : (is : List Instr) (t : List Event) (h j r i : ℕ) → Stays is t h j r → Depends is t h j r i → Depends is t h (j + 1) r i
+stays_up is t h j r i stays (directly _ _ _ w) = directly (j + 1) r i (record {
   earlier = omega (arith, w.earlier);
   hart = w.hart;
   register = w.register;
@@ -51,7 +51,7 @@ kept_up is t h j r i stays (directly _ _ _ w) = directly (j + 1) r i (record {
         (λ d. stays (sym (ap (λ x. (event t x).hart) same) ∙ s) (sym (ap (destination_at is t) same) ∙ d))
   ];
 })
-kept_up is t h j r i stays (through _ _ m p _ d c s e) = through (j + 1) r m p i (kept_up is t h j r m stays d) c s e
+stays_up is t h j r i stays (through _ _ m p _ d c s e) = through (j + 1) r m p i (stays_up is t h j r m stays d) c s e
 
 -- what a source register of the instruction at j depends on, where it carries it on
 abbrev pub Carried_on : List Instr → List Event → ℕ → ℕ → ℕ → Type 0

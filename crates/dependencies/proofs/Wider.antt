@@ -6,7 +6,7 @@ use Rattle.rv64_decode.specs.declared.instruction.Instr.TheVariants.{Ecall, Sb, 
 use Rattle.round_schedule.specs.declared.event.Event.{Event}
 use Rattle.round_schedule.specs.Positions.{event}
 use Rattle.memory_order.specs.Operations.{is_plain_store}
-use Rattle.memory_order.specs.Orders.{place}
+use Rattle.memory_order.specs.Orders.{order_position}
 use Rattle.memory_order.specs.Rvwmo.{MeetsRvwmo, MeetsRvwmoBy, NotPlainStore}
 use Rattle.memory_order.proofs.Fewer.{fewer_are_met}
 use Rattle.dependencies.specs.Dependencies.{DependencyRule, Depends, by-address, by-address-between, by-control, by-data, by-forwarding, destination_at, directly, has_failed, registers_at, through}
@@ -45,4 +45,4 @@ rule_is_wider is t pos a b stores (by-address-between m s before d) = not_plain_
 
 pub wider_is_wider : WiderRuleIsWider
 wider_is_wider is t opening g stores meets =
-    fewer_are_met (DependencyRule is t) (λ pos. NotPlainStore t) t opening g (λ a b. rule_is_wider is t (place g) a b stores) meets
+    fewer_are_met (DependencyRule is t) (λ pos. NotPlainStore t) t opening g (λ a b. rule_is_wider is t (order_position g) a b stores) meets

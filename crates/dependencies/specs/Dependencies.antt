@@ -9,10 +9,10 @@ use Rattle.round_schedule.specs.declared.event.Event.{Event}
 use Rattle.round_schedule.specs.Positions.{ProgramBefore, event, reads_at}
 use Rattle.memory_order.specs.Operations.{is_operation, is_store}
 use Rattle.memory_order.specs.Rvwmo.{IsSource}
-use Rattle.dependencies.specs.declared.table.Registers.{Registers}
+use Rattle.dependencies.specs.declared.registers.Registers.{Registers}
 use Rattle.dependencies.specs.Registers.{registers_of}
 
--- the registers of the instruction at a place; past the end there are none
+-- the registers of the instruction at an index; past the end there are none
 abbrev pub registers_at : List Instr → ℕ → Registers
 registers_at is i = registers_of (slice_index_or is i Ecall)
 
@@ -21,7 +21,7 @@ abbrev pub has_failed : Access → Bool
 has_failed (StoreConditional w o p a None) = true
 has_failed _ = false
 
--- the destination register of the instruction at a place; an SC that failed has none
+-- the destination register of the instruction at an index; an SC that failed has none
 abbrev pub destination_at : List Instr → List Event → ℕ → ℕ
 destination_at is t i = if has_failed (event t i).access then 0 else (registers_at is i).destination
 
@@ -29,7 +29,7 @@ destination_at is t i = if has_failed (event t i).access then 0 else (registers_
 abbrev pub IsSourceRegister : Registers → ℕ → Type 0
 IsSourceRegister x r = ((r ≡ x.address) ⊎ (r ≡ x.value)) ⊎ ((r ≡ x.first) ⊎ (r ≡ x.second))
 
--- of the instructions of hart h before place j, the last that has r as its destination is at i
+-- of the instructions of hart h before index j, the last that has r as its destination is at i
 pub record IsLastWriter (is : List Instr) (t : List Event) (h j r i : ℕ) : Type 0 where
   pub earlier : i < j
   pub hart : (event t i).hart ≡ h
@@ -37,7 +37,7 @@ pub record IsLastWriter (is : List Instr) (t : List Event) (h j r i : ℕ) : Typ
   pub destination : destination_at is t i ≡ r
   pub last : (k : ℕ) → i < k → k < j → (event t k).hart ≡ h → destination_at is t k ≢ r
 
--- an instruction of hart h at place j has a syntactic dependency on the one at i via its source register r
+-- an instruction of hart h at index j has a syntactic dependency on the one at i via its source register r
 pub data Depends (is : List Instr) (t : List Event) (h : ℕ) : ℕ → ℕ → ℕ → Type 0 where
   -- i has r as its destination, and no instruction between has
   directly : (j r i : ℕ) → IsLastWriter is t h j r i → Depends is t h j r i
@@ -69,8 +69,8 @@ pub data DependencyRule (is : List Instr) (t : List Event) (pos : ℕ → ℕ) (
   by-address-between : (m : ℕ) → is_store (event t b) ≡ true → ProgramBefore t m b → AddressDependency is t a m → DependencyRule is t pos a b
 
 -- what these rules order before b stands before it
-abbrev pub KeptAt : List Instr → List Event → (ℕ → ℕ) → ℕ → Type 0
-KeptAt is t pos b = (a : ℕ) → is_operation (event t a) ≡ true → DependencyRule is t pos a b → pos a < pos b
+abbrev pub RespectsAt : List Instr → List Event → (ℕ → ℕ) → ℕ → Type 0
+RespectsAt is t pos b = (a : ℕ) → is_operation (event t a) ≡ true → DependencyRule is t pos a b → pos a < pos b
 
-abbrev pub KeepsDependencies : List Instr → List Event → (ℕ → ℕ) → Type 0
-KeepsDependencies is t pos = (b : ℕ) → is_operation (event t b) ≡ true → KeptAt is t pos b
+abbrev pub RespectsDependencies : List Instr → List Event → (ℕ → ℕ) → Type 0
+RespectsDependencies is t pos = (b : ℕ) → is_operation (event t b) ≡ true → RespectsAt is t pos b

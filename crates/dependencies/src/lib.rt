@@ -2,7 +2,7 @@
 #![tactic(auto)]
 
 mod laws;
-mod table;
+mod registers;
 
 pub use laws::wider_rule_is_wider;
-pub use table::{Registers, used_registers};
+pub use registers::{Registers, used_registers};

@@ -3,7 +3,7 @@ use Rattle.std.proofs.Common.{◌≡◌, ℕ, zero, suc, ◌+◌, ◌<◌, List,
 use Rattle.std.proofs.lemmas.List.{get_or-map, map-append}
 use Rattle.round_schedule.specs.declared.event.Event.{Event}
 use Rattle.run_settings.specs.declared.settings.Format.{Format}
-use Rattle.elf_symbols.specs.Parts.{Part, as_part}
+use Rattle.elf_symbols.specs.Offsets.{NamedOffset, as_offset}
 use Rattle.picture.specs.Titles.{Told, told}
 use Rattle.picture.specs.declared.site.Site.{Site}
 use Rattle.drawing.specs.Drawn.{object_touched, told_by}
@@ -18,10 +18,10 @@ one_more : {X A : Type 0} (f : X → A) (xs : List X) (i : ℕ) (d : X) (a : A) 
 one_more f xs i d a old new lt o n e = n ∙ ap (λ z. z ++ a ∷ []) o ∙ ap (λ z. map f (take i xs) ++ z ∷ []) e ∙ snoc f xs i d lt
 
 -- what a site tells
-pub told_is : (s : Site) (format : Format) (file : List ℕ) (e : Event) (pc : Option ℕ) → s.pc ≡ pc → option_map as_part s.object ≡ object_touched format file e → told s ≡ told_by format file e pc
-told_is s format file e pc p o = ap (λ (q : Option ℕ). pair q (option_map as_part s.object)) p ∙ ap (pair pc) o
+pub told_is : (s : Site) (format : Format) (file : List ℕ) (e : Event) (pc : Option ℕ) → s.pc ≡ pc → option_map as_offset s.object ≡ object_touched format file e → told s ≡ told_by format file e pc
+told_is s format file e pc p o = ap (λ (q : Option ℕ). pair q (option_map as_offset s.object)) p ∙ ap (pair pc) o
   where
-    pair : Option ℕ → Option Part → Told
+    pair : Option ℕ → Option NamedOffset → Told
     pair q x = record { pc = q; object = x }
 
 pub told_more : (format : Format) (file : List ℕ) (events : List Event) (pcs : List (Option ℕ)) (f : Event → Option ℕ) (i : ℕ) (d : Event) (p : Option ℕ) (sites new : List Site) (s : Site) →

@@ -3,7 +3,7 @@ use Rattle.std.specs.Prelude.{◌≡◌, ℕ, ◌-◌, ◌==◌, if◌then◌els
 use Rattle.round_planner.specs.Quotas.{Planned}
 use Rattle.round_schedule.specs.declared.event.Event.{Event}
 use Rattle.round_schedule.specs.Accesses.{address_of, bytes_of}
-use Rattle.elf_symbols.specs.Parts.{Part, object_part}
+use Rattle.elf_symbols.specs.Offsets.{NamedOffset, object_offset}
 use Rattle.picture.specs.Picture.{Drawn, picture_text}
 use Rattle.picture.specs.Rows.{events_shown}
 use Rattle.picture.specs.Titles.{Told}
@@ -28,8 +28,8 @@ abbrev pub before_drawn : ℕ → View → ℕ
 before_drawn rounds v = min (v.from - 1) (last_drawn rounds v)
 
 -- the object that an access touches, by its first byte: where the file is ELF, the one that its symbol table names
-abbrev pub object_touched : Format → List ℕ → Event → Option Part
-object_touched Elf file e = if bytes_of e.access == 0 then None else object_part file (address_of e.access)
+abbrev pub object_touched : Format → List ℕ → Event → Option NamedOffset
+object_touched Elf file e = if bytes_of e.access == 0 then None else object_offset file (address_of e.access)
 object_touched Flat file e = None
 
 -- what is told of an event beside the trace: the pc of its instruction, and that object

@@ -5,12 +5,12 @@ ghost use Rattle.round_schedule.specs.declared.event.Event.{Event};
 ghost use Rattle.host_io.specs.declared.error.RunError.TheVariants as refusals;
 ghost use Rattle.machine.specs.Machine.{Running, after_rounds};
 ghost use Rattle.machine.specs.Untraced.{IsUntraced};
-ghost use Rattle.elf_symbols.specs.Parts.{as_part};
+ghost use Rattle.elf_symbols.specs.Offsets.{as_offset};
 ghost use Rattle.picture.specs.Rows.{events_shown};
 ghost use Rattle.picture.specs.Titles.{told};
 ghost use Rattle.drawing.specs.Drawn.{object_touched, told_by, told_of};
 
-use elf_symbols::{SymbolPart, find_object_part};
+use elf_symbols::{SymbolOffset, find_object_offset};
 use host_io::RunError;
 use machine::{Format, Settings, UntracedMachine};
 use pages::OutOfMemory;
@@ -23,8 +23,12 @@ use std::thread::Threads;
 use trace::Trace;
 
 /// The object that an access touches, by its first byte: where the file is ELF, the one that its symbol table names.
-pub fn object_touched<'a>(format: Format, image: &'a [u8], event: &Event) -> Option<SymbolPart<'a>>
-    ensures { option_map as_part result ≡ object_touched format image.now event.now }
+pub fn object_touched<'a>(
+    format: Format,
+    image: &'a [u8],
+    event: &Event,
+) -> Option<SymbolOffset<'a>>
+    ensures { option_map as_offset result ≡ object_touched format image.now event.now }
 {
     match format {
         Format::Flat => None,
@@ -32,7 +36,7 @@ pub fn object_touched<'a>(format: Format, image: &'a [u8], event: &Event) -> Opt
             if event.access.byte_count() == 0 {
                 return None;
             }
-            find_object_part(image, event.access.address())
+            find_object_offset(image, event.access.address())
         }
     }
 }

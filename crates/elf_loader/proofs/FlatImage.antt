@@ -62,9 +62,9 @@ only_item {X = X} ns xs x none is = is ∙ ap (λ (ys : List X). ys ++ x ∷ [])
 in_code : (n : ℕ) → 4 ≤ n → all_code (record { start = 0; len = n } ∷ []) 0 4 ≡ true
 in_code n h = grind (arith, nat_tests)
 
-one_kept : (p : Piece) (file : List ℕ) (pages : ℕ) → p.start ≡ 0 → p.bytes.items ≡ file → 1 ≤ pages → pages ≤ 16384 →
+one_is_image : (p : Piece) (file : List ℕ) (pages : ℕ) → p.start ≡ 0 → p.bytes.items ≡ file → 1 ≤ pages → pages ≤ 16384 →
     IsBytes file → length file ≤ 4096 * pages → 4 ≤ length file → IsImage (p ∷ []) (record { start = 0; len = length file } ∷ []) 0 pages
-one_kept p file pages z same some few small fits long = record {
+one_is_image p file pages z same some few small fits long = record {
   some_pages = some;
   few_pages = few;
   bytes = All-one (λ (q : Piece). IsBytes q.bytes.items) p (subst IsBytes (sym same) small);
@@ -78,12 +78,12 @@ one_kept p file pages z same some few small fits long = record {
     All-one : {X : Type 0} (P : X → Type 0) (x : X) → P x → All P (x ∷ [])
     All-one P x h = All-cons P x [] h (λ k d l. absurd (omega (arith, l)))
 
-pub flat_kept : (ps : List Piece) (p : Piece) (code : List Range) (file : List ℕ) (pages : ℕ) → ps ≡ p ∷ [] → p.start ≡ 0 → p.bytes.items ≡ file →
+pub flat_is_image : (ps : List Piece) (p : Piece) (code : List Range) (file : List ℕ) (pages : ℕ) → ps ≡ p ∷ [] → p.start ≡ 0 → p.bytes.items ≡ file →
     code ≡ record { start = 0; len = length file } ∷ [] → 1 ≤ pages → pages ≤ 16384 →
     IsBytes file → length file ≤ 4096 * pages → 4 ≤ length file → IsImage ps code 0 pages
-flat_kept ps p code file pages one z same ranges some few small fits long =
+flat_is_image ps p code file pages one z same ranges some few small fits long =
     subst (λ (qs : List Piece). IsImage qs code 0 pages) (sym one)
-    (subst (λ (rs : List Range). IsImage (p ∷ []) rs 0 pages) (sym ranges) (one_kept p file pages z same some few small fits long))
+    (subst (λ (rs : List Range). IsImage (p ∷ []) rs 0 pages) (sym ranges) (one_is_image p file pages z same some few small fits long))
 
 pub past_memory : (file : List ℕ) (pages : ℕ) → 4096 * pages < length file → IsLeast (StandsInFlat file pages) causes.PastMemory
 past_memory file pages h = record { stands = h; least = below }

@@ -110,10 +110,10 @@ entry_fetched code e h = second (e % 4 == 0) (all_code code e 4) h
     second true b h = h
     second false b h = cc
 
-pub elf_kept : (file : List ℕ) (pages : ℕ) (ss : List Segment) (ps : List Piece) (code : List Range) (entry : ℕ) → 1 ≤ pages → pages ≤ 16384 → IsBytes file →
+pub elf_is_image : (file : List ℕ) (pages : ℕ) (ss : List Segment) (ps : List Piece) (code : List Range) (entry : ℕ) → 1 ≤ pages → pages ≤ 16384 → IsBytes file →
     list_any (is_past_file (length file)) ss ≡ false → list_any (is_past_memory (4096 * pages)) ss ≡ false → has_overlap ss ≡ false → ArePieces file ss ps →
     code ≡ code_of ss → is_entry code entry ≡ true → IsImage ps code entry pages
-elf_kept file pages ss ps code entry some few small f g o h is e = record {
+elf_is_image file pages ss ps code entry some few small f g o h is e = record {
   some_pages = some;
   few_pages = few;
   bytes = pieces_bytes file ss ps small h;

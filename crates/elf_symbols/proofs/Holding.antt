@@ -1,7 +1,7 @@
 -- One step of going through the entries of a symbol table for the symbol that has an address, and names up to their end.
 use Rattle.std.proofs.Common.{◌≡◌, ℕ, zero, suc, ◌+◌, ◌<◌, ◌==◌, Bool, true, false, if◌then◌else◌, List, [], ◌∷◌, length, take, get_or, Some, refl, sym, ◌∙◌, ap, arith}
 use Rattle.std.proofs.lemmas.Bool.Decides.{nat_tests}
-use Rattle.elf_symbols.specs.Parts.{before_zero, has_address, holder_from}
+use Rattle.elf_symbols.specs.Offsets.{before_zero, has_address, holder_from}
 use Rattle.elf_symbols.specs.Symbols.{symbol_at}
 
 pub holder_here : (kind : ℕ) (entries : List ℕ) (a at m n : ℕ) → has_address kind a (symbol_at entries at) ≡ true → n ≡ suc m →

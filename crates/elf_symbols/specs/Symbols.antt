@@ -76,7 +76,7 @@ symbol_at entries at = record {
 abbrev pub is_of : ℕ → Symbol → Bool
 is_of kind s = (bit_and s.info 15 == kind) && nat_lt 0 s.size
 
--- the string at a place is this name: its bytes stand there, and then the byte 0 that ends it
+-- the string at an offset is this name: its bytes stand there, and then the byte 0 that ends it
 abbrev pub is_name : List ℕ → ℕ → List ℕ → Bool
 is_name strings at name =
     nat_lt (at + length name) (length strings) && bytes_eq (take (length name) (drop at strings)) name

@@ -4,10 +4,10 @@
 mod field;
 mod finding;
 mod object;
-mod part;
+mod offset;
 mod section;
 mod symbol;
 
 pub use finding::{find_function, find_object, has_symbol_table};
 pub use object::Object;
-pub use part::{SymbolPart, find_object_part, function_at};
+pub use offset::{SymbolOffset, find_object_offset, function_at};

@@ -1,5 +1,5 @@
 ghost use Rattle.std.specs.Prelude.{◌≡◌, ◌+◌, ◌≤◌, length};
-ghost use Rattle.elf_symbols.specs.Parts.{has_address, holder_among};
+ghost use Rattle.elf_symbols.specs.Offsets.{has_address, holder_among};
 ghost use Rattle.elf_symbols.specs.Symbols.{is_name, is_named, is_of, object_at, object_among, symbol_at};
 
 use crate::field::{double_at, word_at};
@@ -27,15 +27,15 @@ pub(crate) struct Symbol {
     pub size: u64,
 }
 
-/// Whether the string at a place is this name.
-fn is_name(strings: &[u8], place: usize, name: &[u8]) -> bool
-    ensures { result ≡ is_name strings.now place name.now }
+/// Whether the string at an offset is this name.
+fn is_name(strings: &[u8], start: usize, name: &[u8]) -> bool
+    ensures { result ≡ is_name strings.now start name.now }
 {
-    if place >= strings.len() || strings.len() - place <= name.len() {
+    if start >= strings.len() || strings.len() - start <= name.len() {
         return false;
     }
-    let end = place + name.len();
-    &strings[place..end] == name && strings[end] == 0
+    let end = start + name.len();
+    &strings[start..end] == name && strings[end] == 0
 }
 
 impl Symbol {
@@ -98,7 +98,7 @@ pub(crate) fn object_among(kind: u8, entries: &[u8], strings: &[u8], name: &[u8]
 }
 
 /// The first symbol of a type that has an address among the entries of a symbol table.
-#[tactic(auto, unfolding(crate::specs::Parts::holder_among))]
+#[tactic(auto, unfolding(crate::specs::Offsets::holder_among))]
 pub(crate) fn holder_among(kind: u8, entries: &[u8], address: u64) -> Option<Symbol>
     ensures { result ≡ holder_among kind entries.now address }
 {

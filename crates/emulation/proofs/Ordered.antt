@@ -26,10 +26,10 @@ same_opening t f g budget e h = record {
   reservations = h.reservations;
 }
 
-pub order_of : (s : Settings) (file input : List ℕ) (plan : Planned) (places : List ℕ) (t : List Event) → IsPlan s plan → t ≡ trace_after s file input plan → IsRoundOrder t places →
-    IsRoundTrace t (λ x. slice_index (image_for s file).bytes x) s.budget → IsOrderOfRun s file input plan places
-order_of s file input plan places t planned run by_rounds rounds = record {
+pub order_of : (s : Settings) (file input : List ℕ) (plan : Planned) (indices : List ℕ) (t : List Event) → IsPlan s plan → t ≡ trace_after s file input plan → IsRoundOrder t indices →
+    IsRoundTrace t (λ x. slice_index (image_for s file).bytes x) s.budget → IsOrderOfRun s file input plan indices
+order_of s file input plan indices t planned run by_rounds rounds = record {
   planned = planned;
-  by_rounds = subst (λ (events : List Event). IsRoundOrder events places) run by_rounds;
-  rvwmo = subst (λ (events : List Event). MeetsRvwmo events (λ x. slice_index (image_for s file).bytes x) places) run (meets_rvwmo t places by_rounds (λ x. slice_index (image_for s file).bytes x) s.budget rounds);
+  by_rounds = subst (λ (events : List Event). IsRoundOrder events indices) run by_rounds;
+  rvwmo = subst (λ (events : List Event). MeetsRvwmo events (λ x. slice_index (image_for s file).bytes x) indices) run (meets_rvwmo t indices by_rounds (λ x. slice_index (image_for s file).bytes x) s.budget rounds);
 }

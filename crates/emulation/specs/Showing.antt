@@ -12,11 +12,11 @@ use Rattle.run_settings.specs.Settings.{IsPlan}
 use Rattle.run_settings.specs.declared.settings.Settings.{Settings}
 use Rattle.emulation.specs.declared.run_end.RunEnd.{RunEnd}
 use Rattle.emulation.specs.declared.run_end.RunEnd.TheVariants.{Badly, RunsOn, Well}
-use Rattle.emulation.specs.declared.showing.Shown.{Shown}
-use Rattle.emulation.specs.declared.showing.Shown.TheVariants.{State as Whole, Harts, Output}
+use Rattle.emulation.specs.declared.showing.ShownState.{ShownState}
+use Rattle.emulation.specs.declared.showing.ShownState.TheVariants.{State as Whole, Harts, Output}
 
 -- the text of it
-abbrev pub shown_text : Shown → State Hart ConsoleState → List ℕ
+abbrev pub shown_text : ShownState → State Hart ConsoleState → List ℕ
 shown_text Whole s = state_text s.rounds s.harts s.bytes s.console.output
 shown_text Harts s = summary_text s.rounds s.harts s.console.output
 shown_text Output s = s.console.output
@@ -39,7 +39,7 @@ abbrev pub end_of : List Hart → RunEnd
 end_of hs = if some_run hs then RunsOn else (if all_end_well hs then Well else Badly)
 
 -- the text is what is shown of the run that the settings name, and so do its harts end
-pub record IsShown (shown : Shown) (s : Settings) (file input : List ℕ) (end : RunEnd) (text : List ℕ) : Type 0 where
+pub record IsShown (shown : ShownState) (s : Settings) (file input : List ℕ) (end : RunEnd) (text : List ℕ) : Type 0 where
   pub plan : Planned
   pub planned : IsPlan s plan
   pub is_text : text ≡ shown_text shown (after_run s file input plan).state

@@ -15,6 +15,6 @@ pub use observed::Observed;
 pub use ordering::order_run;
 pub use reporting::{Report, report_on};
 pub use run_end::RunEnd;
-pub use showing::{Shown, report_run, show_run};
+pub use showing::{ShownState, report_run, show_run};
 pub use tracing::trace_run;
 pub use unvisited::Unvisited;

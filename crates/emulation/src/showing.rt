@@ -20,7 +20,7 @@ use std::thread::Threads;
 
 /// What is shown of a run that keeps no trace.
 #[derive(Clone, Copy, Debug, PartialEq, Eq)]
-pub enum Shown {
+pub enum ShownState {
     /// The report without its events.
     State,
     /// The report's lines of the rounds and the harts, and how many bytes the guest put out.
@@ -41,7 +41,7 @@ pub fn show_run<S: Sink, V: Visitor, R: Threads + Wait + Sync>(
     alloc: Global,
     files: &GuestFiles<'_>,
     settings: &Settings<'_>,
-    shown: Shown,
+    shown: ShownState,
     visitor: &mut V,
     out: &mut S,
 ) -> Result<RunEnd, RunError>
@@ -99,15 +99,15 @@ pub fn report_run<S: Sink, V: Visitor, R: Threads + Wait + Sync>(
 fn write_shown<S: Sink>(
     alloc: Global,
     machine: &UntracedMachine,
-    shown: Shown,
+    shown: ShownState,
     out: &mut S,
 ) -> Result<(), RunError>
     ensures { (m : Running) → IsUntraced m machine.now → WritesText (shown_text shown m.state)
         (S.took out.old) (S.failures out.old) result (S.took out.new) (S.failures out.new) }
 {
     match shown {
-        Shown::State => write_untraced(alloc, &untraced_state_of(machine), out),
-        Shown::Harts => write_summary(alloc, &untraced_state_of(machine), out),
-        Shown::Output => put_all(out, machine.output()),
+        ShownState::State => write_untraced(alloc, &untraced_state_of(machine), out),
+        ShownState::Harts => write_summary(alloc, &untraced_state_of(machine), out),
+        ShownState::Output => put_all(out, machine.output()),
     }
 }

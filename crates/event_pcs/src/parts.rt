@@ -1,12 +1,12 @@
 //! The pcs of events in the parts of the parallel phase: each part that has some is walked over once.
 
 ghost use Rattle.std.specs.Prelude.{◌≡◌, ◌≤◌, ◌<◌, ◌+◌, ◌^◌, ◌++◌, ◌∷◌, [], All, IfOk, OnOk, None, Some, length, map, slice_get, take, true};
-ghost use Rattle.hart_step.specs.CodeTables.{Shows};
+ghost use Rattle.hart_step.specs.DecodedCode.{Shows};
 ghost use Rattle.event_pcs.specs.Parts.{is_of_part, pc_in_parts};
 
 use crate::stretches::{count_of_part, events_from};
 use crate::turns::done_by;
-use hart_step::{Buffered, CodeTable, Hart};
+use hart_step::{Buffered, DecodedCode, Hart};
 use machine::UntracedMachine;
 use pages::OutOfMemory;
 use round_schedule::{Event, Phase};
@@ -22,11 +22,11 @@ pub(crate) fn pcs_in_parts(
     ensures { IfOk result (λ v. v.items ≡ map (pc_in_parts machine.now) events.now) }
 {
     let pages = machine.pages();
-    let table = decoded(pages, most_walked(machine, events))?;
+    let code = decoded(pages, most_walked(machine, events))?;
     let mut pcs = Vec::new(pages.allocator());
     let mut done = 0;
     while done < events.len() {
-        done += add_first_pcs(machine, &table, events_from(events, done), &mut pcs)?;
+        done += add_first_pcs(machine, &code, events_from(events, done), &mut pcs)?;
     }
     Ok(pcs)
 }
@@ -52,13 +52,13 @@ fn most_walked(machine: &UntracedMachine, events: &[Event]) -> u64 {
 /// Adds the pcs of the first of these events, in one walk over a part at most, and answers of how many.
 fn add_first_pcs(
     machine: &UntracedMachine,
-    table: &CodeTable,
+    code: &DecodedCode,
     events: &[Event],
     pcs: &mut Vec<Option<u64>>,
 ) -> Result<usize, OutOfMemory>
     requires rounds { machine.now.rounds + 1 < 2 ^ 32 }
     requires shows { Shows (record { bytes = machine.now.bytes; code = machine.now.code })
-        table.now.first table.now.instructions }
+        code.now.first code.now.instructions }
     requires some { 1 ≤ length events.now }
     ensures some { IfOk result (λ n. 1 ≤ n) }
     ensures few { IfOk result (λ n. n ≤ length events.now) }
@@ -72,7 +72,7 @@ fn add_first_pcs(
             None => add_no_pc(pcs),
             Some(hart) => {
                 let count = count_of_part(events, first.hart);
-                add_in_walk(machine, table, first.hart, *hart, &events[..count], pcs)
+                add_in_walk(machine, code, first.hart, *hart, &events[..count], pcs)
             }
         },
     }
@@ -90,7 +90,7 @@ fn add_no_pc(pcs: &mut Vec<Option<u64>>) -> Result<usize, OutOfMemory>
 /// The same of events of one hart's part, which are all the events.
 fn add_in_walk(
     machine: &UntracedMachine,
-    table: &CodeTable,
+    code: &DecodedCode,
     number: u8,
     hart: Hart,
     events: &[Event],
@@ -98,7 +98,7 @@ fn add_in_walk(
 ) -> Result<usize, OutOfMemory>
     requires rounds { machine.now.rounds + 1 < 2 ^ 32 }
     requires shows { Shows (record { bytes = machine.now.bytes; code = machine.now.code })
-        table.now.first table.now.instructions }
+        code.now.first code.now.instructions }
     requires some { 1 ≤ length events.now }
     requires hart { slice_get machine.now.harts number ≡ Some hart }
     requires part { All (λ e. is_of_part number e ≡ true) events.now }
@@ -115,5 +115,5 @@ fn add_in_walk(
     let pages = machine.pages();
     let mut walked = hart;
     let mut view = Buffered::new(pages.allocator(), pages);
-    add_pcs_in_part(&mut walked, &mut view, table, quota, events, pcs)
+    add_pcs_in_part(&mut walked, &mut view, code, quota, events, pcs)
 }

@@ -6,12 +6,12 @@ ghost use Rattle.event_pcs.specs.Parts.{is_of_part};
 
 use round_schedule::{Event, Phase};
 
-/// The events from a place on.
-pub(crate) fn events_from(events: &[Event], place: usize) -> &[Event]
-    requires { place ≤ length events.now }
-    ensures { result.now ≡ drop place events.now }
+/// The events from an index on.
+pub(crate) fn events_from(events: &[Event], index: usize) -> &[Event]
+    requires { index ≤ length events.now }
+    ensures { result.now ≡ drop index events.now }
 {
-    &events[place..]
+    &events[index..]
 }
 
 /// How many events, from the first on, are of a round.

@@ -11,7 +11,7 @@ use Rattle.round_schedule.specs.declared.access.Stepped.TheVariants.{Done, Stopp
 use Rattle.round_schedule.specs.declared.span.Span.{Span}
 use Rattle.round_schedule.specs.Schedule.{SerialOutcome}
 use Rattle.hart_step.specs.declared.hart.Hart.{Hart}
-use Rattle.hart_step.specs.CodeTables.{decoded, instr_in}
+use Rattle.hart_step.specs.DecodedCode.{decoded, instr_in}
 use Rattle.hart_step.specs.Console.{ConsoleState}
 use Rattle.hart_step.specs.Effect.{Action, Put, Jump, Branch, Read, Write, Order, Halt, Reserve, Conditional, Exchange, Call, action}
 use Rattle.hart_step.specs.Registers.{reg}

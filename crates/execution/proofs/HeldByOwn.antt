@@ -5,7 +5,7 @@ use Rattle.round_schedule.specs.declared.event.Event.{Event}
 use Rattle.round_schedule.specs.declared.span.Span.{Span}
 use Rattle.round_schedule.specs.declared.access.Access.TheVariants.{Load, Store, LoadReserved, StoreConditional, Atomic, Fence}
 use Rattle.round_schedule.specs.Accesses.{writes}
-use Rattle.round_schedule.specs.Held.{held, held_after, held_from, kept_by_own, unless}
+use Rattle.round_schedule.specs.Held.{held, held_after, held_from, held_after_own, unless}
 use Rattle.execution.specs.Executions.{MayHold, own_held, own_held_from}
 
 none_or_same : (b : Bool) (s own : Option Span) → MayHold own s → MayHold own (if b then None else s)
@@ -16,7 +16,7 @@ unless_may : (f : ℕ → Bool) (s own : Option Span) → MayHold own s → MayH
 unless_may f None own m = inl refl
 unless_may f (Some s) own m = none_or_same _ (Some s) own m
 
-kept_may : (a : Access) (s own : Option Span) → MayHold own s → MayHold (kept_by_own a own) (kept_by_own a s)
+kept_may : (a : Access) (s own : Option Span) → MayHold own s → MayHold (held_after_own a own) (held_after_own a s)
 kept_may (LoadReserved w o p x r) s own m = inr refl
 kept_may (StoreConditional w o p x v) s own m = inl refl
 kept_may (Load w p x r) s own m = m
@@ -25,7 +25,7 @@ kept_may (Atomic w o p x r v) s own m = m
 kept_may (Fence b c d p) s own m = m
 
 after_may : (b : Bool) (e : Event) (s own : Option Span) → MayHold own s →
-    MayHold (if b then kept_by_own e.access own else own) (if b then kept_by_own e.access s else unless (writes e.access) s)
+    MayHold (if b then held_after_own e.access own else own) (if b then held_after_own e.access s else unless (writes e.access) s)
 after_may true e s own m = kept_may e.access s own m
 after_may false e s own m = unless_may (writes e.access) s own m
 

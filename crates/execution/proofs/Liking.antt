@@ -11,15 +11,15 @@ use Rattle.round_schedule.specs.declared.access.Access.{Access}
 use Rattle.round_schedule.specs.declared.access.Stepped.{Stepped}
 use Rattle.round_schedule.specs.declared.access.Stepped.TheVariants.{Done, Stopped, Waits}
 use Rattle.round_schedule.specs.declared.span.Span.{Span}
-use Rattle.round_schedule.specs.TabledTurn.{updated}
-use Rattle.serial_phase.specs.Words.{answered_table}
+use Rattle.round_schedule.specs.ReservingTurn.{updated}
+use Rattle.serial_phase.specs.Words.{answered_reservations}
 use Rattle.hart_step.specs.declared.hart.Hart.{Hart}
 use Rattle.hart_step.specs.Buses.{Stores}
-use Rattle.hart_step.specs.CodeTables.{Shows}
+use Rattle.hart_step.specs.DecodedCode.{Shows}
 use Rattle.hart_step.specs.Console.{ConsoleState}
 use Rattle.hart_step.specs.SerialStep.{serial_stepped}
 use Rattle.hart_step.proofs.Shown.{shows_stores}
-use Rattle.serial_phase.proofs.CodeKept.{no_code, serial_clean}
+use Rattle.serial_phase.proofs.ShownCode.{no_code, serial_clean}
 use Rattle.execution.specs.Executions.{IsLike, IsStep, MayHold}
 
 pub like_stored : (image m : Memory) (ss : List Store) → TouchesNoCode m.code ss → IsLike image m → IsLike image (stored m ss)
@@ -67,12 +67,12 @@ step_made image m n own held b c before d h g a runs like bytes holds same answe
       console = console;
     })
 
-length-updated : (i j : ℕ) (a : Access) (table : List (Option Span)) → length (updated i j a table) ≡ length table
+length-updated : (i j : ℕ) (a : Access) (reservations : List (Option Span)) → length (updated i j a reservations) ≡ length reservations
 length-updated i j a [] = refl
-length-updated i j a (r ∷ table) = ap (λ n. suc n) (length-updated i (suc j) a table)
+length-updated i j a (r ∷ reservations) = ap (λ n. suc n) (length-updated i (suc j) a reservations)
 
-pub length-answered : (i : ℕ) (s : Stepped) (table : List (Option Span)) → length (answered_table i s table) ≡ length table
-length-answered i (Done None) table = refl
-length-answered i (Done (Some a)) table = length-updated i 0 a table
-length-answered i Waits table = refl
-length-answered i (Stopped code) table = refl
+pub length-answered : (i : ℕ) (s : Stepped) (reservations : List (Option Span)) → length (answered_reservations i s reservations) ≡ length reservations
+length-answered i (Done None) reservations = refl
+length-answered i (Done (Some a)) reservations = length-updated i 0 a reservations
+length-answered i Waits reservations = refl
+length-answered i (Stopped code) reservations = refl

@@ -14,7 +14,7 @@ use Rattle.round_schedule.specs.declared.event.Phase.TheVariants.{Parallel, Seri
 use Rattle.round_schedule.specs.declared.span.Span.{Span}
 use Rattle.round_schedule.specs.Events.{event_of, events_of}
 use Rattle.round_schedule.specs.Held.{held}
-use Rattle.round_schedule.specs.Schedule.{HartRound, Outcome, Progress, SerialOutcome, State, Turn, Words, all_stores, began, by_answer, committed, ended, events_from, first_or_zero, hart_round_of, hart_rounds, joined, rest_of, round_from, serial_from, turn_from, turn_of, turned, went}
+use Rattle.round_schedule.specs.Schedule.{HartRound, StepOutcome, Progress, SerialOutcome, State, Turn, Words, all_stores, began, by_answer, committed, ended, events_from, first_or_zero, hart_round_of, hart_rounds, joined, rest_of, round_from, serial_from, turn_from, turn_of, turned, went}
 use Rattle.round_schedule.proofs.Runs.{events_of-append}
 use Rattle.hart_step.specs.declared.hart.Hart.{Hart}
 use Rattle.hart_step.specs.Console.{ConsoleState}
@@ -22,7 +22,7 @@ use Rattle.hart_step.specs.SerialStep.{serial_stepped, with_console}
 use Rattle.hart_step.specs.Step.{stepped}
 use Rattle.hart_step.specs.Words.{words_of}
 use Rattle.hart_step.proofs.Waits.{waits_unchanged}
-use Rattle.serial_phase.proofs.CodeKept.{serial_clean}
+use Rattle.serial_phase.proofs.ShownCode.{serial_clean}
 use Rattle.execution.specs.Executions.{IsEventOf, IsLike, MayHold, Standing, no_access, own_held}
 use Rattle.execution.specs.Telling.{telling, told, told_outcome, told_serially}
 use Rattle.execution.proofs.Answering.{never_waits, stopped_console}

@@ -8,7 +8,7 @@ use Rattle.rv64_decode.specs.Table.{instr_of}
 use Rattle.round_schedule.specs.declared.access.Stepped.TheVariants.{Waits}
 use Rattle.round_schedule.specs.declared.span.Span.{Span}
 use Rattle.round_schedule.specs.Accesses.{is_full_fence}
-use Rattle.round_schedule.specs.Schedule.{Outcome, SerialOutcome}
+use Rattle.round_schedule.specs.Schedule.{StepOutcome, SerialOutcome}
 use Rattle.hart_step.specs.declared.hart.Hart.{Hart}
 use Rattle.hart_step.specs.Console.{ConsoleState}
 use Rattle.hart_step.specs.Effect.{Action, Put, Jump, Branch, Read, Write, Order, Halt, Reserve, Conditional, Exchange, Call, action}
@@ -33,13 +33,13 @@ served_alone (Conditional rd a w v o) n h m c r goes = absurd (goes refl)
 served_alone (Exchange rd a w f o) n h m c r goes = absurd (goes refl)
 served_alone Call n h m c r goes = absurd (goes refl)
 
-instr_alone : (i : Option Instr) (h : Hart) (c : ConsoleState) (f : Instr → Outcome Hart) (g : Instr → SerialOutcome Hart ConsoleState) →
+instr_alone : (i : Option Instr) (h : Hart) (c : ConsoleState) (f : Instr → StepOutcome Hart) (g : Instr → SerialOutcome Hart ConsoleState) →
     ((j : Instr) → ((f j).answer ≡ Waits → ⊥) → g j ≡ with_console c (f j)) →
     ((by_instr i (stopped_by h 2) f).answer ≡ Waits → ⊥) → by_instr i (with_console c (stopped_by h 2)) g ≡ with_console c (by_instr i (stopped_by h 2) f)
 instr_alone None h c f g each goes = refl
 instr_alone (Some i) h c f g each goes = each i goes
 
-word_alone : (w : Option ℕ) (h : Hart) (c : ConsoleState) (f : Instr → Outcome Hart) (g : Instr → SerialOutcome Hart ConsoleState) →
+word_alone : (w : Option ℕ) (h : Hart) (c : ConsoleState) (f : Instr → StepOutcome Hart) (g : Instr → SerialOutcome Hart ConsoleState) →
     ((j : Instr) → ((f j).answer ≡ Waits → ⊥) → g j ≡ with_console c (f j)) →
     ((by_word w (stopped_by h 3) (stopped_by h 2) f).answer ≡ Waits → ⊥) →
     by_word w (with_console c (stopped_by h 3)) (with_console c (stopped_by h 2)) g ≡ with_console c (by_word w (stopped_by h 3) (stopped_by h 2) f)

@@ -9,7 +9,7 @@ use Rattle.round_schedule.specs.declared.event.Event.{Event}
 use Rattle.round_schedule.specs.declared.span.Span.{Span}
 use Rattle.round_schedule.specs.Schedule.{SerialOutcome}
 use Rattle.hart_step.specs.declared.hart.Hart.{Hart}
-use Rattle.hart_step.specs.CodeTables.{decoded}
+use Rattle.hart_step.specs.DecodedCode.{decoded}
 use Rattle.hart_step.specs.Console.{ConsoleState}
 use Rattle.hart_step.specs.SerialStep.{serial_stepped}
 use Rattle.execution.specs.Executions.{Executes, IsEventOf, IsLike, IsStep, MayHold, Standing, goes, own_held, stops}

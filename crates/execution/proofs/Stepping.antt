@@ -8,7 +8,7 @@ use Rattle.round_schedule.specs.declared.access.Stepped.TheVariants.{Done, Stopp
 use Rattle.round_schedule.specs.declared.event.Event.{Event}
 use Rattle.round_schedule.specs.declared.span.Span.{Span}
 use Rattle.hart_step.specs.declared.hart.Hart.{Hart}
-use Rattle.hart_step.specs.CodeTables.{decoded}
+use Rattle.hart_step.specs.DecodedCode.{decoded}
 use Rattle.hart_step.specs.Console.{ConsoleState}
 use Rattle.execution.specs.Executions.{IsLike, IsStep, Standing, Takes, own_held}
 use Rattle.execution.specs.Progressing.{step_event}

@@ -12,8 +12,8 @@ use Rattle.round_schedule.specs.declared.event.Phase.{Phase}
 use Rattle.round_schedule.specs.declared.event.Phase.TheVariants.{Parallel, Serial}
 use Rattle.round_schedule.specs.declared.span.Span.{Span}
 use Rattle.round_schedule.specs.Events.{event_of, events_of}
-use Rattle.round_schedule.specs.Held.{any_byte, held, held_after, held_from, kept_by_own, unless}
-use Rattle.round_schedule.specs.Schedule.{HartRound, Outcome, Progress, SerialOutcome, State, Turn, Words, all_stores, began, by_answer, committed, ended, events_from, finished, first_or_zero, hart_round_of, hart_rounds, joined, next_of, rest_of, round_from, round_of, run_of, serial_from, serial_next, turn_from, turn_of, turned, went}
+use Rattle.round_schedule.specs.Held.{any_byte, held, held_after, held_from, held_after_own, unless}
+use Rattle.round_schedule.specs.Schedule.{HartRound, StepOutcome, Progress, SerialOutcome, State, Turn, Words, all_stores, began, by_answer, committed, ended, events_from, finished, first_or_zero, hart_round_of, hart_rounds, joined, next_of, rest_of, round_from, round_of, run_of, serial_from, serial_next, turn_from, turn_of, turned, went}
 use Rattle.round_schedule.specs.Sound.{Agrees, HasReservation, IsParallel, Matches, Sound}
 use Rattle.execution.specs.Executions.{no_access}
 use Rattle.execution.specs.Telling.{Tells, telling, tells-both, tells-more, tells-none, told, told_access, told_outcome, told_serially}
@@ -49,7 +49,7 @@ kept_either_way true s = refl
 kept_either_way false s = unbroken s
 
 silent_after : (h : ℕ) (e : Event) (s : Option Span) → e.access ≡ no_access → held_after h e s ≡ s
-silent_after h e s silent = ap (λ (a : Access). if e.hart == h then kept_by_own a s else unless (writes a) s) silent ∙ kept_either_way (e.hart == h) s
+silent_after h e s silent = ap (λ (a : Access). if e.hart == h then held_after_own a s else unless (writes a) s) silent ∙ kept_either_way (e.hart == h) s
 
 held_told : (h : ℕ) (t u : List Event) (s : Option Span) → Tells t u → held_from h s t ≡ held_from h s u
 held_told h _ _ s tells-none = refl
@@ -116,7 +116,7 @@ tells_more_of xs bs a t n i s =
 module _ {H C : Type 0} (w : Words H C) where
   -- ---- one hart's round
 
-  told_answered : (p : Progress H) (xs : List Access) (o : Outcome H) (f g : Progress H → HartRound H) (y : Stepped) →
+  told_answered : (p : Progress H) (xs : List Access) (o : StepOutcome H) (f g : Progress H → HartRound H) (y : Stepped) →
       ((q : Progress H) (bs : List Access) → TellsOf bs q.accesses → SameRound (f (record q { accesses = bs })) (g q)) → TellsOf xs p.accesses →
       SameRound (by_answer (told y) (record p { accesses = xs }) (told_outcome o) f) (by_answer y p o g)
   told_answered p xs o f g (Done a) rest t = rest (went p o a) (xs ++ option_to_list (told_access a)) (tells_more_of xs p.accesses a t)

@@ -9,9 +9,9 @@ use Rattle.round_schedule.specs.declared.access.Stepped.{Stepped}
 use Rattle.round_schedule.specs.declared.access.Stepped.TheVariants.{Done, Stopped}
 use Rattle.round_schedule.specs.declared.event.Event.{Event}
 use Rattle.round_schedule.specs.declared.span.Span.{Span}
-use Rattle.round_schedule.specs.Held.{kept_by_own}
+use Rattle.round_schedule.specs.Held.{held_after_own}
 use Rattle.hart_step.specs.declared.hart.Hart.{Hart}
-use Rattle.hart_step.specs.CodeTables.{decoded}
+use Rattle.hart_step.specs.DecodedCode.{decoded}
 use Rattle.hart_step.specs.Console.{ConsoleState}
 use Rattle.hart_step.specs.SerialStep.{serial_stepped}
 
@@ -24,7 +24,7 @@ pub record IsLike (image m : Memory) : Type 0 where
 -- the reservation that a hart's own LRs and SCs leave it, whatever others write
 abbrev pub own_held_from : ℕ → Option Span → List Event → Option Span
 own_held_from h s [] = s
-own_held_from h s (e ∷ t) = own_held_from h (if e.hart == h then kept_by_own e.access s else s) t
+own_held_from h s (e ∷ t) = own_held_from h (if e.hart == h then held_after_own e.access s else s) t
 
 abbrev pub own_held : ℕ → List Event → Option Span
 own_held h t = own_held_from h None t

@@ -4,7 +4,7 @@ use Rattle.round_schedule.specs.declared.access.Access.{Access}
 use Rattle.round_schedule.specs.declared.access.Stepped.{Stepped}
 use Rattle.round_schedule.specs.declared.access.Stepped.TheVariants.{Done, Stopped, Waits}
 use Rattle.round_schedule.specs.declared.event.Event.{Event}
-use Rattle.round_schedule.specs.Schedule.{Outcome, SerialOutcome, Words}
+use Rattle.round_schedule.specs.Schedule.{StepOutcome, SerialOutcome, Words}
 use Rattle.execution.specs.Executions.{no_access}
 
 abbrev pub told_access : Option Access → Option Access
@@ -16,7 +16,7 @@ told (Done a) = Done (told_access a)
 told Waits = Waits
 told (Stopped code) = Stopped code
 
-abbrev pub told_outcome : {H : Type 0} → Outcome H → Outcome H
+abbrev pub told_outcome : {H : Type 0} → StepOutcome H → StepOutcome H
 told_outcome o = record { answer = told o.answer; hart = o.hart; stores = o.stores }
 
 abbrev pub told_serially : {H C : Type 0} → SerialOutcome H C → SerialOutcome H C

@@ -1,6 +1,6 @@
 ghost use Rattle.std.specs.Prelude.{◌≡◌, ◌≤◌, ◌^◌, length, IfOk, MatchOption, OnErr};
 ghost use Rattle.pages.specs.Memory.{Memory};
-ghost use Rattle.hart_step.specs.CodeTables.{Shows};
+ghost use Rattle.hart_step.specs.DecodedCode.{Shows};
 ghost use Rattle.execution.specs.Executions.{IsLike, Takes};
 ghost use Rattle.execution.specs.Progressing.{HasNoStep, at_start};
 
@@ -43,7 +43,7 @@ impl Execution {
         shared: SharedState,
     ) -> Result<Execution, OutOfMemory>
         requires few { length harts.items ≤ 64 }
-        requires table { length shared.reservations ≡ length harts.items }
+        requires reservations { length shared.reservations ≡ length harts.items }
         requires shows { Shows shared.pages.memory shared.code.first shared.code.instructions }
         ensures memory { IfOk result (λ e. e.memory ≡ shared.pages.memory) }
         ensures standing { IfOk result (λ e. e.standing ≡ at_start harts.items shared.console.console) }

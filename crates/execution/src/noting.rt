@@ -1,7 +1,7 @@
 //! What is noted of a step.
 
 ghost use Rattle.std.specs.Prelude.{◌≡◌, ◌<◌, ◌++◌, [], ◌∷◌, OnOk, vec_capacity, vec_len};
-ghost use Rattle.round_schedule.specs.Held.{kept_by_own};
+ghost use Rattle.round_schedule.specs.Held.{held_after_own};
 ghost use Rattle.execution.specs.Progressing.{step_event};
 
 use pages::OutOfMemory;
@@ -40,8 +40,8 @@ pub(crate) fn note(
 }
 
 /// What a hart's own access leaves of its reservation.
-pub(crate) fn kept_by(access: Option<Access>, own: Option<Span>) -> Option<Span>
-    ensures { result ≡ kept_by_own (step_event 0 access).access own }
+pub(crate) fn own_held_after(access: Option<Access>, own: Option<Span>) -> Option<Span>
+    ensures { result ≡ held_after_own (step_event 0 access).access own }
 {
     match access {
         Some(Access::LoadReserved { width, address, .. }) => Some(Span { address, width }),

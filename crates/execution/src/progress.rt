@@ -3,7 +3,7 @@ ghost use Rattle.pages.specs.Memory.{Memory};
 ghost use Rattle.execution.specs.Executions.{IsLike, Takes};
 ghost use Rattle.execution.specs.Progressing.{HasNoStep, IsReady, standing};
 
-use crate::noting::{event_of, kept_by, note, reserve_one};
+use crate::noting::{event_of, note, own_held_after, reserve_one};
 use crate::reading::laid_for;
 use crate::step::{ScriptedStep, do_step, instruction_at};
 use crate::step_fault::StepFault;
@@ -66,7 +66,7 @@ pub(crate) fn take_step(
     match answer {
         Stepped::Done(access) => match next {
             Some(instruction) => {
-                progress.own[index] = kept_by(access, own);
+                progress.own[index] = own_held_after(access, own);
                 let event = event_of(step.hart, access);
                 note(
                     &mut progress.instructions,

@@ -1,8 +1,8 @@
 ghost use Rattle.std.specs.Prelude.{◌≡◌, ◌<◌, ℕ, List, if◌then◌else◌, length, None, IfOk, OnErr, OnOk};
 ghost use Rattle.pages.specs.Memory.{Memory};
-ghost use Rattle.hart_step.specs.CodeTables.{Shows, decoded};
+ghost use Rattle.hart_step.specs.DecodedCode.{Shows, decoded};
 ghost use Rattle.rv64_decode.specs.declared.instruction.Instr.{Instr};
-ghost use Rattle.round_schedule.specs.Tables.{entry};
+ghost use Rattle.round_schedule.specs.Reservations.{entry};
 ghost use Rattle.hart_step.specs.Room.{HasSpares};
 ghost use Rattle.serial_phase.specs.Roomed.{HasRoom};
 ghost use Rattle.execution.specs.Executions.{IsLike, IsStep};
@@ -42,7 +42,7 @@ pub(crate) fn do_step(
     requires shows { Shows shared.old.pages.memory shared.old.code.first shared.old.code.instructions }
     ensures like { (image : Memory) → IsLike image shared.old.pages.memory → IsLike image shared.new.pages.memory }
     ensures shows { Shows shared.new.pages.memory shared.new.code.first shared.new.code.instructions }
-    ensures table { length shared.new.reservations ≡ length shared.old.reservations }
+    ensures reservations { length shared.new.reservations ≡ length shared.old.reservations }
     ensures step { IfOk result (λ answer. (image : Memory) → IsLike image shared.old.pages.memory →
         IsStep image step.round own shared.old.console.console shared.new.console.console h.old h.new answer) }
     ensures refused { OnErr result (shared.new.console.console ≡ shared.old.console.console) }
@@ -59,7 +59,7 @@ fn make_room(shared: &mut SharedState, number: Option<Store>) -> Result<(), OutO
     requires { Shows shared.old.pages.memory shared.old.code.first shared.old.code.instructions }
     ensures like { (image : Memory) → IsLike image shared.old.pages.memory → IsLike image shared.new.pages.memory }
     ensures shows { Shows shared.new.pages.memory shared.new.code.first shared.new.code.instructions }
-    ensures table { shared.new.reservations ≡ shared.old.reservations }
+    ensures reservations { shared.new.reservations ≡ shared.old.reservations }
     ensures console { shared.new.console.console ≡ shared.old.console.console }
     ensures pages { OnOk result (HasSpares 1 shared.new.pages) }
     ensures output { OnOk result (HasRoom 1 shared.new.console) }

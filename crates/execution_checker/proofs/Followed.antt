@@ -21,13 +21,13 @@ at_none o P Q none h = subst (λ x. MatchOption x P Q) none h
 abbrev pub no_step : ScriptedStep
 no_step = record { hart = 0; round = 0; number = None; holds = false }
 
-pub followed_on : (image m : Memory) (ss : List ScriptedStep) (place : ℕ) (p q r : Standing) → place < length ss → Follows image (take place ss) p q → IsLike image m →
-    ((i : Memory) → IsLike i m → Takes i (get_or ss place no_step).hart (get_or ss place no_step).round q r) → Follows image (take (place + 1) ss) p r
-followed_on image m ss place p q r l f like taken =
-    subst (λ (ts : List ScriptedStep). Follows image ts p r) (sym (ap (λ (n : ℕ). take n ss) (add-one place) ∙ take-suc ss place no_step l))
-    (follows-more (take place ss) (get_or ss place no_step) p q r f (taken image like))
+pub followed_on : (image m : Memory) (ss : List ScriptedStep) (index : ℕ) (p q r : Standing) → index < length ss → Follows image (take index ss) p q → IsLike image m →
+    ((i : Memory) → IsLike i m → Takes i (get_or ss index no_step).hart (get_or ss index no_step).round q r) → Follows image (take (index + 1) ss) p r
+followed_on image m ss index p q r l f like taken =
+    subst (λ (ts : List ScriptedStep). Follows image ts p r) (sym (ap (λ (n : ℕ). take n ss) (add-one index) ∙ take-suc ss index no_step l))
+    (follows-more (take index ss) (get_or ss index no_step) p q r f (taken image like))
 
 pub judged : (v : Verdict) (image : Memory) (opening : ℕ → ℕ) (ss : List ScriptedStep) (g : List ℕ) (p q : Standing) → Follows image ss p q → IsJudged v opening q g → IsVerdict v image opening ss g p q
 judged Allowed image opening ss g p q f j = (f, j)
 judged (Refused r) image opening ss g p q f j = (f, j.0, j.1)
-judged (Broken place fault) image opening ss g p q f j = absurd j
+judged (Broken index fault) image opening ss g p q f j = absurd j

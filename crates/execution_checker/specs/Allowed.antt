@@ -21,20 +21,20 @@ pub data Follows (image : Memory) : List ScriptedStep → Standing → Standing 
   follows-more : (ss : List ScriptedStep) (s : ScriptedStep) (p q r : Standing) →
       Follows image ss p q → Takes image s.hart s.round q r → Follows image (ss ++ s ∷ []) p r
 
--- a script can be followed up to the step at a place, whose hart has no next one
-pub record BreaksAt (image : Memory) (ss : List ScriptedStep) (place : ℕ) (fault : StepFault) (p q : Standing) : Type 0 where
-  pub within : place < length ss
-  pub up_to : Follows image (take place ss) p q
-  pub here : (s : ScriptedStep) → s ≡ slice_index_or ss place s → HasNoStep fault s.hart s.round q
+-- a script can be followed up to the step at an index, whose hart has no next one
+pub record BreaksAt (image : Memory) (ss : List ScriptedStep) (index : ℕ) (fault : StepFault) (p q : Standing) : Type 0 where
+  pub within : index < length ss
+  pub up_to : Follows image (take index ss) p q
+  pub here : (s : ScriptedStep) → s ≡ slice_index_or ss index s → HasNoStep fault s.hart s.round q
 
 -- the verdict on what was done, in an order: where it is refused, the reason is so
 abbrev pub IsJudged : Verdict → (ℕ → ℕ) → Standing → List ℕ → Type 0
 IsJudged Allowed opening q g = Allows opening q g
 IsJudged (Refused r) opening q g = (Allows opening q g → ⊥) × IsTrueOf r q.instructions q.events opening g
-IsJudged (Broken place fault) opening q g = ⊥
+IsJudged (Broken index fault) opening q g = ⊥
 
 -- the verdict on a script and an order, where the script leads from p to q
 abbrev pub IsVerdict : Verdict → Memory → (ℕ → ℕ) → List ScriptedStep → List ℕ → Standing → Standing → Type 0
 IsVerdict Allowed image opening ss g p q = Follows image ss p q × Allows opening q g
 IsVerdict (Refused r) image opening ss g p q = Follows image ss p q × (Allows opening q g → ⊥) × IsTrueOf r q.instructions q.events opening g
-IsVerdict (Broken place fault) image opening ss g p q = BreaksAt image ss place fault p q
+IsVerdict (Broken index fault) image opening ss g p q = BreaksAt image ss index fault p q

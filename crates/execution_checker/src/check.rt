@@ -14,7 +14,7 @@ use trace::Trace;
 /// Follows a script from an execution's start, and says whether RVWMO allows what this leads to, in an order of its memory
 /// operations, with all rules of the manual (section 14.1), or else why not.
 ///
-/// The order has the places of the operations in the list of steps, counted from 0. Whatever the script says, the harts'
+/// The order has the indexes of the operations in the list of steps, counted from 0. Whatever the script says, the harts'
 /// instructions are those of the image, as the instruction set has them. `opening` has the bytes that memory opened with.
 ///
 /// The answer is found in a time nearly in line with the steps. The reason of a refusal is then looked for, as `find_refusal` says.
@@ -36,7 +36,7 @@ pub fn check_execution(
 {
     execution.is_small();
     match follow(execution, script)? {
-        Some((place, fault)) => Ok(Verdict::Broken { place, fault }),
+        Some((index, fault)) => Ok(Verdict::Broken { index, fault }),
         None => judge(alloc, execution, opening, order),
     }
 }
@@ -67,7 +67,7 @@ pub fn judge(
     }
 }
 
-/// Follows a script, as far as its harts have next steps: the place of the step whose hart has none, and why it has none.
+/// Follows a script, as far as its harts have next steps: the index of the step whose hart has none, and why it has none.
 ///
 /// # Errors
 ///
@@ -80,10 +80,10 @@ pub fn follow(
         (Follows execution.old.memory script.now execution.old.standing execution.new.standing)
         (λ b. BreaksAt execution.old.memory script.now b.0 b.1 execution.old.standing execution.new.standing)) }
 {
-    for place in 0..script.len() {
-        let step = script[place];
+    for index in 0..script.len() {
+        let step = script[index];
         match execution.take_step(step)? {
-            Some(fault) => return Ok(Some((place, fault))),
+            Some(fault) => return Ok(Some((index, fault))),
             None => {}
         }
     }

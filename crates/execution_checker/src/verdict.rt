@@ -10,8 +10,8 @@ pub enum Verdict {
     Allowed,
     /// It does not, for this reason.
     Refused(Refusal),
-    /// The hart of the step at this place of the script has no next one.
-    Broken { place: usize, fault: StepFault },
+    /// The hart of the step at this index of the script has no next one.
+    Broken { index: usize, fault: StepFault },
 }
 
 impl Verdict {
@@ -41,9 +41,9 @@ impl fmt::Display for Reason<'_> {
                 let line = refusal.line(self.events);
                 write!(f, "{line}")
             }
-            Verdict::Broken { place, fault } => {
-                let hart = hart_at(self.script, place);
-                let number = steps_before(self.script, place, hart);
+            Verdict::Broken { index, fault } => {
+                let hart = hart_at(self.script, index);
+                let number = steps_before(self.script, index, hart);
                 let why = words_of(fault);
                 write!(f, "step {number} of hart {hart}: {why}")
             }
@@ -51,19 +51,19 @@ impl fmt::Display for Reason<'_> {
     }
 }
 
-/// The hart of the step at a place.
-fn hart_at(script: &[ScriptedStep], place: usize) -> u8 {
-    match script.get(place) {
+/// The hart of the step at an index.
+fn hart_at(script: &[ScriptedStep], index: usize) -> u8 {
+    match script.get(index) {
         Some(step) => step.hart,
         None => 0,
     }
 }
 
-/// How many steps of a hart stand before a place.
-fn steps_before(script: &[ScriptedStep], place: usize, hart: u8) -> usize {
+/// How many steps of a hart stand before an index.
+fn steps_before(script: &[ScriptedStep], index: usize, hart: u8) -> usize {
     script
         .iter()
-        .take(place)
+        .take(index)
         .filter(|step| step.hart == hart)
         .count()
 }

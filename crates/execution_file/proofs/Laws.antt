@@ -7,7 +7,7 @@ use Rattle.execution_file.specs.declared.cause.Cause.{Cause}
 use Rattle.execution_file.specs.declared.cause.Cause.TheVariants.{Cut, Malformed, OutOfRange}
 use Rattle.execution_file.specs.declared.cause.Refusal.{Refusal}
 use Rattle.execution_file.specs.Numerals.{is_digit, digits_at, after_digits, is_numeral, value_of}
-use Rattle.execution_file.specs.Parts.{Part, ◌>>=◌, ◌&◌, refused, taken_word, begun_or, ended, no_number, number, hex_digit, is_hex, hex_value, taken_byte, byte, seen, HaveEach, spelled_each, taken_each, each, items_of, with_count, counted, HaveAll, spelled_list, taken_list, listed, HasGiven, spelled_after, taken_after, after, broken}
+use Rattle.execution_file.specs.Formats.{Format, ◌>>=◌, ◌&◌, refused, taken_word, begun_or, ended, no_number, number, hex_digit, is_hex, hex_value, taken_byte, byte, seen, HaveEach, spelled_each, taken_each, each, items_of, with_count, counted, HaveAll, spelled_list, taken_list, listed, HasGiven, spelled_after, taken_after, after, broken}
 use Rattle.execution_file.proofs.Numerals.{all_digits, digits_split, front_digits, front_after, numeral_is, decimal_numeral, decimal_digits, decimal_value}
 
 pub bind_ok : {A B : Type 0} (r : Result A Refusal) (f : A → Result B Refusal) (y : B) → (r >>= f) ≡ Ok y → (x : A) × (r ≡ Ok x) × (f x ≡ Ok y)
@@ -37,7 +37,7 @@ abbrev pub NoDigit : List ℕ → Type 0
 NoDigit rest = digits_at rest ≡ []
 
 -- a part whose reading and spelling belong together, where what follows it is as P says
-pub record Lawful {A : Type 0} (P : List ℕ → Type 0) (f : Part A) : Type 0 where
+pub record Lawful {A : Type 0} (P : List ℕ → Type 0) (f : Format A) : Type 0 where
   pub takes : (bs : List ℕ) (x : A × List ℕ) → f.taken bs ≡ Ok x → f.Has x.0 × (bs ≡ f.spelled x.0 ++ x.1)
   pub again : (x : A) (rest : List ℕ) → f.Has x → P rest → f.taken (f.spelled x ++ rest) ≡ Ok (x, rest)
 
@@ -63,7 +63,7 @@ pub word_again : (short wrong : Cause) (ws rest : List ℕ) → taken_word short
 word_again short wrong [] rest = refl
 word_again short wrong (w ∷ ws) rest = rw (eqb_same w) (word_again short wrong ws rest)
 
-pub begun_lawful : {A : Type 0} {P : List ℕ → Type 0} (short wrong : Cause) (ws : List ℕ) (f : Part A) → Lawful P f → Lawful P (begun_or short wrong ws f)
+pub begun_lawful : {A : Type 0} {P : List ℕ → Type 0} (short wrong : Cause) (ws : List ℕ) (f : Format A) → Lawful P f → Lawful P (begun_or short wrong ws f)
 begun_lawful short wrong ws f l = record {
   takes = λ bs x e.
       let a = bind_ok (taken_word short wrong ws bs) f.taken x e in
@@ -72,7 +72,7 @@ begun_lawful short wrong ws f l = record {
   again = λ x rest h p. ap (begun_or short wrong ws f).taken (append_assoc ws (f.spelled x) rest) ∙ rw (word_again short wrong ws (f.spelled x ++ rest)) (l.again x rest h p);
 }
 
-pub ended_lawful : {A : Type 0} {P : List ℕ → Type 0} (f : Part A) (ws : List ℕ) → Lawful P f → ((rest : List ℕ) → P (ws ++ rest)) → Lawful Any (ended f ws)
+pub ended_lawful : {A : Type 0} {P : List ℕ → Type 0} (f : Format A) (ws : List ℕ) → Lawful P f → ((rest : List ℕ) → P (ws ++ rest)) → Lawful Any (ended f ws)
 ended_lawful f ws l close = record {
   takes = λ bs z e.
       let a = bind_ok (f.taken bs) (λ x. taken_word Cut Malformed ws x.1 >>= λ rest. Ok (x.0, rest)) z e in
@@ -154,7 +154,7 @@ byte_lawful = record { takes = byte_takes; again = λ n rest h p. byte_again n r
 
 -- ---- what is built of parts
 
-pub pair_lawful : {A B : Type 0} {P Q : List ℕ → Type 0} (f : Part A) (g : A → Part B) → Lawful P f → ((x : A) → Lawful Q (g x))
+pub pair_lawful : {A B : Type 0} {P Q : List ℕ → Type 0} (f : Format A) (g : A → Format B) → Lawful P f → ((x : A) → Lawful Q (g x))
     → ((x : A) (y : B) (rest : List ℕ) → Q rest → P ((g x).spelled y ++ rest)) → Lawful Q (f & g)
 pair_lawful f g lf lg follow = record {
   takes = λ bs z e.
@@ -169,7 +169,7 @@ pair_lawful f g lf lg follow = record {
       ap (f & g).taken (append_assoc (f.spelled x.0) ((g x.0).spelled x.1) rest) ∙ rw (lf.again x.0 ((g x.0).spelled x.1 ++ rest) h.0 (follow x.0 x.1 rest p), (lg x.0).again x.1 rest h.1 p) refl;
 }
 
-pub seen_lawful : {A B : Type 0} {P : List ℕ → Type 0} (to : A → B) (from : B → A) (f : Part A) → Lawful P f → ((x : A) → f.Has x → from (to x) ≡ x) → ((y : B) → to (from y) ≡ y) → Lawful P (seen to from f)
+pub seen_lawful : {A B : Type 0} {P : List ℕ → Type 0} (to : A → B) (from : B → A) (f : Format A) → Lawful P f → ((x : A) → f.Has x → from (to x) ≡ x) → ((y : B) → to (from y) ≡ y) → Lawful P (seen to from f)
 seen_lawful to from f lf there back = record {
   takes = λ bs z e.
       let a = bind_ok (f.taken bs) (λ x. Ok (to x.0, x.1)) z e in
@@ -183,21 +183,21 @@ seen_lawful to from f lf there back = record {
 -- ---- so many parts
 
 -- parts i, i + 1, .. of them
-abbrev pub each_from : {A : Type 0} → ℕ → ℕ → (ℕ → Part A) → Part (List A)
+abbrev pub each_from : {A : Type 0} → ℕ → ℕ → (ℕ → Format A) → Format (List A)
 each_from n i f = record { Has = HaveEach n i f; spelled = spelled_each i f; taken = taken_each n i f }
 
-each_again_0 : {A : Type 0} (i : ℕ) (f : ℕ → Part A) (x : List A) (rest : List ℕ) → HaveEach 0 i f x → (each_from 0 i f).taken (spelled_each i f x ++ rest) ≡ Ok (x, rest)
+each_again_0 : {A : Type 0} (i : ℕ) (f : ℕ → Format A) (x : List A) (rest : List ℕ) → HaveEach 0 i f x → (each_from 0 i f).taken (spelled_each i f x ++ rest) ≡ Ok (x, rest)
 unfolding taken_each
 each_again_0 i f [] rest h = refl
 each_again_0 i f (x ∷ xs) rest h = absurd h
 
-each_again : {A : Type 0} (n i : ℕ) (f : ℕ → Part A) → Lawful Any (f i) → Lawful Any (each_from n (suc i) f) → (x : List A) (rest : List ℕ) → HaveEach (suc n) i f x → (each_from (suc n) i f).taken (spelled_each i f x ++ rest) ≡ Ok (x, rest)
+each_again : {A : Type 0} (n i : ℕ) (f : ℕ → Format A) → Lawful Any (f i) → Lawful Any (each_from n (suc i) f) → (x : List A) (rest : List ℕ) → HaveEach (suc n) i f x → (each_from (suc n) i f).taken (spelled_each i f x ++ rest) ≡ Ok (x, rest)
 unfolding taken_each
 each_again n i f l m [] rest h = absurd h
 each_again n i f l m (x ∷ xs) rest h =
     ap (each_from (suc n) i f).taken (append_assoc ((f i).spelled x) (spelled_each (suc i) f xs) rest) ∙ rw (l.again x (spelled_each (suc i) f xs ++ rest) h.0 tt, m.again xs rest h.1 tt) refl
 
-pub each_lawful : {A : Type 0} (n i : ℕ) (f : ℕ → Part A) → ((k : ℕ) → Lawful Any (f k)) → Lawful Any (each_from n i f)
+pub each_lawful : {A : Type 0} (n i : ℕ) (f : ℕ → Format A) → ((k : ℕ) → Lawful Any (f k)) → Lawful Any (each_from n i f)
 unfolding taken_each
 each_lawful zero i f l = record {
   takes = λ bs x e. subst (λ y. HaveEach 0 i f y.0 × (bs ≡ spelled_each i f y.0 ++ y.1)) (ok_is ([], bs) x e) (tt, refl);
@@ -215,13 +215,13 @@ each_lawful (suc n) i f l = record {
   again = λ x rest h p. each_again n i f (l i) (each_lawful n (suc i) f l) x rest h;
 }
 
-have_as_many : {A : Type 0} (n i : ℕ) (f : ℕ → Part A) (xs : List A) → HaveEach n i f xs → length xs ≡ n
+have_as_many : {A : Type 0} (n i : ℕ) (f : ℕ → Format A) (xs : List A) → HaveEach n i f xs → length xs ≡ n
 have_as_many zero i f [] h = refl
 have_as_many zero i f (x ∷ xs) h = absurd h
 have_as_many (suc n) i f [] h = absurd h
 have_as_many (suc n) i f (x ∷ xs) h = ap suc (have_as_many n (suc i) f xs h.1)
 
-pub counted_lawful : {A : Type 0} (high : ℕ) (f : ℕ → ℕ → Part A) → high < 2 ^ 64 → ((n k : ℕ) → Lawful Any (f n k)) → Lawful Any (counted high f)
+pub counted_lawful : {A : Type 0} (high : ℕ) (f : ℕ → ℕ → Format A) → high < 2 ^ 64 → ((n k : ℕ) → Lawful Any (f n k)) → Lawful Any (counted high f)
 counted_lawful high f small l = seen_lawful items_of with_count (ended (number high) (codes "\n") & λ n. each n (f n))
     (pair_lawful _ _ (ended_lawful (number high) (codes "\n") (number_lawful high small) (λ rest. refl)) (λ n. each_lawful n 0 (f n) (l n)) (λ x y rest p. tt))
     (λ x h. ap (λ (n : ℕ). (n, x.1)) (have_as_many x.0 0 (f x.0) x.1 h.1)) (λ y. refl)
@@ -232,10 +232,10 @@ bad_byte : {A : Type 0} (t : Bool) (b : ℕ) (bs : List ℕ) (x : List A × List
 bad_byte true b bs x e = (refl, ok_is ([], bs) x e)
 bad_byte false b bs x e = absurd (no_ok Malformed (b ∷ bs) x e)
 
-abbrev Found : {A : Type 0} → Part A → List ℕ → List A × List ℕ → Type 0
+abbrev Found : {A : Type 0} → Format A → List ℕ → List A × List ℕ → Type 0
 Found f bs x = HaveAll f x.0 × (bs ≡ spelled_list f x.0 ++ x.1)
 
-list_step : {A : Type 0} {P : List ℕ → Type 0} (n : ℕ) (f : Part A) → Lawful P f → ((bs : List ℕ) (x : List A × List ℕ) → taken_list n f bs ≡ Ok x → Found f bs x)
+list_step : {A : Type 0} {P : List ℕ → Type 0} (n : ℕ) (f : Format A) → Lawful P f → ((bs : List ℕ) (x : List A × List ℕ) → taken_list n f bs ≡ Ok x → Found f bs x)
     → (b : ℕ) (bs : List ℕ) (x : List A × List ℕ) (t u : Bool) → eqb b 32 ≡ t → eqb b 10 ≡ u
     → cond t (f.taken bs >>= λ x. taken_list n f x.1 >>= λ xs. Ok (x.0 ∷ xs.0, xs.1)) (cond u (Ok ([], bs)) (refused Malformed (b ∷ bs))) ≡ Ok x → Found f (b ∷ bs) x
 list_step n f l more b bs z true u blank ends e =
@@ -253,18 +253,18 @@ list_step n f l more b bs z false u blank ends e =
     let q : b ≡ 10 = grind (arith, nat_tests, ends, p.0) in
     subst (λ w. Found f (b ∷ bs) w) p.1 (tt, rw q refl)
 
-list_takes : {A : Type 0} {P : List ℕ → Type 0} (n : ℕ) (f : Part A) → Lawful P f → (bs : List ℕ) (x : List A × List ℕ) → taken_list n f bs ≡ Ok x → Found f bs x
+list_takes : {A : Type 0} {P : List ℕ → Type 0} (n : ℕ) (f : Format A) → Lawful P f → (bs : List ℕ) (x : List A × List ℕ) → taken_list n f bs ≡ Ok x → Found f bs x
 unfolding taken_list
 list_takes zero f l bs x e = absurd (no_ok Cut bs x e)
 list_takes (suc n) f l [] x e = absurd (no_ok Cut [] x e)
 list_takes (suc n) f l (b ∷ bs) x e = list_step n f l (list_takes n f l) b bs x (eqb b 32) (eqb b 10) refl refl e
 
 -- what stands after an item of a list
-list_follows : {A : Type 0} (P : List ℕ → Type 0) (f : Part A) → ((rest : List ℕ) → P (32 ∷ rest)) → ((rest : List ℕ) → P (10 ∷ rest)) → (xs : List A) (rest : List ℕ) → P (spelled_list f xs ++ rest)
+list_follows : {A : Type 0} (P : List ℕ → Type 0) (f : Format A) → ((rest : List ℕ) → P (32 ∷ rest)) → ((rest : List ℕ) → P (10 ∷ rest)) → (xs : List A) (rest : List ℕ) → P (spelled_list f xs ++ rest)
 list_follows P f blank end [] rest = end rest
 list_follows P f blank end (x ∷ xs) rest = blank ((f.spelled x ++ spelled_list f xs) ++ rest)
 
-list_again : {A : Type 0} {P : List ℕ → Type 0} (f : Part A) → Lawful P f → ((rest : List ℕ) → P (32 ∷ rest)) → ((rest : List ℕ) → P (10 ∷ rest))
+list_again : {A : Type 0} {P : List ℕ → Type 0} (f : Format A) → Lawful P f → ((rest : List ℕ) → P (32 ∷ rest)) → ((rest : List ℕ) → P (10 ∷ rest))
     → (n : ℕ) (xs : List A) (rest : List ℕ) → length xs < n → HaveAll f xs → taken_list n f (spelled_list f xs ++ rest) ≡ Ok (xs, rest)
 unfolding taken_list
 list_again f l blank end zero xs rest few h = absurd (omega (arith, few))
@@ -274,11 +274,11 @@ list_again {A} {P} f l blank end (suc n) (x ∷ xs) rest few h =
     let more : taken_list n f (spelled_list f xs ++ rest) ≡ Ok (xs, rest) = list_again f l blank end n xs rest (omega (arith, few)) h.1 in
     rw (append_assoc (f.spelled x) (spelled_list f xs) rest, again, more) refl
 
-list_long : {A : Type 0} (f : Part A) (xs : List A) (rest : List ℕ) → length xs < length (spelled_list f xs ++ rest)
+list_long : {A : Type 0} (f : Format A) (xs : List A) (rest : List ℕ) → length xs < length (spelled_list f xs ++ rest)
 list_long f [] rest = omega arith
 list_long f (x ∷ xs) rest = omega (arith, list_long f xs rest, length-append (f.spelled x ++ spelled_list f xs) rest, length-append (f.spelled x) (spelled_list f xs), length-append (spelled_list f xs) rest)
 
-pub listed_lawful : {A : Type 0} {P : List ℕ → Type 0} (f : Part A) → Lawful P f → ((rest : List ℕ) → P (32 ∷ rest)) → ((rest : List ℕ) → P (10 ∷ rest)) → Lawful Any (listed f)
+pub listed_lawful : {A : Type 0} {P : List ℕ → Type 0} (f : Format A) → Lawful P f → ((rest : List ℕ) → P (32 ∷ rest)) → ((rest : List ℕ) → P (10 ∷ rest)) → Lawful Any (listed f)
 listed_lawful f l blank end = record {
   takes = λ bs x e. list_takes (length bs) f l bs x e;
   again = λ xs rest h p. list_again f l blank end (length (spelled_list f xs ++ rest)) xs rest (list_long f xs rest) h;
@@ -287,11 +287,11 @@ listed_lawful f l blank end = record {
 -- ---- what may be there
 
 -- nothing is there after the byte, and what follows is as P says
-pub record Without {A : Type 0} (c : ℕ) (f : Part A) (P : List ℕ → Type 0) (rest : List ℕ) : Type 0 where
+pub record Without {A : Type 0} (c : ℕ) (f : Format A) (P : List ℕ → Type 0) (rest : List ℕ) : Type 0 where
   pub none : taken_after c f rest ≡ Ok (None, rest)
   pub other : P rest
 
-after_step : {A : Type 0} {P : List ℕ → Type 0} (c : ℕ) (f : Part A) → Lawful P f → (b : ℕ) (bs : List ℕ) (z : Option A × List ℕ) (t : Bool) → eqb b c ≡ t
+after_step : {A : Type 0} {P : List ℕ → Type 0} (c : ℕ) (f : Format A) → Lawful P f → (b : ℕ) (bs : List ℕ) (z : Option A × List ℕ) (t : Bool) → eqb b c ≡ t
     → cond t (f.taken bs >>= λ x. Ok (Some x.0, x.1)) (Ok (None, b ∷ bs)) ≡ Ok z → HasGiven f z.0 × (b ∷ bs ≡ spelled_after c f z.0 ++ z.1)
 after_step c f l b bs z true same e =
     let a = bind_ok (f.taken bs) (λ x. Ok (Some x.0, x.1)) z e in
@@ -300,17 +300,17 @@ after_step c f l b bs z true same e =
     subst (λ w. HasGiven f w.0 × (b ∷ bs ≡ spelled_after c f w.0 ++ w.1)) (ok_is (Some a.0.0, a.0.1) z a.2) (t.0, ap (λ (h : ℕ). h ∷ bs) p ∙ ap (λ (r : List ℕ). c ∷ r) t.1)
 after_step c f l b bs z false same e = subst (λ w. HasGiven f w.0 × (b ∷ bs ≡ spelled_after c f w.0 ++ w.1)) (ok_is (None, b ∷ bs) z e) (tt, refl)
 
-after_takes : {A : Type 0} {P : List ℕ → Type 0} (c : ℕ) (f : Part A) → Lawful P f → (bs : List ℕ) (z : Option A × List ℕ) → taken_after c f bs ≡ Ok z → HasGiven f z.0 × (bs ≡ spelled_after c f z.0 ++ z.1)
+after_takes : {A : Type 0} {P : List ℕ → Type 0} (c : ℕ) (f : Format A) → Lawful P f → (bs : List ℕ) (z : Option A × List ℕ) → taken_after c f bs ≡ Ok z → HasGiven f z.0 × (bs ≡ spelled_after c f z.0 ++ z.1)
 after_takes c f l [] z e = subst (λ w. HasGiven f w.0 × ([] ≡ spelled_after c f w.0 ++ w.1)) (ok_is (None, []) z e) (tt, refl)
 after_takes c f l (b ∷ bs) z e = after_step c f l b bs z (eqb b c) refl e
 
-after_again : {A : Type 0} {P : List ℕ → Type 0} (c : ℕ) (f : Part A) → Lawful P f → (x : Option A) (rest : List ℕ) → HasGiven f x → Without c f P rest → taken_after c f (spelled_after c f x ++ rest) ≡ Ok (x, rest)
+after_again : {A : Type 0} {P : List ℕ → Type 0} (c : ℕ) (f : Format A) → Lawful P f → (x : Option A) (rest : List ℕ) → HasGiven f x → Without c f P rest → taken_after c f (spelled_after c f x ++ rest) ≡ Ok (x, rest)
 after_again c f l None rest h p = p.none
 after_again c f l (Some x) rest h p = rw (eqb_same c, l.again x rest h p.other) refl
 
-pub after_lawful : {A : Type 0} {P : List ℕ → Type 0} (c : ℕ) (f : Part A) → Lawful P f → Lawful (Without c f P) (after c f)
+pub after_lawful : {A : Type 0} {P : List ℕ → Type 0} (c : ℕ) (f : Format A) → Lawful P f → Lawful (Without c f P) (after c f)
 after_lawful c f l = record { takes = after_takes c f l; again = after_again c f l }
 
-pub broken_lawful : {A : Type 0} (b : Bool) (f : Part A) → Lawful Any f → Lawful Any (broken b f)
+pub broken_lawful : {A : Type 0} (b : Bool) (f : Format A) → Lawful Any f → Lawful Any (broken b f)
 broken_lawful true f l = ended_lawful f (codes "\n") l (λ rest. tt)
 broken_lawful false f l = l

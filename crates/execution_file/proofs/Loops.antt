@@ -4,7 +4,7 @@ use Rattle.std.proofs.lemmas.List.{append-nil, map-append}
 use Rattle.execution_file.specs.declared.cause.Refusal.{Refusal}
 use Rattle.execution_file.specs.declared.cause.ReadError.{ReadError}
 use Rattle.execution_file.specs.declared.cause.ReadError.TheVariants as errors
-use Rattle.execution_file.specs.Parts.{Part, ◌>>=◌, taken_each}
+use Rattle.execution_file.specs.Formats.{Format, ◌>>=◌, taken_each}
 use Rattle.execution_file.specs.Views.{Fails}
 
 -- what was read before, and what is still read
@@ -15,7 +15,7 @@ pub regroup : {A : Type 0} (front : List A) (a : A) (read : Result (List A × Li
 regroup {A} front a (Ok x) = ap (λ (ns : List A). Ok (ns, x.1)) (simp append_assoc)
 regroup front a (Err f) = refl
 
-goes : {A : Type 0} (f : ℕ → Part A) (front : List A) (count k i : ℕ) (bs : List ℕ) (a : A) (after : List ℕ) (total : Result (List A × List ℕ) Refusal) → k < count → (f i).taken bs ≡ Ok (a, after)
+goes : {A : Type 0} (f : ℕ → Format A) (front : List A) (count k i : ℕ) (bs : List ℕ) (a : A) (after : List ℕ) (total : Result (List A × List ℕ) Refusal) → k < count → (f i).taken bs ≡ Ok (a, after)
     → with_front front (taken_each (count - k) i f bs) ≡ total → with_front (front ++ a ∷ []) (taken_each (count - (k + 1)) (suc i) f after) ≡ total
 unfolding taken_each
 goes f front count k i bs a after total lt h so_far =
@@ -24,11 +24,11 @@ goes f front count k i bs a after total lt h so_far =
     sym one ∙ so_far
 
 -- over what is seen of the items
-pub goes_on : {X A : Type 0} (f : ℕ → Part A) (contents : X → A) (items : List X) (count k i j : ℕ) (bs : List ℕ) (x : X) (after : List ℕ) (total : Result (List A × List ℕ) Refusal) → k < count → j ≡ i + 1 → (f i).taken bs ≡ Ok (contents x, after)
+pub goes_on : {X A : Type 0} (f : ℕ → Format A) (contents : X → A) (items : List X) (count k i j : ℕ) (bs : List ℕ) (x : X) (after : List ℕ) (total : Result (List A × List ℕ) Refusal) → k < count → j ≡ i + 1 → (f i).taken bs ≡ Ok (contents x, after)
     → with_front (map contents items) (taken_each (count - k) i f bs) ≡ total → with_front (map contents (items ++ x ∷ [])) (taken_each (count - (k + 1)) j f after) ≡ total
 goes_on f contents items count k i j bs x after total lt next h so_far = let e : j ≡ suc i = omega (arith, next) in rw (map-append contents items (x ∷ []), e) (goes f (map contents items) count k i bs (contents x) after total lt h so_far)
 
-pub ends : {A : Type 0} (f : ℕ → Part A) (e : ReadError) (front : List A) (count k i : ℕ) (bs : List ℕ) (total : Result (List A × List ℕ) Refusal) → k < count → Fails e ((f i).taken bs)
+pub ends : {A : Type 0} (f : ℕ → Format A) (e : ReadError) (front : List A) (count k i : ℕ) (bs : List ℕ) (total : Result (List A × List ℕ) Refusal) → k < count → Fails e ((f i).taken bs)
     → with_front front (taken_each (count - k) i f bs) ≡ total → Fails e total
 unfolding taken_each
 ends f errors.OutOfMemory front count k i bs total lt h so_far = tt
@@ -37,7 +37,7 @@ ends f (errors.Refused c) front count k i bs total lt h so_far =
     let one : with_front front (taken_each (count - k) i f bs) ≡ Err c = rw (e, h) refl in
     sym so_far ∙ one
 
-pub is_done : {A : Type 0} (f : ℕ → Part A) (front : List A) (count k i : ℕ) (bs : List ℕ) (total : Result (List A × List ℕ) Refusal) → count ≤ k → with_front front (taken_each (count - k) i f bs) ≡ total → total ≡ Ok (front, bs)
+pub is_done : {A : Type 0} (f : ℕ → Format A) (front : List A) (count k i : ℕ) (bs : List ℕ) (total : Result (List A × List ℕ) Refusal) → count ≤ k → with_front front (taken_each (count - k) i f bs) ≡ total → total ≡ Ok (front, bs)
 unfolding taken_each
 is_done {A} f front count k i bs total le so_far =
     let e : count - k ≡ 0 = omega arith in
@@ -48,5 +48,5 @@ same : {A : Type 0} (r : Result (List A × List ℕ) Refusal) → with_front [] 
 same (Ok x) = refl
 same (Err e) = refl
 
-pub starts : {A : Type 0} (f : ℕ → Part A) (count i : ℕ) (bs : List ℕ) → with_front [] (taken_each (count - 0) i f bs) ≡ taken_each count i f bs
+pub starts : {A : Type 0} (f : ℕ → Format A) (count i : ℕ) (bs : List ℕ) → with_front [] (taken_each (count - 0) i f bs) ≡ taken_each count i f bs
 starts {A} f count i bs = let e : count - 0 ≡ count = omega arith in rw e (same (taken_each count i f bs))

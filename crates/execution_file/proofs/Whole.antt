@@ -9,8 +9,8 @@ use Rattle.execution_file.specs.declared.cause.Cause.TheVariants.{NotAnExecution
 use Rattle.execution_file.specs.declared.cause.Refusal.{Refusal}
 use Rattle.execution_file.specs.declared.cause.ReadError.{ReadError}
 use Rattle.execution_file.specs.Numerals.{digits_at}
-use Rattle.execution_file.specs.Parts.{Part, refused, byte, listed, spelled_after}
-use Rattle.execution_file.specs.Recorded.{Turn, HartPart, Recorded}
+use Rattle.execution_file.specs.Formats.{Format, refused, byte, listed, spelled_after}
+use Rattle.execution_file.specs.Recorded.{Turn, HartDeeds, Recorded}
 use Rattle.execution_file.specs.Grammar.{small, word, double, flag, flag_of, number_of_flag, is_line_end, bytes, hart_turn, turn_from, turn_fields, hart_lines, hart_from, hart_fields, recorded_from, recorded_fields, execution, whole, reading, IsExecution}
 use Rattle.execution_file.specs.Views.{Gives}
 use Rattle.execution_file.proofs.Laws.{Any, NoDigit, Without, Lawful, bind_ok, pass_ok, no_ok, ok_is, begun_lawful, number_lawful, byte_lawful, pair_lawful, seen_lawful, counted_lawful, listed_lawful, after_lawful, broken_lawful}

@@ -8,7 +8,7 @@ use Rattle.execution_file.specs.declared.cause.Cause.TheVariants.{Cut, Malformed
 use Rattle.execution_file.specs.declared.cause.Refusal.{Refusal}
 use Rattle.execution_file.specs.declared.cause.ReadError.{ReadError}
 use Rattle.execution_file.specs.declared.cause.ReadError.TheVariants as errors
-use Rattle.execution_file.specs.Parts.{Part, ◌>>=◌, refused, taken_word, taken_list}
+use Rattle.execution_file.specs.Formats.{Format, ◌>>=◌, refused, taken_word, taken_list}
 use Rattle.execution_file.specs.Views.{Fails}
 use Rattle.execution_file.proofs.Loops.{with_front, regroup}
 use Rattle.execution_file.proofs.Written.{drop_all}
@@ -41,7 +41,7 @@ word_done short wrong ws i bs total all so_far =
 
 -- ---- lists
 
-pub list_goes : {X A : Type 0} (f : Part A) (contents : X → A) (items : List X) (count k b : ℕ) (bs behind : List ℕ) (x : X) (after : List ℕ) (total : Result (List A × List ℕ) Refusal) → k < count → bs ≡ b ∷ behind → b ≡ 32 → f.taken behind ≡ Ok (contents x, after)
+pub list_goes : {X A : Type 0} (f : Format A) (contents : X → A) (items : List X) (count k b : ℕ) (bs behind : List ℕ) (x : X) (after : List ℕ) (total : Result (List A × List ℕ) Refusal) → k < count → bs ≡ b ∷ behind → b ≡ 32 → f.taken behind ≡ Ok (contents x, after)
     → with_front (map contents items) (taken_list (count - k) f bs) ≡ total → with_front (map contents (items ++ x ∷ [])) (taken_list (count - (k + 1)) f after) ≡ total
 unfolding taken_list
 list_goes f contents items count k b bs behind x after total lt parts blank h so_far =
@@ -49,7 +49,7 @@ list_goes f contents items count k b bs behind x after total lt parts blank h so
     let one : with_front (map contents items) (taken_list (count - k) f bs) ≡ with_front (map contents items ++ contents x ∷ []) (taken_list (count - (k + 1)) f after) = rw (e, parts, eq-eqb b 32 blank, h) (regroup (map contents items) (contents x) (taken_list (count - (k + 1)) f after)) in
     rw (map-append contents items (x ∷ [])) (sym one ∙ so_far)
 
-pub list_fails : {A : Type 0} (f : Part A) (e : ReadError) (front : List A) (count k b : ℕ) (bs behind : List ℕ) (total : Result (List A × List ℕ) Refusal) → k < count → bs ≡ b ∷ behind → b ≡ 32 → Fails e (f.taken behind)
+pub list_fails : {A : Type 0} (f : Format A) (e : ReadError) (front : List A) (count k b : ℕ) (bs behind : List ℕ) (total : Result (List A × List ℕ) Refusal) → k < count → bs ≡ b ∷ behind → b ≡ 32 → Fails e (f.taken behind)
     → with_front front (taken_list (count - k) f bs) ≡ total → Fails e total
 unfolding taken_list
 list_fails f errors.OutOfMemory front count k b bs behind total lt parts blank h so_far = tt
@@ -58,7 +58,7 @@ list_fails f (errors.Refused c) front count k b bs behind total lt parts blank h
     let one : with_front front (taken_list (count - k) f bs) ≡ Err c = rw (e, parts, eq-eqb b 32 blank, h) refl in
     sym so_far ∙ one
 
-pub list_ends : {A : Type 0} (f : Part A) (front : List A) (count k b : ℕ) (bs behind : List ℕ) (total : Result (List A × List ℕ) Refusal) → k < count → bs ≡ b ∷ behind → b ≡ 10
+pub list_ends : {A : Type 0} (f : Format A) (front : List A) (count k b : ℕ) (bs behind : List ℕ) (total : Result (List A × List ℕ) Refusal) → k < count → bs ≡ b ∷ behind → b ≡ 10
     → with_front front (taken_list (count - k) f bs) ≡ total → total ≡ Ok (front, behind)
 unfolding taken_list
 list_ends {A} f front count k b bs behind total lt parts line so_far =
@@ -66,7 +66,7 @@ list_ends {A} f front count k b bs behind total lt parts line so_far =
     let one : with_front front (taken_list (count - k) f bs) ≡ Ok (front, behind) = rw (e, parts, line) (ap (λ (ns : List A). Ok (ns, behind)) (append-nil front)) in
     sym so_far ∙ one
 
-pub list_breaks : {A : Type 0} (f : Part A) (front : List A) (count k b : ℕ) (bs behind : List ℕ) (total : Result (List A × List ℕ) Refusal) → k < count → bs ≡ b ∷ behind → (b ≡ 32 → ⊥) → (b ≡ 10 → ⊥)
+pub list_breaks : {A : Type 0} (f : Format A) (front : List A) (count k b : ℕ) (bs behind : List ℕ) (total : Result (List A × List ℕ) Refusal) → k < count → bs ≡ b ∷ behind → (b ≡ 32 → ⊥) → (b ≡ 10 → ⊥)
     → with_front front (taken_list (count - k) f bs) ≡ total → total ≡ refused Malformed bs
 unfolding taken_list
 list_breaks f front count k b bs behind total lt parts blank line so_far =
@@ -74,7 +74,7 @@ list_breaks f front count k b bs behind total lt parts blank line so_far =
     let one : with_front front (taken_list (count - k) f bs) ≡ refused Malformed bs = rw (e, parts, ne_eqb b 32 blank, ne_eqb b 10 line) refl in
     sym so_far ∙ one
 
-pub list_cut : {A : Type 0} (f : Part A) (front : List A) (count k : ℕ) (bs : List ℕ) (total : Result (List A × List ℕ) Refusal) → k < count → length bs ≡ 0
+pub list_cut : {A : Type 0} (f : Format A) (front : List A) (count k : ℕ) (bs : List ℕ) (total : Result (List A × List ℕ) Refusal) → k < count → length bs ≡ 0
     → with_front front (taken_list (count - k) f bs) ≡ total → total ≡ refused Cut bs
 unfolding taken_list
 list_cut f front count k bs total lt none so_far =
@@ -82,7 +82,7 @@ list_cut f front count k bs total lt none so_far =
     let one : with_front front (taken_list (count - k) f bs) ≡ refused Cut bs = rw (e, nil_from_length bs none) refl in
     sym so_far ∙ one
 
-pub list_spent : {A : Type 0} (f : Part A) (front : List A) (count k : ℕ) (bs : List ℕ) (total : Result (List A × List ℕ) Refusal) → count ≤ k
+pub list_spent : {A : Type 0} (f : Format A) (front : List A) (count k : ℕ) (bs : List ℕ) (total : Result (List A × List ℕ) Refusal) → count ≤ k
     → with_front front (taken_list (count - k) f bs) ≡ total → total ≡ refused Cut bs
 unfolding taken_list
 list_spent f front count k bs total le so_far =
@@ -94,5 +94,5 @@ same : {A : Type 0} (r : Result (List A × List ℕ) Refusal) → with_front [] 
 same (Ok x) = refl
 same (Err e) = refl
 
-pub list_starts : {A : Type 0} (f : Part A) (count : ℕ) (bs : List ℕ) → with_front [] (taken_list (count - 0) f bs) ≡ taken_list count f bs
+pub list_starts : {A : Type 0} (f : Format A) (count : ℕ) (bs : List ℕ) → with_front [] (taken_list (count - 0) f bs) ≡ taken_list count f bs
 list_starts {A} f count bs = let e : count - 0 ≡ count = omega arith in rw e (same (taken_list count f bs))

@@ -2,7 +2,7 @@
 use Rattle.std.proofs.Common.{◌≡◌, ℕ, zero, suc, ◌+◌, ◌<◌, ◌≤◌, List, [], ◌∷◌, ◌++◌, length, get_or, drop, map, refl, sym, ap, ◌∙◌, arith, append_assoc, add-one}
 use Rattle.std.specs.Prelude.{OnOk, Result, Ok, Err}
 use Rattle.std.proofs.lemmas.List.{append-nil, length-map}
-use Rattle.execution_file.specs.Parts.{Part, spelled_each, spelled_list}
+use Rattle.execution_file.specs.Formats.{Format, spelled_each, spelled_list}
 
 pub assoc : {A : Type 0} (xs ys zs : List A) → xs ++ ys ++ zs ≡ xs ++ (ys ++ zs)
 assoc xs ys zs = append_assoc xs ys zs
@@ -20,7 +20,7 @@ drop_all (x ∷ xs) zero low = absurd (omega (arith, low))
 drop_all (x ∷ xs) (suc i) low = drop_all xs i (omega (arith, low))
 
 -- with one more item written, the rest is still to be written
-pub one_more : {X A : Type 0} (f : ℕ → Part A) (contents : X → A) (xs : List X) (i j k : ℕ) (x other : X) (text new total : List ℕ) → i < length xs → x ≡ get_or xs i other → k ≡ suc j → new ≡ text ++ (f j).spelled (contents x) →
+pub one_more : {X A : Type 0} (f : ℕ → Format A) (contents : X → A) (xs : List X) (i j k : ℕ) (x other : X) (text new total : List ℕ) → i < length xs → x ≡ get_or xs i other → k ≡ suc j → new ≡ text ++ (f j).spelled (contents x) →
     text ++ spelled_each j f (drop i (map contents xs)) ≡ total → new ++ spelled_each k f (drop (i + 1) (map contents xs)) ≡ total
 one_more {X} {A} f contents xs i j k x other text new total low e next written so_far =
     let after : drop (suc i) (map contents xs) ≡ drop (i + 1) (map contents xs) = ap (λ (n : ℕ). drop n (map contents xs)) (sym (add-one i)) in
@@ -40,13 +40,13 @@ on_ok (Ok v) P Q f h = f h
 on_ok (Err e) P Q f h = tt
 
 -- with all items written, nothing is left to write
-pub all_written : {X A : Type 0} (f : ℕ → Part A) (contents : X → A) (xs : List X) (i j : ℕ) (text total : List ℕ) → length xs ≤ i → text ++ spelled_each j f (drop i (map contents xs)) ≡ total → text ≡ total
+pub all_written : {X A : Type 0} (f : ℕ → Format A) (contents : X → A) (xs : List X) (i j : ℕ) (text total : List ℕ) → length xs ≤ i → text ++ spelled_each j f (drop i (map contents xs)) ≡ total → text ≡ total
 all_written {X} {A} f contents xs i j text total low e =
     let none : drop i (map contents xs) ≡ [] = drop_all (map contents xs) i (omega (arith, low, length-map xs contents)) in
     sym (append-nil text) ∙ sym (ap (λ (ys : List A). text ++ spelled_each j f ys) none) ∙ e
 
 -- with one more item of a line written, the rest of the line is still to be written
-pub list_more : {X A : Type 0} (f : Part A) (contents : X → A) (xs : List X) (i : ℕ) (x other : X) (text blank new total : List ℕ) → i < length xs → x ≡ get_or xs i other → blank ≡ text ++ 32 ∷ [] → new ≡ blank ++ f.spelled (contents x) →
+pub list_more : {X A : Type 0} (f : Format A) (contents : X → A) (xs : List X) (i : ℕ) (x other : X) (text blank new total : List ℕ) → i < length xs → x ≡ get_or xs i other → blank ≡ text ++ 32 ∷ [] → new ≡ blank ++ f.spelled (contents x) →
     text ++ spelled_list f (drop i (map contents xs)) ≡ total → new ++ spelled_list f (drop (i + 1) (map contents xs)) ≡ total
 list_more {X} {A} f contents xs i x other text blank new total low e first second so_far =
     let after : drop (suc i) (map contents xs) ≡ drop (i + 1) (map contents xs) = ap (λ (n : ℕ). drop n (map contents xs)) (sym (add-one i)) in
@@ -57,7 +57,7 @@ list_more {X} {A} f contents xs i x other text blank new total low e first secon
     ∙ so_far
 
 -- with all items written, the line ends
-pub list_ended : {X A : Type 0} (f : Part A) (contents : X → A) (xs : List X) (i : ℕ) (text new total : List ℕ) → length xs ≤ i → new ≡ text ++ 10 ∷ [] → text ++ spelled_list f (drop i (map contents xs)) ≡ total → new ≡ total
+pub list_ended : {X A : Type 0} (f : Format A) (contents : X → A) (xs : List X) (i : ℕ) (text new total : List ℕ) → length xs ≤ i → new ≡ text ++ 10 ∷ [] → text ++ spelled_list f (drop i (map contents xs)) ≡ total → new ≡ total
 list_ended {X} {A} f contents xs i text new total low last e =
     let none : drop i (map contents xs) ≡ [] = drop_all (map contents xs) i (omega (arith, low, length-map xs contents)) in
     last ∙ sym (ap (λ (ys : List A). text ++ spelled_list f ys) none) ∙ e

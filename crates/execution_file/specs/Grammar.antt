@@ -3,17 +3,17 @@ use Rattle.std.specs.Prelude.{◌≡◌, ℕ, ◌+◌, ◌-◌, ◌^◌, ◌%◌
 use Rattle.std.specs.Fmt.{decimal}
 use Rattle.execution_file.specs.declared.cause.Cause.TheVariants.{NotAnExecution, Version, TextLeft}
 use Rattle.execution_file.specs.declared.cause.Refusal.{Refusal}
-use Rattle.execution_file.specs.Parts.{Part, ◌>>=◌, ◌&◌, refused, taken_word, begun_or, begun, ended, number, byte, seen, counted, listed, after, broken}
-use Rattle.execution_file.specs.Recorded.{Turn, HartPart, Recorded}
+use Rattle.execution_file.specs.Formats.{Format, ◌>>=◌, ◌&◌, refused, taken_word, begun_or, begun, ended, number, byte, seen, counted, listed, after, broken}
+use Rattle.execution_file.specs.Recorded.{Turn, HartDeeds, Recorded}
 
 -- numbers of 8, 32 and 64 bits
-abbrev pub small : Part ℕ
+abbrev pub small : Format ℕ
 small = number 255
 
-abbrev pub word : Part ℕ
+abbrev pub word : Format ℕ
 word = number (2 ^ 32 - 1)
 
-abbrev pub double : Part ℕ
+abbrev pub double : Format ℕ
 double = number (2 ^ 64 - 1)
 
 -- 1 for yes and 0 for no
@@ -23,14 +23,14 @@ flag_of n = n == 1
 abbrev pub number_of_flag : Bool → ℕ
 number_of_flag b = if b then 1 else 0
 
-abbrev pub flag : Part Bool
+abbrev pub flag : Format Bool
 flag = seen flag_of number_of_flag (number 1)
 
 -- how many bytes there are, and then lines of 32 of them, and of those that are left
 abbrev pub is_line_end : ℕ → ℕ → Bool
 is_line_end n i = (i + 1 == n) || ((i + 1) % 32 == 0)
 
-abbrev pub bytes : Part (List ℕ)
+abbrev pub bytes : Format (List ℕ)
 bytes = counted (2 ^ 64 - 1) (λ n i. broken (is_line_end n i) byte)
 
 -- a hart, and after a colon a number
@@ -40,19 +40,19 @@ turn_from t = record { hart = t.0; number = t.1 }
 abbrev pub turn_fields : Turn → ℕ × Option ℕ
 turn_fields t = (t.hart, t.number)
 
-abbrev pub hart_turn : Part Turn
+abbrev pub hart_turn : Format Turn
 hart_turn = seen turn_from turn_fields
     (small & λ hart.
     after 58 double)
 
 -- `hart H steps N stop CODE`, after the exit call with its value, and a line of what it reads
-abbrev pub hart_from : ℕ × (ℕ × (Option ℕ × List ℕ)) → HartPart
+abbrev pub hart_from : ℕ × (ℕ × (Option ℕ × List ℕ)) → HartDeeds
 hart_from t = record { steps = t.0; code = t.1.0; value = t.1.1.0; reads = t.1.1.1 }
 
-abbrev pub hart_fields : HartPart → ℕ × (ℕ × (Option ℕ × List ℕ))
+abbrev pub hart_fields : HartDeeds → ℕ × (ℕ × (Option ℕ × List ℕ))
 hart_fields h = (h.steps, (h.code, (h.value, h.reads)))
 
-abbrev pub hart_lines : ℕ → Part HartPart
+abbrev pub hart_lines : ℕ → Format HartDeeds
 hart_lines i = begun (codes "hart " ++ decimal i) (seen hart_from hart_fields
     (begun (codes " steps ") double & λ steps.
     begun (codes " stop ") small & λ code.
@@ -61,7 +61,7 @@ hart_lines i = begun (codes "hart " ++ decimal i) (seen hart_from hart_fields
 
 -- an execution
 abbrev pub Fields : Type 0
-Fields = Bool × (ℕ × (List ℕ × (List ℕ × (List HartPart × (List Turn × List Turn)))))
+Fields = Bool × (ℕ × (List ℕ × (List ℕ × (List HartDeeds × (List Turn × List Turn)))))
 
 abbrev pub recorded_from : Fields → Recorded
 recorded_from t = record {
@@ -81,7 +81,7 @@ recorded_fields r = (r.flat, (r.pages, (r.image, (r.input, (r.harts, (r.calls, r
 abbrev pub taken_first_line : List ℕ → Result (List ℕ) Refusal
 taken_first_line bs = taken_word NotAnExecution NotAnExecution (codes "execution ") bs >>= taken_word Version Version (codes "1\n")
 
-abbrev pub execution : Part Recorded
+abbrev pub execution : Format Recorded
 execution = begun_or NotAnExecution NotAnExecution (codes "execution ") (begun_or Version Version (codes "1\n") (seen recorded_from recorded_fields
     (begun (codes "flat ") flag & λ flat.
     begun (codes "\npages ") word & λ pages.

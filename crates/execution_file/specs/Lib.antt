@@ -1,4 +1,4 @@
-pub mod Parts
+pub mod Formats
 pub mod Numerals
 pub mod Grammar
 pub mod Recorded

@@ -8,7 +8,7 @@ pub record Turn : Type 0 where
 
 -- what a hart does: how many instructions, the stop code after them, 0 while it runs, and the value of the exit call, and the
 -- numbers that its loads, LRs and AMOs read, and for each SC 1 where it succeeds and 0 where it fails, in program order
-pub record HartPart : Type 0 where
+pub record HartDeeds : Type 0 where
   pub steps : ℕ
   pub code : ℕ
   pub value : Option ℕ
@@ -19,6 +19,6 @@ pub record Recorded : Type 0 where
   pub pages : ℕ
   pub image : List ℕ
   pub input : List ℕ
-  pub harts : List HartPart
+  pub harts : List HartDeeds
   pub calls : List Turn
   pub order : List Turn

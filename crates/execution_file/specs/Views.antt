@@ -4,14 +4,14 @@ use Rattle.execution_file.specs.declared.cause.Refusal.{Refusal}
 use Rattle.execution_file.specs.declared.cause.ReadError.{ReadError}
 use Rattle.execution_file.specs.declared.cause.ReadError.TheVariants as errors
 use Rattle.execution_file.specs.declared.file.Turn.{Turn as TurnHeld}
-use Rattle.execution_file.specs.declared.file.HartPart.{HartPart as HartHeld}
+use Rattle.execution_file.specs.declared.file.HartDeeds.{HartDeeds as HartHeld}
 use Rattle.execution_file.specs.declared.file.ExecutionFile.{ExecutionFile}
-use Rattle.execution_file.specs.Recorded.{Turn, HartPart, Recorded}
+use Rattle.execution_file.specs.Recorded.{Turn, HartDeeds, Recorded}
 
 abbrev pub turn_view : TurnHeld → Turn
 turn_view t = record { hart = t.hart; number = t.number }
 
-abbrev pub hart_view : HartHeld → HartPart
+abbrev pub hart_view : HartHeld → HartDeeds
 hart_view h = record { steps = h.steps; code = h.code; value = h.value; reads = h.reads.items }
 
 abbrev pub as_recorded : ExecutionFile → Recorded

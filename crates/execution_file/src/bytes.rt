@@ -1,6 +1,6 @@
 ghost use Rattle.std.specs.Prelude.{◌≡◌, ◌<◌, true};
 ghost use Rattle.execution_file.specs.Grammar.{bytes as counted_bytes, is_line_end};
-ghost use Rattle.execution_file.specs.Parts.{broken, byte, each, hex_value, is_hex};
+ghost use Rattle.execution_file.specs.Formats.{broken, byte, each, hex_value, is_hex};
 ghost use Rattle.execution_file.specs.Views.{Gives};
 
 use crate::cause::{Cause, ReadError};
@@ -39,13 +39,13 @@ fn byte_at(bytes: &[u8]) -> Result<(u8, &[u8]), ReadError>
     }
 }
 
-/// Byte `place` of so many, and what follows it and the end of its line.
-fn byte_of_line(bytes: &[u8], count: u64, place: u64) -> Result<(u8, &[u8]), ReadError>
-    requires { place < count }
-    ensures { Gives (λ x. (x.0, x.1.now)) result ((broken (is_line_end count place) byte).taken bytes.now) }
+/// Byte `index` of so many, and what follows it and the end of its line.
+fn byte_of_line(bytes: &[u8], count: u64, index: u64) -> Result<(u8, &[u8]), ReadError>
+    requires { index < count }
+    ensures { Gives (λ x. (x.0, x.1.now)) result ((broken (is_line_end count index) byte).taken bytes.now) }
 {
     let (byte, rest) = byte_at(bytes)?;
-    if place + 1 == count || (place + 1) % 32 == 0 {
+    if index + 1 == count || (index + 1) % 32 == 0 {
         return Ok((byte, word_at(rest, b"\n")?));
     }
     Ok((byte, rest))
@@ -69,8 +69,8 @@ fn lines_at(alloc: Global, bytes: &[u8], count: u64) -> Result<(Vec<u8>, &[u8]),
 {
     let mut all = Vec::new(alloc);
     let mut rest = bytes;
-    for place in 0..count {
-        let (byte, after) = byte_of_line(rest, count, place)?;
+    for index in 0..count {
+        let (byte, after) = byte_of_line(rest, count, index)?;
         all.push(byte)?;
         rest = after;
     }

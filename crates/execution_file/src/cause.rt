@@ -49,7 +49,7 @@ impl Cause {
 pub struct Refusal {
     /// The first cause in the order of the parts.
     pub cause: Cause,
-    /// How many bytes of the text stand from the place on where it was met.
+    /// How many bytes of the text stand from the position on where it was met.
     pub left: usize,
 }
 

@@ -10,7 +10,7 @@ pub struct Turn {
 
 /// What a hart does.
 #[derive(Drop)]
-pub struct HartPart {
+pub struct HartDeeds {
     /// How many instructions it does.
     pub steps: u64,
     /// The code with which it stops after them, and 0 where it runs on.
@@ -35,7 +35,7 @@ pub struct ExecutionFile {
     /// What the guest reads.
     pub input: Vec<u8>,
     /// The harts, in hart order.
-    pub harts: Vec<HartPart>,
+    pub harts: Vec<HartDeeds>,
     /// The harts in the order of their calls, as far as it is given. The harts do the others after these, one hart after another.
     pub calls: Vec<Turn>,
     /// The harts in an order of their memory operations.

@@ -11,6 +11,6 @@ mod words;
 mod writing;
 
 pub use cause::{Cause, ReadError, Refusal};
-pub use file::{ExecutionFile, HartPart, Turn};
+pub use file::{ExecutionFile, HartDeeds, Turn};
 pub use reading::{one_execution, read_execution};
 pub use writing::write_execution;

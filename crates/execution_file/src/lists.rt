@@ -1,11 +1,11 @@
 ghost use Rattle.std.specs.Prelude.{◌≡◌, ◌++◌, ◌-◌, ◌^◌, codes, map};
 ghost use Rattle.std.specs.Fmt.{decimal};
 ghost use Rattle.execution_file.specs.Grammar.{double, hart_lines, hart_turn};
-ghost use Rattle.execution_file.specs.Parts.{counted, each, listed, taken_word};
+ghost use Rattle.execution_file.specs.Formats.{counted, each, listed, taken_word};
 ghost use Rattle.execution_file.specs.Views.{Gives, hart_view, turn_view};
 
 use crate::cause::{Cause, ReadError};
-use crate::file::{HartPart, Turn};
+use crate::file::{HartDeeds, Turn};
 use crate::numbers::{number_after, number_at};
 use crate::words::{refused, word_at};
 use itoa::write_digits;
@@ -77,25 +77,25 @@ pub(crate) fn turns_at(alloc: Global, bytes: &[u8]) -> Result<(Vec<Turn>, &[u8])
 }
 
 /// What follows the word `hart` and the number of a hart.
-fn hart_number_at(bytes: &[u8], place: u64) -> Result<&[u8], ReadError>
-    ensures { Gives (λ x. x.now) result (taken_word Cause.Cut Cause.Malformed (codes "hart " ++ decimal place) bytes.now) }
+fn hart_number_at(bytes: &[u8], index: u64) -> Result<&[u8], ReadError>
+    ensures { Gives (λ x. x.now) result (taken_word Cause.Cut Cause.Malformed (codes "hart " ++ decimal index) bytes.now) }
 {
     let mut room = [0; 20];
-    let start = write_digits(place, &mut room, 20);
+    let start = write_digits(index, &mut room, 20);
     word_at(word_at(bytes, b"hart ")?, &room[start..])
 }
 
 /// What a hart does, and what follows it.
-fn hart_at(alloc: Global, bytes: &[u8], place: u64) -> Result<(HartPart, &[u8]), ReadError>
-    ensures { Gives (λ x. (hart_view x.0, x.1.now)) result ((hart_lines place).taken bytes.now) }
+fn hart_at(alloc: Global, bytes: &[u8], index: u64) -> Result<(HartDeeds, &[u8]), ReadError>
+    ensures { Gives (λ x. (hart_view x.0, x.1.now)) result ((hart_lines index).taken bytes.now) }
 {
-    let rest = hart_number_at(bytes, place)?;
+    let rest = hart_number_at(bytes, index)?;
     let (steps, rest) = number_at(word_at(rest, b" steps ")?, u64::MAX)?;
     let (code, rest) = number_at(word_at(rest, b" stop ")?, 255)?;
     let (value, rest) = number_after(rest, 32)?;
     let (reads, rest) = numbers_at(alloc, word_at(rest, b"\nread")?)?;
     Ok((
-        HartPart {
+        HartDeeds {
             steps,
             code: code as u8,
             value,
@@ -106,7 +106,7 @@ fn hart_at(alloc: Global, bytes: &[u8], place: u64) -> Result<(HartPart, &[u8]),
 }
 
 /// The number of harts, and what each does, and what follows them.
-pub(crate) fn harts_at(alloc: Global, bytes: &[u8]) -> Result<(Vec<HartPart>, &[u8]), ReadError>
+pub(crate) fn harts_at(alloc: Global, bytes: &[u8]) -> Result<(Vec<HartDeeds>, &[u8]), ReadError>
     ensures { Gives (λ x. (map hart_view x.0.items, x.1.now)) result
         ((counted (2 ^ 64 - 1) (λ n i. hart_lines i)).taken bytes.now) }
 {
@@ -121,13 +121,13 @@ fn so_many_harts_at(
     alloc: Global,
     bytes: &[u8],
     count: u64,
-) -> Result<(Vec<HartPart>, &[u8]), ReadError>
+) -> Result<(Vec<HartDeeds>, &[u8]), ReadError>
     ensures { Gives (λ x. (map hart_view x.0.items, x.1.now)) result ((each count hart_lines).taken bytes.now) }
 {
     let mut harts = Vec::new(alloc);
     let mut rest = bytes;
-    for place in 0..count {
-        let (part, after) = hart_at(alloc, rest, place)?;
+    for index in 0..count {
+        let (part, after) = hart_at(alloc, rest, index)?;
         harts.push(part)?;
         rest = after;
     }

@@ -1,6 +1,6 @@
 ghost use Rattle.std.specs.Prelude.{◌≡◌, ◌≤◌, ◌<◌, ◌+◌, ◌-◌, ◌*◌, ◌^◌, IfOk, SomeIff};
 ghost use Rattle.execution_file.specs.Numerals.{after_digits, digits_at, is_digit, is_numeral, value_of};
-ghost use Rattle.execution_file.specs.Parts.{after, number};
+ghost use Rattle.execution_file.specs.Formats.{after, number};
 ghost use Rattle.execution_file.specs.Views.{Gives};
 
 use crate::cause::{Cause, ReadError};

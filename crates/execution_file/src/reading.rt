@@ -73,7 +73,7 @@ fn read_whole(alloc: Global, text: &[u8]) -> Result<ExecutionFile, ReadError>
 ///
 /// # Errors
 ///
-/// The first cause in the order of the parts, with the place where it stands, and `OutOfMemory`.
+/// The first cause in the order of the parts, with the position where it stands, and `OutOfMemory`.
 pub fn read_execution(alloc: Global, text: &[u8]) -> Result<ExecutionFile, ReadError>
     // Which execution it is, or which cause.
     ensures exact { Gives as_recorded result (reading text.now) }

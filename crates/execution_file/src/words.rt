@@ -1,6 +1,6 @@
 ghost use Rattle.std.specs.Prelude.{◌≡◌, length};
 ghost use Rattle.execution_file.specs.declared.cause.ReadError.TheVariants.{Refused};
-ghost use Rattle.execution_file.specs.Parts.{taken_word};
+ghost use Rattle.execution_file.specs.Formats.{taken_word};
 ghost use Rattle.execution_file.specs.Views.{Gives};
 
 use crate::cause::{Cause, ReadError, Refusal};

@@ -3,10 +3,10 @@ ghost use Rattle.std.specs.Fmt.{decimal};
 ghost use Rattle.host_io.specs.Taken.{WritesText};
 ghost use Rattle.host_io.specs.declared.error.RunError.TheVariants as refusals;
 ghost use Rattle.execution_file.specs.Grammar.{bytes as counted_bytes, double, execution, hart_lines, hart_turn, is_line_end, number_of_flag};
-ghost use Rattle.execution_file.specs.Parts.{broken, byte, counted, hex_digit, spelled_after, spelled_each, spelled_list};
+ghost use Rattle.execution_file.specs.Formats.{broken, byte, counted, hex_digit, spelled_after, spelled_each, spelled_list};
 ghost use Rattle.execution_file.specs.Views.{as_recorded, hart_view, turn_view};
 
-use crate::file::{ExecutionFile, HartPart, Turn};
+use crate::file::{ExecutionFile, HartDeeds, Turn};
 use host_io::{RunError, Sink, put_all};
 use itoa::write_digits;
 use std::alloc::{AllocError, Global};
@@ -124,13 +124,13 @@ fn put_byte(text: &mut Vec<u8>, value: u8) -> Result<(), AllocError>
 }
 
 /// One of some bytes, and the end of its line.
-fn put_byte_of_line(text: &mut Vec<u8>, bytes: &[u8], place: usize) -> Result<(), AllocError>
-    requires { place < length bytes.now }
+fn put_byte_of_line(text: &mut Vec<u8>, bytes: &[u8], index: usize) -> Result<(), AllocError>
+    requires { index < length bytes.now }
     ensures { OnOk result (text.new.items ≡ text.old.items ++
-        (broken (is_line_end (length bytes.now) place) byte).spelled (slice_index bytes.now place)) }
+        (broken (is_line_end (length bytes.now) index) byte).spelled (slice_index bytes.now index)) }
 {
-    put_byte(text, bytes[place])?;
-    if place + 1 == bytes.len() || (place + 1) % 32 == 0 {
+    put_byte(text, bytes[index])?;
+    if index + 1 == bytes.len() || (index + 1) % 32 == 0 {
         return put(text, b"\n");
     }
     Ok(())
@@ -150,8 +150,8 @@ fn put_lines(text: &mut Vec<u8>, bytes: &[u8]) -> Result<(), AllocError>
     ensures { OnOk result (text.new.items ≡ text.old.items ++
         spelled_each 0 (λ i. broken (is_line_end (length bytes.now) i) byte) bytes.now) }
 {
-    for (place, _) in bytes.iter().enumerate() {
-        put_byte_of_line(text, bytes, place)?;
+    for (index, _) in bytes.iter().enumerate() {
+        put_byte_of_line(text, bytes, index)?;
     }
     Ok(())
 }
@@ -206,16 +206,16 @@ fn put_numbers(text: &mut Vec<u8>, numbers: &[u64]) -> Result<(), AllocError>
 #[tactic(auto, using(crate::proofs::Written::assoc))]
 fn put_hart_line(
     text: &mut Vec<u8>,
-    place: u64,
+    index: u64,
     steps: u64,
     code: u8,
     value: Option<u64>,
 ) -> Result<(), AllocError>
-    ensures { OnOk result (text.new.items ≡ text.old.items ++ (codes "hart " ++ decimal place ++
+    ensures { OnOk result (text.new.items ≡ text.old.items ++ (codes "hart " ++ decimal index ++
         (codes " steps " ++ decimal steps ++ (codes " stop " ++ decimal code ++ spelled_after 32 double value)))) }
 {
     put(text, b"hart ")?;
-    put_number(text, place)?;
+    put_number(text, index)?;
     put(text, b" steps ")?;
     put_number(text, steps)?;
     put(text, b" stop ")?;
@@ -224,18 +224,18 @@ fn put_hart_line(
 }
 
 /// What a hart does.
-fn put_hart(text: &mut Vec<u8>, part: &HartPart, place: u64) -> Result<(), AllocError>
+fn put_hart(text: &mut Vec<u8>, part: &HartDeeds, index: u64) -> Result<(), AllocError>
     ensures { OnOk result (text.new.items ≡
-        text.old.items ++ (hart_lines place).spelled (hart_view part.now)) }
+        text.old.items ++ (hart_lines index).spelled (hart_view part.now)) }
 {
-    put_hart_line(text, place, part.steps, part.code, part.value)?;
+    put_hart_line(text, index, part.steps, part.code, part.value)?;
     put(text, b"\nread")?;
     put_numbers(text, part.reads.as_slice())
 }
 
 /// The number of harts, and what each does.
 #[tactic(auto, using(crate::proofs::Written::assoc))]
-fn put_harts(text: &mut Vec<u8>, harts: &[HartPart]) -> Result<(), AllocError>
+fn put_harts(text: &mut Vec<u8>, harts: &[HartDeeds]) -> Result<(), AllocError>
     ensures { OnOk result (text.new.items ≡ text.old.items ++ (codes "harts " ++
         (counted (2 ^ 64 - 1) (λ n i. hart_lines i)).spelled (map hart_view harts.now))) }
 {
@@ -254,12 +254,12 @@ fn put_count(text: &mut Vec<u8>, count: u64) -> Result<(), AllocError>
 }
 
 /// What each hart does.
-fn put_each_hart(text: &mut Vec<u8>, harts: &[HartPart]) -> Result<(), AllocError>
+fn put_each_hart(text: &mut Vec<u8>, harts: &[HartDeeds]) -> Result<(), AllocError>
     ensures { OnOk result (text.new.items ≡
         text.old.items ++ spelled_each 0 hart_lines (map hart_view harts.now)) }
 {
-    for (place, part) in harts.iter().enumerate() {
-        put_hart(text, part, place as u64)?;
+    for (index, part) in harts.iter().enumerate() {
+        put_hart(text, part, index as u64)?;
     }
     Ok(())
 }

@@ -9,7 +9,7 @@ use Rattle.round_schedule.specs.Positions.{event, no_event}
 use Rattle.hart_step.specs.declared.hart.Hart.{Hart}
 use Rattle.execution.specs.Executions.{Executes, Goes, Standing, Stops, Takes, begins, goes, stops}
 use Rattle.execution_views.specs.Passing.{IsBefore}
-use Rattle.execution_views.proofs.Further.{Further, before_kept, event_kept, length_more}
+use Rattle.execution_views.proofs.Further.{Further, before_stays, event_stays, length_more}
 use Rattle.execution_views.proofs.Noting.{Grows}
 use Rattle.execution_moments.specs.declared.course.HartMoment.{HartMoment}
 use Rattle.execution_moments.specs.Courses.{AreBefore, before_one}
@@ -27,7 +27,7 @@ same_noted image p q r ms f x =
       each = λ k l.
           let m : k < length q.events = omega (arith, l, length_more image q r [] f) in
           let old = x.each k m in
-          (old.0, before_kept image p q r [] k old.0 f m old.1, λ d. old.2 d ∙ ap (λ (t : List Event). before_one (event t k) k old.0) same);
+          (old.0, before_stays image p q r [] k old.0 f m old.1, λ d. old.2 d ∙ ap (λ (t : List Event). before_one (event t k) k old.0) same);
     }
 
 -- an instruction of hart i more, which was g before it
@@ -43,10 +43,10 @@ new_before image p q r i g e x = record {
 }
 
 abbrev noted_one : ℕ → ℕ → Hart → HartMoment
-noted_one i n g = record { number = i; place = Some n; hart = g }
+noted_one i n g = record { number = i; index = Some n; hart = g }
 
 one_noted : (i n k : ℕ) (e : Event) (g : Hart) → i ≡ e.hart → n ≡ k → noted_one i n g ≡ before_one e k g
-one_noted i n k e g hart place = ap (λ (j : ℕ). noted_one j n g) hart ∙ ap (λ (j : ℕ). noted_one e.hart j g) place
+one_noted i n k e g hart index = ap (λ (j : ℕ). noted_one j n g) hart ∙ ap (λ (j : ℕ). noted_one e.hart j g) index
 
 more_noted : (image : Memory) (p q r : Standing) (i : ℕ) (g : Hart) (e : Event) (old new : List HartMoment) → Grows image p q r i g e →
     new ≡ old ++ noted_one i (length old) g ∷ [] → AreBefore image p q old → AreBefore image p r new
@@ -56,9 +56,9 @@ more_noted image p q r i g e old new x is a = record {
     | inl m ↦
         let was = a.each k m in (
           was.0,
-          before_kept image p q r (e ∷ []) k was.0 x.further m was.1,
+          before_stays image p q r (e ∷ []) k was.0 x.further m was.1,
           λ d. ap (λ (xs : List HartMoment). slice_index_or xs k d) is ∙ get_or_append_left old (noted_one i (length old) g ∷ []) d k (omega (arith, m, a.count)) ∙ was.2 d
-              ∙ ap (λ (v : Event). before_one v k was.0) (sym (event_kept image q r (e ∷ []) k x.further m)),
+              ∙ ap (λ (v : Event). before_one v k was.0) (sym (event_stays image q r (e ∷ []) k x.further m)),
         )
     | inr m ↦
         let at : k ≡ length q.events = omega (arith, m, l, length_more image q r (e ∷ []) x.further) in

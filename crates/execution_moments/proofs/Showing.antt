@@ -5,7 +5,7 @@ use Rattle.std.proofs.lemmas.List.{get_or-append-add, get_or_append_left, get_or
 use Rattle.std.proofs.lemmas.Option.{get_or_from_slice_get, slice_get_within}
 use Rattle.pages.specs.Memory.{Memory}
 use Rattle.round_schedule.specs.Positions.{event}
-use Rattle.memory_order.specs.Orders.{place}
+use Rattle.memory_order.specs.Orders.{order_position}
 use Rattle.hart_step.specs.declared.hart.Hart.{Hart}
 use Rattle.byte_sources.proofs.Firsts.{first_found}
 use Rattle.execution.specs.Executions.{Standing}
@@ -15,22 +15,22 @@ use Rattle.view_law.specs.Laws.{LoadsReadWhatIsSeen}
 use Rattle.execution_moments.specs.declared.course.Course.{Course}
 use Rattle.execution_moments.specs.declared.course.HartMoment.{HartMoment}
 use Rattle.execution_moments.specs.Courses.{IsCourse, before_one, stopped_from}
-use Rattle.execution_moments.specs.Laws.{HartsKeepProgramOrder, LoadsReadWhatIsShown}
-use Rattle.execution_moments.specs.Shown.{hart_by, hart_in, has_number, is_of, moment_at, moment_by, next_of, place_by, place_in, view_by}
+use Rattle.execution_moments.specs.Laws.{HartsRespectProgramOrder, LoadsReadWhatIsShown}
+use Rattle.execution_moments.specs.Shown.{hart_by, hart_in, has_number, is_of, moment_at, moment_by, next_of, index_by, index_in, view_by}
 use Rattle.execution_moments.specs.Times.{time_of}
 use Rattle.execution_moments.proofs.Rising.{time_up}
 use Rattle.execution_moments.proofs.Stopping.{none_has_place}
 
 -- ---- the order of time
 
-pub program_order : HartsKeepProgramOrder
+pub program_order : HartsRespectProgramOrder
 program_order image p q g c x i j d l m below_a below_b same =
     let a = get_or c.sequence.items i d in
     let b = get_or c.sequence.items j d in
     elim (cases_lt a b) [
       | inl before ↦ before
       | inr behind ↦
-          let up = time_up q.events (place g) (length g) b a behind below_a (sym same) in
+          let up = time_up q.events (order_position g) (length g) b a behind below_a (sym same) in
           let at_a = at a below_a in
           let at_b = at b below_b in
           elim (x.course.sequence.in_time i j d l m) [
@@ -39,16 +39,16 @@ program_order image p q g c x i j d l m below_a below_b same =
           ]
     ]
   where
-    at : (k : ℕ) → k < length q.events → slice_index_or x.course.times k (length g) ≡ time_of q.events (place g) (length g) k
+    at : (k : ℕ) → k < length q.events → slice_index_or x.course.times k (length g) ≡ time_of q.events (order_position g) (length g) k
     at k n = get_or_default x.course.times k (length g) 0 (omega (arith, n, x.course.are_times.count)) ∙ x.course.are_times.each k n
 
--- ---- a moment that has a place is that of the instruction there
+-- ---- a moment that has an index is that of the instruction there
 
 pub record IsInstruction (image : Memory) (p q : Standing) (r : ℕ) (m : HartMoment) : Type 0 where
   pub within : r < length q.events
   pub before : IsBefore image p q r m.hart
 
-differ : (m : HartMoment) (r : ℕ) → m.place ≡ None → m.place ≡ Some r → ⊥
+differ : (m : HartMoment) (r : ℕ) → m.index ≡ None → m.index ≡ Some r → ⊥
 differ m r none some = cc
 
 same_place : (k r : ℕ) → Some k ≡ Some r → k ≡ r
@@ -58,7 +58,7 @@ same_place k r e = ap (λ (o : Option ℕ). number o) e
     number None = 0
     number (Some j) = j
 
-instruction_of : (image : Memory) (p q : Standing) (g : List ℕ) (c : Course) (r k : ℕ) (m : HartMoment) → IsCourse image p q g c → slice_get c.moments.items k ≡ Some m → m.place ≡ Some r →
+instruction_of : (image : Memory) (p q : Standing) (g : List ℕ) (c : Course) (r k : ℕ) (m : HartMoment) → IsCourse image p q g c → slice_get c.moments.items k ≡ Some m → m.index ≡ Some r →
     IsInstruction image p q r m
 instruction_of image p q g c r k m x there has =
     let all = x.before ++ stopped_from 0 q.harts in
@@ -70,7 +70,7 @@ instruction_of image p q g c r k m x there has =
           let n : k < length q.events = omega (arith, l, x.are_before.count) in
           let noted = x.are_before.each k n in
           let e : m ≡ before_one (event q.events k) k noted.0 = sym is ∙ get_or_append_left x.before (stopped_from 0 q.harts) m k l ∙ noted.2 m in
-          let at : k ≡ r = same_place k r (sym (ap (λ (y : HartMoment). y.place) e) ∙ has) in
+          let at : k ≡ r = same_place k r (sym (ap (λ (y : HartMoment). y.index) e) ∙ has) in
           record {
             within = omega (arith, n, at);
             before = subst (λ (h : Hart). IsBefore image p q r h) (sym (ap (λ (y : HartMoment). y.hart) e)) (subst (λ (j : ℕ). IsBefore image p q j noted.0) at noted.1);
@@ -80,7 +80,7 @@ instruction_of image p q g c r k m x there has =
           let e : get_or (stopped_from 0 q.harts) (k - length x.before) m ≡ m =
           sym (get_or-append-add x.before (stopped_from 0 q.harts) (k - length x.before) m) ∙ ap (λ (j : ℕ). get_or all j m) from ∙ is in
           let none = none_has_place 0 q.harts (k - length x.before) m (omega (arith, in_all, size, l)) in
-          absurd (differ m r (ap (λ (y : HartMoment). y.place) (sym e) ∙ none) has)
+          absurd (differ m r (ap (λ (y : HartMoment). y.index) (sym e) ∙ none) has)
     ]
 
 number_of : (c : Course) (o : Option ℕ) (m : HartMoment) → moment_by c o ≡ Some m → (k : ℕ) × (o ≡ Some k) × (slice_get c.moments.items k ≡ Some m)
@@ -105,6 +105,6 @@ shown seen image p q g c opening x allows time r m at =
     let next = next_is_itself c time m at.0 in (
       (ap (hart_by c m.number) next ∙ ap hart_in at.0, instruction.before),
       λ y reads.
-          ap (λ (o : Option ℕ). byte_at q.events opening g (view_by q.events g m.number o) y) (ap (place_by c) next ∙ ap place_in at.0 ∙ at.1)
+          ap (λ (o : Option ℕ). byte_at q.events opening g (view_by q.events g m.number o) y) (ap (index_by c) next ∙ ap index_in at.0 ∙ at.1)
           ∙ seen q.events opening g allows.lists allows.load_value r y reads,
     )

@@ -46,7 +46,7 @@ distinct_permuted xs ys p h =
 once : (n : ℕ) (s : List ℕ) → IsPermutation (range_with_len 0 n) s → AllPairs (λ a b. a ≢ b) s
 once n s p = distinct_permuted (range_with_len 0 n) s p (λ i j d l m e. let r = rising n i j d l m in omega arith)
 
--- equal keys that rise from place to place rise over any distance
+-- equal keys that rise from index to index rise over any distance
 ties_far : (f : ℕ → ℕ) (g : List ℕ) → IsNonDecreasingBy f g →
     ((k d : ℕ) → k + 1 < length g → f (get_or g k d) ≡ f (get_or g (k + 1) d) → get_or g k d ≤ get_or g (k + 1) d) →
     (i n : ℕ) → i + n < length g → f (get_or g i 0) ≡ f (get_or g (i + n) 0) → get_or g i 0 ≤ get_or g (i + n) 0

@@ -14,7 +14,7 @@ use Rattle.execution_moments.specs.Times.{AreTimes}
 -- ---- of the instructions that were done from p to q: for each the moment of its hart before it
 
 abbrev pub before_one : Event → ℕ → Hart → HartMoment
-before_one e k g = record { number = e.hart; place = Some k; hart = g }
+before_one e k g = record { number = e.hart; index = Some k; hart = g }
 
 pub record AreBefore (image : Memory) (p q : Standing) (ms : List HartMoment) : Type 0 where
   pub count : length ms ≡ length q.events
@@ -23,7 +23,7 @@ pub record AreBefore (image : Memory) (p q : Standing) (ms : List HartMoment) : 
 -- ---- of the harts that have stopped
 
 abbrev pub stopped_one : ℕ → Hart → List HartMoment
-stopped_one h g = if is_some g.stop then record { number = h; place = None; hart = g } ∷ [] else []
+stopped_one h g = if is_some g.stop then record { number = h; index = None; hart = g } ∷ [] else []
 
 -- these are harts h, h + 1, ..
 abbrev pub stopped_from : ℕ → List Hart → List HartMoment

@@ -14,14 +14,14 @@ use Rattle.execution_moments.specs.Courses.{IsCourse}
 use Rattle.execution_moments.specs.Shown.{hart_at, moment_at, view_at}
 
 -- of two instructions of one hart the one that comes first in time is the first in program order
-abbrev pub HartsKeepProgramOrder : Type 0
-HartsKeepProgramOrder =
+abbrev pub HartsRespectProgramOrder : Type 0
+HartsRespectProgramOrder =
     (image : Memory) (p q : Standing) (g : List ℕ) (c : Course) → IsCourse image p q g c →
     AllPairs (λ a b. a < length q.events → b < length q.events → (event q.events a).hart ≡ (event q.events b).hart → a < b) c.sequence.items
 
--- the moment at this time is that of the instruction at place r
+-- the moment at this time is that of the instruction at index r
 abbrev pub IsAt : Course → ℕ → ℕ → HartMoment → Type 0
-IsAt c time r m = (moment_at c time ≡ Some m) × (m.place ≡ Some r)
+IsAt c time r m = (moment_at c time ≡ Some m) × (m.index ≡ Some r)
 
 -- there the instruction's hart is as before it, and, where it is a load, sees what the load reads
 abbrev pub LoadsReadWhatIsShown : Type 0

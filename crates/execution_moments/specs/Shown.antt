@@ -40,22 +40,22 @@ hart_by c h (Some next) = hart_in (moment_at c next)
 abbrev pub hart_at : Course → ℕ → ℕ → Option Hart
 hart_at c time h = hart_by c h (next_of c time h)
 
--- the place of the instruction that it does next
-abbrev pub place_in : Option HartMoment → Option ℕ
-place_in None = None
-place_in (Some m) = m.place
+-- the index of the instruction that it does next
+abbrev pub index_in : Option HartMoment → Option ℕ
+index_in None = None
+index_in (Some m) = m.index
 
-abbrev pub place_by : Course → Option ℕ → Option ℕ
-place_by c None = None
-place_by c (Some next) = place_in (moment_at c next)
+abbrev pub index_by : Course → Option ℕ → Option ℕ
+index_by c None = None
+index_by c (Some next) = index_in (moment_at c next)
 
-abbrev pub place_at : Course → ℕ → ℕ → Option ℕ
-place_at c time h = place_by c (next_of c time h)
+abbrev pub index_at : Course → ℕ → ℕ → Option ℕ
+index_at c time h = index_by c (next_of c time h)
 
 -- from where it sees memory: as before that instruction; from the order's end where it does no further one
 abbrev pub view_by : List Event → List ℕ → ℕ → Option ℕ → Moment
-view_by t g h None = record { hart = h; place = length t; position = length g }
+view_by t g h None = record { hart = h; index = length t; position = length g }
 view_by t g h (Some k) = moment_of t g k
 
 abbrev pub view_at : Course → List Event → List ℕ → ℕ → ℕ → Moment
-view_at c t g time h = view_by t g h (place_at c time h)
+view_at c t g time h = view_by t g h (index_at c time h)

@@ -4,7 +4,7 @@ use Rattle.std.specs.Prelude.{◌≡◌, ℕ, zero, suc, ◌+◌, ◌-◌, ◌<�
 use Rattle.round_schedule.specs.declared.event.Event.{Event}
 use Rattle.round_schedule.specs.Positions.{event}
 use Rattle.memory_order.specs.Operations.{is_load, is_operation}
-use Rattle.memory_order.specs.Orders.{place}
+use Rattle.memory_order.specs.Orders.{order_position}
 
 -- whether an event is a load of hart h, and whether it is a memory operation of it
 abbrev pub is_load_of : ℕ → Event → Bool
@@ -25,7 +25,7 @@ abbrev pub latest_load : List Event → (ℕ → ℕ) → ℕ → ℕ → ℕ
 latest_load t pos h zero = 0
 latest_load t pos h (suc k) = later_of h (event t k) (latest_load t pos h k) (pos k)
 
--- where its soonest memory operation stands, of those among the n instructions from place k on; the end where there is none
+-- where its soonest memory operation stands, of those among the n instructions from index k on; the end where there is none
 abbrev pub soonest_operation : List Event → (ℕ → ℕ) → ℕ → ℕ → ℕ → ℕ → ℕ
 soonest_operation t pos end h k zero = end
 soonest_operation t pos end h k (suc n) = sooner_of h (event t k) (soonest_operation t pos end h (k + 1) n) (pos k)
@@ -44,7 +44,7 @@ pub record AreTimesBy (t : List Event) (pos : ℕ → ℕ) (end : ℕ) (v : List
 
 -- and in an order
 abbrev pub AreTimes : List Event → List ℕ → List ℕ → Type 0
-AreTimes t g v = AreTimesBy t (place g) (length g) v
+AreTimes t g v = AreTimesBy t (order_position g) (length g) v
 
 -- of each instruction where the latest load of its hart up to it stands
 pub record AreLatest (t : List Event) (pos : ℕ → ℕ) (v : List ℕ) : Type 0 where

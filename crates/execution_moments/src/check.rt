@@ -37,8 +37,8 @@ pub fn check_moments(
 {
     execution.is_small();
     let (broken, moments) = follow(alloc, execution, script)?;
-    if let Some((place, fault)) = broken {
-        return Ok((Verdict::Broken { place, fault }, None));
+    if let Some((index, fault)) = broken {
+        return Ok((Verdict::Broken { index, fault }, None));
     }
     let verdict = judge(alloc, execution, opening, order)?;
     if verdict != Verdict::Allowed {

@@ -1,5 +1,5 @@
 ghost use Rattle.std.specs.Prelude.{◌≡◌, ◌<◌, IfSome, length};
-ghost use Rattle.execution_moments.specs.Shown.{hart_at, is_of, moment_at, next_of, place_at, view_at};
+ghost use Rattle.execution_moments.specs.Shown.{hart_at, is_of, moment_at, next_of, index_at, view_at};
 
 use execution_views::{Moment, moment_of};
 use hart_step::Hart;
@@ -11,8 +11,8 @@ use round_schedule::Event;
 pub struct HartMoment {
     /// The number of the hart.
     pub number: u8,
-    /// The place of the instruction in the list of those of all harts; `None` where the hart has stopped.
-    pub place: Option<usize>,
+    /// The index of the instruction in the list of those of all harts; `None` where the hart has stopped.
+    pub index: Option<usize>,
     /// The hart.
     pub hart: Hart,
 }
@@ -20,7 +20,7 @@ pub struct HartMoment {
 /// The moments of an execution. Time goes from 0, before the first one, up to their number, behind the last one.
 #[derive(Drop)]
 pub struct Course {
-    /// Those of the instructions by their places, and then those of the harts that have stopped.
+    /// Those of the instructions by their indexes, and then those of the harts that have stopped.
     pub moments: Vec<HartMoment>,
     /// Their numbers in this list, in the order of time.
     pub sequence: Vec<usize>,
@@ -79,13 +79,13 @@ impl Course {
         }
     }
 
-    /// The place of the instruction that a hart does next at a time; none where it does no further one.
-    fn place_at(&self, time: usize, number: u8) -> Option<usize>
-        ensures { result ≡ place_at self.now time number }
+    /// The index of the instruction that a hart does next at a time; none where it does no further one.
+    fn index_at(&self, time: usize, number: u8) -> Option<usize>
+        ensures { result ≡ index_at self.now time number }
     {
         match self.next_of(time, number) {
             Some(next) => match self.moment_at(next) {
-                Some(moment) => moment.place,
+                Some(moment) => moment.index,
                 None => None,
             },
             None => None,
@@ -97,11 +97,11 @@ impl Course {
     pub fn view_at(&self, events: &[Event], order: &Order, time: usize, number: u8) -> Moment
         ensures { result ≡ view_at self.now events.now order.now.0.items time number }
     {
-        match self.place_at(time, number) {
-            Some(place) => moment_of(events, order, place),
+        match self.index_at(time, number) {
+            Some(index) => moment_of(events, order, index),
             None => Moment {
                 hart: number,
-                place: events.len(),
+                index: events.len(),
                 position: order.0.len(),
             },
         }

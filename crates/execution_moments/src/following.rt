@@ -41,13 +41,13 @@ fn take_noted(
     match execution.take_step(step)? {
         Some(fault) => Ok(Some(fault)),
         None => {
-            let place = moments.len();
-            if execution.events().len() > place {
+            let index = moments.len();
+            if execution.events().len() > index {
                 let number = step.hart;
-                let place = Some(place);
+                let index = Some(index);
                 moments.push(HartMoment {
                     number,
-                    place,
+                    index,
                     hart,
                 })?;
             }
@@ -56,7 +56,7 @@ fn take_noted(
     }
 }
 
-/// Follows a script, as far as its harts have next steps: the place of the step whose hart has none, and why it has none; and the moment
+/// Follows a script, as far as its harts have next steps: the index of the step whose hart has none, and why it has none; and the moment
 /// before each instruction.
 ///
 /// # Errors
@@ -74,9 +74,9 @@ pub(crate) fn follow(
     ensures moments { IfOk result (λ r. AreBefore execution.old.memory execution.old.standing execution.new.standing r.1.items) }
 {
     let mut moments = Vec::new(alloc);
-    for place in 0..script.len() {
-        match take_noted(execution, &mut moments, script[place])? {
-            Some(fault) => return Ok((Some((place, fault)), moments)),
+    for index in 0..script.len() {
+        match take_noted(execution, &mut moments, script[index])? {
+            Some(fault) => return Ok((Some((index, fault)), moments)),
             None => {}
         }
     }

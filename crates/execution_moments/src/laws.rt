@@ -1,12 +1,12 @@
 //! Laws of the definitions, each the contract of a function that does nothing.
 
-ghost use Rattle.execution_moments.specs.Laws.{HartsKeepProgramOrder, LoadsReadWhatIsShown};
+ghost use Rattle.execution_moments.specs.Laws.{HartsRespectProgramOrder, LoadsReadWhatIsShown};
 
 use view_law::loads_read_what_is_seen;
 
 /// In the order of time each hart does its instructions in program order.
-pub fn harts_keep_program_order()
-    ensures { HartsKeepProgramOrder }
+pub fn harts_respect_program_order()
+    ensures { HartsRespectProgramOrder }
 {}
 
 /// At the moment of a load its hart is shown to see what the load reads, in each execution that RVWMO allows.

@@ -13,4 +13,4 @@ mod times;
 
 pub use check::check_moments;
 pub use course::{Course, HartMoment};
-pub use laws::{harts_keep_program_order, loads_read_what_is_shown};
+pub use laws::{harts_respect_program_order, loads_read_what_is_shown};

@@ -7,7 +7,7 @@ ghost use Rattle.execution_moments.specs.Courses.{IsSequence};
 use pages::OutOfMemory;
 use std::alloc::Global;
 
-/// The time of the moment of a number: that of the instruction at this place, and the end where there is none.
+/// The time of the moment of a number: that of the instruction at this index, and the end where there is none.
 fn time_at(times: &[usize], end: usize, number: usize) -> usize
     ensures { result ≡ slice_index_or times.now number end }
 {

@@ -14,7 +14,7 @@ fn add_one(moments: &mut Vec<HartMoment>, number: u8, hart: &Hart) -> Result<(),
     if hart.stop.is_some() {
         moments.push(HartMoment {
             number,
-            place: None,
+            index: None,
             hart: *hart,
         })?;
     }

@@ -59,20 +59,20 @@ fn latest_loads(
 {
     let mut latest = vec![in alloc; 0usize; 256]?;
     let mut found = Vec::new(alloc);
-    for place in 0..events.len() {
-        let event = event_of(events, place);
-        let here = raise(&mut latest, &event, positions[place]);
+    for index in 0..events.len() {
+        let event = event_of(events, index);
+        let here = raise(&mut latest, &event, positions[index]);
         found.push(here)?;
     }
     Ok(found)
 }
 
-/// The event at a place.
-fn event_of(events: &[Event], place: usize) -> Event
-    requires { place < length events.now }
-    ensures { result ≡ event events.now place }
+/// The event at an index.
+fn event_of(events: &[Event], index: usize) -> Event
+    requires { index < length events.now }
+    ensures { result ≡ event events.now index }
 {
-    events[place]
+    events[index]
 }
 
 /// Notes where an event stands, if it is a load. Answers where the latest load of its hart stands then.
@@ -103,12 +103,12 @@ fn delay(
     ensures { OnOk result (AreTimesBy events.now (λ i. slice_index positions.now i) end times.new.items) }
 {
     let mut soonest = vec![in alloc; end; 256]?;
-    let mut place = events.len();
-    while place > 0 {
-        place -= 1;
-        let event = event_of(events, place);
-        let here = lower(&mut soonest, &event, positions[place]);
-        times[place] = times[place].max(here);
+    let mut index = events.len();
+    while index > 0 {
+        index -= 1;
+        let event = event_of(events, index);
+        let here = lower(&mut soonest, &event, positions[index]);
+        times[index] = times[index].max(here);
     }
     Ok(())
 }

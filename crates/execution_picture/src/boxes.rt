@@ -66,7 +66,7 @@ pub(crate) fn reading(
     drawn: &OperationBox<'_>,
 ) -> Result<(), OutOfMemory> {
     let shown = &drawn.shown;
-    let found = sources_of(alloc, scene, drawn.position, shown.place, &shown.event)?;
+    let found = sources_of(alloc, scene, drawn.position, shown.index, &shown.event)?;
     for other in boxes {
         add_arrow_from(line, &found, shown, &other.shown)?;
     }
@@ -83,7 +83,7 @@ pub(crate) fn moving(
         return Ok(());
     };
     for other in boxes {
-        if other.shown.place == home.neighbour {
+        if other.shown.index == home.neighbour {
             return way_home(line, drawn, home_level(home.stray, other));
         }
     }

@@ -10,22 +10,22 @@ use round_schedule::Event;
 pub(crate) struct Home {
     /// How the operation is out of order: where it is late it belongs before the neighbour, and where it is early behind it.
     pub stray: Stray,
-    /// The neighbour's place among the instructions of all harts.
+    /// The neighbour's index among the instructions of all harts.
     pub neighbour: usize,
     /// How many instructions its hart does before the neighbour.
     pub number: u64,
 }
 
-/// Whether the operation at a place is nearer to another than what was found so far, on the side where that belongs.
-fn is_nearer(stray: Stray, sought: usize, place: usize, found: Option<Home>) -> bool {
+/// Whether the operation at an index is nearer to another than what was found so far, on the side where that belongs.
+fn is_nearer(stray: Stray, sought: usize, index: usize, found: Option<Home>) -> bool {
     let nearest = found.map(|home| home.neighbour);
     match stray {
-        Stray::Late => place > sought && nearest.is_none_or(|nearest| place < nearest),
-        Stray::Early => place < sought && nearest.is_none_or(|nearest| place > nearest),
+        Stray::Late => index > sought && nearest.is_none_or(|nearest| index < nearest),
+        Stray::Early => index < sought && nearest.is_none_or(|nearest| index > nearest),
     }
 }
 
-/// Where the program has the operation of an event at a place, which is out of its hart's order in this way.
+/// Where the program has the operation of an event at an index, which is out of its hart's order in this way.
 pub(crate) fn home_of(
     scene: &ExecutionScene<'_>,
     strays: &[Option<Stray>],
@@ -35,14 +35,14 @@ pub(crate) fn home_of(
 ) -> Option<Home> {
     let mut found = None;
     for (position, mark) in strays.iter().enumerate() {
-        let Some((place, other)) = scene.operation(position) else {
+        let Some((index, other)) = scene.operation(position) else {
             continue;
         };
         let is_own = other.hart == event.hart && mark.is_none();
-        if is_own && is_nearer(stray, sought, place, found) {
+        if is_own && is_nearer(stray, sought, index, found) {
             found = Some(Home {
                 stray,
-                neighbour: place,
+                neighbour: index,
                 number: other.access.place(),
             });
         }

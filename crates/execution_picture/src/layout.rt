@@ -37,17 +37,17 @@ pub(crate) fn boxes_of<'a>(
     let mut boxes = Vec::new(alloc);
     let mut top = FIRST_TOP;
     for (number, position) in scene.positions.iter().enumerate().take(MOST) {
-        let Some((place, event)) = scene.operation(*position) else {
+        let Some((index, event)) = scene.operation(*position) else {
             continue;
         };
         let home = match strays.get(*position) {
-            Some(Some(stray)) => home_of(scene, &strays, *stray, place, &event),
+            Some(Some(stray)) => home_of(scene, &strays, *stray, index, &event),
             _ => None,
         };
         boxes.push(OperationBox {
             position: *position,
             shown: EventBox {
-                place,
+                index,
                 event,
                 times: 1,
                 top,

@@ -7,7 +7,7 @@ use round_schedule::Event;
 pub struct ExecutionScene<'a> {
     /// What the instructions of all harts did, each hart's in the order of its program.
     pub events: &'a [Event],
-    /// The order of the memory operations, by their places among these.
+    /// The order of the memory operations, by their indexes among these.
     pub order: &'a [usize],
     /// The positions in the order whose operations are drawn, in rising order. The first 400 of them are.
     pub positions: &'a [usize],
@@ -18,10 +18,10 @@ pub struct ExecutionScene<'a> {
 }
 
 impl ExecutionScene<'_> {
-    /// The operation at a position of the order, with its place.
+    /// The operation at a position of the order, with its index.
     pub(crate) fn operation(&self, position: usize) -> Option<(usize, Event)> {
-        let place = *self.order.get(position)?;
-        let event = *self.events.get(place)?;
-        Some((place, event))
+        let index = *self.order.get(position)?;
+        let event = *self.events.get(index)?;
+        Some((index, event))
     }
 }

@@ -48,13 +48,13 @@ fn own_positions(
     Ok(own)
 }
 
-/// The place of the operation at a position.
-fn place_at(scene: &ExecutionScene<'_>, position: usize) -> usize {
+/// The index of the operation at a position.
+fn index_at(scene: &ExecutionScene<'_>, position: usize) -> usize {
     scene.order.get(position).copied().unwrap_or(usize::MAX)
 }
 
-/// For each of these positions the least place of the operations from it on.
-fn least_places(
+/// For each of these positions the least index of the operations from it on.
+fn least_indexes(
     alloc: Global,
     scene: &ExecutionScene<'_>,
     own: &[usize],
@@ -63,7 +63,7 @@ fn least_places(
     let mut lowest = usize::MAX;
     for number in (0..own.len()).rev() {
         if let Some(position) = own.get(number) {
-            lowest = lowest.min(place_at(scene, *position));
+            lowest = lowest.min(index_at(scene, *position));
         }
         if let Some(here) = least.get_mut(number) {
             *here = lowest;
@@ -79,11 +79,11 @@ fn mark_hart(
     own: &[usize],
     strays: &mut [Option<Stray>],
 ) -> Result<(), OutOfMemory> {
-    let least = least_places(alloc, scene, own)?;
+    let least = least_indexes(alloc, scene, own)?;
     let mut start = 0;
     let mut greatest = 0;
     for (number, position) in own.iter().enumerate() {
-        greatest = place_at(scene, *position).max(greatest);
+        greatest = index_at(scene, *position).max(greatest);
         let next = number.saturating_add(1);
         if greatest < least.get(next).copied().unwrap_or(usize::MAX) {
             let block = own.get(start..next).unwrap_or(&[]);
@@ -104,15 +104,15 @@ fn mark_block(
     let (mut late, mut early, mut is_store_late) = (0usize, 0usize, false);
     let mut greatest = 0;
     for (number, position) in block.iter().enumerate() {
-        let place = place_at(scene, *position);
-        if place < greatest {
+        let index = index_at(scene, *position);
+        if index < greatest {
             late = late.saturating_add(1);
             is_store_late = is_store_late || is_plain_store(scene, *position);
         }
-        if least.get(number).copied().unwrap_or(place) < place {
+        if least.get(number).copied().unwrap_or(index) < index {
             early = early.saturating_add(1);
         }
-        greatest = greatest.max(place);
+        greatest = greatest.max(index);
     }
     let stray = if late < early || late == early && is_store_late {
         Stray::Late
@@ -138,12 +138,12 @@ fn mark_each(
 ) {
     let mut greatest = 0;
     for (number, position) in block.iter().enumerate() {
-        let place = place_at(scene, *position);
+        let index = index_at(scene, *position);
         let is_stray = match stray {
-            Stray::Late => place < greatest,
-            Stray::Early => least.get(number).copied().unwrap_or(place) < place,
+            Stray::Late => index < greatest,
+            Stray::Early => least.get(number).copied().unwrap_or(index) < index,
         };
-        greatest = greatest.max(place);
+        greatest = greatest.max(index);
         if let Some(mark) = strays.get_mut(*position) {
             *mark = if is_stray { Some(stray) } else { None };
         }

@@ -6,7 +6,7 @@ use Rattle.std.proofs.lemmas.List.{get_or-map, length-map, length-take-le, take_
 use Rattle.round_schedule.specs.declared.event.Event.{Event}
 use Rattle.round_schedule.specs.Positions.{event, no_event}
 use Rattle.memory_order.specs.Operations.{is_operation}
-use Rattle.memory_order.specs.Orders.{place}
+use Rattle.memory_order.specs.Orders.{order_position}
 use Rattle.order_checker.specs.Checking.{Earlier, IsMax}
 use Rattle.order_checker.proofs.Bounding.{below_max, earlier_step}
 use Rattle.execution_file.specs.Recorded.{Turn}
@@ -79,43 +79,43 @@ count_below h i t old within was =
 
 -- ---- the last position so far
 
-pub latest_here : (t : List Event) (g : List ℕ) (h i v next : ℕ) → (event t i).hart ≡ h → is_operation (event t i) ≡ true → next ≡ place g i + 1 →
-    IsMax (place g) (Earlier is_operation t h i) v → IsMax (place g) (Earlier is_operation t h (i + 1)) (max v next)
-latest_here t g h i v next same op at was = earlier_step is_operation t (place g) h i v next true (λ r. (same, op)) (λ s w. refl) (λ r. at) was
+pub latest_here : (t : List Event) (g : List ℕ) (h i v next : ℕ) → (event t i).hart ≡ h → is_operation (event t i) ≡ true → next ≡ order_position g i + 1 →
+    IsMax (order_position g) (Earlier is_operation t h i) v → IsMax (order_position g) (Earlier is_operation t h (i + 1)) (max v next)
+latest_here t g h i v next same op at was = earlier_step is_operation t (order_position g) h i v next true (λ r. (same, op)) (λ s w. refl) (λ r. at) was
 
 pub latest_elsewhere : (t : List Event) (g : List ℕ) (h i v : ℕ) → ((event t i).hart ≡ h → ⊥) →
-    IsMax (place g) (Earlier is_operation t h i) v → IsMax (place g) (Earlier is_operation t h (i + 1)) v
-latest_elsewhere t g h i v other was = earlier_step is_operation t (place g) h i v 0 false (λ r. cc) (λ s w. absurd (other s)) (λ r. cc) was
+    IsMax (order_position g) (Earlier is_operation t h i) v → IsMax (order_position g) (Earlier is_operation t h (i + 1)) v
+latest_elsewhere t g h i v other was = earlier_step is_operation t (order_position g) h i v 0 false (λ r. cc) (λ s w. absurd (other s)) (λ r. cc) was
 
 pub latest_none : (t : List Event) (g : List ℕ) (h i v : ℕ) → is_operation (event t i) ≡ false →
-    IsMax (place g) (Earlier is_operation t h i) v → IsMax (place g) (Earlier is_operation t h (i + 1)) v
-latest_none t g h i v op was = earlier_step is_operation t (place g) h i v 0 false (λ r. cc) (λ s w. sym op ∙ w) (λ r. cc) was
+    IsMax (order_position g) (Earlier is_operation t h i) v → IsMax (order_position g) (Earlier is_operation t h (i + 1)) v
+latest_none t g h i v op was = earlier_step is_operation t (order_position g) h i v 0 false (λ r. cc) (λ s w. sym op ∙ w) (λ r. cc) was
 
 -- ---- an operation that is named
 
-has_number : (o : Option ℕ) (t : List Event) (g : List ℕ) (i count latest rank : ℕ) → MatchOption o (latest ≤ rank) (λ n. n ≡ count) → rank ≡ place g i →
-    count ≡ operations_of (event t i).hart (take i t) → IsMax (place g) (Earlier is_operation t (event t i).hart i) latest → HasNumber o t g i
+has_number : (o : Option ℕ) (t : List Event) (g : List ℕ) (i count latest rank : ℕ) → MatchOption o (latest ≤ rank) (λ n. n ≡ count) → rank ≡ order_position g i →
+    count ≡ operations_of (event t i).hart (take i t) → IsMax (order_position g) (Earlier is_operation t (event t i).hart i) latest → HasNumber o t g i
 has_number (Some n) t g i count latest rank m at counted most = m ∙ counted
 has_number None t g i count latest rank m at counted most =
-    λ b l same op. subst (λ k. place g b < k) at (below_max (place g) (Earlier is_operation t (event t i).hart i) latest rank most m b (l, same, op))
+    λ b l same op. subst (λ k. order_position g b < k) at (below_max (order_position g) (Earlier is_operation t (event t i).hart i) latest rank most m b (l, same, op))
 
--- what is said of the operation at a place
+-- what is said of the operation at an index
 abbrev pub NamedAt : List Turn → List Event → List ℕ → ℕ → Type 0
-NamedAt us t g a = (place g a < length us) × ((u : Turn) → u ≡ get_or us (place g a) u → Names u t g a)
+NamedAt us t g a = (order_position g a < length us) × ((u : Turn) → u ≡ get_or us (order_position g a) u → Names u t g a)
 
-pub named_here : (us : List TurnHeld) (t : List Event) (g : List ℕ) (i count latest rank : ℕ) (turn : TurnHeld) → rank ≡ place g i → rank < length us → turn ≡ get_or us rank turn →
+pub named_here : (us : List TurnHeld) (t : List Event) (g : List ℕ) (i count latest rank : ℕ) (turn : TurnHeld) → rank ≡ order_position g i → rank < length us → turn ≡ get_or us rank turn →
     turn.hart ≡ (event t i).hart → MatchOption turn.number (latest ≤ rank) (λ n. n ≡ count) →
-    count ≡ operations_of (event t i).hart (take i t) → IsMax (place g) (Earlier is_operation t (event t i).hart i) latest → NamedAt (map turn_view us) t g i
+    count ≡ operations_of (event t i).hart (take i t) → IsMax (order_position g) (Earlier is_operation t (event t i).hart i) latest → NamedAt (map turn_view us) t g i
 named_here us t g i count latest rank turn at l is hart number counted most =
     (omega (arith, at, l, length-map us turn_view), λ u e. subst (λ (w : Turn). Names w t g i) (sym (this u e)) named)
   where
-    this : (u : Turn) → u ≡ get_or (map turn_view us) (place g i) u → u ≡ turn_view turn
+    this : (u : Turn) → u ≡ get_or (map turn_view us) (order_position g i) u → u ≡ turn_view turn
     this u e = e ∙ ap (λ k. get_or (map turn_view us) k u) (sym at) ∙ get_or-map turn_view us rank turn u l ∙ ap turn_view (sym is)
 
     named : Names (turn_view turn) t g i
     named = record { hart = hart; number = has_number turn.number t g i count latest rank number at counted most }
 
--- what holds of all places before one holds of all before the next
+-- what holds of all indexes before one holds of all before the next
 pub named_more : (us : List Turn) (t : List Event) (g : List ℕ) (i : ℕ) → ((a : ℕ) → a < i → is_operation (event t a) ≡ true → NamedAt us t g a) →
     (is_operation (event t i) ≡ true → NamedAt us t g i) → (a : ℕ) → a < i + 1 → is_operation (event t a) ≡ true → NamedAt us t g a
 named_more us t g i was now a l op = elim (cases_lt a i) [

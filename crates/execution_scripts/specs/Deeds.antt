@@ -5,7 +5,7 @@ use Rattle.round_schedule.specs.declared.access.Access.TheVariants.{Load, Store,
 use Rattle.round_schedule.specs.declared.event.Event.{Event}
 use Rattle.hart_step.specs.declared.hart.Hart.{Hart}
 use Rattle.hart_step.specs.declared.hart.Stop.{Stop}
-use Rattle.execution_file.specs.Recorded.{HartPart}
+use Rattle.execution_file.specs.Recorded.{HartDeeds}
 
 -- the number that an access shows of what was read: of an SC 1 where it succeeded, and 0 where it failed
 abbrev pub number_shown : Access → Option ℕ
@@ -37,22 +37,22 @@ value_of None = None
 value_of (Some s) = if s.code == 1 then Some s.value else None
 
 -- what hart h did
-abbrev pub part_of : ℕ → Hart → List Event → HartPart
+abbrev pub part_of : ℕ → Hart → List Event → HartDeeds
 part_of h g t = record { steps = g.done; code = code_of g.stop; value = value_of g.stop; reads = numbers_of h t }
 
 -- what harts h, h + 1, .. did
-abbrev pub parts_from : ℕ → List Hart → List Event → List HartPart
+abbrev pub parts_from : ℕ → List Hart → List Event → List HartDeeds
 parts_from h [] t = []
 parts_from h (g ∷ gs) t = part_of h g t ∷ parts_from (h + 1) gs t
 
-abbrev pub deeds : List Hart → List Event → List HartPart
+abbrev pub deeds : List Hart → List Event → List HartDeeds
 deeds gs t = parts_from 0 gs t
 
 -- what harts h, h + 1, .. did, and this event
-abbrev pub with_event : ℕ → List HartPart → Event → List HartPart
+abbrev pub with_event : ℕ → List HartDeeds → Event → List HartDeeds
 with_event h [] e = []
 with_event h (p ∷ ps) e = record p { reads = p.reads ++ numbers_of h (e ∷ []) } ∷ with_event (h + 1) ps e
 
 -- what a file says of a hart: of one that runs on it says no value
-abbrev pub said : HartPart → HartPart
+abbrev pub said : HartDeeds → HartDeeds
 said p = if p.code == 0 then record p { value = None } else p

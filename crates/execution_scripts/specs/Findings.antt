@@ -13,7 +13,7 @@ use Rattle.execution_checker.specs.Allowed.{Allows, Follows, IsVerdict}
 use Rattle.execution_views.specs.declared.sights.HartStep.{HartStep}
 use Rattle.execution_views.specs.Walks.{AreSights}
 use Rattle.trace.specs.Traced.{opening_at}
-use Rattle.execution_file.specs.Recorded.{HartPart, Recorded, Turn}
+use Rattle.execution_file.specs.Recorded.{HartDeeds, Recorded, Turn}
 use Rattle.execution_scripts.specs.Deeds.{deeds, said}
 use Rattle.execution_scripts.specs.Turns.{AreNames}
 use Rattle.execution_scripts.specs.declared.checking.Checked.{Checked}
@@ -34,18 +34,18 @@ start_of g = at_start g.harts g.shared.console
 
 -- the harts do what is said of them: so many steps, these numbers read, and these ends. Where the order g has each memory operation
 -- once, the turns name it
-abbrev pub IsAsSaid : List HartPart → List Turn → Standing → List ℕ → Type 0
+abbrev pub IsAsSaid : List HartDeeds → List Turn → Standing → List ℕ → Type 0
 IsAsSaid parts turns q g = (map said parts ≡ deeds q.harts q.events) × (ListsOperations q.events g → AreNames turns q.events g)
 
 -- a verdict is on the execution of a guest that a script leads to, in an order of its memory operations; both are as is said; and what is
 -- seen is seen on the way of this execution
-pub record IsJudged (g : Guest) (parts : List HartPart) (turns : List Turn) (asked : Option HartStep) (v : Verdict) (c : Checked) : Type 0 where
+pub record IsJudged (g : Guest) (parts : List HartDeeds) (turns : List Turn) (asked : Option HartStep) (v : Verdict) (c : Checked) : Type 0 where
   pub verdict : IsVerdict v g.shared.memory (λ x. slice_index g.shared.memory.bytes x) c.script.items c.order.0.items (start_of g) c.execution.standing
   pub as_said : IsAsSaid parts turns c.execution.standing c.order.0.items
   pub opening : (x : ℕ) → opening_at c.opening.opening x ≡ slice_index g.shared.memory.bytes x
   pub sights : AreSights g.shared.memory (start_of g) c.execution.standing asked c.sights
 
-abbrev pub IsFound : Guest → List HartPart → List Turn → Option HartStep → Finding → Checked → Type 0
+abbrev pub IsFound : Guest → List HartDeeds → List Turn → Option HartStep → Finding → Checked → Type 0
 IsFound g parts turns asked (Judged v) c = IsJudged g parts turns asked v c
 IsFound g parts turns asked (Fault f) c = Unit {0}
 

@@ -4,7 +4,7 @@ use Rattle.run_settings.specs.declared.settings.Format.{Format}
 use Rattle.run_settings.specs.declared.settings.Format.TheVariants.{Elf, Flat}
 use Rattle.run_settings.specs.declared.settings.Settings.{Settings}
 use Rattle.machine.specs.Machine.{Running}
-use Rattle.execution_file.specs.Recorded.{HartPart, Recorded}
+use Rattle.execution_file.specs.Recorded.{HartDeeds, Recorded}
 use Rattle.execution_scripts.specs.Deeds.{deeds}
 use Rattle.execution_scripts.specs.declared.scripted.ScriptedGuest.{ScriptedGuest}
 
@@ -13,7 +13,7 @@ is_flat Flat = true
 is_flat Elf = false
 
 -- a file of this image and this input, in which the harts do this
-pub record IsFileWith (s : Settings) (file given : List ℕ) (parts : List HartPart) (r : Recorded) : Type 0 where
+pub record IsFileWith (s : Settings) (file given : List ℕ) (parts : List HartDeeds) (r : Recorded) : Type 0 where
   pub flat : r.flat ≡ is_flat s.format
   pub pages : r.pages ≡ s.pages
   pub image : r.image ≡ file

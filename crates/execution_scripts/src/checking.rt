@@ -39,7 +39,7 @@ pub struct Checked {
     pub execution: Execution,
     /// Its script.
     pub script: Vec<ScriptedStep>,
-    /// The order of its memory operations, by their places in the list of steps; empty where the file says no execution.
+    /// The order of its memory operations, by their indexes in the list of steps; empty where the file says no execution.
     pub order: Order,
     /// The bytes that memory opened with.
     pub opening: Trace,

@@ -4,7 +4,7 @@ ghost use Rattle.std.specs.Prelude.{◌≡◌, ℕ, [], IfOk, OnOk, map, true};
 ghost use Rattle.execution_file.specs.Views.{hart_view};
 ghost use Rattle.execution_scripts.specs.Deeds.{code_of, deeds, number_shown, part_of, said, value_of, with_event};
 
-use execution_file::HartPart;
+use execution_file::HartDeeds;
 use hart_step::{Hart, Stop};
 use pages::OutOfMemory;
 use round_schedule::{Access, Event};
@@ -31,7 +31,7 @@ pub(crate) fn deeds(
     alloc: Global,
     harts: &[Hart],
     events: &[Event],
-) -> Result<Vec<HartPart>, OutOfMemory>
+) -> Result<Vec<HartDeeds>, OutOfMemory>
     ensures { IfOk result (λ v. map hart_view v.items ≡ deeds harts.now events.now) }
 {
     let mut parts = unread_parts(alloc, harts)?;
@@ -42,7 +42,7 @@ pub(crate) fn deeds(
 }
 
 /// What the harts did, without the numbers that they read.
-fn unread_parts(alloc: Global, harts: &[Hart]) -> Result<Vec<HartPart>, OutOfMemory>
+fn unread_parts(alloc: Global, harts: &[Hart]) -> Result<Vec<HartDeeds>, OutOfMemory>
     ensures { IfOk result (λ v. map hart_view v.items ≡ deeds harts.now []) }
 {
     let mut parts = Vec::new(alloc);
@@ -53,10 +53,10 @@ fn unread_parts(alloc: Global, harts: &[Hart]) -> Result<Vec<HartPart>, OutOfMem
 }
 
 /// What a hart did, without the numbers that it read.
-fn unread_part(alloc: Global, hart: &Hart) -> HartPart
+fn unread_part(alloc: Global, hart: &Hart) -> HartDeeds
     ensures { (number : ℕ) → hart_view result ≡ part_of number hart.now [] }
 {
-    HartPart {
+    HartDeeds {
         steps: hart.done,
         code: code_of(&hart.stop),
         value: value_of(&hart.stop),
@@ -65,7 +65,7 @@ fn unread_part(alloc: Global, hart: &Hart) -> HartPart
 }
 
 /// Adds the number that an event shows to those of its hart.
-fn add_number(parts: &mut Vec<HartPart>, event: &Event) -> Result<(), OutOfMemory>
+fn add_number(parts: &mut Vec<HartDeeds>, event: &Event) -> Result<(), OutOfMemory>
     ensures { OnOk result (map hart_view parts.new.items ≡ with_event 0 (map hart_view parts.old.items) event.now) }
 {
     if let Some(number) = number_read(&event.access) {
@@ -102,7 +102,7 @@ fn value_of(stop: &Option<Stop>) -> Option<u64>
 }
 
 /// Whether harts did what is said of them.
-pub(crate) fn are_said(parts: &[HartPart], did: &[HartPart]) -> bool
+pub(crate) fn are_said(parts: &[HartDeeds], did: &[HartDeeds]) -> bool
     ensures { result ≡ true → map said (map hart_view parts.now) ≡ map hart_view did.now }
 {
     if parts.len() != did.len() {
@@ -117,7 +117,7 @@ pub(crate) fn are_said(parts: &[HartPart], did: &[HartPart]) -> bool
 }
 
 /// Whether a hart did what is said of it.
-fn is_said(part: &HartPart, did: &HartPart) -> bool
+fn is_said(part: &HartDeeds, did: &HartDeeds) -> bool
     ensures { result ≡ true → said (hart_view part.now) ≡ hart_view did.now }
 {
     let value = if part.code == 0 { None } else { part.value };

@@ -3,7 +3,7 @@
 use crate::deeds::number_read;
 use crate::fault::{Fault, Halt, Misfit};
 use execution_checker::{Execution, ScriptedStep};
-use execution_file::{HartPart, Turn};
+use execution_file::{HartDeeds, Turn};
 use pages::OutOfMemory;
 use rv64_decode::Instr;
 use std::alloc::Global;
@@ -22,7 +22,7 @@ struct Course {
 pub(crate) enum Taken {
     /// The hart did an instruction.
     Done,
-    /// It did a call whose place among the calls makes a difference: to put or get a byte, or to ask for the round.
+    /// It did a call whose position among the calls makes a difference: to put or get a byte, or to ask for the round.
     Called { round: bool },
     /// It stopped.
     Stopped,
@@ -32,7 +32,7 @@ pub(crate) enum Taken {
 #[derive(Drop)]
 pub(crate) struct Follower<'a> {
     execution: Execution,
-    parts: &'a [HartPart],
+    parts: &'a [HartDeeds],
     courses: Vec<Course>,
     round: u32,
     script: Vec<ScriptedStep>,
@@ -52,7 +52,7 @@ impl<'a> Follower<'a> {
     pub(crate) fn new(
         alloc: Global,
         execution: Execution,
-        parts: &'a [HartPart],
+        parts: &'a [HartDeeds],
     ) -> Result<Follower<'a>, OutOfMemory> {
         let courses = vec![in alloc; Course { done: 0, used: 0 }; parts.len()]?;
         Ok(Follower {
@@ -130,9 +130,9 @@ impl<'a> Follower<'a> {
         Ok(self.taken(before, call))
     }
 
-    /// What the instruction at a place of the list was, where x17 was as `call` says.
-    fn taken(&self, place: usize, call: u64) -> Taken {
-        match self.execution.instructions().get(place) {
+    /// What the instruction at an index of the list was, where x17 was as `call` says.
+    fn taken(&self, index: usize, call: u64) -> Taken {
+        match self.execution.instructions().get(index) {
             Some(Instr::Ecall) if call >= 1 && call <= 3 => Taken::Called { round: call == 3 },
             _ => Taken::Done,
         }
@@ -181,7 +181,7 @@ impl<'a> Follower<'a> {
     }
 
     /// A hart's other steps, and its stop.
-    fn finish(&mut self, hart: u8, part: &HartPart) -> Result<(), Halt> {
+    fn finish(&mut self, hart: u8, part: &HartDeeds) -> Result<(), Halt> {
         for _ in 0..self.left(hart) {
             if self.step(hart)? == Taken::Stopped {
                 return Err(self.fault(hart, Misfit::Stops));
@@ -202,7 +202,7 @@ impl<'a> Follower<'a> {
     }
 
     /// Refuses a hart that stopped otherwise than it is said.
-    fn compare_stop(&self, hart: u8, part: &HartPart) -> Result<(), Halt> {
+    fn compare_stop(&self, hart: u8, part: &HartDeeds) -> Result<(), Halt> {
         let Some(stop) = self
             .execution
             .harts()

@@ -15,7 +15,7 @@ mod scripted;
 pub use checking::{Checked, Finding, check_file};
 pub use execution_checker::Verdict;
 pub use execution_file::{
-    Cause, ExecutionFile, HartPart, ReadError, Refusal, Turn, read_execution, write_execution,
+    Cause, ExecutionFile, HartDeeds, ReadError, Refusal, Turn, read_execution, write_execution,
 };
 pub use execution_views::{
     Before, HartStep, Moment, Sights, bytes_at, moment_of, positions_sought,

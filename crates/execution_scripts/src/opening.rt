@@ -1,12 +1,12 @@
 ghost use Rattle.std.specs.Prelude.{◌≡◌, ◌∷◌, [], ◌++◌, ◌≤◌, length, IfOk, OnOk};
-ghost use Rattle.hart_step.specs.CodeTables.{Shows};
+ghost use Rattle.hart_step.specs.DecodedCode.{Shows};
 ghost use Rattle.guest_rounds.specs.Guests.{opening_guest};
 ghost use Rattle.guest_rounds.specs.Opening.{opening_hart, opening_harts};
 ghost use Rattle.execution_scripts.specs.Findings.{start_of};
 
 use elf_loader::Image;
 use execution_checker::Execution;
-use hart_step::{CodeTable, Hart};
+use hart_step::{DecodedCode, Hart};
 use pages::{OutOfMemory, Pages};
 use reservations::Reservations;
 use serial_phase::{Console, SerialLog, SharedState};
@@ -68,10 +68,10 @@ fn shared_at_start(
     ensures memory { IfOk result (λ s. s.pages.memory ≡ (opening_guest image.now input.now harts).shared.memory) }
     ensures console { IfOk result (λ s. s.console.console ≡ (opening_guest image.now input.now harts).shared.console) }
     ensures shows { IfOk result (λ s. Shows s.pages.memory s.code.first s.code.instructions) }
-    ensures table { IfOk result (λ s. length s.reservations ≡ harts) }
+    ensures reservations { IfOk result (λ s. length s.reservations ≡ harts) }
 {
     let pages = opening_pages(alloc, image)?;
-    let code = CodeTable::new(alloc, &pages, 0, 0)?;
+    let code = DecodedCode::new(alloc, &pages, 0, 0)?;
     let input = Vec::from_slice(alloc, input)?;
     Ok(SharedState {
         pages,

@@ -1,4 +1,4 @@
-//! Orders of memory operations as harts, and as places in the list of steps.
+//! Orders of memory operations as harts, and as indexes in the list of steps.
 
 use crate::fault::{Fault, Halt, Misfit};
 use execution_file::Turn;
@@ -10,8 +10,8 @@ use std::alloc::Global;
 /// The memory operations of a hart in program order, and which of them an order has so far.
 #[derive(Drop)]
 struct Operations {
-    /// The place of each in the list of events.
-    places: Vec<usize>,
+    /// The index of each in the list of events.
+    indexes: Vec<usize>,
     /// Whether the order has it.
     listed: Vec<bool>,
     /// None before this one is left to list.
@@ -27,15 +27,15 @@ fn operations_of(
     let mut all = Vec::new(alloc);
     for _ in 0..harts {
         all.push(Operations {
-            places: Vec::new(alloc),
+            indexes: Vec::new(alloc),
             listed: Vec::new(alloc),
             next: 0,
         })?;
     }
-    for (place, event) in events.iter().enumerate() {
+    for (index, event) in events.iter().enumerate() {
         if event.access.loads() || event.access.stores() {
             if let Some(operations) = all.get_mut(usize::from(event.hart)) {
-                operations.places.push(place)?;
+                operations.indexes.push(index)?;
                 operations.listed.push(false)?;
             }
         }
@@ -55,13 +55,13 @@ impl Operations {
         self.listed.len()
     }
 
-    /// Lists the one of a number: its place, where there is one.
+    /// Lists the one of a number: its index, where there is one.
     fn list(&mut self, number: usize) -> Option<usize> {
-        let place = self.places.get(number).copied()?;
+        let index = self.indexes.get(number).copied()?;
         if let Some(listed) = self.listed.get_mut(number) {
             *listed = true;
         }
-        Some(place)
+        Some(index)
     }
 
     /// Lists the one that a turn names.
@@ -74,7 +74,7 @@ impl Operations {
     }
 }
 
-/// The order that turns name, as places in the list of events.
+/// The order that turns name, as indexes in the list of events.
 pub(crate) fn order_of(
     alloc: Global,
     events: &[Event],
@@ -82,14 +82,14 @@ pub(crate) fn order_of(
     turns: &[Turn],
 ) -> Result<Order, Halt> {
     let mut all = operations_of(alloc, events, harts)?;
-    let mut places = Vec::with_capacity(alloc, turns.len())?;
+    let mut indexes = Vec::with_capacity(alloc, turns.len())?;
     for turn in turns {
-        let place = match all.get_mut(usize::from(turn.hart)) {
+        let index = match all.get_mut(usize::from(turn.hart)) {
             Some(operations) => operations.take(turn),
             None => None,
         };
-        match place {
-            Some(place) => places.push(place)?,
+        match index {
+            Some(index) => indexes.push(index)?,
             None => {
                 return Err(Halt::Fault(Fault {
                     hart: turn.hart,
@@ -99,7 +99,7 @@ pub(crate) fn order_of(
             }
         }
     }
-    Ok(Order(places))
+    Ok(Order(indexes))
 }
 
 /// The turns of an order: its harts, and for an operation that isn't the first one left of its hart its number.
@@ -112,8 +112,8 @@ pub(crate) fn turns_of(
     let mut all = operations_of(alloc, events, harts)?;
     let numbers = numbers_of(alloc, events, harts)?;
     let mut turns = Vec::with_capacity(alloc, order.0.len())?;
-    for place in &order.0 {
-        let (Some(event), Some(number)) = (events.get(*place), numbers.get(*place)) else {
+    for index in &order.0 {
+        let (Some(event), Some(number)) = (events.get(*index), numbers.get(*index)) else {
             continue;
         };
         let Some(operations) = all.get_mut(usize::from(event.hart)) else {

@@ -15,7 +15,7 @@ use crate::opening::open_execution;
 use crate::ordering::turns_of;
 use crate::paces::Paces;
 use elf_loader::Image;
-use execution_file::{ExecutionFile, HartPart, Turn};
+use execution_file::{ExecutionFile, HartDeeds, Turn};
 use host_io::RunError;
 use machine::{Format, Machine, Observer, Settings, load, prepare};
 use memory_order::memory_order;
@@ -60,7 +60,7 @@ struct Ran {
     /// For each of them, how many instructions each hart had done.
     done: Vec<u64>,
     /// What the harts did.
-    parts: Vec<HartPart>,
+    parts: Vec<HartDeeds>,
     /// Its order by rounds.
     order: Vec<Turn>,
 }
@@ -120,7 +120,7 @@ fn paces_of<O: Observer, R: Threads + Wait + Sync>(
 }
 
 /// What the harts of a machine did, and the order by rounds of what they did.
-fn deeds_of(alloc: Global, machine: &Machine) -> Result<(Vec<HartPart>, Vec<Turn>), OutOfMemory>
+fn deeds_of(alloc: Global, machine: &Machine) -> Result<(Vec<HartDeeds>, Vec<Turn>), OutOfMemory>
     ensures { IfOk result (λ d. map hart_view d.0.items ≡ deeds machine.now.state.harts machine.now.state.trace) }
 {
     let events = machine.trace().to_vec(alloc)?;
@@ -195,7 +195,7 @@ fn calls_of(
     alloc: Global,
     image: &Image,
     input: &[u8],
-    parts: &[HartPart],
+    parts: &[HartDeeds],
     rounds: &[u32],
     done: &[u64],
 ) -> Result<Vec<Turn>, OutOfMemory> {

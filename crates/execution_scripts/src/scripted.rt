@@ -31,7 +31,7 @@ pub struct ScriptedGuest<'a> {
     pub input: &'a [u8],
 }
 
-/// The execution that a script leads to from the guest's start, in an order of its memory operations. The order has their places in
+/// The execution that a script leads to from the guest's start, in an order of its memory operations. The order has their indexes in
 /// the list of steps that are no stops.
 ///
 /// # Errors

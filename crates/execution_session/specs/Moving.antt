@@ -51,7 +51,7 @@ is_step reason = false
 
 abbrev pub begins_by : State → ℕ → ℕ → Option HartMoment → Bool
 begins_by s h time None = false
-begins_by s h time (Some m) = m.number == h && (is_some m.place && (nat_le time s.standing.time || is_step (why s.software s.hardware m.hart)))
+begins_by s h time (Some m) = m.number == h && (is_some m.index && (nat_le time s.standing.time || is_step (why s.software s.hardware m.hart)))
 
 abbrev pub begins_step : Looked → State → ℕ → ℕ → Bool
 begins_step r s h time = begins_by s h time (moment_at r.course time)

@@ -160,7 +160,7 @@ fn begins_step(past: &Past, session: &Session, hart: u8, time: usize) -> bool
     match past.course.moment_at(time) {
         Some(moment) => {
             moment.number == hart
-                && (moment.place.is_some()
+                && (moment.index.is_some()
                     && (time <= session.standing.time || is_step(why_in(session, &moment.hart))))
         }
         None => false,

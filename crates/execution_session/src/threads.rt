@@ -26,9 +26,9 @@ fn put(text: &mut Vec<u8>, bytes: &[u8]) -> Result<(), OutOfMemory>
 fn put_number(text: &mut Vec<u8>, number: u64) -> Result<(), OutOfMemory>
     ensures { OnOk result (text.new.items ≡ text.old.items ++ decimal number) }
 {
-    let mut room = [0; 20];
-    let start = write_digits(number, &mut room, 20);
-    put(text, &room[start..])
+    let mut digits = [0; 20];
+    let start = write_digits(number, &mut digits, 20);
+    put(text, &digits[start..])
 }
 
 /// Adds a number in decimal behind a word.

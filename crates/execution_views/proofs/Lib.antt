@@ -1,3 +1,3 @@
 pub mod Further
 pub mod Noting
-pub mod Places
+pub mod Positions

@@ -14,7 +14,7 @@ use Rattle.execution_views.specs.declared.sights.HartStep.{HartStep}
 use Rattle.execution_views.specs.declared.walk.Notes.{Notes}
 use Rattle.execution_views.specs.Passing.{ArePcs, IsBefore, IsFound, IsStepOf, IsTold, events_of_hart}
 use Rattle.execution_views.specs.Walks.{AreNotes, IsNoted, is_asked_hart, is_asked_step, steps_of}
-use Rattle.execution_views.proofs.Further.{Further, before_kept, found_up, length_more, step_down, take_kept}
+use Rattle.execution_views.proofs.Further.{Further, before_stays, found_up, length_more, step_down, take_stays}
 
 -- ---- nothing is done
 
@@ -56,7 +56,7 @@ notes_same image p q r a n f x =
           each = λ k l.
               let m : k < length q.events = omega (arith, l, length_more image q r [] f) in
               let old = x.sights.pcs.each k m in
-              (old.0, before_kept image p q r [] k old.0 f m old.1, old.2);
+              (old.0, before_stays image p q r [] k old.0 f m old.1, old.2);
         };
         before = told_same image p q r a n.sights.before f x.sights.before;
       };
@@ -86,7 +86,7 @@ new_step : (image : Memory) (p q r : Standing) (i : ℕ) (g : Hart) (e : Event) 
 new_step image p q r i g e h n x same count = record {
   within = omega (arith, length_more image q r (e ∷ []) x.further);
   hart = ap (λ (d : Event). d.hart) (new_event image p q r i g e x) ∙ x.hart ∙ same;
-  before = ap (events_of_hart h) (take_kept image q r (e ∷ []) (length q.events) x.further (omega arith) ∙ take_all q.events) ∙ count;
+  before = ap (events_of_hart h) (take_stays image q r (e ∷ []) (length q.events) x.further (omega arith) ∙ take_all q.events) ∙ count;
 }
   where
     take_all : (t : List Event) → take (length t) t ≡ t
@@ -109,7 +109,7 @@ none_more image p q r i g e s n x count other none = λ k st.
           let at : k ≡ length q.events = omega (arith, m, st.within, length_more image q r (e ∷ []) x.further) in
           let hart : i ≡ s.hart = sym x.hart ∙ sym (ap (λ (d : Event). d.hart) (ap (event r.events) at ∙ new_event image p q r i g e x)) ∙ st.hart in
           let number : n ≡ s.number =
-          count ∙ sym (ap (events_of_hart s.hart) (ap (λ (j : ℕ). take j r.events) at ∙ take_kept image q r (e ∷ []) (length q.events) x.further (omega arith) ∙ take_all q.events)) ∙ st.before in
+          count ∙ sym (ap (events_of_hart s.hart) (ap (λ (j : ℕ). take j r.events) at ∙ take_stays image q r (e ∷ []) (length q.events) x.further (omega arith) ∙ take_all q.events)) ∙ st.before in
           absurd (true_false (sym (and_from (i == s.hart) (n == s.number) (eq-eqb i s.hart hart) (eq-eqb n s.number number)) ∙ other))
     ]
   where
@@ -124,14 +124,14 @@ found_more : (image : Memory) (p q r : Standing) (i : ℕ) (g : Hart) (e : Event
 found_more image p q r i g e s n None x count other f = none_more image p q r i g e s n x count other f
 found_more image p q r i g e s n (Some b) x count other f = found_up image p q r (e ∷ []) s b x.further f
 
-told_more : (image : Memory) (p q r : Standing) (i : ℕ) (g : Hart) (e : Event) (a : Option HartStep) (n place : ℕ) (o o' : Option Before) → Grows image p q r i g e →
-    n ≡ steps_of a q.events → place ≡ length q.events →
-    o' ≡ (if is_asked_step a i n then Some (record { place = place; hart = g }) else o) → IsTold image p q a o → IsTold image p r a o'
-told_more image p q r i g e None n place o o' x count at is f = is ∙ f
-told_more image p q r i g e (Some s) n place o o' x count at is f = elim (cases_Bool ((i == s.hart) && (n == s.number))) [
+told_more : (image : Memory) (p q r : Standing) (i : ℕ) (g : Hart) (e : Event) (a : Option HartStep) (n index : ℕ) (o o' : Option Before) → Grows image p q r i g e →
+    n ≡ steps_of a q.events → index ≡ length q.events →
+    o' ≡ (if is_asked_step a i n then Some (record { index = index; hart = g }) else o) → IsTold image p q a o → IsTold image p r a o'
+told_more image p q r i g e None n index o o' x count at is f = is ∙ f
+told_more image p q r i g e (Some s) n index o o' x count at is f = elim (cases_Bool ((i == s.hart) && (n == s.number))) [
   | inl here ↦
       let two = and_parts (i == s.hart) (n == s.number) here in
-      subst (IsFound image p r s) (sym (is ∙ cond-true _ _ _ here ∙ ap (λ (k : ℕ). Some (record { place = k; hart = g })) at))
+      subst (IsFound image p r s) (sym (is ∙ cond-true _ _ _ here ∙ ap (λ (k : ℕ). Some (record { index = k; hart = g })) at))
       (new_step image p q r i g e s.hart s.number x (eqb-true i s.hart two.0) (sym count ∙ eqb-true n s.number two.1), new_before image p q r i g e x)
   | inr other ↦ subst (IsFound image p r s) (sym (is ∙ cond-false _ _ _ other)) (found_more image p q r i g e s n o x count other f)
 ]
@@ -151,7 +151,7 @@ pcs_more image p q r i g e old new x is a = record {
     | inl m ↦
         let was = a.each k m in (
           was.0,
-          before_kept image p q r (e ∷ []) k was.0 x.further m was.1,
+          before_stays image p q r (e ∷ []) k was.0 x.further m was.1,
           ap (λ (xs : List ℕ). slice_index xs k) is ∙ get_or_append_left old (g.pc ∷ []) 0 k (omega (arith, m, a.count)) ∙ was.2,
         )
     | inr m ↦

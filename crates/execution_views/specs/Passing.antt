@@ -14,7 +14,7 @@ pub record Passes (image : Memory) (p here q : Standing) : Type 0 where
   pub leads : Executes image p here
   pub goes_on : Executes image here q
 
--- before the instruction at place k of the list of those that were done from p to q, its hart is g
+-- before the instruction at index k of the list of those that were done from p to q, its hart is g
 pub record IsBefore (image : Memory) (p q : Standing) (k : ℕ) (g : Hart) : Type 0 where
   pub here : Standing
   pub passes : Passes image p here q
@@ -30,16 +30,16 @@ pub record ArePcs (image : Memory) (p q : Standing) (pcs : List ℕ) : Type 0 wh
 abbrev pub events_of_hart : ℕ → List Event → ℕ
 events_of_hart h t = count_by (λ (e : Event). e.hart == h) t
 
--- the instruction at place k is step n of hart h: it has done n others before it
+-- the instruction at index k is step n of hart h: it has done n others before it
 pub record IsStepOf (t : List Event) (h n k : ℕ) : Type 0 where
   pub within : k < length t
   pub hart : (event t k).hart ≡ h
   pub before : events_of_hart h (take k t) ≡ n
 
--- the place of a hart's step in the list, and the hart before it; none where the hart does no such step
+-- the index of a hart's step in the list, and the hart before it; none where the hart does no such step
 abbrev pub IsFound : Memory → Standing → Standing → HartStep → Option Before → Type 0
 IsFound image p q s None = (k : ℕ) → IsStepOf q.events s.hart s.number k → ⊥
-IsFound image p q s (Some b) = IsStepOf q.events s.hart s.number b.place × IsBefore image p q b.place b.hart
+IsFound image p q s (Some b) = IsStepOf q.events s.hart s.number b.index × IsBefore image p q b.index b.hart
 
 -- the same, where a step is asked for
 abbrev pub IsTold : Memory → Standing → Standing → Option HartStep → Option Before → Type 0

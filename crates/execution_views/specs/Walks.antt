@@ -37,4 +37,4 @@ is_asked_step (Some s) h n = (h == s.hart) && (n == s.number)
 pub record IsNoted (asked : Option HartStep) (h : ℕ) (g : Hart) (old new : Notes) : Type 0 where
   pub pcs : new.sights.pcs.items ≡ old.sights.pcs.items ++ g.pc ∷ []
   pub steps : new.steps ≡ (if is_asked_hart asked h then old.steps + 1 else old.steps)
-  pub before : new.sights.before ≡ (if is_asked_step asked h old.steps then Some (record { place = length old.sights.pcs.items; hart = g }) else old.sights.before)
+  pub before : new.sights.before ≡ (if is_asked_step asked h old.steps then Some (record { index = length old.sights.pcs.items; hart = g }) else old.sights.before)

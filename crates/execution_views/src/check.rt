@@ -34,7 +34,7 @@ pub fn check_seen(
     execution.is_small();
     let (broken, sights) = walk(alloc, execution, script, asked)?;
     match broken {
-        Some((place, fault)) => Ok((Verdict::Broken { place, fault }, sights)),
+        Some((index, fault)) => Ok((Verdict::Broken { index, fault }, sights)),
         None => {
             let verdict = judge(alloc, execution, opening, order)?;
             Ok((verdict, sights))

@@ -1,7 +1,7 @@
 //! Memory at a moment of an execution, as a hart sees it.
 
 ghost use Rattle.std.specs.Prelude.{◌≡◌, ◌<◌, IfOk, length, slice_index};
-ghost use Rattle.memory_order.specs.Orders.{place};
+ghost use Rattle.memory_order.specs.Orders.{order_position};
 ghost use Rattle.round_schedule.specs.Positions.{event};
 ghost use Rattle.trace.specs.Traced.{opening_at};
 ghost use Rattle.execution_views.specs.Moments.{byte_at, bytes_at, is_next_of, may_read, moment_of, next_operation, position_of, source_at};
@@ -18,48 +18,48 @@ use trace::Trace;
 pub struct Moment {
     /// The hart.
     pub hart: u8,
-    /// The hart has done those of its instructions that are before this place in the list of all.
-    pub place: usize,
+    /// The hart has done those of its instructions that are before this index in the list of all.
+    pub index: usize,
     /// How many operations of the order precede the moment.
     pub position: usize,
 }
 
-/// The event at a place; past the end of the list a fence that orders nothing.
-pub(crate) fn event_of(events: &[Event], place: usize) -> Event
-    ensures { result ≡ event events.now place }
+/// The event at an index; past the end of the list a fence that orders nothing.
+pub(crate) fn event_of(events: &[Event], index: usize) -> Event
+    ensures { result ≡ event events.now index }
 {
-    match events.get(place) {
+    match events.get(index) {
         Some(event) => *event,
         None => no_event(),
     }
 }
 
-/// Whether the event at a place is a memory operation of the hart of that at another.
-fn is_next_of(events: &[Event], place: usize, later: usize) -> bool
-    ensures { result ≡ is_next_of events.now place later }
+/// Whether the event at an index is a memory operation of the hart of that at another.
+fn is_next_of(events: &[Event], index: usize, later: usize) -> bool
+    ensures { result ≡ is_next_of events.now order_position later }
 {
     let next = event_of(events, later);
-    next.hart == event_of(events, place).hart && is_operation(&next)
+    next.hart == event_of(events, index).hart && is_operation(&next)
 }
 
-/// The place of the first memory operation of a hart from an instruction of it on.
-fn next_operation(events: &[Event], place: usize) -> Option<usize>
-    ensures { result ≡ next_operation events.now place }
+/// The index of the first memory operation of a hart from an instruction of it on.
+fn next_operation(events: &[Event], index: usize) -> Option<usize>
+    ensures { result ≡ next_operation events.now index }
 {
-    if place >= events.len() {
+    if index >= events.len() {
         return None;
     }
-    for later in place..events.len() {
-        if is_next_of(events, place, later) {
+    for later in index..events.len() {
+        if is_next_of(events, index, later) {
             return Some(later);
         }
     }
     None
 }
 
-/// Where a place stands in an order; the order's length where it doesn't.
+/// Where an index stands in an order; the order's length where it doesn't.
 fn position_in(order: &[usize], sought: usize) -> usize
-    ensures { result ≡ place order.now sought }
+    ensures { result ≡ order_position order.now sought }
 {
     for position in 0..order.len() {
         if order[position] == sought {
@@ -74,20 +74,20 @@ fn position_of(order: &[usize], operation: Option<usize>) -> usize
     ensures { result ≡ position_of order.now operation }
 {
     match operation {
-        Some(place) => position_in(order, place),
+        Some(index) => position_in(order, index),
         None => order.len(),
     }
 }
 
 /// The moment of an instruction: before it, and where its hart's next memory operation stands in the order, which is the instruction
 /// itself where it is one. It is the order's end where the hart does no further one.
-pub fn moment_of(events: &[Event], order: &Order, place: usize) -> Moment
-    ensures { result ≡ moment_of events.now order.now.0.items place }
+pub fn moment_of(events: &[Event], order: &Order, index: usize) -> Moment
+    ensures { result ≡ moment_of events.now order.now.0.items index }
 {
-    let position = position_of(&order.0, next_operation(events, place));
+    let position = position_of(&order.0, next_operation(events, index));
     Moment {
-        hart: event_of(events, place).hart,
-        place,
+        hart: event_of(events, index).hart,
+        index,
         position,
     }
 }
@@ -103,13 +103,13 @@ fn may_read(
     requires { position < length order.now }
     ensures { result ≡ may_read events.now order.now moment.now address position }
 {
-    let place = order[position];
-    let event = event_of(events, place);
+    let index = order[position];
+    let event = event_of(events, index);
     writes(&event.access, address)
-        && (position < moment.position || (place < moment.place && event.hart == moment.hart))
+        && (position < moment.position || (index < moment.index && event.hart == moment.hart))
 }
 
-/// The place of the operation that the byte at an address is from; `None` where it is as memory opened.
+/// The index of the operation that the byte at an address is from; `None` where it is as memory opened.
 fn source_at(events: &[Event], order: &[usize], moment: &Moment, address: u64) -> Option<usize>
     ensures { result ≡ source_at events.now order.now moment.now address }
 {
@@ -128,7 +128,7 @@ fn byte_at(opening: &Trace, events: &[Event], order: &[usize], moment: &Moment, 
     ensures { result ≡ byte_at events.now (opening_at opening.now.opening) order.now moment.now address }
 {
     match source_at(events, order, moment, address) {
-        Some(place) => byte_written(&event_of(events, place).access, address),
+        Some(index) => byte_written(&event_of(events, index).access, address),
         None => opening.opening_byte(address),
     }
 }

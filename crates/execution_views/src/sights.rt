@@ -12,8 +12,8 @@ pub struct HartStep {
 /// A hart before one of its steps.
 #[derive(Clone, Copy, Drop)]
 pub struct Before {
-    /// The place of the step's instruction in the list of those of all harts.
-    pub place: usize,
+    /// The index of the step's instruction in the list of those of all harts.
+    pub index: usize,
     /// The hart.
     pub hart: Hart,
 }

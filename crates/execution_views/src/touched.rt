@@ -43,12 +43,12 @@ fn is_sought(ranges: &[Range], hart: Option<u32>, only_stores: bool, event: &Eve
     touches_any(ranges, &event.access) && is_chosen(hart, only_stores, event)
 }
 
-/// The place at a position of an order; 0 past its end.
+/// The index at a position of an order; 0 past its end.
 pub(crate) fn place_at(order: &[usize], position: usize) -> usize
     ensures { result ≡ slice_index order.now position }
 {
     match order.get(position) {
-        Some(place) => *place,
+        Some(index) => *index,
         None => 0,
     }
 }

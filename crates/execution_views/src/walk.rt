@@ -58,10 +58,10 @@ fn note(
     requires { notes.old.steps ≤ length notes.old.sights.pcs.items }
     ensures { OnOk result (IsNoted asked number hart notes.old notes.new) }
 {
-    let place = notes.sights.pcs.len();
+    let index = notes.sights.pcs.len();
     notes.sights.pcs.push(hart.pc)?;
     if is_asked_step(asked, number, notes.steps) {
-        notes.sights.before = Some(Before { place, hart });
+        notes.sights.before = Some(Before { index, hart });
     }
     if is_asked_hart(asked, number) {
         notes.steps += 1;
@@ -100,7 +100,7 @@ fn take_noted(
     }
 }
 
-/// Follows a script, as far as its harts have next steps: the place of the step whose hart has none, and why it has none; and what is
+/// Follows a script, as far as its harts have next steps: the index of the step whose hart has none, and why it has none; and what is
 /// seen on the way.
 ///
 /// # Errors
@@ -125,9 +125,9 @@ pub(crate) fn walk(
         },
         steps: 0,
     };
-    for place in 0..script.len() {
-        match take_noted(execution, &mut notes, asked, script[place])? {
-            Some(fault) => return Ok((Some((place, fault)), notes.sights)),
+    for index in 0..script.len() {
+        match take_noted(execution, &mut notes, asked, script[index])? {
+            Some(fault) => return Ok((Some((index, fault)), notes.sights)),
             None => {}
         }
     }

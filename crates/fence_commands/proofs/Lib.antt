@@ -1,4 +1,4 @@
 mod Numerals
 pub mod NamedWords
-pub mod Kept
+pub mod Saved
 pub mod Ended

@@ -4,7 +4,7 @@ use Rattle.std.specs.Prelude.{◌≡◌, ◌⊎◌, ℕ, List, map, false, true,
 use Rattle.command_line.specs.declared.settings.Fences.{Fences}
 use Rattle.execution_file.specs.Views.{as_recorded}
 use Rattle.execution_file.specs.declared.file.ExecutionFile.{ExecutionFile}
-use Rattle.fence_commands.specs.Kept.{IsUnkeptIn}
+use Rattle.fence_commands.specs.Saved.{IsUnsavedIn}
 use Rattle.fence_commands.specs.Places.{IsAssumed, IsUnplaced}
 use Rattle.fence_commands.specs.declared.failure.FencesFailure.{FencesFailure}
 use Rattle.fence_commands.specs.declared.failure.FencesFailure.TheVariants as failures
@@ -103,4 +103,4 @@ IsWorldEnd (failures.Unwritten path) = ⊥
 
 -- why the command ends without what it was asked for
 abbrev pub EndsFences : (List ℕ → List ℕ → Type 0) → (List ℕ → ℕ → List ℕ → Type 0) → Fences → FencesFailure → Type 0
-EndsFences holds begins asked f = IsWorldEnd f ⊎ EndsSearch holds begins asked f ⊎ IsUnkeptIn (keep_of asked) f
+EndsFences holds begins asked f = IsWorldEnd f ⊎ EndsSearch holds begins asked f ⊎ IsUnsavedIn (keep_of asked) f

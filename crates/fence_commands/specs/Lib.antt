@@ -1,5 +1,5 @@
 pub mod Failures
 pub mod Status
 pub mod Places
-pub mod Kept
+pub mod Saved
 pub mod Asked

@@ -1,7 +1,7 @@
 ghost use Rattle.std.specs.Prelude.{◌≡◌, ◌⊎◌, ◌++◌, IfErr, IfOk, None, OnErr, map, option_map};
 ghost use Rattle.execution_file.specs.Views.{as_recorded};
 ghost use Rattle.fence_commands.specs.Asked.{AskedSearch, EndsFences, IsSearchEnd, IsWorldEnd, SetSearch, keep_of};
-ghost use Rattle.fence_commands.specs.Kept.{AreKept};
+ghost use Rattle.fence_commands.specs.Saved.{AreSaved};
 ghost use Rattle.fence_commands.specs.Status.{fences_status};
 ghost use Rattle.fence_table.specs.Text.{fences_text};
 ghost use Rattle.host_io.specs.Taken.{BeganText};
@@ -55,7 +55,7 @@ pub fn fences_command<
     ensures searches { IfOk result (λ status. (a : AskedSearch (F.holds files.old) (F.begins files.old) W.finds asked.now) ×
         (O.took out.new ≡ O.took out.old ++ fences_text a.made.table) × O.is_out out.new ×
         (status ≡ fences_status asked.now.fail_on a.made.table) ×
-        AreKept F.was_given (keep_of asked.now) (map as_recorded a.made.executions) files.old files.new) }
+        AreSaved F.was_given (keep_of asked.now) (map as_recorded a.made.executions) files.old files.new) }
     // Else nothing was printed, or a beginning of such a table.
     ensures begun { OnErr result ((O.took out.new ≡ O.took out.old) ⊎
         ((a : AskedSearch (F.holds files.old) (F.begins files.old) W.finds asked.now) ×

@@ -2,7 +2,7 @@
 ghost use Rattle.std.specs.Prelude.{◌≡◌, IfErr, IfOk, None, OnOk, Some, map, option_map, string_bytes};
 ghost use Rattle.execution_file.specs.Grammar.{execution};
 ghost use Rattle.execution_file.specs.Views.{as_recorded};
-ghost use Rattle.fence_commands.specs.Kept.{AreGiven, AreKept, IsUnkept, IsUnkeptIn, path_in};
+ghost use Rattle.fence_commands.specs.Saved.{AreGiven, AreSaved, IsUnsaved, IsUnsavedIn, path_in};
 
 use crate::failure::FencesFailure;
 use execution_scripts::{ExecutionFile, write_execution};
@@ -36,9 +36,9 @@ pub(crate) fn keep<F: Files>(
     folder: Option<&str>,
     executions: &[ExecutionFile],
 ) -> Result<(), FencesFailure>
-    ensures kept { OnOk result (AreKept F.was_given (option_map (λ s. s.now) folder.entry) (map as_recorded executions.now) files.old files.new) }
+    ensures saved { OnOk result (AreSaved F.was_given (option_map (λ s. s.now) folder.entry) (map as_recorded executions.now) files.old files.new) }
     ensures unasked { folder.entry ≡ None → files.new ≡ files.old }
-    ensures errors { IfErr result (IsUnkeptIn (option_map (λ s. s.now) folder.entry)) }
+    ensures errors { IfErr result (IsUnsavedIn (option_map (λ s. s.now) folder.entry)) }
 {
     match folder {
         Some(folder) => keep_in(files, alloc, folder, executions),
@@ -53,8 +53,8 @@ fn keep_in<F: Files>(
     folder: &str,
     executions: &[ExecutionFile],
 ) -> Result<(), FencesFailure>
-    ensures kept { OnOk result (AreKept F.was_given (Some folder.now) (map as_recorded executions.now) files.old files.new) }
-    ensures errors { IfErr result (IsUnkept folder.now) }
+    ensures saved { OnOk result (AreSaved F.was_given (Some folder.now) (map as_recorded executions.now) files.old files.new) }
+    ensures errors { IfErr result (IsUnsaved folder.now) }
 {
     if executions.is_empty() {
         return Ok(());
@@ -71,10 +71,10 @@ fn put_each<F: Files>(
     executions: &[ExecutionFile],
 ) -> Result<(), FencesFailure>
     ensures given { OnOk result (AreGiven F.was_given folder.now 1 (map as_recorded executions.now) files.old files.new) }
-    ensures errors { IfErr result (IsUnkept folder.now) }
+    ensures errors { IfErr result (IsUnsaved folder.now) }
 {
-    for place in 0..executions.len() {
-        put(files, alloc, folder, place + 1, &executions[place])?;
+    for index in 0..executions.len() {
+        put(files, alloc, folder, index + 1, &executions[index])?;
     }
     Ok(())
 }
@@ -88,7 +88,7 @@ fn put<F: Files>(
     file: &ExecutionFile,
 ) -> Result<(), FencesFailure>
     ensures given { OnOk result (F.was_given files.old files.new (path_in folder.now number) (execution.spelled (as_recorded file.now))) }
-    ensures errors { IfErr result (IsUnkept folder.now) }
+    ensures errors { IfErr result (IsUnsaved folder.now) }
 {
     let path = path_of(alloc, folder, number)?;
     match files.overwrite(&path, &ExecutionText { file }) {

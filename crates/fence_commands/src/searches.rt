@@ -1,6 +1,6 @@
 ghost use denote.Param.Send.{IsSync};
 ghost use Rattle.std.specs.Prelude.{◌≡◌, ◌⊎◌, ◌++◌, ⊤, ℕ, Err, IfErr, IfOk, List, None, OnErr, Some, false};
-ghost use Rattle.execution_file.specs.declared.file.ExecutionFile.{ExecutionFile as Kept};
+ghost use Rattle.execution_file.specs.declared.file.ExecutionFile.{ExecutionFile as Saved};
 ghost use Rattle.fence_finder.specs.MissingFences.{IsSearched};
 ghost use Rattle.fence_finder.specs.declared.settings.FenceSettings.{FenceSettings as AskedFor};
 ghost use Rattle.fence_table.specs.Text.{fences_text};
@@ -25,7 +25,7 @@ use weak_hunter::WeakHuntError;
 /// accepted have to do with that: so it is a relation, which a command can only get by a call with them.
 pub trait FenceSearches {
     /// A search by these settings in an image and an input finds what the table has, with these executions.
-    ghost finds: { AskedFor → List ℕ → List ℕ → Table → List Kept → Type 0 };
+    ghost finds: { AskedFor → List ℕ → List ℕ → Table → List Saved → Type 0 };
 
     /// Searches, and writes the table of what was found.
     ///
@@ -47,7 +47,7 @@ pub trait FenceSearches {
             finds settings image.now input.now f.table f.executions.items ×
             (S.took out.new ≡ S.took out.old ++ fences_text f.table)) }
         ensures begun { OnErr result ((S.took out.new ≡ S.took out.old) ⊎
-            ((t : Table) × (es : List Kept) × IsSearched settings.hunt image.now input.now t ×
+            ((t : Table) × (es : List Saved) × IsSearched settings.hunt image.now input.now t ×
             finds settings image.now input.now t es ×
             BeganText (S.took out.old) (S.took out.new) (fences_text t))) }
         ensures settings { (e : Refusal) → hunt_fault settings.hunt ≡ Some e → result ≡ Err (Hunt e) }

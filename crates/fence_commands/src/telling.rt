@@ -16,8 +16,8 @@ pub(crate) fn tell_missing<M: Messages>(
 ) -> Result<(), AllocError> {
     let program = weak_line_of(alloc, &asked.search.program, asked.steps)?;
     let seed = asked.search.seed;
-    for (place, missing) in missing.iter().enumerate() {
-        let (number, shown) = (place.saturating_add(1), missing.shown.number);
+    for (index, missing) in missing.iter().enumerate() {
+        let (number, shown) = (index.saturating_add(1), missing.shown.number);
         messages.tell(format_args!(
             "missing {number}: {program} --plan-number {shown} --seed {seed}"
         ));

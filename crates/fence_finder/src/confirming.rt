@@ -5,7 +5,7 @@ use crate::faults::failure_found;
 use crate::guest::Guest;
 use execution_scripts::{ExecutionFile, ScriptedGuest, execution_of_script};
 use fence_search::{Departing, Found, Weakness};
-use fence_table::{Failure, Missing, Place, Shown};
+use fence_table::{Failure, Missing, NamedGap, Shown};
 use pages::OutOfMemory;
 use timed_machine::TimedMachine;
 use weak_executions::{Verdict, check_by};
@@ -18,10 +18,10 @@ pub(crate) struct Confirmed {
     pub execution: Option<ExecutionFile>,
 }
 
-/// A fence that is missing at a place, where the checker of executions allows the execution that shows it, and finds that it fails so.
+/// A fence that is missing at a gap, where the checker of executions allows the execution that shows it, and finds that it fails so.
 pub(crate) fn confirm(
     guest: &Guest<'_>,
-    place: Place,
+    gap: NamedGap,
     weakness: &Weakness,
 ) -> Result<Option<Confirmed>, OutOfMemory>
     ensures { IfOk result (λ found. IfSome found (λ c. IsShown guest.now.opening.image.now
@@ -30,8 +30,8 @@ pub(crate) fn confirm(
     let machine = made_again(guest, &weakness.shown)?;
     match failure_of(guest, &weakness.shown, &machine)? {
         Some(failure) => Ok(Some(Confirmed {
-            missing: told_of(guest, place, weakness, failure)?,
-            execution: kept(guest, &weakness.shown, &machine)?,
+            missing: told_of(guest, gap, weakness, failure)?,
+            execution: file_of(guest, &weakness.shown, &machine)?,
         })),
         None => Ok(None),
     }
@@ -69,7 +69,7 @@ fn failure_of(
 /// What is told of a missing fence.
 fn told_of(
     guest: &Guest<'_>,
-    place: Place,
+    gap: NamedGap,
     weakness: &Weakness,
     failure: Failure,
 ) -> Result<Missing, OutOfMemory>
@@ -77,7 +77,7 @@ fn told_of(
 {
     let shown = &weakness.shown;
     Ok(Missing {
-        place,
+        gap,
         numbers: weakness.numbers,
         moved: guest.moved(weakness)?,
         failure,
@@ -91,7 +91,7 @@ fn told_of(
 }
 
 /// The execution as a file, where it is to be kept.
-fn kept(
+fn file_of(
     guest: &Guest<'_>,
     shown: &Found,
     machine: &TimedMachine,

@@ -37,7 +37,7 @@ pub struct FoundFences {
     pub executions: Vec<ExecutionFile>,
 }
 
-/// Makes a guest's executions of the numbers that the settings name, looks for what those fail by that fail, and writes at which places
+/// Makes a guest's executions of the numbers that the settings name, looks for what those fail by that fail, and writes at which gaps
 /// fences are missing. Each execution that is shown was put to the checker of executions. The observer looks on between two blocks of
 /// executions.
 ///

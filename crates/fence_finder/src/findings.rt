@@ -22,9 +22,9 @@ pub(crate) struct Findings {
     pub unnamed: Tally,
     /// Numbers whose executions were cut off while harts ran.
     pub running: Tally,
-    /// Numbers that fail for want of a fence at a place that is accepted.
+    /// Numbers that fail for want of a fence at a gap that is accepted.
     pub accepted: Tally,
-    /// At which other places fences are missing.
+    /// At which other gaps fences are missing.
     pub missing: Vec<Missing>,
     /// The executions that show them, where they are kept.
     pub executions: Vec<ExecutionFile>,
@@ -76,12 +76,12 @@ impl Findings {
         ensures { IfOk result (λ yes. OnTrue yes (AreShown guest.now.opening.image.now
             guest.now.opening.input.now guest.now.opening.harts.now self.new.missing.items)) }
     {
-        let place = guest.place(weakness)?;
-        if guest.settings.accepted.has(guest.alloc, &place)? {
+        let gap = guest.gap(weakness)?;
+        if guest.settings.accepted.has(guest.alloc, &gap)? {
             self.accepted = joined(self.accepted, weakness.numbers);
             return Ok(true);
         }
-        let Some(confirmed) = confirm(guest, place, weakness)? else {
+        let Some(confirmed) = confirm(guest, gap, weakness)? else {
             return Ok(false);
         };
         self.missing.push(confirmed.missing)?;

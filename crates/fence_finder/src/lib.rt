@@ -1,4 +1,4 @@
-//! The finder of missing fences: a guest's executions are made by their numbers, and of those that fail for want of a fence the places
+//! The finder of missing fences: a guest's executions are made by their numbers, and of those that fail for want of a fence the gaps
 //! are told. The checker of executions says that RVWMO allows each execution that is shown.
 #![tactic(auto)]
 

@@ -13,7 +13,7 @@ pub struct FenceSettings {
     pub steps: u32,
     /// Before the instructions of which addresses a full fence is assumed.
     pub assumed: Vec<u64>,
-    /// Places of which is known that a fence is missing there.
+    /// Gaps of which is known that a fence is missing there.
     pub accepted: Accepted,
     /// Whether the executions that are shown are kept.
     pub keeps: bool,

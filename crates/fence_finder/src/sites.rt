@@ -1,32 +1,32 @@
-//! Places in the program, by their names.
+//! Sites and gaps of the program, by their names.
 
 use crate::guest::Guest;
 use elf_symbols::function_at;
 use fence_search::Weakness;
-use fence_table::{Moved, Passed, Place, Site, SiteName};
+use fence_table::{Moved, NamedGap, Passed, Site, SiteName};
 use machine::Format;
 use pages::OutOfMemory;
 
 impl Guest<'_> {
-    /// The instruction at an address, with its place in a function of an ELF file.
+    /// The instruction at an address, with its offset in a function of an ELF file.
     fn site(&self, pc: u64) -> Result<Site, OutOfMemory> {
-        let part = match self.settings.hunt.format {
+        let named = match self.settings.hunt.format {
             Format::Elf => function_at(self.file, pc),
             Format::Flat => None,
         };
-        let name = match part {
-            Some(part) => Some(SiteName {
-                function: Vec::from_slice(self.alloc, part.name)?,
-                offset: part.offset,
+        let name = match named {
+            Some(named) => Some(SiteName {
+                function: Vec::from_slice(self.alloc, named.name)?,
+                offset: named.offset,
             }),
             None => None,
         };
         Ok(Site { pc, name })
     }
 
-    /// The place of a missing fence.
-    pub(crate) fn place(&self, weakness: &Weakness) -> Result<Place, OutOfMemory> {
-        Ok(Place {
+    /// The gap of a missing fence.
+    pub(crate) fn gap(&self, weakness: &Weakness) -> Result<NamedGap, OutOfMemory> {
+        Ok(NamedGap {
             fence: weakness.fence,
             earlier: self.site(weakness.earlier)?,
             later: self.site(weakness.later)?,

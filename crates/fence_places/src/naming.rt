@@ -71,7 +71,7 @@ struct Crossed {
 
 /// An execution's memory operations, and where each stands in the global memory order.
 #[derive(Drop)]
-struct Placed<'a> {
+struct Ranked<'a> {
     deeds: &'a [Deed],
     /// By deed.
     ranks: Vec<usize>,
@@ -85,7 +85,7 @@ struct Placed<'a> {
 ///
 /// `OutOfMemory` alone.
 pub fn moves_of(alloc: Global, record: &Record, order: &[usize]) -> Result<Moves, OutOfMemory> {
-    let placed = Placed {
+    let ranked = Ranked {
         deeds: record.deeds(),
         ranks: ranks_of(alloc, order)?,
         shared: SharedBytes::of(alloc, record.deeds())?,
@@ -95,7 +95,7 @@ pub fn moves_of(alloc: Global, record: &Record, order: &[usize]) -> Result<Moves
         gaps: Vec::new(alloc),
     };
     for departure in record.departures() {
-        placed.add_move(alloc, departure, &mut moves)?;
+        ranked.add_move(alloc, departure, &mut moves)?;
     }
     Ok(moves)
 }
@@ -162,7 +162,7 @@ fn operation_of(deed: &Deed) -> Operation {
     }
 }
 
-impl Placed<'_> {
+impl Ranked<'_> {
     /// Where a deed stands.
     fn rank(&self, number: usize) -> usize {
         self.ranks.get(number).copied().unwrap_or(0)
@@ -209,13 +209,13 @@ impl Placed<'_> {
         let mut crossed = Vec::new(alloc);
         match direction {
             Direction::Before => {
-                for place in 0..number {
-                    self.cross(&mut crossed, deed, place, self.rank(place) > rank)?;
+                for index in 0..number {
+                    self.cross(&mut crossed, deed, index, self.rank(index) > rank)?;
                 }
             }
             Direction::Behind => {
-                for place in (number..self.deeds.len()).rev() {
-                    self.cross(&mut crossed, deed, place, self.rank(place) < rank)?;
+                for index in (number..self.deeds.len()).rev() {
+                    self.cross(&mut crossed, deed, index, self.rank(index) < rank)?;
                 }
             }
         }
@@ -227,10 +227,10 @@ impl Placed<'_> {
         &self,
         crossed: &mut Vec<Crossed>,
         deed: &Deed,
-        place: usize,
+        index: usize,
         is_across: bool,
     ) -> Result<(), OutOfMemory> {
-        let Some(other) = self.deeds.get(place) else {
+        let Some(other) = self.deeds.get(index) else {
             return Ok(());
         };
         let is_own = other.hart == deed.hart && self.shared.has(&other.access);
@@ -260,15 +260,15 @@ impl Placed<'_> {
     fn passed(&self, number: usize, deed: &Deed, direction: Direction) -> Option<Overtaken> {
         let rank = self.rank(number);
         let mut first: Option<(usize, &Deed)> = None;
-        for (place, other) in self.deeds.iter().enumerate() {
-            let other_rank = self.rank(place);
+        for (index, other) in self.deeds.iter().enumerate() {
+            let other_rank = self.rank(index);
             let is_passed = match direction {
                 Direction::Before => {
-                    place < number
+                    index < number
                         && other_rank > rank
                         && (other.access.stores() || deed.access.stores())
                 }
-                Direction::Behind => place > number && other_rank < rank,
+                Direction::Behind => index > number && other_rank < rank,
             };
             let is_first = match first {
                 Some((least, _)) => other_rank < least,

@@ -27,7 +27,7 @@ struct Edge {
 #[derive(Clone, Copy, PartialEq, Eq, PartialOrd, Ord)]
 struct Visit {
     group: u64,
-    /// Its place in the global memory order.
+    /// Its position in the global memory order.
     rank: usize,
     deed: usize,
     hart: u8,

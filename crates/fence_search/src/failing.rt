@@ -15,7 +15,7 @@ pub enum Failing {
 
 /// What comes of an execution.
 #[derive(Clone, Copy, Debug, PartialEq, Eq)]
-pub(crate) enum Outcome {
+pub(crate) enum Judgement {
     /// It ends as it has to, or it is none.
     Well,
     /// It fails.

@@ -1,4 +1,4 @@
-//! Places at which fences forbid all executions that fail.
+//! Gaps at which fences forbid all executions that fail.
 
 use crate::trying::Found;
 use fence_places::{Gap, Move, Sides};
@@ -6,7 +6,7 @@ use fence_table::{FenceKind, Side, Tally};
 use pages::OutOfMemory;
 use std::alloc::Global;
 
-/// A place at which a fence is missing: it would forbid some executions that fail.
+/// A gap at which a fence is missing: it would forbid some executions that fail.
 #[derive(Drop)]
 pub struct Weakness {
     /// The address of the instruction before it.
@@ -53,18 +53,18 @@ struct Candidate {
     distance: u64,
 }
 
-/// Chooses places until each execution is forbidden by a fence at one of them: always right behind or right before an instruction where it
+/// Chooses gaps until each execution is forbidden by a fence at one of them: always right behind or right before an instruction where it
 /// forbids the most of those that are left.
 ///
 /// # Errors
 ///
 /// `OutOfMemory` alone.
-pub(crate) fn fewest_places(
+pub(crate) fn fewest_weaknesses(
     alloc: Global,
     founds: Vec<Found>,
 ) -> Result<Vec<Weakness>, OutOfMemory> {
     let mut left = founds;
-    let mut places = Vec::new(alloc);
+    let mut weaknesses = Vec::new(alloc);
     for _ in 0..left.len() {
         let Some(spot) = elected(spots_of(alloc, &left)?) else {
             break;
@@ -72,10 +72,10 @@ pub(crate) fn fewest_places(
         let (hit, others) = divided(alloc, left, spot)?;
         left = others;
         if let Some(weakness) = weakness_at(alloc, spot, hit)? {
-            places.push(weakness)?;
+            weaknesses.push(weakness)?;
         }
     }
-    Ok(places)
+    Ok(weaknesses)
 }
 
 impl Spot {
@@ -222,7 +222,7 @@ fn divided(
     Ok((hit, others))
 }
 
-/// The place of a spot where a fence forbids these executions.
+/// The gap of a spot where a fence forbids these executions.
 fn weakness_at(
     alloc: Global,
     spot: Spot,
@@ -277,7 +277,7 @@ fn shown_at(spot: Spot, founds: Vec<Found>) -> Option<Found> {
     best
 }
 
-/// A place with what is told of it.
+/// A gap with what is told of it.
 fn told_at(spot: Spot, fence: FenceKind, numbers: Tally, shown: Found) -> Option<Weakness> {
     let gap = shown.nearest(spot)?;
     let moved = *shown.moves.moves.get(gap.moved)?;

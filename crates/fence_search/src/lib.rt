@@ -1,5 +1,5 @@
 //! A search for missing fences: executions in which loads read old and stores come late or early are made by their numbers, those that fail are
-//! made with as few departures as they need, and what is left names the places where nothing orders two accesses.
+//! made with as few departures as they need, and what is left names the gaps where nothing orders two accesses.
 //!
 //! The checker of executions says of each execution that is found whether RVWMO allows it, so nothing else here need be trusted.
 #![tactic(auto)]

@@ -1,7 +1,7 @@
 //! What runs without departures come to.
 
 use crate::departing::Departing;
-use crate::failing::{Failing, Outcome};
+use crate::failing::{Failing, Judgement};
 use crate::guest::FenceGuest;
 use hart_step::Stop;
 use pages::OutOfMemory;
@@ -62,17 +62,17 @@ pub(crate) fn state_of(machine: &TimedMachine, harts: usize) -> State {
     state
 }
 
-/// Keeps bytes, or nothing where they differ from those that are kept.
+/// The bytes of this run, where they are those of the runs before it.
 fn agreed(
     alloc: Global,
     run: u32,
-    kept: Option<Vec<u8>>,
+    before: Option<Vec<u8>>,
     bytes: &[u8],
 ) -> Result<Option<Vec<u8>>, OutOfMemory> {
     if run == 0 {
         return Ok(Some(Vec::from_slice(alloc, bytes)?));
     }
-    Ok(kept.filter(|kept| kept.as_slice() == bytes))
+    Ok(before.filter(|before| before.as_slice() == bytes))
 }
 
 /// Makes the runs that say what is ordinary.
@@ -133,19 +133,19 @@ fn add_run(
 
 impl Ordinary {
     /// What comes of an execution of which each hart exited with 0.
-    fn other_outcome(
+    fn judgement_of_ended(
         &self,
         guest: &FenceGuest<'_>,
         machine: &TimedMachine,
-    ) -> Result<Outcome, OutOfMemory> {
+    ) -> Result<Judgement, OutOfMemory> {
         if differs(&self.output, machine.output()) {
-            return Ok(Outcome::Fails(Failing::Output));
+            return Ok(Judgement::Fails(Failing::Output));
         }
         let seen = seen_of(guest.alloc, machine.pages(), guest.ranges)?;
         if differs(&self.seen, &seen) {
-            return Ok(Outcome::Fails(Failing::Seen));
+            return Ok(Judgement::Fails(Failing::Seen));
         }
-        Ok(Outcome::Well)
+        Ok(Judgement::Well)
     }
 
     /// How the execution of a number with these departures seems to fail, if it does: one that runs on is taken to do so by any plan.
@@ -160,10 +160,10 @@ impl Ordinary {
         departing: Departing<'_>,
     ) -> Result<Option<Failing>, OutOfMemory> {
         let machine = guest.execute(number, departing, false, self.steps)?;
-        match self.outcome_now(guest, &machine)? {
-            Outcome::Fails(failing) => Ok(Some(failing)),
-            Outcome::Cut if self.hangs_after.is_some() => Ok(Some(Failing::Stuck)),
-            Outcome::Cut | Outcome::Well => Ok(None),
+        match self.judgement_now(guest, &machine)? {
+            Judgement::Fails(failing) => Ok(Some(failing)),
+            Judgement::Cut if self.hangs_after.is_some() => Ok(Some(Failing::Stuck)),
+            Judgement::Cut | Judgement::Well => Ok(None),
         }
     }
 
@@ -172,32 +172,32 @@ impl Ordinary {
     /// # Errors
     ///
     /// `OutOfMemory` alone.
-    pub(crate) fn outcome(
+    pub(crate) fn judgement(
         &self,
         guest: &FenceGuest<'_>,
         number: u32,
         departing: Departing<'_>,
-    ) -> Result<Outcome, OutOfMemory> {
+    ) -> Result<Judgement, OutOfMemory> {
         let mut machine = guest.execute(number, departing, false, self.steps)?;
-        match (self.outcome_now(guest, &machine)?, self.hangs_after) {
-            (Outcome::Cut, Some(steps)) => self.running(guest, &mut machine, number, steps),
-            (outcome, _) => Ok(outcome),
+        match (self.judgement_now(guest, &machine)?, self.hangs_after) {
+            (Judgement::Cut, Some(steps)) => self.running(guest, &mut machine, number, steps),
+            (judgement, _) => Ok(judgement),
         }
     }
 
     /// What comes of an execution that goes no further.
-    fn outcome_now(
+    fn judgement_now(
         &self,
         guest: &FenceGuest<'_>,
         machine: &TimedMachine,
-    ) -> Result<Outcome, OutOfMemory> {
+    ) -> Result<Judgement, OutOfMemory> {
         if machine.is_void() {
-            return Ok(Outcome::Well);
+            return Ok(Judgement::Well);
         }
         match state_of(machine, guest.harts()) {
-            State::Failed(hart, stop) => Ok(Outcome::Fails(Failing::Stopped(hart, stop))),
-            State::Ended => self.other_outcome(guest, machine),
-            State::Runs => Ok(Outcome::Cut),
+            State::Failed(hart, stop) => Ok(Judgement::Fails(Failing::Stopped(hart, stop))),
+            State::Ended => self.judgement_of_ended(guest, machine),
+            State::Runs => Ok(Judgement::Cut),
         }
     }
 
@@ -209,7 +209,7 @@ impl Ordinary {
         machine: &mut TimedMachine,
         number: u32,
         hanging: u64,
-    ) -> Result<Outcome, OutOfMemory> {
+    ) -> Result<Judgement, OutOfMemory> {
         machine.depart(Vec::new(guest.alloc));
         let steps = machine
             .steps()
@@ -217,9 +217,9 @@ impl Ordinary {
             .saturating_add(LAST_STEPS);
         guest.go_on(machine, number.wrapping_add(1), steps)?;
         match state_of(machine, guest.harts()) {
-            State::Runs if machine.steps() >= hanging => Ok(Outcome::Fails(Failing::Stuck)),
-            State::Runs => Ok(Outcome::Cut),
-            State::Ended | State::Failed(_, _) => Ok(Outcome::Well),
+            State::Runs if machine.steps() >= hanging => Ok(Judgement::Fails(Failing::Stuck)),
+            State::Runs => Ok(Judgement::Cut),
+            State::Ended | State::Failed(_, _) => Ok(Judgement::Well),
         }
     }
 }

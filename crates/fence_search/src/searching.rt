@@ -1,6 +1,6 @@
 ghost use Rattle.std.specs.Prelude.{◌+◌, ◌<◌, ◌^◌, length};
 
-use crate::gathering::{Weakness, fewest_places};
+use crate::gathering::{Weakness, fewest_weaknesses};
 use crate::guest::FenceGuest;
 use crate::ordinary::{Ordinary, ordinary_runs};
 use crate::trying::{Found, Trial, try_number};
@@ -41,7 +41,7 @@ fn count(tally: &mut Tally, number: u32) {
 /// What was found.
 #[derive(Drop)]
 pub struct Search {
-    /// Places at which fences forbid each execution that fails by what its departures move, the one that forbids the most
+    /// Gaps at which fences forbid each execution that fails by what its departures move, the one that forbids the most
     /// first.
     pub weaknesses: Vec<Weakness>,
     /// Numbers that fail without departures too.
@@ -99,7 +99,7 @@ pub fn search_fences<O: FenceObserver, R: Threads + Sync>(
         done += size;
     }
     Ok(Search {
-        weaknesses: fewest_places(guest.alloc, trials.founds)?,
+        weaknesses: fewest_weaknesses(guest.alloc, trials.founds)?,
         ordinary: trials.ordinary,
         unnamed: trials.unnamed,
         running: trials.running,
@@ -117,9 +117,9 @@ fn add_block(
 ) -> Result<(), OutOfMemory>
     requires { first + length slots.old < 2 ^ 32 }
 {
-    for place in 0..slots.len() {
-        let number = first + place as u32;
-        let trial = match slots[place].take() {
+    for index in 0..slots.len() {
+        let number = first + index as u32;
+        let trial = match slots[index].take() {
             Some(trial) => trial,
             None => try_number(guest, ordinary, number)?,
         };

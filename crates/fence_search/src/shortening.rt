@@ -62,20 +62,20 @@ impl Shortening<'_, '_> {
 
     /// Leaves out halves, quarters, and so on, and at last single ones.
     fn fewest(&mut self, departures: Vec<Departure>) -> Result<Vec<Departure>, OutOfMemory> {
-        let mut kept = departures;
-        let mut size = (kept.len() / 2).max(1);
+        let mut needed = departures;
+        let mut size = (needed.len() / 2).max(1);
         for _ in 0..MOST_RUNS {
-            let before = kept.len();
-            kept = self.without_chunks(kept, size)?;
-            if kept.len() < before {
-                size = size.min((kept.len() / 2).max(1));
+            let before = needed.len();
+            needed = self.without_chunks(needed, size)?;
+            if needed.len() < before {
+                size = size.min((needed.len() / 2).max(1));
             } else if size > 1 {
                 size = size / 2;
             } else {
                 break;
             }
         }
-        Ok(kept)
+        Ok(needed)
     }
 
     /// Leaves out each so many in turn, where the execution still fails.
@@ -84,20 +84,20 @@ impl Shortening<'_, '_> {
         departures: Vec<Departure>,
         size: usize,
     ) -> Result<Vec<Departure>, OutOfMemory> {
-        let mut kept = departures;
+        let mut needed = departures;
         let mut start = 0;
-        for _ in 0..kept.len() {
-            if start >= kept.len() {
+        for _ in 0..needed.len() {
+            if start >= needed.len() {
                 break;
             }
-            let fewer = without(self.guest.alloc, &kept, start, size)?;
+            let fewer = without(self.guest.alloc, &needed, start, size)?;
             if self.still_fails(&fewer)? {
-                kept = fewer;
+                needed = fewer;
             } else {
                 start = start.saturating_add(size);
             }
         }
-        Ok(kept)
+        Ok(needed)
     }
 
     /// Has each departure be the smallest one with which the execution still fails.
@@ -105,29 +105,29 @@ impl Shortening<'_, '_> {
         &mut self,
         departures: Vec<Departure>,
     ) -> Result<Vec<Departure>, OutOfMemory> {
-        let mut kept = departures;
-        for place in 0..kept.len() {
-            kept = self.with_simple_way(kept, place)?;
+        let mut needed = departures;
+        for index in 0..needed.len() {
+            needed = self.with_simple_way(needed, index)?;
         }
-        Ok(kept)
+        Ok(needed)
     }
 
     /// The same of one of them.
     fn with_simple_way(
         &mut self,
         departures: Vec<Departure>,
-        place: usize,
+        index: usize,
     ) -> Result<Vec<Departure>, OutOfMemory> {
         let mut changed = copied(self.guest.alloc, &departures)?;
         let mut extent = 1;
         for _ in 0..64 {
-            let Some(departure) = departures.get(place) else {
+            let Some(departure) = departures.get(index) else {
                 break;
             };
             let Some(way) = smaller(departure.way, extent) else {
                 break;
             };
-            if let Some(departure) = changed.get_mut(place) {
+            if let Some(departure) = changed.get_mut(index) {
                 departure.way = way;
             }
             if self.still_fails(&changed)? {
@@ -154,18 +154,18 @@ fn smaller(way: Way, extent: u32) -> Option<Way> {
     }
 }
 
-/// The departures but for so many from a place on.
+/// The departures but for so many from an index on.
 fn without(
     alloc: Global,
     departures: &[Departure],
     start: usize,
     size: usize,
 ) -> Result<Vec<Departure>, OutOfMemory> {
-    let mut kept = Vec::new(alloc);
-    for (place, departure) in departures.iter().enumerate() {
-        if place < start || place - start >= size {
-            kept.push(*departure)?;
+    let mut left = Vec::new(alloc);
+    for (index, departure) in departures.iter().enumerate() {
+        if index < start || index - start >= size {
+            left.push(*departure)?;
         }
     }
-    Ok(kept)
+    Ok(left)
 }

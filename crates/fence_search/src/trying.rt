@@ -1,5 +1,5 @@
 use crate::departing::Departing;
-use crate::failing::{Failing, Outcome};
+use crate::failing::{Failing, Judgement};
 use crate::guest::{FenceGuest, copied};
 use crate::ordinary::Ordinary;
 use crate::shortening::shortened;
@@ -59,10 +59,10 @@ pub(crate) fn try_number(
     ordinary: &Ordinary,
     number: u32,
 ) -> Result<Trial, OutOfMemory> {
-    match ordinary.outcome(guest, number, Departing::Drawn)? {
-        Outcome::Well => Ok(Trial::Well),
-        Outcome::Cut => Ok(Trial::Running),
-        Outcome::Fails(failing) => look_into(guest, ordinary, number, failing),
+    match ordinary.judgement(guest, number, Departing::Drawn)? {
+        Judgement::Well => Ok(Trial::Well),
+        Judgement::Cut => Ok(Trial::Running),
+        Judgement::Fails(failing) => look_into(guest, ordinary, number, failing),
     }
 }
 
@@ -73,11 +73,11 @@ fn look_into(
     number: u32,
     failing: Failing,
 ) -> Result<Trial, OutOfMemory> {
-    match ordinary.outcome(guest, number, Departing::NONE)? {
-        Outcome::Fails(_) => return Ok(Trial::Ordinary),
+    match ordinary.judgement(guest, number, Departing::NONE)? {
+        Judgement::Fails(_) => return Ok(Trial::Ordinary),
         // What hangs isn't told from what would only take longer.
-        Outcome::Cut if failing == Failing::Stuck => return Ok(Trial::Running),
-        Outcome::Cut | Outcome::Well => {}
+        Judgement::Cut if failing == Failing::Stuck => return Ok(Trial::Running),
+        Judgement::Cut | Judgement::Well => {}
     }
     if failing == Failing::Stuck && !ordinary.ends_well {
         return Ok(Trial::Unnamed);
@@ -86,7 +86,7 @@ fn look_into(
     let fewer = shortened(guest, ordinary, number, failing, &drawn)?;
     // What seemed to run on for ever may end after all.
     for departures in [fewer, drawn] {
-        if let Outcome::Fails(failing) = ordinary.outcome(
+        if let Judgement::Fails(failing) = ordinary.judgement(
             guest,
             number,
             Departing::Listed(&departures),

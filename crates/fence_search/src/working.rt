@@ -8,10 +8,10 @@ use std::alloc::Global;
 use std::sync::atomic::{AtomicU64, Ordering};
 use std::thread::{self, Threads};
 
-/// What came of an execution, which is told by its place in the block.
+/// What came of an execution, which is told by its index in the block.
 #[derive(Drop)]
 struct Tried {
-    place: u32,
+    index: u32,
     trial: Trial,
 }
 
@@ -58,9 +58,9 @@ fn empty_slots(alloc: Global, count: u32) -> Result<Vec<Option<Trial>>, OutOfMem
 /// Puts what was found into the slots of the executions.
 fn put(slots: &mut [Option<Trial>], tried: Vec<Tried>) {
     for one in tried {
-        let place = one.place as usize;
-        if place < slots.len() {
-            slots[place] = Some(one.trial);
+        let index = one.index as usize;
+        if index < slots.len() {
+            slots[index] = Some(one.trial);
         }
     }
 }
@@ -77,15 +77,15 @@ fn work(
 {
     let mut tried = Vec::new(guest.alloc);
     for _ in 0..count {
-        let place = next.fetch_add(1, Ordering::SeqCst);
-        if place >= u64::from(count) {
+        let index = next.fetch_add(1, Ordering::SeqCst);
+        if index >= u64::from(count) {
             break;
         }
-        let place = place as u32;
-        let Ok(trial) = try_number(guest, ordinary, first + place) else {
+        let index = index as u32;
+        let Ok(trial) = try_number(guest, ordinary, first + index) else {
             break;
         };
-        if tried.push(Tried { place, trial }).is_err() {
+        if tried.push(Tried { index, trial }).is_err() {
             break;
         }
     }

@@ -1,4 +1,4 @@
--- What the lines of a list of places say, one after the other.
+-- What the lines of a list of gaps say, one after the other.
 use Rattle.std.proofs.Common.{◌≡◌, ◌∙◌, ℕ, suc, ◌+◌, List, [], ◌++◌, Option, Some, None, append_assoc, ap, drop, option_map, refl, sym, take, unwrap_or}
 use Rattle.fence_table.specs.Accepting.{Words, both, lines_said, said_in, to_end}
 

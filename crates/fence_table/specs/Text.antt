@@ -18,7 +18,7 @@ use Rattle.fence_table.specs.declared.moved.Direction.TheVariants.{Before, Behin
 use Rattle.fence_table.specs.declared.moved.Operation.{Operation}
 use Rattle.fence_table.specs.declared.moved.Passed.{Passed}
 use Rattle.fence_table.specs.declared.moved.Moved.{Moved}
-use Rattle.fence_table.specs.declared.place.Place.{Place}
+use Rattle.fence_table.specs.declared.gap.NamedGap.{NamedGap}
 use Rattle.fence_table.specs.declared.failure.Failure.{Failure}
 use Rattle.fence_table.specs.declared.failure.Failure.TheVariants.{Stopped, Otherwise, Stuck}
 use Rattle.fence_table.specs.declared.tally.Tally.{Tally}
@@ -26,7 +26,7 @@ use Rattle.fence_table.specs.declared.missing.Shown.{Shown}
 use Rattle.fence_table.specs.declared.missing.Missing.{Missing}
 use Rattle.fence_table.specs.declared.fence_table.FenceTable.{FenceTable}
 
--- ---- places
+-- ---- gaps
 
 -- one side of a fence, as assemblers write it
 abbrev pub side_word : Side → List ℕ
@@ -39,14 +39,14 @@ abbrev pub fence_words : FenceKind → List ℕ
 fence_words f = codes " fence " ++ side_word f.before ++ codes "," ++ side_word f.after
 
 -- where an instruction stands in a function: `hart_main+0x3c`
-abbrev pub function_place : SiteName → List ℕ
-function_place n = n.function.items ++ codes "+0x" ++ digits 16 false n.offset
+abbrev pub site_name_text : SiteName → List ℕ
+site_name_text n = n.function.items ++ codes "+0x" ++ digits 16 false n.offset
 
 abbrev pub name_word : Option SiteName → List ℕ
 name_word None = []
-name_word (Some n) = codes " " ++ function_place n
+name_word (Some n) = codes " " ++ site_name_text n
 
--- an instruction: its address, and its place in a function where one is known
+-- an instruction: its address, and where it stands in a function where one is known
 unfoldable pub site_words : Site → List ℕ
 site_words s = codes " " ++ hex 16 s.pc ++ name_word s.name
 
@@ -80,9 +80,9 @@ passed_words p = operation_words p.operation ++ codes " at" ++ site_words p.site
 
 -- ---- a missing fence
 
--- the place: between two instructions, the earlier one in the program first
-unfoldable pub place_text : Place → List ℕ
-place_text p = codes "between" ++ site_words p.earlier ++ codes "\nand" ++ site_words p.later ++ codes "\n"
+-- the gap: between two instructions, the earlier one in the program first
+unfoldable pub gap_text : NamedGap → List ℕ
+gap_text p = codes "between" ++ site_words p.earlier ++ codes "\nand" ++ site_words p.later ++ codes "\n"
 
 -- the operation that is out of order, its instruction, and what it moved past
 unfoldable pub moved_line : Moved → List ℕ
@@ -116,7 +116,7 @@ missing_line k f t = codes "missing " ++ decimal k ++ fence_words f ++ plans_wor
 
 unfoldable pub missing_text : List SeenRange → ℕ → Missing → List ℕ
 missing_text ranges k m =
-    missing_line k m.place.fence m.numbers ++ place_text m.place ++ moved_line m.moved
+    missing_line k m.gap.fence m.numbers ++ gap_text m.gap ++ moved_line m.moved
     ++ failure_text ranges m.failure ++ shown_line m.shown
 
 -- missing fences k, k + 1, ..

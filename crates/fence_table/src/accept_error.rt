@@ -5,7 +5,7 @@ ghost use Rattle.fence_table.specs.declared.accept_error.AcceptError.TheVariants
 use std::alloc::{AllocError, AllocFailed};
 use thiserror::Error;
 
-/// Why a list of places was not read.
+/// Why a list of gaps was not read.
 #[derive(Clone, Copy, Debug, PartialEq, Eq, Error)]
 pub enum AcceptError {
     /// Memory was refused.
@@ -13,7 +13,7 @@ pub enum AcceptError {
     OutOfMemory,
     /// A line, counted from 1, is neither empty nor a comment, and has not two words with one blank between them.
     #[error("line {0} of the places to accept has not two words")]
-    NotAPlace(u64),
+    NotAGap(u64),
 }
 
 impl AcceptError {
@@ -23,7 +23,7 @@ impl AcceptError {
     {
         match self {
             AcceptError::OutOfMemory => 20,
-            AcceptError::NotAPlace(_) => 76,
+            AcceptError::NotAGap(_) => 76,
         }
     }
 }

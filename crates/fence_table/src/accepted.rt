@@ -2,19 +2,19 @@ ghost use Rattle.std.specs.Prelude.{◌≡◌, ◌⊎◌, ◌+◌, ◌≤◌, �
 ghost use Rattle.std.specs.List.{list_all, prefix_len};
 ghost use Rattle.hunt_table.specs.Names.{is_name_byte};
 ghost use Rattle.std.specs.Str.{bytes_eq};
-ghost use Rattle.fence_table.specs.Accepting.{accepted_in, has_place, is_name, is_of, is_word, names, said_in, to_blank, words_at};
+ghost use Rattle.fence_table.specs.Accepting.{accepted_in, has_gap, is_name, is_of, is_word, names, said_in, to_blank, words_at};
 ghost use Rattle.fence_table.specs.declared.accept_error.AcceptError.TheVariants as refusals;
 
 use crate::accept_error::AcceptError;
-use crate::place::Place;
+use crate::gap::NamedGap;
 use crate::site::{Site, SiteName};
-use crate::writing::add_function_place;
+use crate::writing::add_site_name;
 use pages::OutOfMemory;
 use report_lines::Line;
 use std::alloc::Global;
 use std::marker::Model;
 
-/// The two words of a place that is known.
+/// The two words of a gap that is known.
 #[derive(Drop)]
 struct Pair {
     earlier: Vec<u8>,
@@ -29,7 +29,7 @@ impl Model for Pair {
     ghost view = { λ p. (p.earlier.items, p.later.items) };
 }
 
-/// Places at which a fence is known to be missing.
+/// Gaps at which a fence is known to be missing.
 #[derive(Drop)]
 pub struct Accepted {
     pairs: Vec<Pair>,
@@ -45,39 +45,39 @@ impl Model for Accepted {
 }
 
 impl Accepted {
-    /// Reads a list of places: two words a line with one blank between them, the instructions of the place, each as the table of missing
+    /// Reads a list of gaps: two words a line with one blank between them, the instructions of the gap, each as the table of missing
     /// fences prints it: by its address of 16 digits, or by its function. An empty line says nothing, nor does one that begins with `#`.
     ///
     /// # Errors
     ///
-    /// `NotAPlace` for the first line that is none of these; `OutOfMemory`.
+    /// `NotAGap` for the first line that is none of these; `OutOfMemory`.
     pub fn read(alloc: Global, text: &[u8]) -> Result<Accepted, AcceptError>
         ensures found { IfOk result (λ a. accepted_in text.now ≡ Some a) }
         ensures errors { IfErr result (λ e. (e ≡ refusals.OutOfMemory) ⊎ (accepted_in text.now ≡ None)) }
     {
         let mut pairs = Vec::new(alloc);
         let mut rest = text;
-        for place in 0..text.len() {
+        for index in 0..text.len() {
             let end = length_before(rest, b'\n');
             if !add_line(alloc, &mut pairs, &rest[..end])? {
-                return Err(AcceptError::NotAPlace(place as u64 + 1));
+                return Err(AcceptError::NotAGap(index as u64 + 1));
             }
             rest = after(rest, end);
         }
         Ok(Accepted { pairs })
     }
 
-    /// Whether a place is among them.
+    /// Whether a gap is among them.
     ///
     /// # Errors
     ///
     /// `OutOfMemory` alone.
-    pub fn has(&self, alloc: Global, place: &Place) -> Result<bool, OutOfMemory>
-        ensures { IfOk result (λ b. b ≡ has_place self.now place.now) }
+    pub fn has(&self, alloc: Global, gap: &NamedGap) -> Result<bool, OutOfMemory>
+        ensures { IfOk result (λ b. b ≡ has_gap self.now gap.now) }
     {
         let mut rest = self.pairs.as_slice();
         while let [pair, after @ ..] = rest {
-            if is_of(alloc, pair, place)? {
+            if is_of(alloc, pair, gap)? {
                 return Ok(true);
             }
             rest = after;
@@ -103,7 +103,7 @@ fn add_line(alloc: Global, pairs: &mut Vec<Pair>, line: &[u8]) -> Result<bool, O
     }
 }
 
-/// Adds a place.
+/// Adds a gap.
 fn add_pair(
     alloc: Global,
     pairs: &mut Vec<Pair>,
@@ -160,32 +160,32 @@ fn length_before(bytes: &[u8], end: u8) -> usize
     ensures count { result ≡ prefix_len (λ b. not (b == end)) bytes.now }
     ensures within { result ≤ length bytes.now }
 {
-    for (place, byte) in bytes.iter().enumerate() {
+    for (position, byte) in bytes.iter().enumerate() {
         if *byte == end {
-            return place;
+            return position;
         }
     }
     bytes.len()
 }
 
-/// What stands behind the byte at a place.
-fn after(bytes: &[u8], place: usize) -> &[u8]
-    requires { place ≤ length bytes.now }
-    ensures { result.now ≡ drop (place + 1) bytes.now }
+/// What stands behind the byte at a position.
+fn after(bytes: &[u8], position: usize) -> &[u8]
+    requires { position ≤ length bytes.now }
+    ensures { result.now ≡ drop (position + 1) bytes.now }
 {
-    if place < bytes.len() {
-        &bytes[place + 1..]
+    if position < bytes.len() {
+        &bytes[position + 1..]
     } else {
         &[]
     }
 }
 
-/// Whether the words name the instructions of a place.
-fn is_of(alloc: Global, pair: &Pair, place: &Place) -> Result<bool, OutOfMemory>
-    ensures { IfOk result (λ b. b ≡ is_of place.now pair.now) }
+/// Whether the words name the instructions of a gap.
+fn is_of(alloc: Global, pair: &Pair, gap: &NamedGap) -> Result<bool, OutOfMemory>
+    ensures { IfOk result (λ b. b ≡ is_of gap.now pair.now) }
 {
-    if names(alloc, &pair.earlier, &place.earlier)? {
-        names(alloc, &pair.later, &place.later)
+    if names(alloc, &pair.earlier, &gap.earlier)? {
+        names(alloc, &pair.later, &gap.later)
     } else {
         Ok(false)
     }
@@ -211,7 +211,7 @@ fn is_name(alloc: Global, word: &[u8], name: &Option<SiteName>) -> Result<bool, 
         None => Ok(false),
         Some(name) => {
             let mut text = Line::new(alloc);
-            add_function_place(alloc, &mut text, name)?;
+            add_site_name(alloc, &mut text, name)?;
             Ok(are_same(word, text.as_bytes()))
         }
     }

@@ -16,7 +16,7 @@ pub struct FenceTable {
     pub unnamed: Tally,
     /// Numbers whose executions were cut off while harts ran, and of which nothing else is known.
     pub running: Tally,
-    /// Numbers that fail for want of a fence at a place that was to be left out.
+    /// Numbers that fail for want of a fence at a gap that was to be left out.
     pub accepted: Tally,
     /// Beginning with the fence for want of which the most numbers fail.
     pub missing: Vec<Missing>,

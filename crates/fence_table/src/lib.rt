@@ -1,4 +1,4 @@
-//! What a search for missing fences tells: the places where one is missing, each with an execution that shows it, and their text.
+//! What a search for missing fences tells: the gaps where one is missing, each with an execution that shows it, and their text.
 #![tactic(auto)]
 
 mod accept_error;
@@ -6,9 +6,9 @@ mod accepted;
 mod failure;
 mod fence_kind;
 mod fence_table;
+mod gap;
 mod missing;
 mod moved;
-mod place;
 mod site;
 mod tally;
 mod writing;
@@ -18,9 +18,9 @@ pub use accepted::Accepted;
 pub use failure::Failure;
 pub use fence_kind::{FenceKind, Side};
 pub use fence_table::FenceTable;
+pub use gap::NamedGap;
 pub use missing::{Missing, Shown};
 pub use moved::{Direction, Moved, Operation, Passed};
-pub use place::Place;
 pub use site::{Site, SiteName};
 pub use tally::Tally;
 pub use writing::write_fences;

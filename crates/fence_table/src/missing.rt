@@ -1,6 +1,6 @@
 use crate::failure::Failure;
+use crate::gap::NamedGap;
 use crate::moved::Moved;
-use crate::place::Place;
 use crate::tally::Tally;
 
 /// The execution that shows a fault: that of a number, with just the departures that it needs.
@@ -18,10 +18,10 @@ pub struct Shown {
 /// A missing fence, and an execution that shows it.
 #[derive(Drop)]
 pub struct Missing {
-    pub place: Place,
+    pub gap: NamedGap,
     /// The numbers whose executions fail for want of this fence, and of none that is told before it.
     pub numbers: Tally,
-    /// The operation that is out of order across the place in the execution that is shown.
+    /// The operation that is out of order across the gap in the execution that is shown.
     pub moved: Moved,
     /// How that execution fails.
     pub failure: Failure,

@@ -9,7 +9,7 @@ pub struct Operation {
     pub access: Access,
 }
 
-/// Where an operation stands in memory, beside its place in the program.
+/// Where an operation stands in memory, beside its position in the program.
 #[derive(Clone, Copy, Debug, PartialEq, Eq)]
 pub enum Direction {
     /// It was done early: an operation that it would have seen, or that would have seen nothing of it, is behind it.

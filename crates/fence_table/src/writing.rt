@@ -1,6 +1,6 @@
+mod gaps;
 mod missing;
 mod operations;
-mod places;
 
 ghost use Rattle.std.specs.Prelude.{◌≡◌, ◌++◌, Err, OnOk, codes};
 ghost use Rattle.host_io.specs.Taken.{WritesText};
@@ -8,8 +8,8 @@ ghost use Rattle.fence_table.specs.Text.{fences_text, header_text, numbers_line,
 
 use crate::fence_table::FenceTable;
 use crate::tally::Tally;
+pub(crate) use crate::writing::gaps::add_site_name;
 use crate::writing::missing::add_each_missing;
-pub(crate) use crate::writing::places::add_function_place;
 use host_io::{RunError, Sink, put_all};
 use pages::OutOfMemory;
 use report_lines::Line;

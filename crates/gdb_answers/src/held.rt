@@ -4,8 +4,8 @@ ghost use Rattle.std.specs.Prelude.{◌≡◌, ◌<◌, ◌^◌, ◌++◌, [], L
 ghost use Rattle.pages.specs.Memory.{in_range, width_bytes};
 ghost use Rattle.round_schedule.specs.declared.event.Event.{Event};
 ghost use Rattle.round_schedule.specs.Accesses.{writes};
-ghost use Rattle.round_schedule.specs.Held.{any_byte, held_after, held_from, kept_by_own, unless};
-ghost use Rattle.round_schedule.specs.Tables.{Tied};
+ghost use Rattle.round_schedule.specs.Held.{any_byte, held_after, held_from, held_after_own, unless};
+ghost use Rattle.round_schedule.specs.Reservations.{Tied};
 
 use pages::OutOfMemory;
 use round_schedule::{Access, Event, Span};
@@ -16,22 +16,22 @@ pub(crate) fn no_reservations(alloc: Global, harts: u32) -> Result<Vec<Option<Sp
     ensures count { IfOk result (λ v. length v.items ≡ harts) }
     ensures tied { IfOk result (λ v. Tied v.items []) }
 {
-    let mut table = Vec::new(alloc);
+    let mut reservations = Vec::new(alloc);
     for _i in 0..harts {
-        table.push(None)?;
+        reservations.push(None)?;
     }
-    Ok(table)
+    Ok(reservations)
 }
 
 /// Those behind some events more.
-pub(crate) fn note(table: &mut Vec<Option<Span>>, events: &[Event])
-    requires few { length table.old.items < 2 ^ 32 }
-    ensures count { length table.new.items ≡ length table.old.items }
-    ensures tied { (t : List Event) → Tied table.old.items t →
-        Tied table.new.items (t ++ events.now) }
+pub(crate) fn note(reservations: &mut Vec<Option<Span>>, events: &[Event])
+    requires few { length reservations.old.items < 2 ^ 32 }
+    ensures count { length reservations.new.items ≡ length reservations.old.items }
+    ensures tied { (t : List Event) → Tied reservations.old.items t →
+        Tied reservations.new.items (t ++ events.now) }
 {
-    for hart in 0..table.len() {
-        table[hart] = held_from(hart as u32, events, table[hart]);
+    for hart in 0..reservations.len() {
+        reservations[hart] = held_from(hart as u32, events, reservations[hart]);
     }
 }
 
@@ -52,15 +52,15 @@ fn held_after(hart: u32, event: &Event, before: Option<Span>) -> Option<Span>
     ensures { result ≡ held_after hart event.now before }
 {
     if u32::from(event.hart) == hart {
-        kept_by_own(&event.access, before)
+        held_after_own(&event.access, before)
     } else {
         unless_written(&event.access, before)
     }
 }
 
 /// What a hart's own access leaves of its reservation.
-fn kept_by_own(access: &Access, before: Option<Span>) -> Option<Span>
-    ensures { result ≡ kept_by_own access.now before }
+fn held_after_own(access: &Access, before: Option<Span>) -> Option<Span>
+    ensures { result ≡ held_after_own access.now before }
 {
     match *access {
         Access::LoadReserved { width, address, .. } => Some(Span { address, width }),

@@ -7,7 +7,7 @@ ghost use Rattle.host_io.specs.declared.error.RunError.TheVariants as refusals;
 ghost use Rattle.machine.specs.Machine.{Running, after_rounds};
 ghost use Rattle.machine.specs.Untraced.{IsAfter, IsUntraced};
 ghost use Rattle.round_schedule.specs.declared.event.Event.{Event};
-ghost use Rattle.round_schedule.specs.Tables.{Tied};
+ghost use Rattle.round_schedule.specs.Reservations.{Tied};
 ghost use Rattle.gdb_packets.specs.Writing.{packet_text};
 ghost use Rattle.gdb_answers.specs.Answers.{seen};
 ghost use Rattle.gdb_answers.specs.Reserved.{held_lines, is_seen, reservations_answer, reserved_text, seen_events, span_line, trace_at};
@@ -60,8 +60,16 @@ pub fn answer_reservations<R: Threads + Wait + Sync, K: Sink>(
         Some(sight) => {
             let mut machine = start.share()?;
             let done = sight.hart().done;
-            let table = table_at(rt, alloc, &mut machine, point.moment, done, harts, workers)?;
-            say_reservations(alloc, table.as_slice(), out)
+            let reservations = reservations_at(
+                rt,
+                alloc,
+                &mut machine,
+                point.moment,
+                done,
+                harts,
+                workers,
+            )?;
+            say_reservations(alloc, reservations.as_slice(), out)
         }
         None => write_reply(alloc, &Reply::Missing, out),
     }
@@ -69,7 +77,7 @@ pub fn answer_reservations<R: Threads + Wait + Sync, K: Sink>(
 
 /// The reservations at a moment of a hart that has done so many instructions, of a run that begins with this machine, which does the
 /// rounds up to there.
-fn table_at<R: Threads + Wait + Sync>(
+fn reservations_at<R: Threads + Wait + Sync>(
     rt: &R,
     alloc: Global,
     machine: &mut UntracedMachine,
@@ -87,13 +95,13 @@ fn table_at<R: Threads + Wait + Sync>(
         (trace_at moment done (after_rounds moment.rounds m))) }
     ensures refused { IfErr result (λ e. e ≡ refusals.OutOfMemory) }
 {
-    let mut table = table_after(rt, alloc, machine, moment.rounds, harts, workers)?;
-    note_seen(rt, alloc, machine, moment, done, workers, &mut table)?;
-    Ok(table)
+    let mut reservations = reservations_after(rt, alloc, machine, moment.rounds, harts, workers)?;
+    note_seen(rt, alloc, machine, moment, done, workers, &mut reservations)?;
+    Ok(reservations)
 }
 
 /// The reservations after so many rounds of a run that begins with this machine, which does them.
-fn table_after<R: Threads + Wait + Sync>(
+fn reservations_after<R: Threads + Wait + Sync>(
     rt: &R,
     alloc: Global,
     machine: &mut UntracedMachine,
@@ -112,12 +120,12 @@ fn table_after<R: Threads + Wait + Sync>(
         (after_rounds rounds m).state.trace) }
     ensures refused { IfErr result (λ e. e ≡ refusals.OutOfMemory) }
 {
-    let mut table = no_reservations(alloc, harts)?;
+    let mut reservations = no_reservations(alloc, harts)?;
     for _i in 0..rounds {
         let events = next_events(rt, alloc, machine, workers)?;
-        note(&mut table, events.as_slice());
+        note(&mut reservations, events.as_slice());
     }
-    Ok(table)
+    Ok(reservations)
 }
 
 /// Notes what the events of a machine's next round do to reservations, as far as they are seen at a moment of a hart.
@@ -128,15 +136,15 @@ fn note_seen<R: Threads + Wait + Sync>(
     moment: Moment,
     done: u64,
     workers: u32,
-    table: &mut Vec<Option<Span>>,
+    reservations: &mut Vec<Option<Span>>,
 ) -> Result<(), RunError>
     requires run { (m : Running) × IsUntraced m machine.old }
     requires rounds { machine.old.rounds + 1 < 2 ^ 32 }
     requires workers { (1 ≤ workers) × (workers ≤ 16) }
-    requires few { length table.old.items < 2 ^ 32 }
-    ensures count { OnOk result (length table.new.items ≡ length table.old.items) }
-    ensures tied { (m : Running) → IsUntraced m machine.old → (t : List Event) → Tied table.old.items t →
-        OnOk result (Tied table.new.items (t ++ seen_events moment done (round_events m))) }
+    requires few { length reservations.old.items < 2 ^ 32 }
+    ensures count { OnOk result (length reservations.new.items ≡ length reservations.old.items) }
+    ensures tied { (m : Running) → IsUntraced m machine.old → (t : List Event) → Tied reservations.old.items t →
+        OnOk result (Tied reservations.new.items (t ++ seen_events moment done (round_events m))) }
     ensures refused { IfErr result (λ e. e ≡ refusals.OutOfMemory) }
 {
     if is_parallel(moment.place.phase) {
@@ -144,7 +152,7 @@ fn note_seen<R: Threads + Wait + Sync>(
     }
     let events = next_events(rt, alloc, machine, workers)?;
     let seen = seen_of(alloc, events.as_slice(), moment, done)?;
-    note(table, seen.as_slice());
+    note(reservations, seen.as_slice());
     Ok(())
 }
 
@@ -178,29 +186,29 @@ fn is_seen(event: &Event, moment: Moment, done: u64) -> bool
 /// Answers with some reservations.
 fn say_reservations<K: Sink>(
     alloc: Global,
-    table: &[Option<Span>],
+    reservations: &[Option<Span>],
     out: &mut K,
 ) -> Result<(), RunError>
-    requires few { length table.now < 2 ^ 32 }
-    ensures writes { (t : List Event) → Tied table.now t → OnOk result (K.took out.new ≡ K.took out.old
-        ++ packet_text (encode_lower (reserved_text t (length table.now)))) }
+    requires few { length reservations.now < 2 ^ 32 }
+    ensures writes { (t : List Event) → Tied reservations.now t → OnOk result (K.took out.new ≡ K.took out.old
+        ++ packet_text (encode_lower (reserved_text t (length reservations.now)))) }
     ensures memory { result ≡ Err refusals.OutOfMemory → K.took out.new ≡ K.took out.old }
 {
-    match held_lines(alloc, table) {
+    match held_lines(alloc, reservations) {
         Ok(text) => say_or(alloc, text.as_slice(), NONE, out),
         Err(_) => Err(RunError::OutOfMemory),
     }
 }
 
 /// A line for each hart that has one.
-fn held_lines(alloc: Global, table: &[Option<Span>]) -> Result<Vec<u8>, OutOfMemory>
-    requires few { length table.now < 2 ^ 32 }
-    ensures { (t : List Event) → Tied table.now t →
-        IfOk result (λ text. text.items ≡ held_lines t (length table.now)) }
+fn held_lines(alloc: Global, reservations: &[Option<Span>]) -> Result<Vec<u8>, OutOfMemory>
+    requires few { length reservations.now < 2 ^ 32 }
+    ensures { (t : List Event) → Tied reservations.now t →
+        IfOk result (λ text. text.items ≡ held_lines t (length reservations.now)) }
 {
     let mut text = Vec::new(alloc);
-    for hart in 0..table.len() {
-        add_span(&mut text, hart as u32, table[hart])?;
+    for hart in 0..reservations.len() {
+        add_span(&mut text, hart as u32, reservations[hart])?;
     }
     Ok(text)
 }

@@ -47,7 +47,7 @@ pub record Began (gave held gave_then held_then : List ℕ) (draft : Draft) : Ty
   pub text : List ℕ
   pub on : GoesOn gave held gave_then held_then text
   pub came : CameSoFar text
-  pub kept : IsDraft text draft
+  pub gathered : IsDraft text draft
 
 -- ---- the end of a packet
 
@@ -74,7 +74,7 @@ module _ (a b c d e h : List ℕ) (bs : List ℕ) where
 -- ---- the data of a packet
 
 pub begins : (a b : List ℕ) (draft : Draft) → IsDraft [] draft → Began a b a b draft
-begins a b draft is = record { text = []; on = goes_nowhere a b; came = λ more. refl; kept = is }
+begins a b draft is = record { text = []; on = goes_nowhere a b; came = λ more. refl; gathered = is }
 
 module _ (a b c d e h : List ℕ) (draft : Draft) (so_far : Began a b c d draft) where
   pub frame_ends : (o : Option ℕ) → o ≡ None → GoesOn c d e h (option_to_list o) → IfNone o (h ≡ []) → EndsBy framed a b e h
@@ -90,7 +90,7 @@ module _ (a b c d e h : List ℕ) (draft : Draft) (so_far : Began a b c d draft)
         text = so_far.text ++ x ∷ [];
         on = goes_both _ _ _ _ _ _ _ _ so_far.on (at_text _ _ _ _ _ _ (ap (λ (v : ℕ). v ∷ []) same) on);
         came = came_one so_far.text x other so_far.came;
-        kept = adds so_far.text so_far.kept;
+        gathered = adds so_far.text so_far.gathered;
       }
 
   abbrev at_end : (o : Option ℕ) → Type 0
@@ -104,7 +104,7 @@ module _ (a b c d e h : List ℕ) (draft : Draft) (so_far : Began a b c d draft)
 
   pub frame_closes : (o : Option ℕ) → at_end o → (i j : List ℕ) (r : Result (Option Item) RunError) →
       ((bs : List ℕ) → IsDraft bs draft → IfOk r (λ x. Reads (closed_by bs) e h i j x)) → IfOk r (λ x. Reads framed a b i j x)
-  frame_closes o at i j (Ok x) told = reads_behind framed (closed_by so_far.text) _ (came_closed so_far.text so_far.came) a b e h i j (closing o at) x (told so_far.text so_far.kept)
+  frame_closes o at i j (Ok x) told = reads_behind framed (closed_by so_far.text) _ (came_closed so_far.text so_far.came) a b e h i j (closing o at) x (told so_far.text so_far.gathered)
   frame_closes o at i j (Err x) told = tt
 
   pub frame_loses : (o : Option ℕ) → at_end o → (i j : List ℕ) → ((bs : List ℕ) → Loses (closed_by bs) e h i j) → Loses framed a b i j

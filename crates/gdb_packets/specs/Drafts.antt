@@ -2,15 +2,15 @@
 use Rattle.std.specs.Prelude.{◌≡◌, ℕ, ◌%◌, ◌<◌, ◌≤◌, List, length, sum}
 use Rattle.gdb_packets.specs.declared.draft.Draft.{Draft}
 use Rattle.gdb_packets.specs.declared.draft.Fate.{Fate}
-use Rattle.gdb_packets.specs.declared.draft.Fate.TheVariants.{Kept, TooLong, Lost}
+use Rattle.gdb_packets.specs.declared.draft.Fate.TheVariants.{Whole, TooLong, Lost}
 use Rattle.gdb_packets.specs.Payload.{most}
 
 -- all of it is kept, or it is too long, or it found no memory
-abbrev pub IsKept : Fate → List ℕ → List ℕ → Type 0
-IsKept Kept kept bs = (kept ≡ bs) × (length bs ≤ most)
-IsKept TooLong kept bs = most < length bs
-IsKept Lost kept bs = Unit {0}
+abbrev pub HasFate : Fate → List ℕ → List ℕ → Type 0
+HasFate Whole gathered bs = (gathered ≡ bs) × (length bs ≤ most)
+HasFate TooLong gathered bs = most < length bs
+HasFate Lost gathered bs = Unit {0}
 
 pub record IsDraft (bs : List ℕ) (d : Draft) : Type 0 where
   pub sum : d.sum ≡ sum bs % 256
-  pub kept : IsKept d.fate d.bytes.items bs
+  pub gathered : HasFate d.fate d.bytes.items bs

@@ -1,5 +1,5 @@
 ghost use Rattle.std.specs.Prelude.{◌≡◌, ℕ, List, [], ◌∷◌, ◌++◌, ◌%◌, ◌<◌, ◌≤◌, IfOk, IfSome, length, sum};
-ghost use Rattle.gdb_packets.specs.Drafts.{IsDraft, IsKept};
+ghost use Rattle.gdb_packets.specs.Drafts.{IsDraft, HasFate};
 ghost use Rattle.gdb_packets.specs.Payload.{most};
 ghost use Rattle.gdb_packets.specs.Stream.{is_sum_of, told_of};
 ghost use Rattle.gdb_packets.specs.Views.{told_in};
@@ -13,8 +13,8 @@ use std::alloc::Global;
 /// What became of the bytes of a packet.
 #[derive(Clone, Copy, Debug, PartialEq, Eq)]
 pub(crate) enum Fate {
-    /// They are kept.
-    Kept,
+    /// They are all there.
+    Whole,
     /// They are more than a packet has.
     TooLong,
     /// They found no memory.
@@ -45,13 +45,13 @@ fn digit_value(digit: u8) -> Option<u8>
 /// Keeps a byte behind these, where there is room for it.
 fn keep(bytes: &mut Vec<u8>, byte: u8) -> Fate
     ensures { length bytes.old.items ≤ most →
-        IsKept result bytes.new.items (bytes.old.items ++ byte ∷ []) }
+        HasFate result bytes.new.items (bytes.old.items ++ byte ∷ []) }
 {
     if bytes.len() == MOST {
         return Fate::TooLong;
     }
     match bytes.push(byte) {
-        Ok(()) => Fate::Kept,
+        Ok(()) => Fate::Whole,
         Err(_) => Fate::Lost,
     }
 }
@@ -64,7 +64,7 @@ impl Draft {
         Draft {
             bytes: Vec::new(alloc),
             sum: 0,
-            fate: Fate::Kept,
+            fate: Fate::Whole,
         }
     }
 
@@ -73,7 +73,7 @@ impl Draft {
         ensures { (bs : List ℕ) → IsDraft bs self.old → IsDraft (bs ++ byte ∷ []) self.new }
     {
         self.sum = self.sum.wrapping_add(byte);
-        if self.fate == Fate::Kept {
+        if self.fate == Fate::Whole {
             self.fate = keep(&mut self.bytes, byte);
         }
     }
@@ -100,7 +100,7 @@ impl Draft {
             return Ok(Item::Spoilt);
         }
         match self.fate {
-            Fate::Kept => {}
+            Fate::Whole => {}
             Fate::TooLong => return Ok(Item::Spoilt),
             Fate::Lost => return Err(OutOfMemory),
         }

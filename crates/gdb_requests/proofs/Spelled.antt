@@ -2,7 +2,7 @@
 use Rattle.std.proofs.Common.{◌≡◌, ℕ, ◌+◌, ◌*◌, ◌-◌, ◌^◌, ◌<◌, ◌≤◌, Bool, true, List, [], ◌∷◌, length, drop, take, Option, Some, None, refl, sym, ap, subst, ◌∙◌, arith}
 use Rattle.std.specs.Prelude.{nat_lt, if◌then◌else◌, slice_index}
 use Rattle.std.proofs.Math.Seq.{take-length}
-use Rattle.gdb_requests.specs.Parts.{by_spelled, spelled_digit, spelled_from}
+use Rattle.gdb_requests.specs.Fields.{by_spelled, spelled_digit, spelled_from}
 
 abbrev rest : List ℕ → List ℕ
 rest t = take (length t - 1) (drop 1 t)

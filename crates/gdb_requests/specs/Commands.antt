@@ -2,7 +2,7 @@
 use Rattle.std.specs.Prelude.{ℕ, Bool, true, false, if◌then◌else◌, List, [], ◌∷◌, codes, Option, Some, None}
 use Rattle.gdb_requests.specs.declared.command.Command.{Command}
 use Rattle.gdb_requests.specs.declared.command.Command.TheVariants as commands
-use Rattle.gdb_requests.specs.Parts.{behind_spelled, spelled_number}
+use Rattle.gdb_requests.specs.Fields.{behind_spelled, spelled_number}
 
 -- the text is this word, spelled in hexadecimal digits, and nothing more
 abbrev pub is_all : Option (List ℕ) → Bool

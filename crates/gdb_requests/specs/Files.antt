@@ -4,7 +4,7 @@ use Rattle.gdb_requests.specs.declared.file_request.FileRequest.{FileRequest}
 use Rattle.gdb_requests.specs.declared.file_request.FileRequest.TheVariants.{Close, Describe, OpenImage, OpenOther, Read, Root}
 use Rattle.gdb_requests.specs.declared.request.Request.{Request}
 use Rattle.gdb_requests.specs.declared.request.Request.TheVariants as requests
-use Rattle.gdb_requests.specs.Parts.{behind, behind_spelled, by_address, by_three, by_two, number_from, or_else, three_numbers, two_numbers}
+use Rattle.gdb_requests.specs.Fields.{behind, behind_spelled, by_address, by_three, by_two, number_from, or_else, three_numbers, two_numbers}
 
 abbrev pub image_name : List ℕ
 image_name = codes "/recording/image"

@@ -3,7 +3,7 @@ use Rattle.std.specs.Prelude.{ℕ, List, codes, Option, Some, None}
 use Rattle.gdb_requests.specs.declared.request.Request.{Request}
 use Rattle.gdb_requests.specs.declared.request.Request.TheVariants as requests
 use Rattle.gdb_requests.specs.declared.request.Watch.TheVariants.{Access, Read, Write}
-use Rattle.gdb_requests.specs.Parts.{alone, behind, by_address, by_thread, by_two, number_from, or_else, thread_of, two_numbers}
+use Rattle.gdb_requests.specs.Fields.{alone, behind, by_address, by_thread, by_two, number_from, or_else, thread_of, two_numbers}
 use Rattle.gdb_requests.specs.Files.{file_of, name_of}
 use Rattle.gdb_requests.specs.Commands.{command_of}
 

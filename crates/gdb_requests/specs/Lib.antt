@@ -1,4 +1,4 @@
-pub mod Parts
+pub mod Fields
 pub mod Files
 pub mod Commands
 pub mod Grammar

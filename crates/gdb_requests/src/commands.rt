@@ -1,9 +1,9 @@
 ghost use Rattle.std.specs.Prelude.{◌≡◌, codes};
 ghost use Rattle.gdb_requests.specs.Commands.{by_rest, command_of, goto_of, hart_by, is_word};
-ghost use Rattle.gdb_requests.specs.Parts.{behind_spelled, spelled_number};
+ghost use Rattle.gdb_requests.specs.Fields.{behind_spelled, spelled_number};
 
 use crate::command::Command;
-use crate::parts::{behind_spelled, spelled_number};
+use crate::fields::{behind_spelled, spelled_number};
 
 /// A command of the user's.
 pub(crate) fn command_of(text: &[u8]) -> Command

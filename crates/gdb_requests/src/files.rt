@@ -1,9 +1,9 @@
 ghost use Rattle.std.specs.Prelude.{◌≡◌};
 ghost use Rattle.gdb_requests.specs.Files.{after_name, file_of, image_name, name_of};
-ghost use Rattle.gdb_requests.specs.Parts.{behind_spelled, number_from};
+ghost use Rattle.gdb_requests.specs.Fields.{behind_spelled, number_from};
 
+use crate::fields::{behind, behind_spelled, number_from, three_numbers, two_numbers};
 use crate::file_request::FileRequest;
-use crate::parts::{behind, behind_spelled, number_from, three_numbers, two_numbers};
 use crate::request::Request;
 
 /// The name of the program's image.

@@ -3,9 +3,9 @@
 
 mod command;
 mod commands;
+mod fields;
 mod file_request;
 mod files;
-mod parts;
 mod reading;
 mod request;
 mod steps;

@@ -1,10 +1,10 @@
 ghost use Rattle.std.specs.Prelude.{◌≡◌};
 ghost use Rattle.gdb_requests.specs.Grammar.{change_of, moving_of, query_of, reading_of, request_of, resume_of, signalled_by, watching_of, way_of};
-ghost use Rattle.gdb_requests.specs.Parts.{alone};
+ghost use Rattle.gdb_requests.specs.Fields.{alone};
 
 use crate::commands::command_of;
+use crate::fields::{behind, number_from, thread_of, two_numbers};
 use crate::files::{file_of, name_of};
-use crate::parts::{behind, number_from, thread_of, two_numbers};
 use crate::request::{Request, Watch};
 use crate::steps::{range_of, step_of};
 

@@ -3,7 +3,7 @@
 ghost use Rattle.std.specs.Prelude.{◌≡◌};
 ghost use Rattle.gdb_requests.specs.Grammar.{others_go, range_of, step_of};
 
-use crate::parts::{behind, number_from};
+use crate::fields::{behind, number_from};
 use crate::request::Request;
 
 /// A step, by its thread.

@@ -9,7 +9,7 @@ use Rattle.round_schedule.specs.declared.access.Stepped.{Stepped}
 use Rattle.round_schedule.specs.declared.access.Stepped.TheVariants.{Done, Waits, Stopped}
 use Rattle.round_schedule.specs.declared.event.Phase.{Phase}
 use Rattle.round_schedule.specs.declared.event.Phase.TheVariants.{Parallel, Serial}
-use Rattle.round_schedule.specs.Schedule.{HartRound, Outcome, SerialOutcome, State, Turn, Words, committed, first_or_zero, hart_rounds, joined, rest_of, round_of, run_of, serial_from, serial_next, turn_went}
+use Rattle.round_schedule.specs.Schedule.{HartRound, StepOutcome, SerialOutcome, State, Turn, Words, committed, first_or_zero, hart_rounds, joined, rest_of, round_of, run_of, serial_from, serial_next, turn_went}
 use Rattle.round_schedule.specs.Schedule.{turn_of as turned_by}
 use Rattle.round_schedule.proofs.PastEnds.{rounds_length}
 use Rattle.round_planner.specs.Quotas.{quotas_of}
@@ -63,7 +63,7 @@ unless_stopped n true ms below = All-nil (IsBelow n)
 unless_stopped n false ms below = below
 
 module _ {H C : Type 0} (w : Words H C) (n : ℕ) where
-  moved_below : (i : ℕ) → i < n → (f : Sight H → List (Move H)) → ((s : Sight H) → All (IsBelow n) (f s)) → (a : Stepped) (s : Sight H) (o : Outcome H) →
+  moved_below : (i : ℕ) → i < n → (f : Sight H → List (Move H)) → ((s : Sight H) → All (IsBelow n) (f s)) → (a : Stepped) (s : Sight H) (o : StepOutcome H) →
       All (IsBelow n) (moved_by i a s o f)
   moved_below i low f below (Done a) s o = All-cons (IsBelow n) (went_by i s o a) (f (seen_after s o)) low (below (seen_after s o))
   moved_below i low f below Waits s o = All-nil (IsBelow n)

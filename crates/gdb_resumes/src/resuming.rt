@@ -76,16 +76,16 @@ pub(crate) fn why_told(session: &Session, watch: Option<usize>, hart: Option<Har
     ensures { result ≡ why_told (state_of session.now) watch hart }
 {
     match watch {
-        Some(place) => named(&session.watches, place),
+        Some(index) => named(&session.watches, index),
         None => why(&session.software, &session.hardware, hart),
     }
 }
 
 /// The word for a watchpoint in a list.
-fn named(watches: &[Watchpoint], place: usize) -> Reason
-    ensures { result ≡ named (slice_get watches.now place) }
+fn named(watches: &[Watchpoint], index: usize) -> Reason
+    ensures { result ≡ named (slice_get watches.now index) }
 {
-    match watches.get(place) {
+    match watches.get(index) {
         Some(watch) => watch_reason(watch.kind, watch.range.start),
         None => Reason::Step,
     }

@@ -10,7 +10,7 @@ use Rattle.trace.specs.Traced.{IsTrace, Traced}
 use Rattle.trace.proofs.Growing.{beginning}
 use Rattle.hart_rounds.specs.declared.hart_end.HartEnd.{HartEnd}
 use Rattle.guest_rounds.specs.HartEnds.{HasPlaces, count_copied, harts_of, events_of_ends}
-use Rattle.guest_rounds.proofs.TraceKept.{places_on}
+use Rattle.guest_rounds.proofs.TraceHolds.{places_on}
 
 -- the events of harts 0 to i - 1 are added: what is left of them leads on to all
 pub record Adding (adopts : Bool) (round : ℕ) (os : List HartEnd) (old : Traced) (i : ℕ) (ps : List HartEnd) (t : Traced) : Type 0 where

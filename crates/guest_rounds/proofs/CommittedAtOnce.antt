@@ -7,7 +7,7 @@ use Rattle.pages.proofs.StoreLaws.{after-append}
 use Rattle.round_schedule.specs.declared.span.Span.{Span}
 use Rattle.round_schedule.specs.Held.{unless}
 use Rattle.round_schedule.specs.Schedule.{HartRound, all_stores}
-use Rattle.round_schedule.specs.Tables.{covered_by_others, entry}
+use Rattle.round_schedule.specs.Reservations.{covered_by_others, entry}
 use Rattle.store_buffer.specs.Covered.{stores_of}
 use Rattle.store_buffer.proofs.CoveredLaws.{after_with_stores, covered-with_stores}
 use Rattle.commit_phase.specs.Commit.{Committed, IsWritable, all_buffered, covered_from}
@@ -52,11 +52,11 @@ pub record WrittenOver (os : List HartEnd) (p q : Paged) (old new : List (Option
   pub ready : q.ready ≡ p.ready
   pub spare : q.spare ≡ p.spare
   pub size : length new ≡ length old
-  pub table : (h : ℕ) → h < length old → entry new h ≡ unless (covered_from 0 h (buffers os)) (entry old h)
+  pub reservations : (h : ℕ) → h < length old → entry new h ≡ unless (covered_from 0 h (buffers os)) (entry old h)
 
 pub committed_at_once : (os : List HartEnd) (p q : Paged) (old new : List (Option Span)) → WrittenOver os p q old new → (logs : Bool) (rs : List (HartRound Hart)) → AreEndsOf logs p.memory rs os → Committed rs p q old new
 committed_at_once os p q old new w logs rs a =
     all_committed rs p q old new
     (w.memory ∙ ap (λ (bs : List ℕ). record p.memory { bytes = bs }) (same_bytes logs p.memory p.memory.bytes rs os a))
     w.ready w.spare w.size
-    (λ h low. w.table h low ∙ unless_same _ _ (entry old h) (λ x. same_cover logs p.memory 0 h x rs os a))
+    (λ h low. w.reservations h low ∙ unless_same _ _ (entry old h) (λ x. same_cover logs p.memory 0 h x rs os a))

@@ -4,7 +4,7 @@ use Rattle.std.proofs.lemmas.List.{length-map}
 use Rattle.pages.specs.Memory.{Memory}
 use Rattle.round_schedule.specs.declared.access.Access.{Access}
 use Rattle.round_schedule.specs.declared.event.Phase.TheVariants.{Parallel, Serial}
-use Rattle.round_schedule.specs.TabledTurn.{log_events}
+use Rattle.round_schedule.specs.ReservingTurn.{log_events}
 use Rattle.round_schedule.specs.Events.{event_of, events_of}
 use Rattle.round_schedule.specs.Schedule.{Words, HartRound, began, events_from, first_or_zero, hart_rounds, rest_of}
 use Rattle.hart_step.specs.declared.hart.Hart.{Hart}

@@ -11,7 +11,7 @@ use Rattle.pages.specs.Memory.{Memory, store_fault, stored, after, is_code, any_
 use Rattle.pages.proofs.StoreLaws.{length-after}
 use Rattle.round_schedule.specs.declared.access.Stepped.{Stepped}
 use Rattle.round_schedule.specs.declared.access.Stepped.TheVariants.{Done, Waits, Stopped}
-use Rattle.round_schedule.specs.Schedule.{Outcome, Progress, HartRound, round_from, by_answer, next_of, went, began}
+use Rattle.round_schedule.specs.Schedule.{StepOutcome, Progress, HartRound, round_from, by_answer, next_of, went, began}
 use Rattle.store_buffer.specs.Covered.{with_byte, with_bytes, with_store, with_stores}
 use Rattle.hart_step.specs.declared.hart.Hart.{Hart}
 use Rattle.hart_step.specs.Step.{stepped}
@@ -35,7 +35,7 @@ same_fault m n a w e f =
     ap (λ (k : ℕ). cond (a % width_bytes w == 0) (cond (nat_le (a + width_bytes w) k) (cond (any_code n.code a (width_bytes w)) (Some StoreToCode) None) (Some StoreOutside)) (Some StoreMisaligned)) e
     ∙ ap (λ (rs : List Range). cond (a % width_bytes w == 0) (cond (nat_le (a + width_bytes w) (length m.bytes)) (cond (any_code rs a (width_bytes w)) (Some StoreToCode) None) (Some StoreOutside)) (Some StoreMisaligned)) f
 
-quiet_fits : (m n : Memory) (o : Outcome Hart) → length n.bytes ≡ length m.bytes → n.code ≡ m.code → Quiet n o → FitStores m o.stores
+quiet_fits : (m n : Memory) (o : StepOutcome Hart) → length n.bytes ≡ length m.bytes → n.code ≡ m.code → Quiet n o → FitStores m o.stores
 quiet_fits m n o e f (none g) = subst (FitStores m) (sym g) tt
 quiet_fits m n o e f (one s g h) = subst (FitStores m) (sym g) (sym (same_fault m n s.address s.width e f) ∙ h, tt)
 

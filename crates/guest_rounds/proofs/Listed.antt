@@ -56,9 +56,9 @@ pub harts_more : (os : List HartEnd) (i : ℕ) (o : HartEnd) (hs new : List Hart
 harts_more os i o hs new low here more e =
     more ∙ ap (λ (x : List Hart). x ++ o.hart ∷ []) e ∙ sym (harts-push (take i os) o) ∙ ap harts_of (sym (take_more os i o low ∙ ap (λ (x : HartEnd). take i os ++ x ∷ []) (sym here)))
 
-pub ready_kept : (p q : Paged) (os : List HartEnd) → KeepsPages p q → AreReady p os → AreReady q os
-ready_kept p q [] k f = tt
-ready_kept p q (o ∷ os) k f = (still_on p q o.buffer k f.0, ready_kept p q os k f.1)
+pub ready_stay : (p q : Paged) (os : List HartEnd) → KeepsPages p q → AreReady p os → AreReady q os
+ready_stay p q [] k f = tt
+ready_stay p q (o ∷ os) k f = (still_on p q o.buffer k f.0, ready_stay p q os k f.1)
 
 pub are_fit : (logs : Bool) (m : Memory) (rs : List (HartRound Hart)) (os : List HartEnd) → AreEndsOf logs m rs os → AreFit m os
 are_fit logs m [] [] a = tt

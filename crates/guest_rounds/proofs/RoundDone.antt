@@ -11,8 +11,8 @@ use Rattle.round_schedule.specs.declared.access.Stepped.TheVariants.{Done, Waits
 use Rattle.round_schedule.specs.declared.event.Event.{Event}
 use Rattle.round_schedule.specs.declared.event.Phase.TheVariants.{Parallel}
 use Rattle.round_schedule.specs.declared.span.Span.{Span}
-use Rattle.round_schedule.specs.ByTable.{Tabled, tabled_round, committed_table}
-use Rattle.round_schedule.specs.TabledTurn.{TabledTurn, TabledPhase, updated_by, tabled_turn_from, tabled_turn_taken, tabled_turn_next, tabled_turn_of, tabled_phase_from, tabled_phase_joined, log_events}
+use Rattle.round_schedule.specs.ByReservations.{Reserving, reserving_round, committed_reservations}
+use Rattle.round_schedule.specs.ReservingTurn.{ReservingTurn, ReservingPhase, updated_by, reserving_turn_from, reserving_turn_taken, reserving_turn_next, reserving_turn_of, reserving_phase_from, reserving_phase_joined, log_events}
 use Rattle.round_schedule.specs.Events.{events_of}
 use Rattle.round_schedule.specs.Schedule.{State, Words, HartRound, SerialOutcome, hart_rounds, all_stores, events_from, rest_of}
 use Rattle.commit_phase.specs.Commit.{Committed}
@@ -76,22 +76,22 @@ length-harts (o ∷ os) = ap suc (length-harts os)
 
 -- ---- the serial phase from what the rounds left
 
-tabled_phase_same : (W : Words Hart ConsoleState) (budget n i w : ℕ) (logs : Bool) (m : Memory) (rs : List (HartRound Hart)) (os : List HartEnd) (s : TabledPhase Hart ConsoleState) → AreEndsOf logs m rs os →
-    ((k : ℕ) → k < length os → is_waiting w (i + k) ≡ get_or (waits_of os) k false) → tabled_phase_from W budget n i (waiting_rounds w i (harts_of os)) s ≡ tabled_phase_from W budget n i rs s
-tabled_phase_same W budget n i w logs m [] [] s a f = refl
-tabled_phase_same W budget n i w logs m (r ∷ rs) [] s a f = absurd a
-tabled_phase_same W budget n i w logs m [] (o ∷ os) s a f = absurd a
-tabled_phase_same W budget n i w logs m (r ∷ rs) (o ∷ os) s a f =
+reserving_phase_same : (W : Words Hart ConsoleState) (budget n i w : ℕ) (logs : Bool) (m : Memory) (rs : List (HartRound Hart)) (os : List HartEnd) (s : ReservingPhase Hart ConsoleState) → AreEndsOf logs m rs os →
+    ((k : ℕ) → k < length os → is_waiting w (i + k) ≡ get_or (waits_of os) k false) → reserving_phase_from W budget n i (waiting_rounds w i (harts_of os)) s ≡ reserving_phase_from W budget n i rs s
+reserving_phase_same W budget n i w logs m [] [] s a f = refl
+reserving_phase_same W budget n i w logs m (r ∷ rs) [] s a f = absurd a
+reserving_phase_same W budget n i w logs m [] (o ∷ os) s a f = absurd a
+reserving_phase_same W budget n i w logs m (r ∷ rs) (o ∷ os) s a f =
     let waits : is_waiting w i ≡ r.waits = ap (is_waiting w) (omega arith) ∙ f 0 (omega arith) ∙ (waits_is a.0) in
-    tabled_phase_same W budget n (suc i) w logs m rs os (tabled_phase_joined s (tabled_turn_of W budget n s i o.hart (is_waiting w i))) a.1 (λ k low. ap (is_waiting w) (omega arith) ∙ f (suc k) (omega arith))
-    ∙ ap (λ (h : Hart). tabled_phase_from W budget n (suc i) rs (tabled_phase_joined s (tabled_turn_of W budget n s i h (is_waiting w i)))) (hart_is a.0)
-    ∙ ap (λ (b : Bool). tabled_phase_from W budget n (suc i) rs (tabled_phase_joined s (tabled_turn_of W budget n s i r.last.hart b))) waits
+    reserving_phase_same W budget n (suc i) w logs m rs os (reserving_phase_joined s (reserving_turn_of W budget n s i o.hart (is_waiting w i))) a.1 (λ k low. ap (is_waiting w) (omega arith) ∙ f (suc k) (omega arith))
+    ∙ ap (λ (h : Hart). reserving_phase_from W budget n (suc i) rs (reserving_phase_joined s (reserving_turn_of W budget n s i h (is_waiting w i)))) (hart_is a.0)
+    ∙ ap (λ (b : Bool). reserving_phase_from W budget n (suc i) rs (reserving_phase_joined s (reserving_turn_of W budget n s i r.last.hart b))) waits
 
 pub serial_is : (phase : SerialRound) (logs : Bool) (m : Memory) (rs : List (HartRound Hart)) (os : List HartEnd) (start : SharedState) → AreEndsOf logs m rs os → phase.waiting ≡ mask_of (waits_of os) →
     serial_done phase (harts_of os) start
-    ≡ tabled_phase_from (words_of start.pages.memory.code) phase.budget phase.round 0 rs (record { harts = []; bytes = start.pages.memory.bytes; console = start.console.console; table = start.reservations; log = [] })
+    ≡ reserving_phase_from (words_of start.pages.memory.code) phase.budget phase.round 0 rs (record { harts = []; bytes = start.pages.memory.bytes; console = start.console.console; reservations = start.reservations; log = [] })
 serial_is phase logs m rs os start a w =
-    tabled_phase_same (words_of start.pages.memory.code) phase.budget phase.round 0 phase.waiting logs m rs os _ a
+    reserving_phase_same (words_of start.pages.memory.code) phase.budget phase.round 0 phase.waiting logs m rs os _ a
     (λ k low. ap (λ (x : ℕ). is_waiting x (0 + k)) w ∙ ap (is_waiting (mask_of (waits_of os))) (omega arith) ∙ waiting_bit (waits_of os) k)
 
 -- where the accesses are kept, their events are those of the rounds
@@ -121,40 +121,40 @@ added : (a : Option Access) → length (option_to_list a) ≤ 1
 added None = omega arith
 added (Some a) = omega arith
 
-log_turned : (i k : ℕ) (y : Stepped) (p : TabledTurn Hart ConsoleState) (o : SerialOutcome Hart ConsoleState) (f : TabledTurn Hart ConsoleState → TabledTurn Hart ConsoleState) →
-    ((q : TabledTurn Hart ConsoleState) → length (f q).log ≤ length q.log + k) → length (tabled_turn_taken i y p o f).log ≤ length p.log + suc k
-log_turned i k (Done a) p o f rest = omega (arith, rest (record { hart = o.hart; bytes = after p.bytes o.stores; console = o.console; table = updated_by i a p.table; log = p.log ++ option_to_list a }), length-append p.log (option_to_list a), added a)
+log_turned : (i k : ℕ) (y : Stepped) (p : ReservingTurn Hart ConsoleState) (o : SerialOutcome Hart ConsoleState) (f : ReservingTurn Hart ConsoleState → ReservingTurn Hart ConsoleState) →
+    ((q : ReservingTurn Hart ConsoleState) → length (f q).log ≤ length q.log + k) → length (reserving_turn_taken i y p o f).log ≤ length p.log + suc k
+log_turned i k (Done a) p o f rest = omega (arith, rest (record { hart = o.hart; bytes = after p.bytes o.stores; console = o.console; reservations = updated_by i a p.reservations; log = p.log ++ option_to_list a }), length-append p.log (option_to_list a), added a)
 log_turned i k Waits p o f rest = omega arith
 log_turned i k (Stopped code) p o f rest = omega arith
 
-log_either : (b : Bool) (k : ℕ) (p q : TabledTurn Hart ConsoleState) → length q.log ≤ length p.log + k → length (cond b p q).log ≤ length p.log + k
+log_either : (b : Bool) (k : ℕ) (p q : ReservingTurn Hart ConsoleState) → length q.log ≤ length p.log + k → length (cond b p q).log ≤ length p.log + k
 log_either true k p q h = omega arith
 log_either false k p q h = h
 
-tabled_turn_log : (W : Words Hart ConsoleState) (n i k : ℕ) (d : TabledTurn Hart ConsoleState) → length (tabled_turn_from W n i k d).log ≤ length d.log + k
-unfolding tabled_turn_from
-tabled_turn_log W n i zero d = omega arith
-tabled_turn_log W n i (suc k) d = log_either (W.stopped d.hart) (suc k) d _ (log_turned i k (tabled_turn_next W n i d).answer d (tabled_turn_next W n i d) (tabled_turn_from W n i k) (tabled_turn_log W n i k))
+reserving_turn_log : (W : Words Hart ConsoleState) (n i k : ℕ) (d : ReservingTurn Hart ConsoleState) → length (reserving_turn_from W n i k d).log ≤ length d.log + k
+unfolding reserving_turn_from
+reserving_turn_log W n i zero d = omega arith
+reserving_turn_log W n i (suc k) d = log_either (W.stopped d.hart) (suc k) d _ (log_turned i k (reserving_turn_next W n i d).answer d (reserving_turn_next W n i d) (reserving_turn_from W n i k) (reserving_turn_log W n i k))
 
 count-append : (xs : List (List Access)) (l : List Access) → count_log (xs ++ l ∷ []) ≡ count_log xs + length l
 count-append [] l = omega arith
 count-append (x ∷ xs) l = omega (arith, count-append xs l)
 
-pub log_fits : (W : Words Hart ConsoleState) (budget n w i : ℕ) (hs : List Hart) (s : TabledPhase Hart ConsoleState) →
-    count_log (tabled_phase_from W budget n i (waiting_rounds w i hs) s).log ≤ count_log s.log + budget_from w budget i (length hs)
+pub log_fits : (W : Words Hart ConsoleState) (budget n w i : ℕ) (hs : List Hart) (s : ReservingPhase Hart ConsoleState) →
+    count_log (reserving_phase_from W budget n i (waiting_rounds w i hs) s).log ≤ count_log s.log + budget_from w budget i (length hs)
 log_fits W budget n w i [] s = omega arith
 log_fits W budget n w i (h ∷ hs) s =
-    let d = tabled_turn_of W budget n s i h (is_waiting w i) in
-    let one : length d.log ≤ 0 + budget_of w i budget = tabled_turn_log W n i (budget_of w i budget) (record { hart = h; bytes = s.bytes; console = s.console; table = s.table; log = [] }) in
-    let rest = log_fits W budget n w (suc i) hs (tabled_phase_joined s d) in
+    let d = reserving_turn_of W budget n s i h (is_waiting w i) in
+    let one : length d.log ≤ 0 + budget_of w i budget = reserving_turn_log W n i (budget_of w i budget) (record { hart = h; bytes = s.bytes; console = s.console; reservations = s.reservations; log = [] }) in
+    let rest = log_fits W budget n w (suc i) hs (reserving_phase_joined s d) in
     omega (arith, rest, one, count-append s.log d.log)
 
-pub log_length : (W : Words Hart ConsoleState) (budget n w i : ℕ) (hs : List Hart) (s : TabledPhase Hart ConsoleState) →
-    length (tabled_phase_from W budget n i (waiting_rounds w i hs) s).log ≡ length s.log + length hs
+pub log_length : (W : Words Hart ConsoleState) (budget n w i : ℕ) (hs : List Hart) (s : ReservingPhase Hart ConsoleState) →
+    length (reserving_phase_from W budget n i (waiting_rounds w i hs) s).log ≡ length s.log + length hs
 log_length W budget n w i [] s = omega arith
 log_length W budget n w i (h ∷ hs) s =
-    let d = tabled_turn_of W budget n s i h (is_waiting w i) in
-    omega (arith, log_length W budget n w (suc i) hs (tabled_phase_joined s d), length-append s.log (d.log ∷ []))
+    let d = reserving_turn_of W budget n s i h (is_waiting w i) in
+    omega (arith, log_length W budget n w (suc i) hs (reserving_phase_joined s d), length-append s.log (d.log ∷ []))
 
 -- ---- all parts together
 
@@ -165,12 +165,12 @@ pub spares_left : (n m : ℕ) (p q : Paged) → m ≡ n → q.ready ≡ p.ready 
 spares_left n m p q s e f h = subst (λ (k : ℕ). HasSpares k q) (sym s) (same_spares n p q e f h)
 
 -- a round that is done, and its events
-pub record DoneWith (r : Tabled Hart ConsoleState) (old new : Guest) (more : List Event) : Type 0 where
+pub record DoneWith (r : Reserving Hart ConsoleState) (old new : Guest) (more : List Event) : Type 0 where
   pub done : new ≡ guest_after r old
   pub events : more ≡ r.state.trace
 
 abbrev pub guest_by : List Hart → List ℕ → List Range → List (Option Span) → ConsoleState → Guest
-guest_by hs bs code t c = record { harts = hs; shared = record { memory = record { bytes = bs; code = code }; table = t; console = c } }
+guest_by hs bs code t c = record { harts = hs; shared = record { memory = record { bytes = bs; code = code }; reservations = t; console = c } }
 
 pub same_guest : (hs gs : List Hart) (bs cs : List ℕ) (code ranges : List Range) (t u : List (Option Span)) (c d : ConsoleState) → hs ≡ gs → bs ≡ cs → code ≡ ranges → t ≡ u → c ≡ d →
     guest_by hs bs code t c ≡ guest_by gs cs ranges u d
@@ -190,7 +190,7 @@ pub log_of : (phase : SerialRound) (bs : List Bool) (hs gs : List Hart) (start e
     TakesTurns (serial_done phase hs start) gs start end → LogFits (turns_of phase.budget bs) (length hs) end.log
 log_of phase bs hs gs start end same w x =
     let W = words_of start.pages.memory.code in
-    let s : TabledPhase Hart ConsoleState = record { harts = []; bytes = start.pages.memory.bytes; console = start.console.console; table = start.reservations; log = [] } in
+    let s : ReservingPhase Hart ConsoleState = record { harts = []; bytes = start.pages.memory.bytes; console = start.console.console; reservations = start.reservations; log = [] } in
     record {
       fits = omega (arith, ap count_log x.log, log_fits W phase.budget phase.round phase.waiting 0 hs s, ap (λ (y : ℕ). budget_from y phase.budget 0 (length hs)) w, ap (budget_from (mask_of bs) phase.budget 0) same, needed_is phase.budget bs);
       length = ap length x.log ∙ log_length W phase.budget phase.round phase.waiting 0 hs s ∙ omega arith;
@@ -208,34 +208,34 @@ pub finished_done : (logs : Bool) (plan : Planned) (phase : SerialRound) (n : �
     AreEndsOf logs old.shared.memory (next_rounds plan n old) os →
     phase.budget ≡ plan.budget → phase.round ≡ n + 1 → phase.waiting ≡ mask_of (waits_of os) → IsFinished phase (next_rounds plan n old) os old.shared new more →
     DoneWith (guest_round plan n old) old new more
-unfolding tabled_round
+unfolding reserving_round
 finished_done logs plan phase n old new more os a budget round waiting x =
     let m = old.shared.memory in
     let W = words_of m.code in
     let rs = hart_rounds W m.bytes (quotas_of plan n) old.harts in
     let committed = x.committed in
     let memory : x.start.pages.memory ≡ stored m (all_stores rs) = committed.memory ∙ ap (λ (y : Memory). stored y (all_stores rs)) x.kept in
-    let from : ℕ → ℕ → List Range → List ℕ → ConsoleState → List (Option Span) → TabledPhase Hart ConsoleState =
-    λ b k code bs c t. tabled_phase_from (words_of code) b k 0 rs (record { harts = []; bytes = bs; console = c; table = t; log = [] }) in
-    let done : serial_done phase (harts_of os) x.start ≡ from plan.budget (n + 1) m.code (after m.bytes (all_stores rs)) old.shared.console (committed_table 0 rs old.shared.table) =
+    let from : ℕ → ℕ → List Range → List ℕ → ConsoleState → List (Option Span) → ReservingPhase Hart ConsoleState =
+    λ b k code bs c t. reserving_phase_from (words_of code) b k 0 rs (record { harts = []; bytes = bs; console = c; reservations = t; log = [] }) in
+    let done : serial_done phase (harts_of os) x.start ≡ from plan.budget (n + 1) m.code (after m.bytes (all_stores rs)) old.shared.console (committed_reservations 0 rs old.shared.reservations) =
     serial_is phase logs m rs os x.start a waiting
     ∙ ap (λ (b : ℕ). from b phase.round x.start.pages.memory.code x.start.pages.memory.bytes x.start.console.console x.start.reservations) budget
     ∙ ap (λ (k : ℕ). from plan.budget k x.start.pages.memory.code x.start.pages.memory.bytes x.start.console.console x.start.reservations) round
     ∙ ap (λ (y : Memory). from plan.budget (n + 1) y.code y.bytes x.start.console.console x.start.reservations) memory
     ∙ ap (λ (c : ConsoleState). from plan.budget (n + 1) m.code (after m.bytes (all_stores rs)) c x.start.reservations) x.console
-    ∙ ap (λ (t : List (Option Span)). from plan.budget (n + 1) m.code (after m.bytes (all_stores rs)) old.shared.console t) committed.table in
+    ∙ ap (λ (t : List (Option Span)). from plan.budget (n + 1) m.code (after m.bytes (all_stores rs)) old.shared.console t) committed.reservations in
     let left = x.left in
     let served = x.served in
     record {
-      done = same_guest new.harts _ new.shared.memory.bytes _ new.shared.memory.code m.code new.shared.table _ new.shared.console _
-          (served.harts ∙ ap (λ (y : TabledPhase Hart ConsoleState). y.harts) done)
-          (ap (λ (y : Shared). y.memory.bytes) left ∙ served.pages.bytes ∙ ap (λ (y : TabledPhase Hart ConsoleState). y.bytes) done)
+      done = same_guest new.harts _ new.shared.memory.bytes _ new.shared.memory.code m.code new.shared.reservations _ new.shared.console _
+          (served.harts ∙ ap (λ (y : ReservingPhase Hart ConsoleState). y.harts) done)
+          (ap (λ (y : Shared). y.memory.bytes) left ∙ served.pages.bytes ∙ ap (λ (y : ReservingPhase Hart ConsoleState). y.bytes) done)
           (ap (λ (y : Shared). y.memory.code) left ∙ served.pages.code ∙ ap (λ (y : Memory). y.code) memory)
-          (ap (λ (y : Shared). y.table) left ∙ served.table ∙ ap (λ (y : TabledPhase Hart ConsoleState). y.table) done)
-          (ap (λ (y : Shared). y.console) left ∙ served.console ∙ ap (λ (y : TabledPhase Hart ConsoleState). y.console) done);
+          (ap (λ (y : Shared). y.reservations) left ∙ served.reservations ∙ ap (λ (y : ReservingPhase Hart ConsoleState). y.reservations) done)
+          (ap (λ (y : Shared). y.console) left ∙ served.console ∙ ap (λ (y : ReservingPhase Hart ConsoleState). y.console) done);
       events = x.events
           ∙ ap (λ (k : ℕ). events_of_rounds k rs x.end.log.closed) round
-          ∙ ap (λ (y : List (List Access)). events_from (n + 1) 0 rs ++ log_events (n + 1) 0 y) (served.log ∙ ap (λ (y : TabledPhase Hart ConsoleState). y.log) done);
+          ∙ ap (λ (y : List (List Access)). events_from (n + 1) 0 rs ++ log_events (n + 1) 0 y) (served.log ∙ ap (λ (y : ReservingPhase Hart ConsoleState). y.log) done);
     }
 
 pub waited_is : (logs : Bool) (m : Memory) (rs : List (HartRound Hart)) (os : List HartEnd) → AreEndsOf logs m rs os → count_true (waits_of os) ≡ count_waiting rs
@@ -248,23 +248,23 @@ abbrev pub whole : List Hart → List ℕ → ConsoleState → List Event → �
 whole hs bs c es k = record { harts = hs; bytes = bs; console = c; trace = es; rounds = k }
 
 -- the parts with the events so far
-abbrev pub traced_parts : ℕ → List Hart → List ℕ → List (Option Span) → ConsoleState → List Event → Tabled Hart ConsoleState
-traced_parts n hs bs t c es = record { state = whole hs bs c es n; table = t }
+abbrev pub traced_fields : ℕ → List Hart → List ℕ → List (Option Span) → ConsoleState → List Event → Reserving Hart ConsoleState
+traced_fields n hs bs t c es = record { state = whole hs bs c es n; reservations = t }
 
--- a round over the table looks at no event: it only adds its own
+-- a round over the reservations looks at no event: it only adds its own
 pub only_added : (W : Words Hart ConsoleState) (budget : ℕ) (quotas : ℕ → List ℕ) (n : ℕ) (hs : List Hart) (bs : List ℕ) (t : List (Option Span)) (c : ConsoleState) (es : List Event) →
-    let r = tabled_round W budget quotas (traced_parts n hs bs t c []) in
-    tabled_round W budget quotas (traced_parts n hs bs t c es) ≡ record { state = whole r.state.harts r.state.bytes r.state.console (es ++ r.state.trace) r.state.rounds; table = r.table }
-unfolding tabled_round
+    let r = reserving_round W budget quotas (traced_fields n hs bs t c []) in
+    reserving_round W budget quotas (traced_fields n hs bs t c es) ≡ record { state = whole r.state.harts r.state.bytes r.state.console (es ++ r.state.trace) r.state.rounds; reservations = r.reservations }
+unfolding reserving_round
 only_added W budget quotas n hs bs t c es =
     let rs = hart_rounds W bs (quotas n) hs in
-    let r = tabled_round W budget quotas (traced_parts n hs bs t c []) in
-    ap (λ (y : List Event). record { state = whole r.state.harts r.state.bytes r.state.console y r.state.rounds; table = r.table })
+    let r = reserving_round W budget quotas (traced_fields n hs bs t c []) in
+    ap (λ (y : List Event). record { state = whole r.state.harts r.state.bytes r.state.console y r.state.rounds; reservations = r.reservations })
     (append_assoc es (events_from (n + 1) 0 rs) _)
 
 -- the round is counted
-pub rounds_next : (W : Words Hart ConsoleState) (budget : ℕ) (quotas : ℕ → List ℕ) (m : Tabled Hart ConsoleState) → m.state.rounds + 1 ≡ (tabled_round W budget quotas m).state.rounds
-unfolding tabled_round
+pub rounds_next : (W : Words Hart ConsoleState) (budget : ℕ) (quotas : ℕ → List ℕ) (m : Reserving Hart ConsoleState) → m.state.rounds + 1 ≡ (reserving_round W budget quotas m).state.rounds
+unfolding reserving_round
 rounds_next W budget quotas m = refl
 
 -- a round that goes on so is finished

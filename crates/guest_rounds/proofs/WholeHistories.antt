@@ -8,7 +8,7 @@ use Rattle.hart_step.specs.Words.{words_of}
 use Rattle.hart_rounds.specs.declared.hart_end.HartEnd.{HartEnd}
 use Rattle.hart_rounds.specs.Starts.{Start, rounds_of}
 use Rattle.hart_rounds.specs.Ends.{end_of, round_at}
-use Rattle.kept_workers.specs.Histories.{IsWholeHistory}
+use Rattle.lasting_workers.specs.Histories.{IsWholeHistory}
 use Rattle.guest_rounds.specs.Guests.{Guest}
 use Rattle.guest_rounds.specs.HartEnds.{AllFit, AreEndsOf}
 use Rattle.guest_rounds.specs.NextStarts.{AreOfGuest, next_start, quotas_from}

@@ -3,7 +3,7 @@ use Rattle.std.specs.Prelude.{ℕ, List, [], Option, None, replicate}
 use Rattle.pages.specs.Memory.{Memory}
 use Rattle.round_schedule.specs.declared.event.Event.{Event}
 use Rattle.round_schedule.specs.declared.span.Span.{Span}
-use Rattle.round_schedule.specs.ByTable.{Tabled, tabled_round}
+use Rattle.round_schedule.specs.ByReservations.{Reserving, reserving_round}
 use Rattle.round_schedule.specs.Schedule.{State}
 use Rattle.round_planner.specs.Quotas.{Planned, quotas_of}
 use Rattle.elf_loader.specs.Image.{Loaded}
@@ -16,7 +16,7 @@ use Rattle.guest_rounds.specs.Opening.{opening_harts}
 -- what the harts share, as a run shows it: memory, the harts' reservations, and the console
 pub record Shared : Type 0 where
   pub memory : Memory
-  pub table : List (Option Span)
+  pub reservations : List (Option Span)
   pub console : ConsoleState
 
 pub record Guest : Type 0 where
@@ -24,7 +24,7 @@ pub record Guest : Type 0 where
   pub shared : Shared
 
 abbrev pub shared_of : SharedState → Shared
-shared_of s = record { memory = s.pages.memory; table = s.reservations; console = s.console.console }
+shared_of s = record { memory = s.pages.memory; reservations = s.reservations; console = s.console.console }
 
 abbrev pub guest_of : List Hart → SharedState → Guest
 guest_of hs s = record { harts = hs; shared = shared_of s }
@@ -35,7 +35,7 @@ opening_guest image input n = record {
   harts = opening_harts image.entry n 0 n;
   shared = record {
     memory = record { bytes = image.bytes; code = image.code };
-    table = replicate n None;
+    reservations = replicate n None;
     console = record { input = input; place = 0; output = [] };
   };
 }
@@ -44,27 +44,27 @@ opening_guest image input n = record {
 abbrev pub guest_state : ℕ → List Event → Guest → State Hart ConsoleState
 guest_state n es g = record { harts = g.harts; bytes = g.shared.memory.bytes; console = g.shared.console; trace = es; rounds = n }
 
--- the guest after n rounds as a state with its table, without the events of these rounds
-abbrev pub tabled_guest : ℕ → Guest → Tabled Hart ConsoleState
-tabled_guest n g = record {
+-- the guest after n rounds as a state with its reservations, without the events of these rounds
+abbrev pub reserving_guest : ℕ → Guest → Reserving Hart ConsoleState
+reserving_guest n g = record {
   state = guest_state n [] g;
-  table = g.shared.table;
+  reservations = g.shared.reservations;
 }
 
 -- its next round, with the round's own events alone
-abbrev pub guest_round : Planned → ℕ → Guest → Tabled Hart ConsoleState
-guest_round plan n g = tabled_round (words_of g.shared.memory.code) plan.budget (quotas_of plan) (tabled_guest n g)
+abbrev pub guest_round : Planned → ℕ → Guest → Reserving Hart ConsoleState
+guest_round plan n g = reserving_round (words_of g.shared.memory.code) plan.budget (quotas_of plan) (reserving_guest n g)
 
 abbrev pub guest_events : Planned → ℕ → Guest → List Event
 guest_events plan n g = (guest_round plan n g).state.trace
 
 -- the guest that a round leaves; no round changes which ranges are code
-abbrev pub guest_after : Tabled Hart ConsoleState → Guest → Guest
+abbrev pub guest_after : Reserving Hart ConsoleState → Guest → Guest
 guest_after r g = record {
   harts = r.state.harts;
   shared = record {
     memory = record { bytes = r.state.bytes; code = g.shared.memory.code };
-    table = r.table;
+    reservations = r.reservations;
     console = r.state.console;
   };
 }

@@ -1,7 +1,7 @@
 -- A round between its parallel phase and its commit.
 use Rattle.std.specs.Prelude.{◌≡◌, ℕ, Bool, List, length}
 use Rattle.round_planner.specs.Quotas.{Planned}
-use Rattle.hart_step.specs.CodeTables.{Shows}
+use Rattle.hart_step.specs.DecodedCode.{Shows}
 use Rattle.serial_phase.specs.declared.shared.SharedState.{SharedState}
 use Rattle.hart_rounds.specs.declared.hart_end.HartEnd.{HartEnd}
 use Rattle.guest_rounds.specs.Guests.{Guest, shared_of}

@@ -6,7 +6,7 @@ use Rattle.pages.specs.Paged.{Paged, is_page_ready}
 use Rattle.round_schedule.specs.declared.access.Access.{Access}
 use Rattle.round_schedule.specs.declared.event.Event.{Event}
 use Rattle.round_schedule.specs.declared.event.Phase.TheVariants.{Parallel}
-use Rattle.round_schedule.specs.TabledTurn.{log_events}
+use Rattle.round_schedule.specs.ReservingTurn.{log_events}
 use Rattle.round_schedule.specs.Events.{events_of}
 use Rattle.round_schedule.specs.Schedule.{HartRound, events_from}
 use Rattle.hart_step.specs.declared.hart.Hart.{Hart}
@@ -23,8 +23,8 @@ abbrev pub AreAtRest : List Hart → List HartEnd → Type 0
 AreAtRest hs os = (i : ℕ) (h : Hart) (o : HartEnd) → i < length hs → is_some (get_or hs i h).stop ≡ true → (get_or os i o).hart ≡ get_or hs i h
 
 -- where the second list has a hart that has stopped, the first has the same hart
-abbrev pub AreKept : List Hart → List Hart → Type 0
-AreKept hs gs = (i : ℕ) (h : Hart) → i < length hs → i < length gs → is_some (get_or gs i h).stop ≡ true → get_or gs i h ≡ get_or hs i h
+abbrev pub StoppedStay : List Hart → List Hart → Type 0
+StoppedStay hs gs = (i : ℕ) (h : Hart) → i < length hs → i < length gs → is_some (get_or gs i h).stop ≡ true → get_or gs i h ≡ get_or hs i h
 
 -- each byte of a buffer is a byte of memory that is not code
 abbrev pub AllFit : Memory → List (ℕ × ℕ) → Type 0

@@ -23,7 +23,7 @@ pub record IsFinished (phase : SerialRound) (rs : List (HartRound Hart)) (os : L
   pub start : SharedState
   pub end : SharedState
   pub kept : ready.memory ≡ old.memory
-  pub committed : Committed rs ready start.pages old.table start.reservations
+  pub committed : Committed rs ready start.pages old.reservations start.reservations
   pub console : start.console.console ≡ old.console
   pub served : TakesTurns (serial_done phase (harts_of os) start) new.harts start end
   pub left : new.shared ≡ shared_of end

@@ -17,7 +17,7 @@ use store_buffer::StoreBuffer;
 pub fn commit<G, R: Threads + Sync>(
     crew: &Crew<'_, G, R>,
     pages: &mut Pages,
-    table: &mut Reservations,
+    reservations: &mut Reservations,
     ends: &[HartEnd],
 )
     requires workers { 1 ≤ crew.now.workers }
@@ -26,15 +26,22 @@ pub fn commit<G, R: Threads + Sync>(
     requires ready { AreReady pages.old ends.now }
     ensures ready { pages.new.ready ≡ pages.old.ready }
     ensures spare { pages.new.spare ≡ pages.old.spare }
-    ensures size { length table.new ≡ length table.old }
+    ensures size { length reservations.new ≡ length reservations.old }
     ensures committed { (logs : Bool) (rs : List (HartRound Hart)) →
         AreEndsOf logs pages.old.memory rs ends.now →
-        Committed rs pages.old pages.new table.old table.new }
+        Committed rs pages.old pages.new reservations.old reservations.new }
 {
     if crew.workers > 1 && stores_lines(ends, crew.least_lines) {
-        commit_on(crew.rt, pages, table, ends, crew.workers, &OpenShards);
+        commit_on(
+            crew.rt,
+            pages,
+            reservations,
+            ends,
+            crew.workers,
+            &OpenShards,
+        );
     } else {
-        commit_all(pages, table, ends);
+        commit_all(pages, reservations, ends);
     }
 }
 

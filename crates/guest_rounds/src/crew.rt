@@ -1,6 +1,7 @@
 use hart_rounds::LogForm;
 
 /// How many stored lines of 64 bytes are worth starting threads for at the commit.
+// docs/decisions/threads.md
 pub const MANY_LINES: usize = 16_384;
 
 /// Who does the rounds of the harts and commits their stores: so many workers, and what is told of each hart.

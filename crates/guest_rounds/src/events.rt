@@ -1,6 +1,6 @@
 ghost use Rattle.std.specs.Prelude.{◌≡◌, ◌+◌, ◌*◌, ◌^◌, ◌<◌, ◌≤◌, ◌++◌, length, drop, true, if◌then◌else◌};
 ghost use Rattle.round_schedule.specs.declared.event.Phase.TheVariants.{Parallel, Serial};
-ghost use Rattle.round_schedule.specs.TabledTurn.{log_events};
+ghost use Rattle.round_schedule.specs.ReservingTurn.{log_events};
 ghost use Rattle.round_schedule.specs.Events.{events_of};
 ghost use Rattle.trace.specs.Traced.{IsTrace};
 ghost use Rattle.guest_rounds.specs.HartEnds.{HasPlaces, count_copied, harts_of, events_of_ends, turns_of, waits_of};

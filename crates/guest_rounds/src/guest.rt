@@ -5,7 +5,7 @@ use crate::decoding::decode_code;
 use crate::opening::opening_harts;
 use crate::spare_lists::SpareLists;
 use elf_loader::Image;
-use hart_step::{CodeTable, Hart};
+use hart_step::{DecodedCode, Hart};
 use pages::{OutOfMemory, Pages};
 use reservations::Reservations;
 use serial_phase::{Console, SerialLog, SharedState};
@@ -90,14 +90,14 @@ impl GuestState {
 
     /// The reservations of the harts.
     pub fn reservations(&self) -> &Reservations
-        ensures { result.now ≡ self.now.shared.table }
+        ensures { result.now ≡ self.now.shared.reservations }
     {
         &self.shared.reservations
     }
 
     /// There is one reservation's place for each hart.
     pub fn sizes_agree(&self)
-        ensures { length self.now.shared.table ≡ length self.now.harts }
+        ensures { length self.now.shared.reservations ≡ length self.now.harts }
     {
         let _harts = &self.harts;
     }
@@ -128,7 +128,7 @@ impl GuestState {
     {
         let alloc = pages.allocator();
         let known = &self.shared.code;
-        let code = CodeTable::new(alloc, &pages, known.first(), known.words().len())?;
+        let code = DecodedCode::new(alloc, &pages, known.first(), known.words().len())?;
         Ok(GuestState {
             harts: copied(alloc, &self.harts)?,
             spare: SpareLists::new(alloc),

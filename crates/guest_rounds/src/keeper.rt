@@ -16,6 +16,7 @@ use serial_phase::SerialLog;
 use trace::Trace;
 
 /// What becomes of the events of rounds: a trace keeps them, and `NoTrace` lets them go.
+// docs/decisions/storage.md
 pub trait EventKeeper {
     // Whether it takes the accesses of the harts, and not just their number.
     ghost logs: { Bool };

@@ -3,10 +3,10 @@
 ghost use Rattle.std.specs.Prelude.{◌≡◌, ◌<◌, ◌≤◌, ◌-◌, ℕ, [], IfOk, OnOk, length, slice_index, vec_capacity};
 ghost use Rattle.round_schedule.specs.Schedule.{hart_rounds};
 ghost use Rattle.round_planner.specs.Quotas.{quota_of, quotas_of};
-ghost use Rattle.hart_step.specs.CodeTables.{Shows};
+ghost use Rattle.hart_step.specs.DecodedCode.{Shows};
 ghost use Rattle.hart_step.specs.Words.{words_of};
 ghost use Rattle.hart_rounds.specs.Starts.{keeps_log, rounds_of};
-ghost use Rattle.guest_rounds.specs.HartEnds.{AreAtRest, AreEndsOf, AreKept, harts_of};
+ghost use Rattle.guest_rounds.specs.HartEnds.{AreAtRest, AreEndsOf, StoppedStay, harts_of};
 
 use crate::crew::Crew;
 use crate::spare_lists::SpareLists;
@@ -39,7 +39,7 @@ pub(crate) fn parallel<G: Gate + Sync, R: Threads + Wait + Sync>(
         shared.now.code.instructions }
     requires harts { length harts.now ≡ plan.now.harts }
     requires round { 1 ≤ round }
-    requires kept { AreKept harts.now (harts_of spare.old.ends.items) }
+    requires kept { StoppedStay harts.now (harts_of spare.old.ends.items) }
     ensures taken { spare.new.ends.items ≡ [] }
     ensures ends { IfOk result (λ os. AreEndsOf (keeps_log crew.now.form) shared.now.pages.memory
         (hart_rounds (words_of shared.now.pages.memory.code) shared.now.pages.memory.bytes
@@ -63,7 +63,7 @@ fn parallel_from<B: BookStart + Send + Sync, G: Gate + Sync, R: Threads + Wait +
     requires workers { (1 ≤ crew.now.workers) × (crew.now.workers ≤ 16) }
     requires start { start.now ≡ B.start }
     requires sized { length start.now.quotas ≡ length start.now.harts }
-    requires kept { AreKept start.now.harts (harts_of spare.old.ends.items) }
+    requires kept { StoppedStay start.now.harts (harts_of spare.old.ends.items) }
     ensures taken { spare.new.ends.items ≡ [] }
     ensures ends { IfOk result (λ os.
         AreEndsOf start.now.logs start.now.memory (rounds_of start.now) os.items) }
@@ -78,6 +78,7 @@ fn parallel_from<B: BookStart + Send + Sync, G: Gate + Sync, R: Threads + Wait +
 }
 
 /// Does the rounds of all harts on the calling thread, in hart order, each in the place of what an earlier round of the hart left.
+// docs/decisions/threads.md
 fn parallel_alone<G: Gate>(
     gate: &G,
     start: &RoundStart<'_>,
@@ -85,7 +86,7 @@ fn parallel_alone<G: Gate>(
     accesses: &mut Vec<Access>,
 ) -> Result<Vec<HartEnd>, OutOfMemory>
     requires sized { length start.now.quotas ≡ length start.now.harts }
-    requires kept { AreKept start.now.harts (harts_of ends.items) }
+    requires kept { StoppedStay start.now.harts (harts_of ends.items) }
     ensures { IfOk result (λ os.
         AreEndsOf start.now.logs start.now.memory (rounds_of start.now) os.items) }
 {
@@ -96,9 +97,9 @@ fn parallel_alone<G: Gate>(
 
 /// Sees that there is a place for each hart, those that are missing as of rounds that did nothing.
 fn make_as_many(start: &RoundStart<'_>, ends: &mut Vec<HartEnd>) -> Result<(), OutOfMemory>
-    requires { AreKept start.now.harts (harts_of ends.old.items) }
+    requires { StoppedStay start.now.harts (harts_of ends.old.items) }
     ensures many { OnOk result (length ends.new.items ≡ length start.now.harts) }
-    ensures kept { OnOk result (AreKept start.now.harts (harts_of ends.new.items)) }
+    ensures kept { OnOk result (StoppedStay start.now.harts (harts_of ends.new.items)) }
 {
     let alloc = start.pages().allocator();
     let harts = start.harts();
@@ -118,7 +119,7 @@ fn rounds_in_place<G: Gate>(
 ) -> Result<(), OutOfMemory>
     requires sized { length start.now.quotas ≡ length start.now.harts }
     requires many { length ends.old ≡ length start.now.harts }
-    requires kept { AreKept start.now.harts (harts_of ends.old) }
+    requires kept { StoppedStay start.now.harts (harts_of ends.old) }
     ensures { OnOk result (AreEndsOf start.now.logs start.now.memory
         (rounds_of start.now) ends.new) }
 {

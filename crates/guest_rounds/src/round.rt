@@ -4,15 +4,15 @@ ghost use Rattle.round_schedule.specs.declared.event.Event.{Event};
 ghost use Rattle.round_schedule.specs.Schedule.{HartRound, all_stores, hart_rounds};
 ghost use Rattle.round_planner.specs.Quotas.{quotas_of};
 ghost use Rattle.hart_step.specs.declared.hart.Hart.{Hart};
-ghost use Rattle.hart_step.specs.CodeTables.{Shows};
+ghost use Rattle.hart_step.specs.DecodedCode.{Shows};
 ghost use Rattle.hart_step.specs.Words.{words_of};
 ghost use Rattle.hart_rounds.specs.Starts.{keeps_log};
-ghost use Rattle.kept_workers.specs.Histories.{IsWholeHistory};
+ghost use Rattle.lasting_workers.specs.Histories.{IsWholeHistory};
 ghost use Rattle.guest_rounds.specs.Guests.{guest_events, guest_of, next_guest, shared_of};
 ghost use Rattle.guest_rounds.specs.Held.{most_of_round};
 ghost use Rattle.guest_rounds.specs.NextStarts.{AreOfGuest, next_start};
 ghost use Rattle.guest_rounds.specs.Rounds.{count_waiting};
-ghost use Rattle.guest_rounds.specs.HartEnds.{AreAtRest, AreFit, AreKept, AreEndsOf, count_accesses, count_true, harts_of, mask_of, waits_of};
+ghost use Rattle.guest_rounds.specs.HartEnds.{AreAtRest, AreFit, StoppedStay, AreEndsOf, count_accesses, count_true, harts_of, mask_of, waits_of};
 ghost use Rattle.guest_rounds.specs.Rounds.{IsFinished, MayFinish};
 
 use crate::committing::commit;
@@ -165,7 +165,7 @@ fn finish<E: EventKeeper, G, R: Threads + Sync>(
     ensures console { OnErr result (shared.new.console.console ≡ shared.old.console.console) }
     ensures untold { OnErr result ((es : List Event) → E.keeps keeper.old es →
         E.keeps keeper.new es) }
-    ensures kept { OnOk result (AreKept harts.new (harts_of ends.new)) }
+    ensures kept { OnOk result (StoppedStay harts.new (harts_of ends.new)) }
 {
     let turns = tally.waited * phase.budget;
     make_turn_room(shared, ends, turns)?;

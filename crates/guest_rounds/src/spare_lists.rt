@@ -6,6 +6,7 @@ use std::alloc::Global;
 use std::mem;
 
 /// Lists of the rounds before, kept for their room: no round allocates them anew.
+// docs/decisions/threads.md
 #[derive(Drop)]
 pub(crate) struct SpareLists {
     /// What the harts of an earlier round left. One that had stopped then isn't copied once more.

@@ -8,12 +8,12 @@ use Rattle.round_schedule.specs.declared.access.Stepped.{Stepped}
 use Rattle.round_schedule.specs.declared.access.Stepped.TheVariants.{Done, Waits, Stopped}
 use Rattle.round_schedule.specs.declared.event.Event.{Event}
 use Rattle.round_schedule.specs.declared.span.Span.{Span}
-use Rattle.round_schedule.specs.TabledTurn.{TabledTurn, tabled_turn_from, tabled_turn_next, tabled_turn_taken}
+use Rattle.round_schedule.specs.ReservingTurn.{ReservingTurn, reserving_turn_from, reserving_turn_next, reserving_turn_taken}
 use Rattle.round_schedule.specs.Past.{before_turn, hart_after, last_of, turn_of_waiting}
 use Rattle.round_schedule.specs.Schedule.{HartRound, SerialOutcome, State, Words, began, hart_round_of, hart_rounds, turn_from}
 use Rattle.round_schedule.specs.Sound.{counted}
-use Rattle.round_schedule.specs.Tables.{Tied, entry}
-use Rattle.round_schedule.proofs.PastAnswers.{HartAsked, TurnAsked, asked_there, tabled_turn_there, hart_asked}
+use Rattle.round_schedule.specs.Reservations.{Tied, entry}
+use Rattle.round_schedule.proofs.PastAnswers.{HartAsked, TurnAsked, asked_there, reserving_turn_there, hart_asked}
 use Rattle.round_schedule.proofs.PastAsking.{counts_steps}
 use Rattle.round_schedule.proofs.PastEnds.{no_past, round_at}
 use Rattle.round_schedule.proofs.PastParts.{parts_are, steps_from}
@@ -38,39 +38,39 @@ use Rattle.guest_rounds.proofs.RoundDone.{length-rounds}
 
 -- ---- a hart's count stays a count
 
-small_answered : (code : List Range) (n i k : ℕ) (d : TabledTurn Hart ConsoleState) (y : Stepped) → (tabled_turn_next (words_of code) n i d).answer ≡ y → ((z : TabledTurn Hart ConsoleState) → z.hart.done < 2 ^ 64 → (tabled_turn_from (words_of code) n i k z).hart.done < 2 ^ 64) →
-    d.hart.done < 2 ^ 64 → (tabled_turn_taken i y d (tabled_turn_next (words_of code) n i d) (tabled_turn_from (words_of code) n i k)).hart.done < 2 ^ 64
+small_answered : (code : List Range) (n i k : ℕ) (d : ReservingTurn Hart ConsoleState) (y : Stepped) → (reserving_turn_next (words_of code) n i d).answer ≡ y → ((z : ReservingTurn Hart ConsoleState) → z.hart.done < 2 ^ 64 → (reserving_turn_from (words_of code) n i k z).hart.done < 2 ^ 64) →
+    d.hart.done < 2 ^ 64 → (reserving_turn_taken i y d (reserving_turn_next (words_of code) n i d) (reserving_turn_from (words_of code) n i k)).hart.done < 2 ^ 64
 small_answered code n i k d (Done a) e rest low =
-    let o : SerialOutcome Hart ConsoleState = tabled_turn_next (words_of code) n i d in
-    let c : o.hart.done ≡ counted (Done a) d.hart.done = subst (λ (y : Stepped). o.hart.done ≡ counted y d.hart.done) e ((counts_done code).serial_counts n d.hart d.bytes d.console (entry d.table i)) in
+    let o : SerialOutcome Hart ConsoleState = reserving_turn_next (words_of code) n i d in
+    let c : o.hart.done ≡ counted (Done a) d.hart.done = subst (λ (y : Stepped). o.hart.done ≡ counted y d.hart.done) e ((counts_done code).serial_counts n d.hart d.bytes d.console (entry d.reservations i)) in
     rest _ (omega (arith, c))
 small_answered code n i k d Waits e rest low =
-    let o : SerialOutcome Hart ConsoleState = tabled_turn_next (words_of code) n i d in
-    let c : o.hart.done ≡ counted Waits d.hart.done = subst (λ (y : Stepped). o.hart.done ≡ counted y d.hart.done) e ((counts_done code).serial_counts n d.hart d.bytes d.console (entry d.table i)) in
+    let o : SerialOutcome Hart ConsoleState = reserving_turn_next (words_of code) n i d in
+    let c : o.hart.done ≡ counted Waits d.hart.done = subst (λ (y : Stepped). o.hart.done ≡ counted y d.hart.done) e ((counts_done code).serial_counts n d.hart d.bytes d.console (entry d.reservations i)) in
     omega (arith, c, low)
 small_answered code n i k d (Stopped z) e rest low =
-    let o : SerialOutcome Hart ConsoleState = tabled_turn_next (words_of code) n i d in
-    let c : o.hart.done ≡ counted (Stopped z) d.hart.done = subst (λ (y : Stepped). o.hart.done ≡ counted y d.hart.done) e ((counts_done code).serial_counts n d.hart d.bytes d.console (entry d.table i)) in
+    let o : SerialOutcome Hart ConsoleState = reserving_turn_next (words_of code) n i d in
+    let c : o.hart.done ≡ counted (Stopped z) d.hart.done = subst (λ (y : Stepped). o.hart.done ≡ counted y d.hart.done) e ((counts_done code).serial_counts n d.hart d.bytes d.console (entry d.reservations i)) in
     omega (arith, c, low)
 
-either_small : (b : Bool) (d e : TabledTurn Hart ConsoleState) → d.hart.done < 2 ^ 64 → e.hart.done < 2 ^ 64 → (cond b d e).hart.done < 2 ^ 64
+either_small : (b : Bool) (d e : ReservingTurn Hart ConsoleState) → d.hart.done < 2 ^ 64 → e.hart.done < 2 ^ 64 → (cond b d e).hart.done < 2 ^ 64
 either_small true d e x y = x
 either_small false d e x y = y
 
-tabled_turn_small : (code : List Range) (n i k : ℕ) (d : TabledTurn Hart ConsoleState) → d.hart.done < 2 ^ 64 → (tabled_turn_from (words_of code) n i k d).hart.done < 2 ^ 64
-unfolding tabled_turn_from
-tabled_turn_small code n i zero d low = low
-tabled_turn_small code n i (suc k) d low =
-    either_small ((words_of code).stopped d.hart) d _ low (small_answered code n i k d (tabled_turn_next (words_of code) n i d).answer refl (tabled_turn_small code n i k) low)
+reserving_turn_small : (code : List Range) (n i k : ℕ) (d : ReservingTurn Hart ConsoleState) → d.hart.done < 2 ^ 64 → (reserving_turn_from (words_of code) n i k d).hart.done < 2 ^ 64
+unfolding reserving_turn_from
+reserving_turn_small code n i zero d low = low
+reserving_turn_small code n i (suc k) d low =
+    either_small ((words_of code).stopped d.hart) d _ low (small_answered code n i k d (reserving_turn_next (words_of code) n i d).answer refl (reserving_turn_small code n i k) low)
 
 -- ---- two short turns
 
 -- a sight that there is where the past has a hart, on the bytes of d
-record SeesPast (x : Option (Sight Hart)) (at : Option Hart) (d : TabledTurn Hart ConsoleState) : Type 0 where
+record SeesPast (x : Option (Sight Hart)) (at : Option Hart) (d : ReservingTurn Hart ConsoleState) : Type 0 where
   none : at ≡ None → x ≡ None
   some : (g : Hart) → at ≡ Some g → x ≡ Some (record { hart = g; bytes = d.bytes })
 
-by_tests : (budget count k : ℕ) (x : Option (Sight Hart)) (xs : List Hart) (d e : TabledTurn Hart ConsoleState) (a b c : Bool) → TurnAsked (λ (h : Hart). h.done) budget count k xs d e → SeesPast x (slice_get xs count) d → count ≤ budget → nat_lt k count ≡ a → nat_eq count budget ≡ b → nat_eq e.hart.done d.hart.done ≡ c →
+by_tests : (budget count k : ℕ) (x : Option (Sight Hart)) (xs : List Hart) (d e : ReservingTurn Hart ConsoleState) (a b c : Bool) → TurnAsked (λ (h : Hart). h.done) budget count k xs d e → SeesPast x (slice_get xs count) d → count ≤ budget → nat_lt k count ≡ a → nat_eq count budget ≡ b → nat_eq e.hart.done d.hart.done ≡ c →
     x ≡ cond a None (cond b (Some (seen_at d)) (cond c (Some (record { hart = e.hart; bytes = d.bytes })) (Some (seen_at d))))
 by_tests budget count k x xs d e true b c t p few y z u = let lt : k < count = grind (arith, nat_tests) in p.none (t.fewer lt)
 by_tests budget count k x xs d e false true c t p few y z u = let le : count ≤ k = grind (arith, nat_tests) in let all : count ≡ budget = grind (arith, nat_tests) in p.some d.hart (t.all le all)
@@ -84,7 +84,7 @@ by_tests budget count k x xs d e false false false t p few y z u =
     let less : count < budget = grind (arith, nat_tests) in
     p.some d.hart (t.goes le less (λ same. let w : nat_eq e.hart.done d.hart.done ≡ true = grind (arith, nat_tests) in cc))
 
-found_is : (budget count : ℕ) (h : Hart) (x : Option (Sight Hart)) (xs : List Hart) (d e : TabledTurn Hart ConsoleState) → TurnAsked (λ (g : Hart). g.done) budget count (minus d.hart.done h.done) xs d e → SeesPast x (slice_get xs count) d → count ≤ budget → x ≡ found_by budget count h d e
+found_is : (budget count : ℕ) (h : Hart) (x : Option (Sight Hart)) (xs : List Hart) (d e : ReservingTurn Hart ConsoleState) → TurnAsked (λ (g : Hart). g.done) budget count (minus d.hart.done h.done) xs d e → SeesPast x (slice_get xs count) d → count ≤ budget → x ≡ found_by budget count h d e
 found_is budget count h x xs d e t p few = by_tests budget count (minus d.hart.done h.done) x xs d e _ _ _ t p few refl refl refl
 
 -- ---- within a round
@@ -94,13 +94,13 @@ wrapped a b x y = omega arith
 
 -- what the harts share in a state, and a place in a turn of its next round
 abbrev pub shared_by : List Range → State Hart ConsoleState → List (Option Span) → Shared
-shared_by code s table = record { memory = record { bytes = s.bytes; code = code }; table = table; console = s.console }
+shared_by code s reservations = record { memory = record { bytes = s.bytes; code = code }; reservations = reservations; console = s.console }
 
 abbrev pub place_by : ℕ → State Hart ConsoleState → ℕ → ℕ → TurnPlace
 place_by budget s i count = record { hart = i; round = s.rounds + 1; budget = budget; count = count }
 
 -- what is found of a hart that begins the round as h: its part of the parallel phase ended as g, after so many instructions
-pub record AskedAt (code : List Range) (budget : ℕ) (quotas : ℕ → List ℕ) (s : State Hart ConsoleState) (table : List (Option Span)) (i count done : ℕ) (h g : Hart) (waits : Bool) : Type 0 where
+pub record AskedAt (code : List Range) (budget : ℕ) (quotas : ℕ → List ℕ) (s : State Hart ConsoleState) (reservations : List (Option Span)) (i count done : ℕ) (h g : Hart) (waits : Bool) : Type 0 where
   pub few : done ≤ 1000000
   pub early : count < done → sight_after (words_of code) budget quotas s i count ≡ last_of (part_sights (words_of code) count (record { hart = h; bytes = s.bytes }))
   pub at_end : waits ≡ false → count ≡ done → (x : Sight Hart) → last_of (part_sights (words_of code) count (record { hart = h; bytes = s.bytes })) ≡ Some x →
@@ -108,7 +108,7 @@ pub record AskedAt (code : List Range) (budget : ℕ) (quotas : ℕ → List ℕ
   pub beyond : waits ≡ false → done < count → sight_after (words_of code) budget quotas s i count ≡ None
   pub over : done + budget < count → sight_after (words_of code) budget quotas s i count ≡ None
   pub in_turn : waits ≡ true → done ≤ count → count - done ≤ budget →
-      sight_after (words_of code) budget quotas s i count ≡ found_in (shared_by code s table) (place_by budget s i (count - done)) g (hart_rounds (words_of code) s.bytes (quotas s.rounds) s.harts)
+      sight_after (words_of code) budget quotas s i count ≡ found_in (shared_by code s reservations) (place_by budget s i (count - done)) g (hart_rounds (words_of code) s.bytes (quotas s.rounds) s.harts)
 
 abbrev pub there_is : Sight Hart → Option (Sight Hart)
 there_is x = Some x
@@ -116,8 +116,8 @@ there_is x = Some x
 same_sight : (x y : Sight Hart) → there_is x ≡ there_is y → x ≡ y
 same_sight x y e = cc
 
-module _ (code : List Range) (budget : ℕ) (quotas : ℕ → List ℕ) (s : State Hart ConsoleState) (table : List (Option Span)) (i count : ℕ) (h : Hart)
-    (tied : Tied table s.trace) (size : length table ≡ length s.harts) (bytes : IsBytes s.bytes) (there : slice_get s.harts i ≡ Some h) (low_i : i < length s.harts)
+module _ (code : List Range) (budget : ℕ) (quotas : ℕ → List ℕ) (s : State Hart ConsoleState) (reservations : List (Option Span)) (i count : ℕ) (h : Hart)
+    (tied : Tied reservations s.trace) (size : length reservations ≡ length s.harts) (bytes : IsBytes s.bytes) (there : slice_get s.harts i ≡ Some h) (low_i : i < length s.harts)
     (quota_low : slice_index (quotas s.rounds) i ≤ 1000000) (small : budget ≤ 1000) (low : h.done < 2 ^ 64) where
   abbrev W : Words Hart ConsoleState
   W = words_of code
@@ -166,9 +166,9 @@ module _ (code : List Range) (budget : ℕ) (quotas : ℕ → List ℕ) (s : Sta
       seen_in_part W budget quotas s i count h there part.last.hart (λ w. absurd (true≢false (sym w ∙ e))) (by_round.at_end e same)
       ∙ ap (λ (z : Sight Hart). there_is (record z { hart = part.last.hart })) (same_sight y x (sym (shorter_end W budget quotas s i count h there) ∙ f))
 
-  -- the state over the table after so many instructions of its turn
-  abbrev d : TabledTurn Hart ConsoleState
-  d = tabled_turn_there W budget s (hart_rounds W s.bytes (quotas s.rounds) s.harts) table i part.last.hart (count - k)
+  -- the state over the reservations after so many instructions of its turn
+  abbrev d : ReservingTurn Hart ConsoleState
+  d = reserving_turn_there W budget s (hart_rounds W s.bytes (quotas s.rounds) s.harts) reservations i part.last.hart (count - k)
 
   by_past : part.waits ≡ true → k ≤ count → (g : Hart) → hart_after W budget quotas s i count ≡ Some g → sight_after W budget quotas s i count ≡ Some (record { hart = g; bytes = d.bytes })
   by_past w le g e =
@@ -176,23 +176,23 @@ module _ (code : List Range) (budget : ℕ) (quotas : ℕ → List ℕ) (s : Sta
       let turn_left : ℕ → List ℕ = λ c. (turn_from W state.rounds i c (turn_start state part)).bytes in
       seen_in_turn W budget quotas s i count h there g w (omega (arith, le, did_k)) e
       ∙ ap (λ (c : ℕ). there_is (record { hart = g; bytes = turn_left c })) (omega (arith, did_k))
-      ∙ ap (λ (bs : List ℕ). there_is (record { hart = g; bytes = bs })) (turn_bytes W (sound code) budget i (count - k) s (quotas s.rounds) table part tied size bytes low_i)
+      ∙ ap (λ (bs : List ℕ). there_is (record { hart = g; bytes = bs })) (turn_bytes W (sound code) budget i (count - k) s (quotas s.rounds) reservations part tied size bytes low_i)
 
   by_turn : part.waits ≡ true → k ≤ count → count - k ≤ budget →
-      sight_after W budget quotas s i count ≡ found_in (shared_by code s table) (place_by budget s i (count - k)) part.last.hart (hart_rounds W s.bytes (quotas s.rounds) s.harts)
+      sight_after W budget quotas s i count ≡ found_in (shared_by code s reservations) (place_by budget s i (count - k)) part.last.hart (hart_rounds W s.bytes (quotas s.rounds) s.harts)
   by_turn w le few =
       let done_there : ℕ = minus d.hart.done part.last.hart.done in
-      let d_low : d.hart.done < 2 ^ 64 = tabled_turn_small code (s.rounds + 1) i (count - k) _ part_low in
-      let asked = asked_there W (sound code) (λ (g : Hart). g.done) (counts_done code) budget i (count - k) done_there s (quotas s.rounds) table part tied size bytes low_i w few (omega (arith, small)) part_low (omega arith)
+      let d_low : d.hart.done < 2 ^ 64 = reserving_turn_small code (s.rounds + 1) i (count - k) _ part_low in
+      let asked = asked_there W (sound code) (λ (g : Hart). g.done) (counts_done code) budget i (count - k) done_there s (quotas s.rounds) reservations part tied size bytes low_i w few (omega (arith, small)) part_low (omega arith)
       (wrapped part.last.hart.done d.hart.done part_low d_low) in
       let past : SeesPast (sight_after W budget quotas s i count) (slice_get (turn_of_waiting W budget (before_turn W budget s (hart_rounds W s.bytes (quotas s.rounds) s.harts) i) i part) (count - k)) d =
       record { none = λ e. no_sight W budget quotas s i count (by_round.in_turn le ∙ e); some = λ g e. by_past w le g (by_round.in_turn le ∙ e) } in
       found_is budget (count - k) part.last.hart _ _ d _ asked past few
 
-  pub asked_at : (g : Hart) (waits : Bool) → g ≡ part.last.hart → waits ≡ part.waits → AskedAt code budget quotas s table i count (minus g.done h.done) h g waits
+  pub asked_at : (g : Hart) (waits : Bool) → g ≡ part.last.hart → waits ≡ part.waits → AskedAt code budget quotas s reservations i count (minus g.done h.done) h g waits
   asked_at g waits e f =
-      subst (λ (b : Bool). AskedAt code budget quotas s table i count (minus g.done h.done) h g b) (sym f)
-      (subst (λ (z : Hart). AskedAt code budget quotas s table i count (minus z.done h.done) h z part.waits) (sym e)
+      subst (λ (b : Bool). AskedAt code budget quotas s reservations i count (minus g.done h.done) h g b) (sym f)
+      (subst (λ (z : Hart). AskedAt code budget quotas s reservations i count (minus z.done h.done) h z part.waits) (sym e)
       (record {
         few = k_few;
         early = by_early;

@@ -5,7 +5,7 @@ use Rattle.pages.specs.Memory.{Memory, stored}
 use Rattle.pages.specs.Paged.{Paged}
 use Rattle.pages.specs.declared.access.Range.{Range}
 use Rattle.round_schedule.specs.declared.span.Span.{Span}
-use Rattle.round_schedule.specs.TabledTurn.{TabledPhase, TabledTurn, tabled_phase_from, tabled_phase_joined, tabled_turn_from, tabled_turn_of}
+use Rattle.round_schedule.specs.ReservingTurn.{ReservingPhase, ReservingTurn, reserving_phase_from, reserving_phase_joined, reserving_turn_from, reserving_turn_of}
 use Rattle.round_schedule.specs.Schedule.{HartRound, all_stores}
 use Rattle.commit_phase.specs.Commit.{Committed}
 use Rattle.hart_step.specs.declared.hart.Hart.{Hart}
@@ -22,7 +22,7 @@ use Rattle.serial_phase.specs.declared.shared.Turn.{Turn}
 use Rattle.guest_turns.specs.declared.asked_turn.TurnPlace.{TurnPlace}
 use Rattle.hart_rounds.specs.declared.hart_end.HartEnd.{HartEnd}
 use Rattle.guest_rounds.specs.Guests.{Shared}
-use Rattle.guest_turns.specs.Asked.{HadTurns, LeftBy, tabled_turn_begun, found, found_at, found_in, ready_for_turns}
+use Rattle.guest_turns.specs.Asked.{HadTurns, LeftBy, reserving_turn_begun, found, found_at, found_in, ready_for_turns}
 use Rattle.guest_rounds.specs.HartEnds.{AreEndsOf, turns_of, waits_of}
 use Rattle.guest_rounds.proofs.EndParts.{hart_is, waits_is}
 
@@ -44,7 +44,7 @@ same_bytes : (p q r : Paged) (bs cs : List ℕ) → HasBytes p bs q → HasBytes
 same_bytes p q r bs cs a b = record { bytes = b.bytes; code = b.code ∙ a.code; count = b.count ∙ a.count; stays = λ page h. b.stays page (a.stays page h) }
 
 no_turns : (turn : Turn) (s : SharedState) → HadTurns turn [] s s
-no_turns turn s logs m [] c a eb ec et = record { pages = record { bytes = sym eb; code = refl; count = refl; stays = λ page h. h }; table = sym et; console = sym ec }
+no_turns turn s logs m [] c a eb ec et = record { pages = record { bytes = sym eb; code = refl; count = refl; stays = λ page h. h }; reservations = sym et; console = sym ec }
 no_turns turn s logs m (r ∷ rs) c a eb ec et = absurd a
 
 -- the turn of a hart whose round left this, and the one of the next hart
@@ -62,20 +62,20 @@ turns_more turn o os s s' u k h x y logs m (r ∷ rs) c a eb ec et =
     let first = turn.hart in
     let budget = turn.budget in
     let W = words_of s.pages.memory.code in
-    let tabled_turn : Bool → Hart → List ℕ → ConsoleState → List (Option Span) → TabledTurn Hart ConsoleState = λ b g bs e table. tabled_turn_from W n first (cond b budget 0) (tabled_turn_begun g bs e table) in
-    let D : TabledTurn Hart ConsoleState = tabled_turn_of W budget n c first r.last.hart r.waits in
+    let reserving_turn : Bool → Hart → List ℕ → ConsoleState → List (Option Span) → ReservingTurn Hart ConsoleState = λ b g bs e reservations. reserving_turn_from W n first (cond b budget 0) (reserving_turn_begun g bs e reservations) in
+    let D : ReservingTurn Hart ConsoleState = reserving_turn_of W budget n c first r.last.hart r.waits in
     let same : turn_done (turn_for turn o) o.hart s ≡ D =
-    ap (λ (b : Bool). tabled_turn b o.hart s.pages.memory.bytes s.console.console s.reservations) (waits_is a.0)
-    ∙ ap (λ (g : Hart). tabled_turn r.waits g s.pages.memory.bytes s.console.console s.reservations) (hart_is a.0)
-    ∙ ap (λ (bs : List ℕ). tabled_turn r.waits r.last.hart bs s.console.console s.reservations) (sym eb)
-    ∙ ap (λ (e : ConsoleState). tabled_turn r.waits r.last.hart c.bytes e s.reservations) (sym ec)
-    ∙ ap (λ (table : List (Option Span)). tabled_turn r.waits r.last.hart c.bytes c.console table) (sym et) in
-    let x' = subst (λ (z : TabledTurn Hart ConsoleState). TakesTurn z h s s') same x in
-    let z = y logs m rs (tabled_phase_joined c D) a.1 (sym x'.pages.bytes) (sym x'.console) (sym x'.table) in
+    ap (λ (b : Bool). reserving_turn b o.hart s.pages.memory.bytes s.console.console s.reservations) (waits_is a.0)
+    ∙ ap (λ (g : Hart). reserving_turn r.waits g s.pages.memory.bytes s.console.console s.reservations) (hart_is a.0)
+    ∙ ap (λ (bs : List ℕ). reserving_turn r.waits r.last.hart bs s.console.console s.reservations) (sym eb)
+    ∙ ap (λ (e : ConsoleState). reserving_turn r.waits r.last.hart c.bytes e s.reservations) (sym ec)
+    ∙ ap (λ (reservations : List (Option Span)). reserving_turn r.waits r.last.hart c.bytes c.console reservations) (sym et) in
+    let x' = subst (λ (z : ReservingTurn Hart ConsoleState). TakesTurn z h s s') same x in
+    let z = y logs m rs (reserving_phase_joined c D) a.1 (sym x'.pages.bytes) (sym x'.console) (sym x'.reservations) in
     let next : first + 1 ≡ suc first = omega arith in
-    let w = subst (λ (j : ℕ). LeftBy (tabled_phase_from W budget n j rs (tabled_phase_joined c D)) (record s' { log = k }) u) next
-    (subst (λ (code : List Range). LeftBy (tabled_phase_from (words_of code) budget n (first + 1) rs (tabled_phase_joined c D)) (record s' { log = k }) u) x'.pages.code z) in
-    record { pages = same_bytes s.pages s'.pages u.pages _ _ x'.pages w.pages; table = w.table; console = w.console }
+    let w = subst (λ (j : ℕ). LeftBy (reserving_phase_from W budget n j rs (reserving_phase_joined c D)) (record s' { log = k }) u) next
+    (subst (λ (code : List Range). LeftBy (reserving_phase_from (words_of code) budget n (first + 1) rs (reserving_phase_joined c D)) (record s' { log = k }) u) x'.pages.code z) in
+    record { pages = same_bytes s.pages s'.pages u.pages _ _ x'.pages w.pages; reservations = w.reservations; console = w.console }
 
 -- by the first of a list
 
@@ -148,20 +148,20 @@ found_further budget count h e d le less differ =
 -- ---- after a commit and the turns before it
 
 pub begun_there : (logs : Bool) (turn : Turn) (place : TurnPlace) (h : Hart) (old : Shared) (rs : List (HartRound Hart)) (os : List HartEnd) (ready : Paged) (start end : SharedState) →
-    turn ≡ record { hart = 0; round = place.round; budget = place.budget } → AreEndsOf logs old.memory rs os → ready.memory ≡ old.memory → Committed rs ready start.pages old.table start.reservations →
+    turn ≡ record { hart = 0; round = place.round; budget = place.budget } → AreEndsOf logs old.memory rs os → ready.memory ≡ old.memory → Committed rs ready start.pages old.reservations start.reservations →
     start.console.console ≡ old.console → HadTurns turn (take place.hart os) start end →
-    found_at end.pages.memory.code place (tabled_turn_begun h end.pages.memory.bytes end.console.console end.reservations) ≡ found_in old place h rs
+    found_at end.pages.memory.code place (reserving_turn_begun h end.pages.memory.bytes end.console.console end.reservations) ≡ found_in old place h rs
 begun_there logs turn place h old rs os ready start end first a same committed console had =
     let m = old.memory in
     let i = place.hart in
     let memory : start.pages.memory ≡ stored m (all_stores rs) = committed.memory ∙ ap (λ (x : Memory). stored x (all_stores rs)) same in
-    let c : TabledPhase Hart ConsoleState = ready_for_turns old rs in
+    let c : ReservingPhase Hart ConsoleState = ready_for_turns old rs in
     let had' = subst (λ (t : Turn). HadTurns t (take i os) start end) first had in
-    let left = had' logs m (take i rs) c (first_ends logs m i rs os a) (sym (ap (λ (x : Memory). x.bytes) memory)) (sym console) (sym committed.table) in
+    let left = had' logs m (take i rs) c (first_ends logs m i rs os a) (sym (ap (λ (x : Memory). x.bytes) memory)) (sym console) (sym committed.reservations) in
     let code : start.pages.memory.code ≡ m.code = ap (λ (x : Memory). x.code) memory in
-    let there = subst (λ (z : List Range). LeftBy (tabled_phase_from (words_of z) place.budget place.round 0 (take i rs) c) start end) code left in
-    let s : TabledPhase Hart ConsoleState = tabled_phase_from (words_of m.code) place.budget place.round 0 (take i rs) c in
-    ap (λ (z : List Range). found_at z place (tabled_turn_begun h end.pages.memory.bytes end.console.console end.reservations)) (there.pages.code ∙ code)
-    ∙ ap (λ (bs : List ℕ). found_at m.code place (tabled_turn_begun h bs end.console.console end.reservations)) there.pages.bytes
-    ∙ ap (λ (z : ConsoleState). found_at m.code place (tabled_turn_begun h s.bytes z end.reservations)) there.console
-    ∙ ap (λ (z : List (Option Span)). found_at m.code place (tabled_turn_begun h s.bytes s.console z)) there.table
+    let there = subst (λ (z : List Range). LeftBy (reserving_phase_from (words_of z) place.budget place.round 0 (take i rs) c) start end) code left in
+    let s : ReservingPhase Hart ConsoleState = reserving_phase_from (words_of m.code) place.budget place.round 0 (take i rs) c in
+    ap (λ (z : List Range). found_at z place (reserving_turn_begun h end.pages.memory.bytes end.console.console end.reservations)) (there.pages.code ∙ code)
+    ∙ ap (λ (bs : List ℕ). found_at m.code place (reserving_turn_begun h bs end.console.console end.reservations)) there.pages.bytes
+    ∙ ap (λ (z : ConsoleState). found_at m.code place (reserving_turn_begun h s.bytes z end.reservations)) there.console
+    ∙ ap (λ (z : List (Option Span)). found_at m.code place (reserving_turn_begun h s.bytes s.console z)) there.reservations

@@ -4,7 +4,7 @@ use Rattle.pages.specs.Memory.{IsBytes, Memory, TouchesNoCode}
 use Rattle.round_schedule.specs.declared.event.Event.{Event}
 use Rattle.round_schedule.specs.declared.span.Span.{Span}
 use Rattle.round_schedule.specs.Schedule.{HartRound, all_stores, hart_rounds}
-use Rattle.round_schedule.specs.Tables.{Tied}
+use Rattle.round_schedule.specs.Reservations.{Tied}
 use Rattle.round_planner.specs.Quotas.{IsQuota, Planned, quotas_of}
 use Rattle.hart_step.specs.declared.hart.Hart.{Hart}
 use Rattle.hart_step.specs.Numbers.{minus}
@@ -15,7 +15,7 @@ use Rattle.hart_rounds.specs.declared.hart_end.HartEnd.{HartEnd}
 use Rattle.guest_rounds.specs.Guests.{Guest, Shared, guest_state}
 use Rattle.guest_rounds.specs.HalfRounds.{IsHalfDone}
 use Rattle.guest_rounds.specs.HartEnds.{AreEndsOf, AreFit}
-use Rattle.guest_rounds.proofs.CodeKept.{rounds_touch}
+use Rattle.guest_rounds.proofs.ShownCode.{rounds_touch}
 use Rattle.guest_rounds.proofs.GuestRounds.{many_of}
 use Rattle.guest_rounds.proofs.Listed.{are_fit}
 use Rattle.guest_turns.proofs.Asked.{AskedAt, asked_of}
@@ -51,11 +51,11 @@ module _ (logs : Bool) (plan : Planned) (n : ℕ) (g : Guest) (s : SharedState) 
   pub bytes_here : IsBytes g.shared.memory.bytes → IsBytes s.pages.memory.bytes
   bytes_here b = subst IsBytes (sym (ap (λ (m : Memory). m.bytes) memory)) b
 
-  pub tied_here : (es : List Event) → Tied g.shared.table es → Tied s.reservations es
-  tied_here es t = subst (λ (x : List (Option Span)). Tied x es) (sym (ap (λ (x : Shared). x.table) h.shared)) t
+  pub tied_here : (es : List Event) → Tied g.shared.reservations es → Tied s.reservations es
+  tied_here es t = subst (λ (x : List (Option Span)). Tied x es) (sym (ap (λ (x : Shared). x.reservations) h.shared)) t
 
   pub asked_half : (es : List Event) (i count done : ℕ) (before : Hart) (o : HartEnd) → i < length g.harts → before ≡ get_or g.harts i before → o ≡ get_or os i o → done ≡ minus o.hart.done before.done →
-      IsBytes g.shared.memory.bytes → Tied g.shared.table es → length g.harts ≡ plan.harts → All IsQuota (quotas_of plan n) → length (quotas_of plan n) ≡ plan.harts → plan.budget ≤ 1000 → before.done < 2 ^ 64 →
+      IsBytes g.shared.memory.bytes → Tied g.shared.reservations es → length g.harts ≡ plan.harts → All IsQuota (quotas_of plan n) → length (quotas_of plan n) ≡ plan.harts → plan.budget ≤ 1000 → before.done < 2 ^ 64 →
       AskedAt s.pages.memory.code plan.budget (quotas_of plan) (record { harts = g.harts; bytes = s.pages.memory.bytes; console = s.console.console; trace = es; rounds = n }) s.reservations i count done before o.hart o.waits
   asked_half es i count done before o low_i at_h at_o by_done bytes tied harts quotas sized small low =
       asked_of logs plan n g.harts s.pages s.reservations s.console.console es os i count done before o ends_here low_i at_h at_o by_done (bytes_here bytes) (tied_here es tied) h.size harts quotas sized small low

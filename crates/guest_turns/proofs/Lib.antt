@@ -1,7 +1,7 @@
 pub mod AskedTurns
 pub mod Asked
 pub mod NumbersAsked
-pub mod TurnHartsTabled
+pub mod TurnHartsReserving
 pub mod TurnHartsAsked
 pub mod TurnHartsFound
 pub mod HalfRounds

@@ -8,9 +8,9 @@ use Rattle.round_schedule.specs.declared.access.Stepped.{Stepped}
 use Rattle.round_schedule.specs.declared.access.Stepped.TheVariants.{Done, Waits, Stopped}
 use Rattle.round_schedule.specs.declared.event.Event.{Event}
 use Rattle.round_schedule.specs.declared.span.Span.{Span}
-use Rattle.round_schedule.specs.TabledTurn.{TabledPhase, TabledTurn, tabled_phase_joined, tabled_turn_from, tabled_turn_next, tabled_turn_of, updated_by}
+use Rattle.round_schedule.specs.ReservingTurn.{ReservingPhase, ReservingTurn, reserving_phase_joined, reserving_turn_from, reserving_turn_next, reserving_turn_of, updated_by}
 use Rattle.round_schedule.specs.Schedule.{HartRound, SerialOutcome, all_stores, hart_rounds}
-use Rattle.round_schedule.specs.Tables.{Tied, entry}
+use Rattle.round_schedule.specs.Reservations.{Tied, entry}
 use Rattle.round_planner.specs.Quotas.{Planned, quotas_of}
 use Rattle.commit_phase.specs.Commit.{Committed}
 use Rattle.hart_step.specs.declared.hart.Hart.{Hart}
@@ -18,31 +18,31 @@ use Rattle.hart_step.specs.Console.{ConsoleState}
 use Rattle.hart_step.specs.SerialStep.{serial_stepped}
 use Rattle.hart_step.specs.Words.{words_of}
 use Rattle.hart_step.proofs.Soundness.{sound}
-use Rattle.run_loops.specs.Asking.{tabled_turn_went}
+use Rattle.run_loops.specs.Asking.{reserving_turn_went}
 use Rattle.run_loops.proofs.Words.{picked, picked_not}
 use Rattle.serial_phase.specs.Phase.{TakesTurn, turn_done}
 use Rattle.serial_phase.specs.Turns.{Turns}
-use Rattle.serial_phase.specs.UnderWay.{At, Under, tabled_turn_at}
-use Rattle.serial_phase.specs.Words.{answered_table}
+use Rattle.serial_phase.specs.UnderWay.{At, Under, reserving_turn_at}
+use Rattle.serial_phase.specs.Words.{answered_reservations}
 use Rattle.serial_phase.specs.declared.shared.SharedState.{SharedState}
 use Rattle.serial_phase.specs.declared.shared.Turn.{Turn}
 use Rattle.serial_phase.proofs.Came.{Came}
 use Rattle.serial_phase.proofs.TurnUnderWay.{Ends, IsNext, outcome_at, went}
 use Rattle.hart_rounds.specs.declared.hart_end.HartEnd.{HartEnd}
-use Rattle.guest_turns.specs.Asked.{ready_for_turns, tabled_turn_begun}
+use Rattle.guest_turns.specs.Asked.{ready_for_turns, reserving_turn_begun}
 use Rattle.guest_rounds.specs.Guests.{Shared}
 use Rattle.guest_rounds.specs.HartEnds.{AreEndsOf}
-use Rattle.guest_turns.specs.TabledTurnHarts.{AddsTurns, WalksTurn, by_tabled_answer, tabled_turns_from, turns_in_tabled_phase}
+use Rattle.guest_turns.specs.ReservingTurnHarts.{AddsTurns, WalksTurn, by_reserving_answer, reserving_turns_from, turns_in_reserving_phase}
 use Rattle.guest_turns.specs.TurnHarts.{turns_in_round}
 use Rattle.guest_turns.proofs.AskedTurns.{next_turn, rest, turn_for}
 use Rattle.guest_rounds.proofs.EndParts.{hart_is, waits_is}
-use Rattle.guest_turns.proofs.TurnHartsTabled.{round_harts}
+use Rattle.guest_turns.proofs.TurnHartsReserving.{round_harts}
 
 -- ---- instruction by instruction
 
 -- the harts along the next k instructions of a turn that began at x and is at y
 abbrev pub harts_left : Turn → At → ℕ → At → List Hart
-harts_left turn x k y = tabled_turns_from (words_of x.state.pages.memory.code) turn.round turn.hart k (tabled_turn_at y)
+harts_left turn x k y = reserving_turns_from (words_of x.state.pages.memory.code) turn.round turn.hart k (reserving_turn_at y)
 
 -- a turn that is walked has come to y: these harts were passed, and the rest is to come
 pub record Walked (turn : Turn) (left : ℕ) (old passed : List Hart) (x y : At) : Type 0 where
@@ -50,35 +50,35 @@ pub record Walked (turn : Turn) (left : ℕ) (old passed : List Hart) (x y : At)
   pub harts : old ++ harts_left turn x turn.budget x ≡ passed ++ harts_left turn x left y
 
 none_left : (turn : Turn) (x y : At) (left : ℕ) → left ≡ 0 → harts_left turn x left y ≡ y.hart ∷ []
-unfolding tabled_turns_from
+unfolding reserving_turns_from
 none_left turn x y zero e = refl
 none_left turn x y (suc k) e = absurd (omega (arith, e))
 
 stopped_left : (turn : Turn) (x y : At) (left : ℕ) → 0 < left → is_some y.hart.stop ≡ true → harts_left turn x left y ≡ y.hart ∷ []
-unfolding tabled_turns_from
+unfolding reserving_turns_from
 stopped_left turn x y zero some off = absurd (omega (arith, some))
 stopped_left turn x y (suc k) some off = picked (is_some y.hart.stop) (y.hart ∷ []) _ off
 
 one_left : (turn : Turn) (x y : At) (left rest : ℕ) → left ≡ suc rest → is_some y.hart.stop ≡ false →
-    harts_left turn x left y ≡ by_tabled_answer turn.hart (tabled_turn_next (words_of x.state.pages.memory.code) turn.round turn.hart (tabled_turn_at y)).answer (tabled_turn_at y)
-    (tabled_turn_next (words_of x.state.pages.memory.code) turn.round turn.hart (tabled_turn_at y)) (tabled_turns_from (words_of x.state.pages.memory.code) turn.round turn.hart rest)
-unfolding tabled_turns_from
+    harts_left turn x left y ≡ by_reserving_answer turn.hart (reserving_turn_next (words_of x.state.pages.memory.code) turn.round turn.hart (reserving_turn_at y)).answer (reserving_turn_at y)
+    (reserving_turn_next (words_of x.state.pages.memory.code) turn.round turn.hart (reserving_turn_at y)) (reserving_turns_from (words_of x.state.pages.memory.code) turn.round turn.hart rest)
+unfolding reserving_turns_from
 one_left turn x y zero rest e on = absurd (omega (arith, e))
 one_left turn x y (suc k) rest e on = ap (λ (j : ℕ). harts_left turn x (suc j) y) (omega (arith, e)) ∙ picked_not (is_some y.hart.stop) (y.hart ∷ []) _ on
 
 same_next : (turn : Turn) (x y : At) → y.state.pages.memory.code ≡ x.state.pages.memory.code →
-    tabled_turn_next (words_of x.state.pages.memory.code) turn.round turn.hart (tabled_turn_at y) ≡ outcome_at turn y
+    reserving_turn_next (words_of x.state.pages.memory.code) turn.round turn.hart (reserving_turn_at y) ≡ outcome_at turn y
 same_next turn x y same =
     ap (λ (code : List Range). serial_stepped turn.round y.hart (record { bytes = y.state.pages.memory.bytes; code = code }) y.state.console.console (entry y.state.reservations turn.hart)) (sym same)
 
 -- the next instruction, as the code does it
 next_left : (turn : Turn) (x y : At) (left : ℕ) (z : Came) → 0 < left → is_some y.hart.stop ≡ false → y.state.pages.memory.code ≡ x.state.pages.memory.code → IsNext turn y z →
-    harts_left turn x left y ≡ by_tabled_answer turn.hart z.answer (tabled_turn_at y) (outcome_at turn y) (tabled_turns_from (words_of x.state.pages.memory.code) turn.round turn.hart (left - 1))
+    harts_left turn x left y ≡ by_reserving_answer turn.hart z.answer (reserving_turn_at y) (outcome_at turn y) (reserving_turns_from (words_of x.state.pages.memory.code) turn.round turn.hart (left - 1))
 next_left turn x y left z some on same n =
-    let later : TabledTurn Hart ConsoleState → List Hart = tabled_turns_from (words_of x.state.pages.memory.code) turn.round turn.hart (left - 1) in
+    let later : ReservingTurn Hart ConsoleState → List Hart = reserving_turns_from (words_of x.state.pages.memory.code) turn.round turn.hart (left - 1) in
     one_left turn x y left (left - 1) (omega (arith, some)) on
-    ∙ ap (λ (o : SerialOutcome Hart ConsoleState). by_tabled_answer turn.hart o.answer (tabled_turn_at y) o later) (same_next turn x y same)
-    ∙ ap (λ (b : Stepped). by_tabled_answer turn.hart b (tabled_turn_at y) (outcome_at turn y) later) (sym n.0)
+    ∙ ap (λ (o : SerialOutcome Hart ConsoleState). by_reserving_answer turn.hart o.answer (reserving_turn_at y) o later) (same_next turn x y same)
+    ∙ ap (λ (b : Stepped). by_reserving_answer turn.hart b (reserving_turn_at y) (outcome_at turn y) later) (sym n.0)
 
 pub harts_first : (turn : Turn) (old : List Hart) (x : At) → old ++ harts_left turn x turn.budget x ≡ old ++ harts_left turn x turn.budget x
 harts_first turn old x = refl
@@ -90,20 +90,20 @@ harts_more turn left old passed more x y z l a some on is n log pushed u =
     let o = outcome_at turn y in
     let done : o.answer ≡ Done a = sym n.0 ∙ is in
     let bytes : z.state.pages.memory.bytes ≡ after y.state.pages.memory.bytes o.stores = ap (λ (m : Memory). m.bytes) s.pages.memory in
-    let entries : z.state.reservations ≡ updated_by turn.hart a y.state.reservations = s.table ∙ ap (λ (b : Stepped). answered_table turn.hart b y.state.reservations) done in
+    let entries : z.state.reservations ≡ updated_by turn.hart a y.state.reservations = s.reservations ∙ ap (λ (b : Stepped). answered_reservations turn.hart b y.state.reservations) done in
     let current : l.current ≡ y.state.log.current ++ option_to_list a = log ∙ ap (λ (k : Turns). k.current ++ option_to_list a) s.log in
-    let at_next : tabled_turn_at (went z l) ≡ tabled_turn_went turn.hart (tabled_turn_at y) o a = cc (s.hart, bytes, s.console, entries, current) in
-    let later : TabledTurn Hart ConsoleState → List Hart = tabled_turns_from (words_of x.state.pages.memory.code) turn.round turn.hart (left - 1) in
+    let at_next : reserving_turn_at (went z l) ≡ reserving_turn_went turn.hart (reserving_turn_at y) o a = cc (s.hart, bytes, s.console, entries, current) in
+    let later : ReservingTurn Hart ConsoleState → List Hart = reserving_turns_from (words_of x.state.pages.memory.code) turn.round turn.hart (left - 1) in
     u.harts
     ∙ ap (λ (hs : List Hart). passed ++ hs)
     (next_left turn x y left z some on u.under.keeps.code n
-    ∙ ap (λ (b : Stepped). by_tabled_answer turn.hart b (tabled_turn_at y) o later) is
-    ∙ ap (λ (d : TabledTurn Hart ConsoleState). y.hart ∷ later d) (sym at_next))
-    ∙ sym (append_assoc passed (y.hart ∷ []) (later (tabled_turn_at (went z l))))
-    ∙ ap (λ (hs : List Hart). hs ++ later (tabled_turn_at (went z l))) (sym pushed)
+    ∙ ap (λ (b : Stepped). by_reserving_answer turn.hart b (reserving_turn_at y) o later) is
+    ∙ ap (λ (d : ReservingTurn Hart ConsoleState). y.hart ∷ later d) (sym at_next))
+    ∙ sym (append_assoc passed (y.hart ∷ []) (later (reserving_turn_at (went z l))))
+    ∙ ap (λ (hs : List Hart). hs ++ later (reserving_turn_at (went z l))) (sym pushed)
 
 harts_ended : (turn : Turn) (left : ℕ) (old passed : List Hart) (x y : At) (z : Came) → 0 < left → is_some y.hart.stop ≡ false →
-    ((o : SerialOutcome Hart ConsoleState) (f : TabledTurn Hart ConsoleState → List Hart) → by_tabled_answer turn.hart z.answer (tabled_turn_at y) o f ≡ o.hart ∷ []) → IsNext turn y z →
+    ((o : SerialOutcome Hart ConsoleState) (f : ReservingTurn Hart ConsoleState → List Hart) → by_reserving_answer turn.hart z.answer (reserving_turn_at y) o f ≡ o.hart ∷ []) → IsNext turn y z →
     Walked turn left old passed x y → passed ++ z.hart ∷ [] ≡ old ++ harts_left turn x turn.budget x
 harts_ended turn left old passed x y z some on ends n u =
     sym (u.harts
@@ -111,11 +111,11 @@ harts_ended turn left old passed x y z some on ends n u =
 
 pub harts_waiting : (turn : Turn) (left : ℕ) (old passed : List Hart) (x y : At) (z : Came) → 0 < left → is_some y.hart.stop ≡ false → z.answer ≡ Waits → IsNext turn y z →
     Walked turn left old passed x y → passed ++ z.hart ∷ [] ≡ old ++ harts_left turn x turn.budget x
-harts_waiting turn left old passed x y z some on is n u = harts_ended turn left old passed x y z some on (λ o f. ap (λ (b : Stepped). by_tabled_answer turn.hart b (tabled_turn_at y) o f) is) n u
+harts_waiting turn left old passed x y z some on is n u = harts_ended turn left old passed x y z some on (λ o f. ap (λ (b : Stepped). by_reserving_answer turn.hart b (reserving_turn_at y) o f) is) n u
 
 pub harts_stopped : (turn : Turn) (left : ℕ) (old passed : List Hart) (x y : At) (z : Came) (code : ℕ) → 0 < left → is_some y.hart.stop ≡ false → z.answer ≡ Stopped code → IsNext turn y z →
     Walked turn left old passed x y → passed ++ z.hart ∷ [] ≡ old ++ harts_left turn x turn.budget x
-harts_stopped turn left old passed x y z code some on is n u = harts_ended turn left old passed x y z some on (λ o f. ap (λ (b : Stepped). by_tabled_answer turn.hart b (tabled_turn_at y) o f) is) n u
+harts_stopped turn left old passed x y z code some on is n u = harts_ended turn left old passed x y z some on (λ o f. ap (λ (b : Stepped). by_reserving_answer turn.hart b (reserving_turn_at y) o f) is) n u
 
 pub harts_off : (turn : Turn) (left : ℕ) (old passed : List Hart) (x y : At) → 0 < left → is_some y.hart.stop ≡ true → Walked turn left old passed x y → passed ++ y.hart ∷ [] ≡ old ++ harts_left turn x turn.budget x
 harts_off turn left old passed x y some off u = sym (u.harts ∙ ap (λ (hs : List Hart). passed ++ hs) (stopped_left turn x y left some off))
@@ -128,12 +128,12 @@ pub walks : (turn : Turn) (old passed : List Hart) (x y : At) → x.state.log.cu
     WalksTurn turn x.hart x.state old y.hart y.state passed
 walks turn old passed x y began harts e = record {
   harts = harts
-      ∙ ap (λ (l : List Access). old ++ tabled_turns_from (words_of x.state.pages.memory.code) turn.round turn.hart turn.budget (record (tabled_turn_at x) { log = l })) began;
+      ∙ ap (λ (l : List Access). old ++ reserving_turns_from (words_of x.state.pages.memory.code) turn.round turn.hart turn.budget (record (reserving_turn_at x) { log = l })) began;
   taken = e.taken;
   pages = e.pages;
   console = e.console;
   log = e.log;
-  table = e.table;
+  reservations = e.reservations;
   shows = e.shows;
 }
 
@@ -145,7 +145,7 @@ no_turns turn s old logs m (r ∷ rs) c a eb ec et = absurd a
 
 -- the harts along the first turn
 abbrev pub first_harts : Turn → HartEnd → SharedState → List Hart
-first_harts turn o s = tabled_turns_from (words_of s.pages.memory.code) turn.round turn.hart turn.budget (tabled_turn_begun o.hart s.pages.memory.bytes s.console.console s.reservations)
+first_harts turn o s = reserving_turns_from (words_of s.pages.memory.code) turn.round turn.hart turn.budget (reserving_turn_begun o.hart s.pages.memory.bytes s.console.console s.reservations)
 
 one_more : (turn : Turn) (o : HartEnd) (os : List HartEnd) (s s' : SharedState) (k : Turns) (h : Hart) (old new : List (List Hart)) →
     TakesTurn (turn_done (turn_for turn o) o.hart s) h s s' → AddsTurns (next_turn turn) os (record s' { log = k }) (old ++ first_harts (turn_for turn o) o s ∷ []) new → AddsTurns turn (o ∷ os) s old new
@@ -156,28 +156,28 @@ one_more turn o os s s' k h old new x y logs m (r ∷ rs) c a eb ec et =
     let budget = turn.budget in
     let code : List Range = s.pages.memory.code in
     let W = words_of code in
-    let begun : Bool → Hart → List ℕ → ConsoleState → List (Option Span) → TabledTurn Hart ConsoleState = λ b g bs e table. tabled_turn_from W n first (cond b budget 0) (tabled_turn_begun g bs e table) in
-    let along : Bool → Hart → List ℕ → ConsoleState → List (Option Span) → List Hart = λ b g bs e table. tabled_turns_from W n first (cond b budget 0) (tabled_turn_begun g bs e table) in
-    let D : TabledTurn Hart ConsoleState = tabled_turn_of W budget n c first r.last.hart r.waits in
+    let begun : Bool → Hart → List ℕ → ConsoleState → List (Option Span) → ReservingTurn Hart ConsoleState = λ b g bs e reservations. reserving_turn_from W n first (cond b budget 0) (reserving_turn_begun g bs e reservations) in
+    let along : Bool → Hart → List ℕ → ConsoleState → List (Option Span) → List Hart = λ b g bs e reservations. reserving_turns_from W n first (cond b budget 0) (reserving_turn_begun g bs e reservations) in
+    let D : ReservingTurn Hart ConsoleState = reserving_turn_of W budget n c first r.last.hart r.waits in
     let same : turn_done (turn_for turn o) o.hart s ≡ D =
     ap (λ (b : Bool). begun b o.hart s.pages.memory.bytes s.console.console s.reservations) (waits_is a.0)
     ∙ ap (λ (g : Hart). begun r.waits g s.pages.memory.bytes s.console.console s.reservations) (hart_is a.0)
     ∙ ap (λ (bs : List ℕ). begun r.waits r.last.hart bs s.console.console s.reservations) (sym eb)
     ∙ ap (λ (e : ConsoleState). begun r.waits r.last.hart c.bytes e s.reservations) (sym ec)
-    ∙ ap (λ (table : List (Option Span)). begun r.waits r.last.hart c.bytes c.console table) (sym et) in
-    let harts : first_harts (turn_for turn o) o s ≡ along r.waits r.last.hart c.bytes c.console c.table =
+    ∙ ap (λ (reservations : List (Option Span)). begun r.waits r.last.hart c.bytes c.console reservations) (sym et) in
+    let harts : first_harts (turn_for turn o) o s ≡ along r.waits r.last.hart c.bytes c.console c.reservations =
     ap (λ (b : Bool). along b o.hart s.pages.memory.bytes s.console.console s.reservations) (waits_is a.0)
     ∙ ap (λ (g : Hart). along r.waits g s.pages.memory.bytes s.console.console s.reservations) (hart_is a.0)
     ∙ ap (λ (bs : List ℕ). along r.waits r.last.hart bs s.console.console s.reservations) (sym eb)
     ∙ ap (λ (e : ConsoleState). along r.waits r.last.hart c.bytes e s.reservations) (sym ec)
-    ∙ ap (λ (table : List (Option Span)). along r.waits r.last.hart c.bytes c.console table) (sym et) in
-    let x' = subst (λ (z : TabledTurn Hart ConsoleState). TakesTurn z h s s') same x in
-    let z = y logs m rs (tabled_phase_joined c D) a.1 (sym x'.pages.bytes) (sym x'.console) (sym x'.table) in
+    ∙ ap (λ (reservations : List (Option Span)). along r.waits r.last.hart c.bytes c.console reservations) (sym et) in
+    let x' = subst (λ (z : ReservingTurn Hart ConsoleState). TakesTurn z h s s') same x in
+    let z = y logs m rs (reserving_phase_joined c D) a.1 (sym x'.pages.bytes) (sym x'.console) (sym x'.reservations) in
     let next : first + 1 ≡ suc first = omega arith in
-    let later : List (List Hart) = turns_in_tabled_phase W budget n (suc first) rs (tabled_phase_joined c D) in
+    let later : List (List Hart) = turns_in_reserving_phase W budget n (suc first) rs (reserving_phase_joined c D) in
     z
-    ∙ ap (λ (d : List Range). (old ++ first_harts (turn_for turn o) o s ∷ []) ++ turns_in_tabled_phase (words_of d) budget n (first + 1) rs (tabled_phase_joined c D)) x'.pages.code
-    ∙ ap (λ (j : ℕ). (old ++ first_harts (turn_for turn o) o s ∷ []) ++ turns_in_tabled_phase W budget n j rs (tabled_phase_joined c D)) next
+    ∙ ap (λ (d : List Range). (old ++ first_harts (turn_for turn o) o s ∷ []) ++ turns_in_reserving_phase (words_of d) budget n (first + 1) rs (reserving_phase_joined c D)) x'.pages.code
+    ∙ ap (λ (j : ℕ). (old ++ first_harts (turn_for turn o) o s ∷ []) ++ turns_in_reserving_phase W budget n j rs (reserving_phase_joined c D)) next
     ∙ append_assoc old (first_harts (turn_for turn o) o s ∷ []) later
     ∙ ap (λ (hs : List Hart). old ++ hs ∷ later) harts
 
@@ -207,24 +207,24 @@ one_added turn of_first o (v ∷ os) s s' k h passed old more new some is e x pu
 -- ---- after a commit
 
 pub committed_turns : (logs : Bool) (turn : Turn) (round budget : ℕ) (old : Shared) (rs : List (HartRound Hart)) (os : List HartEnd) (ready : Paged) (start : SharedState) (hss : List (List Hart)) →
-    turn ≡ record { hart = 0; round = round; budget = budget } → AreEndsOf logs old.memory rs os → ready.memory ≡ old.memory → Committed rs ready start.pages old.table start.reservations →
+    turn ≡ record { hart = 0; round = round; budget = budget } → AreEndsOf logs old.memory rs os → ready.memory ≡ old.memory → Committed rs ready start.pages old.reservations start.reservations →
     start.console.console ≡ old.console → AddsTurns turn os start [] hss →
-    hss ≡ turns_in_tabled_phase (words_of old.memory.code) budget round 0 rs (ready_for_turns old rs)
+    hss ≡ turns_in_reserving_phase (words_of old.memory.code) budget round 0 rs (ready_for_turns old rs)
 committed_turns logs turn round budget old rs os ready start hss first a same committed console adds =
     let m = old.memory in
     let memory : start.pages.memory ≡ stored m (all_stores rs) = committed.memory ∙ ap (λ (x : Memory). stored x (all_stores rs)) same in
-    let c : TabledPhase Hart ConsoleState = ready_for_turns old rs in
-    let added = (subst (λ (t : Turn). AddsTurns t os start [] hss) first adds) logs m rs c a (sym (ap (λ (x : Memory). x.bytes) memory)) (sym console) (sym committed.table) in
+    let c : ReservingPhase Hart ConsoleState = ready_for_turns old rs in
+    let added = (subst (λ (t : Turn). AddsTurns t os start [] hss) first adds) logs m rs c a (sym (ap (λ (x : Memory). x.bytes) memory)) (sym console) (sym committed.reservations) in
     let code : start.pages.memory.code ≡ m.code = ap (λ (x : Memory). x.code) memory in
-    added ∙ ap (λ (z : List Range). turns_in_tabled_phase (words_of z) budget round 0 rs c) code
+    added ∙ ap (λ (z : List Range). turns_in_reserving_phase (words_of z) budget round 0 rs c) code
 
 -- ---- in the next round
 
 pub round_turns : (logs : Bool) (plan : Planned) (n : ℕ) (hs : List Hart) (p : Paged) (t : List (Option Span)) (c : ConsoleState) (es : List Event) (os : List HartEnd) (hss : List (List Hart)) →
     AreEndsOf logs p.memory (hart_rounds (words_of p.memory.code) p.memory.bytes (quotas_of plan n) hs) os → IsBytes p.memory.bytes → Tied t es → length t ≡ length hs →
     ((ls : Bool) (rs : List (HartRound Hart)) → AreEndsOf ls p.memory rs os →
-    hss ≡ turns_in_tabled_phase (words_of p.memory.code) plan.budget (n + 1) 0 rs (ready_for_turns (record { memory = p.memory; table = t; console = c }) rs)) →
+    hss ≡ turns_in_reserving_phase (words_of p.memory.code) plan.budget (n + 1) 0 rs (ready_for_turns (record { memory = p.memory; reservations = t; console = c }) rs)) →
     hss ≡ turns_in_round (words_of p.memory.code) plan.budget (quotas_of plan) (record { harts = hs; bytes = p.memory.bytes; console = c; trace = es; rounds = n })
 round_turns logs plan n hs p t c es os hss a bytes tied size found =
     found logs _ a
-    ∙ round_harts (words_of p.memory.code) plan.budget (quotas_of plan) (record { state = record { harts = hs; bytes = p.memory.bytes; console = c; trace = es; rounds = n }; table = t }) (sound p.memory.code) bytes tied size
+    ∙ round_harts (words_of p.memory.code) plan.budget (quotas_of plan) (record { state = record { harts = hs; bytes = p.memory.bytes; console = c; trace = es; rounds = n }; reservations = t }) (sound p.memory.code) bytes tied size

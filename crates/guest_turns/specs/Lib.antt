@@ -1,4 +1,4 @@
 pub mod Asked
 pub mod NumberAsked
 pub mod TurnHarts
-pub mod TabledTurnHarts
+pub mod ReservingTurnHarts

@@ -2,10 +2,10 @@ ghost use Rattle.std.specs.Prelude.{◌≡◌, ℕ, ◌<◌, ◌≤◌, ◌+◌,
 ghost use Rattle.pages.specs.Memory.{TouchesNoCode};
 ghost use Rattle.round_schedule.specs.Schedule.{HartRound, all_stores};
 ghost use Rattle.hart_step.specs.declared.hart.Hart.{Hart};
-ghost use Rattle.hart_step.specs.CodeTables.{Shows};
+ghost use Rattle.hart_step.specs.DecodedCode.{Shows};
 ghost use Rattle.hart_step.specs.Room.{HasSpares};
 ghost use Rattle.serial_phase.specs.Roomed.{HasRoom};
-ghost use Rattle.guest_turns.specs.Asked.{HadTurns, tabled_turn_begun, found_at, found_in, one_further};
+ghost use Rattle.guest_turns.specs.Asked.{HadTurns, reserving_turn_begun, found_at, found_in, one_further};
 ghost use Rattle.guest_rounds.specs.Guests.{shared_of};
 ghost use Rattle.guest_rounds.specs.HartEnds.{AreFit, AreEndsOf, turns_of, waits_of};
 
@@ -129,7 +129,7 @@ fn sight_at(
     requires console { HasRoom place.budget shared.old.console }
     requires log { place.budget ≤ shared.old.log.room }
     requires began { shared.old.log.current ≡ [] }
-    ensures { IfOk result (λ s. s ≡ found_at shared.old.pages.memory.code place (tabled_turn_begun start
+    ensures { IfOk result (λ s. s ≡ found_at shared.old.pages.memory.code place (reserving_turn_begun start
         shared.old.pages.memory.bytes shared.old.console.console shared.old.reservations)) }
 {
     let mut here = start;
@@ -163,7 +163,7 @@ fn after_one_more(shared: &mut SharedState, hart: Hart, turn: Turn) -> Result<Ha
     requires console { HasRoom 1 shared.old.console }
     requires log { 1 ≤ shared.old.log.room }
     ensures { IfOk result (λ h. h ≡ (one_further shared.old.pages.memory.code turn.round turn.hart
-        (tabled_turn_begun hart shared.old.pages.memory.bytes shared.old.console.console
+        (reserving_turn_begun hart shared.old.pages.memory.bytes shared.old.console.console
         shared.old.reservations)).hart) }
 {
     shared.pages.prepare(shared.pages.allocator(), &[], 1)?;

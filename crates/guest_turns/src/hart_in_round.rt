@@ -1,9 +1,9 @@
 ghost use Rattle.std.specs.Prelude.{◌≡◌, ◌<◌, ◌≤◌, ◌+◌, ◌^◌, List, length, Some, IfOk};
 ghost use Rattle.round_schedule.specs.declared.event.Event.{Event};
 ghost use Rattle.round_schedule.specs.Past.{last_of};
-ghost use Rattle.round_schedule.specs.Tables.{Tied};
+ghost use Rattle.round_schedule.specs.Reservations.{Tied};
 ghost use Rattle.round_planner.specs.Quotas.{quotas_of};
-ghost use Rattle.hart_step.specs.CodeTables.{Shows};
+ghost use Rattle.hart_step.specs.DecodedCode.{Shows};
 ghost use Rattle.hart_step.specs.Numbers.{minus};
 ghost use Rattle.hart_step.specs.Words.{words_of};
 ghost use Rattle.moments.specs.Sights.{part_sights, sight_after};
@@ -36,8 +36,8 @@ pub fn sight_in_round<R: Threads + Wait + Sync>(
     requires harts { length guest.harts ≡ plan.now.harts }
     requires done { done + 1 < 2 ^ 32 }
     requires hart { hart < length guest.harts }
-    requires run { (es : List Event) × Tied guest.shared.table es }
-    ensures { IfOk result (λ s. (es : List Event) → Tied guest.shared.table es → s ≡
+    requires run { (es : List Event) × Tied guest.shared.reservations es }
+    ensures { IfOk result (λ s. (es : List Event) → Tied guest.shared.reservations es → s ≡
         sight_after (words_of guest.shared.memory.code) plan.now.budget (quotas_of plan.now)
         (guest_state done es guest) hart count) }
 {

@@ -2,13 +2,13 @@ ghost use Rattle.std.specs.Prelude.{◌≡◌, ◌<◌, ◌≤◌, ◌+◌, ◌^
 ghost use Rattle.pages.specs.Memory.{TouchesNoCode};
 ghost use Rattle.round_schedule.specs.declared.event.Event.{Event};
 ghost use Rattle.round_schedule.specs.Schedule.{HartRound, all_stores};
-ghost use Rattle.round_schedule.specs.Tables.{Tied};
+ghost use Rattle.round_schedule.specs.Reservations.{Tied};
 ghost use Rattle.round_planner.specs.Quotas.{quotas_of};
 ghost use Rattle.hart_step.specs.declared.hart.Hart.{Hart};
-ghost use Rattle.hart_step.specs.CodeTables.{Shows};
+ghost use Rattle.hart_step.specs.DecodedCode.{Shows};
 ghost use Rattle.hart_step.specs.Room.{HasSpares};
 ghost use Rattle.hart_step.specs.Words.{words_of};
-ghost use Rattle.run_loops.specs.Asking.{asks_in_round, asks_in_tabled_phase};
+ghost use Rattle.run_loops.specs.Asking.{asks_in_round, asks_in_reserving_phase};
 ghost use Rattle.run_loops.specs.Forgetting.{asks_number};
 ghost use Rattle.serial_phase.specs.Roomed.{HasRoom};
 ghost use Rattle.guest_rounds.specs.Guests.{guest_state, shared_of};
@@ -37,7 +37,7 @@ pub fn asks_in_round<R: Threads + Wait + Sync>(
     requires workers { (1 ≤ crew.now.workers) × (crew.now.workers ≤ 16) }
     requires harts { length guest.harts ≡ plan.now.harts }
     requires done { done + 1 < 2 ^ 32 }
-    ensures { IfOk result (λ b. (es : List Event) → Tied guest.shared.table es → b ≡
+    ensures { IfOk result (λ b. (es : List Event) → Tied guest.shared.reservations es → b ≡
         asks_in_round (words_of guest.shared.memory.code) (asks_number guest.shared.memory.code)
         plan.now.budget (quotas_of plan.now) (guest_state done es guest)) }
 {
@@ -70,7 +70,7 @@ fn asks_in_turns<G, R: Threads + Sync>(
     requires budget { budget ≤ 1000 }
     ensures { IfOk result (λ b. (logs : Bool) (rs : List (HartRound Hart)) →
         AreEndsOf logs shared.old.pages.memory rs ends.now →
-        b ≡ asks_in_tabled_phase (words_of shared.old.pages.memory.code)
+        b ≡ asks_in_reserving_phase (words_of shared.old.pages.memory.code)
         (asks_number shared.old.pages.memory.code) budget round 0 rs
         (ready_for_turns (shared_of shared.old) rs)) }
 {

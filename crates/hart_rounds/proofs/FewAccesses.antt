@@ -4,7 +4,7 @@ use Rattle.std.specs.Prelude.{option_to_list}
 use Rattle.round_schedule.specs.declared.access.Access.{Access}
 use Rattle.round_schedule.specs.declared.access.Stepped.{Stepped}
 use Rattle.round_schedule.specs.declared.access.Stepped.TheVariants.{Done, Waits, Stopped}
-use Rattle.round_schedule.specs.Schedule.{Words, HartRound, Outcome as Left, Progress, by_answer, ended, next_of, round_from, went}
+use Rattle.round_schedule.specs.Schedule.{Words, HartRound, StepOutcome as Left, Progress, by_answer, ended, next_of, round_from, went}
 use Rattle.hart_step.specs.declared.hart.Hart.{Hart}
 use Rattle.hart_step.specs.Console.{ConsoleState}
 

@@ -8,7 +8,7 @@ use Rattle.round_schedule.specs.Schedule.{HartRound, Words, hart_round_of, round
 use Rattle.hart_step.specs.declared.hart.Hart.{Hart}
 use Rattle.hart_step.specs.Console.{ConsoleState}
 use Rattle.hart_step.specs.Buffered.{Overlay, Puts, seen_through}
-use Rattle.hart_step.specs.CodeTables.{Shows}
+use Rattle.hart_step.specs.DecodedCode.{Shows}
 use Rattle.hart_step.specs.Rounds.{Leaves}
 use Rattle.hart_step.specs.Words.{words_of}
 use Rattle.rv64_decode.specs.declared.instruction.Instr.{Instr}
@@ -16,19 +16,19 @@ use Rattle.hart_rounds.specs.declared.hart_end.HartEnd.{HartEnd}
 use Rattle.hart_rounds.specs.Ends.{end_of, logged}
 use Rattle.hart_rounds.proofs.FewAccesses.{few_of_round}
 
--- a table that shows memory shows it through an empty buffer
+-- decoded words that show memory show it through an empty buffer
 pub shows_through : (m : Memory) (v : Overlay) (first : ℕ) (words : List Instr) → v ≡ record { base = m; bytes = [] } → Shows m first words → Shows (seen_through v) first words
 shows_through m v first words e shows = subst (λ (y : Overlay). Shows (seen_through y) first words) (sym e) shows
 
 abbrev end_from : Hart → List (ℕ × ℕ) → List Access → ℕ → Bool → HartEnd
 end_from h es log n w = record { hart = h; buffer = es; log = log; accesses = n; waits = w }
 
--- it leaves what the schedule says, with the accesses kept or only counted
-pub end_is : (logs : Bool) (m : Memory) (v x : Overlay) (quota : ℕ) (h g : Hart) (before log kept : List Access) (count : ℕ) (w : Bool) (bytes : List (ℕ × ℕ)) →
+-- it leaves what the schedule says, with the accesses logged or only counted
+pub end_is : (logs : Bool) (m : Memory) (v x : Overlay) (quota : ℕ) (h g : Hart) (before log told : List Access) (count : ℕ) (w : Bool) (bytes : List (ℕ × ℕ)) →
     v ≡ record { base = m; bytes = [] } → before ≡ [] →
     Leaves (λ (ss : List Store) (b : Overlay). Puts v ss b) (λ (b : Overlay). seen_through b) (seen_through v) (round_from (words_of (seen_through v).code) (seen_through v).bytes quota (record { hart = h; stores = []; accesses = before })) g log w x →
-    bytes ≡ x.bytes → kept ≡ logged logs log → count ≡ length log → end_of logs (hart_round_of (words_of m.code) m.bytes quota h) ≡ end_from g bytes kept count w
-end_is logs m v x quota h g before log kept count w bytes e f l b p n =
+    bytes ≡ x.bytes → told ≡ logged logs log → count ≡ length log → end_of logs (hart_round_of (words_of m.code) m.bytes quota h) ≡ end_from g bytes told count w
+end_is logs m v x quota h g before log told count w bytes e f l b p n =
     let at_first = subst (λ (y : Overlay). Leaves (λ (ss : List Store) (c : Overlay). Puts y ss c) (λ (c : Overlay). seen_through c) (seen_through y) (round_from (words_of (seen_through y).code) (seen_through y).bytes quota (record { hart = h; stores = []; accesses = before })) g log w x) e l in
     let k = subst (λ (z : List Access). Leaves (λ (ss : List Store) (c : Overlay). Puts (record { base = m; bytes = [] }) ss c) (λ (c : Overlay). seen_through c) m (round_from (words_of m.code) m.bytes quota (record { hart = h; stores = []; accesses = z })) g log w x) f at_first in
     let r : HartRound Hart = hart_round_of (words_of m.code) m.bytes quota h in
@@ -37,7 +37,7 @@ end_is logs m v x quota h g before log kept count w bytes e f l b p n =
     ∙ (ap (λ (es : List (ℕ × ℕ)). end_from g es (logged logs r.last.accesses) (length r.last.accesses) r.waits) stores
     ∙ (ap (λ (zs : List Access). end_from g bytes (logged logs zs) (length zs) r.waits) (sym k.accesses)
     ∙ (ap (λ (zs : List Access). end_from g bytes zs (length log) r.waits) (sym p)
-    ∙ (ap (λ (i : ℕ). end_from g bytes kept i r.waits) (sym n) ∙ ap (λ (t : Bool). end_from g bytes kept count t) (sym k.waits)))))
+    ∙ (ap (λ (i : ℕ). end_from g bytes told i r.waits) (sym n) ∙ ap (λ (t : Bool). end_from g bytes told count t) (sym k.waits)))))
 
 -- what it leaves of accesses is fewer than a bound above its quota
 pub few_left : (most : ℕ) (W : Words Hart ConsoleState) (bs : List ℕ) (quota : ℕ) (h : Hart) (es : List Access) → es ≡ (round_from W bs quota (record { hart = h; stores = []; accesses = [] })).last.accesses → quota < most → length es < most

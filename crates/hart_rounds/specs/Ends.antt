@@ -15,7 +15,7 @@ end_at_rest h = record { hart = h; buffer = []; log = []; accesses = 0; waits = 
 abbrev pub logged : Bool → List Access → List Access
 logged logs log = if logs then log else []
 
--- a hart's round, with its accesses kept or just counted
+-- a hart's round, with its accesses logged or just counted
 abbrev pub end_of : Bool → HartRound Hart → HartEnd
 end_of logs r = record {
   hart = r.last.hart;

@@ -5,15 +5,15 @@ use Rattle.round_schedule.specs.Schedule.{HartRound, hart_rounds}
 use Rattle.hart_step.specs.declared.hart.Hart.{Hart}
 use Rattle.hart_step.specs.Words.{words_of}
 use Rattle.hart_rounds.specs.declared.log_form.LogForm.{LogForm}
-use Rattle.hart_rounds.specs.declared.log_form.LogForm.TheVariants.{Counted, InBrief, Kept}
+use Rattle.hart_rounds.specs.declared.log_form.LogForm.TheVariants.{Counted, InBrief, Logged}
 
--- whether the accesses are kept in this form, and not just counted
+-- whether the accesses are logged in this form, and not just counted
 abbrev pub keeps_log : LogForm → Bool
 keeps_log Counted = false
-keeps_log Kept = true
+keeps_log Logged = true
 keeps_log InBrief = true
 
--- guest memory, the quota and the state of each hart, and whether the harts' accesses are kept
+-- guest memory, the quota and the state of each hart, and whether the harts' accesses are logged
 pub record Start : Type 0 where
   pub memory : Memory
   pub quotas : List ℕ

@@ -53,7 +53,7 @@ impl HartEnd {
     #[inline(always)]
     pub(crate) fn begin(&mut self, number: usize, start: &RoundStart<'_>)
         requires number { number < length start.now.harts }
-        requires kept { is_some self.old.hart.stop ≡ true →
+        requires stays { is_some self.old.hart.stop ≡ true →
             slice_get start.now.harts number ≡ Some self.old.hart }
         ensures { slice_get start.now.harts number ≡ Some self.new.hart }
     {

@@ -14,8 +14,8 @@ use trace::Log;
 /// From so many accesses on a log is long.
 pub const LONG: u64 = 64;
 
-/// Does the round of a hart, on the memory of its start. Its accesses are counted or kept, as the start says; a long log is put in
-/// brief, if it says so. `room` is taken for the accesses while the round goes on: what it holds is let go.
+/// Does the round of a hart, on the memory of its start. Its accesses are counted or logged, as the start says; a long log is put in
+/// brief, if it says so. `spare` is taken for the accesses while the round goes on: what it holds is let go.
 ///
 /// # Errors
 ///
@@ -23,14 +23,14 @@ pub const LONG: u64 = 64;
 pub fn round_from(
     number: usize,
     start: &RoundStart<'_>,
-    room: &mut Vec<Access>,
+    spare: &mut Vec<Access>,
 ) -> Result<HartEnd, OutOfMemory>
     requires { number < length start.now.harts }
     ensures { IfOk result (λ e. round_at start.now number ≡ Some e) }
 {
     let hart = start.harts()[number];
     let mut end = HartEnd::at_rest(start.pages().allocator(), hart);
-    round_into(number, start, &mut end, room)?;
+    round_into(number, start, &mut end, spare)?;
     Ok(end)
 }
 
@@ -40,15 +40,16 @@ pub fn round_from(
 /// # Errors
 ///
 /// A growth was refused. The start is only read, and nothing is said of what stands in the place.
+// docs/decisions/threads.md
 #[inline(always)]
 pub fn round_in_place(
     number: usize,
     start: &RoundStart<'_>,
     end: &mut HartEnd,
-    room: &mut Vec<Access>,
+    spare: &mut Vec<Access>,
 ) -> Result<(), OutOfMemory>
     requires number { number < length start.now.harts }
-    requires kept { is_some end.old.hart.stop ≡ true →
+    requires stays { is_some end.old.hart.stop ≡ true →
         slice_get start.now.harts number ≡ Some end.old.hart }
     ensures { OnOk result (round_at start.now number ≡ Some end.new) }
 {
@@ -60,7 +61,7 @@ pub fn round_in_place(
         end.rest(start.pages().allocator());
         return Ok(());
     }
-    round_into(number, start, end, room)
+    round_into(number, start, end, spare)
 }
 
 /// Does the round of a hart that its place has as the round begins with it. The rest of what stands there is let go.
@@ -68,7 +69,7 @@ fn round_into(
     number: usize,
     start: &RoundStart<'_>,
     end: &mut HartEnd,
-    room: &mut Vec<Access>,
+    spare: &mut Vec<Access>,
 ) -> Result<(), OutOfMemory>
     requires number { number < length start.now.harts }
     requires hart { slice_get start.now.harts number ≡ Some end.old.hart }
@@ -76,7 +77,7 @@ fn round_into(
 {
     match start.form() {
         LogForm::Counted => counted_round(number, start, end),
-        LogForm::Kept | LogForm::InBrief => logged_round(number, start, end, room),
+        LogForm::Logged | LogForm::InBrief => logged_round(number, start, end, spare),
     }
 }
 
@@ -98,29 +99,29 @@ fn counted_round(
     Ok(())
 }
 
-/// The same of a start whose harts' accesses are kept.
+/// The same of a start whose harts' accesses are logged.
 fn logged_round(
     number: usize,
     start: &RoundStart<'_>,
     end: &mut HartEnd,
-    room: &mut Vec<Access>,
+    spare: &mut Vec<Access>,
 ) -> Result<(), OutOfMemory>
     requires number { number < length start.now.harts }
     requires hart { slice_get start.now.harts number ≡ Some end.old.hart }
-    requires kept { start.now.logs ≡ true }
+    requires logged { start.now.logs ≡ true }
     ensures { OnOk result (round_at start.now number ≡ Some end.new) }
 {
-    room.clear();
-    do_round(number, start, end, room)?;
-    let accesses = room.len() as u64;
+    spare.clear();
+    do_round(number, start, end, spare)?;
+    let accesses = spare.len() as u64;
     let alloc = start.pages().allocator();
     end.log = if accesses == 0 {
         // As in most rounds of a hart that comes from one serial word to the next.
         Log::of(Vec::new(alloc))
     } else if start.form() == LogForm::InBrief && accesses >= LONG {
-        Log::in_brief(alloc, room)?
+        Log::in_brief(alloc, spare)?
     } else {
-        Log::copied(alloc, room)?
+        Log::copied(alloc, spare)?
     };
     end.accesses = accesses;
     Ok(())
@@ -143,7 +144,7 @@ fn do_round<L: AccessLog>(
     let quota = start.quotas()[number];
     let pages = start.pages();
     let mut view = Buffered::new(pages.allocator(), pages);
-    end.waits = hart_round(&mut end.hart, &mut view, start.table(), quota, log)?;
+    end.waits = hart_round(&mut end.hart, &mut view, start.code(), quota, log)?;
     end.buffer = view.into_buffer();
     Ok(())
 }

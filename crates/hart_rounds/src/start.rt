@@ -1,18 +1,18 @@
 ghost use Rattle.std.specs.Prelude.{◌≡◌, ◌≤◌, length, true};
-ghost use Rattle.hart_step.specs.CodeTables.{Shows};
+ghost use Rattle.hart_step.specs.DecodedCode.{Shows};
 ghost use Rattle.hart_rounds.specs.Starts.{Start, keeps_log};
 
 use crate::log_form::LogForm;
-use hart_step::{CodeTable, Hart};
+use hart_step::{DecodedCode, Hart};
 use pages::Pages;
 use std::marker::Model;
 
-/// What the parallel phase of a round starts from: guest memory with a table of its decoded words, and the state and the
+/// What the parallel phase of a round starts from: guest memory with its decoded code, and the state and the
 /// quota of each hart. The phase only reads it.
 #[derive(Drop)]
 pub struct RoundStart<'a> {
     pages: &'a Pages,
-    table: &'a CodeTable,
+    code: &'a DecodedCode,
     harts: &'a [Hart],
     quotas: &'a [u32],
     // What becomes of the harts' accesses.
@@ -30,20 +30,20 @@ impl<'a> Model for RoundStart<'a> {
     } };
 
     ghost invariant = { λ s. (length s.quotas.now ≡ length s.harts.now) × (length s.harts.now ≤
-        64) × Shows s.pages.now.memory s.table.now.first s.table.now.instructions };
+        64) × Shows s.pages.now.memory s.code.now.first s.code.now.instructions };
 }
 
 impl<'a> RoundStart<'a> {
-    /// A round of at most 64 harts on this memory, with a quota for each. The harts' accesses are kept.
+    /// A round of at most 64 harts on this memory, with a quota for each. The harts' accesses are logged.
     pub fn new(
         pages: &'a Pages,
-        table: &'a CodeTable,
+        code: &'a DecodedCode,
         harts: &'a [Hart],
         quotas: &'a [u32],
     ) -> RoundStart<'a>
         requires quotas { length quotas.now ≡ length harts.now }
         requires few { length harts.now ≤ 64 }
-        requires shows { Shows pages.now.memory table.now.first table.now.instructions }
+        requires shows { Shows pages.now.memory code.now.first code.now.instructions }
         ensures { result ≡ record {
           memory = pages.now.memory;
           quotas = quotas.now;
@@ -53,14 +53,14 @@ impl<'a> RoundStart<'a> {
     {
         RoundStart {
             pages,
-            table,
+            code,
             harts,
             quotas,
-            form: LogForm::Kept,
+            form: LogForm::Logged,
         }
     }
 
-    /// The same start, of a round whose harts' accesses are counted or kept in this form.
+    /// The same start, of a round whose harts' accesses are counted or logged in this form.
     pub fn with_form(self, form: LogForm) -> RoundStart<'a>
         ensures { result ≡ record self.entry { logs = keeps_log form } }
     {
@@ -81,11 +81,11 @@ impl<'a> RoundStart<'a> {
         self.pages
     }
 
-    /// The decoded words of a run of its code.
-    pub fn table(&self) -> &'a CodeTable
+    /// The decoded words of a stretch of its code.
+    pub fn code(&self) -> &'a DecodedCode
         ensures { Shows self.now.memory result.now.first result.now.instructions }
     {
-        self.table
+        self.code
     }
 
     /// The harts, of which there are at most 64.

@@ -12,7 +12,7 @@ use Rattle.round_schedule.specs.declared.access.Stepped.{Stepped}
 use Rattle.round_schedule.specs.declared.access.Stepped.TheVariants.{Done}
 use Rattle.round_schedule.specs.declared.span.Span.{Span}
 use Rattle.round_schedule.specs.Accesses.{is_full_fence}
-use Rattle.round_schedule.specs.Schedule.{Outcome, SerialOutcome}
+use Rattle.round_schedule.specs.Schedule.{StepOutcome, SerialOutcome}
 use Rattle.rv64_decode.specs.declared.instruction.Instr.{Instr}
 use Rattle.rv64_decode.specs.declared.instruction.Instr.TheVariants.{AmoswapW, AmoaddW, AmoxorW, AmoandW, AmoorW, AmominW, AmomaxW, AmominuW, AmomaxuW, AmoswapD, AmoaddD, AmoxorD, AmoandD, AmoorD, AmominD, AmomaxD, AmominuD, AmomaxuD, LrW, LrD, ScW, ScD}
 use Rattle.rv64_decode.specs.declared.ordering.AcquireRelease.{AcquireRelease}
@@ -110,7 +110,7 @@ action_formed _ x pc = tt
 
 -- ---- the outcomes
 
-abbrev Has : ℕ → Outcome Hart → Type 0
+abbrev Has : ℕ → StepOutcome Hart → Type 0
 Has limit o = OnAccess (Formed limit) o.answer
 
 below_limit : (a n limit : ℕ) → 1 ≤ n → a + n ≤ limit → a < limit

@@ -1,5 +1,5 @@
 pub mod Products
-pub mod RunTurns
+pub mod SimpleTurns
 pub mod Shown
 pub mod Spares
 pub mod Turns
@@ -15,5 +15,5 @@ pub mod Listed
 pub mod Paused
 pub mod Performed
 pub mod Ran
-pub mod SimpleRuns
+pub mod SimpleLengths
 pub mod Zeroed

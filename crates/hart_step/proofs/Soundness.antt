@@ -12,7 +12,7 @@ use Rattle.round_schedule.specs.declared.access.Stepped.{Stepped}
 use Rattle.round_schedule.specs.declared.access.Stepped.TheVariants.{Done, Waits, Stopped}
 use Rattle.round_schedule.specs.declared.span.Span.{Span}
 use Rattle.round_schedule.specs.Accesses.{is_full_fence}
-use Rattle.round_schedule.specs.Schedule.{Outcome, SerialOutcome}
+use Rattle.round_schedule.specs.Schedule.{StepOutcome, SerialOutcome}
 use Rattle.rv64_decode.specs.declared.ordering.AcquireRelease.{AcquireRelease}
 use Rattle.hart_step.specs.declared.hart.Hart.{Hart}
 use Rattle.hart_step.specs.Console.{ConsoleState}
@@ -32,13 +32,13 @@ OnDone P Waits = Unit {0}
 OnDone P (Stopped code) = Unit {0}
 
 -- an outcome whose access agrees with its stores, and whose count is right
-record Fair (h : Hart) (bs : List ℕ) (o : Outcome Hart) : Type 0 where
+record Fair (h : Hart) (bs : List ℕ) (o : StepOutcome Hart) : Type 0 where
   agrees : IsBytes bs → OnDone (Agrees bs o.stores) o.answer
   counts : o.hart.done ≡ counted o.answer h.done
   places : IsPlacedAt o.answer h.done
 
 -- and that the parallel phase may have
-record FairParallel (h : Hart) (bs : List ℕ) (o : Outcome Hart) : Type 0 where
+record FairParallel (h : Hart) (bs : List ℕ) (o : StepOutcome Hart) : Type 0 where
   fair : Fair h bs o
   parallel : OnDone IsParallel o.answer
 
@@ -95,14 +95,14 @@ record FairSerial (r : Option Span) (h : Hart) (bs : List ℕ) (o : SerialOutcom
   places : IsPlacedAt o.answer h.done
   reserved : OnDone (HasReservation r) o.answer
 
-consoled : (r : Option Span) (h : Hart) (bs : List ℕ) (c : ConsoleState) (o : Outcome Hart) → Fair h bs o → OnDone (HasReservation r) o.answer → FairSerial r h bs (with_console c o)
+consoled : (r : Option Span) (h : Hart) (bs : List ℕ) (c : ConsoleState) (o : StepOutcome Hart) → Fair h bs o → OnDone (HasReservation r) o.answer → FairSerial r h bs (with_console c o)
 consoled r h bs c o f e = record { agrees = f.agrees; counts = f.counts; places = f.places; reserved = e }
 
 -- an action of the parallel phase is no store-conditional
 plain_reserved : (r : Option Span) (h : Hart) (m : Memory) (a : Action) → OnDone (HasReservation r) (performed a h m).answer
 plain_reserved r h m (Put rd v) = tt
-plain_reserved r h m (Jump rd t) = of_test (λ (o : Outcome Hart). OnDone (HasReservation r) o.answer) (t % 4 == 0) _ _ tt tt
-plain_reserved r h m (Branch b t) = of_test (λ (o : Outcome Hart). OnDone (HasReservation r) o.answer) b _ _ (of_test (λ (o : Outcome Hart). OnDone (HasReservation r) o.answer) (t % 4 == 0) _ _ tt tt) tt
+plain_reserved r h m (Jump rd t) = of_test (λ (o : StepOutcome Hart). OnDone (HasReservation r) o.answer) (t % 4 == 0) _ _ tt tt
+plain_reserved r h m (Branch b t) = of_test (λ (o : StepOutcome Hart). OnDone (HasReservation r) o.answer) b _ _ (of_test (λ (o : StepOutcome Hart). OnDone (HasReservation r) o.answer) (t % 4 == 0) _ _ tt tt) tt
 plain_reserved r h m (Read rd a w s) = by_result (loaded m a w)
   where
     by_result : (o : Result ℕ Fault) → OnDone (HasReservation r) (read_by h rd a w s o).answer
@@ -113,7 +113,7 @@ plain_reserved r h m (Write a w v) = by_fault (store_fault m a w)
     by_fault : (o : Option Fault) → OnDone (HasReservation r) (written_by h a w v o).answer
     by_fault (Some f) = tt
     by_fault None = tt
-plain_reserved r h m (Order before after mode) = of_test (λ (o : Outcome Hart). OnDone (HasReservation r) o.answer) (is_full_fence before after mode) _ _ tt tt
+plain_reserved r h m (Order before after mode) = of_test (λ (o : StepOutcome Hart). OnDone (HasReservation r) o.answer) (is_full_fence before after mode) _ _ tt tt
 plain_reserved r h m (Halt code) = tt
 plain_reserved r h m (Reserve rd a w ordering) = tt
 plain_reserved r h m (Conditional rd a w v ordering) = tt

@@ -6,7 +6,7 @@ use Rattle.pages.specs.declared.access.Width.{Width}
 use Rattle.pages.specs.Memory.{Memory, value_at, loaded, store_fault, fetched}
 use Rattle.round_schedule.specs.declared.span.Span.{Span}
 use Rattle.round_schedule.specs.Accesses.{is_full_fence}
-use Rattle.round_schedule.specs.Schedule.{Outcome, SerialOutcome}
+use Rattle.round_schedule.specs.Schedule.{StepOutcome, SerialOutcome}
 use Rattle.rv64_decode.specs.declared.instruction.Instr.{Instr}
 use Rattle.rv64_decode.specs.declared.instruction.Instr.TheVariants.{Ebreak}
 use Rattle.rv64_decode.specs.declared.ordering.AcquireRelease.{AcquireRelease}
@@ -19,7 +19,7 @@ use Rattle.hart_step.specs.Step.{fault_code, stopped_with, performed, stepped, r
 use Rattle.hart_step.specs.Stops.{StopsFit, has_stop}
 use Rattle.hart_step.proofs.ByWord.{of_test, of_word}
 
-abbrev Fits : Outcome Hart → Type 0
+abbrev Fits : StepOutcome Hart → Type 0
 Fits o = has_stop o.hart.stop ≡ true
 
 abbrev FitsSerial : SerialOutcome Hart ConsoleState → Type 0

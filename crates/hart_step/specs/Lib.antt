@@ -2,7 +2,7 @@ pub mod Amo
 pub mod Answers
 pub mod Buffered
 pub mod Buses
-pub mod CodeTables
+pub mod DecodedCode
 pub mod Console
 pub mod Effect
 pub mod Forms

@@ -28,6 +28,7 @@ impl AccessLog for Vec<Access> {
 }
 
 /// How many accesses there were, where nobody asks for more.
+// docs/decisions/storage.md
 #[derive(Clone, Copy, Debug)]
 pub struct AccessCount {
     /// The number, modulo 2^64.

@@ -6,7 +6,7 @@ mod amo;
 mod answer;
 mod buffered;
 mod bus;
-mod code_table;
+mod decoded_code;
 mod direct;
 mod effects;
 mod hart;
@@ -15,8 +15,8 @@ mod listing;
 mod numbers;
 mod performing;
 mod rounds;
-mod runs;
 mod simple;
+mod simple_stretches;
 mod stepping;
 
 pub use access_log::{AccessCount, AccessLog};
@@ -24,15 +24,15 @@ pub use amo::amo_value;
 pub use answer::Answer;
 pub use buffered::Buffered;
 pub use bus::Bus;
-pub use code_table::CodeTable;
+pub use decoded_code::DecodedCode;
 pub use effects::{cut_to, sign_extended, stop_code};
 pub use hart::{Hart, Stop};
 pub use laws::{
     accesses_have_their_forms, done_counts_instructions, instructions_are_sound,
     stops_have_their_codes, waits_before_serial_words,
 };
-pub use listing::{count_of, place_of, step_listed};
+pub use listing::{count_of, index_of, step_listed};
 pub use round_schedule::{Access, Span, Stepped};
 pub use rounds::hart_round;
-pub use runs::do_run_at;
+pub use simple_stretches::do_simple_at;
 pub use stepping::{step, step_decoded};

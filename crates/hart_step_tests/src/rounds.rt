@@ -1,5 +1,7 @@
 use crate::harness::{hart, memory};
-use hart_step::{AccessCount, AccessLog, Buffered, CodeTable, Hart, do_run_at, hart_round, step};
+use hart_step::{
+    AccessCount, AccessLog, Buffered, DecodedCode, Hart, do_simple_at, hart_round, step,
+};
 use pages::{Pages, Piece, Range, Store, Width};
 use round_schedule::Access;
 use std::alloc::Global;
@@ -12,12 +14,12 @@ fn a_round(rt: HostRuntime) -> Result<(), Fail> {
     let mut pages = memory(alloc, [0xfff0_8093, 0x1010_3023, 0xfe00_9ce3, 0x0000_0073])?;
     let mut h = hart(3, 0);
     let mut log = Vec::new(alloc);
-    let table = CodeTable::new(alloc, &pages, 0, 4)?;
+    let code = DecodedCode::new(alloc, &pages, 0, 4)?;
     // the quota ends the first round
-    assert!(rt; !hart_round(&mut h, &mut pages, &table, 4, &mut log)?);
+    assert!(rt; !hart_round(&mut h, &mut pages, &code, 4, &mut log)?);
     assert_eq!(rt; (h.pc, h.done, h.x[1]), (4, 4, 1));
     // and the call the second
-    assert!(rt; hart_round(&mut h, &mut pages, &table, 100, &mut log)?);
+    assert!(rt; hart_round(&mut h, &mut pages, &code, 100, &mut log)?);
     assert_eq!(rt; (h.pc, h.done, h.x[1]), (12, 9, 0));
     assert_eq!(rt; log.len(), 3);
     assert_eq!(rt; size_of::<Access>(), 40);
@@ -32,10 +34,10 @@ fn buffered_round<L: AccessLog>(
 ) -> Result<(Hart, bool, Vec<Store>), Fail> {
     // ADDI x1,x1,-1; SD x1,256(x0); BNE x1,x0,-8; ECALL
     let pages = memory(alloc, [0xfff0_8093, 0x1010_3023, 0xfe00_9ce3, 0x0000_0073])?;
-    let table = CodeTable::new(alloc, &pages, 0, 4)?;
+    let code = DecodedCode::new(alloc, &pages, 0, 4)?;
     let mut h = hart(3, 0);
     let mut bus = Buffered::new(alloc, &pages);
-    let waits = hart_round(&mut h, &mut bus, &table, quota, log)?;
+    let waits = hart_round(&mut h, &mut bus, &code, quota, log)?;
     let mut stores = Vec::new(alloc);
     for store in bus.into_buffer().stores() {
         stores.push(store)?;
@@ -80,11 +82,11 @@ fn own_stores_are_seen(rt: HostRuntime) -> Result<(), Fail> {
 fn after_x0(alloc: Global, held: u64) -> Result<(Hart, bool), Fail> {
     // ADD x3,x0,x1; ADDI x2,x0,7; ADDI x0,x0,1; ECALL
     let mut pages = memory(alloc, [0x0010_01b3, 0x0070_0113, 0x0010_0013, 0x0000_0073])?;
-    let table = CodeTable::new(alloc, &pages, 0, 4)?;
+    let code = DecodedCode::new(alloc, &pages, 0, 4)?;
     let mut h = hart(3, 0);
     h.x[0] = held;
     let mut log = Vec::new(alloc);
-    let waits = hart_round(&mut h, &mut pages, &table, 100, &mut log)?;
+    let waits = hart_round(&mut h, &mut pages, &code, 100, &mut log)?;
     Ok((h, waits))
 }
 
@@ -115,10 +117,10 @@ fn after_adding(alloc: Global, quota: u32) -> Result<(Hart, bool), Fail> {
         len: 1204,
     };
     let mut pages = Pages::new(alloc, 1, &[piece], &[range])?;
-    let table = CodeTable::new(alloc, &pages, 0, 301)?;
+    let code = DecodedCode::new(alloc, &pages, 0, 301)?;
     let mut h = hart(0, 0);
     let mut log = Vec::new(alloc);
-    let waits = hart_round(&mut h, &mut pages, &table, quota, &mut log)?;
+    let waits = hart_round(&mut h, &mut pages, &code, quota, &mut log)?;
     Ok((h, waits))
 }
 
@@ -148,10 +150,10 @@ fn a_run_ends_before_a_store_or_at_the_quota(rt: HostRuntime) -> Result<(), Fail
     let alloc = rt.alloc();
     // ADDI x1,x1,-1; ADDI x1,x1,-1; SD x1,256(x0); ECALL
     let pages = memory(alloc, [0xfff0_8093, 0xfff0_8093, 0x1010_3023, 0x0000_0073])?;
-    let table = CodeTable::new(alloc, &pages, 0, 4)?;
+    let code = DecodedCode::new(alloc, &pages, 0, 4)?;
     for (left, ran, left_in_x1) in [(0, 0, 3), (1, 1, 2), (2, 2, 1), (100, 2, 1)] {
         let mut h = hart(3, 0);
-        let words = do_run_at::<()>(&mut h, table.words(), table.runs(), 0, left);
+        let words = do_simple_at::<()>(&mut h, code.words(), code.simple_lengths(), 0, left);
         assert_eq!(rt; words, ran);
         let done = u64::from(ran);
         assert_eq!(rt; (h.pc, h.done, h.x[1]), (4 * done, done, left_in_x1));
@@ -163,15 +165,15 @@ fn a_run_ends_before_a_store_or_at_the_quota(rt: HostRuntime) -> Result<(), Fail
 fn after_one(alloc: Global, pc: u64) -> Result<(Hart, bool), Fail> {
     // SD x1,256(x0); AMOADD.D x3,x1,(x2); EBREAK; no instruction
     let mut pages = memory(alloc, [0x1010_3023, 0x0011_31af, 0x0010_0073, 0])?;
-    let table = CodeTable::new(alloc, &pages, 0, 4)?;
+    let code = DecodedCode::new(alloc, &pages, 0, 4)?;
     let mut h = hart(3, 256);
     h.pc = pc;
     let mut log = Vec::new(alloc);
-    let waits = hart_round(&mut h, &mut pages, &table, 1, &mut log)?;
+    let waits = hart_round(&mut h, &mut pages, &code, 1, &mut log)?;
     Ok((h, waits))
 }
 
-// A table has an ECALL where there is no instruction, and the hart doesn't wait there.
+// Decoded code has an ECALL where there is no instruction, and the hart doesn't wait there.
 #[test]
 fn listed_words_go_wait_or_stop(rt: HostRuntime) -> Result<(), Fail> {
     for (pc, done, waits, code) in [

@@ -2,7 +2,7 @@
 
 use crate::devices::{Stride, writes};
 use crate::harness::settings;
-use emulation::{Shown, Unvisited, show_run};
+use emulation::{ShownState, Unvisited, show_run};
 use machine::{GuestFiles, Settings};
 use std::alloc::Global;
 use std::sync::Wait;
@@ -20,7 +20,7 @@ fn echoes() -> Settings<'static> {
 }
 
 /// Whether what is shown of the run is this text, and all its ways into a sink that fails are told.
-fn shows<R: Threads + Wait + Sync>(rt: &R, alloc: Global, shown: Shown, text: &[u8]) -> bool {
+fn shows<R: Threads + Wait + Sync>(rt: &R, alloc: Global, shown: ShownState, text: &[u8]) -> bool {
     let asked = echoes();
     let guest = GuestFiles {
         image: ECHO,
@@ -53,7 +53,7 @@ fn a_state_has_no_lines_of_a_trace(rt: HostRuntime) {
         output 2\n\
         41ff\n\
         end\n";
-    assert!(rt; shows(&rt, rt.alloc(), Shown::State, text));
+    assert!(rt; shows(&rt, rt.alloc(), ShownState::State, text));
 }
 
 #[test]
@@ -66,10 +66,10 @@ fn harts_come_with_the_length_of_the_output(rt: HostRuntime) {
         x11 0000000000000002\n\
         x17 0000000000000001\n\
         output 2\n";
-    assert!(rt; shows(&rt, rt.alloc(), Shown::Harts, text));
+    assert!(rt; shows(&rt, rt.alloc(), ShownState::Harts, text));
 }
 
 #[test]
 fn output_is_shown_as_it_is(rt: HostRuntime) {
-    assert!(rt; shows(&rt, rt.alloc(), Shown::Output, b"A\xff"));
+    assert!(rt; shows(&rt, rt.alloc(), ShownState::Output, b"A\xff"));
 }

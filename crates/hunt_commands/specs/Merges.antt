@@ -98,20 +98,20 @@ abbrev pub IsApartFor : Option Apart → Table → Table → Type 0
 IsApartFor None last next = GoesOn last next
 IsApartFor (Some why) last next = IsApart why last next
 
--- the table at a place goes on where the one before it ends
+-- the table at a index goes on where the one before it ends
 abbrev pub GoesOnAt : List TableFile → ℕ → Type 0
-GoesOnAt files place = (d : TableFile) → GoesOn (slice_index_or files (place - 1) d).table (slice_index_or files place d).table
+GoesOnAt files index = (d : TableFile) → GoesOn (slice_index_or files (index - 1) d).table (slice_index_or files index d).table
 
 -- those at the places from 1 on up to this one do so
 abbrev pub GoOnUpTo : List TableFile → ℕ → Type 0
-GoOnUpTo files end = (place : ℕ) → 1 ≤ place → place < end → GoesOnAt files place
+GoOnUpTo files end = (index : ℕ) → 1 ≤ index → index < end → GoesOnAt files index
 
--- the one at this place is the first that doesn't, for this cause
-pub record IsFirstApartAt (files : List TableFile) (place : ℕ) (why : Apart) : Type 0 where
-  pub some : 1 ≤ place
-  pub there : place < length files
-  pub before : GoOnUpTo files place
-  pub apart : (d : TableFile) → IsApart why (slice_index_or files (place - 1) d).table (slice_index_or files place d).table
+-- the one at this index is the first that doesn't, for this cause
+pub record IsFirstApartAt (files : List TableFile) (index : ℕ) (why : Apart) : Type 0 where
+  pub some : 1 ≤ index
+  pub there : index < length files
+  pub before : GoOnUpTo files index
+  pub apart : (d : TableFile) → IsApart why (slice_index_or files (index - 1) d).table (slice_index_or files index d).table
 
 abbrev pub HasFirstApart : List TableFile → Option (ℕ × Apart) → Type 0
 HasFirstApart files None = GoOnUpTo files (length files)
@@ -119,10 +119,10 @@ HasFirstApart files (Some first) = IsFirstApartAt files first.0 first.1
 
 -- the tables of these two paths are the first two neighbours of which the second doesn't go on where the first ends, for this cause
 pub record AreFirstApart (files : List TableFile) (last next : List ℕ) (why : Apart) : Type 0 where
-  pub place : ℕ
-  pub first : IsFirstApartAt files place why
-  pub is_last : (d : TableFile) → last ≡ path_of (slice_index_or files (place - 1) d)
-  pub is_next : (d : TableFile) → next ≡ path_of (slice_index_or files place d)
+  pub index : ℕ
+  pub first : IsFirstApartAt files index why
+  pub is_last : (d : TableFile) → last ≡ path_of (slice_index_or files (index - 1) d)
+  pub is_next : (d : TableFile) → next ≡ path_of (slice_index_or files index d)
 
 -- ---- refusals
 

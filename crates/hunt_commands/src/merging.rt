@@ -51,25 +51,25 @@ fn put_merged<O: Output>(
         ((m : SetMerge files.entry.items) × BeganText (O.took out.old) (O.took out.new) (merged_text m))) }
     ensures errors { IfErr result (IsMergeEnd files.entry.items) }
 {
-    if let Some((place, why)) = first_apart(&files) {
-        return Err(apart_at(alloc, &files, place, why)?);
+    if let Some((index, why)) = first_apart(&files) {
+        return Err(apart_at(alloc, &files, index, why)?);
     }
     let texts = texts_of(alloc, files)?;
     merge(alloc, &texts, out)?;
     Ok(())
 }
 
-/// The failure of the table at a place, the first that isn't that of the slice which follows on the one before it.
+/// The failure of the table at a index, the first that isn't that of the slice which follows on the one before it.
 fn apart_at(
     alloc: Global,
     files: &[TableFile<'_>],
-    place: usize,
+    index: usize,
     why: Apart,
 ) -> Result<MergeFailure, AllocError>
-    requires { IsFirstApartAt files.now place why }
+    requires { IsFirstApartAt files.now index why }
     ensures { IfOk result (IsMergeEnd files.now) }
 {
-    let last = String::from_str(alloc, files[place - 1].path)?;
-    let next = String::from_str(alloc, files[place].path)?;
+    let last = String::from_str(alloc, files[index - 1].path)?;
+    let next = String::from_str(alloc, files[index].path)?;
     Ok(MergeFailure::Apart(last, next, why))
 }

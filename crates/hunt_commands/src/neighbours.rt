@@ -38,13 +38,13 @@ impl Display for Apart {
     }
 }
 
-/// The place of the first table that isn't that of the slice which follows on the one before it, and how it isn't.
+/// The index of the first table that isn't that of the slice which follows on the one before it, and how it isn't.
 pub(crate) fn first_apart(files: &[TableFile<'_>]) -> Option<(usize, Apart)>
     ensures { HasFirstApart files.now result }
 {
-    for place in 1..files.len() {
-        if let Some(why) = apart_from(&files[place - 1].table, &files[place].table) {
-            return Some((place, why));
+    for index in 1..files.len() {
+        if let Some(why) = apart_from(&files[index - 1].table, &files[index].table) {
+            return Some((index, why));
         }
     }
     None

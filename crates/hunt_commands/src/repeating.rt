@@ -20,8 +20,8 @@ pub(crate) fn tell_endings<M: Messages>(
         line_of(alloc, "run", &asked.search.program)?
     };
     let seed = asked.search.seed;
-    for (place, row) in rows.iter().enumerate() {
-        let (number, first) = (place.saturating_add(1), row.first);
+    for (index, row) in rows.iter().enumerate() {
+        let (number, first) = (index.saturating_add(1), row.first);
         messages.tell(format_args!(
             "ending {number}: {program} --plan-number {first} --seed {seed}"
         ));
@@ -100,8 +100,8 @@ fn quoted(alloc: Global, word: &str) -> Result<String, AllocError> {
         return Ok(String::from_str(alloc, word)?);
     }
     let mut text = String::from_str(alloc, "'")?;
-    for (place, part) in word.split('\'').enumerate() {
-        if place > 0 {
+    for (index, part) in word.split('\'').enumerate() {
+        if index > 0 {
             text.push_str("'\\''")?;
         }
         text.push_str(part)?;

@@ -31,8 +31,8 @@ pub fn are_same_ranges(ranges: &[SeenRange], others: &[SeenRange]) -> bool
     if ranges.len() != others.len() {
         return false;
     }
-    for (place, range) in ranges.iter().enumerate() {
-        if !range.is_same(&others[place]) {
+    for (index, range) in ranges.iter().enumerate() {
+        if !range.is_same(&others[index]) {
             return false;
         }
     }

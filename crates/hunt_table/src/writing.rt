@@ -129,8 +129,8 @@ fn add_endings(
         is_marked: marked,
         ranges: &header.ranges,
     };
-    for (place, row) in rows.iter().enumerate() {
-        add_ending(line, &form, place as u64 + 1, row)?;
+    for (index, row) in rows.iter().enumerate() {
+        add_ending(line, &form, index as u64 + 1, row)?;
     }
     Ok(())
 }

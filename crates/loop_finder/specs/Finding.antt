@@ -40,7 +40,7 @@ RoundRunsNeverEnd =
 
 -- what is compared of two machines
 abbrev pub AreSame : Untraced → Untraced → Type 0
-AreSame u v = (map uncounted u.harts ≡ map uncounted v.harts) × (u.table ≡ v.table) × (u.console ≡ v.console) × (u.bytes ≡ v.bytes)
+AreSame u v = (map uncounted u.harts ≡ map uncounted v.harts) × (u.reservations ≡ v.reservations) × (u.console ≡ v.console) × (u.bytes ≡ v.bytes)
 
 -- after none of the turns of its rows before turn n it is as it was
 abbrev pub Moves : ℕ → ℕ → Running → Type 0

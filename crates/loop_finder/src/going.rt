@@ -32,12 +32,12 @@ pub(crate) fn go_on<R: Threads + Wait + Sync>(
 }
 
 /// An equal machine.
-pub(crate) fn kept(machine: &mut UntracedMachine) -> Result<UntracedMachine, OutOfMemory>
+pub(crate) fn shared_copy(machine: &mut UntracedMachine) -> Result<UntracedMachine, OutOfMemory>
     ensures same { IfOk result (λ u. u ≡ machine.old) }
     ensures stays { machine.new ≡ machine.old }
 {
     match machine.share() {
-        Ok(kept) => Ok(kept),
+        Ok(copy) => Ok(copy),
         Err(_) => Err(OutOfMemory),
     }
 }
@@ -54,7 +54,7 @@ pub(crate) fn are_alike(one: &UntracedMachine, other: &UntracedMachine) -> bool
     ensures { (m n : Running) → IsUntraced m one.now → IsUntraced n other.now →
         result ≡ are_alike m.state n.state }
 {
-    // There is one reservation's place for each hart.
+    // There is one entry for each hart.
     let _first = one.reservations();
     let _second = other.reservations();
     are_same(one, other)
@@ -103,7 +103,7 @@ fn asks_in_next<R: Threads + Wait + Sync>(
         asks_in_round (words_of m.code) (asks_number m.code) m.plan.budget (quotas_of m.plan) m.state) }
     ensures stays { machine.new ≡ machine.old }
 {
-    let there = kept(machine)?;
+    let there = shared_copy(machine)?;
     match there.asks_number(rt) {
         Ok(asks) => Ok(asks),
         Err(_) => Err(OutOfMemory),

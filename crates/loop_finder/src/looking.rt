@@ -4,7 +4,7 @@ ghost use Rattle.machine.specs.Untraced.{IsAfter, IsUntraced};
 ghost use Rattle.run_loops.specs.Decided.{are_alike};
 ghost use Rattle.loop_finder.specs.Finding.{Moves, is_back_after, is_back_within};
 
-use crate::going::{are_alike, asks_within, go_on, kept};
+use crate::going::{are_alike, asks_within, go_on, shared_copy};
 use machine::UntracedMachine;
 use pages::OutOfMemory;
 use std::sync::Wait;
@@ -31,7 +31,7 @@ pub(crate) fn look<R: Threads + Wait + Sync>(
         go_on(rt, machine, rounds)?;
         return Ok(None);
     }
-    let mut start = kept(machine)?;
+    let mut start = shared_copy(machine)?;
     let period = look_from(rt, machine, &mut start, rounds);
     drop(start);
     period

@@ -1,9 +1,9 @@
 pub mod Opened
 pub mod Repeated
-pub mod SizeKept
+pub mod SizeStays
 pub mod UntracedRounds
 pub mod NextRounds
 pub mod TracedMachine
 pub mod TracedRun
-pub mod KeptStarts
+pub mod NumberedStarts
 pub mod Walked

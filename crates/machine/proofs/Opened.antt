@@ -2,7 +2,7 @@
 use Rattle.std.proofs.Common.{◌≡◌, ℕ, zero, suc, true, List, [], All, arith, get_or, replicate, Option, None, refl, sym, ap, subst, ◌∙◌}
 use Rattle.round_schedule.specs.declared.span.Span.{Span}
 use Rattle.round_schedule.specs.Held.{held}
-use Rattle.round_schedule.specs.Tables.{Tied, entry}
+use Rattle.round_schedule.specs.Reservations.{Tied, entry}
 use Rattle.std.proofs.lemmas.List.Elements.{All-cons}
 use Rattle.hart_step.specs.declared.hart.Hart.{Hart}
 use Rattle.hart_step.specs.Stops.{has_stop}
@@ -12,7 +12,7 @@ use Rattle.guest_rounds.specs.Guests.{Guest, opening_guest}
 use Rattle.machine.specs.Machine.{opening}
 use Rattle.guest_rounds.specs.Opening.{opening_hart, opening_harts}
 use Rattle.machine.specs.Untraced.{IsUntraced, untraced_of}
-use Rattle.guest_rounds.proofs.TraceKept.{placed_first}
+use Rattle.guest_rounds.proofs.TraceHolds.{placed_first}
 use Rattle.machine.proofs.UntracedRounds.{no_trace}
 
 none_held : (h : ℕ) → None ≡ held h []
@@ -24,8 +24,8 @@ none_at zero h = refl
 none_at (suc n) zero = refl
 none_at (suc n) (suc h) = none_at n h
 
-pub tied_first : (n : ℕ) (table : List (Option Span)) → table ≡ replicate n None → Tied table []
-tied_first n table e = record { each = λ h low. ap (λ (t : List (Option Span)). entry t h) e ∙ none_at n h ∙ none_held h }
+pub tied_first : (n : ℕ) (reservations : List (Option Span)) → reservations ≡ replicate n None → Tied reservations []
+tied_first n reservations e = record { each = λ h low. ap (λ (t : List (Option Span)). entry t h) e ∙ none_at n h ∙ none_held h }
 
 pub none_stopped : (e n i k : ℕ) → All (λ (h : Hart). has_stop h.stop ≡ true) (opening_harts e n i k)
 none_stopped e n i zero = λ j d l. absurd (omega (arith, l))
@@ -41,7 +41,7 @@ opened image input plan n g same e = subst (λ (x : Guest). IsUntraced (opening 
   code = refl;
   plan = refl;
   events = refl;
-  table = tied_first n (replicate n None) refl;
+  reservations = tied_first n (replicate n None) refl;
   sound = no_trace;
   placed = placed_first image.entry plan.harts 0 plan.harts;
   stops = none_stopped image.entry plan.harts 0 plan.harts;

@@ -10,7 +10,7 @@ use Rattle.trace.specs.Traced.{Laid, Traced, opening_at, opening_bytes}
 use Rattle.machine.specs.Machine.{Running, after_round, after_rounds, opening}
 use Rattle.machine.specs.Untraced.{AreLast, HasRun, HoldsTogether, IsOfRun, IsUntraced, Untraced, traced}
 use Rattle.machine.proofs.Repeated.{more_rounds}
-use Rattle.machine.proofs.SizeKept.{size_kept}
+use Rattle.machine.proofs.SizeStays.{size_stays}
 use Rattle.machine.proofs.UntracedRounds.{is_running, with_events}
 
 pub traced_untraced : (m : Running) (u : Untraced) (t : Traced) → IsUntraced m u → t.events ≡ m.state.trace → IsUntraced (traced u t) u
@@ -25,7 +25,7 @@ traced_untraced m u t i e =
       code = k.code;
       plan = k.plan;
       events = k.events;
-      table = k.table;
+      reservations = k.reservations;
       sound = k.sound;
       placed = k.placed;
       stops = k.stops;
@@ -35,10 +35,10 @@ pub traced_is : (m : Running) (u : Untraced) (t : Traced) → IsUntraced m u →
 traced_is m u t i e o =
     ap (λ (es : List Event). with_events u es (opening_bytes t.opening (length u.bytes))) e ∙ ap (λ (bs : List ℕ). with_events u m.state.trace bs) o ∙ is_running m u i
 
-sizes_kept : (k : ℕ) (m : Running) → length (after_rounds k m).state.bytes ≡ length m.state.bytes
+sizes_stay : (k : ℕ) (m : Running) → length (after_rounds k m).state.bytes ≡ length m.state.bytes
 unfolding run_of
-sizes_kept zero m = refl
-sizes_kept (suc k) m = sizes_kept k (after_round m) ∙ size_kept (words_of m.code) m.plan.budget (quotas_of m.plan) m.state
+sizes_stay zero m = refl
+sizes_stay (suc k) m = sizes_stay k (after_round m) ∙ size_stays (words_of m.code) m.plan.budget (quotas_of m.plan) m.state
 
 -- a machine of a run is one after more rounds
 of_run_after : (k : ℕ) (m n : Running) → n ≡ after_rounds k m → IsOfRun m → IsOfRun n
@@ -67,7 +67,7 @@ traced_run k u v t s h x o =
     let i : IsUntraced n v = x.run m h.run in
     let all = x.events m t.events h.run refl in
     let events : s.events ≡ n.state.trace = all.2 ∙ sym all.1 in
-    let size : length v.bytes ≡ length u.bytes = ap length i.bytes ∙ sizes_kept k m in
+    let size : length v.bytes ≡ length u.bytes = ap length i.bytes ∙ sizes_stay k m in
     let opened : opening_bytes s.opening (length v.bytes) ≡ opening_bytes t.opening (length u.bytes) = ap (λ (ps : List Laid). opening_bytes ps (length v.bytes)) o ∙ ap (opening_bytes t.opening) size in
     record {
       holds = record { run = traced_untraced n v s i events; of_run = of_run_after k m (traced v s) (traced_is n v s i events opened) h.of_run; beyond = λ a l. ap (λ (ps : List Laid). opening_at ps a) o ∙ h.beyond a (omega (arith, l, size)) };

@@ -5,14 +5,14 @@ use Rattle.pages.specs.declared.access.Range.{Range}
 use Rattle.pages.specs.Memory.{IsBytes}
 use Rattle.round_schedule.specs.declared.event.Event.{Event}
 use Rattle.round_schedule.specs.Accesses.{place_of}
-use Rattle.round_schedule.specs.ByTable.{RoundByTable, Tabled}
+use Rattle.round_schedule.specs.ByReservations.{RoundByReservations, Reserving}
 use Rattle.round_schedule.specs.Places.{Placed}
 use Rattle.round_schedule.specs.Positions.{no_event}
 use Rattle.round_schedule.specs.Schedule.{State, round_of}
-use Rattle.round_schedule.specs.Tables.{Tied}
-use Rattle.round_schedule.proofs.Machines.{rounds_by_table}
+use Rattle.round_schedule.specs.Reservations.{Tied}
+use Rattle.round_schedule.proofs.Machines.{rounds_by_reservations}
 use Rattle.round_schedule.proofs.Preserved.{rounds_preserve}
-use Rattle.round_schedule.proofs.Rising.{places_kept}
+use Rattle.round_schedule.proofs.Rising.{places_low}
 use Rattle.round_planner.specs.Quotas.{IsQuota, Planned, quotas_of}
 use Rattle.hart_step.specs.declared.hart.Hart.{Hart}
 use Rattle.hart_step.specs.Console.{ConsoleState}
@@ -26,11 +26,11 @@ use Rattle.trace.proofs.RunForms.{round_leaves_trace}
 use Rattle.guest_rounds.specs.Guests.{Guest, guest_events, next_guest}
 use Rattle.guest_rounds.specs.Held.{most_of_round}
 use Rattle.machine.specs.Machine.{Running, after_round, after_rounds, count_stopped}
-use Rattle.machine.specs.Untraced.{HasRun, IsUntraced, MayGoOn, Untraced, next_events, next_of, tabled_of, untraced_of, untraced_round}
+use Rattle.machine.specs.Untraced.{HasRun, IsUntraced, MayGoOn, Untraced, next_events, next_of, reserving_of, untraced_of, untraced_round}
 use Rattle.machine.proofs.Repeated.{more_rounds, next_round, no_rounds, passed}
-use Rattle.guest_rounds.proofs.RoundDone.{only_added, rounds_next, traced_parts, whole}
-use Rattle.machine.proofs.SizeKept.{size_kept}
-use Rattle.guest_rounds.proofs.TraceKept.{low_quotas, placed_more}
+use Rattle.guest_rounds.proofs.RoundDone.{only_added, rounds_next, traced_fields, whole}
+use Rattle.machine.proofs.SizeStays.{size_stays}
+use Rattle.guest_rounds.proofs.TraceHolds.{low_quotas, placed_more}
 
 -- the machine of a run with these events
 abbrev pub with_events : Untraced → List Event → List ℕ → Running
@@ -59,7 +59,7 @@ same_untraced g new plan events more rounds e f =
 pub record CanGoOn (u : Untraced) : Type 0 where
   pub bytes : IsBytes u.bytes
   pub few : length u.bytes ≤ 2 ^ 26
-  pub size : length u.table ≡ length u.harts
+  pub size : length u.reservations ≡ length u.harts
   pub quotas : (m : ℕ) → All IsQuota (quotas_of u.plan m)
   pub budget : u.plan.budget ≤ 1000
 
@@ -73,37 +73,37 @@ next_here : (u : Untraced) (es : List Event) (bs : List ℕ) → IsUntraced (wit
 next_here u es bs i can few =
     let W = words_of u.code in
     let q = quotas_of u.plan in
-    let m = traced_parts u.rounds u.harts u.bytes u.table u.console es in
+    let m = traced_fields u.rounds u.harts u.bytes u.reservations u.console es in
     let r = next_of u in
-    let is = only_added W u.plan.budget q u.rounds u.harts u.bytes u.table u.console es in
-    let one : RoundByTable W u.plan.budget q m = rounds_by_table Hart ConsoleState W u.plan.budget q m (sound u.code) can.bytes i.table can.size in
+    let is = only_added W u.plan.budget q u.rounds u.harts u.bytes u.reservations u.console es in
+    let one : RoundByReservations W u.plan.budget q m = rounds_by_reservations Hart ConsoleState W u.plan.budget q m (sound u.code) can.bytes i.reservations can.size in
     let s = round_of W u.plan.budget q m.state in
-    let state : whole r.state.harts r.state.bytes r.state.console (es ++ r.state.trace) r.state.rounds ≡ s = ap (λ (y : Tabled Hart ConsoleState). y.state) (sym is) ∙ one.same in
-    let tied : Tied r.table (es ++ r.state.trace) = subst (λ (y : Tabled Hart ConsoleState). Tied y.table y.state.trace) is one.tied in
+    let state : whole r.state.harts r.state.bytes r.state.console (es ++ r.state.trace) r.state.rounds ≡ s = ap (λ (y : Reserving Hart ConsoleState). y.state) (sym is) ∙ one.same in
+    let tied : Tied r.reservations (es ++ r.state.trace) = subst (λ (y : Reserving Hart ConsoleState). Tied y.reservations y.state.trace) is one.tied in
     let low = low_quotas u.plan can.quotas in
-    let sizes : length r.table ≡ length u.table = ap (λ (y : Tabled Hart ConsoleState). length y.table) (sym is) ∙ one.size in
-    let harts : length r.state.harts ≡ length u.harts = ap (λ (y : Tabled Hart ConsoleState). length y.state.harts) (sym is) ∙ one.harts in
+    let sizes : length r.reservations ≡ length u.reservations = ap (λ (y : Reserving Hart ConsoleState). length y.reservations) (sym is) ∙ one.size in
+    let harts : length r.state.harts ≡ length u.harts = ap (λ (y : Reserving Hart ConsoleState). length y.state.harts) (sym is) ∙ one.harts in
     record {
       run = record {
         harts = ap (λ (y : State Hart ConsoleState). y.harts) state;
         bytes = ap (λ (y : State Hart ConsoleState). y.bytes) state;
         console = ap (λ (y : State Hart ConsoleState). y.console) state;
-        rounds = rounds_next W u.plan.budget q (tabled_of u) ∙ ap (λ (y : State Hart ConsoleState). y.rounds) state;
+        rounds = rounds_next W u.plan.budget q (reserving_of u) ∙ ap (λ (y : State Hart ConsoleState). y.rounds) state;
         code = refl;
         plan = refl;
         events = omega (arith, i.events, length-append es r.state.trace, ap (λ (y : State Hart ConsoleState). length y.trace) state);
-        table = subst (λ (y : State Hart ConsoleState). Tied r.table y.trace) state tied;
+        reservations = subst (λ (y : State Hart ConsoleState). Tied r.reservations y.trace) state tied;
         sound = round_leaves_trace W (λ (h : Hart). h.done) (has_forms u.code) (counts_done u.code) (most_of_round * u.rounds) 1000000 u.plan.budget q m.state low
             (omega (arith, can.budget, few)) can.bytes (omega (arith, can.few)) i.sound i.placed;
-        placed = subst (λ (k : ℕ). Placed (λ (h : Hart). h.done) (most_of_round * k) s.harts s.trace) (rounds_next W u.plan.budget q (tabled_of u) ∙ ap (λ (y : State Hart ConsoleState). y.rounds) state)
+        placed = subst (λ (k : ℕ). Placed (λ (h : Hart). h.done) (most_of_round * k) s.harts s.trace) (rounds_next W u.plan.budget q (reserving_of u) ∙ ap (λ (y : State Hart ConsoleState). y.rounds) state)
             (placed_more (most_of_round * u.rounds + 1000000 + u.plan.budget) (most_of_round * (u.rounds + 1)) s.harts s.trace (omega (arith, can.budget))
-            (places_kept W (λ (h : Hart). h.done) (counts_done u.code) (most_of_round * u.rounds) 1000000 u.plan.budget q m.state low (omega (arith, can.budget, few)) i.placed));
+            (places_low W (λ (h : Hart). h.done) (counts_done u.code) (most_of_round * u.rounds) 1000000 u.plan.budget q m.state low (omega (arith, can.budget, few)) i.placed));
         stops = rounds_preserve Hart ConsoleState W (λ (h : Hart). has_stop h.stop) (stops_fit u.code) u.plan.budget q m.state i.stops;
       };
       events = sym (ap (λ (y : State Hart ConsoleState). y.trace) state);
       can = record {
-        bytes = subst (λ (y : Tabled Hart ConsoleState). IsBytes y.state.bytes) is one.bytes;
-        few = omega (arith, can.few, ap (λ (y : State Hart ConsoleState). length y.bytes) state, size_kept W u.plan.budget q m.state);
+        bytes = subst (λ (y : Reserving Hart ConsoleState). IsBytes y.state.bytes) is one.bytes;
+        few = omega (arith, can.few, ap (λ (y : State Hart ConsoleState). length y.bytes) state, size_stays W u.plan.budget q m.state);
         size = sizes ∙ can.size ∙ sym harts;
         quotas = can.quotas;
         budget = can.budget;
@@ -139,9 +139,9 @@ traces_go_on (suc n) m u fs es i can few e =
     (ending fs (es ++ next_events u) (subst IsTrace split one.run.sound), traces_go_on n (after_round m) (untraced_round u) fs (es ++ next_events u) one.run one.can (omega (arith, few)) split)
 
 -- who keeps no event may always go on
-pub nothing_kept : (n : ℕ) (es : List Event) (u : Untraced) → MayGoOn (λ _. Unit {0}) n es u
-nothing_kept zero es u = tt
-nothing_kept (suc n) es u = (tt, nothing_kept n (es ++ next_events u) (untraced_round u))
+pub nothing_to_keep : (n : ℕ) (es : List Event) (u : Untraced) → MayGoOn (λ _. Unit {0}) n es u
+nothing_to_keep zero es u = tt
+nothing_to_keep (suc n) es u = (tt, nothing_to_keep n (es ++ next_events u) (untraced_round u))
 
 -- ---- rounds after rounds
 
@@ -166,8 +166,8 @@ then_run j k u v w a b c x y = record {
 }
 
 -- a keeper that has kept the same
-pub kept_on : (k : ℕ) (u v : Untraced) (a b c : List Event → Type 0) → HasRun k u v a b → ((es : List Event) → b es → c es) → HasRun k u v a c
-kept_on k u v a b c x f = record {
+pub still_keeps : (k : ℕ) (u v : Untraced) (a b c : List Event → Type 0) → HasRun k u v a b → ((es : List Event) → b es → c es) → HasRun k u v a c
+still_keeps k u v a b c x f = record {
   rounds = x.rounds;
   run = x.run;
   events = λ m es i kept. let all = x.events m es i kept in (all.0, all.1, f (es ++ all.0) all.2);
@@ -208,7 +208,7 @@ rounds_pass k u m stopped i =
         code = i.code;
         plan = i.plan;
         events = i.events;
-        table = i.table;
+        reservations = i.reservations;
         sound = i.sound;
         placed = placed_more (most_of_round * m.state.rounds) (most_of_round * (m.state.rounds + k)) m.state.harts m.state.trace (omega arith) i.placed;
         stops = i.stops;

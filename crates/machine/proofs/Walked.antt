@@ -3,12 +3,12 @@ use Rattle.std.proofs.Common.{◌≡◌, ℕ, ◌+◌, ◌-◌, ◌<◌, ◌≤�
 use Rattle.std.specs.Prelude.{◌⊎◌, Result, Ok, Err, IfOk, OnOk, OnErr}
 use Rattle.round_schedule.specs.declared.event.Event.{Event}
 use Rattle.hart_rounds.specs.Starts.{Start}
-use Rattle.machine.specs.Kept.{next_start_of, start_at, untraced_rounds}
+use Rattle.machine.specs.RoundStarts.{next_start_of, start_at, untraced_rounds}
 use Rattle.machine.specs.Machine.{Running, after_rounds}
 use Rattle.machine.specs.Untraced.{HasRun, IsUntraced, MayGoOn, Untraced, next_events, untraced_round}
 use Rattle.machine.specs.Walks.{HasDone, HasEnded, HasLearned, HasSeenAll, HasStopped, IsCutOff, IsUpToDate, MayWalk}
 use Rattle.machine.specs.declared.walks.Walked.{Walked}
-use Rattle.machine.proofs.KeptStarts.{one_more, starts_there}
+use Rattle.machine.proofs.NumberedStarts.{one_more, starts_there}
 use Rattle.machine.proofs.Repeated.{more_rounds, no_rounds}
 use Rattle.machine.proofs.UntracedRounds.{may_next, passed_by, rounds_pass}
 

@@ -1,4 +1,4 @@
-pub mod Kept
+pub mod RoundStarts
 pub mod Machine
 pub mod Held
 pub mod Runs

@@ -5,9 +5,9 @@ use Rattle.pages.specs.declared.access.Range.{Range}
 use Rattle.elf_loader.specs.Image.{Loaded}
 use Rattle.round_schedule.specs.declared.event.Event.{Event}
 use Rattle.round_schedule.specs.declared.span.Span.{Span}
-use Rattle.round_schedule.specs.ByTable.{Tabled, tabled_round}
+use Rattle.round_schedule.specs.ByReservations.{Reserving, reserving_round}
 use Rattle.round_schedule.specs.Places.{Placed}
-use Rattle.round_schedule.specs.Tables.{Tied}
+use Rattle.round_schedule.specs.Reservations.{Tied}
 use Rattle.round_planner.specs.Quotas.{Planned, quotas_of}
 use Rattle.hart_step.specs.declared.hart.Hart.{Hart}
 use Rattle.hart_step.specs.Console.{ConsoleState}
@@ -24,7 +24,7 @@ pub record Untraced : Type 0 where
   pub harts : List Hart
   pub bytes : List ℕ
   pub console : ConsoleState
-  pub table : List (Option Span)
+  pub reservations : List (Option Span)
   pub events : ℕ
   pub rounds : ℕ
   pub code : List Range
@@ -36,7 +36,7 @@ untraced_of g plan events rounds = record {
   harts = g.harts;
   bytes = g.shared.memory.bytes;
   console = g.shared.console;
-  table = g.shared.table;
+  reservations = g.shared.reservations;
   events = events;
   rounds = rounds;
   code = g.shared.memory.code;
@@ -54,18 +54,18 @@ pub record IsUntraced (m : Running) (u : Untraced) : Type 0 where
   pub code : u.code ≡ m.code
   pub plan : u.plan ≡ m.plan
   pub events : u.events ≡ length m.state.trace
-  pub table : Tied u.table m.state.trace
+  pub reservations : Tied u.reservations m.state.trace
   pub sound : IsTrace m.state.trace
   pub placed : Placed (λ (h : Hart). h.done) (most_of_round * m.state.rounds) m.state.harts m.state.trace
   pub stops : All (λ (h : Hart). has_stop h.stop ≡ true) m.state.harts
 
--- the same as a state with its table, without the events so far
-abbrev pub tabled_of : Untraced → Tabled Hart ConsoleState
-tabled_of u = record { state = record { harts = u.harts; bytes = u.bytes; console = u.console; trace = []; rounds = u.rounds }; table = u.table }
+-- the same as a state with its reservations, without the events so far
+abbrev pub reserving_of : Untraced → Reserving Hart ConsoleState
+reserving_of u = record { state = record { harts = u.harts; bytes = u.bytes; console = u.console; trace = []; rounds = u.rounds }; reservations = u.reservations }
 
 -- its next round, with the round's own events alone
-abbrev pub next_of : Untraced → Tabled Hart ConsoleState
-next_of u = tabled_round (words_of u.code) u.plan.budget (quotas_of u.plan) (tabled_of u)
+abbrev pub next_of : Untraced → Reserving Hart ConsoleState
+next_of u = reserving_round (words_of u.code) u.plan.budget (quotas_of u.plan) (reserving_of u)
 
 abbrev pub next_events : Untraced → List Event
 next_events u = (next_of u).state.trace
@@ -76,7 +76,7 @@ untraced_round u = record {
   harts = (next_of u).state.harts;
   bytes = (next_of u).state.bytes;
   console = (next_of u).state.console;
-  table = (next_of u).table;
+  reservations = (next_of u).reservations;
   events = u.events + length (next_events u);
   rounds = u.rounds + 1;
   code = u.code;

@@ -20,6 +20,7 @@ use std::thread::Threads;
 pub(crate) const MOST_WORKERS: u32 = 16;
 
 /// How many instructions are worth a worker: starting its thread takes about as long as they do.
+// docs/decisions/threads.md
 const WORTH_A_WORKER: u64 = 16_384;
 
 /// What a round was.

@@ -18,6 +18,7 @@ use std::marker::Model;
 
 /// A guest program between two rounds that keeps no trace, but the number of events that the trace would have. Its memory
 /// grows with the guest, and never with the run.
+// docs/decisions/untraced-and-pictures.md
 #[derive(Drop)]
 pub struct UntracedMachine {
     pub(crate) guest: GuestState,
@@ -120,7 +121,7 @@ impl UntracedMachine {
 
     /// The reservations of the harts, in hart order.
     pub fn reservations(&self) -> &Reservations
-        ensures table { result.now ≡ self.now.table }
+        ensures reservations { result.now ≡ self.now.reservations }
         ensures count { length result.now ≡ length self.now.harts }
     {
         self.guest.sizes_agree();

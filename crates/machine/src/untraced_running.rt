@@ -8,7 +8,7 @@ ghost use Rattle.hart_rounds.specs.Starts.{keeps_log};
 ghost use Rattle.trace.specs.Traced.{IsTrace};
 ghost use Rattle.machine.specs.Machine.{count_stopped};
 ghost use Rattle.guest_rounds.specs.Rounds.{count_waiting};
-ghost use Rattle.machine.specs.Kept.{AreOfNext};
+ghost use Rattle.machine.specs.RoundStarts.{AreOfNext};
 ghost use Rattle.machine.specs.Untraced.{AreAdded, AreLast, HasRun, IsAfter, MayGoOn, next_events, untraced_round};
 
 use crate::observing::{Observer, Observing, Unobserved};

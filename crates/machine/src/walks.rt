@@ -3,15 +3,15 @@ ghost use Rattle.std.specs.Prelude.{◌≡◌, ◌<◌, ◌≤◌, ◌+◌, ◌-
 ghost use denote.Param.Send.{IsSync};
 ghost use Rattle.round_schedule.specs.declared.event.Event.{Event};
 ghost use Rattle.hart_rounds.specs.Starts.{keeps_log};
-ghost use Rattle.machine.specs.Kept.{AreOfNext, next_start_of, start_at};
+ghost use Rattle.machine.specs.RoundStarts.{AreOfNext, next_start_of, start_at};
 ghost use Rattle.machine.specs.Untraced.{AreAdded, AreLast, HasRun, MayGoOn, RanFor, next_events, untraced_round};
 ghost use Rattle.machine.specs.Walks.{HasDone, HasEnded, HasLearned, HasStopped, HasWalked, IsCutOff, IsUpToDate, MayWalk};
 
 use crate::untraced::UntracedMachine;
 use crate::visiting::{Next, Visitor};
-use guest_rounds::{Crew, EventKeeper, KeptCrew, NoTrace};
+use guest_rounds::{Crew, EventKeeper, LastingCrew, NoTrace};
 use hart_rounds::HartEnd;
-use kept_workers::{Board, RunStarts};
+use lasting_workers::{Board, RunStarts};
 use pages::OutOfMemory;
 use std::marker::Brand;
 use std::sync::Wait;
@@ -206,7 +206,7 @@ impl UntracedMachine {
         ensures opening { E.opens_with keeper.new ≡ E.opens_with keeper.old }
     {
         if others == 0 {
-            let result = self.walk_kept(rt, board, stretch, keeper, visitor);
+            let result = self.walk_lasting(rt, board, stretch, keeper, visitor);
             board.close(rt);
             return result;
         }
@@ -233,7 +233,7 @@ impl UntracedMachine {
     }
 
     /// A part of a walk, each round by all who serve a board where it is worth it.
-    fn walk_kept<S: RunStarts, E: EventKeeper, V: Visitor, R: Threads + Wait + Sync>(
+    fn walk_lasting<S: RunStarts, E: EventKeeper, V: Visitor, R: Threads + Wait + Sync>(
         &mut self,
         rt: &R,
         board: &Board<S>,
@@ -255,7 +255,7 @@ impl UntracedMachine {
             (V.has_enough visitor.new self.new)) }
         ensures opening { E.opens_with keeper.new ≡ E.opens_with keeper.old }
     {
-        let mut crew = KeptCrew::new(rt, board, keeper.log_form());
+        let mut crew = LastingCrew::new(rt, board, keeper.log_form());
         for done in 0..stretch.rounds {
             if self.wants_workers(stretch.most_workers) {
                 return Ok(Walked {
@@ -291,7 +291,7 @@ impl UntracedMachine {
     /// Does one round, by a crew. Once all harts have stopped it costs nothing.
     fn walk_round<S: RunStarts, E: EventKeeper, R: Threads + Wait + Sync>(
         &mut self,
-        crew: &mut KeptCrew<'_, S, R>,
+        crew: &mut LastingCrew<'_, S, R>,
         keeper: &mut E,
     ) -> Result<(), OutOfMemory>
         requires rounds { self.old.rounds + 1 < 2 ^ 32 }
@@ -322,7 +322,7 @@ impl UntracedMachine {
     /// is as it was.
     fn do_parallel_by<S: RunStarts, R: Threads + Wait + Sync>(
         &mut self,
-        crew: &mut KeptCrew<'_, S, R>,
+        crew: &mut LastingCrew<'_, S, R>,
     ) -> Result<Vec<HartEnd>, OutOfMemory>
         requires start { S.starts (self.old.rounds + 1) ≡
             next_start_of (keeps_log crew.old.crew.form) self.old }

@@ -72,15 +72,15 @@ fn access_in(turn: u64, hart: u64, loads: bool) -> Access
     }
 }
 
-/// The event at a place of the trace of two rounds: in each, 1,200 of hart 0 and then as many of hart 1.
-fn wanted(place: u64) -> Event
-    requires { place < 4800 }
+/// The event at an index of the trace of two rounds: in each, 1,200 of hart 0 and then as many of hart 1.
+fn wanted(index: u64) -> Event
+    requires { index < 4800 }
 {
-    let round = place / 2400;
-    let hart = place / 1200 % 2;
-    let turn = 600 * round + place % 1200 / 2;
+    let round = index / 2400;
+    let hart = index / 1200 % 2;
+    let turn = 600 * round + index % 1200 / 2;
     Event {
-        access: access_in(turn, hart, place % 2 == 0),
+        access: access_in(turn, hart, index % 2 == 0),
         round: round as u32 + 1,
         hart: hart as u8,
         phase: Phase::Parallel,
@@ -92,8 +92,8 @@ fn is_wanted(trace: &Trace) -> bool {
     if trace.len() != 4800 {
         return false;
     }
-    for place in 0..4800 {
-        if trace.event(place) != wanted(place as u64) {
+    for index in 0..4800 {
+        if trace.event(index) != wanted(index as u64) {
             return false;
         }
     }

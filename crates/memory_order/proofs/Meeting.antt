@@ -4,8 +4,8 @@ use Rattle.round_schedule.specs.declared.event.Event.{Event}
 use Rattle.round_schedule.specs.RoundTrace.{IsRoundTrace}
 use Rattle.round_schedule.specs.Schedule.{opening_state, run_of}
 use Rattle.round_schedule.proofs.Runs.{traces}
-use Rattle.memory_order.specs.Orders.{place}
-use Rattle.memory_order.specs.ProgramOrder.{KeepsProgramOrder}
+use Rattle.memory_order.specs.Orders.{order_position}
+use Rattle.memory_order.specs.ProgramOrder.{RespectsProgramOrder}
 use Rattle.memory_order.specs.RoundOrder.{IsRoundOrder}
 use Rattle.memory_order.specs.Runs.{OrdersOfRunsMeetRvwmo}
 use Rattle.memory_order.specs.Rvwmo.{MeetsRvwmo}
@@ -17,13 +17,13 @@ meets_rvwmo t g o opening budget r =
     let by = goes_by_rank t g o in
     record {
       lists = o.lists;
-      load_value = load_value t opening budget (place g) r by;
-      atomicity = atomicity t opening budget (place g) r by;
-      preserved = preserved t opening budget (place g) r by;
+      load_value = load_value t opening budget (order_position g) r by;
+      atomicity = atomicity t opening budget (order_position g) r by;
+      preserved = preserved t opening budget (order_position g) r by;
     }
 
-pub keeps_program_order : (t : List Event) (g : List ℕ) → IsRoundOrder t g → (opening : ℕ → ℕ) (budget : ℕ) → IsRoundTrace t opening budget → KeepsProgramOrder t (place g)
-keeps_program_order t g o opening budget r = program_order t opening budget (place g) r (goes_by_rank t g o)
+pub respects_program_order : (t : List Event) (g : List ℕ) → IsRoundOrder t g → (opening : ℕ → ℕ) (budget : ℕ) → IsRoundTrace t opening budget → RespectsProgramOrder t (order_position g)
+respects_program_order t g o opening budget r = program_order t opening budget (order_position g) r (goes_by_rank t g o)
 
 pub runs_meet : (H C : Type 0) → OrdersOfRunsMeetRvwmo H C
 runs_meet H C w sound budget quotas n hs bs c bytes g o =

@@ -10,9 +10,9 @@ use Rattle.round_schedule.specs.Events.{is_serial}
 use Rattle.round_schedule.specs.Positions.{IsLatest, ProgramBefore, event, reads_at, source_byte, writes_at}
 use Rattle.round_schedule.specs.RoundTrace.{Follows, IsRoundTrace, Reservation, SeenInParallel, SeenInSerial, phase_number}
 use Rattle.memory_order.specs.Operations.{covers, fence_orders, is_acquire, is_load, is_operation, is_plain_store, is_release, is_store}
-use Rattle.memory_order.specs.ProgramOrder.{KeepsProgramOrder, is_plain_load}
-use Rattle.memory_order.specs.RoundOrder.{RanksBefore, part, rank}
-use Rattle.memory_order.specs.Rvwmo.{AtomicityAxiom, IsPaired, IsSource, KeepsByte, LoadValueAxiom, MaySee, NotPlainStore, PreservedOrder, Rule, acquired, both-annotated, different-writes, dependent, fenced, overlapping-store, paired, released, returns-atomic}
+use Rattle.memory_order.specs.ProgramOrder.{RespectsProgramOrder, is_plain_load}
+use Rattle.memory_order.specs.RoundOrder.{RanksBefore, stage, rank}
+use Rattle.memory_order.specs.Rvwmo.{AtomicityAxiom, IsPaired, IsSource, IsUndisturbed, LoadValueAxiom, MaySee, NotPlainStore, PreservedOrder, Rule, acquired, both-annotated, different-writes, dependent, fenced, overlapping-store, paired, released, returns-atomic}
 use Rattle.memory_order.proofs.Facts.{acquire_is_other, and_left, and_right, atomic_is_serial, fence_is_serial, load_cases, load_is_operation, load_is_other, lr_is_serial, or_cases, or_left, release_is_serial, serial_is_other, store_cases, store_does_not_load, store_is_operation, within}
 
 -- ---- what holds of each of two latest ones
@@ -25,7 +25,7 @@ latest_alike rank other P Q to from alike (Some w) h = (to w h.0, λ v q. alike 
 
 -- ---- positions that go by rank
 
--- the positions of operations go by rank, and in one rank by place
+-- the positions of operations go by rank, and in one rank by index
 pub record GoesByRank (t : List Event) (pos : ℕ → ℕ) : Type 0 where
   pub rises : (a b : ℕ) → is_operation (event t a) ≡ true → is_operation (event t b) ≡ true → RanksBefore t a b → pos a < pos b
   pub reflects : (a b : ℕ) → is_operation (event t a) ≡ true → is_operation (event t b) ≡ true → pos a < pos b → RanksBefore t a b
@@ -50,21 +50,21 @@ at_most_serial : (s : Phase) → phase_number s ≤ 1
 at_most_serial Parallel = omega arith
 at_most_serial Serial = omega arith
 
-part_of_store : (s : Phase) (a : Access) → (is_serial s ≡ false → is_plain_store a ≡ true) → part s a ≡ 1 + phase_number s
-part_of_store Parallel a h = rw (h refl) refl
-part_of_store Serial a h = refl
+stage_of_store : (s : Phase) (a : Access) → (is_serial s ≡ false → is_plain_store a ≡ true) → stage s a ≡ 1 + phase_number s
+stage_of_store Parallel a h = rw (h refl) refl
+stage_of_store Serial a h = refl
 
-part_of_other : (s : Phase) (a : Access) → is_plain_store a ≡ false → part s a ≡ 2 * phase_number s
-part_of_other Parallel a h = rw h refl
-part_of_other Serial a h = refl
+stage_of_other : (s : Phase) (a : Access) → is_plain_store a ≡ false → stage s a ≡ 2 * phase_number s
+stage_of_other Parallel a h = rw h refl
+stage_of_other Serial a h = refl
 
-part_bound : (s : Phase) (a : Access) → part s a ≤ 2
-part_bound Parallel a = bound (is_plain_store a)
+stage_bound : (s : Phase) (a : Access) → stage s a ≤ 2
+stage_bound Parallel a = bound (is_plain_store a)
   where
     bound : (b : Bool) → (if b then 1 else 0) ≤ 2
     bound true = omega arith
     bound false = omega arith
-part_bound Serial a = omega arith
+stage_bound Serial a = omega arith
 
 before : (m k a b : ℕ) → m ≤ k → a < b → (m < k) ⊎ ((m ≡ k) × (a < b))
 before m k a b h l = elim (cases_lt m k) [ inl f ↦ inl f | inr g ↦ inr (omega arith, l) ]
@@ -78,7 +78,7 @@ plain_in_parallel t p w h s = elim (store_cases (event t w).access h) [
 ]
 
 store_rank : (t : List Event) → IsPhased t → (w : ℕ) → is_store (event t w) ≡ true → rank (event t w) ≡ 3 * (event t w).round + (1 + phase_number (event t w).phase)
-store_rank t p w h = ap (λ n. 3 * (event t w).round + n) (part_of_store (event t w).phase (event t w).access (plain_in_parallel t p w h))
+store_rank t p w h = ap (λ n. 3 * (event t w).round + n) (stage_of_store (event t w).phase (event t w).access (plain_in_parallel t p w h))
 
 ranks_rise : (r q m k : ℕ) → r ≤ q → (r ≡ q → m ≤ k) → m ≤ 1 → 3 * r + (1 + m) ≤ 3 * q + (1 + k)
 ranks_rise r q m k h f b = elim (cases_lt r q) [
@@ -117,7 +117,7 @@ loads_at : (t : List Event) (r x : ℕ) → reads_at t r x ≡ true → is_load 
 loads_at t r x h = and_left (loads (event t r).access) (covers (event t r).access x) h
 
 load_rank : (t : List Event) (r : ℕ) → is_load (event t r) ≡ true → rank (event t r) ≡ 3 * (event t r).round + 2 * phase_number (event t r).phase
-load_rank t r h = ap (λ n. 3 * (event t r).round + n) (part_of_other (event t r).phase (event t r).access (load_is_other (event t r).access h))
+load_rank t r h = ap (λ n. 3 * (event t r).round + n) (stage_of_other (event t r).phase (event t r).access (load_is_other (event t r).access h))
 
 parallel_to : (t : List Event) (pos : ℕ → ℕ) → IsPhased t → GoesByRank t pos → (r x : ℕ) → is_load (event t r) ≡ true → is_serial (event t r).phase ≡ false →
     (w : ℕ) → SeenInParallel t r x w → MaySee t pos r x w
@@ -163,7 +163,7 @@ serial_to t pos p g r x hr s w seen =
     let m : rank (event t w) ≤ rank (event t r) = omega (arith, ew, er, n, k, f.rounds) in
     (seen.0, inl (g.rises w r (store_is_operation (event t w) hw) or (before (rank (event t w)) (rank (event t r)) w r m seen.1)))
 
--- a store that stands before a serial load in rank or place stands before it in the list
+-- a store that stands before a serial load in rank or index stands before it in the list
 serial_before : (t : List Event) → IsPhased t → (r w : ℕ) → is_load (event t r) ≡ true → is_serial (event t r).phase ≡ true → is_store (event t w) ≡ true → RanksBefore t w r → w < r
 serial_before t p r w hr s hw (inr e) = e.1
 serial_before t p r w hr s hw (inl l) = elim (cases_lt w r) [
@@ -248,8 +248,8 @@ record Exchanged (a b : Event) : Type 0 where
   pub parallel_load : is_serial b.phase ≡ false
 
 parts : (s u : Phase) (a b : Access) → phase_number s ≤ phase_number u →
-    (part s a ≤ part u b) ⊎ ((is_plain_store a ≡ true) × (is_plain_store b ≡ false) × (is_serial s ≡ false) × (is_serial u ≡ false))
-parts s Serial a b h = inl (part_bound s a)
+    (stage s a ≤ stage u b) ⊎ ((is_plain_store a ≡ true) × (is_plain_store b ≡ false) × (is_serial s ≡ false) × (is_serial u ≡ false))
+parts s Serial a b h = inl (stage_bound s a)
 parts Serial Parallel a b h = absurd (omega arith)
 parts Parallel Parallel a b h = by_kinds (is_plain_store a) (is_plain_store b) refl refl
   where
@@ -262,7 +262,7 @@ parts Parallel Parallel a b h = by_kinds (is_plain_store a) (is_plain_store b) r
 
 ranked_or_exchanged : (e f : Event) → Follows e f → (rank e ≤ rank f) ⊎ Exchanged e f
 ranked_or_exchanged e f h = elim (cases_lt e.round f.round) [
-  | inl l ↦ let b = part_bound e.phase e.access in inl (omega (arith, b))
+  | inl l ↦ let b = stage_bound e.phase e.access in inl (omega (arith, b))
   | inr g ↦
       let s : e.round ≡ f.round = omega (arith, h.rounds) in
       elim (parts e.phase f.phase e.access f.access (h.phases s)) [
@@ -271,15 +271,15 @@ ranked_or_exchanged e f h = elim (cases_lt e.round f.round) [
       ]
 ]
 
-kept_or_exchanged : (t : List Event) (pos : ℕ → ℕ) → IsPhased t → GoesByRank t pos → (a b : ℕ) → is_operation (event t a) ≡ true → is_operation (event t b) ≡ true →
+respected_or_exchanged : (t : List Event) (pos : ℕ → ℕ) → IsPhased t → GoesByRank t pos → (a b : ℕ) → is_operation (event t a) ≡ true → is_operation (event t b) ≡ true →
     ProgramBefore t a b → (pos a < pos b) ⊎ Exchanged (event t a) (event t b)
-kept_or_exchanged t pos p g a b oa ob h = elim (ranked_or_exchanged (event t a) (event t b) (p.in_order a b h.earlier (within t b ob))) [
+respected_or_exchanged t pos p g a b oa ob h = elim (ranked_or_exchanged (event t a) (event t b) (p.in_order a b h.earlier (within t b ob))) [
   | inl n ↦ inl (g.rises a b oa ob (before (rank (event t a)) (rank (event t b)) a b n h.earlier))
   | inr x ↦ inr x
 ]
 
-pub program_order : (t : List Event) (opening : ℕ → ℕ) (budget : ℕ) (pos : ℕ → ℕ) → IsRoundTrace t opening budget → GoesByRank t pos → KeepsProgramOrder t pos
-program_order t opening budget pos i g a b oa ob h = elim (kept_or_exchanged t pos (phased t opening budget i) g a b oa ob h) [
+pub program_order : (t : List Event) (opening : ℕ → ℕ) (budget : ℕ) (pos : ℕ → ℕ) → IsRoundTrace t opening budget → GoesByRank t pos → RespectsProgramOrder t pos
+program_order t opening budget pos i g a b oa ob h = elim (respected_or_exchanged t pos (phased t opening budget i) g a b oa ob h) [
   | inl l ↦ inl l
   | inr x ↦ inr (record { store = x.store; load = plain_load x; one_round = x.one_round; parallel_store = x.parallel_store; parallel_load = x.parallel_load })
 ]
@@ -347,7 +347,7 @@ unordered t p a b ob x (short-fence f af fb h) = elim (cases_Bool (stores (event
 ]
 
 pub preserved : (t : List Event) (opening : ℕ → ℕ) (budget : ℕ) (pos : ℕ → ℕ) → IsRoundTrace t opening budget → GoesByRank t pos → PreservedOrder t pos
-preserved t opening budget pos i g a b oa ob h r = elim (kept_or_exchanged t pos (phased t opening budget i) g a b oa ob h) [
+preserved t opening budget pos i g a b oa ob h r = elim (respected_or_exchanged t pos (phased t opening budget i) g a b oa ob h) [
   | inl l ↦ l
   | inr x ↦ absurd (unordered t (phased t opening budget i) a b ob x (short t pos a b r))
 ]
@@ -373,9 +373,9 @@ before_reserved t l c x v r cover w other b = elim (cases_lt v l) [
   ]
 ]
 
-keeps_byte : (t : List Event) (pos : ℕ → ℕ) → IsPhased t → GoesByRank t pos → (l c x : ℕ) → Reservation t l c → is_store (event t c) ≡ true → reads_at t l x ≡ true →
-    (s : Option ℕ) → IsSource t pos l x s → KeepsByte t pos c x s
-keeps_byte t pos p g l c x r hc hl None none = λ v w other b. none v (serial_to t pos p g l x load serial v (w, earlier v w other b))
+is_undisturbed : (t : List Event) (pos : ℕ → ℕ) → IsPhased t → GoesByRank t pos → (l c x : ℕ) → Reservation t l c → is_store (event t c) ≡ true → reads_at t l x ≡ true →
+    (s : Option ℕ) → IsSource t pos l x s → IsUndisturbed t pos c x s
+is_undisturbed t pos p g l c x r hc hl None none = λ v w other b. none v (serial_to t pos p g l x load serial v (w, earlier v w other b))
   where
     load : is_load (event t l) ≡ true
     load = loads_at t l x hl
@@ -387,7 +387,7 @@ keeps_byte t pos p g l c x r hc hl None none = λ v w other b. none v (serial_to
     earlier v w other b =
         before_reserved t l c x v r (and_right (loads (event t l).access) (covers (event t l).access x) hl) w other
         (stores_reflect t pos p g v c (stores_at t v x w) hc b)
-keeps_byte t pos p g l c x r hc hl (Some s) source = (
+is_undisturbed t pos p g l c x r hc hl (Some s) source = (
   stores_rise t pos p g s c (stores_at t s x source.0.0) hc before_c,
   λ v w other a b. let n = source.1 v (serial_to t pos p g l x load serial v (w, earlier v w other b)) in omega arith,
 )
@@ -411,4 +411,4 @@ atomicity t opening budget pos i g l c x s h hc hl source =
     let m = i.reservations c h.conditional hc in
     let e = one_last t l m.0 c h m.1 in
     let r = subst (λ k. Reservation t k c) (sym e) m.1 in
-    keeps_byte t pos (phased t opening budget i) g l c x r hc hl s source
+    is_undisturbed t pos (phased t opening budget i) g l c x r hc hl s source

@@ -1,4 +1,4 @@
--- Sorting the places of a trace's memory operations by rank gives the order by rounds.
+-- Sorting the indexes of a trace's memory operations by rank gives the order by rounds.
 use Rattle.std.proofs.Common.{◌≡◌, ◌≢◌, ℕ, zero, suc, ◌+◌, ◌-◌, ◌<◌, ◌≤◌, ◌==◌, Bool, true, false, if◌then◌else◌, List, [], ◌∷◌, length, get_or, sym, ap, ◌∙◌, subst, inl, inr, arith, Contains, filter, add-zero, zero-add}
 use Rattle.std.specs.List.{AllPairs, range_with_len}
 use Rattle.std.specs.List.Sorted.{IsNonDecreasingBy, IsPermutation, IsSortedByKey, IsStableByKey, IsStrictlyIncreasing}
@@ -19,7 +19,7 @@ use Rattle.memory_order.specs.Orders.{ListsOperations}
 use Rattle.memory_order.specs.RoundOrder.{IsRoundOrder, RanksBefore, rank}
 use Rattle.memory_order.proofs.Facts.{within}
 
--- ---- the places that pass a test, in rising order
+-- ---- the indexes that pass a test, in rising order
 
 contains_more : (x y : ℕ) (xs : List ℕ) (b : Bool) → Contains xs x → Contains (if b then (y ∷ xs) else xs) x
 contains_more x y xs true h = (suc h.0, omega (arith, h.1), h.2)
@@ -41,7 +41,7 @@ increasing n k h =
     let b = get_or-range_with_len 0 n (k + 1) 0 (omega (arith, l, h)) in
     omega (arith, a, b)
 
--- the places of the operations
+-- the indexes of the operations
 abbrev pub operations : List Event → List ℕ
 operations t = filter (λ i. is_operation (event t i)) (range_with_len 0 (length t))
 
@@ -70,7 +70,7 @@ lists_permuted t g p = record {
   once = distinct_permuted (operations t) g p (λ i j d l m e. let r = rising t i j d l m in omega arith);
 }
 
--- equal keys that rise from place to place rise over any distance
+-- equal keys that rise from index to index rise over any distance
 ties_far : (f : ℕ → ℕ) (g : List ℕ) → IsNonDecreasingBy f g →
     ((k d : ℕ) → k + 1 < length g → f (get_or g k d) ≡ f (get_or g (k + 1) d) → get_or g k d ≤ get_or g (k + 1) d) →
     (i n : ℕ) → i + n < length g → f (get_or g i 0) ≡ f (get_or g (i + n) 0) → get_or g i 0 ≤ get_or g (i + n) 0

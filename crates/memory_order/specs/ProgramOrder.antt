@@ -19,7 +19,7 @@ pub record StoreThenLoad (a b : Event) : Type 0 where
   pub parallel_store : is_serial a.phase ≡ false
   pub parallel_load : is_serial b.phase ≡ false
 
-abbrev pub KeepsProgramOrder : List Event → (ℕ → ℕ) → Type 0
-KeepsProgramOrder t pos =
+abbrev pub RespectsProgramOrder : List Event → (ℕ → ℕ) → Type 0
+RespectsProgramOrder t pos =
     (a b : ℕ) → is_operation (event t a) ≡ true → is_operation (event t b) ≡ true → ProgramBefore t a b →
     (pos a < pos b) ⊎ StoreThenLoad (event t a) (event t b)

@@ -1,11 +1,11 @@
 -- The memory model RVWMO (manual, section 14.1), for a trace and an order of its memory operations.
--- The axioms speak of an order by `pos`, the position in it of each place of the trace.
+-- The axioms speak of an order by `pos`, the position in it of each index of the trace.
 use Rattle.std.specs.Prelude.{◌≡◌, ◌≢◌, ℕ, ◌<◌, ◌⊎◌, ◌||◌, true, false, List, Option, Some, None}
 use Rattle.round_schedule.specs.declared.event.Event.{Event}
 use Rattle.round_schedule.specs.Accesses.{byte_read, is_lr, is_sc}
 use Rattle.round_schedule.specs.Positions.{IsLatest, ProgramBefore, event, reads_at, source_byte, writes_at}
 use Rattle.memory_order.specs.Operations.{covers, fence_orders, is_acquire, is_amo, is_lr_or_sc, is_operation, is_plain_store, is_release, is_store}
-use Rattle.memory_order.specs.Orders.{ListsOperations, place}
+use Rattle.memory_order.specs.Orders.{ListsOperations, order_position}
 
 -- ---- load value: a byte is from the latest of the stores that precede the load in the order or in program order
 
@@ -13,7 +13,7 @@ use Rattle.memory_order.specs.Orders.{ListsOperations, place}
 abbrev pub MaySee : List Event → (ℕ → ℕ) → ℕ → ℕ → ℕ → Type 0
 MaySee t pos r x w = (writes_at t w x ≡ true) × ((pos w < pos r) ⊎ ProgramBefore t w r)
 
--- s is the place of the store that the byte x of the load at r is from, none where it is the opening byte
+-- s is the index of the store that the byte x of the load at r is from, none where it is the opening byte
 abbrev pub IsSource : List Event → (ℕ → ℕ) → ℕ → ℕ → Option ℕ → Type 0
 IsSource t pos r x s = IsLatest pos (MaySee t pos r x) s
 
@@ -32,16 +32,16 @@ pub record IsPaired (t : List Event) (l c : ℕ) : Type 0 where
   pub none_between : (k : ℕ) → l < k → k < c → (event t k).hart ≡ (event t c).hart → is_lr_or_sc (event t k).access ≡ true → ⊥
 
 -- from the source s of byte x to the SC at c, no other hart stores to the byte; the opening bytes precede all stores
-abbrev pub KeepsByte : List Event → (ℕ → ℕ) → ℕ → ℕ → Option ℕ → Type 0
-KeepsByte t pos c x None = (v : ℕ) → writes_at t v x ≡ true → (event t v).hart ≢ (event t c).hart → pos v < pos c → ⊥
-KeepsByte t pos c x (Some s) =
+abbrev pub IsUndisturbed : List Event → (ℕ → ℕ) → ℕ → ℕ → Option ℕ → Type 0
+IsUndisturbed t pos c x None = (v : ℕ) → writes_at t v x ≡ true → (event t v).hart ≢ (event t c).hart → pos v < pos c → ⊥
+IsUndisturbed t pos c x (Some s) =
     (pos s < pos c) ×
     ((v : ℕ) → writes_at t v x ≡ true → (event t v).hart ≢ (event t c).hart → pos s < pos v → pos v < pos c → ⊥)
 
 abbrev pub AtomicityAxiom : List Event → (ℕ → ℕ) → Type 0
 AtomicityAxiom t pos =
     (l c x : ℕ) (s : Option ℕ) → IsPaired t l c → is_store (event t c) ≡ true → reads_at t l x ≡ true →
-    IsSource t pos l x s → KeepsByte t pos c x s
+    IsSource t pos l x s → IsUndisturbed t pos c x s
 
 -- ---- preserved program order
 
@@ -76,9 +76,9 @@ PreservedOrder t pos = PreservedOrderBy (NotPlainStore t) t pos
 -- the order of the trace's memory operations meets RVWMO over these opening bytes, where by the rules 9 to 13 the dependencies D are kept
 pub record MeetsRvwmoBy (D : (ℕ → ℕ) → ℕ → ℕ → Type 0) (t : List Event) (opening : ℕ → ℕ) (g : List ℕ) : Type 0 where
   pub lists : ListsOperations t g
-  pub load_value : LoadValueAxiom t opening (place g)
-  pub atomicity : AtomicityAxiom t (place g)
-  pub preserved : PreservedOrderBy (D (place g)) t (place g)
+  pub load_value : LoadValueAxiom t opening (order_position g)
+  pub atomicity : AtomicityAxiom t (order_position g)
+  pub preserved : PreservedOrderBy (D (order_position g)) t (order_position g)
 
 -- the same with the wider rule
 abbrev pub MeetsRvwmo : List Event → (ℕ → ℕ) → List ℕ → Type 0

@@ -1,7 +1,7 @@
 ghost use Rattle.std.specs.Prelude.{◌≡◌, ◌≤◌};
 ghost use Rattle.round_schedule.specs.Positions.{event};
 ghost use Rattle.memory_order.specs.Operations.{is_operation};
-ghost use Rattle.memory_order.specs.RoundOrder.{part, rank};
+ghost use Rattle.memory_order.specs.RoundOrder.{stage, rank};
 
 use round_schedule::{Access, Event, Phase};
 
@@ -19,22 +19,22 @@ pub fn is_operation(event: &Event) -> bool
     }
 }
 
-/// Whether there is a memory operation at a place of a trace.
-pub fn is_operation_at(events: &[Event], place: usize) -> bool
-    ensures { result ≡ is_operation (event events.now place) }
+/// Whether there is a memory operation at an index of a trace.
+pub fn is_operation_at(events: &[Event], index: usize) -> bool
+    ensures { result ≡ is_operation (event events.now index) }
 {
-    match events.get(place) {
+    match events.get(index) {
         Some(event) => is_operation(event),
         None => false,
     }
 }
 
-/// The rank of the event at a place of a trace: three times its round, and 0 for a parallel load, 1 for a parallel
+/// The rank of the event at an index of a trace: three times its round, and 0 for a parallel load, 1 for a parallel
 /// store, 2 for what is serial. Past the trace's end it is 0.
-pub(crate) fn rank_at(events: &[Event], place: usize) -> u64
-    ensures { result ≡ rank (event events.now place) }
+pub(crate) fn rank_at(events: &[Event], index: usize) -> u64
+    ensures { result ≡ rank (event events.now index) }
 {
-    match events.get(place) {
+    match events.get(index) {
         Some(event) => rank(event),
         None => 0,
     }
@@ -44,11 +44,11 @@ fn rank(event: &Event) -> u64
     ensures { result ≡ rank event.now }
 {
     let round = event.round;
-    3 * u64::from(round) + part(event)
+    3 * u64::from(round) + stage(event)
 }
 
-fn part(event: &Event) -> u64
-    ensures part { result ≡ part event.now.phase event.now.access }
+fn stage(event: &Event) -> u64
+    ensures stage { result ≡ stage event.now.phase event.now.access }
     ensures small { result ≤ 2 }
 {
     match (event.phase, event.access) {

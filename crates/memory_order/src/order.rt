@@ -3,8 +3,8 @@ ghost use Rattle.std.specs.List.{range_with_len};
 ghost use Rattle.round_schedule.specs.Positions.{event};
 ghost use Rattle.round_schedule.specs.RoundTrace.{IsRoundTrace};
 ghost use Rattle.memory_order.specs.Operations.{is_operation};
-ghost use Rattle.memory_order.specs.Orders.{ListsOperations, place};
-ghost use Rattle.memory_order.specs.ProgramOrder.{KeepsProgramOrder};
+ghost use Rattle.memory_order.specs.Orders.{ListsOperations, order_position};
+ghost use Rattle.memory_order.specs.ProgramOrder.{RespectsProgramOrder};
 ghost use Rattle.memory_order.specs.RoundOrder.{IsRoundOrder};
 ghost use Rattle.memory_order.specs.Rvwmo.{MeetsRvwmo};
 
@@ -14,7 +14,7 @@ use round_schedule::Event;
 use std::alloc::Global;
 use trace::Trace;
 
-/// Places in a trace, in an order of its memory operations.
+/// Indexes in a trace, in an order of its memory operations.
 #[derive(Debug, PartialEq, Eq, Drop)]
 pub struct Order(pub Vec<usize>);
 
@@ -32,7 +32,7 @@ pub fn memory_order(alloc: Global, trace: &Trace) -> Result<Order, OutOfMemory>
     ensures meets { IfOk result (λ o. (opening : ℕ → ℕ) (budget : ℕ) → IsRoundTrace trace.now.events
         opening budget → MeetsRvwmo trace.now.events opening o.0.items) }
     ensures program { IfOk result (λ o. (opening : ℕ → ℕ) (budget : ℕ) → IsRoundTrace
-        trace.now.events opening budget → KeepsProgramOrder trace.now.events (place o.0.items)) }
+        trace.now.events opening budget → RespectsProgramOrder trace.now.events (order_position o.0.items)) }
 {
     let events = trace.to_vec(alloc)?;
     Ok(Order(by_rounds(alloc, &events)?))
@@ -43,17 +43,17 @@ fn by_rounds(alloc: Global, events: &[Event]) -> Result<Vec<usize>, OutOfMemory>
     ensures { IfOk result (λ v. IsRoundOrder events.now v.items) }
 {
     let mut order = operations(alloc, events)?;
-    order.sort_by_key(|place| rank_at(events, *place))?;
+    order.sort_by_key(|index| rank_at(events, *index))?;
     Ok(order)
 }
 
-/// The places of the memory operations, in rising order.
+/// The indexes of the memory operations, in rising order.
 fn operations(alloc: Global, events: &[Event]) -> Result<Vec<usize>, OutOfMemory>
     ensures { IfOk result (λ v. v.items ≡
         filter (λ i. is_operation (event events.now i)) (range_with_len 0 (length events.now))) }
 {
     let places: Vec<usize> = (0..events.len())
-        .filter(|place| is_operation_at(events, *place))
+        .filter(|index| is_operation_at(events, *index))
         .collect(alloc)?;
     Ok(places)
 }

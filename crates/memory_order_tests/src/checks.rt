@@ -19,20 +19,20 @@ const STORES: FenceSet = FenceSet {
     writes: true,
 };
 
-// What the checker says of these places as an order of these events; none where memory runs out or the events make no trace.
-fn answer(alloc: Global, events: &[Event], places: &[usize]) -> Option<bool> {
+// What the checker says of these indexes as an order of these events; none where memory runs out or the events make no trace.
+fn answer(alloc: Global, events: &[Event], indexes: &[usize]) -> Option<bool> {
     let events = Vec::from_slice(alloc, events).ok()?;
     let trace = Trace::of(Vec::new(alloc), events)?;
-    let places = Vec::from_slice(alloc, places).ok()?;
-    check_order(alloc, &trace, &Order(places)).ok()
+    let indexes = Vec::from_slice(alloc, indexes).ok()?;
+    check_order(alloc, &trace, &Order(indexes)).ok()
 }
 
-fn is_met(alloc: Global, events: &[Event], places: &[usize]) -> bool {
-    answer(alloc, events, places) == Some(true)
+fn is_met(alloc: Global, events: &[Event], indexes: &[usize]) -> bool {
+    answer(alloc, events, indexes) == Some(true)
 }
 
-fn is_refused(alloc: Global, events: &[Event], places: &[usize]) -> bool {
-    answer(alloc, events, places) == Some(false)
+fn is_refused(alloc: Global, events: &[Event], indexes: &[usize]) -> bool {
+    answer(alloc, events, indexes) == Some(false)
 }
 
 fn parallel(hart: u8, access: Access) -> Event {

@@ -32,8 +32,8 @@ fn accesses_of(alloc: Global, log: &Log) -> Option<Vec<Access>>
     ensures { IfSome result (λ v. v.items ≡ log.now) }
 {
     let mut accesses = Vec::new(alloc);
-    for place in 0..log.len() {
-        accesses.push(log.get(place)).ok()?;
+    for index in 0..log.len() {
+        accesses.push(log.get(index)).ok()?;
     }
     Some(accesses)
 }
@@ -97,8 +97,8 @@ fn has(log: &Log, end: usize, kind: Kind) -> bool {
     if log.len() != end {
         return false;
     }
-    for place in 0..end {
-        if log.get(place) != access_of(kind, place as u64) {
+    for index in 0..end {
+        if log.get(index) != access_of(kind, index as u64) {
             return false;
         }
     }
@@ -108,8 +108,8 @@ fn has(log: &Log, end: usize, kind: Kind) -> bool {
 // Whether a log of so many accesses shows them before and after it is shared, and hands them over.
 fn is_handed_over(alloc: Global, end: usize, kind: Kind) -> Option<bool> {
     let mut accesses = Vec::new(alloc);
-    for place in 0..end {
-        accesses.push(access_of(kind, place as u64)).ok()?;
+    for index in 0..end {
+        accesses.push(access_of(kind, index as u64)).ok()?;
     }
     let mut log = Log::of(accesses);
     if !has(&log, end, kind) {
@@ -215,15 +215,15 @@ fn push_load(alloc: Global, trace: &mut Trace, hart: u8, place: u64) -> bool
     true
 }
 
-// The event at a place of the trace that the test below builds.
-fn expected(place: usize) -> Event {
-    let (round, hart, phase, at) = match place {
-        0..5 => (1, 0, Phase::Parallel, place),
-        5..305 => (2, 0, Phase::Parallel, place),
-        305..705 => (2, 2, Phase::Parallel, place - 305),
+// The event at an index of the trace that the test below builds.
+fn expected(index: usize) -> Event {
+    let (round, hart, phase, at) = match index {
+        0..5 => (1, 0, Phase::Parallel, index),
+        5..305 => (2, 0, Phase::Parallel, index),
+        305..705 => (2, 2, Phase::Parallel, index - 305),
         705 => (2, 0, Phase::Serial, 305),
         706 => (2, 2, Phase::Serial, 400),
-        _ => (3, 1, Phase::Parallel, place.saturating_sub(707)),
+        _ => (3, 1, Phase::Parallel, index.saturating_sub(707)),
     };
     Event {
         access: load_of(at as u64),
@@ -242,9 +242,9 @@ fn has_expected(alloc: Global, trace: &Trace, end: usize) -> bool {
         return false;
     }
     let mut events = trace.events();
-    for place in 0..end {
-        let event = expected(place);
-        if trace.event(place) != event || gathered[place] != event {
+    for index in 0..end {
+        let event = expected(index);
+        if trace.event(index) != event || gathered[index] != event {
             return false;
         }
         if events.next() != Some(event) {
@@ -254,12 +254,12 @@ fn has_expected(alloc: Global, trace: &Trace, end: usize) -> bool {
     events.next().is_none()
 }
 
-// Whether a trace of so many of those events gives those from each place on, also from places past its end.
-fn has_expected_from_each_place(trace: &Trace, end: usize) -> bool {
+// Whether a trace of so many of those events gives those from each index on, also from indexes past its end.
+fn has_expected_from_each_index(trace: &Trace, end: usize) -> bool {
     for start in 0..end.saturating_add(3) {
         let mut events = trace.events_from(start);
-        for place in start..end {
-            if events.next() != Some(expected(place)) {
+        for index in start..end {
+            if events.next() != Some(expected(index)) {
                 return false;
             }
         }
@@ -283,13 +283,13 @@ fn adopted_logs_stand_among_pushed_events(rt: HostRuntime) {
     assert!(rt; push_load(alloc, &mut trace, 0, 305));
     assert!(rt; push_load(alloc, &mut trace, 2, 400));
     assert!(rt; has_expected(alloc, &trace, 707));
-    assert!(rt; has_expected_from_each_place(&trace, 707));
+    assert!(rt; has_expected_from_each_index(&trace, 707));
     let copy = trace.copy(alloc).expect(&rt, "memory");
     assert!(rt; has_expected(alloc, &copy, 707));
     trace.reserve_logs(1, 300).expect(&rt, "memory");
     assert!(rt; adopt_loads(alloc, &mut trace, 3, 1, 0, 300));
     assert!(rt; has_expected(alloc, &trace, 1_007));
-    assert!(rt; has_expected_from_each_place(&trace, 1_007));
+    assert!(rt; has_expected_from_each_index(&trace, 1_007));
     assert!(rt; has_expected(alloc, &copy, 707));
 }
 

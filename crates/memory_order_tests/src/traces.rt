@@ -59,8 +59,8 @@ pub(crate) fn full_fence(place: u64) -> Access {
     }
 }
 
-// Whether the memory order of these events is of these places.
-fn is_ordered(alloc: Global, events: &[Event], places: &[usize]) -> bool {
+// Whether the memory order of these events is of these indexes.
+fn is_ordered(alloc: Global, events: &[Event], indexes: &[usize]) -> bool {
     let Ok(events) = Vec::from_slice(alloc, events) else {
         return false;
     };
@@ -68,7 +68,7 @@ fn is_ordered(alloc: Global, events: &[Event], places: &[usize]) -> bool {
         return false;
     };
     match memory_order(alloc, &trace) {
-        Ok(Order(order)) => order.as_slice() == places,
+        Ok(Order(order)) => order.as_slice() == indexes,
         Err(_) => false,
     }
 }

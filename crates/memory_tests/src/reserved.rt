@@ -6,10 +6,10 @@ use reservations::Reservations;
 #[test]
 fn keeps_and_breaks_by_bytes(rt: HostRuntime) {
     // A take of another width drops the reservation all the same.
-    let mut table = Reservations::new(2);
-    table.set(0, 0x100, W8);
-    assert!(rt; !table.take(0, 0x100, W4));
-    assert!(rt; !table.take(0, 0x100, W8));
+    let mut reservations = Reservations::new(2);
+    reservations.set(0, 0x100, W8);
+    assert!(rt; !reservations.take(0, 0x100, W4));
+    assert!(rt; !reservations.take(0, 0x100, W8));
 
     // A hart's own writes keep its reservation.
     let mut own = Reservations::new(2);

@@ -6,19 +6,19 @@ use Rattle.round_schedule.specs.declared.access.Stepped.{Stepped}
 use Rattle.round_schedule.specs.declared.access.Stepped.TheVariants.{Done, Waits, Stopped}
 use Rattle.round_schedule.specs.declared.event.Event.{Event}
 use Rattle.round_schedule.specs.declared.span.Span.{Span}
-use Rattle.round_schedule.specs.ByTable.{committed_table}
+use Rattle.round_schedule.specs.ByReservations.{committed_reservations}
 use Rattle.round_schedule.specs.Past.{before_turn, hart_after, last_of, parts_from, past_of}
 use Rattle.round_schedule.specs.Schedule.{HartRound, Progress, State, Turn, Words, all_stores, began, events_from, hart_round_of, hart_rounds, next_of, round_from, serial_from, serial_next, turn_from, turn_went, went}
 use Rattle.round_schedule.specs.Sound.{Sound}
-use Rattle.round_schedule.specs.TabledTurn.{TabledPhase, TabledTurn, log_events, tabled_phase_from, tabled_turn_from, told}
-use Rattle.round_schedule.specs.Tables.{Tied}
+use Rattle.round_schedule.specs.ReservingTurn.{ReservingPhase, ReservingTurn, log_events, reserving_phase_from, reserving_turn_from, told}
+use Rattle.round_schedule.specs.Reservations.{Tied}
 use Rattle.round_schedule.proofs.Machines.{commits}
-use Rattle.round_schedule.proofs.PastAnswers.{tabled_phase_before, tabled_turn_there}
+use Rattle.round_schedule.proofs.PastAnswers.{reserving_phase_before, reserving_turn_there}
 use Rattle.round_schedule.proofs.PastEnds.{rounds_length}
 use Rattle.round_schedule.proofs.PastParts.{of_first, of_second, parts_are, steps_from}
 use Rattle.round_schedule.proofs.PastTurns.{Before, TurnsThere, before_is, start_of, turns_there}
-use Rattle.round_schedule.proofs.TabledTurns.{turn_size}
-use Rattle.round_schedule.proofs.Tabling.{commit_ties}
+use Rattle.round_schedule.proofs.ReservingTurns.{turn_size}
+use Rattle.round_schedule.proofs.ReservationsTied.{commit_ties}
 use Rattle.moments.specs.Sights.{Sight, and_then, next_seen, of_hart, part_sights, seen_after, sight_after, sight_at, sights_of, turn_sights, turn_start}
 use Rattle.moments.proofs.Ends.{sights_end}
 use Rattle.moments.proofs.Left.{sight_goes, sight_in}
@@ -171,50 +171,50 @@ module _ {H C : Type 0} (w : Words H C) (budget : ℕ) (quotas : ℕ → List �
       sight_after w budget quotas s i count ≡ Some (record { hart = g; bytes = (turn_from w begun.rounds i (count - steps_from w s.bytes quota (began h)) (turn_start begun part)).bytes })
   seen_in_turn g e le f = by_past g _ f (λ x k. turn_sees w begun.rounds i (count - steps_from w s.bytes quota (began h)) budget (turn_start begun part) x (sym (in_turn e le) ∙ k))
 
--- ---- the same turn over a table of reservations
+-- ---- the same turn over a list of reservations
 
 take_length : {A : Type 0} (i : ℕ) (xs : List A) → length (take i xs) ≤ length xs
 take_length zero xs = omega arith
 take_length (suc i) [] = omega arith
 take_length (suc i) (x ∷ xs) = omega (arith, take_length i xs)
 
-module _ {H C : Type 0} (w : Words H C) (sound : Sound w) (budget i k : ℕ) (s : State H C) (qs : List ℕ) (table : List (Option Span)) (r : HartRound H)
-    (tied : Tied table s.trace) (size : length table ≡ length s.harts) (bytes : IsBytes s.bytes) (there : i < length s.harts) where
+module _ {H C : Type 0} (w : Words H C) (sound : Sound w) (budget i k : ℕ) (s : State H C) (qs : List ℕ) (reservations : List (Option Span)) (r : HartRound H)
+    (tied : Tied reservations s.trace) (size : length reservations ≡ length s.harts) (bytes : IsBytes s.bytes) (there : i < length s.harts) where
   abbrev rounds : List (HartRound H)
   rounds = hart_rounds w s.bytes qs s.harts
 
-  abbrev ready : TabledPhase H C
-  ready = record { harts = []; bytes = after s.bytes (all_stores rounds); console = s.console; table = committed_table 0 rounds table; log = [] }
+  abbrev ready : ReservingPhase H C
+  ready = record { harts = []; bytes = after s.bytes (all_stores rounds); console = s.console; reservations = committed_reservations 0 rounds reservations; log = [] }
 
   abbrev front : List Event
   front = s.trace ++ events_from (s.rounds + 1) 0 rounds
 
-  abbrev phase : TabledPhase H C
-  phase = tabled_phase_before w budget s rounds table i
+  abbrev phase : ReservingPhase H C
+  phase = reserving_phase_before w budget s rounds reservations i
 
-  ready_tied : Tied ready.table (front ++ log_events (s.rounds + 1) 0 ready.log)
-  ready_tied = subst (Tied ready.table) (sym (append-nil front)) (commit_ties w sound s.bytes bytes (s.rounds + 1) qs s.harts table ready.table s.trace tied (commits rounds table))
+  ready_tied : Tied ready.reservations (front ++ log_events (s.rounds + 1) 0 ready.log)
+  ready_tied = subst (Tied ready.reservations) (sym (append-nil front)) (commit_ties w sound s.bytes bytes (s.rounds + 1) qs s.harts reservations ready.reservations s.trace tied (commits rounds reservations))
 
   before : Before w budget (s.rounds + 1) i rounds front ready
-  before = before_is w budget (s.rounds + 1) i rounds front ready ready_tied refl (omega (arith, take_length i rounds, rounds_length w s.bytes qs s.harts, size, (commits rounds table).size))
+  before = before_is w budget (s.rounds + 1) i rounds front ready ready_tied refl (omega (arith, take_length i rounds, rounds_length w s.bytes qs s.harts, size, (commits rounds reservations).size))
 
-  begun_by_table : before_turn w budget s rounds i ≡ told front (s.rounds + 1) phase
-  begun_by_table =
+  begun_by_reservations : before_turn w budget s rounds i ≡ told front (s.rounds + 1) phase
+  begun_by_reservations =
       ap (λ (t : List Event). serial_from w budget 0 (take i rounds) (record { harts = []; bytes = ready.bytes; console = ready.console; trace = t; rounds = s.rounds + 1 })) (sym (append-nil front))
       ∙ before.same
 
   abbrev trace : List Event
   trace = front ++ log_events (s.rounds + 1) 0 phase.log
 
-  in_table : i < length phase.table
-  in_table = omega (arith, there, size, before.size, (commits rounds table).size)
+  in_reservations : i < length phase.reservations
+  in_reservations = omega (arith, there, size, before.size, (commits rounds reservations).size)
 
   two_turns : TurnsThere w (s.rounds + 1) i k 1 r.last.hart trace phase
-  two_turns = turns_there w (s.rounds + 1) i k 1 r.last.hart trace phase before.tied in_table
-      (turn_size w trace (s.rounds + 1) i k (start_of r.last.hart phase) (subst (Tied phase.table) (sym (append-nil trace)) before.tied) in_table)
+  two_turns = turns_there w (s.rounds + 1) i k 1 r.last.hart trace phase before.tied in_reservations
+      (turn_size w trace (s.rounds + 1) i k (start_of r.last.hart phase) (subst (Tied phase.reservations) (sym (append-nil trace)) before.tied) in_reservations)
 
   -- what memory is after so many instructions of it
-  pub turn_bytes : (turn_from w (before_turn w budget s rounds i).rounds i k (turn_start (before_turn w budget s rounds i) r)).bytes ≡ (tabled_turn_there w budget s rounds table i r.last.hart k).bytes
+  pub turn_bytes : (turn_from w (before_turn w budget s rounds i).rounds i k (turn_start (before_turn w budget s rounds i) r)).bytes ≡ (reserving_turn_there w budget s rounds reservations i r.last.hart k).bytes
   turn_bytes =
-      ap (λ (z : State H C). (turn_from w z.rounds i k (turn_start z r)).bytes) begun_by_table
+      ap (λ (z : State H C). (turn_from w z.rounds i k (turn_start z r)).bytes) begun_by_reservations
       ∙ ap (λ (p : Turn H C). p.bytes) two_turns.first

@@ -9,7 +9,7 @@ use Rattle.round_schedule.specs.declared.access.Stepped.TheVariants.{Done, Waits
 use Rattle.round_schedule.specs.declared.event.Event.{Event}
 use Rattle.round_schedule.specs.declared.event.Phase.TheVariants.{Parallel, Serial}
 use Rattle.round_schedule.specs.Events.{events_of}
-use Rattle.round_schedule.specs.Schedule.{Words, HartRound, Outcome, Progress, State, Turn, began, committed, events_from, first_or_zero, hart_round_of, hart_rounds, joined, next_of, rest_of, round_from, round_of, serial_from, serial_next, turn_from, turn_of, turn_went, went}
+use Rattle.round_schedule.specs.Schedule.{Words, HartRound, StepOutcome, Progress, State, Turn, began, committed, events_from, first_or_zero, hart_round_of, hart_rounds, joined, next_of, rest_of, round_from, round_of, serial_from, serial_next, turn_from, turn_of, turn_went, went}
 use Rattle.round_schedule.proofs.Runs.{events_of-append}
 use Rattle.moments.specs.Sights.{Sight, seen_after, turn_start}
 use Rattle.moments.specs.Moves.{events_left, left_by, moves_of, moves_over, part_moves, parts_moves, turn_moves, turns_moves}
@@ -21,7 +21,7 @@ use Rattle.moments.specs.Laws.{MovesLeaveTheTrace}
 abbrev pub sight_in : {H : Type 0} → List ℕ → Progress H → Sight H
 sight_in bs p = record { hart = p.hart; bytes = after bs p.stores }
 
-pub sight_goes : {H : Type 0} (bs : List ℕ) (p : Progress H) (o : Outcome H) (a : Option Access) → seen_after (sight_in bs p) o ≡ sight_in bs (went p o a)
+pub sight_goes : {H : Type 0} (bs : List ℕ) (p : Progress H) (o : StepOutcome H) (a : Option Access) → seen_after (sight_in bs p) o ≡ sight_in bs (went p o a)
 sight_goes {H} bs p o a = ap (λ (cs : List ℕ). record { hart = o.hart; bytes = cs }) (sym (after-append bs p.stores o.stores))
 
 module _ {H C : Type 0} (w : Words H C) (n i : ℕ) (bs : List ℕ) where

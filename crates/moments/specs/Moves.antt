@@ -8,7 +8,7 @@ use Rattle.round_schedule.specs.declared.event.Event.{Event}
 use Rattle.round_schedule.specs.declared.event.Phase.{Phase}
 use Rattle.round_schedule.specs.declared.event.Phase.TheVariants.{Parallel, Serial}
 use Rattle.round_schedule.specs.Events.{events_of}
-use Rattle.round_schedule.specs.Schedule.{Words, Outcome, SerialOutcome, HartRound, State, Turn, committed, first_or_zero, hart_rounds, joined, rest_of, serial_next, turn_halted, turn_of, turn_went}
+use Rattle.round_schedule.specs.Schedule.{Words, StepOutcome, SerialOutcome, HartRound, State, Turn, committed, first_or_zero, hart_rounds, joined, rest_of, serial_next, turn_halted, turn_of, turn_went}
 use Rattle.moments.specs.Sights.{Sight, next_seen, seen_after, seen_still, sight_at, turn_start}
 
 -- a move of a hart: an instruction that is done, or one that stops it, with the code, and leaves no access. A word before which a hart waits is
@@ -23,13 +23,13 @@ pub record Move (H : Type 0) : Type 0 where
 
 -- ---- a hart's part of the parallel phase
 
-abbrev pub went_by : {H : Type 0} → ℕ → Sight H → Outcome H → Option Access → Move H
+abbrev pub went_by : {H : Type 0} → ℕ → Sight H → StepOutcome H → Option Access → Move H
 went_by i s o a = record { hart = i; phase = Parallel; before = s; access = a; stop = None; after = seen_after s o }
 
-abbrev pub stopped_by : {H : Type 0} → ℕ → ℕ → Sight H → Outcome H → Move H
+abbrev pub stopped_by : {H : Type 0} → ℕ → ℕ → Sight H → StepOutcome H → Move H
 stopped_by code i s o = record { hart = i; phase = Parallel; before = s; access = None; stop = Some code; after = seen_still s o }
 
-abbrev pub moved_by : {H : Type 0} → ℕ → Stepped → Sight H → Outcome H → (Sight H → List (Move H)) → List (Move H)
+abbrev pub moved_by : {H : Type 0} → ℕ → Stepped → Sight H → StepOutcome H → (Sight H → List (Move H)) → List (Move H)
 moved_by i (Done a) s o f = went_by i s o a ∷ f (seen_after s o)
 moved_by i Waits s o f = []
 moved_by i (Stopped code) s o f = stopped_by code i s o ∷ []

@@ -5,7 +5,7 @@ use Rattle.pages.specs.Memory.{after}
 use Rattle.round_schedule.specs.declared.access.Stepped.{Stepped}
 use Rattle.round_schedule.specs.declared.access.Stepped.TheVariants.{Done, Waits, Stopped}
 use Rattle.round_schedule.specs.Past.{before_turn, goes_on_with}
-use Rattle.round_schedule.specs.Schedule.{Words, Outcome, SerialOutcome, HartRound, State, Turn, hart_rounds, serial_next, turn_halted, turn_went}
+use Rattle.round_schedule.specs.Schedule.{Words, StepOutcome, SerialOutcome, HartRound, State, Turn, hart_rounds, serial_next, turn_halted, turn_went}
 
 -- a hart, and memory as it sees it
 pub record Sight (H : Type 0) : Type 0 where
@@ -15,17 +15,17 @@ pub record Sight (H : Type 0) : Type 0 where
 -- ---- in its part of the parallel phase
 
 -- what its next instruction leaves
-abbrev pub next_seen : {H C : Type 0} → Words H C → Sight H → Outcome H
+abbrev pub next_seen : {H C : Type 0} → Words H C → Sight H → StepOutcome H
 next_seen w s = w.step s.hart s.bytes
 
 -- after an instruction that is done it sees its stores; after one that stops it, or waits, it sees what it saw
-abbrev pub seen_after : {H : Type 0} → Sight H → Outcome H → Sight H
+abbrev pub seen_after : {H : Type 0} → Sight H → StepOutcome H → Sight H
 seen_after s o = record { hart = o.hart; bytes = after s.bytes o.stores }
 
-abbrev pub seen_still : {H : Type 0} → Sight H → Outcome H → Sight H
+abbrev pub seen_still : {H : Type 0} → Sight H → StepOutcome H → Sight H
 seen_still s o = record s { hart = o.hart }
 
-abbrev pub part_by : {H : Type 0} → Stepped → Sight H → Outcome H → (Sight H → List (Sight H)) → List (Sight H)
+abbrev pub part_by : {H : Type 0} → Stepped → Sight H → StepOutcome H → (Sight H → List (Sight H)) → List (Sight H)
 part_by (Done a) s o f = s ∷ f (seen_after s o)
 part_by Waits s o f = seen_still s o ∷ []
 part_by (Stopped code) s o f = seen_still s o ∷ []

@@ -48,8 +48,8 @@ fn add_by_name(
     ensures { OnOk result (ranges.new.items ≡
         ranges.old.items ++ by_name bytes.now (map (λ s. s.now) names.now)) }
 {
-    for (place, range) in bytes.iter().enumerate() {
-        let name = Vec::from_slice(alloc, names[place].as_bytes())?;
+    for (index, range) in bytes.iter().enumerate() {
+        let name = Vec::from_slice(alloc, names[index].as_bytes())?;
         ranges.push(seen_range(range, RangeName::of(name)))?;
     }
     Ok(())

@@ -1,4 +1,4 @@
--- Bounds of positions: maxima over the places that a predicate holds of, and the maps that keep them.
+-- Bounds of positions: maxima over the indexes that a predicate holds of, and the maps that keep them.
 use Rattle.std.proofs.Common.{◌≡◌, ℕ, ◌+◌, ◌<◌, ◌≤◌, ◌==◌, ◌&&◌, max, ◌⊎◌, List, Bool, true, false, if◌then◌else◌, Option, Some, unwrap_or, refl, sym, ap, ◌∙◌, subst, inl, inr, arith}
 use Rattle.std.proofs.lemmas.Bool.{cases_eq, cases_lt}
 use Rattle.std.proofs.lemmas.Bool.Decides.{nat_tests}
@@ -26,7 +26,7 @@ raise_one a y v raised old new e is h x =
     ap (λ o. unwrap_or o 0) (is h x) ∙ by_test (h == a && x == y) (unwrap_or (old h x) 0) raised v (old h x) (is_at (pair_cmp (a, y)) (h, x)) (pair_at a y h x) refl
     (λ t. let p : h ≡ a = grind (arith, nat_tests) in let q : x ≡ y = grind (arith, nat_tests) in e ∙ ap (λ n. max (unwrap_or (old n y) 0) v) (sym p) ∙ ap (λ n. max (unwrap_or (old h n) 0) v) (sym q))
 
--- what a second insertion at a place puts there
+-- what a second insertion at an index puts there
 pub put_back : (b : Bool) (o v w n m : Option ℕ) → m ≡ (if b then o else n) → n ≡ (if b then v else w) → m ≡ (if b then o else w)
 put_back true o v w n m p q = p
 put_back false o v w n m p q = p ∙ q
@@ -101,7 +101,7 @@ max_join_if pos P Q R u v true left right split x y =
 max_join_if pos P Q R u v false left right split x y =
     max_alike pos P R u left (λ a h. elim (split a h) [ inl p ↦ p | inr q ↦ let f = q.1 in absurd (cc) ]) x
 
--- ---- the events before a place of the trace, on one hart, that pass a test
+-- ---- the events before an index of the trace, on one hart, that pass a test
 
 pub earlier_none : (q : Event → Bool) (t : List Event) (pos : ℕ → ℕ) (h : ℕ) → IsMax pos (Earlier q t h 0) 0
 earlier_none q t pos h = max_none pos (Earlier q t h 0) (λ a p. omega (arith, p.0))

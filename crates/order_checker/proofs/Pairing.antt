@@ -42,7 +42,7 @@ last_step t i e old new is test set was h =
     (λ s _. eq-eqb h e.hart (sym s ∙ ap (λ (f : Event). f.hart) (sym is)))
     (λ _. refl) (was h))
 
-pub last_kept : (t : List Event) (i : ℕ) (e : Event) (last : ℕ → ℕ) → e ≡ event t i → is_lr_or_sc e.access ≡ false →
+pub last_stays : (t : List Event) (i : ℕ) (e : Event) (last : ℕ → ℕ) → e ≡ event t i → is_lr_or_sc e.access ≡ false →
     ((h : ℕ) → IsMax (λ j. j) (Earlier is_reserving t h i) (last h)) → (h : ℕ) → IsMax (λ j. j) (Earlier is_reserving t h (i + 1)) (last h)
-last_kept t i e last is test was h =
+last_stays t i e last is test was h =
     earlier_step is_reserving t (λ j. j) h i (last h) 0 false (λ r. cc) (λ _ w. sym test ∙ ap is_reserving is ∙ w) (λ r. cc) (was h)

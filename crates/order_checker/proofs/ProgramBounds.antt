@@ -10,7 +10,7 @@ use Rattle.round_schedule.specs.Positions.{event}
 use Rattle.memory_order.specs.Operations.{fence_orders, is_operation, is_plain_store, is_release}
 use Rattle.order_checker.specs.declared.checking.program.HartBounds.{HartBounds}
 use Rattle.order_checker.specs.Checking.{Earlier, IsMax}
-use Rattle.order_checker.specs.CheckingProgram.{Allowed, KeptAt, RuleButOverlap, bounds_after, by-fence, by-other, by-release, no_bounds, orders_loads, orders_stores}
+use Rattle.order_checker.specs.CheckingProgram.{Allowed, RespectsAt, RuleButOverlap, bounds_after, by-fence, by-other, by-release, no_bounds, orders_loads, orders_stores}
 use Rattle.order_checker.proofs.Bounding.{below_max, earlier_none, earlier_step, max_alike, max_below, max_join_if, max_none}
 
 -- ---- kinds
@@ -87,7 +87,7 @@ fence_stores (Fence c d Tso p) a b h s l = store_test c.reads c.writes d.reads d
 
 -- ---- plain stores before a fence
 
--- a plain store of the hart before a fence of a kind, both before place i
+-- a plain store of the hart before a fence of a kind, both before index i
 abbrev Behind : (Access → Bool) → List Event → ℕ → ℕ → ℕ → Type 0
 Behind q t h i a = (f : ℕ) × (f < i) × ((event t f).hart ≡ h) × (q (event t f).access ≡ true) × Earlier is_plain t h f a
 
@@ -115,7 +115,7 @@ behind_skip q t pos h i u other x =
     ])
     x
 
--- ---- the four bounds of a hart before place i
+-- ---- the four bounds of a hart before index i
 
 pub record Bounded (t : List Event) (pos : ℕ → ℕ) (h i : ℕ) (b : HartBounds) : Type 0 where
   pub others : IsMax pos (Earlier is_other t h i) b.others
@@ -171,9 +171,9 @@ bounded_step t pos i next e b old new is at known set x h = elim (cases_eq h e.h
 
 -- ---- what the bounds say
 
-pub kept_from_allowed : (t : List Event) (pos : ℕ → ℕ) (b p : ℕ) (e : Event) (d : HartBounds) → e ≡ event t b → p ≡ pos b →
-    Bounded t pos e.hart b d → Allowed d e.access p → KeptAt t pos b
-kept_from_allowed t pos b p e d is at x allowed a op before rule = by_kind (cases_Bool (is_plain (event t a)))
+pub respected_from_allowed : (t : List Event) (pos : ℕ → ℕ) (b p : ℕ) (e : Event) (d : HartBounds) → e ≡ event t b → p ≡ pos b →
+    Bounded t pos e.hart b d → Allowed d e.access p → RespectsAt t pos b
+respected_from_allowed t pos b p e d is at x allowed a op before rule = by_kind (cases_Bool (is_plain (event t a)))
   where
     hart : (event t a).hart ≡ e.hart
     hart = before.same_hart ∙ ap (λ (f : Event). f.hart) (sym is)
@@ -210,9 +210,9 @@ kept_from_allowed t pos b p e d is at x allowed a op before rule = by_kind (case
     by_kind (inl h) = plain h rule
     by_kind (inr n) = other n
 
-pub allowed_from_kept : (t : List Event) (pos : ℕ → ℕ) (b p : ℕ) (e : Event) (d : HartBounds) → e ≡ event t b → p ≡ pos b →
-    Bounded t pos e.hart b d → KeptAt t pos b → Allowed d e.access p
-allowed_from_kept t pos b p e d is at x kept = (others, loading, storing, releasing)
+pub allowed_from_respected : (t : List Event) (pos : ℕ → ℕ) (b p : ℕ) (e : Event) (d : HartBounds) → e ≡ event t b → p ≡ pos b →
+    Bounded t pos e.hart b d → RespectsAt t pos b → Allowed d e.access p
+allowed_from_respected t pos b p e d is at x respected = (others, loading, storing, releasing)
   where
     hart : (n : ℕ) → (event t n).hart ≡ e.hart → (event t n).hart ≡ (event t b).hart
     hart n h = h ∙ ap (λ (f : Event). f.hart) is
@@ -225,7 +225,7 @@ allowed_from_kept t pos b p e d is at x kept = (others, loading, storing, releas
 
     others : d.others ≤ p
     others = max_below pos (Earlier is_other t e.hart b) d.others p x.others
-        (λ a q. below a (kept a (other_operation (event t a) q.2) (record { earlier = q.0; same_hart = hart a q.1 }) (by-other (not_plain (is_operation (event t a)) (is_plain (event t a)) q.2))))
+        (λ a q. below a (respected a (other_operation (event t a) q.2) (record { earlier = q.0; same_hart = hart a q.1 }) (by-other (not_plain (is_operation (event t a)) (is_plain (event t a)) q.2))))
       where
         not_plain : (u v : Bool) → (u && not v) ≡ true → v ≡ false
         not_plain u v h = grind arith
@@ -235,7 +235,7 @@ allowed_from_kept t pos b p e d is at x kept = (others, loading, storing, releas
         (a : ℕ) → Behind q t e.hart b a → pos a < p
     fenced q orders a (f, l, h, o, early) =
         let k = plain_kinds (event t a).access early.2 in
-        below a (kept a (plain_operation (event t a).access early.2) (record { earlier = omega (arith, l, early.0); same_hart = hart a early.1 })
+        below a (respected a (plain_operation (event t a).access early.2) (record { earlier = omega (arith, l, early.0); same_hart = hart a early.1 })
         (by-fence f (record { earlier = early.0; same_hart = early.1 ∙ sym h }) (record { earlier = l; same_hart = hart f h }) (orders f a o k.1)))
 
     loading : loads e.access ≡ true → d.before_loads ≤ p
@@ -248,4 +248,4 @@ allowed_from_kept t pos b p e d is at x kept = (others, loading, storing, releas
 
     releasing : is_release e.access ≡ true → d.stores ≤ p
     releasing h = max_below pos (Earlier is_plain t e.hart b) d.stores p x.stores
-        (λ a q. below a (kept a (plain_operation (event t a).access q.2) (record { earlier = q.0; same_hart = hart a q.1 }) (by-release (sym (ap is_release access) ∙ h))))
+        (λ a q. below a (respected a (plain_operation (event t a).access q.2) (record { earlier = q.0; same_hart = hart a q.1 }) (by-release (sym (ap is_release access) ∙ h))))

@@ -7,28 +7,28 @@ use Rattle.std.specs.List.{AllPairs}
 use Rattle.round_schedule.specs.declared.event.Event.{Event}
 use Rattle.round_schedule.specs.Positions.{event}
 use Rattle.memory_order.specs.Operations.{is_operation}
-use Rattle.memory_order.specs.Orders.{ListsOperations, place}
+use Rattle.memory_order.specs.Orders.{ListsOperations, order_position}
 use Rattle.memory_order.proofs.Facts.{within}
-use Rattle.memory_order.proofs.Placing.{place_found, place_of_contained}
+use Rattle.memory_order.proofs.Placing.{position_found, position_of_contained}
 use Rattle.order_checker.specs.Checking.{IsRanking}
 
-absent_step : (b a : ℕ) (g : List ℕ) (t : Bool) → (b == a) ≡ t → b ≢ a → place g a ≡ length g → (if t then 0 else suc (place g a)) ≡ suc (length g)
+absent_step : (b a : ℕ) (g : List ℕ) (t : Bool) → (b == a) ≡ t → b ≢ a → order_position g a ≡ length g → (if t then 0 else suc (order_position g a)) ≡ suc (length g)
 absent_step b a g true e n h = absurd (n (grind (arith, nat_tests)))
 absent_step b a g false e n h = ap suc h
 
--- a place that does not stand in the order is at its length
-pub place_absent : (g : List ℕ) (a : ℕ) → ((k : ℕ) → k < length g → get_or g k 0 ≢ a) → place g a ≡ length g
+-- an index that does not stand in the order is at its length
+pub place_absent : (g : List ℕ) (a : ℕ) → ((k : ℕ) → k < length g → get_or g k 0 ≢ a) → order_position g a ≡ length g
 place_absent [] a h = refl
 place_absent (b ∷ g) a h = absent_step b a g (b == a) refl (h 0 (omega arith)) (place_absent g a (λ k l. h (suc k) (omega (arith, l))))
 
--- no place is past the order's length
-length_step : (b a : ℕ) (g : List ℕ) (t : Bool) → place g a ≤ length g → (if t then 0 else suc (place g a)) ≤ suc (length g)
+-- no index is past the order's length
+length_step : (b a : ℕ) (g : List ℕ) (t : Bool) → order_position g a ≤ length g → (if t then 0 else suc (order_position g a)) ≤ suc (length g)
 length_step b a g true h = omega arith
 length_step b a g false h = omega arith
 
-pub place_at_most : (g : List ℕ) (a : ℕ) → place g a ≤ length g
-place_at_most [] a = omega arith
-place_at_most (b ∷ g) a = length_step b a g (b == a) (place_at_most g a)
+pub position_at_most : (g : List ℕ) (a : ℕ) → order_position g a ≤ length g
+position_at_most [] a = omega arith
+position_at_most (b ∷ g) a = length_step b a g (b == a) (position_at_most g a)
 
 -- the list r inverts the first p entries of the order g
 pub record Met (t : List Event) (g : List ℕ) (p : ℕ) (r : List ℕ) : Type 0 where
@@ -89,8 +89,8 @@ met_other t g p l n lists = n (lists.only p 0 l)
 pub met_missing : (t : List Event) (g r : List ℕ) → Met t g (length g) r → (i : ℕ) → i < length t → is_operation (event t i) ≡ true →
     get_or r i 0 ≡ length g → ListsOperations t g → ⊥
 met_missing t g r m i l op e lists =
-    let f = place_of_contained g i (lists.each i op) in
-    let k = (m.forth (place g i) f.0).2 in
+    let f = position_of_contained g i (lists.each i op) in
+    let k = (m.forth (order_position g i) f.0).2 in
     let s = ap (λ n. get_or r n 0) f.1 in
     omega (arith, k, s, e, f.0)
 
@@ -114,32 +114,32 @@ met_all t g r m none = (record { only = only; each = each; once = once }, (m.len
         let s = ap (λ n. get_or r n 0) (get_or_default g i 0 d (omega (arith, l, k)) ∙ e ∙ get_or_default g j d 0 k) in
         omega (arith, a, b, s, l)
 
-    ranked : (i : ℕ) → i < length t → get_or r i 0 ≡ place g i
+    ranked : (i : ℕ) → i < length t → get_or r i 0 ≡ order_position g i
     ranked i l = elim (m.back i l) [
       | inl e ↦ e ∙ sym (place_absent g i (λ k h q. let f = (m.forth k h).2 in let s = ap (λ n. get_or r n 0) q in omega (arith, f, s, e, h)))
       | inr b ↦
-          let f = place_of_contained g i (get_or r i 0, b.0, get_or_default g (get_or r i 0) i 0 b.0 ∙ b.1) in
-          sym (ap (λ n. get_or r n 0) f.1) ∙ (m.forth (place g i) f.0).2
+          let f = position_of_contained g i (get_or r i 0, b.0, get_or_default g (get_or r i 0) i 0 b.0 ∙ b.1) in
+          sym (ap (λ n. get_or r n 0) f.1) ∙ (m.forth (order_position g i) f.0).2
     ]
 
--- an order that lists each place once has at each position the place of that position
-pub place_at : (g : List ℕ) → AllPairs (λ a b. a ≢ b) g → (k : ℕ) → k < length g → place g (get_or g k 0) ≡ k
-place_at g once k l =
-    let f = place_found g (get_or g k 0) k l refl in
-    elim (cases_order (place g (get_or g k 0)) k) [
+-- an order that lists each index once has at each position the index of that position
+pub position_at : (g : List ℕ) → AllPairs (λ a b. a ≢ b) g → (k : ℕ) → k < length g → order_position g (get_or g k 0) ≡ k
+position_at g once k l =
+    let f = position_found g (get_or g k 0) k l refl in
+    elim (cases_order (order_position g (get_or g k 0)) k) [
       | inl e ↦ e
       | inr o ↦ elim o [
-        | inl b ↦ absurd (once (place g (get_or g k 0)) k 0 b l f.1)
-        | inr a ↦ absurd (once k (place g (get_or g k 0)) 0 a f.0 (sym f.1))
+        | inl b ↦ absurd (once (order_position g (get_or g k 0)) k 0 b l f.1)
+        | inr a ↦ absurd (once k (order_position g (get_or g k 0)) 0 a f.0 (sym f.1))
       ]
     ]
 
--- what stands at the position of a place is that place, if any is there
-inverse_step : (b a : ℕ) (g : List ℕ) (t : Bool) → (b == a) ≡ t → (place g a < length g → get_or g (place g a) 0 ≡ a) →
-    (if t then 0 else suc (place g a)) < suc (length g) → get_or (b ∷ g) (if t then 0 else suc (place g a)) 0 ≡ a
+-- what stands at the position of an index is that index, if any is there
+inverse_step : (b a : ℕ) (g : List ℕ) (t : Bool) → (b == a) ≡ t → (order_position g a < length g → get_or g (order_position g a) 0 ≡ a) →
+    (if t then 0 else suc (order_position g a)) < suc (length g) → get_or (b ∷ g) (if t then 0 else suc (order_position g a)) 0 ≡ a
 inverse_step b a g true e rest l = grind (arith, nat_tests)
 inverse_step b a g false e rest l = rest (omega (arith, l))
 
-pub place_inverse : (g : List ℕ) (a : ℕ) → place g a < length g → get_or g (place g a) 0 ≡ a
+pub place_inverse : (g : List ℕ) (a : ℕ) → order_position g a < length g → get_or g (order_position g a) 0 ≡ a
 place_inverse [] a l = absurd (omega (arith, l))
 place_inverse (b ∷ g) a l = inverse_step b a g (b == a) refl (place_inverse g a) l

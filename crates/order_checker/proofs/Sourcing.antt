@@ -7,13 +7,13 @@ use Rattle.round_schedule.specs.declared.access.Access.{Access}
 use Rattle.round_schedule.specs.Accesses.{loads, reads, writes}
 use Rattle.round_schedule.specs.Positions.{ProgramBefore, event, reads_at, writes_at}
 use Rattle.memory_order.specs.Operations.{is_operation}
-use Rattle.memory_order.specs.Orders.{ListsOperations, place}
+use Rattle.memory_order.specs.Orders.{ListsOperations, order_position}
 use Rattle.memory_order.specs.Rvwmo.{MaySee}
 use Rattle.memory_order.proofs.Facts.{load_is_operation}
-use Rattle.memory_order.proofs.Placing.{place_of_contained}
-use Rattle.memory_order.proofs.Sources.{load_at, one_place, store_at}
+use Rattle.memory_order.proofs.Placing.{position_of_contained}
+use Rattle.memory_order.proofs.Sources.{load_at, one_position, store_at}
 use Rattle.order_checker.specs.Checking.{Below, Earlier, IsMax, OwnWrite, row_of, source_at, source_of}
-use Rattle.order_checker.specs.CheckingProgram.{KeptOverlap}
+use Rattle.order_checker.specs.CheckingProgram.{RespectsOverlap}
 use Rattle.order_checker.proofs.Ranking.{place_inverse}
 use Rattle.order_checker.proofs.WordReading.{all_alike}
 use Rattle.order_checker.proofs.Bounding.{below_max, below_none, below_step, earlier_none, earlier_step, max_below, max_join}
@@ -43,7 +43,7 @@ own_step t pos i next e old new is at set own h x =
     from : (event t i).hart ≡ h → writes (event t i).access x ≡ true → (h == e.hart && writes e.access x) ≡ true
     from s w = and_from (h == e.hart) (writes e.access x) (eq-eqb h e.hart (sym s ∙ ap (λ (f : Event). f.hart) (sym is))) (ap (λ (f : Event). writes f.access x) is ∙ w)
 
--- the loads before place i have their bounds, and the others none
+-- the loads before index i have their bounds, and the others none
 pub record Noted (t : List Event) (pos : ℕ → ℕ) (i : ℕ) (sources : ℕ → ℕ → ℕ) : Type 0 where
   pub noted : (r x : ℕ) → reads_at t r x ≡ true → r < i → IsMax pos (OwnWrite t r x) (sources r x)
   pub rest : (r x : ℕ) → i ≤ r → sources r x ≡ 0
@@ -74,47 +74,47 @@ noted_step t pos i e own old new is kept set stores was = record { noted = noted
     rest r x l = kept r x (λ s. omega (arith, s, l)) ∙ was.rest r x (omega (arith, l))
 
 -- what the test of a store's bytes says
-pub kept_here : (t : List Event) (pos : ℕ → ℕ) (i p : ℕ) (e : Event) (own : ℕ → ℕ → ℕ) → e ≡ event t i → p ≡ pos i → OwnStores t pos i own →
+pub respected_here : (t : List Event) (pos : ℕ → ℕ) (i p : ℕ) (e : Event) (own : ℕ → ℕ → ℕ) → e ≡ event t i → p ≡ pos i → OwnStores t pos i own →
     ((x : ℕ) → writes e.access x ≡ true → own e.hart x ≤ p) → (a x : ℕ) → ProgramBefore t a i → writes_at t a x ≡ true → writes_at t i x ≡ true → pos a < pos i
-kept_here t pos i p e own is at stores test a x before wa wi =
+respected_here t pos i p e own is at stores test a x before wa wi =
     let l = test x (ap (λ (d : Event). writes d.access x) is ∙ wi) in
     let u = below_max pos (Earlier (λ d. writes d.access x) t e.hart i) (own e.hart x) p (stores e.hart x) l a (before.earlier, before.same_hart ∙ ap (λ (d : Event). d.hart) (sym is), wa) in
     omega (arith, u, at)
 
-pub test_from_kept : (t : List Event) (pos : ℕ → ℕ) (i p : ℕ) (e : Event) (own : ℕ → ℕ → ℕ) → e ≡ event t i → p ≡ pos i → OwnStores t pos i own →
-    KeptOverlap t pos → (x : ℕ) → writes e.access x ≡ true → own e.hart x ≤ p
-test_from_kept t pos i p e own is at stores kept x w =
+pub test_from_respected : (t : List Event) (pos : ℕ → ℕ) (i p : ℕ) (e : Event) (own : ℕ → ℕ → ℕ) → e ≡ event t i → p ≡ pos i → OwnStores t pos i own →
+    RespectsOverlap t pos → (x : ℕ) → writes e.access x ≡ true → own e.hart x ≤ p
+test_from_respected t pos i p e own is at stores kept x w =
     max_below pos (Earlier (λ d. writes d.access x) t e.hart i) (own e.hart x) p (stores e.hart x)
     (λ a q. let k = kept a i x (record { earlier = q.0; same_hart = q.1 ∙ ap (λ (d : Event). d.hart) is }) q.2 (sym (ap (λ (d : Event). writes d.access x) is) ∙ w) in omega (arith, k, at))
 
--- ---- the table of sources
+-- ---- the list of sources
 
-pub load_within : (t : List Event) (g : List ℕ) (i p : ℕ) (a : Access) → ListsOperations t g → a ≡ (event t i).access → p ≡ place g i → loads a ≡ true → p < length g
+pub load_within : (t : List Event) (g : List ℕ) (i p : ℕ) (a : Access) → ListsOperations t g → a ≡ (event t i).access → p ≡ order_position g i → loads a ≡ true → p < length g
 load_within t g i p a lists is at l =
     let op = load_is_operation (event t i) (ap loads (sym is) ∙ l) in
-    let here = place_of_contained g i (lists.each i op) in
+    let here = position_of_contained g i (lists.each i op) in
     omega (arith, at, here.0)
 
 -- where the row of one position is written, the other operations keep theirs
-pub others_kept : (t : List Event) (g : List ℕ) (i p : ℕ) (a : Access) (old new : List (List ℕ)) → ListsOperations t g → a ≡ (event t i).access → p ≡ place g i →
+pub others_stay : (t : List Event) (g : List ℕ) (i p : ℕ) (a : Access) (old new : List (List ℕ)) → ListsOperations t g → a ≡ (event t i).access → p ≡ order_position g i →
     ((q : ℕ) → (loads a ≡ true → q ≢ p) → row_of new q ≡ row_of old q) → (r x : ℕ) → r ≢ i → source_of g new r x ≡ source_of g old r x
-others_kept t g i p a old new lists is at same r x n = ap (λ (w : List ℕ). slice_index w (x % 8)) (same (place g r) (λ l e. n (other l e)))
+others_stay t g i p a old new lists is at same r x n = ap (λ (w : List ℕ). slice_index w (x % 8)) (same (order_position g r) (λ l e. n (other l e)))
   where
-    other : loads a ≡ true → place g r ≡ p → r ≡ i
+    other : loads a ≡ true → order_position g r ≡ p → r ≡ i
     other l e =
         let op = load_is_operation (event t i) (ap loads (sym is) ∙ l) in
-        let here = place_of_contained g i (lists.each i op) in
-        let q : place g r ≡ place g i = e ∙ at in
+        let here = position_of_contained g i (lists.each i op) in
+        let q : order_position g r ≡ order_position g i = e ∙ at in
         sym (place_inverse g r (omega (arith, q, here.0))) ∙ ap (λ k. get_or g k 0) q ∙ here.1
 
-pub here_raised : (g : List ℕ) (i p h k : ℕ) (a : Access) (old new : List (List ℕ)) (from : ℕ → ℕ → ℕ) → p ≡ place g i → k ≡ h →
+pub here_raised : (g : List ℕ) (i p h k : ℕ) (a : Access) (old new : List (List ℕ)) (from : ℕ → ℕ → ℕ) → p ≡ order_position g i → k ≡ h →
     ((x : ℕ) → reads a x ≡ true → source_at new p x ≡ max (source_at old p x) (from k x)) →
     (x : ℕ) → reads a x ≡ true → source_of g new i x ≡ max (source_of g old i x) (from h x)
 here_raised g i p h k a old new from at hart set x r =
     subst (λ q. source_at new q x ≡ max (source_at old q x) (from h x)) at
     (subst (λ n. source_at new p x ≡ max (source_at old p x) (from n x)) hart (set x r))
 
--- a table of zeros
+-- a list of zeros
 pub no_sources : (n p x : ℕ) → source_at (replicate n (replicate 8 0)) p x ≡ 0
 no_sources zero p x = refl
 no_sources (suc n) zero x = all_alike 0 x
@@ -128,19 +128,19 @@ SeenStores t pos p seen = (x : ℕ) → IsMax pos (Below (λ f. writes f.access 
 pub seen_none : (t : List Event) (pos : ℕ → ℕ) (seen : ℕ → ℕ) → ((x : ℕ) → seen x ≡ 0) → SeenStores t pos 0 seen
 seen_none t pos seen z x = subst (IsMax pos (Below (λ f. writes f.access x) t pos 0)) (sym (z x)) (below_none (λ f. writes f.access x) t pos)
 
-pub seen_step : (t : List Event) (g : List ℕ) (i p next : ℕ) (e : Event) (old new : ℕ → ℕ) → ListsOperations t g → e ≡ event t i → is_operation (event t i) ≡ true → place g i ≡ p → next ≡ p + 1 →
-    ((x : ℕ) → new x ≡ (if writes e.access x then max (old x) next else old x)) → SeenStores t (place g) p old → SeenStores t (place g) (p + 1) new
+pub seen_step : (t : List Event) (g : List ℕ) (i p next : ℕ) (e : Event) (old new : ℕ → ℕ) → ListsOperations t g → e ≡ event t i → is_operation (event t i) ≡ true → order_position g i ≡ p → next ≡ p + 1 →
+    ((x : ℕ) → new x ≡ (if writes e.access x then max (old x) next else old x)) → SeenStores t (order_position g) p old → SeenStores t (order_position g) (p + 1) new
 seen_step t g i p next e old new lists is op at n set seen x =
-    subst (IsMax (place g) (Below (λ f. writes f.access x) t (place g) (p + 1))) (sym (set x))
-    (below_step (λ f. writes f.access x) t (place g) i p (old x) next (writes e.access x) (ap (λ (f : Event). writes f.access x) (sym is)) at n
-    (λ a w s. one_place t g a i lists (store_at t a x w) op (s ∙ sym at)) (seen x))
+    subst (IsMax (order_position g) (Below (λ f. writes f.access x) t (order_position g) (p + 1))) (sym (set x))
+    (below_step (λ f. writes f.access x) t (order_position g) i p (old x) next (writes e.access x) (ap (λ (f : Event). writes f.access x) (sym is)) at n
+    (λ a w s. one_position t g a i lists (store_at t a x w) op (s ∙ sym at)) (seen x))
 
 -- the loads below position p have all their bounds, and the others those of their own hart
 pub record Sourced (t : List Event) (g : List ℕ) (p : ℕ) (sources : ℕ → ℕ → ℕ) : Type 0 where
-  pub noted : (r x : ℕ) → reads_at t r x ≡ true → place g r < p → IsMax (place g) (MaySee t (place g) r x) (sources r x)
-  pub rest : (r x : ℕ) → reads_at t r x ≡ true → p ≤ place g r → IsMax (place g) (OwnWrite t r x) (sources r x)
+  pub noted : (r x : ℕ) → reads_at t r x ≡ true → order_position g r < p → IsMax (order_position g) (MaySee t (order_position g) r x) (sources r x)
+  pub rest : (r x : ℕ) → reads_at t r x ≡ true → p ≤ order_position g r → IsMax (order_position g) (OwnWrite t r x) (sources r x)
 
-pub sourced_none : (t : List Event) (g : List ℕ) (sources : ℕ → ℕ → ℕ) → ((r x : ℕ) → reads_at t r x ≡ true → IsMax (place g) (OwnWrite t r x) (sources r x)) → Sourced t g 0 sources
+pub sourced_none : (t : List Event) (g : List ℕ) (sources : ℕ → ℕ → ℕ) → ((r x : ℕ) → reads_at t r x ≡ true → IsMax (order_position g) (OwnWrite t r x) (sources r x)) → Sourced t g 0 sources
 sourced_none t g sources own = record { noted = λ r x h l. absurd (omega (arith, l)); rest = λ r x h l. own r x h }
 
 may_join : (t : List Event) (pos : ℕ → ℕ) (r x u v : ℕ) → IsMax pos (OwnWrite t r x) u → IsMax pos (Below (λ f. writes f.access x) t pos (pos r)) v → IsMax pos (MaySee t pos r x) (max u v)
@@ -151,24 +151,24 @@ may_join t pos r x u v own seen =
     (λ a m. elim m.1 [ inl l ↦ inr (m.0, l) | inr q ↦ inl (q.earlier, q.same_hart, m.0) ])
     own seen
 
-pub sourced_step : (t : List Event) (g : List ℕ) (i p : ℕ) (e : Event) (seen : ℕ → ℕ) (old new : ℕ → ℕ → ℕ) → ListsOperations t g → e ≡ event t i → is_operation (event t i) ≡ true → place g i ≡ p →
+pub sourced_step : (t : List Event) (g : List ℕ) (i p : ℕ) (e : Event) (seen : ℕ → ℕ) (old new : ℕ → ℕ → ℕ) → ListsOperations t g → e ≡ event t i → is_operation (event t i) ≡ true → order_position g i ≡ p →
     ((r x : ℕ) → r ≢ i → new r x ≡ old r x) → ((x : ℕ) → reads e.access x ≡ true → new i x ≡ max (old i x) (seen x)) →
-    SeenStores t (place g) p seen → Sourced t g p old → Sourced t g (p + 1) new
+    SeenStores t (order_position g) p seen → Sourced t g p old → Sourced t g (p + 1) new
 sourced_step t g i p e seen old new lists is op at kept set stores was = record { noted = noted; rest = rest }
   where
-    apart : (r : ℕ) → place g r ≢ p → r ≢ i
-    apart r n s = n (ap (place g) s ∙ at)
+    apart : (r : ℕ) → order_position g r ≢ p → r ≢ i
+    apart r n s = n (ap (order_position g) s ∙ at)
 
-    noted : (r x : ℕ) → reads_at t r x ≡ true → place g r < p + 1 → IsMax (place g) (MaySee t (place g) r x) (new r x)
-    noted r x h l = elim (cases_lt (place g r) p) [
-      | inl b ↦ subst (IsMax (place g) (MaySee t (place g) r x)) (sym (kept r x (apart r (λ s. omega (arith, s, b))))) (was.noted r x h b)
+    noted : (r x : ℕ) → reads_at t r x ≡ true → order_position g r < p + 1 → IsMax (order_position g) (MaySee t (order_position g) r x) (new r x)
+    noted r x h l = elim (cases_lt (order_position g r) p) [
+      | inl b ↦ subst (IsMax (order_position g) (MaySee t (order_position g) r x)) (sym (kept r x (apart r (λ s. omega (arith, s, b))))) (was.noted r x h b)
       | inr b ↦
-          let q : place g r ≡ p = omega (arith, l, b) in
-          let s : r ≡ i = one_place t g r i lists (load_at t r x h) op (q ∙ sym at) in
+          let q : order_position g r ≡ p = omega (arith, l, b) in
+          let s : r ≡ i = one_position t g r i lists (load_at t r x h) op (q ∙ sym at) in
           let m : new r x ≡ max (old r x) (seen x) = subst (λ k. new k x ≡ max (old k x) (seen x)) (sym s) (set x (ap (λ (d : Event). reads d.access x) (is ∙ ap (event t) (sym s)) ∙ h)) in
-          subst (IsMax (place g) (MaySee t (place g) r x)) (sym m)
-          (may_join t (place g) r x (old r x) (seen x) (was.rest r x h b) (subst (λ k. IsMax (place g) (Below (λ f. writes f.access x) t (place g) k) (seen x)) (sym q) (stores x)))
+          subst (IsMax (order_position g) (MaySee t (order_position g) r x)) (sym m)
+          (may_join t (order_position g) r x (old r x) (seen x) (was.rest r x h b) (subst (λ k. IsMax (order_position g) (Below (λ f. writes f.access x) t (order_position g) k) (seen x)) (sym q) (stores x)))
     ]
 
-    rest : (r x : ℕ) → reads_at t r x ≡ true → p + 1 ≤ place g r → IsMax (place g) (OwnWrite t r x) (new r x)
-    rest r x h l = subst (IsMax (place g) (OwnWrite t r x)) (sym (kept r x (apart r (λ s. omega (arith, s, l))))) (was.rest r x h (omega (arith, l)))
+    rest : (r x : ℕ) → reads_at t r x ≡ true → p + 1 ≤ order_position g r → IsMax (order_position g) (OwnWrite t r x) (new r x)
+    rest r x h l = subst (IsMax (order_position g) (OwnWrite t r x)) (sym (kept r x (apart r (λ s. omega (arith, s, l))))) (was.rest r x h (omega (arith, l)))

@@ -8,26 +8,26 @@ use Rattle.round_schedule.specs.declared.event.Event.{Event}
 use Rattle.round_schedule.specs.declared.access.Access.{Access}
 use Rattle.round_schedule.specs.Accesses.{address_of, byte_read, byte_written, bytes_of, loads, number_or_zero, read_of, reads}
 use Rattle.round_schedule.specs.Positions.{event, reads_at, source_byte}
-use Rattle.memory_order.specs.Orders.{ListsOperations, place}
+use Rattle.memory_order.specs.Orders.{ListsOperations, order_position}
 use Rattle.memory_order.specs.Rvwmo.{IsSource, LoadValueAxiom, MaySee}
-use Rattle.memory_order.proofs.Placing.{place_of_contained}
+use Rattle.memory_order.proofs.Placing.{position_of_contained}
 use Rattle.memory_order.proofs.Sources.{one_source, store_at}
 use Rattle.order_checker.specs.Checking.{IsLeft, IsMax, left_by}
 use Rattle.order_checker.proofs.Bounding.{max_below, range_at}
 
 -- each bound is at most the order's length
-pub source_listed : (t : List Event) (g : List ℕ) (r x v : ℕ) → ListsOperations t g → IsMax (place g) (MaySee t (place g) r x) v → v ≤ length g
+pub source_listed : (t : List Event) (g : List ℕ) (r x v : ℕ) → ListsOperations t g → IsMax (order_position g) (MaySee t (order_position g) r x) v → v ≤ length g
 source_listed t g r x v lists m =
-    max_below (place g) (MaySee t (place g) r x) v (length g) m (λ a h. (place_of_contained g a (lists.each a (store_at t a x h.0))).0)
+    max_below (order_position g) (MaySee t (order_position g) r x) v (length g) m (λ a h. (position_of_contained g a (lists.each a (store_at t a x h.0))).0)
 
 -- the source by its bound
-pub source_by_bound : (t : List Event) (opening : ℕ → ℕ) (g : List ℕ) (r x v : ℕ) → ListsOperations t g → IsMax (place g) (MaySee t (place g) r x) v →
-    (s : Option ℕ) × IsSource t (place g) r x s × (source_byte t opening x s ≡ left_by t opening g x v)
+pub source_by_bound : (t : List Event) (opening : ℕ → ℕ) (g : List ℕ) (r x v : ℕ) → ListsOperations t g → IsMax (order_position g) (MaySee t (order_position g) r x) v →
+    (s : Option ℕ) × IsSource t (order_position g) r x s × (source_byte t opening x s ≡ left_by t opening g x v)
 source_by_bound t opening g r x v lists m = elim m.attained [
   | inl z ↦ (None, (λ w h. let u = m.upper w h in omega (arith, u, z)), ap (λ n. left_by t opening g x n) (sym z))
   | inr a ↦
       let at : get_or g (v - 1) 0 ≡ a.0 =
-      ap (λ n. get_or g n 0) (let n : v - 1 ≡ place g a.0 = omega (arith, a.2) in n) ∙ (place_of_contained g a.0 (lists.each a.0 (store_at t a.0 x a.1.0))).1 in (
+      ap (λ n. get_or g n 0) (let n : v - 1 ≡ order_position g a.0 = omega (arith, a.2) in n) ∙ (position_of_contained g a.0 (lists.each a.0 (store_at t a.0 x a.1.0))).1 in (
         Some a.0,
         (a.1, λ w h. let u = m.upper w h in omega (arith, u, a.2)),
         sym (cond-false (v == 0) (opening x) (byte_written (event t (get_or g (v - 1) 0)).access x) (ne_eqb v 0 (λ e. omega (arith, e, a.2)))
@@ -36,15 +36,15 @@ source_by_bound t opening g r x v lists m = elim m.attained [
 ]
 
 pub values_from_left : (t : List Event) (opening : ℕ → ℕ) (g : List ℕ) (sources : ℕ → ℕ → ℕ) → ListsOperations t g →
-    ((r x : ℕ) → reads_at t r x ≡ true → IsMax (place g) (MaySee t (place g) r x) (sources r x)) →
-    ((r x : ℕ) → reads_at t r x ≡ true → IsLeft t opening g r x (sources r x)) → LoadValueAxiom t opening (place g)
+    ((r x : ℕ) → reads_at t r x ≡ true → IsMax (order_position g) (MaySee t (order_position g) r x) (sources r x)) →
+    ((r x : ℕ) → reads_at t r x ≡ true → IsLeft t opening g r x (sources r x)) → LoadValueAxiom t opening (order_position g)
 values_from_left t opening g sources lists m left r x h =
     let s = source_by_bound t opening g r x (sources r x) lists (m r x h) in
     (s.0, s.1, left r x h ∙ sym s.2)
 
 pub left_from_values : (t : List Event) (opening : ℕ → ℕ) (g : List ℕ) (sources : ℕ → ℕ → ℕ) → ListsOperations t g →
-    ((r x : ℕ) → reads_at t r x ≡ true → IsMax (place g) (MaySee t (place g) r x) (sources r x)) →
-    LoadValueAxiom t opening (place g) → (r x : ℕ) → reads_at t r x ≡ true → IsLeft t opening g r x (sources r x)
+    ((r x : ℕ) → reads_at t r x ≡ true → IsMax (order_position g) (MaySee t (order_position g) r x) (sources r x)) →
+    LoadValueAxiom t opening (order_position g) → (r x : ℕ) → reads_at t r x ≡ true → IsLeft t opening g r x (sources r x)
 left_from_values t opening g sources lists m axiom_holds r x h =
     let s = source_by_bound t opening g r x (sources r x) lists (m r x h) in
     let u = axiom_holds r x h in

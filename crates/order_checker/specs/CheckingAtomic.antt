@@ -6,7 +6,7 @@ use Rattle.round_schedule.specs.declared.event.Event.{Event}
 use Rattle.round_schedule.specs.Accesses.{writes}
 use Rattle.round_schedule.specs.Positions.{event, reads_at, writes_at}
 use Rattle.memory_order.specs.Operations.{is_store}
-use Rattle.memory_order.specs.Rvwmo.{IsPaired, IsSource, KeepsByte}
+use Rattle.memory_order.specs.Rvwmo.{IsPaired, IsSource, IsUndisturbed}
 use Rattle.order_checker.specs.declared.checking.latest.Latest.{Latest}
 use Rattle.order_checker.specs.declared.checking.latest.LatestOfWord.{LatestOfWord}
 use Rattle.order_checker.specs.Checking.{Below, IsMax}
@@ -14,7 +14,7 @@ use Rattle.order_checker.specs.Checking.{Below, IsMax}
 -- the atomicity axiom for the SC at c
 abbrev pub AtomicAt : List Event → (ℕ → ℕ) → ℕ → Type 0
 AtomicAt t pos c =
-    (l x : ℕ) (s : Option ℕ) → IsPaired t l c → is_store (event t c) ≡ true → reads_at t l x ≡ true → IsSource t pos l x s → KeepsByte t pos c x s
+    (l x : ℕ) (s : Option ℕ) → IsPaired t l c → is_store (event t c) ≡ true → reads_at t l x ≡ true → IsSource t pos l x s → IsUndisturbed t pos c x s
 
 abbrev pub no_store : Latest
 no_store = record { last = 0; owner = 0; other = 0 }

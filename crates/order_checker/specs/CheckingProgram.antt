@@ -25,15 +25,15 @@ pub data RuleButOverlap (t : List Event) (a b : ℕ) : Type 0 where
   by-release : is_release (event t b).access ≡ true → RuleButOverlap t a b
 
 -- what those rules order before the operation at b stands before it
-abbrev pub KeptAt : List Event → (ℕ → ℕ) → ℕ → Type 0
-KeptAt t pos b = (a : ℕ) → is_operation (event t a) ≡ true → ProgramBefore t a b → RuleButOverlap t a b → pos a < pos b
+abbrev pub RespectsAt : List Event → (ℕ → ℕ) → ℕ → Type 0
+RespectsAt t pos b = (a : ℕ) → is_operation (event t a) ≡ true → ProgramBefore t a b → RuleButOverlap t a b → pos a < pos b
 
-abbrev pub KeptButOverlap : List Event → (ℕ → ℕ) → Type 0
-KeptButOverlap t pos = (b : ℕ) → is_operation (event t b) ≡ true → KeptAt t pos b
+abbrev pub RespectsButOverlap : List Event → (ℕ → ℕ) → Type 0
+RespectsButOverlap t pos = (b : ℕ) → is_operation (event t b) ≡ true → RespectsAt t pos b
 
 -- stores of one hart to one byte stand as in the program
-abbrev pub KeptOverlap : List Event → (ℕ → ℕ) → Type 0
-KeptOverlap t pos = (a b x : ℕ) → ProgramBefore t a b → writes_at t a x ≡ true → writes_at t b x ≡ true → pos a < pos b
+abbrev pub RespectsOverlap : List Event → (ℕ → ℕ) → Type 0
+RespectsOverlap t pos = (a b x : ℕ) → ProgramBefore t a b → writes_at t a x ≡ true → writes_at t b x ≡ true → pos a < pos b
 
 abbrev pub no_bounds : HartBounds
 no_bounds = record { others = 0; stores = 0; before_loads = 0; before_stores = 0 }

@@ -1,11 +1,11 @@
 ghost use Rattle.std.specs.Prelude.{◌↔◌, All, IfOk, IsTrue};
 ghost use Rattle.trace.specs.Traced.{HasForm, opening_at};
-ghost use Rattle.memory_order.specs.Orders.{ListsOperations, place};
+ghost use Rattle.memory_order.specs.Orders.{ListsOperations, order_position};
 ghost use Rattle.memory_order.specs.Rvwmo.{AtomicityAxiom, LoadValueAxiom, MeetsRvwmo, PreservedOrder};
 ghost use Rattle.order_checker.specs.Checking.{IsRanking};
 
 use crate::checking::{
-    all_sources, keeps_but_overlap, loads_are_right, own_stores, pairs_are_atomic, positions,
+    all_sources, loads_are_right, own_stores, pairs_are_atomic, positions, respects_but_overlap,
 };
 use memory_order::Order;
 use pages::OutOfMemory;
@@ -16,7 +16,7 @@ use trace::Trace;
 /// Whether an order of a trace's memory operations meets RVWMO over the bytes that memory opened with, with one wider rule in place
 /// of the manual's rules 9 to 13, on dependencies (section 14.1): a yes stands for the manual's rules too.
 ///
-/// The order may have any places at all: it meets the memory model only if it has that of each memory operation once,
+/// The order may have any indexes at all: it meets the memory model only if it has that of each memory operation once,
 /// and no other. The steps are as many as the bytes of the trace's accesses, with a few looks into maps for each access.
 ///
 /// # Errors
@@ -58,11 +58,11 @@ fn meets_axioms(
     requires formed { All HasForm events.now }
     requires lists { ListsOperations events.now order.now }
     requires ranked { IsRanking events.now order.now ranks.now }
-    ensures { IfOk result (λ yes. IsTrue yes ↔ (PreservedOrder events.now (place order.now) ×
-        LoadValueAxiom events.now (opening_at trace.now.opening) (place order.now) ×
-        AtomicityAxiom events.now (place order.now))) }
+    ensures { IfOk result (λ yes. IsTrue yes ↔ (PreservedOrder events.now (order_position order.now) ×
+        LoadValueAxiom events.now (opening_at trace.now.opening) (order_position order.now) ×
+        AtomicityAxiom events.now (order_position order.now))) }
 {
-    if !keeps_but_overlap(alloc, events, order, ranks)? {
+    if !respects_but_overlap(alloc, events, order, ranks)? {
         return Ok(false);
     }
     let own = match own_stores(alloc, events, order, ranks)? {

@@ -10,7 +10,7 @@ mod own;
 mod pairs;
 mod program;
 mod ranks;
-mod source_table;
+mod source_bounds;
 mod sources;
 mod values;
 
@@ -23,8 +23,8 @@ pub use kinds::{
 pub use noting::may_store;
 pub use own::own_stores;
 pub use pairs::{last_reserved, paired};
-pub(crate) use program::keeps_but_overlap;
+pub(crate) use program::respects_but_overlap;
 pub use ranks::positions;
-pub use source_table::{Sources, source_at};
+pub use source_bounds::{Sources, source_at};
 pub use sources::all_sources;
 pub use values::loads_are_right;

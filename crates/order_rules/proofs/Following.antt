@@ -7,10 +7,10 @@ use Rattle.rv64_decode.specs.declared.instruction.Instr.TheVariants.{Ecall}
 use Rattle.round_schedule.specs.declared.event.Event.{Event}
 use Rattle.round_schedule.specs.Positions.{ProgramBefore, event}
 use Rattle.memory_order.proofs.Facts.{or_cases, or_left, or_right}
-use Rattle.dependencies.specs.declared.table.Registers.{Registers}
+use Rattle.dependencies.specs.declared.registers.Registers.{Registers}
 use Rattle.dependencies.specs.Dependencies.{AddressDependency, AnyDependency, ControlDependency, DataDependency, Depends, IsSourceRegister, destination_at, registers_at}
 use Rattle.dependencies.specs.Registers.{registers_of}
-use Rattle.dependencies.proofs.Steps.{Carried_on, depends_earlier, depends_register, kept_down, kept_up, new_down, new_here, new_up}
+use Rattle.dependencies.proofs.Steps.{Carried_on, depends_earlier, depends_register, stays_down, stays_up, new_down, new_here, new_up}
 use Rattle.order_checker.proofs.Sourcing.{same_number}
 use Rattle.order_rules.specs.declared.dependents.Dependents.{Dependents}
 use Rattle.order_rules.specs.Dependents.{AreDependents, AreRegisters, any_source, dependents_after, is_dependent, marked}
@@ -122,8 +122,8 @@ registers_more is t i h j d here fit k r l = elim (cases_eq r to) [
   ]
   | inr other ↦
       let at = marked_other d.registers to r v other in (
-        (λ e. kept_up is t h j r i (λ _ s. other (sym s)) ((k.registers r l).0 (sym at ∙ e))),
-        (λ e. at ∙ (k.registers r l).1 (kept_down is t h j (j + 1) r i refl (λ _ s. other (sym s)) e)),
+        (λ e. stays_up is t h j r i (λ _ s. other (sym s)) ((k.registers r l).0 (sym at ∙ e))),
+        (λ e. at ∙ (k.registers r l).1 (stays_down is t h j (j + 1) r i refl (λ _ s. other (sym s)) e)),
       )
 ]
   where
@@ -209,8 +209,8 @@ pub dependents_skip : (is : List Instr) (t : List Event) (i h j : ℕ) (d : Depe
 dependents_skip is t i h j d other k = record {
   size = k.size;
   registers = λ r l. (
-    (λ e. kept_up is t h j r i (λ s. absurd (other s)) ((k.registers r l).0 e)),
-    (λ e. (k.registers r l).1 (kept_down is t h j (j + 1) r i refl (λ s. absurd (other s)) e)),
+    (λ e. stays_up is t h j r i (λ s. absurd (other s)) ((k.registers r l).0 e)),
+    (λ e. (k.registers r l).1 (stays_down is t h j (j + 1) r i refl (λ s. absurd (other s)) e)),
   );
   steered = (
     (λ e. let s = k.steered.0 e in (s.0, omega (arith, s.1), s.2, s.3, s.4)),

@@ -3,7 +3,7 @@ use Rattle.std.specs.Prelude.{◌≡◌, ℕ, ◌<◌, ◌==◌, ◌&&◌, ◌||
 use Rattle.rv64_decode.specs.declared.instruction.Instr.{Instr}
 use Rattle.round_schedule.specs.declared.event.Event.{Event}
 use Rattle.round_schedule.specs.Positions.{event}
-use Rattle.dependencies.specs.declared.table.Registers.{Registers}
+use Rattle.dependencies.specs.declared.registers.Registers.{Registers}
 use Rattle.dependencies.specs.Dependencies.{AddressDependency, AnyDependency, Depends, registers_at}
 use Rattle.order_rules.specs.declared.dependents.Dependents.{Dependents}
 
@@ -25,7 +25,7 @@ dependents_after d x destination itself = record {
   addressed = d.addressed || is_dependent d x.address;
 }
 
--- of hart h before place j, what depends on the instruction at i
+-- of hart h before index j, what depends on the instruction at i
 pub record AreDependents (is : List Instr) (t : List Event) (i h j : ℕ) (d : Dependents) : Type 0 where
   pub size : length d.registers ≡ 32
   pub registers : (r : ℕ) → r < 32 → (is_dependent d r ≡ true) ↔ Depends is t h j r i

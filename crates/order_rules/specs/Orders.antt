@@ -6,7 +6,7 @@ use Rattle.round_schedule.specs.declared.event.Event.{Event}
 use Rattle.round_schedule.specs.Accesses.{is_sc}
 use Rattle.round_schedule.specs.Positions.{ProgramBefore, event, reads_at, writes_at}
 use Rattle.trace.specs.Traced.{HasForm}
-use Rattle.memory_order.specs.Orders.{ListsOperations, place}
+use Rattle.memory_order.specs.Orders.{ListsOperations, order_position}
 use Rattle.order_checker.specs.Checking.{AreSources, IsRanking}
 use Rattle.memory_order.specs.Operations.{covers, fence_orders, is_acquire, is_amo, is_release, is_store}
 use Rattle.memory_order.specs.Rvwmo.{IsPaired, IsSource, MaySee, Rule, acquired, both-annotated, dependent, different-writes, fenced, overlapping-store, paired, released, returns-atomic}
@@ -21,9 +21,9 @@ pub record AreRanked (t : List Event) (g ranks : List ℕ) : Type 0 where
   pub lists : ListsOperations t g
   pub ranked : IsRanking t g ranks
 
--- a table has the bounds of the sources of loads
+-- a list has the bounds of the sources of loads
 abbrev pub HasSources : List Event → List ℕ → List (List ℕ) → Type 0
-HasSources t g s = AreSources t g (MaySee t (place g)) s
+HasSources t g s = AreSources t g (MaySee t (order_position g)) s
 
 -- which rule orders two operations
 abbrev pub dependency_rule : (is : List Instr) (t : List Event) (pos : ℕ → ℕ) (a b : ℕ) → DependencyRule is t pos a b → OrderRule

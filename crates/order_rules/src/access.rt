@@ -117,22 +117,22 @@ fn is_normal(mode: FenceMode) -> bool
     }
 }
 
-/// Whether the event at a place reads the byte at an address.
-pub(crate) fn reads_at(events: &[Event], place: usize, x: u64) -> bool
-    requires within { place < length events.now }
+/// Whether the event at an index reads the byte at an address.
+pub(crate) fn reads_at(events: &[Event], index: usize, x: u64) -> bool
+    requires within { index < length events.now }
     requires formed { All HasForm events.now }
-    ensures { result ≡ reads_at events.now place x }
+    ensures { result ≡ reads_at events.now index x }
 {
-    reads(&event_at(events, place).access, x)
+    reads(&event_at(events, index).access, x)
 }
 
 /// Whether it writes that byte.
-pub(crate) fn writes_at(events: &[Event], place: usize, x: u64) -> bool
-    requires within { place < length events.now }
+pub(crate) fn writes_at(events: &[Event], index: usize, x: u64) -> bool
+    requires within { index < length events.now }
     requires formed { All HasForm events.now }
-    ensures { result ≡ writes_at events.now place x }
+    ensures { result ≡ writes_at events.now index x }
 {
-    writes(&event_at(events, place).access, x)
+    writes(&event_at(events, index).access, x)
 }
 
 /// Whether two events are of one hart.

@@ -2,7 +2,7 @@
 
 ghost use Rattle.std.specs.Prelude.{◌≡◌, ◌↔◌, ◌<◌, IsTrue, MatchOption, length};
 ghost use Rattle.round_schedule.specs.Positions.{ProgramBefore};
-ghost use Rattle.memory_order.specs.Orders.{place};
+ghost use Rattle.memory_order.specs.Orders.{order_position};
 ghost use Rattle.order_rules.specs.Orders.{AreRanked, Asks, HasSources, IsFirstRule, NoneAsks, is_annotated};
 
 use crate::access::{is_acquire, is_amo_or_sc};
@@ -31,8 +31,8 @@ pub fn first_rule(
     requires sourced { HasSources events.now order.now sources.now.items }
     requires within { b < length events.now }
     requires before { ProgramBefore events.now a b }
-    ensures { MatchOption result (NoneAsks instructions.now events.now (place order.now) a b)
-        (λ rule. IsFirstRule rule instructions.now events.now (place order.now) a b) }
+    ensures { MatchOption result (NoneAsks instructions.now events.now (order_position order.now) a b)
+        (λ rule. IsFirstRule rule instructions.now events.now (order_position order.now) a b) }
 {
     for rule in RULES {
         if asks(rule, instructions, events, order, ranks, sources, a, b) {
@@ -57,7 +57,7 @@ fn asks(
     requires sourced { HasSources events.now order.now sources.now.items }
     requires within { b < length events.now }
     requires before { ProgramBefore events.now a b }
-    ensures { IsTrue result ↔ Asks rule instructions.now events.now (place order.now) a b }
+    ensures { IsTrue result ↔ Asks rule instructions.now events.now (order_position order.now) a b }
 {
     let first = event_at(events, a).access;
     let second = event_at(events, b).access;

@@ -34,7 +34,7 @@ pub(crate) fn are_paired(events: &[Event], a: usize, b: usize) -> bool
     is_lr(&events[a].access) && is_sc(&events[b].access) && is_unreserved_between(events, a, b)
 }
 
-/// Whether no LR or SC of the hart lies between two places.
+/// Whether no LR or SC of the hart lies between two indexes.
 fn is_unreserved_between(events: &[Event], a: usize, b: usize) -> bool
     requires within { b < length events.now }
     requires before { ProgramBefore events.now a b }

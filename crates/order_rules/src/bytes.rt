@@ -4,7 +4,7 @@ ghost use Rattle.std.specs.Prelude.{◌≡◌, ◌≢◌, ◌↔◌, ◌+◌, �
 ghost use Rattle.trace.specs.Traced.{HasForm};
 ghost use Rattle.round_schedule.specs.Accesses.{address_of, bytes_of};
 ghost use Rattle.round_schedule.specs.Positions.{ProgramBefore, event, reads_at};
-ghost use Rattle.memory_order.specs.Orders.{place};
+ghost use Rattle.memory_order.specs.Orders.{order_position};
 ghost use Rattle.memory_order.specs.Rvwmo.{IsSource};
 ghost use Rattle.order_rules.specs.Orders.{AreRanked, Differs, DiffersAt, HasSources, IsFrom, NoStoreBetween, Overlaps, Returns};
 
@@ -40,7 +40,7 @@ pub(crate) fn differ(
     requires sourced { HasSources events.now order.now sources.now.items }
     requires within { b < length events.now }
     requires before { ProgramBefore events.now a b }
-    ensures { IsTrue result ↔ Differs events.now (place order.now) a b }
+    ensures { IsTrue result ↔ Differs events.now (order_position order.now) a b }
 {
     let event = event_at(events, b);
     let start = event.access.address();
@@ -66,7 +66,7 @@ fn differ_at(
     requires sourced { HasSources events.now order.now sources.now.items }
     requires within { b < length events.now }
     requires before { ProgramBefore events.now a b }
-    ensures { IsTrue result ↔ DiffersAt events.now (place order.now) a b x }
+    ensures { IsTrue result ↔ DiffersAt events.now (order_position order.now) a b x }
 {
     if !both_read(events, a, b, x) {
         return false;
@@ -101,7 +101,7 @@ fn are_one(a: Option<usize>, b: Option<usize>) -> bool
     a == b
 }
 
-/// Whether no store of the hart to a byte lies between two places.
+/// Whether no store of the hart to a byte lies between two indexes.
 fn is_unstored_between(events: &[Event], a: usize, b: usize, x: u64) -> bool
     requires formed { All HasForm events.now }
     requires within { b < length events.now }
@@ -128,7 +128,7 @@ pub(crate) fn returns(
     requires ranked { AreRanked events.now order.now ranks.now }
     requires sourced { HasSources events.now order.now sources.now.items }
     requires within { b < length events.now }
-    ensures { IsTrue result ↔ Returns events.now (place order.now) a b }
+    ensures { IsTrue result ↔ Returns events.now (order_position order.now) a b }
 {
     let event = event_at(events, b);
     let start = event.access.address();
@@ -153,7 +153,7 @@ fn is_from(
     requires ranked { AreRanked events.now order.now ranks.now }
     requires sourced { HasSources events.now order.now sources.now.items }
     requires within { b < length events.now }
-    ensures { IsTrue result ↔ IsFrom events.now (place order.now) b a x }
+    ensures { IsTrue result ↔ IsFrom events.now (order_position order.now) b a x }
 {
     if !reads_at(events, b, x) {
         return false;

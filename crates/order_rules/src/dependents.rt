@@ -9,7 +9,7 @@ use order_checker::event_at;
 use round_schedule::{Access, Event};
 use rv64_decode::{Instr, Reg};
 
-/// What depends on one operation, before a later place of its hart.
+/// What depends on one operation, before a later index of its hart.
 #[derive(Clone, Copy)]
 pub(crate) struct Dependents {
     /// Which registers do.
@@ -20,7 +20,7 @@ pub(crate) struct Dependents {
     pub(crate) addressed: bool,
 }
 
-/// What depends on the operation at `i`, before place `j`.
+/// What depends on the operation at `i`, before index `j`.
 pub(crate) fn dependents_before(
     instructions: &[Instr],
     events: &[Event],
@@ -46,7 +46,7 @@ pub(crate) fn dependents_before(
     dependents
 }
 
-/// The same before the next place after `k`, from what it is before `k`.
+/// The same before the next index after `k`, from what it is before `k`.
 fn next_dependents(
     instructions: &[Instr],
     events: &[Event],
@@ -68,11 +68,11 @@ fn next_dependents(
     let used = used_registers(&instructions[k]);
     are_registers(&used);
     let destination = destination_of(&used, &event.access);
-    let itself = is_place(k, i);
+    let itself = are_same(k, i);
     dependents_after(dependents, &used, destination, itself)
 }
 
-fn is_place(k: usize, i: usize) -> bool
+fn are_same(k: usize, i: usize) -> bool
     ensures { result ≡ (k == i) }
 {
     k == i

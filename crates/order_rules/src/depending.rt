@@ -3,7 +3,7 @@
 ghost use Rattle.std.specs.Prelude.{◌≡◌, ◌↔◌, ◌<◌, All, IsTrue, length};
 ghost use Rattle.trace.specs.Traced.{HasForm};
 ghost use Rattle.round_schedule.specs.Positions.{ProgramBefore};
-ghost use Rattle.memory_order.specs.Orders.{place};
+ghost use Rattle.memory_order.specs.Orders.{order_position};
 ghost use Rattle.dependencies.specs.Dependencies.{AddressDependency, ControlDependency, DataDependency};
 ghost use Rattle.order_rules.specs.Orders.{AddressedBetween, AreRanked, DependsBefore, Forwards, ForwardsAt, HasSources};
 
@@ -75,7 +75,7 @@ pub(crate) fn forwards(
     requires sourced { HasSources events.now order.now sources.now.items }
     requires within { b < length events.now }
     requires before { ProgramBefore events.now a b }
-    ensures { IsTrue result ↔ Forwards instructions.now events.now (place order.now) a b }
+    ensures { IsTrue result ↔ Forwards instructions.now events.now (order_position order.now) a b }
 {
     let event = event_at(events, b);
     let start = event.access.address();
@@ -103,7 +103,7 @@ fn forwards_at(
     requires sourced { HasSources events.now order.now sources.now.items }
     requires within { b < length events.now }
     requires before { ProgramBefore events.now a b }
-    ensures { IsTrue result ↔ ForwardsAt instructions.now events.now (place order.now) a b x }
+    ensures { IsTrue result ↔ ForwardsAt instructions.now events.now (order_position order.now) a b x }
 {
     if !reads_at(events, b, x) {
         return false;

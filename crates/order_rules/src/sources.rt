@@ -1,13 +1,13 @@
 ghost use Rattle.std.specs.Prelude.{◌≡◌, ◌<◌, MatchOption, length, true};
 ghost use Rattle.round_schedule.specs.Positions.{reads_at};
-ghost use Rattle.memory_order.specs.Orders.{place};
+ghost use Rattle.memory_order.specs.Orders.{order_position};
 ghost use Rattle.memory_order.specs.Rvwmo.{IsSource};
 ghost use Rattle.order_rules.specs.Orders.{AreRanked, HasSources};
 
 use order_checker::{Sources, listed, position_of, source_at};
 use round_schedule::Event;
 
-/// The place of the store that the byte at an address is from, where the event at `reader` reads it: that of the latest among those
+/// The index of the store that the byte at an address is from, where the event at `reader` reads it: that of the latest among those
 /// that precede the reader in the order or in program order; none where it is the opening byte.
 pub fn source_of(
     events: &[Event],
@@ -21,7 +21,7 @@ pub fn source_of(
     requires sourced { HasSources events.now order.now sources.now.items }
     requires within { reader < length events.now }
     requires reads { reads_at events.now reader x ≡ true }
-    ensures source { IsSource events.now (place order.now) reader x result }
+    ensures source { IsSource events.now (order_position order.now) reader x result }
     ensures within { MatchOption result (Unit {0}) (λ s. s < length events.now) }
 {
     let position = position_of(events, order, ranks, reader);

@@ -7,7 +7,7 @@ use Rattle.std.proofs.lemmas.List.{get_or_default}
 use Rattle.std.specs.List.{list_any}
 use Rattle.pages.specs.declared.access.Range.{Range}
 use Rattle.pages.specs.Code.{has_address, has_some_address, has_word}
-use Rattle.pages.specs.Kept.{LiesWithin}
+use Rattle.pages.specs.PagesHold.{LiesWithin}
 use Rattle.pages.specs.declared.access.Width.{Width}
 use Rattle.pages.specs.declared.access.Width.TheVariants.{W1, W2, W4, W8}
 use Rattle.pages.specs.Memory.{width_bytes, in_range, is_code, any_code, all_code}

@@ -3,7 +3,7 @@ use Rattle.std.proofs.Common.{◌≡◌, ℕ, suc, zero, ◌+◌, ◌<◌, List,
 use Rattle.std.proofs.lemmas.List.{map-set, get_or-map, length-map, set-get_or, replicate_more, take_more, take_more_set}
 use Rattle.std.proofs.lemmas.List.Sums.{sum_by-set}
 use Rattle.pages.specs.Flat.{Page, absent, full, flat, is_ready}
-use Rattle.pages.specs.Kept.{IsCounted}
+use Rattle.pages.specs.PagesHold.{IsCounted}
 use Rattle.pages.specs.Paged.{all_ready, count_unready}
 use Rattle.pages.proofs.FlatPages.{flat-set_same}
 
@@ -42,7 +42,7 @@ one_less rs i l e =
     let f : Bool → ℕ = λ (b : Bool). cond (not b) 1 0 in
     omega (arith, sum_by-set f rs i true false l, ap f e)
 
--- the same, of the number that is kept
+-- the same, of the number that is noted
 pub some_left : (n : Option ℕ) (ps : List Page) (i : ℕ) → i < length ps → is_ready (get_or ps i absent) ≡ false → IsCounted n (map is_ready ps) → IfSome n (λ k. 0 < k)
 some_left None ps i l e c = c
 some_left (Some k) ps i l e c =

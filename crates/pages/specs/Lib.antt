@@ -1,7 +1,7 @@
 pub mod Code
 pub mod Flat
 pub mod Initial
-pub mod Kept
+pub mod PagesHold
 pub mod Laws
 pub mod Lending
 pub mod Memory

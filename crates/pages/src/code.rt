@@ -2,7 +2,7 @@ ghost use Rattle.std.specs.Prelude.{◌≡◌, ◌+◌, ◌^◌, ◌<◌, All};
 ghost use Rattle.std.specs.List.{list_any};
 ghost use Rattle.pages.specs.Code.{has_address, has_some_address, has_word};
 ghost use Rattle.pages.specs.declared.access.Range.{Range as RangeOf};
-ghost use Rattle.pages.specs.Kept.{LiesWithin};
+ghost use Rattle.pages.specs.PagesHold.{LiesWithin};
 ghost use Rattle.pages.specs.Memory.{all_code, any_code, is_code, width_bytes};
 
 use crate::{Range, Width};

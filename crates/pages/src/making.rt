@@ -5,7 +5,7 @@ ghost use Rattle.pages.specs.declared.access.Range.{Range as RangeOf};
 ghost use Rattle.pages.specs.Code.{overlaps};
 ghost use Rattle.pages.specs.Flat.{flat, full, is_ready};
 ghost use Rattle.pages.specs.Initial.{bytes_from, is_touched};
-ghost use Rattle.pages.specs.Kept.{LiesWithin};
+ghost use Rattle.pages.specs.PagesHold.{LiesWithin};
 ghost use Rattle.pages.specs.Memory.{in_range};
 
 use crate::pages::MOST_PAGES;

@@ -4,14 +4,14 @@ ghost use Rattle.pages.specs.declared.access.Piece.{Piece as PieceOf};
 ghost use Rattle.pages.specs.declared.access.Range.{Range as RangeOf};
 ghost use Rattle.pages.specs.Flat.{blank, flat, is_ready, page_bytes};
 ghost use Rattle.pages.specs.Initial.{initial};
-ghost use Rattle.pages.specs.Kept.{Kept};
+ghost use Rattle.pages.specs.PagesHold.{PagesHold};
 ghost use Rattle.pages.specs.Lending.{LendsParts};
 ghost use Rattle.pages.specs.Memory.{IsBytes, fetched, loaded, store_fault, width_bytes};
 ghost use Rattle.pages.specs.Paged.{all_ready, applied, count_unready, is_page_ready};
 
 use crate::code::{all_code_at, has_word_at, touches_code};
 use crate::making::{bounds_of, copies_of, parts_of, share_all};
-use crate::prepare::{add_spares, count_all, count_kept, make_all_ready, put_into, ready_page};
+use crate::prepare::{add_spares, count_all, known_count, make_all_ready, put_into, ready_page};
 use crate::spare::Spare;
 use crate::{Fault, OutOfMemory, Part, Piece, Range, Store, Width};
 use std::alloc::Global;
@@ -21,6 +21,7 @@ use std::marker::Model;
 pub const MOST_PAGES: u32 = 16_384;
 
 /// Guest memory from address 0 on, in pages of 4096 bytes. A page takes memory once it is ready, and copies may share it.
+// docs/decisions/storage.md
 #[derive(Drop)]
 pub struct Pages {
     parts: Vec<Part>,
@@ -39,7 +40,7 @@ impl Model for Pages {
     ghost Value = { Paged };
 
     ghost use Rattle.pages.specs.Flat.{flat, is_ready};
-    ghost use Rattle.pages.specs.Kept.{Kept};
+    ghost use Rattle.pages.specs.PagesHold.{PagesHold};
 
     ghost view = { λ p. record {
       memory = record {
@@ -51,7 +52,7 @@ impl Model for Pages {
     } };
 
     ghost invariant = { λ p.
-        Kept p.parts.items (length p.spares.items) p.unready p.code.items p.code_start p.code_end };
+        PagesHold p.parts.items (length p.spares.items) p.unready p.code.items p.code_start p.code_end };
 }
 
 impl Pages {
@@ -141,15 +142,16 @@ impl Pages {
         self.spares.len() as u32
     }
 
-    /// How many pages are not ready. The number is kept, so that each page is looked at only where `parts` lent them since.
+    /// How many pages are not ready. The number is noted, so that each page is looked at only where `parts` lent them since.
     pub fn unready(&self) -> u32
         ensures { result ≡ count_unready self.now.ready }
     {
-        count_kept(&self.parts, self.unready)
+        known_count(&self.parts, self.unready)
     }
 
     /// Keeps how many pages are not ready. A caller that did no more than stores on pages that `parts` lent knows it, and so
     /// spares the next count the look at each page.
+    // docs/decisions/storage.md
     #[inline]
     pub fn keep_unready(&mut self, unready: u32)
         requires { unready ≡ count_unready self.old.ready }
@@ -298,7 +300,7 @@ impl Pages {
         if self.spares.len() >= spare as usize {
             return Ok(());
         }
-        let unready = count_kept(parts, self.unready);
+        let unready = known_count(parts, self.unready);
         self.unready = Some(unready);
         add_spares(alloc, &mut self.spares, unready as usize, spare as usize)
     }

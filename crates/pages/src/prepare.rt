@@ -1,6 +1,6 @@
 ghost use Rattle.std.specs.Prelude.{◌≡◌, ◌+◌, ◌/◌, ◌%◌, ◌<◌, ◌≤◌, ◌⊎◌, ℕ, true, false, length, slice_index_or, slice_set, map, max, min, All, IfSome, OnOk, OnErr, vec_len};
 ghost use Rattle.pages.specs.Flat.{absent, flat, is_ready};
-ghost use Rattle.pages.specs.Kept.{IsCounted};
+ghost use Rattle.pages.specs.PagesHold.{IsCounted};
 ghost use Rattle.pages.specs.Paged.{all_ready, count_unready, spare_after};
 ghost use Rattle.pages.specs.Memory.{put, width_bytes};
 
@@ -129,8 +129,8 @@ pub(crate) fn make_all_ready(
     Ok(())
 }
 
-/// How many pages are not ready: the number that is kept, and where none is, all pages are counted.
-pub(crate) fn count_kept(parts: &[Part], unready: Option<u32>) -> u32
+/// How many pages are not ready: the number that is noted, and where none is, all pages are counted.
+pub(crate) fn known_count(parts: &[Part], unready: Option<u32>) -> u32
     requires most { length parts.now ≤ MOST_PAGES }
     requires counted { IsCounted unready (map is_ready parts.now) }
     ensures { result ≡ count_unready (map is_ready parts.now) }

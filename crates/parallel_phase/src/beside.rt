@@ -21,6 +21,7 @@ pub(crate) trait Work<T> {
 /// Does the work on each item, on a thread of its own. The calling thread takes the last item, and starts the other threads,
 /// so that none of them waits for one that is itself to be started. Where a thread can't be started, the calling thread does its
 /// work.
+// docs/decisions/threads.md
 #[cycle(items)]
 pub(crate) fn work_on_each<R: Threads + Sync, T: Send, W: Work<T> + Sync>(
     rt: &R,

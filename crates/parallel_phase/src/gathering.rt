@@ -16,6 +16,7 @@ use std::thread::Threads;
 /// # Errors
 ///
 /// A worker was refused memory. The start is only read.
+// docs/decisions/shared-book.md
 pub fn gather<B: BookStart + Send + Sync, G: Gate + Sync, R: Threads + Wait + Sync>(
     rt: &R,
     start: &RoundStart<'_>,

@@ -10,7 +10,7 @@ use Rattle.hart_step.specs.Console.{ConsoleState}
 use Rattle.hart_step.specs.Words.{words_of}
 use Rattle.hart_step.specs.declared.hart.Hart.{Hart}
 use Rattle.machine.proofs.Repeated.{next_round, no_rounds}
-use Rattle.guest_rounds.proofs.TraceKept.{placed_first, placed_more}
+use Rattle.guest_rounds.proofs.TraceHolds.{placed_first, placed_more}
 use Rattle.machine.specs.Machine.{Running, after_rounds, opening}
 use Rattle.run_settings.specs.Settings.{image_of}
 use Rattle.moments.proofs.Past.{harts_in, sights_past}
@@ -26,7 +26,7 @@ use Rattle.replayer.specs.Past.{Begins, IsBefore, IsStateBefore, sight_at}
 use Rattle.replayer.specs.Refusals.{RefusedInOrder}
 use Rattle.replayer.specs.Replayed.{IsPlanFor, format_of, start_of}
 use Rattle.round_planner.specs.Quotas.{Planned, quotas_of}
-use Rattle.round_schedule.proofs.Rising.{places_kept}
+use Rattle.round_schedule.proofs.Rising.{places_low}
 use Rattle.round_schedule.specs.Past.{hart_after, past_of}
 use Rattle.round_schedule.specs.Places.{Placed}
 
@@ -77,7 +77,7 @@ placed_after image input plan low few (suc n) lt =
     let m : Running = opening image input plan in
     let last : ℕ = 1001000 * n in
     let ih = placed_after image input plan low few n (omega (arith, lt)) in
-    let next = places_kept (words_of m.code) (λ (h : Hart). h.done) (counts_done m.code) last 1000000 plan.budget (quotas_of plan) (after_rounds n m).state
+    let next = places_low (words_of m.code) (λ (h : Hart). h.done) (counts_done m.code) last 1000000 plan.budget (quotas_of plan) (after_rounds n m).state
     (λ k. low_all (quotas_of plan k) (low k)) (omega (arith, few, lt)) ih in
     let more : n + 1 ≡ suc n = omega arith in
     subst (λ (r : Running). Placed (λ (h : Hart). h.done) (1001000 * suc n) r.state.harts r.state.trace) (next_round n m ∙ ap (λ (k : ℕ). after_rounds k m) more)

@@ -32,7 +32,7 @@ look_at c m first count = bytes_at c.execution.standing.events (opening_at c.ope
 
 -- the moment before a step
 abbrev pub moment_before : Checked → Before → Moment
-moment_before c b = moment_of c.execution.standing.events c.order.0.items b.place
+moment_before c b = moment_of c.execution.standing.events c.order.0.items b.index
 
 -- its position in the order of memory, the hart's lines, and a line for each of these ranges as the hart sees them there
 abbrev pub before_text : ℕ → List SeenRange → Checked → Before → List ℕ

@@ -106,7 +106,7 @@ fn before_line(
 ) -> Result<Line, OutOfMemory>
     ensures { IfOk result (λ l. l ≡ before_text hart ranges.now checked.now before.now) }
 {
-    let moment = moment_of(checked.execution.events(), &checked.order, before.place);
+    let moment = moment_of(checked.execution.events(), &checked.order, before.index);
     let seen = bytes_of(alloc, checked, &moment, ranges)?;
     let mut line = number_line(alloc, "position ", moment.position as u64)?;
     hart_lines(&mut line, u64::from(hart), &before.hart)?;

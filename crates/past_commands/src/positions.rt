@@ -97,8 +97,8 @@ fn events_at(
 fn event_there(events: &[Event], order: &[usize], position: usize) -> Event
     ensures { result ≡ event_there events.now order.now position }
 {
-    let place = order.get(position).copied().unwrap_or(0);
-    let event = match events.get(place) {
+    let index = order.get(position).copied().unwrap_or(0);
+    let event = match events.get(index) {
         Some(event) => *event,
         None => no_event(),
     };
@@ -127,6 +127,6 @@ fn pcs_at(
 fn pc_there(order: &[usize], pcs: &[u64], position: usize) -> Option<u64>
     ensures { result ≡ pc_there order.now pcs.now position }
 {
-    let place = order.get(position).copied().unwrap_or(0);
-    pcs.get(place).copied()
+    let index = order.get(position).copied().unwrap_or(0);
+    pcs.get(index).copied()
 }

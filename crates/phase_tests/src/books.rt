@@ -1,12 +1,12 @@
 //! Books, through the public calls of the crate `round_lock`: of harts that may do no instruction, so that each round leaves its hart as it was.
 
 ghost use Rattle.std.specs.Prelude.{◌≡◌, [], ◌∷◌, ◌++◌, IfOk, IfSome, length};
-ghost use Rattle.hart_step.specs.CodeTables.{Shows};
+ghost use Rattle.hart_step.specs.DecodedCode.{Shows};
 ghost use Rattle.round_lock.specs.Lists.{has};
 ghost use Rattle.round_lock.specs.Rounds.{harts_put, ticket_of};
 
 use hart_rounds::HartEnd;
-use hart_step::{CodeTable, Hart};
+use hart_step::{DecodedCode, Hart};
 use pages::{OutOfMemory, Pages};
 use round_lock::{BookStart, Gathered, HartRound, RoundBook, RoundStart, Seat, Ticket};
 use std::alloc::Global;
@@ -17,11 +17,11 @@ use std::test::Fail;
 use std::thread::{Threads, join};
 
 /// One page, of which nothing is code.
-fn no_code(alloc: Global) -> Result<(Pages, CodeTable), OutOfMemory>
+fn no_code(alloc: Global) -> Result<(Pages, DecodedCode), OutOfMemory>
     ensures { IfOk result (λ r. Shows r.0.memory r.1.first r.1.instructions) }
 {
     let pages = Pages::new(alloc, 1, &[], &[])?;
-    let table = CodeTable::new(alloc, &pages, 0, 0)?;
+    let table = DecodedCode::new(alloc, &pages, 0, 0)?;
     Ok((pages, table))
 }
 

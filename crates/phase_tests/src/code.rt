@@ -1,9 +1,9 @@
 //! Code in memory, and decoded.
 
 ghost use Rattle.std.specs.Prelude.{◌≤◌, IfOk, length};
-ghost use Rattle.hart_step.specs.CodeTables.{Shows};
+ghost use Rattle.hart_step.specs.DecodedCode.{Shows};
 
-use hart_step::CodeTable;
+use hart_step::DecodedCode;
 use pages::{OutOfMemory, Pages, Piece, Range};
 use std::alloc::Global;
 
@@ -28,11 +28,11 @@ fn memory(alloc: Global, words: &[u32]) -> Result<Pages, OutOfMemory>
 }
 
 /// The same, and these words decoded.
-pub(crate) fn code_of(alloc: Global, words: &[u32]) -> Result<(Pages, CodeTable), OutOfMemory>
+pub(crate) fn code_of(alloc: Global, words: &[u32]) -> Result<(Pages, DecodedCode), OutOfMemory>
     requires { length words.now ≤ 6 }
     ensures { IfOk result (λ r. Shows r.0.memory r.1.first r.1.instructions) }
 {
     let pages = memory(alloc, words)?;
-    let table = CodeTable::new(alloc, &pages, 0, words.len())?;
+    let table = DecodedCode::new(alloc, &pages, 0, words.len())?;
     Ok((pages, table))
 }

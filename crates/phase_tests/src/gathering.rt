@@ -140,7 +140,7 @@ fn logs_are_the_same_in_brief(rt: HostRuntime) -> Result<(), Fail> {
     let harts = harts();
     let quotas = [300; 64];
     let whole = RoundStart::new(&pages, &table, &harts, &quotas);
-    assert!(rt; whole.form() == LogForm::Kept);
+    assert!(rt; whole.form() == LogForm::Logged);
     gathers_counts::<Brand, _>(&rt, &whole);
     let brief = RoundStart::new(&pages, &table, &harts, &quotas).with_form(LogForm::InBrief);
     assert!(rt; brief.form() == LogForm::InBrief);

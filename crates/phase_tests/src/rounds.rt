@@ -104,7 +104,7 @@ fn does_rounds<R: Abort>(rt: &R, alloc: Global, form: LogForm, logged: usize) {
 fn a_round_takes_the_place_of_what_is_there(rt: HostRuntime) -> Result<(), Fail> {
     let alloc = rt.alloc();
     does_rounds(&rt, alloc, LogForm::Counted, 0);
-    does_rounds(&rt, alloc, LogForm::Kept, 100);
+    does_rounds(&rt, alloc, LogForm::Logged, 100);
     does_rounds(&rt, alloc, LogForm::InBrief, 100);
     Ok(())
 }

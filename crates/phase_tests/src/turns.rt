@@ -1,7 +1,7 @@
 //! Serial turns, through the public calls of the crate `serial_phase`.
 
 ghost use Rattle.std.specs.Prelude.{◌≡◌, ◌*◌, ◌+◌, ◌≤◌, ◌<◌, IfOk, length};
-ghost use Rattle.hart_step.specs.CodeTables.{Shows};
+ghost use Rattle.hart_step.specs.DecodedCode.{Shows};
 ghost use Rattle.serial_phase.specs.Phase.{budget_from, budget_of};
 
 mod budgets;

@@ -8,18 +8,18 @@ use Rattle.picture.specs.declared.rows.Row.{Row}
 use Rattle.picture.specs.Layout.{box_under, boxes_after, boxes_of, each_with_earlier, top_under}
 
 abbrev pub box_at : Row → Event → ℕ → EventBox
-box_at r e top = record { place = r.place; event = e; times = r.times; top = top }
+box_at r e top = record { index = r.index; event = e; times = r.times; top = top }
 
 boxes_push : (t : List Event) (bs : List EventBox) (rs : List Row) (r : Row) → boxes_after t bs (rs ++ r ∷ []) ≡ boxes_after t bs rs ++ box_under t (boxes_after t bs rs) r ∷ []
 boxes_push t bs [] r = refl
 boxes_push t bs (s ∷ rs) r = boxes_push t (bs ++ box_under t bs s ∷ []) rs r
 
-same_box : (t : List Event) (bs : List EventBox) (r : Row) (e : Event) (top : ℕ) → e ≡ event t r.place → top ≡ top_under bs e → box_at r e top ≡ box_under t bs r
-same_box t bs r e top f h = ap (λ (z : Event). box_at r z top) f ∙ ap (box_at r (event t r.place)) (h ∙ ap (top_under bs) f)
+same_box : (t : List Event) (bs : List EventBox) (r : Row) (e : Event) (top : ℕ) → e ≡ event t r.index → top ≡ top_under bs e → box_at r e top ≡ box_under t bs r
+same_box t bs r e top f h = ap (λ (z : Event). box_at r z top) f ∙ ap (box_at r (event t r.index)) (h ∙ ap (top_under bs) f)
 
 -- one more box, of one more row
 pub boxes_more : (t : List Event) (rs : List Row) (i : ℕ) (d : Row) (bs new : List EventBox) (e : Event) (top : ℕ) → new ≡ bs ++ box_at (get_or rs i d) e top ∷ [] →
-    e ≡ event t (get_or rs i d).place → top ≡ top_under bs e → bs ≡ boxes_of t (take i rs) → i < length rs → new ≡ boxes_of t (take (i + 1) rs)
+    e ≡ event t (get_or rs i d).index → top ≡ top_under bs e → bs ≡ boxes_of t (take i rs) → i < length rs → new ≡ boxes_of t (take (i + 1) rs)
 boxes_more t rs i d bs new e top n f h k l =
     n ∙ ap (λ (b : EventBox). bs ++ b ∷ []) (same_box t bs (get_or rs i d) e top f h)
     ∙ ap (λ (z : List EventBox). z ++ box_under t z (get_or rs i d) ∷ []) k

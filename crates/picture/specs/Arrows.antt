@@ -2,7 +2,7 @@
 use Rattle.std.specs.Prelude.{ℕ, ◌+◌, ◌-◌, ◌==◌, Bool, true, false, if◌then◌else◌, nat_lt, List, [], ◌∷◌, ◌++◌, codes, Option}
 use Rattle.std.specs.List.{list_any}
 use Rattle.round_schedule.specs.declared.event.Event.{Event}
-use Rattle.byte_sources.specs.Sources.{is_opening, is_place, sources}
+use Rattle.byte_sources.specs.Sources.{is_opening, is_index, sources}
 use Rattle.picture.specs.declared.elements.Curve.{Curve}
 use Rattle.picture.specs.declared.event_box.EventBox.{EventBox}
 use Rattle.picture.specs.Elements.{curve_text, down_text}
@@ -35,9 +35,9 @@ arrow_class false = codes "other"
 unfoldable pub arrow_text : EventBox → EventBox → List ℕ
 arrow_text a b = curve_text (arrow_class (a.event.hart == b.event.hart)) (curve_between a b)
 
--- an arrow from a box, where that has the place of a source
+-- an arrow from a box, where that has the index of a source
 abbrev pub arrow_from : List (Option ℕ) → EventBox → EventBox → List ℕ
-arrow_from ss b a = if list_any (is_place a.place) ss then arrow_text a b else []
+arrow_from ss b a = if list_any (is_index a.index) ss then arrow_text a b else []
 
 abbrev pub arrows_from : List (Option ℕ) → EventBox → List EventBox → List ℕ
 arrows_from ss b [] = []
@@ -52,4 +52,4 @@ opening_text ss b =
 
 -- all arrows to a box
 abbrev pub arrows_to : List Event → List EventBox → EventBox → List ℕ
-arrows_to t earlier b = arrows_from (sources t b.place) b earlier ++ opening_text (sources t b.place) b
+arrows_to t earlier b = arrows_from (sources t b.index) b earlier ++ opening_text (sources t b.index) b

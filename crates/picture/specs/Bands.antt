@@ -1,4 +1,4 @@
--- The bands of rounds, each with its parallel part above its serial part, and the columns of harts.
+-- The bands of rounds, each with its parallel phase above its serial phase, and the columns of harts.
 use Rattle.std.specs.Prelude.{ℕ, ◌+◌, ◌-◌, if◌then◌else◌, List, [], ◌∷◌, ◌++◌, codes, Option, Some, None}
 use Rattle.std.specs.Fmt.{decimal}
 use Rattle.round_schedule.specs.declared.event.Phase.{Phase}
@@ -8,22 +8,22 @@ use Rattle.hart_step.specs.declared.hart.Stop.{Stop}
 use Rattle.report_lines.specs.Text.{stop_text}
 use Rattle.picture.specs.declared.event_box.EventBox.{EventBox}
 use Rattle.picture.specs.Elements.{down_text, label_text, rectangle_text}
-use Rattle.picture.specs.Layout.{last_top_of_part, left_of, opens_part}
+use Rattle.picture.specs.Layout.{last_top_of_phase, left_of, opens_phase}
 
 abbrev pub phase_text : Phase → List ℕ
 phase_text Parallel = codes "parallel"
 phase_text Serial = codes "serial"
 
--- the band of a part of a round, down to its last box
+-- the band of a phase of a round, down to its last box
 unfoldable pub band_text : ℕ → ℕ → EventBox → List ℕ
 band_text width last b =
     rectangle_text (phase_text b.event.phase) (record { x = 0; y = b.top - 22; width = width; height = (last + 76) - b.top })
     ++ label_text (codes "label") (record { x = 10; y = b.top + 14 }) (codes "round " ++ decimal b.event.round)
     ++ label_text (codes "label") (record { x = 10; y = b.top + 30 }) (phase_text b.event.phase)
 
--- a part has one band, with its first box
+-- a phase has one band, with its first box
 abbrev pub band_at : ℕ → List EventBox → List EventBox → EventBox → List ℕ
-band_at width all earlier b = if opens_part earlier b.event then band_text width (last_top_of_part all b.event) b else []
+band_at width all earlier b = if opens_phase earlier b.event then band_text width (last_top_of_phase all b.event) b else []
 
 abbrev pub stopped_before_text : ℕ → List ℕ
 stopped_before_text from = codes "stopped before round " ++ decimal from

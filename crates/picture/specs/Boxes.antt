@@ -94,7 +94,7 @@ lines_text b =
     ++ label_text (codes "line") (line_at b 28) (read_text (bytes_of b.event.access) (read_of b.event.access))
     ++ label_text (codes "line") (line_at b (if loads b.event.access then 41 else 28)) (last_text b)
 
--- the first event of a hart in the serial part of a round is marked: the hart had waited for it
+-- the first event of a hart in the serial phase of a round is marked: the hart had waited for it
 unfoldable pub waited_text : List EventBox → EventBox → List ℕ
 waited_text earlier b =
     if is_serial b.event.phase && opens_turn earlier b.event
@@ -104,5 +104,5 @@ waited_text earlier b =
 -- the box of an event of a trace, over memory that opened with these bytes, with its title
 unfoldable pub box_text : List Event → (ℕ → ℕ) → List Told → List EventBox → EventBox → List ℕ
 box_text t opening told earlier b =
-    codes "<g>\n" ++ title_text b.event (told_at told (length earlier)) ++ outline_text (mark_of t opening b.place) b ++ lines_text b
+    codes "<g>\n" ++ title_text b.event (told_at told (length earlier)) ++ outline_text (mark_of t opening b.index) b ++ lines_text b
     ++ waited_text earlier b ++ codes "</g>\n"

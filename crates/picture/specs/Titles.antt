@@ -4,16 +4,16 @@ use Rattle.std.specs.Fmt.{decimal}
 use Rattle.round_schedule.specs.declared.event.Event.{Event}
 use Rattle.round_schedule.specs.Accesses.{place_of}
 use Rattle.report_lines.specs.Text.{hex}
-use Rattle.elf_symbols.specs.Parts.{Part, as_part}
+use Rattle.elf_symbols.specs.Offsets.{NamedOffset, as_offset}
 use Rattle.picture.specs.declared.site.Site.{Site}
 
 -- what is known of an event beside the trace: the pc of its instruction, and the object that it touched: its name, and how far from its first byte
 pub record Told : Type 0 where
   pub pc : Option ℕ
-  pub object : Option Part
+  pub object : Option NamedOffset
 
 abbrev pub told : Site → Told
-told s = record { pc = s.pc; object = option_map as_part s.object }
+told s = record { pc = s.pc; object = option_map as_offset s.object }
 
 -- a byte of a name as text of XML: a question mark where it is no printable character of ASCII
 abbrev pub escape : ℕ → List ℕ
@@ -36,10 +36,10 @@ abbrev pub offset_text : ℕ → List ℕ
 offset_text n = if n == 0 then [] else codes "+" ++ decimal n
 
 -- the first 200 bytes of the object's name, and where in it
-abbrev pub part_text : Part → List ℕ
+abbrev pub part_text : NamedOffset → List ℕ
 part_text p = codes " " ++ escaped (take 200 p.name) ++ offset_text p.offset
 
-abbrev pub object_text : Option Part → List ℕ
+abbrev pub object_text : Option NamedOffset → List ℕ
 object_text None = []
 object_text (Some p) = part_text p
 

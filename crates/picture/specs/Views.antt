@@ -16,6 +16,6 @@ is_seen rs a = length rs == 0 || list_any (touches a) rs
 abbrev pub is_shown : View → Event → Bool
 is_shown v e = nat_le v.from e.round && nat_le e.round v.to && is_seen v.ranges.now e.access
 
--- the places of all such events, in rising order
-unfoldable pub places_seen : View → List Event → List ℕ
-places_seen v t = filter (λ i. is_shown v (event t i)) (range_with_len 0 (length t))
+-- the indexes of all such events, in rising order
+unfoldable pub indexes_seen : View → List Event → List ℕ
+indexes_seen v t = filter (λ i. is_shown v (event t i)) (range_with_len 0 (length t))

@@ -4,7 +4,7 @@ ghost use Rattle.picture.specs.Arrows.{arrow_class, arrow_from, arrow_text, arro
 use crate::elements::{Curve, Point, add_curve, line_down};
 use crate::event_box::EventBox;
 use crate::layout::left_of;
-use byte_sources::{has_opening, has_place, sources};
+use byte_sources::{has_index, has_opening, sources};
 use pages::OutOfMemory;
 use report_lines::Line;
 use std::alloc::Global;
@@ -67,7 +67,7 @@ fn arrow(line: &mut Line, from: &EventBox, to: &EventBox) -> Result<(), OutOfMem
     add_curve(line, class, curve_between(from, to))
 }
 
-/// Adds the arrow from one box to another, where the first one has the place of a source.
+/// Adds the arrow from one box to another, where the first one has the index of a source.
 pub fn arrow_from(
     line: &mut Line,
     found: &[Option<usize>],
@@ -76,14 +76,14 @@ pub fn arrow_from(
 ) -> Result<(), OutOfMemory>
     ensures { OnOk result (line.new ≡ line.old ++ arrow_from found.now to.now from.now) }
 {
-    if has_place(found, from.place) {
+    if has_index(found, from.index) {
         arrow(line, from, to)
     } else {
         Ok(())
     }
 }
 
-/// Adds the arrows to a box from those of the boxes before it that have the place of a source.
+/// Adds the arrows to a box from those of the boxes before it that have the index of a source.
 fn arrows_from(
     line: &mut Line,
     found: &[Option<usize>],
@@ -130,7 +130,7 @@ pub(crate) fn arrows_to(
 ) -> Result<(), OutOfMemory>
     ensures { OnOk result (line.new ≡ line.old ++ arrows_to trace.now.events earlier.now to.now) }
 {
-    let found = sources(alloc, trace, to.place)?;
+    let found = sources(alloc, trace, to.index)?;
     arrows_from(line, &found, to, earlier)?;
     opening_arrow(line, &found, to)
 }

@@ -3,7 +3,7 @@ ghost use Rattle.picture.specs.Bands.{band_at, band_text, column_text, columns_t
 
 use crate::elements::{Point, Rectangle, add_rectangle, line_down, start_label};
 use crate::event_box::EventBox;
-use crate::layout::{last_top_of_part, left_of, opens_part};
+use crate::layout::{last_top_of_phase, left_of, opens_phase};
 use hart_step::{Hart, Stop};
 use pages::OutOfMemory;
 use report_lines::{Line, add_stop};
@@ -18,7 +18,7 @@ fn phase_name(phase: Phase) -> &'static str
     }
 }
 
-/// Adds the band of a part that begins with a box, down to the top of its last box.
+/// Adds the band of a phase that begins with a box, down to the top of its last box.
 #[tactic(auto, unfolding(crate::specs::Bands::band_text))]
 fn band(line: &mut Line, width: u64, last: u64, first: &EventBox) -> Result<(), OutOfMemory>
     requires { last < 2 ^ 32 }
@@ -44,7 +44,7 @@ fn band(line: &mut Line, width: u64, last: u64, first: &EventBox) -> Result<(), 
     line.text("</text>\n")
 }
 
-/// Adds the band of a box's part, where the box is the first of it.
+/// Adds the band of a box's phase, where the box is the first of it.
 pub(crate) fn band_at(
     line: &mut Line,
     width: u64,
@@ -54,10 +54,10 @@ pub(crate) fn band_at(
 ) -> Result<(), OutOfMemory>
     ensures { OnOk result (line.new ≡ line.old ++ band_at width all.now earlier.now shown.now) }
 {
-    if !opens_part(earlier, &shown.event) {
+    if !opens_phase(earlier, &shown.event) {
         return Ok(());
     }
-    band(line, width, last_top_of_part(all, &shown.event), shown)
+    band(line, width, last_top_of_phase(all, &shown.event), shown)
 }
 
 /// Adds that a hart had stopped before a round.

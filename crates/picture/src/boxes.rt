@@ -101,7 +101,7 @@ pub(crate) fn event_box(
 {
     line.text("<g>\n")?;
     title(line, &shown.event, &site_at(sites, earlier.len()))?;
-    outline(line, mark_of(trace, shown.place), shown)?;
+    outline(line, mark_of(trace, shown.index), shown)?;
     lines(line, shown)?;
     waited(line, earlier, shown)?;
     line.text("</g>\n")

@@ -4,7 +4,7 @@ use round_schedule::Event;
 /// stands.
 #[derive(Clone, Copy, Debug, PartialEq, Eq)]
 pub struct EventBox {
-    pub place: usize,
+    pub index: usize,
     pub event: Event,
     pub times: u64,
     pub top: u32,

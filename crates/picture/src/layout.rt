@@ -1,11 +1,11 @@
 ghost use Rattle.std.specs.Prelude.{◌≡◌, ◌+◌, ◌<◌, ◌≤◌, ◌^◌, IfOk, length};
 ghost use Rattle.std.specs.List.{list_any};
-ghost use Rattle.byte_sources.specs.Parts.{same_part, same_turn};
-ghost use Rattle.picture.specs.Layout.{are_beside, boxes_of, last_top, last_top_of_part, left_of, opens_part, opens_turn, step, top_under, width_for};
+ghost use Rattle.byte_sources.specs.Phases.{one_phase, same_turn};
+ghost use Rattle.picture.specs.Layout.{are_beside, boxes_of, last_top, last_top_of_phase, left_of, opens_phase, opens_turn, step, top_under, width_for};
 
 use crate::event_box::EventBox;
 use crate::rows::Row;
-use byte_sources::{event_at, is_same_part, is_same_turn, is_serial};
+use byte_sources::{event_at, is_same_phase, is_same_turn, is_serial};
 use pages::OutOfMemory;
 use round_schedule::Event;
 use std::alloc::Global;
@@ -30,14 +30,14 @@ pub fn width_for(harts: usize) -> u64
 fn are_beside(one: &Event, other: &Event) -> bool
     ensures { result ≡ are_beside one.now other.now }
 {
-    is_same_part(one, other) && !is_serial(one.phase) && one.hart != other.hart
+    is_same_phase(one, other) && !is_serial(one.phase) && one.hart != other.hart
 }
 
 fn step(one: &Event, other: &Event) -> u64
     ensures step { result ≡ step one.now other.now }
     ensures small { result ≤ 92 }
 {
-    if is_same_part(one, other) {
+    if is_same_phase(one, other) {
         68
     } else if one.round == other.round {
         78
@@ -75,10 +75,10 @@ pub(crate) fn boxes_of(
 {
     let mut boxes = Vec::new(alloc);
     for row in rows {
-        let event = event_at(trace, row.place);
+        let event = event_at(trace, row.index);
         let top = top_under(&boxes, &event);
         let next = EventBox {
-            place: row.place,
+            index: row.index,
             event,
             times: row.times,
             top: top as u32,
@@ -88,16 +88,16 @@ pub(crate) fn boxes_of(
     Ok(boxes)
 }
 
-/// The greatest top of the boxes of an event's part; 0 where there are none.
-pub(crate) fn last_top_of_part(boxes: &[EventBox], event: &Event) -> u64
-    ensures top { result ≡ last_top_of_part boxes.now event.now }
+/// The greatest top of the boxes of an event's phase; 0 where there are none.
+pub(crate) fn last_top_of_phase(boxes: &[EventBox], event: &Event) -> u64
+    ensures top { result ≡ last_top_of_phase boxes.now event.now }
     ensures low { result < 2 ^ 32 }
 {
     match boxes {
         [] => 0,
         [first, rest @ ..] => {
-            let last = last_top_of_part(rest, event);
-            if is_same_part(&first.event, event) {
+            let last = last_top_of_phase(rest, event);
+            if is_same_phase(&first.event, event) {
                 last.max(first.top as u64)
             } else {
                 last
@@ -117,10 +117,10 @@ pub(crate) fn last_top(boxes: &[EventBox]) -> u64
     }
 }
 
-fn has_part(boxes: &[EventBox], event: &Event) -> bool
-    ensures { result ≡ list_any (λ b. same_part b.event event.now) boxes.now }
+fn has_phase(boxes: &[EventBox], event: &Event) -> bool
+    ensures { result ≡ list_any (λ b. one_phase b.event event.now) boxes.now }
 {
-    boxes.iter().any(|shown| is_same_part(&shown.event, event))
+    boxes.iter().any(|shown| is_same_phase(&shown.event, event))
 }
 
 fn has_turn(boxes: &[EventBox], event: &Event) -> bool
@@ -129,14 +129,14 @@ fn has_turn(boxes: &[EventBox], event: &Event) -> bool
     boxes.iter().any(|shown| is_same_turn(&shown.event, event))
 }
 
-/// Whether an event is the first of its part.
-pub(crate) fn opens_part(earlier: &[EventBox], event: &Event) -> bool
-    ensures { result ≡ opens_part earlier.now event.now }
+/// Whether an event is the first of its phase.
+pub(crate) fn opens_phase(earlier: &[EventBox], event: &Event) -> bool
+    ensures { result ≡ opens_phase earlier.now event.now }
 {
-    !has_part(earlier, event)
+    !has_phase(earlier, event)
 }
 
-/// Whether an event is its hart's first in its part.
+/// Whether an event is its hart's first in its phase.
 pub(crate) fn opens_turn(earlier: &[EventBox], event: &Event) -> bool
     ensures { result ≡ opens_turn earlier.now event.now }
 {

@@ -162,13 +162,13 @@ fn picture(
 
 /// Writes a picture of a run, as SVG.
 ///
-/// Each hart has a column, and each round a band, its parallel part above its serial part. Each event that the view shows is a box, at
+/// Each hart has a column, and each round a band, its parallel phase above its serial phase. Each event that the view shows is a box, at
 /// most 400 of them; loads in a row that do the same are one box, with their number. Program order goes from top to bottom. Each store
 /// has an arrow to each event that read a byte of it, and an event that read what memory opened with has a short one from above.
 ///
 /// A store is marked that another hart overwrote and nobody read, and that wrote something else than what its hart saw there: so a
 /// lost update looks. One that its own hart overwrote, and nobody read, has a weaker mark. So has the first event of a hart that had
-/// waited for the serial part of a round. Below each column stands what the hart was at the end of the rounds that are drawn: `running`,
+/// waited for the serial phase of a round. Below each column stands what the hart was at the end of the rounds that are drawn: `running`,
 /// or why it stopped in one of them.
 ///
 /// # Errors

@@ -2,9 +2,9 @@
 
 ghost use Rattle.std.specs.Prelude.{◌≡◌, ◌+◌, ◌≤◌, ◌-◌, ◌++◌, ◌∷◌, [], All, IfOk, OnOk, drop, length, map, take};
 ghost use Rattle.round_schedule.specs.Positions.{event};
-ghost use Rattle.picture.specs.Rows.{events_shown, is_more, place_before, rows_after, rows_seen, times};
+ghost use Rattle.picture.specs.Rows.{events_shown, is_more, index_before, rows_after, rows_seen, times};
 
-use crate::view::{View, places_seen};
+use crate::view::{View, indexes_seen};
 use byte_sources::{event_at, is_repeated};
 use pages::OutOfMemory;
 use round_schedule::Event;
@@ -17,25 +17,25 @@ pub(crate) const MOST: usize = 400;
 /// An event that has a box, and how many in a row are the same load.
 #[derive(Clone, Copy, Debug, PartialEq, Eq)]
 pub(crate) struct Row {
-    pub place: usize,
+    pub index: usize,
     pub times: u64,
 }
 
-/// Whether the event at a place repeats the one before it.
-fn is_more(trace: &Trace, before: Option<usize>, place: usize) -> bool
-    ensures { result ≡ is_more trace.now.events before place }
+/// Whether the event at an index repeats the one before it.
+fn is_more(trace: &Trace, before: Option<usize>, index: usize) -> bool
+    ensures { result ≡ is_more trace.now.events before index }
 {
     match before {
         None => false,
-        Some(before) => is_repeated(trace, before, place),
+        Some(before) => is_repeated(trace, before, index),
     }
 }
 
-/// How many events in a row are the same load, of which the first is at a place and these follow.
-fn times(trace: &Trace, place: usize, rest: &[usize]) -> u64
-    ensures { result ≡ times trace.now.events place rest.now }
+/// How many events in a row are the same load, of which the first is at an index and these follow.
+fn times(trace: &Trace, index: usize, rest: &[usize]) -> u64
+    ensures { result ≡ times trace.now.events index rest.now }
 {
-    let mut last = place;
+    let mut last = index;
     let mut count = 1;
     for next in rest {
         if !is_repeated(trace, last, *next) {
@@ -47,27 +47,27 @@ fn times(trace: &Trace, place: usize, rest: &[usize]) -> u64
     count
 }
 
-/// The place before the one of a number.
-fn place_before(places: &[usize], number: usize) -> Option<usize>
-    requires { number ≤ length places.now }
-    ensures { result ≡ place_before places.now number }
+/// The index before the one of a number.
+fn index_before(indexes: &[usize], number: usize) -> Option<usize>
+    requires { number ≤ length indexes.now }
+    ensures { result ≡ index_before indexes.now number }
 {
     match number {
         0 => None,
-        _ => Some(places[number - 1]),
+        _ => Some(indexes[number - 1]),
     }
 }
 
-/// The rows of the events at these places.
-fn rows_of(alloc: Global, trace: &Trace, places: &[usize]) -> Result<Vec<Row>, OutOfMemory>
-    ensures { IfOk result (λ v. v.items ≡ rows_after trace.now.events None places.now) }
+/// The rows of the events at these indexes.
+fn rows_of(alloc: Global, trace: &Trace, indexes: &[usize]) -> Result<Vec<Row>, OutOfMemory>
+    ensures { IfOk result (λ v. v.items ≡ rows_after trace.now.events None indexes.now) }
 {
     let mut rows = Vec::new(alloc);
-    for (number, place) in places.iter().enumerate() {
-        if !is_more(trace, place_before(places, number), *place) {
+    for (number, index) in indexes.iter().enumerate() {
+        if !is_more(trace, index_before(indexes, number), *index) {
             rows.push(Row {
-                place: *place,
-                times: times(trace, *place, &places[number + 1..]),
+                index: *index,
+                times: times(trace, *index, &indexes[number + 1..]),
             })?;
         }
     }
@@ -82,8 +82,8 @@ pub(crate) fn rows_seen(
 ) -> Result<Vec<Row>, OutOfMemory>
     ensures { IfOk result (λ v. v.items ≡ rows_seen view.now trace.now.events) }
 {
-    let places = places_seen(alloc, view, trace)?;
-    rows_of(alloc, trace, &places)
+    let indexes = indexes_seen(alloc, view, trace)?;
+    rows_of(alloc, trace, &indexes)
 }
 
 fn shown_events(alloc: Global, trace: &Trace, view: &View<'_>) -> Result<Vec<Event>, OutOfMemory>
@@ -93,7 +93,7 @@ fn shown_events(alloc: Global, trace: &Trace, view: &View<'_>) -> Result<Vec<Eve
     rows.truncate(MOST);
     let events: Vec<Event> = rows
         .iter()
-        .map(|row| event_at(trace, row.place))
+        .map(|row| event_at(trace, row.index))
         .collect(alloc)?;
     Ok(events)
 }

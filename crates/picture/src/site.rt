@@ -1,4 +1,4 @@
-use elf_symbols::SymbolPart;
+use elf_symbols::SymbolOffset;
 
 /// What is known of an event beside the trace.
 #[derive(Clone, Copy, Debug, PartialEq, Eq)]
@@ -6,5 +6,5 @@ pub struct Site<'a> {
     /// The pc of its instruction.
     pub pc: Option<u64>,
     /// The object of the program that it touched, and where.
-    pub object: Option<SymbolPart<'a>>,
+    pub object: Option<SymbolOffset<'a>>,
 }

@@ -1,11 +1,11 @@
 //! Titles of boxes, which a viewer shows where it is pointed at.
 
 ghost use Rattle.std.specs.Prelude.{◌≡◌, ◌++◌, OnOk, map, option_map, take};
-ghost use Rattle.elf_symbols.specs.Parts.{as_part};
+ghost use Rattle.elf_symbols.specs.Offsets.{as_offset};
 ghost use Rattle.picture.specs.Titles.{escape, escaped, object_text, offset_text, part_text, pc_text, title_text, told, told_at};
 
 use crate::site::Site;
-use elf_symbols::SymbolPart;
+use elf_symbols::SymbolOffset;
 use pages::OutOfMemory;
 use report_lines::Line;
 use round_schedule::Event;
@@ -67,16 +67,16 @@ fn shown_of(name: &[u8]) -> &[u8]
     &name[..name.len().min(LONGEST)]
 }
 
-fn part(line: &mut Line, part: &SymbolPart<'_>) -> Result<(), OutOfMemory>
-    ensures { OnOk result (line.new ≡ line.old ++ part_text (as_part part.now)) }
+fn part(line: &mut Line, part: &SymbolOffset<'_>) -> Result<(), OutOfMemory>
+    ensures { OnOk result (line.new ≡ line.old ++ part_text (as_offset part.now)) }
 {
     line.text(" ")?;
     escaped(line, shown_of(part.name))?;
     offset(line, part.offset)
 }
 
-pub fn object(line: &mut Line, object: Option<SymbolPart<'_>>) -> Result<(), OutOfMemory>
-    ensures { OnOk result (line.new ≡ line.old ++ object_text (option_map as_part object.entry)) }
+pub fn object(line: &mut Line, object: Option<SymbolOffset<'_>>) -> Result<(), OutOfMemory>
+    ensures { OnOk result (line.new ≡ line.old ++ object_text (option_map as_offset object.entry)) }
 {
     match object {
         None => Ok(()),

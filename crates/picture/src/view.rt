@@ -2,7 +2,7 @@ ghost use Rattle.std.specs.Prelude.{◌≡◌, IfOk};
 ghost use Rattle.std.specs.List.{list_any};
 ghost use Rattle.round_schedule.specs.Positions.{event};
 ghost use Rattle.byte_sources.specs.Touching.{touches};
-ghost use Rattle.picture.specs.Views.{is_seen, is_shown, places_seen};
+ghost use Rattle.picture.specs.Views.{is_seen, is_shown, indexes_seen};
 
 use byte_sources::{event_at, touches};
 use pages::{OutOfMemory, Range};
@@ -39,23 +39,23 @@ fn is_shown(view: &View<'_>, event: &Event) -> bool
     view.from <= event.round && event.round <= view.to && is_seen(view.ranges, &event.access)
 }
 
-fn is_shown_at(view: &View<'_>, trace: &Trace, place: usize) -> bool
-    ensures { result ≡ is_shown view.now (event trace.now.events place) }
+fn is_shown_at(view: &View<'_>, trace: &Trace, index: usize) -> bool
+    ensures { result ≡ is_shown view.now (event trace.now.events index) }
 {
-    is_shown(view, &event_at(trace, place))
+    is_shown(view, &event_at(trace, index))
 }
 
-/// The places of the events that the view shows, in rising order.
-#[tactic(auto, unfolding(crate::specs::Views::places_seen))]
-pub(crate) fn places_seen(
+/// The indexes of the events that the view shows, in rising order.
+#[tactic(auto, unfolding(crate::specs::Views::indexes_seen))]
+pub(crate) fn indexes_seen(
     alloc: Global,
     view: &View<'_>,
     trace: &Trace,
 ) -> Result<Vec<usize>, OutOfMemory>
-    ensures { IfOk result (λ v. v.items ≡ places_seen view.now trace.now.events) }
+    ensures { IfOk result (λ v. v.items ≡ indexes_seen view.now trace.now.events) }
 {
-    let places: Vec<usize> = (0..trace.len())
-        .filter(|place| is_shown_at(view, trace, *place))
+    let indexes: Vec<usize> = (0..trace.len())
+        .filter(|index| is_shown_at(view, trace, *index))
         .collect(alloc)?;
-    Ok(places)
+    Ok(indexes)
 }

@@ -1,4 +1,4 @@
--- The numbers of the generator SplitMix64: one for each place of the stream of a seed.
+-- The numbers of the generator SplitMix64: one for each index of the stream of a seed.
 use Rattle.std.specs.Prelude.{ℕ, ◌+◌, ◌*◌, ◌/◌, ◌%◌, ◌^◌, bit_xor}
 
 -- a number with its high bits folded into the low ones, times a factor
@@ -9,6 +9,6 @@ folded z k m = bit_xor z (z / 2 ^ k) * m % 2 ^ 64
 abbrev pub mixed : ℕ → ℕ
 mixed z = let y = folded (folded z 30 13787848793156543929) 27 10723151780598845931 in bit_xor y (y / 2 ^ 31)
 
--- the number at a place, counted from 0
+-- the number at a index, counted from 0
 unfoldable pub draw : ℕ → ℕ → ℕ
-draw seed place = mixed ((seed + (place + 1) * 11400714819323198485) % 2 ^ 64)
+draw seed index = mixed ((seed + (index + 1) * 11400714819323198485) % 2 ^ 64)

@@ -17,12 +17,12 @@ fn folded(number: u64, shift: u32, factor: u64) -> u64
     (number ^ (number >> shift)).wrapping_mul(factor)
 }
 
-/// The number at a place of the stream of a seed, counted from 0: that of the generator SplitMix64.
-pub fn draw(seed: u64, place: u64) -> u64
-    requires { place + 1 < 2 ^ 64 }
-    ensures { result ≡ draw seed place }
+/// The number at a index of the stream of a seed, counted from 0: that of the generator SplitMix64.
+pub fn draw(seed: u64, index: u64) -> u64
+    requires { index + 1 < 2 ^ 64 }
+    ensures { result ≡ draw seed index }
 {
-    let state = seed.wrapping_add((place + 1).wrapping_mul(STRIDE));
+    let state = seed.wrapping_add((index + 1).wrapping_mul(STRIDE));
     let once = folded(state, 30, FIRST_FACTOR);
     let twice = folded(once, 27, SECOND_FACTOR);
     twice ^ (twice >> 31)

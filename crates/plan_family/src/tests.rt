@@ -4,7 +4,7 @@ use std::test::Fail;
 
 #[test]
 fn draws(rt: HostRuntime) {
-    for (seed, place, number) in [
+    for (seed, index, number) in [
         (0, 0, 0xe220_a839_7b1d_cdaf),
         (0, 1, 0x6e78_9e6a_a1b9_65f4),
         (0, 2, 0x06c4_5d18_8009_454f),
@@ -12,7 +12,7 @@ fn draws(rt: HostRuntime) {
         (1_234_567, 4, 16_408_922_859_458_223_821),
         (u64::MAX, 2, 4_048_727_598_324_417_001),
     ] {
-        assert_eq!(rt; draw(seed, place), number);
+        assert_eq!(rt; draw(seed, index), number);
     }
 }
 

@@ -61,41 +61,41 @@ one_more ends first n e r h is at = record {
 counted : (ends : ℕ → Ended) (first n : ℕ) (rows new : List Row) (e : Ended) → IsTable ends first n rows → e ≡ ends (first + n) → CountsOneMore rows new e → IsTable ends first (suc n) new
 counted ends first n rows new e h at c =
     let more : Row = row e c.was.first (c.was.plans + 1) in
-    let was : IsRow ends first n c.was = subst (IsRow ends first n) c.at (h.each c.place c.was c.within) in
+    let was : IsRow ends first n c.was = subst (IsRow ends first n) c.at (h.each c.index c.was c.within) in
     let is_more : IsRow ends first (suc n) more = one_more ends first n e c.was was c.ending at in
-    let each : All (IsRow ends first (suc n)) (set rows c.place more) = λ k d l.
-    let lt : k < length rows = omega (arith, l, length-set rows c.place more) in
-    elim (cases_eq k c.place) [
-      | inl same ↦ subst (IsRow ends first (suc n)) (sym (ap (λ (i : ℕ). get_or (set rows c.place more) i d) same ∙ get_or-set_same rows c.place more d c.within)) is_more
+    let each : All (IsRow ends first (suc n)) (set rows c.index more) = λ k d l.
+    let lt : k < length rows = omega (arith, l, length-set rows c.index more) in
+    elim (cases_eq k c.index) [
+      | inl same ↦ subst (IsRow ends first (suc n)) (sym (ap (λ (i : ℕ). get_or (set rows c.index more) i d) same ∙ get_or-set_same rows c.index more d c.within)) is_more
       | inr ne ↦
           let r : Row = get_or rows k d in
           let hr : IsRow ends first n r = h.each k d lt in
           let self : get_or rows k r ≡ r = any_default rows k r d lt in
-          let other : ends (first + n) ≢ r.ending = λ q. other_ending ends first n rows h c.place k c.was r c.within lt (λ z. ne (sym z)) c.at self (c.ending ∙ at ∙ q) in
-          subst (IsRow ends first (suc n)) (sym (get_or-set_other rows c.place k more d ne)) (keeps ends first n r hr other)
+          let other : ends (first + n) ≢ r.ending = λ q. other_ending ends first n rows h c.index k c.was r c.within lt (λ z. ne (sym z)) c.at self (c.ending ∙ at ∙ q) in
+          subst (IsRow ends first (suc n)) (sym (get_or-set_other rows c.index k more d ne)) (keeps ends first n r hr other)
     ] in
-    let complete : (i : ℕ) → first ≤ i → i < first + suc n → Any (λ (r : Row). r.ending ≡ ends i) (set rows c.place more) = λ i l m.
+    let complete : (i : ℕ) → first ≤ i → i < first + suc n → Any (λ (r : Row). r.ending ≡ ends i) (set rows c.index more) = λ i l m.
     elim (cases_eq i (first + n)) [
-      | inl same ↦ any-set (λ (r : Row). r.ending ≡ ends i) rows c.place more c.within (at ∙ ap ends (sym same))
+      | inl same ↦ any-set (λ (r : Row). r.ending ≡ ends i) rows c.index more c.within (at ∙ ap ends (sym same))
       | inr ne ↦
           let a = h.complete i l (omega (arith, m, ne)) in
-          elim (cases_eq a.0 c.place) [
+          elim (cases_eq a.0 c.index) [
             | inl q ↦
-                let was_there : a.1 ≡ c.was = sym a.3 ∙ ap (λ (j : ℕ). get_or rows j a.1) q ∙ any_default rows c.place a.1 c.was c.within ∙ c.at in
-                any-set (λ (r : Row). r.ending ≡ ends i) rows c.place more c.within (sym c.ending ∙ ap (λ (r : Row). r.ending) (sym was_there) ∙ a.4)
-            | inr other ↦ (a.0, a.1, omega (arith, a.2, length-set rows c.place more), get_or-set_other rows c.place a.0 more a.1 other ∙ a.3, a.4)
+                let was_there : a.1 ≡ c.was = sym a.3 ∙ ap (λ (j : ℕ). get_or rows j a.1) q ∙ any_default rows c.index a.1 c.was c.within ∙ c.at in
+                any-set (λ (r : Row). r.ending ≡ ends i) rows c.index more c.within (sym c.ending ∙ ap (λ (r : Row). r.ending) (sym was_there) ∙ a.4)
+            | inr other ↦ (a.0, a.1, omega (arith, a.2, length-set rows c.index more), get_or-set_other rows c.index a.0 more a.1 other ∙ a.3, a.4)
           ]
     ] in
-    let firsts : (k : ℕ) (d : Row) → k < length rows → (get_or (set rows c.place more) k d).first ≡ (get_or rows k d).first = λ k d l.
-    elim (cases_eq k c.place) [
+    let firsts : (k : ℕ) (d : Row) → k < length rows → (get_or (set rows c.index more) k d).first ≡ (get_or rows k d).first = λ k d l.
+    elim (cases_eq k c.index) [
       | inl same ↦
-          ap (λ (i : ℕ). (get_or (set rows c.place more) i d).first) same
-          ∙ ap (λ (r : Row). r.first) (get_or-set_same rows c.place more d c.within)
-          ∙ sym (ap (λ (i : ℕ). (get_or rows i d).first) same ∙ ap (λ (r : Row). r.first) (any_default rows c.place d c.was c.within ∙ c.at))
-      | inr ne ↦ ap (λ (r : Row). r.first) (get_or-set_other rows c.place k more d ne)
+          ap (λ (i : ℕ). (get_or (set rows c.index more) i d).first) same
+          ∙ ap (λ (r : Row). r.first) (get_or-set_same rows c.index more d c.within)
+          ∙ sym (ap (λ (i : ℕ). (get_or rows i d).first) same ∙ ap (λ (r : Row). r.first) (any_default rows c.index d c.was c.within ∙ c.at))
+      | inr ne ↦ ap (λ (r : Row). r.first) (get_or-set_other rows c.index k more d ne)
     ] in
-    let rising : AllPairs (λ (q r : Row). q.first < r.first) (set rows c.place more) = λ i j d l m.
-    let lt : j < length rows = omega (arith, m, length-set rows c.place more) in
+    let rising : AllPairs (λ (q r : Row). q.first < r.first) (set rows c.index more) = λ i j d l m.
+    let lt : j < length rows = omega (arith, m, length-set rows c.index more) in
     let was_rising : (get_or rows i d).first < (get_or rows j d).first = h.rising i j d l lt in
     omega (arith, was_rising, firsts i d (omega (arith, l, lt)), firsts j d lt) in
     subst (IsTable ends first (suc n)) (sym c.now) (record { each = each; complete = complete; rising = rising })

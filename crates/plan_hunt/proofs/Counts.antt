@@ -29,22 +29,22 @@ count_both ends first n zero e j k a b = subst (λ (x : ℕ). IsCount ends first
     count_zero i l q = omega (arith, q)
 count_both ends first n (suc m) e j k a (inl b) =
     subst (λ (x : ℕ). IsCount ends first e x (j + k)) (sum_suc n m)
-    (inl (subst (λ (i : ℕ). ends i ≡ e) (place first n m) b.0, (j + b.1.0, count_suc j k b.1.0 b.1.1, count_both ends first n m e j b.1.0 a b.1.2)))
+    (inl (subst (λ (i : ℕ). ends i ≡ e) (regroup first n m) b.0, (j + b.1.0, count_suc j k b.1.0 b.1.1, count_both ends first n m e j b.1.0 a b.1.2)))
   where
     sum_suc : (i l : ℕ) → suc (i + l) ≡ i + suc l
     sum_suc i l = omega arith
 
-    place : (i l o : ℕ) → (i + l) + o ≡ i + (l + o)
-    place i l o = omega arith
+    regroup : (i l o : ℕ) → (i + l) + o ≡ i + (l + o)
+    regroup i l o = omega arith
 
     count_suc : (i l o : ℕ) → l ≡ suc o → i + l ≡ suc (i + o)
     count_suc i l o q = omega (arith, q)
 count_both ends first n (suc m) e j k a (inr b) =
     subst (λ (x : ℕ). IsCount ends first e x (j + k)) (sum_suc n m)
-    (inr (subst (λ (i : ℕ). ends i ≢ e) (place first n m) b.0, count_both ends first n m e j k a b.1))
+    (inr (subst (λ (i : ℕ). ends i ≢ e) (regroup first n m) b.0, count_both ends first n m e j k a b.1))
   where
     sum_suc : (i l : ℕ) → suc (i + l) ≡ i + suc l
     sum_suc i l = omega arith
 
-    place : (i l o : ℕ) → (i + l) + o ≡ i + (l + o)
-    place i l o = omega arith
+    regroup : (i l o : ℕ) → (i + l) + o ≡ i + (l + o)
+    regroup i l o = omega arith

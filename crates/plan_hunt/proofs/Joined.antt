@@ -17,11 +17,11 @@ any_default [] i d f lt = absurd (omega (arith, lt))
 any_default (x ∷ xs) zero d f lt = refl
 any_default (x ∷ xs) (suc i) d f lt = any_default xs i d f (omega (arith, lt))
 
-any_kept : (P : Row → Type 0) (xs : List Row) (y : Row) → Any P xs → Any P (xs ++ y ∷ [])
-any_kept P xs y a = (a.0, a.1, omega (arith, a.2, length-append xs (y ∷ [])), get_or_append_left xs (y ∷ []) a.1 a.0 a.2 ∙ a.3, a.4)
+any_pushed : (P : Row → Type 0) (xs : List Row) (y : Row) → Any P xs → Any P (xs ++ y ∷ [])
+any_pushed P xs y a = (a.0, a.1, omega (arith, a.2, length-append xs (y ∷ [])), get_or_append_left xs (y ∷ []) a.1 a.0 a.2 ∙ a.3, a.4)
 
-new_kept : (xs : List Row) (y : Row) (e : Ended) → IsNew xs e → y.ending ≢ e → IsNew (xs ++ y ∷ []) e
-new_kept xs y e h ne = All-push (λ (r : Row). r.ending ≢ e) xs y h ne
+new_pushed : (xs : List Row) (y : Row) (e : Ended) → IsNew xs e → y.ending ≢ e → IsNew (xs ++ y ∷ []) e
+new_pushed xs y e h ne = All-push (λ (r : Row). r.ending ≢ e) xs y h ne
 
 -- ---- what a table says of a row and those before it
 
@@ -69,10 +69,10 @@ other_row ends first n m ys s r h ne = record {
   ending = h.ending;
   none_before = h.none_before;
   plans = elim h.plans [
-    | inl a ↦ inl (any_kept (λ (y : Row). y.ending ≡ r.ending) ys s a.0, a.1)
-    | inr b ↦ inr (new_kept ys s r.ending b.0 ne, b.1)
+    | inl a ↦ inl (any_pushed (λ (y : Row). y.ending ≡ r.ending) ys s a.0, a.1)
+    | inr b ↦ inr (new_pushed ys s r.ending b.0 ne, b.1)
   ];
-  early = elim h.early [ inl a ↦ inl a | inr b ↦ inr (any_kept (λ (y : Row). y.first ≡ r.first) ys s b) ];
+  early = elim h.early [ inl a ↦ inl a | inr b ↦ inr (any_pushed (λ (y : Row). y.first ≡ r.first) ys s b) ];
 }
 
 -- ---- the ending has a row
@@ -96,7 +96,7 @@ counts_both ends first n m ys s r few next h e = record {
         let same : r.plans + s.plans ≡ min (r.plans + s.plans) (2 ^ 32 - 1) = omega (arith, fits, few) in
         inl (Any-push (λ (y : Row). y.ending ≡ r.ending) ys s (sym e), subst (λ (k : ℕ). IsCount ends first r.ending (n + m) k) same both)
   ];
-  early = elim h.early [ inl a ↦ inl a | inr b ↦ inr (any_kept (λ (y : Row). y.first ≡ r.first) ys s b) ];
+  early = elim h.early [ inl a ↦ inl a | inr b ↦ inr (any_pushed (λ (y : Row). y.first ≡ r.first) ys s b) ];
 }
 
 pub joined_old : (ends : ℕ → Ended) (first n m : ℕ) (ys rows new : List Row) (s r : Row) (p : ℕ) → n + m < 2 ^ 32 → IsNext ends first n m ys s → IsPart ends first n m ys rows →
@@ -179,9 +179,9 @@ pub joined_new : (ends : ℕ → Ended) (first n m : ℕ) (ys rows new : List Ro
     new ≡ rows ++ s ∷ [] → IsPart ends first n m (ys ++ s ∷ []) new
 joined_new ends first n m ys rows new s next h fresh is = subst (IsPart ends first n m (ys ++ s ∷ [])) (sym is) (record {
   each = All-push (IsPartRow ends first n m (ys ++ s ∷ [])) rows s (λ k d l. other_row ends first n m ys s (get_or rows k d) (h.each k d l) (λ q. fresh k d l (sym q))) (new_row ends first n m ys rows s next h fresh);
-  complete = λ i l o. any_kept (λ (r : Row). r.ending ≡ ends i) rows s (h.complete i l o);
+  complete = λ i l o. any_pushed (λ (r : Row). r.ending ≡ ends i) rows s (h.complete i l o);
   has_joined = All-push (λ (y : Row). Any (λ (x : Row). x.ending ≡ y.ending) (rows ++ s ∷ [])) ys s
-      (λ k d l. any_kept (λ (r : Row). r.ending ≡ (get_or ys k d).ending) rows s (h.has_joined k d l)) (Any-push (λ (r : Row). r.ending ≡ s.ending) rows s refl);
+      (λ k d l. any_pushed (λ (r : Row). r.ending ≡ (get_or ys k d).ending) rows s (h.has_joined k d l)) (Any-push (λ (r : Row). r.ending ≡ s.ending) rows s refl);
   rising = all_pairs_push (λ (q r : Row). q.first < r.first) rows s h.rising (λ k d l. first_below ends first n m ys s (get_or rows k d) next (h.each k d l));
 })
 
@@ -236,5 +236,5 @@ whole_part ends first n m others rows t h = record {
     no_more k = omega arith
 
 pub joined_row : (ends : ℕ → Ended) (first n m : ℕ) (ys rows new : List Row) (s : Row) → n + m < 2 ^ 32 → IsNext ends first n m ys s → IsPart ends first n m ys rows → Joins rows s new → IsPart ends first n m (ys ++ s ∷ []) new
-joined_row ends first n m ys rows new s few next h (inl c) = joined_old ends first n m ys rows new s c.was c.place few next h c.within c.at c.ending c.now
+joined_row ends first n m ys rows new s few next h (inl c) = joined_old ends first n m ys rows new s c.was c.index few next h c.within c.at c.ending c.now
 joined_row ends first n m ys rows new s few next h (inr c) = joined_new ends first n m ys rows new s next h c.0 c.1

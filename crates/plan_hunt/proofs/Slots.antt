@@ -17,8 +17,8 @@ some_is a b e = cc
 some_not : (a : Ended) → ◌≡◌ {A = Option Ended} None (Some a) → ⊥
 some_not a e = cc
 
-any_kept : (P : Found → Type 0) (xs : List Found) (y : Found) → Any P xs → Any P (xs ++ y ∷ [])
-any_kept P xs y a = (a.0, a.1, omega (arith, a.2, length-append xs (y ∷ [])), get_or_append_left xs (y ∷ []) a.1 a.0 a.2 ∙ a.3, a.4)
+any_pushed : (P : Found → Type 0) (xs : List Found) (y : Found) → Any P xs → Any P (xs ++ y ∷ [])
+any_pushed P xs y a = (a.0, a.1, omega (arith, a.2, length-append xs (y ∷ [])), get_or_append_left xs (y ∷ []) a.1 a.0 a.2 ∙ a.3, a.4)
 
 pub filled_none : (old : Slots) → AreFilled old [] old
 filled_none old = record { length = refl; each = λ k e h. inl h }
@@ -27,20 +27,20 @@ filled_none old = record { length = refl; each = λ k e h. inl h }
 pub filled_skip : (old new : Slots) (found : List Found) (f : Found) → AreFilled old found new → AreFilled old (found ++ f ∷ []) new
 filled_skip old new found f h = record {
   length = h.length;
-  each = λ k e at. elim (h.each k e at) [ inl was ↦ inl was | inr a ↦ inr (any_kept (λ (g : Found). (g.place ≡ k) × (g.ending ≡ e)) found f a) ];
+  each = λ k e at. elim (h.each k e at) [ inl was ↦ inl was | inr a ↦ inr (any_pushed (λ (g : Found). (g.index ≡ k) × (g.ending ≡ e)) found f a) ];
 }
 
-pub filled_next : (old now new : Slots) (found : List Found) (f : Found) → AreFilled old found now → f.place < length now → new ≡ set now f.place (Some f.ending) → AreFilled old (found ++ f ∷ []) new
+pub filled_next : (old now new : Slots) (found : List Found) (f : Found) → AreFilled old found now → f.index < length now → new ≡ set now f.index (Some f.ending) → AreFilled old (found ++ f ∷ []) new
 filled_next old now new found f h l is = subst (AreFilled old (found ++ f ∷ [])) (sym is) (record {
-  length = length-set now f.place (Some f.ending) ∙ h.length;
-  each = λ k e at. elim (cases_eq k f.place) [
+  length = length-set now f.index (Some f.ending) ∙ h.length;
+  each = λ k e at. elim (cases_eq k f.index) [
     | inl same ↦
-        let here : get_or (set now f.place (Some f.ending)) k None ≡ Some f.ending =
-        ap (λ (i : ℕ). get_or (set now f.place (Some f.ending)) i None) same ∙ get_or-set_same now f.place (Some f.ending) None l in
-        inr (Any-push (λ (g : Found). (g.place ≡ k) × (g.ending ≡ e)) found f (sym same, some_is f.ending e (sym here ∙ at)))
-    | inr ne ↦ elim (h.each k e (sym (get_or-set_other now f.place k (Some f.ending) None ne) ∙ at)) [
+        let here : get_or (set now f.index (Some f.ending)) k None ≡ Some f.ending =
+        ap (λ (i : ℕ). get_or (set now f.index (Some f.ending)) i None) same ∙ get_or-set_same now f.index (Some f.ending) None l in
+        inr (Any-push (λ (g : Found). (g.index ≡ k) × (g.ending ≡ e)) found f (sym same, some_is f.ending e (sym here ∙ at)))
+    | inr ne ↦ elim (h.each k e (sym (get_or-set_other now f.index k (Some f.ending) None ne) ∙ at)) [
       | inl was ↦ inl was
-      | inr a ↦ inr (any_kept (λ (g : Found). (g.place ≡ k) × (g.ending ≡ e)) found f a)
+      | inr a ↦ inr (any_pushed (λ (g : Found). (g.index ≡ k) × (g.ending ≡ e)) found f a)
     ]
   ];
 })
@@ -49,7 +49,7 @@ pub slots_filled : (ends : ℕ → Ended) (first : ℕ) (old new : Slots) (found
 slots_filled ends first old new found s h f = λ k e at. elim (f.each k e at) [
   | inl was ↦ s k e was
   | inr a ↦
-      let is : a.1.ending ≡ ends (first + a.1.place) = subst (IsFound ends first) a.3 (h a.0 a.1 a.2) in
+      let is : a.1.ending ≡ ends (first + a.1.index) = subst (IsFound ends first) a.3 (h a.0 a.1 a.2) in
       sym a.4.1 ∙ is ∙ ap (λ (i : ℕ). ends (first + i)) a.4.0
 ]
 

@@ -12,12 +12,12 @@ IsNew rows e = All (λ (r : Row). r.ending ≢ e) rows
 
 -- the ending's row counts one plan more
 pub record CountsOneMore (old new : List Row) (e : Ended) : Type 0 where
-  pub place : ℕ
+  pub index : ℕ
   pub was : Row
-  pub within : place < length old
-  pub at : slice_index_or old place was ≡ was
+  pub within : index < length old
+  pub at : slice_index_or old index was ≡ was
   pub ending : was.ending ≡ e
-  pub now : new ≡ slice_set old place (row e was.first (was.plans + 1))
+  pub now : new ≡ slice_set old index (row e was.first (was.plans + 1))
 
 -- rows after plan n with this ending
 abbrev pub Adds : List Row → ℕ → Ended → List Row → Type 0

@@ -8,12 +8,12 @@ use Rattle.plan_hunt.specs.declared.row.Row.{Row}
 
 -- the ending's row counts the plans of the row that is joined too, up to the largest number
 pub record CountsMore (old : List Row) (s : Row) (new : List Row) : Type 0 where
-  pub place : ℕ
+  pub index : ℕ
   pub was : Row
-  pub within : place < length old
-  pub at : slice_index_or old place was ≡ was
+  pub within : index < length old
+  pub at : slice_index_or old index was ≡ was
   pub ending : was.ending ≡ s.ending
-  pub now : new ≡ slice_set old place (row was.ending was.first (min (was.plans + s.plans) (2 ^ 32 - 1)))
+  pub now : new ≡ slice_set old index (row was.ending was.first (min (was.plans + s.plans) (2 ^ 32 - 1)))
 
 -- rows after a row is joined
 abbrev pub Joins : List Row → Row → List Row → Type 0

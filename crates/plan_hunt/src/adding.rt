@@ -7,13 +7,13 @@ use crate::row::Row;
 use pages::OutOfMemory;
 
 /// The row of an ending, where there is one.
-pub(crate) fn place_of(rows: &[Row], ending: &Ending) -> Option<usize>
+pub(crate) fn index_of(rows: &[Row], ending: &Ending) -> Option<usize>
     ensures { MatchOption result (IsNew rows.now ending.now) (λ i. (i < length rows.now) ×
         HoldsAt (λ r. r.ending ≡ ending.now) rows.now i) }
 {
-    for (place, row) in rows.iter().enumerate() {
+    for (index, row) in rows.iter().enumerate() {
         if row.ending.is_same(ending) {
-            return Some(place);
+            return Some(index);
         }
     }
     None
@@ -24,9 +24,9 @@ pub(crate) fn add(rows: &mut Vec<Row>, number: u32, ending: Ending) -> Result<()
     requires { All (λ r. r.plans + 1 < 2 ^ 32) rows.old.items }
     ensures { OnOk result (Adds rows.old.items number ending rows.new.items) }
 {
-    match place_of(rows, &ending) {
-        Some(place) => {
-            rows[place].plans += 1;
+    match index_of(rows, &ending) {
+        Some(index) => {
+            rows[index].plans += 1;
             Ok(())
         }
         None => match rows.push(Row {

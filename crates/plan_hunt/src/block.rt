@@ -138,9 +138,9 @@ fn finish<Q: Runs, R: Threads + Wait + Sync>(
     ensures { OnOk result (IsTable (Q.ends runs.now) block.first (block.done +
         length slots.old) rows.new.items) }
 {
-    for place in 0..slots.len() {
-        let number = block.first + (block.done + place as u32);
-        let ending = ending_of(rt, runs, number, slots[place].take())?;
+    for index in 0..slots.len() {
+        let number = block.first + (block.done + index as u32);
+        let ending = ending_of(rt, runs, number, slots[index].take())?;
         add(rows, number, ending)?;
     }
     Ok(())

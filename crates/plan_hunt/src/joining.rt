@@ -1,7 +1,7 @@
 ghost use Rattle.std.specs.Prelude.{OnOk};
 ghost use Rattle.plan_hunt.specs.Joining.{JoinIsTable, Joins};
 
-use crate::adding::place_of;
+use crate::adding::index_of;
 use crate::row::Row;
 use pages::OutOfMemory;
 
@@ -9,10 +9,10 @@ use pages::OutOfMemory;
 fn join_row(rows: &mut Vec<Row>, other: Row) -> Result<(), OutOfMemory>
     ensures { OnOk result (Joins rows.old.items other rows.new.items) }
 {
-    match place_of(rows, &other.ending) {
-        Some(place) => {
+    match index_of(rows, &other.ending) {
+        Some(index) => {
             // Counts of tables of one hunt never add up to more than there are numbers.
-            rows[place].plans = rows[place].plans.saturating_add(other.plans);
+            rows[index].plans = rows[index].plans.saturating_add(other.plans);
             Ok(())
         }
         None => match rows.push(other) {

@@ -8,10 +8,10 @@ use std::sync::Wait;
 use std::sync::atomic::{AtomicU64, Ordering};
 use std::thread::Threads;
 
-/// The ending of a plan, which is told by its place among the plans of the hunt.
+/// The ending of a plan, which is told by its index among the plans of the hunt.
 #[derive(Drop)]
 pub(crate) struct Found {
-    pub place: u32,
+    pub index: u32,
     pub ending: Ending,
 }
 
@@ -30,15 +30,15 @@ pub(crate) fn work<Q: Runs, R: Threads + Wait + Sync>(
     ensures { All (IsFound (Q.ends runs.now) first) found.new.items }
 {
     for _ in 0..count {
-        let place = next.fetch_add(1, Ordering::SeqCst);
-        if place >= u64::from(count) {
+        let index = next.fetch_add(1, Ordering::SeqCst);
+        if index >= u64::from(count) {
             return;
         }
-        let place = place as u32;
-        let Ok(ending) = runs.run(rt, first + place) else {
+        let index = index as u32;
+        let Ok(ending) = runs.run(rt, first + index) else {
             return;
         };
-        if found.push(Found { place, ending }).is_err() {
+        if found.push(Found { index, ending }).is_err() {
             return;
         }
     }
@@ -49,9 +49,9 @@ pub(crate) fn put(slots: &mut [Option<Ending>], found: Vec<Found>)
     ensures { AreFilled slots.old found.items slots.new }
 {
     for one in found {
-        let place = one.place as usize;
-        if place < slots.len() {
-            slots[place] = Some(one.ending);
+        let index = one.index as usize;
+        if index < slots.len() {
+            slots[index] = Some(one.ending);
         }
     }
 }

@@ -54,10 +54,10 @@ pub(crate) fn bad_line(
     cause: PlanError,
 ) -> Option<BadLine> {
     let lines = text.split_inclusive(|byte| *byte == b'\n');
-    for (place, line) in lines.enumerate() {
+    for (index, line) in lines.enumerate() {
         if refuses(alloc, line, harts, cause) {
             return Some(BadLine {
-                number: place.saturating_add(1),
+                number: index.saturating_add(1),
                 fault: fault_of(line),
             });
         }

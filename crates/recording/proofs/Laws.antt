@@ -1,4 +1,4 @@
--- What is read of a part is spelled so, and what is spelled so is read.
+-- What is read of a field is spelled so, and what is spelled so is read.
 use Rattle.std.proofs.Common.{◌≡◌, ℕ, zero, suc, ◌+◌, ◌*◌, ◌^◌, ◌<◌, ◌≤◌, Bool, true, false, cond, ltb, List, [], ◌∷◌, ◌++◌, length, get_or, take, drop, Option, Some, None, Result, Ok, Err, refl, sym, ap, subst, ◌∙◌, append_assoc, arith, inl, inr}
 use Rattle.std.proofs.lemmas.Bool.Decides.{nat_tests}
 use Rattle.std.specs.Int.{Width, w32, w64, byte_len, from_le_bytes, to_le_bytes}
@@ -50,7 +50,7 @@ pub record Takes (bs text rest : List ℕ) : Type 0 where
 Takes-then : (a x b y c : List ℕ) → Takes a x b → Takes b y c → Takes a (x ++ y) c
 Takes-then a x b y c p q = record { parts = p.parts ∙ ap (λ (t : List ℕ). x ++ t) q.parts ∙ sym (append_assoc x y c); fits = q.fits }
 
--- a part whose reading and spelling belong together
+-- a field whose reading and spelling belong together
 pub record Lawful {A : Type 0} (f : Field A) : Type 0 where
   pub takes : (bs : List ℕ) (x : A × List ℕ) → IsBytes bs → f.taken bs ≡ Ok x → f.Has x.0 × Takes bs (f.spelled x.0) x.1
   pub again : (x : A) (rest : List ℕ) → f.Has x → f.taken (f.spelled x ++ rest) ≡ Ok (x, rest)
@@ -131,7 +131,7 @@ bytes_lawful = record {
       ap bytes.taken (append_assoc (to_le_bytes w64 (length x)) x rest) ∙ rw ((number_lawful w64 wide64 Cut Cut 0 (most w64)).again (length x) (x ++ rest) (h, within_all (length x) h), long, take_at x rest (length x) refl, drop_at x rest (length x) refl) refl;
 }
 
--- ---- what is built of parts
+-- ---- what is built of fields
 
 pub known_lawful : {A : Type 0} (a : A) → Lawful (known a)
 known_lawful a = record {

@@ -10,7 +10,7 @@ use Rattle.recording.specs.declared.cause.Cause.{Cause}
 use Rattle.recording.specs.declared.cause.Cause.TheVariants.{NotARecording, Version, Cut, OutOfRange, BytesLeft}
 use Rattle.recording.specs.Fields.{Field, most, is_within}
 use Rattle.recording.specs.Recorded.{Recorded}
-use Rattle.recording.specs.Grammar.{number, magic_number, or_known, most_value, hart_from, hart_fields, hart_summary, summary_from, summary_fields, summary, registers, is_due, kept_from, kept_fields, kept_after, recorded_from, recorded_fields, recording, ended, reading, IsRecording}
+use Rattle.recording.specs.Grammar.{number, magic_number, or_known, most_value, hart_from, hart_fields, hart_summary, summary_from, summary_fields, summary, registers, is_due, checkpoint_from, checkpoint_fields, checkpoint_after, recorded_from, recorded_fields, recording, ended, reading, IsRecording}
 use Rattle.recording.proofs.Laws.{IsBytes, Lawful, wide8, wide32, wide64, number_lawful, bytes_lawful, known_lawful, pair_lawful, seen_lawful, each_lawful, where_due_lawful, bind_ok, pass_ok}
 
 word : (low high : ℕ) → Lawful (number w32 low high)
@@ -41,8 +41,8 @@ summary_lawful harts = seen_lawful summary_from summary_fields _
     each_lawful harts 0 _ (λ k. hart_lawful))
     (λ x h. refl) (λ y. refl)
 
-kept_lawful : (harts every round : ℕ) → Lawful (kept_after harts every round)
-kept_lawful harts every round = seen_lawful kept_from kept_fields _
+checkpoint_lawful : (harts every round : ℕ) → Lawful (checkpoint_after harts every round)
+checkpoint_lawful harts every round = seen_lawful checkpoint_from checkpoint_fields _
     (pair_lawful _ _ (summary_lawful harts) λ s. where_due_lawful (is_due every round) (registers harts) (each_lawful harts 0 _ (λ k. each_lawful 31 1 _ (λ x. double 0 (most w64)))))
     (λ x h. refl) (λ y. refl)
 
@@ -62,7 +62,7 @@ recording_lawful = seen_lawful recorded_from recorded_fields _
     pair_lawful _ _ bytes_lawful λ image.
     pair_lawful _ _ bytes_lawful λ input.
     pair_lawful _ _ bytes_lawful λ plan.
-    each_lawful rounds 1 _ (λ k. kept_lawful harts every k))
+    each_lawful rounds 1 _ (λ k. checkpoint_lawful harts every k))
     (λ x h. ap (λ (n : ℕ). (n, x.1)) (sym (is_just _ _ h.0.1))) (λ y. refl)
 
 -- what is read is a recording with just this text

@@ -1,4 +1,4 @@
--- Parts written one after the other.
+-- Fields written one after the other.
 use Rattle.std.proofs.Common.{◌≡◌, ℕ, zero, suc, ◌+◌, ◌<◌, ◌≤◌, List, [], ◌∷◌, ◌++◌, length, get_or, drop, map, refl, sym, ap, ◌∙◌, arith, append_assoc, add-one}
 use Rattle.std.specs.Prelude.{OnOk, Result, Ok, Err}
 use Rattle.std.proofs.lemmas.List.{append-nil, length-map}
@@ -31,7 +31,7 @@ one_more {X} {A} f contents xs i j k x other text new total low e next written s
     ∙ ap (λ (ys : List A). text ++ spelled_each j f ys) (sym (rest_of contents xs i x other low e))
     ∙ so_far
 
--- one part, and then the rest
+-- one field, and then the rest
 pub then_written : (t new a rest last : List ℕ) → new ≡ t ++ a → last ≡ new ++ rest → last ≡ t ++ (a ++ rest)
 then_written t new a rest last e f = f ∙ ap (λ (s : List ℕ). s ++ rest) e ∙ append_assoc t a rest
 

@@ -1,4 +1,4 @@
--- A part of a format, of values of A: which values it has, the one spelling of each, and how it is read from the front of a text.
+-- A field of a format, of values of A: which values it has, the one spelling of each, and how it is read from the front of a text.
 use Rattle.std.specs.Prelude.{◌≡◌, ℕ, zero, suc, ◌<◌, ◌^◌, ◌*◌, Bool, true, false, List, [], ◌∷◌, ◌++◌, length, take, drop, Option, Some, None, Result, Ok, Err, nat_lt, nat_le, ◌&&◌, ◌-◌, if◌then◌else◌}
 use Rattle.std.specs.Int.{Width, w64, byte_len, to_le_bytes, from_le_bytes}
 use Rattle.recording.specs.declared.cause.Cause.{Cause}
@@ -52,7 +52,7 @@ bytes = record {
 abbrev pub known : {A : Type 0} → A → Field A
 known a = record { Has = λ x. x ≡ a; spelled = λ x. []; taken = λ bs. Ok (a, bs) }
 
--- ---- one part and then another, which may depend on the value of the first
+-- ---- one field and then another, which may depend on the value of the first
 
 infixr 6 ◌&◌
 abbrev pub ◌&◌ : {A B : Type 0} → Field A → (A → Field B) → Field (A × B)
@@ -62,7 +62,7 @@ f & g = record {
   taken = λ bs. f.taken bs >>= λ x. (g x.0).taken x.1 >>= λ y. Ok ((x.0, y.0), y.1);
 }
 
--- ---- the same part for other values
+-- ---- the same field for other values
 
 abbrev pub seen : {A B : Type 0} → (A → B) → (B → A) → Field A → Field B
 seen to from f = record {
@@ -71,7 +71,7 @@ seen to from f = record {
   taken = λ bs. f.taken bs >>= λ x. Ok (to x.0, x.1);
 }
 
--- ---- parts i, i + 1, .., n of them
+-- ---- fields i, i + 1, .., n of them
 
 abbrev pub HaveEach : {A : Type 0} → ℕ → ℕ → (ℕ → Field A) → List A → Type 0
 HaveEach zero i f [] = Unit {0}
@@ -90,7 +90,7 @@ taken_each (suc n) i f bs = (f i).taken bs >>= λ x. taken_each n (suc i) f x.1 
 abbrev pub each : {A : Type 0} → ℕ → ℕ → (ℕ → Field A) → Field (List A)
 each n i f = record { Has = HaveEach n i f; spelled = spelled_each i f; taken = taken_each n i f }
 
--- ---- a part that is there only where a test says so
+-- ---- a field that is there only where a test says so
 
 abbrev pub HasGiven : {A : Type 0} → Field A → Option A → Type 0
 HasGiven f None = ⊥

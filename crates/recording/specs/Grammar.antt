@@ -5,7 +5,7 @@ use mir.Syntax.{w8}
 use Rattle.recording.specs.declared.cause.Cause.{Cause}
 use Rattle.recording.specs.declared.cause.Cause.TheVariants.{NotARecording, Version, Cut, OutOfRange, BytesLeft}
 use Rattle.recording.specs.Fields.{Field, ◌>>=◌, ◌&◌, number_or, bytes, known, each, seen, where_due, most}
-use Rattle.recording.specs.Recorded.{HartSummary, Summary, Kept, Recorded}
+use Rattle.recording.specs.Recorded.{HartSummary, Summary, Checkpoint, Recorded}
 
 -- a number from low to high, and a number whatever it is
 abbrev pub number : Width → ℕ → ℕ → Field ℕ
@@ -60,24 +60,24 @@ summary harts = seen summary_from summary_fields
 abbrev pub registers : ℕ → Field (List (List ℕ))
 registers harts = each harts 0 (λ i. each 31 1 (λ x. any w64))
 
--- registers are kept after each round that is a multiple of `every`, after none where it is 0
+-- registers are recorded after each round that is a multiple of `every`, after none where it is 0
 abbrev pub is_due : ℕ → ℕ → Bool
 is_due every round = not (every == 0) && (round % every == 0)
 
-abbrev pub kept_from : Summary × Option (List (List ℕ)) → Kept
-kept_from t = record { summary = t.0; registers = t.1 }
+abbrev pub checkpoint_from : Summary × Option (List (List ℕ)) → Checkpoint
+checkpoint_from t = record { summary = t.0; registers = t.1 }
 
-abbrev pub kept_fields : Kept → Summary × Option (List (List ℕ))
-kept_fields k = (k.summary, k.registers)
+abbrev pub checkpoint_fields : Checkpoint → Summary × Option (List (List ℕ))
+checkpoint_fields k = (k.summary, k.registers)
 
-abbrev pub kept_after : ℕ → ℕ → ℕ → Field Kept
-kept_after harts every round = seen kept_from kept_fields
+abbrev pub checkpoint_after : ℕ → ℕ → ℕ → Field Checkpoint
+checkpoint_after harts every round = seen checkpoint_from checkpoint_fields
     (summary harts & λ s.
     where_due (is_due every round) (registers harts))
 
 -- a recording
 abbrev pub Fields : Type 0
-Fields = ℕ × (ℕ × (ℕ × (ℕ × (ℕ × (ℕ × (ℕ × (ℕ × (List ℕ × (List ℕ × (List ℕ × List Kept))))))))))
+Fields = ℕ × (ℕ × (ℕ × (ℕ × (ℕ × (ℕ × (ℕ × (ℕ × (List ℕ × (List ℕ × (List ℕ × List Checkpoint))))))))))
 
 abbrev pub recorded_from : Fields → Recorded
 recorded_from t = record {
@@ -91,11 +91,11 @@ recorded_from t = record {
   image = t.1.1.1.1.1.1.1.1.0;
   input = t.1.1.1.1.1.1.1.1.1.0;
   plan = t.1.1.1.1.1.1.1.1.1.1.0;
-  kept = t.1.1.1.1.1.1.1.1.1.1.1;
+  checkpoints = t.1.1.1.1.1.1.1.1.1.1.1;
 }
 
 abbrev pub recorded_fields : Recorded → Fields
-recorded_fields r = (magic_number, (r.version, (r.format, (r.harts, (r.pages, (r.rounds, (r.budget, (r.every, (r.image, (r.input, (r.plan, r.kept)))))))))))
+recorded_fields r = (magic_number, (r.version, (r.format, (r.harts, (r.pages, (r.rounds, (r.budget, (r.every, (r.image, (r.input, (r.plan, r.checkpoints)))))))))))
 
 abbrev pub recording : Field Recorded
 recording = seen recorded_from recorded_fields
@@ -110,7 +110,7 @@ recording = seen recorded_from recorded_fields
     bytes & λ image.
     bytes & λ input.
     bytes & λ plan.
-    each rounds 1 (kept_after harts every))
+    each rounds 1 (checkpoint_after harts every))
 
 -- the text is this recording
 pub record IsRecording (text : List ℕ) (r : Recorded) : Type 0 where

@@ -6,9 +6,9 @@ use Rattle.recording.specs.declared.cause.ReadError.{ReadError}
 use Rattle.recording.specs.declared.cause.ReadError.TheVariants as errors
 use Rattle.recording.specs.declared.recording.HartSummary.{HartSummary as HartHeld}
 use Rattle.recording.specs.declared.recording.Summary.{Summary as SummaryHeld}
-use Rattle.recording.specs.declared.recording.Kept.{Kept as KeptHeld}
-use Rattle.recording.specs.declared.recording.Parts.{Parts}
-use Rattle.recording.specs.Recorded.{HartSummary, Summary, Kept, Recorded}
+use Rattle.recording.specs.declared.recording.Checkpoint.{Checkpoint as CheckpointHeld}
+use Rattle.recording.specs.declared.recording.RecordingFields.{RecordingFields}
+use Rattle.recording.specs.Recorded.{HartSummary, Summary, Checkpoint, Recorded}
 
 abbrev pub hart_view : HartHeld → HartSummary
 hart_view h = record { pc = h.pc; done = h.done; code = h.code; value = h.value }
@@ -20,10 +20,10 @@ abbrev pub registers_view : Option (Vec (Vec ℕ)) → Option (List (List ℕ))
 registers_view None = None
 registers_view (Some v) = Some (map (λ r. r.items) v.items)
 
-abbrev pub kept_view : KeptHeld → Kept
-kept_view k = record { summary = summary_view k.summary; registers = registers_view k.registers }
+abbrev pub checkpoint_view : CheckpointHeld → Checkpoint
+checkpoint_view k = record { summary = summary_view k.summary; registers = registers_view k.registers }
 
-abbrev pub as_recorded : Parts → Recorded
+abbrev pub as_recorded : RecordingFields → Recorded
 as_recorded r = record {
   version = r.version;
   format = r.format;
@@ -35,7 +35,7 @@ as_recorded r = record {
   image = r.image.items;
   input = r.input.items;
   plan = r.plan.items;
-  kept = map kept_view r.kept.items;
+  checkpoints = map checkpoint_view r.checkpoints.items;
 }
 
 -- a refusal is the first cause, and without memory nothing is said

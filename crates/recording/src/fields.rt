@@ -87,7 +87,7 @@ pub(crate) fn bytes_at(alloc: Global, bytes: &[u8]) -> Result<(Vec<u8>, &[u8]), 
     Ok((Vec::from_slice(alloc, text)?, rest))
 }
 
-/// What is kept of a hart, and what follows it.
+/// What a recording has of a hart, and what follows it.
 pub(crate) fn hart_at(bytes: &[u8]) -> Result<(HartSummary, &[u8]), ReadError>
     ensures { Gives (λ x. (hart_view x.0, x.1.now)) result (hart_summary.taken bytes.now) }
 {

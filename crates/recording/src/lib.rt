@@ -12,5 +12,5 @@ mod writing;
 pub use cause::{Cause, ReadError};
 pub use migrating::migrate;
 pub use reading::{one_recording, read_recording};
-pub use recording::{HartSummary, Kept, Parts, Recording, Summary};
+pub use recording::{Checkpoint, HartSummary, Recording, RecordingFields, Summary};
 pub use writing::write_recording;

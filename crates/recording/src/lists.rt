@@ -1,15 +1,15 @@
 ghost use Rattle.std.specs.Prelude.{◌≡◌, ◌≤◌, map};
 ghost use Rattle.recording.specs.Fields.{each, number_or};
-ghost use Rattle.recording.specs.Grammar.{hart_summary, any, kept_after, registers, summary};
-ghost use Rattle.recording.specs.Views.{Gives, hart_view, kept_view, registers_view, summary_view};
+ghost use Rattle.recording.specs.Grammar.{hart_summary, any, checkpoint_after, registers, summary};
+ghost use Rattle.recording.specs.Views.{Gives, hart_view, checkpoint_view, registers_view, summary_view};
 ghost use Rattle.std.specs.Int.{w64};
 
 use crate::cause::{Cause, ReadError};
 use crate::fields::{double_or, hart_at};
-use crate::recording::{HartSummary, Kept, Summary};
+use crate::recording::{Checkpoint, HartSummary, Summary};
 use std::alloc::Global;
 
-/// What is kept of so many harts, and what follows them.
+/// What a recording has of so many harts, and what follows them.
 #[tactic(auto, using(crate::proofs::Loops::starts))]
 pub(crate) fn harts_at(
     alloc: Global,
@@ -86,22 +86,22 @@ pub(crate) fn summary_at(
     ))
 }
 
-/// What is kept of a round, and what follows it.
-pub(crate) fn kept_at(
+/// What a recording has of a round, and what follows it.
+pub(crate) fn checkpoint_at(
     alloc: Global,
     bytes: &[u8],
     count: u32,
     every: u32,
     round: u32,
-) -> Result<(Kept, &[u8]), ReadError>
+) -> Result<(Checkpoint, &[u8]), ReadError>
     ensures { Gives (λ x.
-        (kept_view x.0, x.1.now)) result ((kept_after count every round).taken bytes.now) }
+        (checkpoint_view x.0, x.1.now)) result ((checkpoint_after count every round).taken bytes.now) }
 {
     let (summary, rest) = summary_at(alloc, bytes, count)?;
     if every != 0 && round % every == 0 {
         let (registers, rest) = registers_at(alloc, rest, count)?;
         return Ok((
-            Kept {
+            Checkpoint {
                 summary,
                 registers: Some(registers),
             },
@@ -109,7 +109,7 @@ pub(crate) fn kept_at(
         ));
     }
     Ok((
-        Kept {
+        Checkpoint {
             summary,
             registers: None,
         },
@@ -117,7 +117,7 @@ pub(crate) fn kept_at(
     ))
 }
 
-/// What is kept of so many rounds, and what follows it.
+/// What a recording has of so many rounds, and what follows it.
 #[tactic(auto, using(crate::proofs::Loops::starts))]
 pub(crate) fn rounds_at(
     alloc: Global,
@@ -125,16 +125,16 @@ pub(crate) fn rounds_at(
     count: u32,
     every: u32,
     rounds: u32,
-) -> Result<(Vec<Kept>, &[u8]), ReadError>
-    ensures { Gives (λ x. (map kept_view x.0.items, x.1.now)) result
-        ((each rounds 1 (kept_after count every)).taken bytes.now) }
+) -> Result<(Vec<Checkpoint>, &[u8]), ReadError>
+    ensures { Gives (λ x. (map checkpoint_view x.0.items, x.1.now)) result
+        ((each rounds 1 (checkpoint_after count every)).taken bytes.now) }
 {
-    let mut kept = Vec::new(alloc);
+    let mut checkpoints = Vec::new(alloc);
     let mut rest = bytes;
     for done in 0..rounds {
-        let (round, after) = kept_at(alloc, rest, count, every, done + 1)?;
-        kept.push(round)?;
+        let (round, after) = checkpoint_at(alloc, rest, count, every, done + 1)?;
+        checkpoints.push(round)?;
         rest = after;
     }
-    Ok((kept, rest))
+    Ok((checkpoints, rest))
 }

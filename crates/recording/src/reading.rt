@@ -6,13 +6,13 @@ ghost use Rattle.recording.specs.Views.{Gives, as_recorded};
 use crate::cause::{Cause, ReadError};
 use crate::fields::{byte_or, bytes_at, double_or, from_version_2, word_or};
 use crate::lists::rounds_at;
-use crate::recording::{Parts, Recording};
+use crate::recording::{Recording, RecordingFields};
 use std::alloc::Global;
 
 const MAGIC: u64 = 0x4345_5254_4544_5652;
 
 /// Reads the fields of a text that is a recording as a whole.
-fn read_parts(alloc: Global, text: &[u8]) -> Result<Parts, ReadError>
+fn read_fields(alloc: Global, text: &[u8]) -> Result<RecordingFields, ReadError>
     ensures { Gives as_recorded result (reading text.now) }
 {
     let (_magic, rest) = double_or(
@@ -32,11 +32,11 @@ fn read_parts(alloc: Global, text: &[u8]) -> Result<Parts, ReadError>
     let (image, rest) = bytes_at(alloc, rest)?;
     let (input, rest) = bytes_at(alloc, rest)?;
     let (plan, rest) = bytes_at(alloc, rest)?;
-    let (kept, rest) = rounds_at(alloc, rest, harts, every, rounds)?;
+    let (checkpoints, rest) = rounds_at(alloc, rest, harts, every, rounds)?;
     if !rest.is_empty() {
         return Err(ReadError::Refused(Cause::BytesLeft));
     }
-    Ok(Parts {
+    Ok(RecordingFields {
         version,
         format,
         harts,
@@ -47,7 +47,7 @@ fn read_parts(alloc: Global, text: &[u8]) -> Result<Parts, ReadError>
         image,
         input,
         plan,
-        kept,
+        checkpoints,
     })
 }
 
@@ -64,7 +64,7 @@ pub fn read_recording(alloc: Global, text: &[u8]) -> Result<Recording, ReadError
     // Each recording is read from its text, unless memory runs out.
     ensures only { (r : Recorded) → IsRecording text.now r → Gives (λ s. s) result (Ok r) }
 {
-    Ok(Recording::of(read_parts(alloc, text)?))
+    Ok(Recording::of(read_fields(alloc, text)?))
 }
 
 /// No text is two recordings.

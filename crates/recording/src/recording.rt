@@ -1,6 +1,6 @@
 ghost use Rattle.std.specs.Prelude.{◌≡◌, ◌≤◌, ◌↔◌, IsTrue, length, map};
 ghost use Rattle.recording.specs.Grammar.{recording};
-ghost use Rattle.recording.specs.Views.{kept_view, as_recorded};
+ghost use Rattle.recording.specs.Views.{checkpoint_view, as_recorded};
 
 use std::marker::Model;
 
@@ -30,7 +30,7 @@ pub struct Summary {
 
 /// What a recording keeps of a round.
 #[derive(Drop)]
-pub struct Kept {
+pub struct Checkpoint {
     /// The summary of the state after it.
     pub summary: Summary,
     /// Where they are due, registers x1 to x31 of each hart.
@@ -39,7 +39,7 @@ pub struct Kept {
 
 /// The fields of a recording, whatever their values.
 #[derive(Drop)]
-pub struct Parts {
+pub struct RecordingFields {
     /// The version of its text, 1 or 2.
     pub version: u32,
     /// How the image is read: 0 as an ELF file, 1 as a flat file.
@@ -52,7 +52,7 @@ pub struct Parts {
     pub rounds: u32,
     /// How many instructions a waiting hart may do in its serial turn, 1 to 1,000; 1 in version 1.
     pub budget: u32,
-    /// Registers are kept after each round whose number is a multiple of this, and after none where it is 0, as in version 1.
+    /// Registers are recorded after each round whose number is a multiple of this, and after none where it is 0, as in version 1.
     pub every: u32,
     /// The file of the guest program.
     pub image: Vec<u8>,
@@ -60,16 +60,16 @@ pub struct Parts {
     pub input: Vec<u8>,
     /// The text of the plan.
     pub plan: Vec<u8>,
-    /// What is kept of each round, in turn.
-    pub kept: Vec<Kept>,
+    /// What a recording has of each round, in turn.
+    pub checkpoints: Vec<Checkpoint>,
 }
 
-/// A recording of a run: what the run was asked for, and what is kept of the state after each round.
+/// A recording of a run: what the run was asked for, and what a recording has of the state after each round.
 ///
 /// Each of its fields is in its range, so that it has a text.
 #[derive(Drop)]
 pub struct Recording {
-    parts: Parts,
+    fields: RecordingFields,
 }
 
 impl Model for Recording {
@@ -79,49 +79,49 @@ impl Model for Recording {
 
     ghost Value = { Recorded };
 
-    ghost view = { λ r. as_recorded r.parts };
+    ghost view = { λ r. as_recorded r.fields };
 
-    ghost invariant = { λ r. recording.Has (as_recorded r.parts) };
+    ghost invariant = { λ r. recording.Has (as_recorded r.fields) };
 }
 
 impl Recording {
     /// The recording of these fields, each of which is in its range.
-    pub fn of(parts: Parts) -> Recording
-        requires { recording.Has (as_recorded parts) }
-        ensures { result ≡ as_recorded parts }
+    pub fn of(fields: RecordingFields) -> Recording
+        requires { recording.Has (as_recorded fields) }
+        ensures { result ≡ as_recorded fields }
     {
-        Recording { parts }
+        Recording { fields }
     }
 
     /// Its fields.
-    pub(crate) fn parts(&self) -> &Parts
+    pub(crate) fn fields(&self) -> &RecordingFields
         ensures view { as_recorded result.now ≡ self.now }
         ensures has { recording.Has (as_recorded result.now) }
     {
-        &self.parts
+        &self.fields
     }
 
     /// Its fields, handed over.
-    pub(crate) fn into_parts(self) -> Parts
+    pub(crate) fn into_fields(self) -> RecordingFields
         ensures view { as_recorded result ≡ self }
         ensures has { recording.Has (as_recorded result) }
     {
-        let Recording { parts } = self;
-        parts
+        let Recording { fields } = self;
+        fields
     }
 
     /// The version of its text, 1 or 2.
     pub fn version(&self) -> u32
         ensures { result ≡ self.now.version }
     {
-        self.parts.version
+        self.fields.version
     }
 
     /// Whether the image is a flat file; else it is an ELF file.
     pub fn is_flat(&self) -> bool
         ensures { IsTrue result ↔ self.now.format ≡ 1 }
     {
-        self.parts.format == 1
+        self.fields.format == 1
     }
 
     /// How many harts there are, 1 to 64.
@@ -129,7 +129,7 @@ impl Recording {
         ensures value { result ≡ self.now.harts }
         ensures range { (1 ≤ result) × (result ≤ 64) }
     {
-        self.parts.harts
+        self.fields.harts
     }
 
     /// How many pages of 4,096 bytes guest memory has, 1 to 16,384.
@@ -137,14 +137,14 @@ impl Recording {
         ensures value { result ≡ self.now.pages }
         ensures range { (1 ≤ result) × (result ≤ 16384) }
     {
-        self.parts.pages
+        self.fields.pages
     }
 
     /// How many rounds were done.
     pub fn rounds(&self) -> u32
         ensures { result ≡ self.now.rounds }
     {
-        self.parts.rounds
+        self.fields.rounds
     }
 
     /// How many instructions a waiting hart may do in its serial turn, 1 to 1,000.
@@ -152,42 +152,42 @@ impl Recording {
         ensures value { result ≡ self.now.budget }
         ensures range { (1 ≤ result) × (result ≤ 1000) }
     {
-        self.parts.budget
+        self.fields.budget
     }
 
-    /// Registers are kept after each round whose number is a multiple of this, and after none where it is 0.
+    /// Registers are recorded after each round whose number is a multiple of this, and after none where it is 0.
     pub fn every(&self) -> u32
         ensures { result ≡ self.now.every }
     {
-        self.parts.every
+        self.fields.every
     }
 
     /// The file of the guest program.
     pub fn image(&self) -> &[u8]
         ensures { result.now ≡ self.now.image }
     {
-        self.parts.image.as_slice()
+        self.fields.image.as_slice()
     }
 
     /// What the guest reads.
     pub fn input(&self) -> &[u8]
         ensures { result.now ≡ self.now.input }
     {
-        self.parts.input.as_slice()
+        self.fields.input.as_slice()
     }
 
     /// The text of the plan.
     pub fn plan(&self) -> &[u8]
         ensures { result.now ≡ self.now.plan }
     {
-        self.parts.plan.as_slice()
+        self.fields.plan.as_slice()
     }
 
-    /// What is kept of each round, in turn.
-    pub fn kept(&self) -> &[Kept]
-        ensures value { map kept_view result.now ≡ self.now.kept }
+    /// What a recording has of each round, in turn.
+    pub fn checkpoints(&self) -> &[Checkpoint]
+        ensures value { map checkpoint_view result.now ≡ self.now.checkpoints }
         ensures count { length result.now ≡ self.now.rounds }
     {
-        self.parts.kept.as_slice()
+        self.fields.checkpoints.as_slice()
     }
 }

@@ -4,10 +4,10 @@ ghost use mir.Syntax.{w8};
 ghost use Rattle.host_io.specs.Taken.{WritesText};
 ghost use Rattle.host_io.specs.declared.error.RunError.TheVariants as refusals;
 ghost use Rattle.recording.specs.Fields.{bytes as length_and_bytes, each, spelled_each, where_due};
-ghost use Rattle.recording.specs.Grammar.{any, from_version_2, hart_summary, is_due, kept_after, number as between, recording, registers, summary};
-ghost use Rattle.recording.specs.Views.{hart_view, kept_view, registers_view, summary_view, as_recorded};
+ghost use Rattle.recording.specs.Grammar.{any, from_version_2, hart_summary, is_due, checkpoint_after, number as between, recording, registers, summary};
+ghost use Rattle.recording.specs.Views.{hart_view, checkpoint_view, registers_view, summary_view, as_recorded};
 
-use crate::recording::{HartSummary, Kept, Parts, Recording, Summary};
+use crate::recording::{Checkpoint, HartSummary, Recording, RecordingFields, Summary};
 use host_io::{RunError, Sink, put_all};
 use std::alloc::{AllocError, Global};
 
@@ -22,7 +22,7 @@ pub fn write_recording<S: Sink>(alloc: Global, r: &Recording, out: &mut S) -> Re
     ensures memory { result ≡ Err refusals.OutOfMemory → S.took out.new ≡ S.took out.old }
 {
     let mut text = Vec::new(alloc);
-    match put_recording(&mut text, r.parts()) {
+    match put_recording(&mut text, r.fields()) {
         Ok(()) => put_all(out, text.as_slice()),
         Err(_) => Err(RunError::OutOfMemory),
     }
@@ -31,9 +31,9 @@ pub fn write_recording<S: Sink>(alloc: Global, r: &Recording, out: &mut S) -> Re
 /// The number at the front of each recording: the text `RVDETREC`.
 const MAGIC: u64 = 0x4345_5254_4544_5652;
 
-/// The settings and inputs of a run, and what is kept of its rounds.
+/// The settings and inputs of a run, and what a recording has of its rounds.
 #[tactic(auto, using(crate::proofs::Written::assoc))]
-fn put_recording(text: &mut Vec<u8>, r: &Parts) -> Result<(), AllocError>
+fn put_recording(text: &mut Vec<u8>, r: &RecordingFields) -> Result<(), AllocError>
     ensures { OnOk result (text.new.items ≡
         text.old.items ++ recording.spelled (as_recorded r.now)) }
 {
@@ -48,7 +48,7 @@ fn put_recording(text: &mut Vec<u8>, r: &Parts) -> Result<(), AllocError>
     put_bytes(text, r.image.as_slice())?;
     put_bytes(text, r.input.as_slice())?;
     put_bytes(text, r.plan.as_slice())?;
-    put_rounds(text, r.kept.as_slice(), r.every)
+    put_rounds(text, r.checkpoints.as_slice(), r.every)
 }
 
 /// A number of eight bytes.
@@ -92,7 +92,7 @@ fn put_bytes(text: &mut Vec<u8>, bytes: &[u8]) -> Result<(), AllocError>
     text.extend_from_slice(bytes)
 }
 
-/// What is kept of a hart.
+/// What a recording has of a hart.
 #[tactic(auto, using(crate::proofs::Written::assoc))]
 fn put_hart(text: &mut Vec<u8>, hart: &HartSummary) -> Result<(), AllocError>
     ensures { OnOk result (text.new.items ≡
@@ -104,7 +104,7 @@ fn put_hart(text: &mut Vec<u8>, hart: &HartSummary) -> Result<(), AllocError>
     put_double(text, hart.value)
 }
 
-/// What is kept of the harts, in hart order.
+/// What a recording has of the harts, in hart order.
 fn put_harts(text: &mut Vec<u8>, harts: &[HartSummary]) -> Result<(), AllocError>
     ensures { OnOk result (text.new.items ≡
         text.old.items ++ spelled_each 0 (λ _. hart_summary) (map hart_view harts.now)) }
@@ -151,15 +151,15 @@ fn put_summary(text: &mut Vec<u8>, state: &Summary) -> Result<(), AllocError>
 /// Registers, where they are due after a round.
 fn put_due(
     text: &mut Vec<u8>,
-    kept: &Option<Vec<Vec<u64>>>,
+    due: &Option<Vec<Vec<u64>>>,
     every: u32,
     round: u64,
 ) -> Result<(), AllocError>
     ensures { OnOk result ((count : ℕ) → text.new.items ≡ text.old.items ++
-        (where_due (is_due every round) (registers count)).spelled (registers_view kept.now)) }
+        (where_due (is_due every round) (registers count)).spelled (registers_view due.now)) }
 {
     if every != 0 && round % u64::from(every) == 0 {
-        return match kept {
+        return match due {
             Some(harts) => put_all_registers(text, harts.as_slice()),
             None => Ok(()),
         };
@@ -167,23 +167,28 @@ fn put_due(
     Ok(())
 }
 
-/// What is kept of a round.
+/// What a recording has of a round.
 #[tactic(auto, using(crate::proofs::Written::assoc))]
-fn put_kept(text: &mut Vec<u8>, kept: &Kept, every: u32, round: u64) -> Result<(), AllocError>
+fn put_checkpoint(
+    text: &mut Vec<u8>,
+    checkpoint: &Checkpoint,
+    every: u32,
+    round: u64,
+) -> Result<(), AllocError>
     ensures { OnOk result ((count : ℕ) → text.new.items ≡
-        text.old.items ++ (kept_after count every round).spelled (kept_view kept.now)) }
+        text.old.items ++ (checkpoint_after count every round).spelled (checkpoint_view checkpoint.now)) }
 {
-    put_summary(text, &kept.summary)?;
-    put_due(text, &kept.registers, every, round)
+    put_summary(text, &checkpoint.summary)?;
+    put_due(text, &checkpoint.registers, every, round)
 }
 
-/// What is kept of the rounds, of which the first is 1.
-fn put_rounds(text: &mut Vec<u8>, kept: &[Kept], every: u32) -> Result<(), AllocError>
+/// What a recording has of the rounds, of which the first is 1.
+fn put_rounds(text: &mut Vec<u8>, checkpoints: &[Checkpoint], every: u32) -> Result<(), AllocError>
     ensures { OnOk result ((count : ℕ) → text.new.items ≡
-        text.old.items ++ spelled_each 1 (kept_after count every) (map kept_view kept.now)) }
+        text.old.items ++ spelled_each 1 (checkpoint_after count every) (map checkpoint_view checkpoints.now)) }
 {
-    for (place, state) in kept.iter().enumerate() {
-        put_kept(text, state, every, place as u64 + 1)?;
+    for (index, state) in checkpoints.iter().enumerate() {
+        put_checkpoint(text, state, every, index as u64 + 1)?;
     }
     Ok(())
 }

@@ -4,11 +4,11 @@ use Rattle.std.proofs.lemmas.Bool.{cases_eq, cases_lt}
 use Rattle.rv64_decode.specs.declared.instruction.Instr.{Instr}
 use Rattle.round_schedule.specs.declared.event.Event.{Event}
 use Rattle.round_schedule.specs.Positions.{event}
-use Rattle.memory_order.specs.Orders.{ListsOperations, place}
+use Rattle.memory_order.specs.Orders.{ListsOperations, order_position}
 use Rattle.memory_order.specs.Operations.{is_operation}
-use Rattle.memory_order.proofs.Sources.{one_place}
+use Rattle.memory_order.proofs.Sources.{one_position}
 use Rattle.dependencies.specs.Dependencies.{DependencyRule}
-use Rattle.rule_checker.specs.Unkept.{IsFirstUnkept, PreservedAt}
+use Rattle.rule_checker.specs.Violations.{IsFirstViolation, PreservedAt}
 use Rattle.order_rules.specs.declared.rule.OrderRule.{OrderRule}
 use Rattle.order_rules.specs.Orders.{IsFirstRule, NoneAsks, rule_of}
 use Rattle.refusal_reasons.specs.Reasons.{IsBroken, IsFirstBroken, IsFirstBrokenAt, IsTurned, NoneBroken, NoneBrokenAt}
@@ -42,32 +42,32 @@ first_broken rule is t pos a b turned first none = record {
 }
 
 -- what preserved program order keeps is broken by none
-pub none_if_kept : (is : List Instr) (t : List Event) (pos : ℕ → ℕ) (a b : ℕ) (rule : OrderRule) → PreservedAt (DependencyRule is t pos) t pos b → IsBroken rule is t pos a b → ⊥
-none_if_kept is t pos a b rule kept h =
+pub none_if_preserved : (is : List Instr) (t : List Event) (pos : ℕ → ℕ) (a b : ℕ) (rule : OrderRule) → PreservedAt (DependencyRule is t pos) t pos b → IsBroken rule is t pos a b → ⊥
+none_if_preserved is t pos a b rule kept h =
     let l = kept a h.first h.before h.ordered.0 in
     omega (arith, l, h.broken)
 
--- the first of all second places
+-- the first of all second indexes
 pub first_of_all : (rule : OrderRule) (is : List Instr) (t : List Event) (pos : ℕ → ℕ) (a b second : ℕ) → b ≡ second → IsFirstBrokenAt rule is t pos a second →
-    IsFirstUnkept t (PreservedAt (DependencyRule is t pos) t pos) second → IsFirstBroken rule is t pos a b
-first_of_all rule is t pos a b second at first unkept =
+    IsFirstViolation t (PreservedAt (DependencyRule is t pos) t pos) second → IsFirstBroken rule is t pos a b
+first_of_all rule is t pos a b second at first violation =
     subst (λ n. IsFirstBroken rule is t pos a n) (sym at) (record { broken = first.broken; none = before; least = first.least })
   where
     before : NoneBroken is t pos a second
     before k c d o = elim o [
-      | inl l ↦ λ h. none_if_kept is t pos c d k (unkept.kept d l h.second) h
+      | inl l ↦ λ h. none_if_preserved is t pos c d k (violation.respected d l h.second) h
       | inr e ↦ λ h. first.none k c e.1 (subst (λ n. IsBroken k is t pos c n) e.0 h)
     ]
 
 -- what is broken by none is kept
-pub unbroken : (is : List Instr) (t : List Event) (g : List ℕ) (b : ℕ) → ListsOperations t g → is_operation (event t b) ≡ true → NoneBrokenAt is t (place g) b b →
-    PreservedAt (DependencyRule is t (place g)) t (place g) b
-unbroken is t g b lists ob none a oa before r = elim (cases_lt (place g a) (place g b)) [
+pub unbroken : (is : List Instr) (t : List Event) (g : List ℕ) (b : ℕ) → ListsOperations t g → is_operation (event t b) ≡ true → NoneBrokenAt is t (order_position g) b b →
+    PreservedAt (DependencyRule is t (order_position g)) t (order_position g) b
+unbroken is t g b lists ob none a oa before r = elim (cases_lt (order_position g a) (order_position g b)) [
   | inl l ↦ l
-  | inr n ↦ elim (cases_eq (place g a) (place g b)) [
-    | inl same ↦ absurd (let e = one_place t g a b lists oa ob same in let l = before.earlier in omega (arith, e, l))
+  | inr n ↦ elim (cases_eq (order_position g a) (order_position g b)) [
+    | inl same ↦ absurd (let e = one_position t g a b lists oa ob same in let l = before.earlier in omega (arith, e, l))
     | inr other ↦ absurd (
-        none (rule_of is t (place g) a b r) a before.earlier
+        none (rule_of is t (order_position g) a b r) a before.earlier
         (record { first = oa; second = ob; before = before; ordered = (r, refl); broken = omega (arith, n, other) }))
   ]
 ]

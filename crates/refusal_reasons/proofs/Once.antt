@@ -21,7 +21,7 @@ lists_from t g only once each = record {
 pub contains_at : (g : List ℕ) (a k : ℕ) → k < length g → get_or g k 0 ≡ a → Contains g a
 contains_at g a k l e = (k, l, get_or_default g k a 0 l ∙ e)
 
--- ---- the first position of each place
+-- ---- the first position of each index
 
 pub firsts_set : (t : List Event) (g r : List ℕ) (p i : ℕ) → AreFirstPositions t g p r → p < length g → get_or g p 0 ≡ i → i < length t → get_or r i 0 ≡ length g →
     AreFirstPositions t g (p + 1) (set r i p)
@@ -56,9 +56,9 @@ firsts_set t g r p i m l at low free = record { size = length-set r i p ∙ m.si
           omega (arith, e, same)
     ]
 
-pub firsts_kept : (t : List Event) (g r : List ℕ) (p i : ℕ) → AreFirstPositions t g p r → get_or g p 0 ≡ i → i < length t → get_or r i 0 ≢ length g →
+pub firsts_stay : (t : List Event) (g r : List ℕ) (p i : ℕ) → AreFirstPositions t g p r → get_or g p 0 ≡ i → i < length t → get_or r i 0 ≢ length g →
     AreFirstPositions t g (p + 1) r
-firsts_kept t g r p i m at low taken = record {
+firsts_stay t g r p i m at low taken = record {
   size = m.size;
   there = λ a k. elim (m.there a k) [ inl b ↦ inl b | inr b ↦ inr (omega (arith, b.0), b.1) ];
   first = λ k l. elim (cases_lt k p) [
@@ -73,7 +73,7 @@ firsts_kept t g r p i m at low taken = record {
   ];
 }
 
--- a place whose first position is another one
+-- an index whose first position is another one
 pub stands_twice : (t : List Event) (g r : List ℕ) (p : ℕ) → AreFirstPositions t g (length g) r → p < length g → get_or g p 0 < length t → get_or r (get_or g p 0) 0 ≢ p → IsTwice g (get_or g p 0)
 stands_twice t g r p m l low other =
     let f = m.first p l in

@@ -6,35 +6,35 @@ use Rattle.round_schedule.specs.declared.event.Event.{Event}
 use Rattle.round_schedule.specs.Accesses.{is_lr, is_sc}
 use Rattle.round_schedule.specs.Positions.{event}
 use Rattle.memory_order.specs.Operations.{is_operation}
-use Rattle.memory_order.specs.Orders.{ListsOperations, place}
-use Rattle.memory_order.specs.Rvwmo.{AtomicityAxiom, IsPaired, IsSource, KeepsByte}
+use Rattle.memory_order.specs.Orders.{ListsOperations, order_position}
+use Rattle.memory_order.specs.Rvwmo.{AtomicityAxiom, IsPaired, IsSource, IsUndisturbed}
 use Rattle.memory_order.proofs.Facts.{or_left, store_is_operation, within}
-use Rattle.memory_order.proofs.Sources.{one_place, one_source, store_at}
-use Rattle.refusal_reasons.specs.Reasons.{AtomicFor, KeepsBytes, LiesBetween}
+use Rattle.memory_order.proofs.Sources.{one_position, one_source, store_at}
+use Rattle.refusal_reasons.specs.Reasons.{AtomicFor, AreUndisturbed, LiesBetween}
 
-pub keeps_from_none : (t : List Event) (pos : ℕ → ℕ) (c x : ℕ) (s : Option ℕ) → MatchOption s (Unit {0}) (λ n. pos n < pos c) →
-    ((v : ℕ) → v < length t → LiesBetween t pos c x s v → ⊥) → KeepsByte t pos c x s
-keeps_from_none t pos c x None early none = λ v w o b.
+pub undisturbed_from_none : (t : List Event) (pos : ℕ → ℕ) (c x : ℕ) (s : Option ℕ) → MatchOption s (Unit {0}) (λ n. pos n < pos c) →
+    ((v : ℕ) → v < length t → LiesBetween t pos c x s v → ⊥) → IsUndisturbed t pos c x s
+undisturbed_from_none t pos c x None early none = λ v w o b.
     none v (within t v (store_at t v x w)) (record { writes = w; other = o; before = b; after = tt })
-keeps_from_none t pos c x (Some s) early none =
+undisturbed_from_none t pos c x (Some s) early none =
     (early, λ v w o a b. none v (within t v (store_at t v x w)) (record { writes = w; other = o; before = b; after = a }))
 
-pub lies_against : (t : List Event) (pos : ℕ → ℕ) (c x : ℕ) (s : Option ℕ) (v : ℕ) → LiesBetween t pos c x s v → KeepsByte t pos c x s → ⊥
+pub lies_against : (t : List Event) (pos : ℕ → ℕ) (c x : ℕ) (s : Option ℕ) (v : ℕ) → LiesBetween t pos c x s v → IsUndisturbed t pos c x s → ⊥
 lies_against t pos c x None v l k = k v l.writes l.other l.before
 lies_against t pos c x (Some s) v l k = k.1 v l.writes l.other l.after l.before
 
-pub kept_precedes : (t : List Event) (pos : ℕ → ℕ) (c x : ℕ) (s : Option ℕ) → KeepsByte t pos c x s → MatchOption s (Unit {0}) (λ n. pos n < pos c)
-kept_precedes t pos c x None k = tt
-kept_precedes t pos c x (Some s) k = k.0
+pub undisturbed_precedes : (t : List Event) (pos : ℕ → ℕ) (c x : ℕ) (s : Option ℕ) → IsUndisturbed t pos c x s → MatchOption s (Unit {0}) (λ n. pos n < pos c)
+undisturbed_precedes t pos c x None k = tt
+undisturbed_precedes t pos c x (Some s) k = k.0
 
--- no place stands past the order's length
+-- no index stands past the order's length
 length_step : (b : Bool) (n m : ℕ) → n ≤ m → (if b then 0 else suc n) ≤ suc m
 length_step true n m h = omega arith
 length_step false n m h = omega (arith, h)
 
-pub place_at_most : (g : List ℕ) (a : ℕ) → place g a ≤ length g
-place_at_most [] a = omega arith
-place_at_most (b ∷ g) a = length_step (b == a) (place g a) (length g) (place_at_most g a)
+pub position_at_most : (g : List ℕ) (a : ℕ) → order_position g a ≤ length g
+position_at_most [] a = omega arith
+position_at_most (b ∷ g) a = length_step (b == a) (order_position g a) (length g) (position_at_most g a)
 
 -- what lies between stands behind the source
 pub lies_past : (t : List Event) (pos : ℕ → ℕ) (c x : ℕ) (s : Option ℕ) (v start : ℕ) → MatchOption s (start ≡ 0) (λ n. start ≡ pos n + 1) →
@@ -43,14 +43,14 @@ lies_past t pos c x None v start e b l = omega (arith, e, l)
 lies_past t pos c x (Some n) v start e b l = let k = b.after in omega (arith, e, l, k)
 
 -- nothing lies between below a position, nor at it
-pub none_at_next : (t : List Event) (g : List ℕ) (c x : ℕ) (s : Option ℕ) (m p : ℕ) → ListsOperations t g → is_operation (event t m) ≡ true → place g m ≡ p →
-    ((v : ℕ) → place g v < p → LiesBetween t (place g) c x s v → ⊥) → (LiesBetween t (place g) c x s m → ⊥) →
-    (v : ℕ) → place g v < p + 1 → LiesBetween t (place g) c x s v → ⊥
-none_at_next t g c x s m p lists op at old here v l b = elim (cases_lt (place g v) p) [
+pub none_at_next : (t : List Event) (g : List ℕ) (c x : ℕ) (s : Option ℕ) (m p : ℕ) → ListsOperations t g → is_operation (event t m) ≡ true → order_position g m ≡ p →
+    ((v : ℕ) → order_position g v < p → LiesBetween t (order_position g) c x s v → ⊥) → (LiesBetween t (order_position g) c x s m → ⊥) →
+    (v : ℕ) → order_position g v < p + 1 → LiesBetween t (order_position g) c x s v → ⊥
+none_at_next t g c x s m p lists op at old here v l b = elim (cases_lt (order_position g v) p) [
   | inl low ↦ old v low b
   | inr high ↦
-      let same : v ≡ m = one_place t g v m lists (store_at t v x b.writes) op (omega (arith, l, high, at)) in
-      here (subst (LiesBetween t (place g) c x s) same b)
+      let same : v ≡ m = one_position t g v m lists (store_at t v x b.writes) op (omega (arith, l, high, at)) in
+      here (subst (LiesBetween t (order_position g) c x s) same b)
 ]
 
 one_pair : (t : List Event) (l m c : ℕ) → IsPaired t l c → IsPaired t m c → l ≡ m
@@ -66,13 +66,13 @@ one_pair t l m c a b = elim (cases_lt l m) [
     lr_reserves a h = or_left (is_lr a) (is_sc a) h
 
 -- the one LR that an SC is paired with
-pub atomic_for_pair : (t : List Event) (pos : ℕ → ℕ) (l c : ℕ) → IsPaired t l c → KeepsBytes t pos l c → AtomicFor t pos c
-atomic_for_pair t pos l c pair kept m other s = subst (λ n. KeepsBytes t pos n c) (one_pair t l m c pair other) kept
+pub atomic_for_pair : (t : List Event) (pos : ℕ → ℕ) (l c : ℕ) → IsPaired t l c → AreUndisturbed t pos l c → AtomicFor t pos c
+atomic_for_pair t pos l c pair kept m other s = subst (λ n. AreUndisturbed t pos n c) (one_pair t l m c pair other) kept
 
 -- the one source of a byte
-pub kept_for_all : (t : List Event) (g : List ℕ) (l c x : ℕ) (s u : Option ℕ) → ListsOperations t g → IsSource t (place g) l x s → KeepsByte t (place g) c x s →
-    IsSource t (place g) l x u → KeepsByte t (place g) c x u
-kept_for_all t g l c x s u lists source kept other = subst (KeepsByte t (place g) c x) (one_source t g l x s u lists source other) kept
+pub undisturbed_for_all : (t : List Event) (g : List ℕ) (l c x : ℕ) (s u : Option ℕ) → ListsOperations t g → IsSource t (order_position g) l x s → IsUndisturbed t (order_position g) c x s →
+    IsSource t (order_position g) l x u → IsUndisturbed t (order_position g) c x u
+undisturbed_for_all t g l c x s u lists source kept other = subst (IsUndisturbed t (order_position g) c x) (one_source t g l x s u lists source other) kept
 
 pub atomic_from_all : (t : List Event) (pos : ℕ → ℕ) → ((c : ℕ) → c < length t → AtomicFor t pos c) → AtomicityAxiom t pos
 atomic_from_all t pos all l c x s paired store reads source =

@@ -47,7 +47,7 @@ pub fn find_refusal(
     find_in(alloc, opening, instructions, events, &order.0)
 }
 
-/// The same of places.
+/// The same of indexes.
 fn find_in(
     alloc: Global,
     opening: &Trace,
@@ -76,11 +76,11 @@ fn find_unlisted(alloc: Global, events: &[Event], order: &[usize]) -> Result<Ref
         return Ok(Refusal::NoOperation { position });
     }
     let firsts = first_positions(alloc, events, order)?;
-    if let Some(place) = first_twice(events, order, &firsts) {
-        return Ok(Refusal::Twice { place });
+    if let Some(index) = first_twice(events, order, &firsts) {
+        return Ok(Refusal::Twice { index });
     }
     match first_left_out(events, order, &firsts) {
-        Some(place) => Ok(Refusal::LeftOut { place }),
+        Some(index) => Ok(Refusal::LeftOut { index }),
         None => unreachable!(),
     }
 }

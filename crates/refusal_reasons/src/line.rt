@@ -3,7 +3,7 @@ use order_rules::OrderRule;
 use round_schedule::Event;
 use std::fmt;
 
-/// A refusal as one line for people: each place is told as the number of a step of its hart, counted from 0.
+/// A refusal as one line for people: each index is told as the number of a step of its hart, counted from 0.
 #[derive(Clone, Copy)]
 pub struct RefusalLine<'a> {
     refusal: Refusal,
@@ -28,14 +28,14 @@ impl Refusal {
 }
 
 /// How many steps the hart of an event did before it.
-fn step_at(events: &[Event], place: usize) -> StepOf {
-    let hart = match events.get(place) {
+fn step_at(events: &[Event], index: usize) -> StepOf {
+    let hart = match events.get(index) {
         Some(event) => event.hart,
         None => 0,
     };
     let number = events
         .iter()
-        .take(place)
+        .take(index)
         .filter(|event| event.hart == hart)
         .count();
     StepOf { hart, number }
@@ -55,12 +55,12 @@ impl fmt::Display for RefusalLine<'_> {
             Refusal::NoOperation { position } => {
                 write!(f, "entry {position} of the order is no memory operation")
             }
-            Refusal::Twice { place } => {
-                let step = step_at(self.events, place);
+            Refusal::Twice { index } => {
+                let step = step_at(self.events, index);
                 write!(f, "the order has {step} twice")
             }
-            Refusal::LeftOut { place } => {
-                let step = step_at(self.events, place);
+            Refusal::LeftOut { index } => {
+                let step = step_at(self.events, index);
                 write!(f, "the order leaves out {step}")
             }
             Refusal::OutOfOrder {

@@ -9,7 +9,7 @@ use pages::OutOfMemory;
 use round_schedule::Event;
 use std::alloc::Global;
 
-/// The first position at which an order has the place of no memory operation.
+/// The first position at which an order has the index of no memory operation.
 pub(crate) fn first_stranger(events: &[Event], order: &[usize]) -> Option<usize>
     ensures { MatchOption result
         ((p : ℕ) → p < length order.now → is_operation (event events.now (slice_index order.now p)) ≡ true)
@@ -23,7 +23,7 @@ pub(crate) fn first_stranger(events: &[Event], order: &[usize]) -> Option<usize>
     None
 }
 
-/// Of each place the first position at which an order has it; the order's length where it has it nowhere.
+/// Of each index the first position at which an order has it; the order's length where it has it nowhere.
 pub(crate) fn first_positions(
     alloc: Global,
     events: &[Event],
@@ -35,15 +35,15 @@ pub(crate) fn first_positions(
     let absent = order.len();
     let mut firsts = vec![in alloc; absent; events.len()]?;
     for p in 0..order.len() {
-        let place = order[p];
-        if firsts[place] == absent {
-            firsts[place] = p;
+        let index = order[p];
+        if firsts[index] == absent {
+            firsts[index] = p;
         }
     }
     Ok(firsts)
 }
 
-/// The first place that an order has a second time.
+/// The first index that an order has a second time.
 pub(crate) fn first_twice(events: &[Event], order: &[usize], firsts: &[usize]) -> Option<usize>
     requires operations { (p : ℕ) → p < length order.now → is_operation (event events.now (slice_index order.now p)) ≡ true }
     requires firsts { AreFirstPositions events.now order.now (length order.now) firsts.now }
@@ -60,7 +60,7 @@ pub(crate) fn first_twice(events: &[Event], order: &[usize], firsts: &[usize]) -
     None
 }
 
-/// The first memory operation whose place an order doesn't have.
+/// The first memory operation whose index an order doesn't have.
 pub(crate) fn first_left_out(events: &[Event], order: &[usize], firsts: &[usize]) -> Option<usize>
     requires { AreFirstPositions events.now order.now (length order.now) firsts.now }
     ensures { MatchOption result

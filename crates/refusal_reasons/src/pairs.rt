@@ -1,8 +1,8 @@
 ghost use Rattle.std.specs.Prelude.{◌≡◌, ◌↔◌, ◌<◌, IfOk, IsTrue, MatchOption, length};
-ghost use Rattle.memory_order.specs.Orders.{place};
+ghost use Rattle.memory_order.specs.Orders.{order_position};
 ghost use Rattle.memory_order.specs.Rvwmo.{PreservedOrderBy};
 ghost use Rattle.dependencies.specs.Dependencies.{DependencyRule};
-ghost use Rattle.rule_checker.specs.Unkept.{IsFirstUnkept, PreservedAt};
+ghost use Rattle.rule_checker.specs.Violations.{IsFirstViolation, PreservedAt};
 ghost use Rattle.order_rules.specs.Orders.{AreRanked, HasSources, IsFirstRule};
 ghost use Rattle.order_rules.specs.declared.rule.OrderRule.{OrderRule};
 ghost use Rattle.refusal_reasons.specs.Reasons.{IsBroken, IsFirstBroken, IsFirstBrokenAt, IsTurned, NoneBrokenAt};
@@ -12,7 +12,7 @@ use order_checker::{Sources, position_of};
 use order_rules::{OrderRule, first_rule};
 use pages::OutOfMemory;
 use round_schedule::Event;
-use rule_checker::first_unkept;
+use rule_checker::first_violation;
 use rv64_decode::Instr;
 use std::alloc::Global;
 
@@ -24,7 +24,7 @@ pub(crate) struct BrokenPair {
     pub(crate) second: usize,
 }
 
-/// The first two operations that break a rule: of the least second place, of these the ones of the least first place, and the first
+/// The first two operations that break a rule: of the least second index, of these the ones of the least first index, and the first
 /// rule that they break.
 pub(crate) fn find_broken(
     alloc: Global,
@@ -38,11 +38,11 @@ pub(crate) fn find_broken(
     requires ranked { AreRanked events.now order.now ranks.now }
     requires sourced { HasSources events.now order.now sources.now.items }
     ensures { IfOk result (λ pair. MatchOption pair
-        (PreservedOrderBy (DependencyRule instructions.now events.now (place order.now)) events.now (place order.now))
-        (λ p. IsFirstBroken p.rule instructions.now events.now (place order.now) p.first p.second)) }
+        (PreservedOrderBy (DependencyRule instructions.now events.now (order_position order.now)) events.now (order_position order.now))
+        (λ p. IsFirstBroken p.rule instructions.now events.now (order_position order.now) p.first p.second)) }
 {
-    let unkept = first_unkept(alloc, instructions, events, order, ranks, sources)?;
-    match unkept {
+    let violation = first_violation(alloc, instructions, events, order, ranks, sources)?;
+    match violation {
         Some(second) => {
             let pair = first_broken_at(instructions, events, order, ranks, sources, second);
             Ok(Some(pair))
@@ -63,8 +63,8 @@ fn first_broken_at(
     requires along { length instructions.now ≡ length events.now }
     requires ranked { AreRanked events.now order.now ranks.now }
     requires sourced { HasSources events.now order.now sources.now.items }
-    requires second { IsFirstUnkept events.now (PreservedAt (DependencyRule instructions.now events.now (place order.now)) events.now (place order.now)) second }
-    ensures { IsFirstBroken result.rule instructions.now events.now (place order.now) result.first result.second }
+    requires second { IsFirstViolation events.now (PreservedAt (DependencyRule instructions.now events.now (order_position order.now)) events.now (order_position order.now)) second }
+    ensures { IsFirstBroken result.rule instructions.now events.now (order_position order.now) result.first result.second }
 {
     match find_broken_at(instructions, events, order, ranks, sources, second) {
         Some(pair) => pair,
@@ -72,7 +72,7 @@ fn first_broken_at(
     }
 }
 
-/// The same with a given second place.
+/// The same with a given second index.
 fn find_broken_at(
     instructions: &[Instr],
     events: &[Event],
@@ -86,8 +86,8 @@ fn find_broken_at(
     requires sourced { HasSources events.now order.now sources.now.items }
     requires within { second < length events.now }
     ensures at { MatchOption result (Unit {0}) (λ p. p.second ≡ second) }
-    ensures first { MatchOption result (NoneBrokenAt instructions.now events.now (place order.now) second second)
-        (λ p. IsFirstBrokenAt p.rule instructions.now events.now (place order.now) p.first second) }
+    ensures first { MatchOption result (NoneBrokenAt instructions.now events.now (order_position order.now) second second)
+        (λ p. IsFirstBrokenAt p.rule instructions.now events.now (order_position order.now) p.first second) }
 {
     for first in 0..second {
         match broken_rule(instructions, events, order, ranks, sources, first, second) {
@@ -104,7 +104,7 @@ fn find_broken_at(
     None
 }
 
-/// The first rule that two places break, if they break one.
+/// The first rule that two indexes break, if they break one.
 fn broken_rule(
     instructions: &[Instr],
     events: &[Event],
@@ -120,9 +120,9 @@ fn broken_rule(
     requires within { second < length events.now }
     requires earlier { first < second }
     ensures { MatchOption result
-        ((rule : OrderRule) → IsBroken rule instructions.now events.now (place order.now) first second → ⊥)
-        (λ rule. IsTurned events.now (place order.now) first second ×
-        IsFirstRule rule instructions.now events.now (place order.now) first second) }
+        ((rule : OrderRule) → IsBroken rule instructions.now events.now (order_position order.now) first second → ⊥)
+        (λ rule. IsTurned events.now (order_position order.now) first second ×
+        IsFirstRule rule instructions.now events.now (order_position order.now) first second) }
 {
     if !is_turned(events, order, ranks, first, second) {
         return None;
@@ -141,7 +141,7 @@ fn is_turned(
     requires ranked { AreRanked events.now order.now ranks.now }
     requires within { second < length events.now }
     requires earlier { first < second }
-    ensures { IsTrue result ↔ IsTurned events.now (place order.now) first second }
+    ensures { IsTrue result ↔ IsTurned events.now (order_position order.now) first second }
 {
     events[first].hart == events[second].hart
         && is_operation(&events[first])

@@ -1,11 +1,11 @@
 ghost use Rattle.std.specs.Prelude.{◌≡◌, ◌↔◌, ◌+◌, ◌<◌, IfOk, IsTrue, MatchOption, length, true, false};
 ghost use Rattle.round_schedule.specs.Positions.{event};
 ghost use Rattle.memory_order.specs.Operations.{is_store};
-ghost use Rattle.memory_order.specs.Orders.{place};
-ghost use Rattle.memory_order.specs.Rvwmo.{AtomicityAxiom, IsPaired, KeepsByte};
+ghost use Rattle.memory_order.specs.Orders.{order_position};
+ghost use Rattle.memory_order.specs.Rvwmo.{AtomicityAxiom, IsPaired, IsUndisturbed};
 ghost use Rattle.order_checker.specs.Checking.{AreReserved};
 ghost use Rattle.order_rules.specs.Orders.{AreRanked, HasSources};
-ghost use Rattle.refusal_reasons.specs.Reasons.{AtomicFor, IsTorn, KeepsBytes, LiesBetween};
+ghost use Rattle.refusal_reasons.specs.Reasons.{AtomicFor, IsTorn, AreUndisturbed, LiesBetween};
 
 use order_checker::{Sources, event_at, last_reserved, listed, paired, position_of};
 use order_rules::{source_of, writes};
@@ -30,8 +30,8 @@ pub(crate) fn find_torn(
 ) -> Result<Option<Pair>, OutOfMemory>
     requires ranked { AreRanked events.now order.now ranks.now }
     requires sourced { HasSources events.now order.now sources.now.items }
-    ensures { IfOk result (λ pair. MatchOption pair (AtomicityAxiom events.now (place order.now))
-        (λ p. IsTorn events.now (place order.now) p.reserve p.conditional)) }
+    ensures { IfOk result (λ pair. MatchOption pair (AtomicityAxiom events.now (order_position order.now))
+        (λ p. IsTorn events.now (order_position order.now) p.reserve p.conditional)) }
 {
     let reserved = last_reserved(alloc, events)?;
     for conditional in 0..events.len() {
@@ -61,15 +61,15 @@ fn find_torn_at(
     requires sourced { HasSources events.now order.now sources.now.items }
     requires reserved { AreReserved events.now (length events.now) reserved.now }
     requires within { conditional < length events.now }
-    ensures { MatchOption result (AtomicFor events.now (place order.now) conditional)
-        (λ l. IsTorn events.now (place order.now) l conditional) }
+    ensures { MatchOption result (AtomicFor events.now (order_position order.now) conditional)
+        (λ l. IsTorn events.now (order_position order.now) l conditional) }
 {
     if !events[conditional].access.stores() {
         return None;
     }
     match paired(events, reserved, conditional) {
         Some(reserve) => {
-            if keeps_bytes(events, order, ranks, sources, reserve, conditional) {
+            if are_undisturbed(events, order, ranks, sources, reserve, conditional) {
                 None
             } else {
                 Some(reserve)
@@ -80,7 +80,7 @@ fn find_torn_at(
 }
 
 /// Whether no other hart stores to a byte of the load at `l` between its source and the SC at `c`.
-fn keeps_bytes(
+fn are_undisturbed(
     events: &[Event],
     order: &[usize],
     ranks: &[usize],
@@ -94,8 +94,8 @@ fn keeps_bytes(
     requires within { c < length events.now }
     requires paired { IsPaired events.now l c }
     requires stores { is_store (event events.now c) ≡ true }
-    ensures kept { result ≡ true → KeepsBytes events.now (place order.now) l c }
-    ensures torn { result ≡ false → IsTorn events.now (place order.now) l c }
+    ensures undisturbed { result ≡ true → AreUndisturbed events.now (order_position order.now) l c }
+    ensures torn { result ≡ false → IsTorn events.now (order_position order.now) l c }
 {
     let event = event_at(events, l);
     if !event.access.loads() {
@@ -104,7 +104,7 @@ fn keeps_bytes(
     let start = event.access.address();
     for k in 0..event.access.byte_count() {
         let source = source_of(events, order, ranks, sources, l, start + k);
-        if !keeps_byte(events, order, ranks, c, start + k, source) {
+        if !is_undisturbed(events, order, ranks, c, start + k, source) {
             return false;
         }
     }
@@ -112,7 +112,7 @@ fn keeps_bytes(
 }
 
 /// Whether no other hart stores to a byte between the store at `source`, or the opening, and the SC at `c`.
-fn keeps_byte(
+fn is_undisturbed(
     events: &[Event],
     order: &[usize],
     ranks: &[usize],
@@ -123,7 +123,7 @@ fn keeps_byte(
     requires ranked { AreRanked events.now order.now ranks.now }
     requires within { c < length events.now }
     requires source { MatchOption source (Unit {0}) (λ s. s < length events.now) }
-    ensures { IsTrue result ↔ KeepsByte events.now (place order.now) c x source }
+    ensures { IsTrue result ↔ IsUndisturbed events.now (order_position order.now) c x source }
 {
     if !precedes(events, order, ranks, source, c) {
         return false;
@@ -146,7 +146,7 @@ fn position_after(
 ) -> usize
     requires ranked { AreRanked events.now order.now ranks.now }
     requires source { MatchOption source (Unit {0}) (λ s. s < length events.now) }
-    ensures { MatchOption source (result ≡ 0) (λ s. result ≡ place order.now s + 1) }
+    ensures { MatchOption source (result ≡ 0) (λ s. result ≡ order_position order.now s + 1) }
 {
     match source {
         Some(s) => position_of(events, order, ranks, s) + 1,
@@ -154,7 +154,7 @@ fn position_after(
     }
 }
 
-/// Whether a store stands before a place, or there is no store.
+/// Whether a store stands before an index, or there is no store.
 fn precedes(
     events: &[Event],
     order: &[usize],
@@ -165,7 +165,7 @@ fn precedes(
     requires ranked { AreRanked events.now order.now ranks.now }
     requires within { c < length events.now }
     requires source { MatchOption source (Unit {0}) (λ s. s < length events.now) }
-    ensures { IsTrue result ↔ MatchOption source (Unit {0}) (λ s. place order.now s < place order.now c) }
+    ensures { IsTrue result ↔ MatchOption source (Unit {0}) (λ s. order_position order.now s < order_position order.now c) }
 {
     match source {
         Some(s) => position_of(events, order, ranks, s) < position_of(events, order, ranks, c),
@@ -187,7 +187,7 @@ fn lies_between(
     requires within { c < length events.now }
     requires source { MatchOption source (Unit {0}) (λ s. s < length events.now) }
     requires store { v < length events.now }
-    ensures { IsTrue result ↔ LiesBetween events.now (place order.now) c x source v }
+    ensures { IsTrue result ↔ LiesBetween events.now (order_position order.now) c x source v }
 {
     if !writes(&events[v].access, x) || events[v].hart == events[c].hart {
         return false;

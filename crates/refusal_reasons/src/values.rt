@@ -3,7 +3,7 @@ ghost use Rattle.pages.specs.Memory.{byte_of};
 ghost use Rattle.round_schedule.specs.Accesses.{byte_read, byte_written, number_or_zero, read_of, written_of};
 ghost use Rattle.round_schedule.specs.Positions.{reads_at, source_byte};
 ghost use Rattle.trace.specs.Traced.{opening_at};
-ghost use Rattle.memory_order.specs.Orders.{place};
+ghost use Rattle.memory_order.specs.Orders.{order_position};
 ghost use Rattle.memory_order.specs.Rvwmo.{LoadValueAxiom};
 ghost use Rattle.order_rules.specs.Orders.{AreRanked, HasSources};
 ghost use Rattle.refusal_reasons.specs.Reasons.{IsRight, IsWrong, IsRightLoad};
@@ -30,8 +30,8 @@ pub(crate) fn find_wrong(
 ) -> Option<ByteRead>
     requires ranked { AreRanked events.now order.now ranks.now }
     requires sourced { HasSources events.now order.now sources.now.items }
-    ensures { MatchOption result (LoadValueAxiom events.now (opening_at opening.now.opening) (place order.now))
-        (λ w. IsWrong events.now (opening_at opening.now.opening) (place order.now) w.load w.address) }
+    ensures { MatchOption result (LoadValueAxiom events.now (opening_at opening.now.opening) (order_position order.now))
+        (λ w. IsWrong events.now (opening_at opening.now.opening) (order_position order.now) w.load w.address) }
 {
     for load in 0..events.len() {
         match find_wrong_at(opening, events, order, ranks, sources, load) {
@@ -54,8 +54,8 @@ fn find_wrong_at(
     requires ranked { AreRanked events.now order.now ranks.now }
     requires sourced { HasSources events.now order.now sources.now.items }
     requires within { load < length events.now }
-    ensures { MatchOption result (IsRightLoad events.now (opening_at opening.now.opening) (place order.now) load)
-        (λ x. IsWrong events.now (opening_at opening.now.opening) (place order.now) load x) }
+    ensures { MatchOption result (IsRightLoad events.now (opening_at opening.now.opening) (order_position order.now) load)
+        (λ x. IsWrong events.now (opening_at opening.now.opening) (order_position order.now) load x) }
 {
     let event = event_at(events, load);
     if !event.access.loads() {
@@ -84,14 +84,14 @@ fn is_right(
     requires sourced { HasSources events.now order.now sources.now.items }
     requires within { load < length events.now }
     requires reads { reads_at events.now load x ≡ true }
-    ensures right { result ≡ true → IsRight events.now (opening_at opening.now.opening) (place order.now) load x }
-    ensures wrong { result ≡ false → IsWrong events.now (opening_at opening.now.opening) (place order.now) load x }
+    ensures right { result ≡ true → IsRight events.now (opening_at opening.now.opening) (order_position order.now) load x }
+    ensures wrong { result ≡ false → IsWrong events.now (opening_at opening.now.opening) (order_position order.now) load x }
 {
     let source = source_of(events, order, ranks, sources, load, x);
     byte_read(&events[load].access, x) == byte_left(opening, events, source, x)
 }
 
-/// The byte at an address that the store at a place left; the opening byte where there is none.
+/// The byte at an address that the store at an index left; the opening byte where there is none.
 fn byte_left(opening: &Trace, events: &[Event], source: Option<usize>, x: u64) -> u8
     requires { MatchOption source (Unit {0}) (λ s. s < length events.now) }
     ensures { result ≡ source_byte events.now (opening_at opening.now.opening) x source }

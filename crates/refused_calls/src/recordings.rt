@@ -6,7 +6,7 @@ use crate::guest::{GUEST, SETTINGS};
 use crate::stage::Stage;
 use hart_step::Hart;
 use host_io::RunError;
-use recording::{HartSummary, Kept, Recording, read_recording};
+use recording::{Checkpoint, HartSummary, Recording, read_recording};
 use replayer::{Replay, Verdict, record, record_with, replay};
 use std::alloc::Global;
 use std::sync::Wait;
@@ -44,9 +44,9 @@ pub(crate) fn try_record<R: Threads + Wait + Sync>(rt: &R, alloc: Global) -> End
 
 /// Whether a recording is that of the guest's run, with registers after each round where `every` is 1.
 fn is_recorded(recording: &Recording, every: u32) -> bool {
-    let has_rounds = match recording.kept() {
+    let has_rounds = match recording.checkpoints() {
         [first, second] => {
-            is_kept(first, Stage::Fenced, every) && is_kept(second, Stage::Ended, every)
+            is_checkpoint(first, Stage::Fenced, every) && is_checkpoint(second, Stage::Ended, every)
         }
         _ => false,
     };
@@ -61,9 +61,9 @@ fn is_recorded(recording: &Recording, every: u32) -> bool {
 }
 
 /// Whether this is kept of the guest at a stage.
-fn is_kept(kept: &Kept, stage: Stage, every: u32) -> bool {
+fn is_checkpoint(checkpoint: &Checkpoint, stage: Stage, every: u32) -> bool {
     let (first, second) = (stage.hart(0), stage.hart(1));
-    let has_registers = match &kept.registers {
+    let has_registers = match &checkpoint.registers {
         None => every == 0,
         Some(lists) => match lists.as_slice() {
             [of_first, of_second] => {
@@ -72,7 +72,7 @@ fn is_kept(kept: &Kept, stage: Stage, every: u32) -> bool {
             _ => false,
         },
     };
-    let summary = &kept.summary;
+    let summary = &checkpoint.summary;
     has_registers
         && (summary.output, summary.trace) == (0, stage.events() as u64)
         && summary.harts.as_slice() == [summary_of(&first), summary_of(&second)].as_slice()
@@ -110,11 +110,11 @@ fn are_exits(recording: &Recording) -> bool {
         code: 1,
         value,
     });
-    let is_round = match recording.kept() {
-        [kept] => {
-            kept.registers.is_none()
-                && (kept.summary.output, kept.summary.trace) == (0, 0)
-                && kept.summary.harts.as_slice() == [first, second].as_slice()
+    let is_round = match recording.checkpoints() {
+        [checkpoint] => {
+            checkpoint.registers.is_none()
+                && (checkpoint.summary.output, checkpoint.summary.trace) == (0, 0)
+                && checkpoint.summary.harts.as_slice() == [first, second].as_slice()
         }
         _ => false,
     };

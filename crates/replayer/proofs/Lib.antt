@@ -2,13 +2,13 @@ pub mod Faults
 pub mod First
 pub mod SeenOf
 pub mod Untraced
-pub mod Kept
-pub mod KeptRounds
+pub mod Checkpoint
+pub mod CheckpointRounds
 pub mod Ranges
 pub mod PastAt
 pub mod Counted
 pub mod Grown
-pub mod KeptMachines
+pub mod CheckpointMachines
 pub mod Verdicts
 pub mod Quotas
 pub mod PastDone

@@ -25,8 +25,8 @@ abbrev pub checkpoints_of : ℕ → ℕ → ℕ
 checkpoints_of every rounds = if every == 0 then 1 else rounds / every + 1
 
 -- machine k is the one after round k * every
-abbrev pub kept_machine : Opened → ℕ → Option Running
-kept_machine o k = if nat_lt k (checkpoints_of o.every o.rounds) then Some (after_rounds (k * o.every) o.start) else None
+abbrev pub checkpoint_machine : Opened → ℕ → Option Running
+checkpoint_machine o k = if nat_lt k (checkpoints_of o.every o.rounds) then Some (after_rounds (k * o.every) o.start) else None
 
 -- these machines are the ones kept of so many rounds from `start` on, without that one
 pub record AreCheckpoints (every rounds : ℕ) (start : Running) (later : List Running) : Type 0 where

@@ -6,7 +6,7 @@ use Rattle.hart_step.specs.declared.hart.Stop.{Stop}
 use Rattle.hart_step.specs.Console.{ConsoleState}
 use Rattle.machine.specs.Machine.{Running, after_round}
 use Rattle.recording.specs.Grammar.{is_due}
-use Rattle.recording.specs.Recorded.{HartSummary, Summary, Kept}
+use Rattle.recording.specs.Recorded.{HartSummary, Summary, Checkpoint}
 use Rattle.replayer.specs.declared.keeping.Seen.{Seen}
 
 -- why a hart has stopped, and 0 while it runs
@@ -32,13 +32,13 @@ abbrev pub registers_of : Hart → List ℕ
 registers_of h = drop 1 h.x
 
 -- what is kept of the state after a round, with registers where they are due
-abbrev pub kept_of : ℕ → State Hart ConsoleState → Kept
-kept_of every s = record { summary = summary_of s; registers = if is_due every s.rounds then Some (map registers_of s.harts) else None }
+abbrev pub checkpoint_of : ℕ → State Hart ConsoleState → Checkpoint
+checkpoint_of every s = record { summary = summary_of s; registers = if is_due every s.rounds then Some (map registers_of s.harts) else None }
 
 -- what is kept of the next n rounds
-unfoldable pub kept_of_rounds : ℕ → ℕ → Running → List Kept
-kept_of_rounds every zero m = []
-kept_of_rounds every (suc n) m = kept_of every (after_round m).state ∷ kept_of_rounds every n (after_round m)
+unfoldable pub checkpoints_of_rounds : ℕ → ℕ → Running → List Checkpoint
+checkpoints_of_rounds every zero m = []
+checkpoints_of_rounds every (suc n) m = checkpoint_of every (after_round m).state ∷ checkpoints_of_rounds every n (after_round m)
 
 -- ---- from what is seen of a state
 
@@ -53,5 +53,5 @@ pub record IsSeenOf (v : Seen) (s : State Hart ConsoleState) : Type 0 where
 abbrev pub summary_in : Seen → Summary
 summary_in v = record { output = v.output; trace = v.trace; harts = map hart_summary_of v.harts.now }
 
-abbrev pub kept_in : ℕ → Seen → Kept
-kept_in every v = record { summary = summary_in v; registers = if is_due every v.round then Some (map registers_of v.harts.now) else None }
+abbrev pub checkpoint_in : ℕ → Seen → Checkpoint
+checkpoint_in every v = record { summary = summary_in v; registers = if is_due every v.round then Some (map registers_of v.harts.now) else None }

@@ -5,34 +5,34 @@ use Rattle.machine.specs.Machine.{Running, after_rounds}
 use Rattle.machine.specs.Untraced.{IsUntraced, Untraced}
 use Rattle.machine.specs.Walks.{HasDone}
 use Rattle.recording.specs.Fields.{HaveEach}
-use Rattle.recording.specs.Grammar.{kept_after}
-use Rattle.recording.specs.Recorded.{Kept}
+use Rattle.recording.specs.Grammar.{checkpoint_after}
+use Rattle.recording.specs.Recorded.{Checkpoint}
 use Rattle.replayer.specs.declared.verdict.Verdict.{Verdict}
 use Rattle.replayer.specs.declared.verdict.Verdict.TheVariants.{Same, Differs}
 use Rattle.replayer.specs.Past.{Begins, IsBefore, IsRoundOf}
 use Rattle.replayer.specs.Replayed.{Agrees}
-use Rattle.replayer.specs.Summaries.{kept_of_rounds}
+use Rattle.replayer.specs.Summaries.{checkpoints_of_rounds}
 
 -- ---- who records
 
 -- this is kept of the rounds that are done, of a run from its first round
-abbrev pub HasRecorded : List Kept → ℕ → Untraced → ℕ → ℕ → Type 0
+abbrev pub HasRecorded : List Checkpoint → ℕ → Untraced → ℕ → ℕ → Type 0
 HasRecorded ks every start rounds done =
     (start.rounds ≡ 0)
     × ((m : Running) × IsUntraced m start)
-    × ((m : Running) → IsUntraced m start → ks ++ kept_of_rounds every (rounds - done) (after_rounds done m) ≡ kept_of_rounds every rounds m)
-    × HaveEach done 1 (kept_after start.plan.harts every) ks
+    × ((m : Running) → IsUntraced m start → ks ++ checkpoints_of_rounds every (rounds - done) (after_rounds done m) ≡ checkpoints_of_rounds every rounds m)
+    × HaveEach done 1 (checkpoint_after start.plan.harts every) ks
 
 -- ---- who compares
 
 -- the first of n rounds after which the run from m has not the state that was kept, or that there is none
-abbrev pub IsVerdictUpTo : List Kept → ℕ → Running → ℕ → Verdict → Type 0
+abbrev pub IsVerdictUpTo : List Checkpoint → ℕ → Running → ℕ → Verdict → Type 0
 IsVerdictUpTo ks every m n Same = (j : ℕ) → 1 ≤ j → j ≤ n → Agrees ks every m j
 IsVerdictUpTo ks every m n (Differs k) = (1 ≤ k) × (k ≤ n) × ((j : ℕ) → 1 ≤ j → j < k → Agrees ks every m j) × (Agrees ks every m k → ⊥)
 
 -- for each round that is to be done something is kept of it, and where the one was the verdict on the rounds of the run before these, the other is the
 -- verdict on those and the ones that are done
-abbrev pub HasCompared : List Kept → ℕ → Verdict → Verdict → Untraced → ℕ → ℕ → Type 0
+abbrev pub HasCompared : List Checkpoint → ℕ → Verdict → Verdict → Untraced → ℕ → ℕ → Type 0
 HasCompared ks every before v start rounds done =
     (start.rounds + rounds ≤ length ks)
     × ((m : Running) → IsUntraced (after_rounds start.rounds m) start → IsVerdictUpTo ks every m start.rounds before → IsVerdictUpTo ks every m (start.rounds + done) v)

@@ -4,7 +4,7 @@ ghost use Rattle.host_io.specs.declared.error.RunError.TheVariants as refusals;
 ghost use Rattle.machine.specs.Machine.{Running, after_rounds};
 ghost use Rattle.machine.specs.Untraced.{IsUntraced};
 ghost use Rattle.recording.specs.Grammar.{is_due};
-ghost use Rattle.replayer.specs.Checkpoints.{AreCheckpoints, IsOpened, checkpoints_of, kept_machine};
+ghost use Rattle.replayer.specs.Checkpoints.{AreCheckpoints, IsOpened, checkpoints_of, checkpoint_machine};
 ghost use Rattle.event_pcs.specs.Pcs.{hart_at};
 ghost use Rattle.replayer.specs.Refusals.{AreNoWorkers, AreWorkers, RefusedInOrder};
 ghost use Rattle.replayer.specs.Replayed.{IsPlanFor, IsVerdict};
@@ -98,8 +98,8 @@ impl Replay {
 
     /// The machine after round `number` times `every`, or `None` from `checkpoints` on.
     pub fn kept(&self, number: usize) -> Option<&Machine>
-        ensures { MatchOption result (kept_machine self.now number ≡
-            None) (λ m. kept_machine self.now number ≡ Some m.now) }
+        ensures { MatchOption result (checkpoint_machine self.now number ≡
+            None) (λ m. checkpoint_machine self.now number ≡ Some m.now) }
     {
         if number == 0 {
             return Some(&self.start);
@@ -186,7 +186,7 @@ fn run_keeping<R: Threads + Wait + Sync>(
     let rounds = recording.rounds();
     let mut nobody = Unobserved;
     let mut comparing = Comparing {
-        kept: recording.kept(),
+        checkpoints: recording.checkpoints(),
         every: recording.every(),
         verdict: Verdict::Same,
         ends: false,

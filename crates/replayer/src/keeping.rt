@@ -4,14 +4,14 @@ ghost use Rattle.machine.specs.Machine.{Running};
 ghost use Rattle.machine.specs.Untraced.{IsUntraced};
 ghost use Rattle.std.specs.Int.{w64};
 ghost use Rattle.recording.specs.Fields.{HaveEach};
-ghost use Rattle.recording.specs.Grammar.{any, hart_summary, kept_after, registers, summary};
-ghost use Rattle.recording.specs.Views.{hart_view, kept_view, registers_view, summary_view};
-ghost use Rattle.replayer.specs.Summaries.{IsSeenOf, code_of, hart_summary_of, kept_in, registers_of, summary_in, value_of};
+ghost use Rattle.recording.specs.Grammar.{any, hart_summary, checkpoint_after, registers, summary};
+ghost use Rattle.recording.specs.Views.{hart_view, checkpoint_view, registers_view, summary_view};
+ghost use Rattle.replayer.specs.Summaries.{IsSeenOf, code_of, hart_summary_of, checkpoint_in, registers_of, summary_in, value_of};
 
 use hart_step::{Hart, Stop};
 use machine::UntracedMachine;
 use pages::OutOfMemory;
-use recording::{HartSummary, Kept, Summary};
+use recording::{Checkpoint, HartSummary, Summary};
 use std::alloc::Global;
 
 /// What is seen of the state after a round, and of no more is anything kept.
@@ -44,11 +44,11 @@ pub(crate) fn seen_of(machine: &UntracedMachine) -> Seen<'_>
 }
 
 /// What is kept of a state, with registers where they are due.
-pub(crate) fn keep(alloc: Global, seen: &Seen<'_>, every: u32) -> Result<Kept, OutOfMemory>
+pub(crate) fn keep(alloc: Global, seen: &Seen<'_>, every: u32) -> Result<Checkpoint, OutOfMemory>
     requires { All (λ h. has_stop h.stop ≡ true) seen.now.harts.now }
-    ensures kept { IfOk result (λ k. kept_view k ≡ kept_in every seen.now) }
+    ensures checkpoint { IfOk result (λ k. checkpoint_view k ≡ checkpoint_in every seen.now) }
     ensures ranges { IfOk result (λ k.
-        (kept_after (length seen.now.harts.now) every seen.now.round).Has (kept_view k)) }
+        (checkpoint_after (length seen.now.harts.now) every seen.now.round).Has (checkpoint_view k)) }
 {
     let summary = summary_of(alloc, seen)?;
     let registers = if every != 0 && seen.round % every == 0 {
@@ -56,7 +56,7 @@ pub(crate) fn keep(alloc: Global, seen: &Seen<'_>, every: u32) -> Result<Kept, O
     } else {
         None
     };
-    Ok(Kept { summary, registers })
+    Ok(Checkpoint { summary, registers })
 }
 
 /// The summary of a state.
@@ -162,13 +162,13 @@ fn copied_registers(alloc: Global, registers: &[u64]) -> Result<Vec<u64>, OutOfM
 }
 
 /// Whether a hart is what was kept of it.
-fn hart_agrees(kept: &HartSummary, hart: &Hart) -> bool
-    ensures { IsTrue result ↔ hart_view kept.now ≡ hart_summary_of hart.now }
+fn hart_agrees(recorded: &HartSummary, hart: &Hart) -> bool
+    ensures { IsTrue result ↔ hart_view recorded.now ≡ hart_summary_of hart.now }
 {
-    kept.pc == hart.pc
-        && kept.done == hart.done
-        && kept.code == code(hart.stop)
-        && kept.value == value(hart.stop)
+    recorded.pc == hart.pc
+        && recorded.done == hart.done
+        && recorded.code == code(hart.stop)
+        && recorded.value == value(hart.stop)
 }
 
 fn code(stop: Option<Stop>) -> u8
@@ -190,10 +190,10 @@ fn value(stop: Option<Stop>) -> u64
 }
 
 /// Whether harts are what was kept of them.
-fn harts_agree(kept: &[HartSummary], harts: &[Hart]) -> bool
-    ensures { IsTrue result ↔ map hart_view kept.now ≡ map hart_summary_of harts.now }
+fn harts_agree(recorded: &[HartSummary], harts: &[Hart]) -> bool
+    ensures { IsTrue result ↔ map hart_view recorded.now ≡ map hart_summary_of harts.now }
 {
-    match (kept, harts) {
+    match (recorded, harts) {
         ([], []) => true,
         ([first, others @ ..], [hart, rest @ ..]) => hart_agrees(first, hart)
             && harts_agree(others, rest),
@@ -202,31 +202,33 @@ fn harts_agree(kept: &[HartSummary], harts: &[Hart]) -> bool
 }
 
 /// Whether a state is what was kept of it, its registers left out.
-fn summary_agrees(kept: &Summary, seen: &Seen<'_>) -> bool
-    ensures { IsTrue result ↔ summary_view kept.now ≡ summary_in seen.now }
+fn summary_agrees(recorded: &Summary, seen: &Seen<'_>) -> bool
+    ensures { IsTrue result ↔ summary_view recorded.now ≡ summary_in seen.now }
 {
-    kept.output == seen.output && kept.trace == seen.trace && harts_agree(&kept.harts, seen.harts)
+    recorded.output == seen.output
+        && recorded.trace == seen.trace
+        && harts_agree(&recorded.harts, seen.harts)
 }
 
 /// Whether a state is what was kept of it.
-pub(crate) fn agrees(kept: &Kept, every: u32, seen: &Seen<'_>) -> bool
-    ensures { IsTrue result ↔ kept_view kept.now ≡ kept_in every seen.now }
+pub(crate) fn agrees(recorded: &Checkpoint, every: u32, seen: &Seen<'_>) -> bool
+    ensures { IsTrue result ↔ checkpoint_view recorded.now ≡ checkpoint_in every seen.now }
 {
-    if !summary_agrees(&kept.summary, seen) {
+    if !summary_agrees(&recorded.summary, seen) {
         return false;
     }
     let due = every != 0 && seen.round % every == 0;
-    match &kept.registers {
+    match &recorded.registers {
         None => !due,
         Some(registers) => due && all_registers_agree(registers, seen.harts),
     }
 }
 
 /// Whether registers x1 to x31 of harts are what was kept of them.
-fn all_registers_agree(kept: &[Vec<u64>], harts: &[Hart]) -> bool
-    ensures { IsTrue result ↔ map (λ r. r.items) kept.now ≡ map registers_of harts.now }
+fn all_registers_agree(recorded: &[Vec<u64>], harts: &[Hart]) -> bool
+    ensures { IsTrue result ↔ map (λ r. r.items) recorded.now ≡ map registers_of harts.now }
 {
-    match (kept, harts) {
+    match (recorded, harts) {
         ([], []) => true,
         ([first, others @ ..], [hart, rest @ ..]) => registers_agree(first, hart)
             && all_registers_agree(others, rest),
@@ -234,19 +236,19 @@ fn all_registers_agree(kept: &[Vec<u64>], harts: &[Hart]) -> bool
     }
 }
 
-fn registers_agree(kept: &Vec<u64>, hart: &Hart) -> bool
-    ensures { IsTrue result ↔ kept.now.items ≡ registers_of hart.now }
+fn registers_agree(recorded: &Vec<u64>, hart: &Hart) -> bool
+    ensures { IsTrue result ↔ recorded.now.items ≡ registers_of hart.now }
 {
     match hart.x.split_first() {
-        Some((_, others)) => are_same(kept.as_slice(), others),
+        Some((_, others)) => are_same(recorded.as_slice(), others),
         None => false,
     }
 }
 
-fn are_same(kept: &[u64], others: &[u64]) -> bool
-    ensures { IsTrue result ↔ kept.now ≡ others.now }
+fn are_same(recorded: &[u64], others: &[u64]) -> bool
+    ensures { IsTrue result ↔ recorded.now ≡ others.now }
 {
-    match (kept, others) {
+    match (recorded, others) {
         ([], []) => true,
         ([first, left @ ..], [other, rest @ ..]) => *first == *other && are_same(left, rest),
         _ => false,

@@ -5,10 +5,10 @@ ghost use Rattle.machine.specs.Machine.{Running};
 ghost use Rattle.run_settings.specs.Settings.{IsInRange, IsPlan, IsReason, RefusedInOrder, settings_fault};
 ghost use Rattle.machine.specs.Untraced.{IsUntraced};
 ghost use Rattle.recording.specs.Fields.{HaveEach};
-ghost use Rattle.recording.specs.Grammar.{kept_after};
-ghost use Rattle.recording.specs.Views.{kept_view};
+ghost use Rattle.recording.specs.Grammar.{checkpoint_after};
+ghost use Rattle.recording.specs.Views.{checkpoint_view};
 ghost use Rattle.replayer.specs.Replayed.{number_of, recorded_of, recorded_with};
-ghost use Rattle.replayer.specs.Summaries.{kept_of_rounds};
+ghost use Rattle.replayer.specs.Summaries.{checkpoints_of_rounds};
 ghost use Rattle.replayer.specs.Visits.{HasRecorded};
 
 use crate::keeping::{keep, seen_of};
@@ -17,7 +17,7 @@ use machine::{
     Format, Next, Observer, Settings, Unobserved, UntracedMachine, Visitor, prepare_untraced,
 };
 use pages::OutOfMemory;
-use recording::{Kept, Parts, Recording};
+use recording::{Checkpoint, Recording, RecordingFields};
 use std::alloc::Global;
 use std::sync::Wait;
 use std::thread::Threads;
@@ -87,7 +87,7 @@ pub fn record_observed<O: Observer, R: Threads + Wait + Sync>(
         IfErr result (λ e. IsReason settings.now image.now e) }
 {
     let mut machine = prepare_untraced(alloc, image, input, settings)?;
-    let kept = keep_rounds(
+    let checkpoints = keep_rounds(
         rt,
         alloc,
         &mut machine,
@@ -96,7 +96,7 @@ pub fn record_observed<O: Observer, R: Threads + Wait + Sync>(
         settings.workers,
         observer,
     )?;
-    recording_of(alloc, image, input, settings, every, kept)
+    recording_of(alloc, image, input, settings, every, checkpoints)
 }
 
 /// What is kept of the next rounds of a machine that was just opened, which does them. It may wait.
@@ -108,25 +108,25 @@ fn keep_rounds<O: Observer, R: Threads + Wait + Sync>(
     every: u32,
     workers: u32,
     observer: &mut O,
-) -> Result<Vec<Kept>, RunError>
+) -> Result<Vec<Checkpoint>, RunError>
     requires workers { (1 ≤ workers) × (workers ≤ 16) }
     requires opened { machine.old.rounds ≡ 0 }
     // The harts of a run have good stops.
     requires run { (m : Running) × IsUntraced m machine.old }
-    ensures kept { (m : Running) → IsUntraced m machine.old →
-        IfOk result (λ v. map kept_view v.items ≡ kept_of_rounds every rounds m) }
+    ensures checkpoints { (m : Running) → IsUntraced m machine.old →
+        IfOk result (λ v. map checkpoint_view v.items ≡ checkpoints_of_rounds every rounds m) }
     ensures ranges { IfOk result (λ v.
-        HaveEach rounds 1 (kept_after machine.old.plan.harts every) (map kept_view v.items)) }
+        HaveEach rounds 1 (checkpoint_after machine.old.plan.harts every) (map checkpoint_view v.items)) }
     ensures refused { IfErr result (λ e. e ≡ refusals.OutOfMemory) }
 {
     let mut recorder = Recorder {
         alloc,
         every,
-        kept: Vec::new(alloc),
+        checkpoints: Vec::new(alloc),
         observer,
     };
     machine.walk(rt, rounds, workers, &mut recorder)?;
-    Ok(recorder.kept)
+    Ok(recorder.checkpoints)
 }
 
 /// Keeps something of each round.
@@ -136,14 +136,14 @@ struct Recorder<'a, O> {
     /// Registers are kept after each round whose number is a multiple of it, and after none where it is 0.
     every: u32,
     /// What is kept of the rounds that are done.
-    kept: Vec<Kept>,
+    checkpoints: Vec<Checkpoint>,
     /// It is shown each round.
     observer: &'a mut O,
 }
 
 impl<'a, O: Observer> Visitor for Recorder<'a, O> {
     ghost knows = { λ first v start rounds done. (v.every ≡ first.every) ×
-        HasRecorded (map kept_view v.kept.items) first.every start rounds done };
+        HasRecorded (map checkpoint_view v.checkpoints.items) first.every start rounds done };
 
     ghost has_enough = { λ v u. ⊥ };
 
@@ -152,7 +152,7 @@ impl<'a, O: Observer> Visitor for Recorder<'a, O> {
     fn after_round(&mut self, machine: &UntracedMachine) -> Result<Next, OutOfMemory> {
         let seen = seen_of(machine);
         let of_round = keep(self.alloc, &seen, self.every)?;
-        self.kept.push(of_round)?;
+        self.checkpoints.push(of_round)?;
         self.observer.after_round(machine);
         Ok(Next::Round)
     }
@@ -165,16 +165,16 @@ fn recording_of(
     input: &[u8],
     settings: &Settings<'_>,
     every: u32,
-    kept: Vec<Kept>,
+    checkpoints: Vec<Checkpoint>,
 ) -> Result<Recording, RunError>
     requires settings { IsInRange settings.now }
-    requires kept { HaveEach settings.now.rounds 1 (kept_after settings.now.harts every)
-        (map kept_view kept.items) }
+    requires checkpoints { HaveEach settings.now.rounds 1 (checkpoint_after settings.now.harts every)
+        (map checkpoint_view checkpoints.items) }
     ensures ok { IfOk result (λ r. r ≡
-        recorded_with settings.now every image.now input.now (map kept_view kept.items)) }
+        recorded_with settings.now every image.now input.now (map checkpoint_view checkpoints.items)) }
     ensures err { IfErr result (λ e. e ≡ refusals.OutOfMemory) }
 {
-    Ok(Recording::of(Parts {
+    Ok(Recording::of(RecordingFields {
         version: 2,
         format: number_of(settings.format),
         harts: settings.harts,
@@ -185,7 +185,7 @@ fn recording_of(
         image: copied(alloc, image)?,
         input: copied(alloc, input)?,
         plan: copied(alloc, settings.plan)?,
-        kept,
+        checkpoints,
     }))
 }
 

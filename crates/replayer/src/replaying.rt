@@ -3,10 +3,10 @@ ghost use Rattle.round_planner.specs.Quotas.{Planned};
 ghost use Rattle.host_io.specs.declared.error.RunError.TheVariants as refusals;
 ghost use Rattle.machine.specs.Machine.{Running};
 ghost use Rattle.machine.specs.Untraced.{IsUntraced};
-ghost use Rattle.recording.specs.Views.{kept_view};
+ghost use Rattle.recording.specs.Views.{checkpoint_view};
 ghost use Rattle.replayer.specs.Refusals.{RefusedInOrder};
 ghost use Rattle.replayer.specs.Replayed.{IsNextVerdict, IsPlanFor, IsVerdict, IsVerdictOn, start_of};
-ghost use Rattle.replayer.specs.Summaries.{kept_in};
+ghost use Rattle.replayer.specs.Summaries.{checkpoint_in};
 ghost use Rattle.replayer.specs.Visits.{HasCompared};
 ghost use Rattle.replayer.specs.declared.verdict.Verdict.TheVariants.{Same};
 
@@ -16,7 +16,7 @@ use crate::verdict::Verdict;
 use host_io::RunError;
 use machine::{Next, Observer, Unobserved, UntracedMachine, Visitor};
 use pages::OutOfMemory;
-use recording::{Kept, Recording};
+use recording::{Checkpoint, Recording};
 use std::alloc::Global;
 use std::sync::Wait;
 use std::thread::Threads;
@@ -63,7 +63,7 @@ pub fn replay_observed<O: Observer, R: Threads + Wait + Sync>(
     first_difference(
         rt,
         &mut machine,
-        recording.kept(),
+        recording.checkpoints(),
         recording.every(),
         workers,
         observer,
@@ -75,26 +75,26 @@ pub fn replay_observed<O: Observer, R: Threads + Wait + Sync>(
 fn first_difference<O: Observer, R: Threads + Wait + Sync>(
     rt: &R,
     machine: &mut UntracedMachine,
-    kept: &[Kept],
+    checkpoints: &[Checkpoint],
     every: u32,
     workers: u32,
     observer: &mut O,
 ) -> Result<Verdict, RunError>
     requires workers { (1 ≤ workers) × (workers ≤ 16) }
     requires opened { machine.old.rounds ≡ 0 }
-    requires rounds { length kept.now < 2 ^ 32 }
+    requires rounds { length checkpoints.now < 2 ^ 32 }
     ensures verdict { (m : Running) → IsUntraced m machine.old →
-        IfOk result (λ v. IsVerdictOn (map kept_view kept.now) every m v) }
+        IfOk result (λ v. IsVerdictOn (map checkpoint_view checkpoints.now) every m v) }
     ensures refused { IfErr result (λ e. e ≡ refusals.OutOfMemory) }
 {
     let mut comparing = Comparing {
-        kept,
+        checkpoints,
         every,
         verdict: Verdict::Same,
         ends: true,
         observer,
     };
-    machine.walk(rt, kept.len() as u32, workers, &mut comparing)?;
+    machine.walk(rt, checkpoints.len() as u32, workers, &mut comparing)?;
     Ok(comparing.verdict)
 }
 
@@ -102,7 +102,7 @@ fn first_difference<O: Observer, R: Threads + Wait + Sync>(
 #[derive(Drop)]
 pub(crate) struct Comparing<'a, O> {
     /// What was kept of all rounds.
-    pub(crate) kept: &'a [Kept],
+    pub(crate) checkpoints: &'a [Checkpoint],
     /// Registers were kept after each round whose number is a multiple of it.
     pub(crate) every: u32,
     /// The verdict on the rounds that are done.
@@ -115,8 +115,8 @@ pub(crate) struct Comparing<'a, O> {
 
 impl<'a, O: Observer> Visitor for Comparing<'a, O> {
     ghost knows = { λ first v start rounds done.
-        (v.kept.now ≡ first.kept.now) × (v.every ≡ first.every) × (v.ends ≡ first.ends) ×
-        HasCompared (map kept_view first.kept.now) first.every first.verdict v.verdict start rounds
+        (v.checkpoints.now ≡ first.checkpoints.now) × (v.every ≡ first.every) × (v.ends ≡ first.ends) ×
+        HasCompared (map checkpoint_view first.checkpoints.now) first.every first.verdict v.verdict start rounds
         done };
 
     ghost has_enough = { λ v u. (v.ends ≡ true) × (v.verdict ≡ Same → ⊥) };
@@ -125,9 +125,9 @@ impl<'a, O: Observer> Visitor for Comparing<'a, O> {
 
     fn after_round(&mut self, machine: &UntracedMachine) -> Result<Next, OutOfMemory> {
         let round = machine.rounds();
-        let kept = &self.kept[round as usize - 1];
+        let checkpoint = &self.checkpoints[round as usize - 1];
         let seen = seen_of(machine);
-        self.verdict = next_verdict(self.verdict, kept, self.every, &seen);
+        self.verdict = next_verdict(self.verdict, checkpoint, self.every, &seen);
         match self.verdict {
             Verdict::Same => {
                 self.observer.after_round(machine);
@@ -140,13 +140,13 @@ impl<'a, O: Observer> Visitor for Comparing<'a, O> {
 }
 
 /// The verdict after one more round, where the one on the rounds before it is this.
-fn next_verdict(before: Verdict, kept: &Kept, every: u32, seen: &Seen<'_>) -> Verdict
-    ensures { IsNextVerdict before (kept_view kept.now ≡
-        kept_in every seen.now) seen.now.round result }
+fn next_verdict(before: Verdict, checkpoint: &Checkpoint, every: u32, seen: &Seen<'_>) -> Verdict
+    ensures { IsNextVerdict before (checkpoint_view checkpoint.now ≡
+        checkpoint_in every seen.now) seen.now.round result }
 {
     match before {
         Verdict::Differs(_) => before,
-        Verdict::Same => if agrees(kept, every, seen) {
+        Verdict::Same => if agrees(checkpoint, every, seen) {
             Verdict::Same
         } else {
             Verdict::Differs(seen.round)

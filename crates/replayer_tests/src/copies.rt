@@ -54,12 +54,12 @@ fn share_after_round_1<R: Threads + Wait + Sync>(
 fn bytes_and_lengths<R: Threads + Wait + Sync>(
     rt: &R,
     machine: &mut Machine,
-    kept: &Machine,
+    earlier: &Machine,
 ) -> Result<((Option<u8>, Option<u8>), (usize, usize)), RunError> {
     machine.run(rt, 1, 1)?;
     Ok((
-        (machine.byte(0x101), kept.byte(0x101)),
-        (machine.trace().len(), kept.trace().len()),
+        (machine.byte(0x101), earlier.byte(0x101)),
+        (machine.trace().len(), earlier.trace().len()),
     ))
 }
 
@@ -68,9 +68,9 @@ fn goes_on_alone<R: Threads + Wait + Sync>(
     rt: &R,
     machine: &mut Machine,
 ) -> Result<((Option<u8>, Option<u8>), (usize, usize)), RunError> {
-    let kept = share_after_round_1(rt, machine)?;
-    let seen = bytes_and_lengths(rt, machine, &kept);
-    drop(kept);
+    let earlier = share_after_round_1(rt, machine)?;
+    let seen = bytes_and_lengths(rt, machine, &earlier);
+    drop(earlier);
     seen
 }
 
@@ -87,16 +87,16 @@ fn machines_that_share_their_pages_go_on_by_themselves(rt: HostRuntime) -> Resul
 /// Whether round 2 of a machine that was kept after round 1 leaves its copy as it is.
 fn leaves<R: Threads + Wait + Sync>(
     rt: &R,
-    kept: &mut Machine,
+    earlier: &mut Machine,
     bare: &UntracedMachine,
 ) -> Result<bool, RunError> {
     let is_copy = bare.rounds() == 1 && bare.events() == 1 && bare.byte(0x101) == Some(0);
-    kept.run(rt, 1, 1)?;
+    earlier.run(rt, 1, 1)?;
     Ok(
         is_copy
-            && kept.byte(0x101) == Some(1)
+            && earlier.byte(0x101) == Some(1)
             && bare.byte(0x101) == Some(0)
-            && kept.trace().len() == 3,
+            && earlier.trace().len() == 3,
     )
 }
 
@@ -104,11 +104,11 @@ fn leaves<R: Threads + Wait + Sync>(
 fn leaves_its_copy<R: Threads + Wait + Sync>(
     rt: &R,
     machine: &mut Machine,
-    kept: &mut Machine,
+    earlier: &mut Machine,
 ) -> Result<bool, RunError> {
     machine.run(rt, 1, 1)?;
-    let bare = kept.copy_untraced()?;
-    let left = leaves(rt, kept, &bare);
+    let bare = earlier.copy_untraced()?;
+    let left = leaves(rt, earlier, &bare);
     drop(bare);
     left
 }
@@ -118,9 +118,9 @@ fn sharer_leaves_its_copy<R: Threads + Wait + Sync>(
     rt: &R,
     machine: &mut Machine,
 ) -> Result<bool, RunError> {
-    let mut kept = share_after_round_1(rt, machine)?;
-    let left = leaves_its_copy(rt, machine, &mut kept);
-    drop(kept);
+    let mut earlier = share_after_round_1(rt, machine)?;
+    let left = leaves_its_copy(rt, machine, &mut earlier);
+    drop(earlier);
     left
 }
 

@@ -3,10 +3,10 @@
 #![tactic(auto)]
 
 #[cfg(test)]
+mod checkpoints;
+#[cfg(test)]
 mod copies;
 #[cfg(test)]
 mod harness;
-#[cfg(test)]
-mod kept;
 #[cfg(test)]
 mod texts;

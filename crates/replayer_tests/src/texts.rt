@@ -17,9 +17,9 @@ static VERSION_2: [u8; 133] = [
 /// The text of the same in version 2 with registers after each round: x11 is 2 in both harts, and x10 the hart's number.
 fn with_registers(alloc: Global) -> Result<Vec<u8>, RunError> {
     let mut text = Vec::new(alloc);
-    for (place, byte) in VERSION_2.iter().enumerate() {
-        let kept = if place == 29 { 1 } else { *byte };
-        text.push(kept).map_err(|_| RunError::OutOfMemory)?;
+    for (index, byte) in VERSION_2.iter().enumerate() {
+        let changed = if index == 29 { 1 } else { *byte };
+        text.push(changed).map_err(|_| RunError::OutOfMemory)?;
     }
     for hart in 0..2u64 {
         for register in 1..32u32 {
@@ -65,7 +65,7 @@ fn both_versions_are_read_and_written_back(rt: HostRuntime) -> Result<(), Fail> 
     assert!(rt;
         first.image() == [0x93, 8, 0, 0, 0x73, 0, 0, 0].as_slice() && first.input().is_empty()
     );
-    assert!(rt; first.plan() == b"4\n".as_slice() && first.kept().len() == 1);
+    assert!(rt; first.plan() == b"4\n".as_slice() && first.checkpoints().len() == 1);
     assert!(rt; is_written_back(alloc, &VERSION_1));
     assert!(rt; is_written_back(alloc, &VERSION_2));
     let long = with_registers(alloc)?;

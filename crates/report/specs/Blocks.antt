@@ -12,7 +12,7 @@ use Rattle.report_lines.specs.Rows.{memory_rows}
 abbrev pub pages_text : List ℕ → ℕ → ℕ → List ℕ
 pages_text bytes first count = memory_rows (4096 * first) (drop (4096 * first) bytes) (256 * count)
 
--- the lines of the block that begins with the event at a place
+-- the lines of the block that begins with the event at an index
 abbrev pub block_text : List Event → ℕ → List ℕ
 block_text es start = events_text (take 1024 (drop start es))
 

@@ -8,9 +8,9 @@ use Rattle.memory_order.specs.Rvwmo.{MeetsRvwmo}
 use Rattle.trace.specs.Traced.{Traced, opening_at}
 use Rattle.report.specs.Report.{events_text}
 
--- the lines of the events at these places of a trace, in the order of the places
-abbrev pub places_text : List Event → List ℕ → List ℕ
-places_text t g = events_text (map (event t) g)
+-- the lines of the events at these indexes of a trace, in the order of the indexes
+abbrev pub indexed_text : List Event → List ℕ → List ℕ
+indexed_text t g = events_text (map (event t) g)
 
 -- whether the order was found to meet the memory model
 abbrev pub checked_text : Bool → List ℕ
@@ -19,7 +19,7 @@ checked_text false = codes "checked no\n"
 
 -- `order` with the number of operations, the lines of these in their order, and what was found
 unfoldable pub order_text : List Event → List ℕ → Bool → List ℕ
-order_text t g answer = codes "order " ++ decimal (length g) ++ codes "\n" ++ places_text t g ++ checked_text answer
+order_text t g answer = codes "order " ++ decimal (length g) ++ codes "\n" ++ indexed_text t g ++ checked_text answer
 
 -- the order by rounds of a trace, and whether it meets RVWMO
 pub record IsCheckedOrder (t : Traced) (g : List ℕ) (answer : Bool) : Type 0 where

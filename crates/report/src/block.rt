@@ -52,19 +52,19 @@ impl<B: PutBody> Block<B> {
         }
     }
 
-    /// Formats a piece, in a line that is taken for its room if there is one.
+    /// Formats a piece, in a line that is taken for its capacity if there is one.
     pub(crate) fn format(
         alloc: Global,
         pages: &Pages,
         trace: &Trace,
         piece: Piece,
-        room: Option<Line>,
+        spare: Option<Line>,
     ) -> Result<Block<B>, OutOfMemory>
         requires bytes { pages.now.memory.bytes ≡ B.bytes }
         requires events { trace.now.events ≡ B.events }
         ensures { IfOk result (λ b. b.piece ≡ piece) }
     {
-        let mut text = emptied(alloc, room)?;
+        let mut text = emptied(alloc, spare)?;
         piece.add_to(&mut text, pages, trace)?;
         Ok(Block::new(piece, text))
     }
@@ -85,10 +85,10 @@ impl<B: PutBody> Block<B> {
 }
 
 /// A line with no text: one that was put already, or one with room for a block.
-fn emptied(alloc: Global, room: Option<Line>) -> Result<Line, OutOfMemory>
+fn emptied(alloc: Global, spare: Option<Line>) -> Result<Line, OutOfMemory>
     ensures { IfOk result (λ l. l ≡ []) }
 {
-    match room {
+    match spare {
         Some(mut line) => {
             line.clear();
             Ok(line)

@@ -15,23 +15,23 @@ const SLOTS: usize = 32;
 enum Slot<B: PutBody> {
     /// Nothing.
     Empty,
-    /// A line that was put, for its room.
-    Room(Line),
+    /// A line that was put, for its capacity.
+    Spare(Line),
     /// A block that is still to be put, or that memory for it was refused.
     Formatted(Result<Block<B>, OutOfMemory>),
 }
 
-/// A block that one worker is to format, and a line for its room if there is one.
+/// A block that one worker is to format, and a spare line if there is one.
 #[derive(Drop)]
 pub(crate) struct Claim {
     number: usize,
-    room: Option<Line>,
+    spare: Option<Line>,
 }
 
 impl Claim {
-    /// Which block it is, and the room.
-    pub(crate) fn into_parts(self) -> (usize, Option<Line>) {
-        (self.number, self.room)
+    /// Which block it is, and the spare line.
+    pub(crate) fn into_fields(self) -> (usize, Option<Line>) {
+        (self.number, self.spare)
     }
 }
 
@@ -96,14 +96,14 @@ impl<B: PutBody> Desk<B> {
             return None;
         }
         self.claimed = number + 1;
-        let room = self.room(number);
-        Some(Claim { number, room })
+        let spare = self.spare(number);
+        Some(Claim { number, spare })
     }
 
-    /// The line that lies in the slot of a block, for its room.
-    fn room(&mut self, number: usize) -> Option<Line> {
+    /// The line that lies in the slot of a block, for its capacity.
+    fn spare(&mut self, number: usize) -> Option<Line> {
         match self.take(number) {
-            Slot::Room(line) => Some(line),
+            Slot::Spare(line) => Some(line),
             _ => None,
         }
     }
@@ -125,7 +125,7 @@ impl<B: PutBody> Desk<B> {
         let put = self.put;
         match self.take(put) {
             Slot::Formatted(block) => Some(block),
-            // The room is for who claims that block.
+            // The spare line is for who claims that block.
             other => {
                 let slot = self.slot_of(put);
                 self.slots[slot] = other;
@@ -134,10 +134,10 @@ impl<B: PutBody> Desk<B> {
         }
     }
 
-    /// Counts the next block as put, and keeps its line for its room.
+    /// Counts the next block as put, and leaves its line as a spare one.
     pub(crate) fn count(&mut self, line: Line) {
         let slot = self.slot_of(self.put);
-        self.slots[slot] = Slot::Room(line);
+        self.slots[slot] = Slot::Spare(line);
         self.put = self.put.saturating_add(1);
     }
 

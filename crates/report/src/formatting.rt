@@ -128,9 +128,9 @@ impl<'a, B: PutBody> Formatting<'a, B> {
 
     /// Formats a block, and lays it into its slot.
     pub(crate) fn format_and_lay<R: Wait>(&self, rt: &R, claim: Claim) {
-        let (number, room) = claim.into_parts();
+        let (number, spare) = claim.into_fields();
         let piece = self.cut.piece(number);
-        let block = Block::format(self.alloc, self.pages, self.trace, piece, room);
+        let block = Block::format(self.alloc, self.pages, self.trace, piece, spare);
         self.desk.lock(rt).lay(number, block);
         self.moved.notify_all();
     }
@@ -160,7 +160,7 @@ impl<'a, B: PutBody> Formatting<'a, B> {
         Ok(own.into_text())
     }
 
-    /// Counts a block as put, and keeps its line for its room.
+    /// Counts a block as put, and leaves its line as a spare one.
     pub(crate) fn count<R: Wait>(&self, rt: &R, line: Line) {
         self.desk.lock(rt).count(line);
         self.moved.notify_all();

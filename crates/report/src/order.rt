@@ -3,7 +3,7 @@ ghost use Rattle.host_io.specs.Taken.{BeganText};
 ghost use Rattle.round_schedule.specs.RoundTrace.{IsRoundTrace};
 ghost use Rattle.memory_order.specs.Rvwmo.{MeetsRvwmo};
 ghost use Rattle.trace.specs.Traced.{opening_at};
-ghost use Rattle.report.specs.Order.{IsCheckedOrder, checked_text, order_text, places_text};
+ghost use Rattle.report.specs.Order.{IsCheckedOrder, checked_text, order_text, indexed_text};
 ghost use Rattle.report.specs.Pending.{Puts};
 
 use crate::state::{put_count, put_event};
@@ -15,18 +15,18 @@ use report_lines::{Line, Tail};
 use std::alloc::Global;
 use trace::Trace;
 
-fn put_places<S: Sink>(
+fn put_indexed<S: Sink>(
     out: &mut S,
     line: &mut Line,
     trace: &Trace,
-    places: &[usize],
+    indexes: &[usize],
 ) -> Result<(), RunError>
-    requires { All (λ place. place < length trace.now.events) places.now }
-    ensures { Puts S.took S.failures (places_text trace.now.events places.now) out.old line.old result out.new line.new }
+    requires { All (λ index. index < length trace.now.events) indexes.now }
+    ensures { Puts S.took S.failures (indexed_text trace.now.events indexes.now) out.old line.old result out.new line.new }
 {
     let mut tail = Tail::new();
-    for place in places {
-        put_event(out, line, &mut tail, &trace.event(*place))?;
+    for index in indexes {
+        put_event(out, line, &mut tail, &trace.event(*index))?;
     }
     Ok(())
 }
@@ -53,15 +53,15 @@ fn put_order<S: Sink>(
     out: &mut S,
     line: &mut Line,
     trace: &Trace,
-    places: &[usize],
+    indexes: &[usize],
     checked: bool,
 ) -> Result<(), RunError>
-    requires { All (λ place. place < length trace.now.events) places.now }
-    ensures wrote { Puts S.took S.failures (order_text trace.now.events places.now checked) out.old line.old result out.new line.new }
+    requires { All (λ index. index < length trace.now.events) indexes.now }
+    ensures wrote { Puts S.took S.failures (order_text trace.now.events indexes.now checked) out.old line.old result out.new line.new }
     ensures empty { OnOk result (line.new ≡ []) }
 {
-    put_count(out, line, "order ", places.len() as u64)?;
-    put_places(out, line, trace, places)?;
+    put_count(out, line, "order ", indexes.len() as u64)?;
+    put_indexed(out, line, trace, indexes)?;
     put_checked(out, line, checked)
 }
 

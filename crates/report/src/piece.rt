@@ -15,7 +15,7 @@ pub(crate) const EVENTS: usize = 1_024;
 pub(crate) enum Piece {
     /// Those of so many pages from one on, or of those that are left.
     Pages { first: u32, count: u32 },
-    /// Those of 1,024 events from a place on, or of those that are left.
+    /// Those of 1,024 events from an index on, or of those that are left.
     Events { start: usize },
 }
 
@@ -49,7 +49,7 @@ fn add_pages(line: &mut Line, pages: &Pages, first: u32, count: u32) -> Result<(
     Ok(())
 }
 
-/// Adds the lines of the events from a place on.
+/// Adds the lines of the events from an index on.
 fn add_events(line: &mut Line, trace: &Trace, start: usize) -> Result<(), OutOfMemory>
     requires { line.old ≡ [] }
     ensures { OnOk result (line.new ≡ block_text trace.now.events start) }

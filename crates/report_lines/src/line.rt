@@ -10,7 +10,7 @@ use std::marker::Model;
 /// How many bytes the line of 16 bytes of memory has: 8 digits, a blank, 32 digits and its end.
 const ROW_BYTES: usize = 42;
 
-/// Text on its way to a sink: bytes that are kept until they are taken out.
+/// Text on its way to a sink: bytes that stay until they are taken out.
 #[derive(Drop)]
 pub struct Line {
     bytes: Vec<u8>,
@@ -103,9 +103,9 @@ impl Line {
     pub fn decimal(&mut self, number: u64) -> Result<(), OutOfMemory>
         ensures { OnOk result (self.new ≡ self.old ++ decimal number) }
     {
-        let mut room = [0; 20];
-        let start = write_digits(number, &mut room, 20);
-        self.bytes(&room[start..])
+        let mut buffer = [0; 20];
+        let start = write_digits(number, &mut buffer, 20);
+        self.bytes(&buffer[start..])
     }
 
     /// Adds the low digits of a number in hexadecimal, lower case, as many as asked for.
@@ -113,56 +113,56 @@ impl Line {
         requires { digits ≤ 16 }
         ensures { OnOk result (self.new ≡ self.old ++ hex digits number) }
     {
-        let mut room = [b'0'; 16];
-        let text = &mut room[..digits];
+        let mut buffer = [b'0'; 16];
+        let text = &mut buffer[..digits];
         write_hex(text, number);
         self.bytes(text)
     }
 }
 
-/// Fills the room with the low digits of a number in hexadecimal.
+/// Fills the buffer with the low digits of a number in hexadecimal.
 #[inline]
-pub(crate) fn write_hex(room: &mut [u8], number: u64)
-    ensures { room.new ≡ hex (length room.old) number }
+pub(crate) fn write_hex(buffer: &mut [u8], number: u64)
+    ensures { buffer.new ≡ hex (length buffer.old) number }
 {
     let mut rest = number;
-    let mut place = room.len();
-    while place >= 2 {
-        place -= 2;
+    let mut index = buffer.len();
+    while index >= 2 {
+        index -= 2;
         let (high, low) = digits_of((rest % 256) as u8);
-        room[place + 1] = low;
-        room[place] = high;
+        buffer[index + 1] = low;
+        buffer[index] = high;
         rest /= 256;
     }
-    if place == 1 {
+    if index == 1 {
         let (_, low) = digits_of((rest % 256) as u8);
-        room[0] = low;
+        buffer[0] = low;
     }
 }
 
-/// Fills the room with the line of the 16 bytes from an address on.
+/// Fills the buffer with the line of the 16 bytes from an address on.
 #[inline(always)]
-fn write_row(room: &mut [u8], address: u64, row: &[u8])
-    requires room { length room.old ≡ 42 }
+fn write_row(buffer: &mut [u8], address: u64, row: &[u8])
+    requires buffer { length buffer.old ≡ 42 }
     requires row { length row.now ≡ 16 }
-    ensures { room.new ≡ hex 8 address ++ codes " " ++ bytes_text row.now ++ codes "\n" }
+    ensures { buffer.new ≡ hex 8 address ++ codes " " ++ bytes_text row.now ++ codes "\n" }
 {
-    write_hex(&mut room[..8], address);
-    room[8] = b' ';
-    write_bytes(&mut room[9..41], row);
-    room[41] = b'\n';
+    write_hex(&mut buffer[..8], address);
+    buffer[8] = b' ';
+    write_bytes(&mut buffer[9..41], row);
+    buffer[41] = b'\n';
 }
 
-/// Fills the room with bytes, two digits each.
+/// Fills the buffer with bytes, two digits each.
 #[inline(always)]
-pub(crate) fn write_bytes(room: &mut [u8], bytes: &[u8])
-    requires { length room.old ≡ 2 * length bytes.now }
-    ensures { room.new ≡ bytes_text bytes.now }
+pub(crate) fn write_bytes(buffer: &mut [u8], bytes: &[u8])
+    requires { length buffer.old ≡ 2 * length bytes.now }
+    ensures { buffer.new ≡ bytes_text bytes.now }
 {
-    for (place, byte) in bytes.iter().enumerate() {
+    for (index, byte) in bytes.iter().enumerate() {
         let (high, low) = digits_of(*byte);
-        room[2 * place] = high;
-        room[2 * place + 1] = low;
+        buffer[2 * index] = high;
+        buffer[2 * index + 1] = low;
     }
 }
 
@@ -172,8 +172,8 @@ fn digits_of(byte: u8) -> (u8, u8)
     ensures high { result.0 ≡ hex_digit (byte / 16) }
     ensures low { result.1 ≡ hex_digit (byte % 16) }
 {
-    let place = 2 * byte as usize;
-    (PAIRS[place], PAIRS[place + 1])
+    let index = 2 * byte as usize;
+    (PAIRS[index], PAIRS[index + 1])
 }
 
 /// The digits of all bytes. A table takes no branch, and one of pairs takes half as many steps as one of digits.

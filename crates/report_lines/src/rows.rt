@@ -50,8 +50,8 @@ fn bytes(line: &mut Line, bytes: &[u8]) -> Result<(), OutOfMemory>
     requires { length bytes.now ≤ 32 }
     ensures { OnOk result (line.new ≡ line.old ++ bytes_text bytes.now) }
 {
-    let mut room = [0; 64];
-    let text = &mut room[..2 * bytes.len()];
+    let mut buffer = [0; 64];
+    let text = &mut buffer[..2 * bytes.len()];
     write_bytes(text, bytes);
     line.bytes(text)
 }

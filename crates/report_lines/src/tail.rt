@@ -10,27 +10,27 @@ use std::marker::Model;
 const BEYOND: usize = 128;
 
 /// How many bytes a tail has room for.
-const ROOM: usize = 2 * BEYOND;
+const SIZE: usize = 2 * BEYOND;
 
 /// The end of a line, written from its last byte to its first: so the digits of a number are written where they stay, in
 /// the order in which divisions give them, and no piece of the line asks for memory. Further bytes follow the text, so that a
 /// block of one length has it all, whatever its own length is.
 #[derive(Drop)]
 pub struct Tail {
-    room: [u8; ROOM],
+    buffer: [u8; SIZE],
     start: usize,
 }
 
 impl Model for Tail {
     ghost Value = { List ℕ };
 
-    ghost view = { λ t. drop t.start t.room };
+    ghost view = { λ t. drop t.start t.buffer };
 
     ghost invariant = { λ t. t.start ≤ 256 };
 }
 
-// Each method sets `start` last, so that the next one finds it in a register: after a write to the room LLVM would load it
-// again, since it doesn't see that the write stays in the room.
+// Each method sets `start` last, so that the next one finds it in a register: after a write to the buffer LLVM would load it
+// again, since it doesn't see that the write stays in the buffer.
 impl Tail {
     /// No text.
     #[inline]
@@ -38,7 +38,7 @@ impl Tail {
         ensures { length result ≡ 128 }
     {
         Tail {
-            room: [0; ROOM],
+            buffer: [0; SIZE],
             start: BEYOND,
         }
     }
@@ -66,7 +66,7 @@ impl Tail {
         requires { 128 ≤ length self.now }
         ensures { result.now ≡ take 128 self.now }
     {
-        &self.room[self.start..self.start + BEYOND]
+        &self.buffer[self.start..self.start + BEYOND]
     }
 
     /// Adds text at the front.
@@ -76,7 +76,7 @@ impl Tail {
         ensures { self.new ≡ text.now ++ self.old }
     {
         let start = self.start - text.len();
-        self.room[start..self.start].copy_from_slice(text.as_bytes());
+        self.buffer[start..self.start].copy_from_slice(text.as_bytes());
         self.start = start;
     }
 
@@ -87,7 +87,7 @@ impl Tail {
         ensures text { self.new ≡ decimal number ++ self.old }
         ensures length { length self.new ≤ 20 + length self.old }
     {
-        self.start = write_digits(number, &mut self.room, self.start);
+        self.start = write_digits(number, &mut self.buffer, self.start);
     }
 
     /// Adds the low digits of a number in hexadecimal at the front, lower case, as many as asked for.
@@ -98,7 +98,7 @@ impl Tail {
         ensures length { length self.new ≡ digits + length self.old }
     {
         let start = self.start - digits;
-        write_hex(&mut self.room[start..self.start], number);
+        write_hex(&mut self.buffer[start..self.start], number);
         self.start = start;
     }
 }

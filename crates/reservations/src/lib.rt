@@ -2,7 +2,7 @@
 #![tactic(auto)]
 
 mod overlap;
-mod table;
+mod reservations;
 
+pub use reservations::Reservations;
 pub use round_schedule::Span;
-pub use table::Reservations;

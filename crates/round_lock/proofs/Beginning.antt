@@ -7,7 +7,7 @@ use lib.ListN.{get_elem?}
 use Rattle.atomic_table.specs.Table.{opening}
 use Rattle.round_lock.specs.declared.sitter.Size.{Size}
 use Rattle.round_lock.specs.Lists.{Each}
-use Rattle.round_lock.specs.Rule.{Fits, Kept, View}
+use Rattle.round_lock.specs.Rule.{Fits, BookHolds, View}
 use Rattle.round_lock.specs.Sitters.{held, newcomer, newcomers, newcomers_from, numbered, one, sum_in}
 use Rattle.round_lock.proofs.Sums.{numbered_at, numbered_other}
 
@@ -55,7 +55,7 @@ module _ {S E : Type 0} (items : S → List E) (room : S → ℕ) (hart seat : E
   first_fits vs (suc j) v e at = absurd (some-ne-none v (sym at))
 
   pub opens : size.harts < 2 ^ 32 → size.seats < 2 ^ 32 → (v : S) → items v ≡ [] → size.harts ≤ room v
-      → Kept items room hart seat size (opening (0 ∷ 0 ∷ []) (v ∷ []) (newcomers size.harts size.seats))
+      → BookHolds items room hart seat size (opening (0 ∷ 0 ∷ []) (v ∷ []) (newcomers size.harts size.seats))
   opens harts seats v empty wide = let h = none_held E size.harts 0 size.seats in let a = all_new E size.harts 0 size.seats in record {
     owners = [];
     log = [];

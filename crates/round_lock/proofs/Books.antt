@@ -11,7 +11,7 @@ use Rattle.round_lock.specs.declared.sitter.Size.{Size}
 use Rattle.round_lock.specs.Histories.{of_seat}
 use Rattle.round_lock.specs.Known.{AllParted, IsMade, Known, claimed_by, known, numbers, seated}
 use Rattle.round_lock.specs.Lists.{Begins, Each, has}
-use Rattle.round_lock.specs.Rule.{Kept, View}
+use Rattle.round_lock.specs.Rule.{BookHolds, View}
 use Rattle.round_lock.specs.Seats.{Counted}
 use Rattle.round_lock.specs.Sitters.{first_of, newcomer, newcomers_from, sitter}
 use Rattle.round_lock.proofs.Ending.{Closing, claimed_from, closes, parted}
@@ -28,11 +28,11 @@ one_less (suc l) lt = (l, refl)
 
 module _ {S E : Type 0} (items : S → List E) (room : S → ℕ) (hart seat : E → ℕ) (size : Size) where
   -- the book is closed with all seats in one view
-  pub closed : (id : ℕ) (all ks : List (Known E)) (view : View E) (ws : List ℕ) (xs : List S) (v : S) → Final (Seen (Kept items room hart seat size) id view) ws xs
+  pub closed : (id : ℕ) (all ks : List (Known E)) (view : View E) (ws : List ℕ) (xs : List S) (v : S) → Final (Seen (BookHolds items room hart seat size) id view) ws xs
       → view ≡ map seated ks → all ≡ ks → length all ≡ size.seats → get_elem? xs 0 ≡ some v → Closing items room hart seat size all (items v)
   closed id all ks view ws xs v final view_is same long taken =
       closes items room hart seat size id all ws xs v
-      (subst (λ (u : View E). Final (Seen (Kept items room hart seat size) id u) ws xs) (view_is ∙ ap (map seated) (sym same)) final) long taken
+      (subst (λ (u : View E). Final (Seen (BookHolds items room hart seat size) id u) ws xs) (view_is ∙ ap (map seated) (sym same)) final) long taken
 
   pub begins_of : (ks : List (Known E)) (log : List E) → Closing items room hart seat size ks log → Each (λ k. Begins k.seen log) ks
   begins_of ks log c = each_map (λ k. (Begins k.seen log) × (k.own ≡ of_seat hart seat k.number log) × (k.ended ≡ true → length c.owners ≡ size.harts)) (λ k. Begins k.seen log) ks

@@ -9,7 +9,7 @@ use Rattle.atomic_table.proofs.Lists.{at_last, at_longer}
 use Rattle.round_lock.specs.declared.sitter.Sitter.{Sitter}
 use Rattle.round_lock.specs.declared.sitter.Size.{Size}
 use Rattle.round_lock.specs.Lists.{Each, has}
-use Rattle.round_lock.specs.Rule.{AtRest, Claimed, Fits, Kept, View}
+use Rattle.round_lock.specs.Rule.{AtRest, Claimed, Fits, BookHolds, View}
 use Rattle.round_lock.specs.Sitters.{held, late, numbered, one, sitter, sum_of, with_claim, with_end}
 use Rattle.round_lock.proofs.Lists.{each_append, each_map, elem_below, elem_snoc, has_last, has_left, has_snoc, lacks_from}
 use Rattle.round_lock.proofs.Sums.{late_by, late_one, same_sum, sum_le, sum_set}
@@ -21,8 +21,8 @@ le_from_counts {harts} owners n now le counts = dite (dec_le harts (length owner
 
 module _ {S E : Type 0} (items : S → List E) (room : S → ℕ) (hart seat : E → ℕ) (size : Size) where
   -- the next hart is claimed
-  claim_one : (s : State S (View E)) (k : Kept items room hart seat size s) (id : ℕ) (x : Sitter E) (n : ℕ) → get_elem? s.views id ≡ some (x ∷ [])
-      → get_or s.words 1 0 ≡ n → n < size.harts → (cs : List (ℕ × S)) → Kept items room hart seat size (stepped s 1 (n + 1) id cs (with_claim n x ∷ []) keeps)
+  claim_one : (s : State S (View E)) (k : BookHolds items room hart seat size s) (id : ℕ) (x : Sitter E) (n : ℕ) → get_elem? s.views id ≡ some (x ∷ [])
+      → get_or s.words 1 0 ≡ n → n < size.harts → (cs : List (ℕ × S)) → BookHolds items room hart seat size (stepped s 1 (n + 1) id cs (with_claim n x ∷ []) keeps)
   claim_one s k id x n at now lt cs =
       let f = (k.fits id (x ∷ []) at).0 in
       let y : Sitter E = with_claim n x in
@@ -83,9 +83,9 @@ module _ {S E : Type 0} (items : S → List E) (room : S → ℕ) (hart seat : E
       }
 
   -- every hart is claimed already, and the seat ends
-  claim_none : (s : State S (View E)) (k : Kept items room hart seat size s) (id : ℕ) (x : Sitter E) (n : ℕ) → get_elem? s.views id ≡ some (x ∷ [])
+  claim_none : (s : State S (View E)) (k : BookHolds items room hart seat size s) (id : ℕ) (x : Sitter E) (n : ℕ) → get_elem? s.views id ≡ some (x ∷ [])
       → get_or s.words 1 0 ≡ n → size.harts ≤ n → x.ended ≡ false → (cs : List (ℕ × S))
-      → (n + 1 < 2 ^ 64) × Kept items room hart seat size (stepped s 1 (n + 1) id cs (with_end x ∷ []) keeps)
+      → (n + 1 < 2 ^ 64) × BookHolds items room hart seat size (stepped s 1 (n + 1) id cs (with_end x ∷ []) keeps)
   claim_none s k id x n at now le live cs =
       let f = (k.fits id (x ∷ []) at).0 in
       let y : Sitter E = with_end x in
@@ -138,14 +138,14 @@ module _ {S E : Type 0} (items : S → List E) (room : S → ℕ) (hart seat : E
       )
 
   pub claims : (slots id : ℕ) (m : Me S (View E)) → AtRest m → (sitter m.0).ended ≡ false
-      → Allows (Kept items room hart seat size) slots id m 1 (λ n. (n + 1) % 2 ^ 64) (Claimed items room hart seat (step slots 1 1 0 none) m)
+      → Allows (BookHolds items room hart seat size) slots id m 1 (λ n. (n + 1) % 2 ^ 64) (Claimed items room hart seat (step slots 1 1 0 none) m)
   claims slots id m rest live s k long at fits_word =
       let x : Sitter E = sitter m.0 in
       let n : ℕ = get_or s.words 1 0 in
       let at' : get_elem? s.views id ≡ some (x ∷ []) = at ∙ ap some rest.alone in
       let f = (k.fits id (x ∷ []) at').0 in
       let small = k.small in
-      let K : Sitter E → ℕ → Type 0 = λ y w. Kept items room hart seat size (stepped s 1 w id m.1 (y ∷ []) keeps) in
+      let K : Sitter E → ℕ → Type 0 = λ y w. BookHolds items room hart seat size (stepped s 1 w id m.1 (y ∷ []) keeps) in
       dite (dec_le size.harts n)
       (λ le. let r = claim_none s k id x n at' refl le live m.1 in
       (with_end x ∷ [], keeps, tt, subst (K (with_end x)) (sym (mod-eq_of_lt r.0)) r.1, (refl, (λ lt. absurd (let h = f.harts_are in omega arith)), (λ _. refl))))

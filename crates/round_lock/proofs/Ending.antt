@@ -10,7 +10,7 @@ use Rattle.round_lock.specs.declared.sitter.Size.{Size}
 use Rattle.round_lock.specs.Histories.{harts_of, of_seat}
 use Rattle.round_lock.specs.Known.{AllParted, Known, Owns, Parted, claimed_by, numbers, seated}
 use Rattle.round_lock.specs.Lists.{Apart, Begins, Each, has}
-use Rattle.round_lock.specs.Rule.{Fits, Kept, View}
+use Rattle.round_lock.specs.Rule.{Fits, BookHolds, View}
 use Rattle.round_lock.specs.Sitters.{held, numbered, one, sum_in, sum_of}
 use Rattle.round_lock.proofs.Lists.{each_both, each_map, each_unmapped, elem_one, has_head, has_tail, has_cases, lacks_from}
 use Rattle.round_lock.proofs.Sums.{held_one, length_in, none_numbered, numbered_at, numbered_other, numbered_self, sum_le, sum_set}
@@ -89,7 +89,7 @@ module _ {S E : Type 0} (items : S → List E) (room : S → ℕ) (hart seat : E
     pub owns : Each (Owns owners) ks
     pub single : (n : ℕ) → sum_in (numbered n) (map seated ks) ≤ 1
 
-  pub closes : (id : ℕ) (ks : List (Known E)) (ws : List ℕ) (xs : List S) (v : S) → Final (Seen (Kept items room hart seat size) id (map seated ks)) ws xs → length ks ≡ size.seats
+  pub closes : (id : ℕ) (ks : List (Known E)) (ws : List ℕ) (xs : List S) (v : S) → Final (Seen (BookHolds items room hart seat size) id (map seated ks)) ws xs → length ks ≡ size.seats
       → get_elem? xs 0 ≡ some v → Closing ks (items v)
   closes id ks ws xs v final long taken =
       let s : State S (View E) = final.0 in

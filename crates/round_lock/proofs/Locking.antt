@@ -13,7 +13,7 @@ use Rattle.round_lock.specs.declared.sitter.Sitter.{Sitter}
 use Rattle.round_lock.specs.declared.sitter.Size.{Size}
 use Rattle.round_lock.specs.Histories.{IsHistory, harts_of, of_seat}
 use Rattle.round_lock.specs.Lists.{Apart, Begins, Each, has}
-use Rattle.round_lock.specs.Rule.{Acquired, AtRest, Fits, GotLock, Kept, Released, View}
+use Rattle.round_lock.specs.Rule.{Acquired, AtRest, Fits, GotLock, BookHolds, Released, View}
 use Rattle.round_lock.specs.Sitters.{held, late, numbered, one, sitter, sum_of, with_lock, with_puts}
 use Rattle.round_lock.proofs.Lists.{apart_snoc, begins_more, begins_same, drop_begin, each_append, elem_below}
 use Rattle.round_lock.proofs.Sums.{held_by, same_sum, sum_set}
@@ -29,17 +29,17 @@ value_same v w e = ap (head_or v) e
 
 module _ {S E : Type 0} (items : S → List E) (room : S → ℕ) (hart seat : E → ℕ) (size : Size) where
   -- a step that changes nothing
-  unmoved : (s : State S (View E)) (k : Kept items room hart seat size s) (id w : ℕ) (v : View E) (cs : List (ℕ × S)) → get_elem? s.views id ≡ some v → get_or s.words 0 0 ≡ w
-      → Kept items room hart seat size (stepped s 0 w id cs v keeps)
+  unmoved : (s : State S (View E)) (k : BookHolds items room hart seat size s) (id w : ℕ) (v : View E) (cs : List (ℕ × S)) → get_elem? s.views id ≡ some v → get_or s.words 0 0 ≡ w
+      → BookHolds items room hart seat size (stepped s 0 w id cs v keeps)
   unmoved s k id w v cs at now =
       let words : set s.words 0 w ≡ s.words = ap (set s.words 0) (sym now) ∙ set-get_or s.words 0 0 in
       let views : set s.views id v ≡ s.views = set_again s.views id v at in
-      subst (λ (z : List ℕ × List (View E)). Kept items room hart seat size record { words = z.0; homes = s.homes; views = z.1 }) (λ i. (sym words i, sym views i)) k
+      subst (λ (z : List ℕ × List (View E)). BookHolds items room hart seat size record { words = z.0; homes = s.homes; views = z.1 }) (λ i. (sym words i, sym views i)) k
 
   -- the free lock is taken, with the slot
-  acquire_free : (s : State S (View E)) (k : Kept items room hart seat size s) (id : ℕ) (x : Sitter E) (v : S) (cs : List (ℕ × S)) → get_elem? s.views id ≡ some (x ∷ [])
+  acquire_free : (s : State S (View E)) (k : BookHolds items room hart seat size s) (id : ℕ) (x : Sitter E) (v : S) (cs : List (ℕ × S)) → get_elem? s.views id ≡ some (x ∷ [])
       → get_or s.words 0 0 ≡ 0 → items v ≡ k.log → x.holding ≡ false
-      → Kept items room hart seat size (stepped s 0 1 id cs (with_lock (items v) x ∷ []) (takes 0 v))
+      → BookHolds items room hart seat size (stepped s 0 1 id cs (with_lock (items v) x ∷ []) (takes 0 v))
   acquire_free s k id x v cs at now log_is idle =
       let f = (k.fits id (x ∷ []) at).0 in
       let y : Sitter E = with_lock (items v) x in
@@ -94,7 +94,7 @@ module _ {S E : Type 0} (items : S → List E) (room : S → ℕ) (hart seat : E
       }
 
   -- what the holder is told
-  told : (s : State S (View E)) (k : Kept items room hart seat size s) (m : Me S (View E)) (x : Sitter E) (v : S) → Fits items room hart seat size k.owners k.log (get_or s.words 0 0) k.who x
+  told : (s : State S (View E)) (k : BookHolds items room hart seat size s) (m : Me S (View E)) (x : Sitter E) (v : S) → Fits items room hart seat size k.owners k.log (get_or s.words 0 0) k.who x
       → items v ≡ k.log → size.harts ≤ room v → GotLock items room hart seat x m (with_lock (items v) x ∷ [], (0, v) ∷ m.1)
   told s k m x v f log_is wide = record {
     found = v;
@@ -117,7 +117,7 @@ module _ {S E : Type 0} (items : S → List E) (room : S → ℕ) (hart seat : E
   }
 
   pub acquires : (slots id : ℕ) (m : Me S (View E)) → AtRest m
-      → Allows (Kept items room hart seat size) slots id m 0 (λ n. either (eqb n 0) 1 n) (Acquired items room hart seat (step slots 0 0 1 none) m)
+      → Allows (BookHolds items room hart seat size) slots id m 0 (λ n. either (eqb n 0) 1 n) (Acquired items room hart seat (step slots 0 0 1 none) m)
   acquires slots id m rest s k long at fits_word =
       let x : Sitter E = sitter m.0 in
       let n : ℕ = get_or s.words 0 0 in
@@ -128,7 +128,7 @@ module _ {S E : Type 0} (items : S → List E) (room : S → ℕ) (hart seat : E
         with_lock (items h.0) x ∷ [],
         takes 0 h.0,
         h.1,
-        subst (λ (b : Bool). Kept items room hart seat size (stepped s 0 (either b 1 n) id m.1 (with_lock (items h.0) x ∷ []) (takes 0 h.0))) (sym (eq-eqb n 0 z))
+        subst (λ (b : Bool). BookHolds items room hart seat size (stepped s 0 (either b 1 n) id m.1 (with_lock (items h.0) x ∷ []) (takes 0 h.0))) (sym (eq-eqb n 0 z))
             (acquire_free s k id x h.0 m.1 at' z h.2 rest.idle),
         ((λ _. told s k m x h.0 f h.2 h.3), (λ ne. absurd (ne z))),
       ))
@@ -136,7 +136,7 @@ module _ {S E : Type 0} (items : S → List E) (room : S → ℕ) (hart seat : E
         m.0,
         keeps,
         tt,
-        subst (λ (b : Bool). Kept items room hart seat size (stepped s 0 (either b 1 n) id m.1 m.0 keeps)) (sym (ne_eqb n 0 taken)) (unmoved s k id n m.0 m.1 at refl),
+        subst (λ (b : Bool). BookHolds items room hart seat size (stepped s 0 (either b 1 n) id m.1 m.0 keeps)) (sym (ne_eqb n 0 taken)) (unmoved s k id n m.0 m.1 at refl),
         ((λ z. absurd (taken z)), (λ _. refl)),
       ))
 
@@ -150,9 +150,9 @@ module _ {S E : Type 0} (items : S → List E) (room : S → ℕ) (hart seat : E
     pub lacks : has (harts_of hart seat x.own) (hart e) ≡ false
 
   -- the holder gives the lock up, with one entry more in the slot
-  release_one : (s : State S (View E)) (k : Kept items room hart seat size s) (id : ℕ) (x : Sitter E) (v : S) (e : E) → get_elem? s.views id ≡ some (x ∷ [])
+  release_one : (s : State S (View E)) (k : BookHolds items room hart seat size s) (id : ℕ) (x : Sitter E) (v : S) (e : E) → get_elem? s.views id ≡ some (x ∷ [])
       → length s.homes ≡ 1 → Ready x v e
-      → Kept items room hart seat size (stepped s 0 0 id ((0, v) ∷ []) (with_puts (items v) x ∷ []) gives)
+      → BookHolds items room hart seat size (stepped s 0 0 id ((0, v) ∷ []) (with_puts (items v) x ∷ []) gives)
       × IsHistory hart seat x.number x.claims (items v)
   release_one s k id x v e at long ready =
       let holding = ready.holding in
@@ -227,7 +227,7 @@ module _ {S E : Type 0} (items : S → List E) (room : S → ℕ) (hart seat : E
       )
 
   pub releases : (slots id : ℕ) (m : Me S (View E)) (x : Sitter E) (v : S) (e : E) → slots ≡ 1 → m.0 ≡ x ∷ [] → m.1 ≡ (0, v) ∷ [] → Ready x v e
-      → Allows (Kept items room hart seat size) slots id m 0 (λ _. 0) (λ _. Released items room hart seat (step slots 0 0 0 none) m 0)
+      → Allows (BookHolds items room hart seat size) slots id m 0 (λ _. 0) (λ _. Released items room hart seat (step slots 0 0 0 none) m 0)
   releases slots id m x v e single alone carries ready s k long at fits_word =
       let at' : get_elem? s.views id ≡ some (x ∷ []) = at ∙ ap some alone in
       let is : x ≡ sitter m.0 = sym (ap sitter alone) in
@@ -235,7 +235,7 @@ module _ {S E : Type 0} (items : S → List E) (room : S → ℕ) (hart seat : E
         with_puts (items v) x ∷ [],
         gives,
         tt,
-        subst (λ (cs : List (ℕ × S)). Kept items room hart seat size (stepped s 0 0 id cs (with_puts (items v) x ∷ []) gives)) (sym carries) r.0,
+        subst (λ (cs : List (ℕ × S)). BookHolds items room hart seat size (stepped s 0 0 id cs (with_puts (items v) x ∷ []) gives)) (sym carries) r.0,
         (λ w has_w. let same : v ≡ w = value_same v w (sym carries ∙ has_w) in (
           subst (λ (z : Sitter E). with_puts (items v) x ∷ [] ≡ with_puts (items v) z ∷ []) is refl ∙ ap (λ (u : S). with_puts (items u) (sitter m.0) ∷ []) same,
           ap (λ (cs : List (ℕ × S)). rest cs) carries,

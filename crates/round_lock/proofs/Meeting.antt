@@ -10,7 +10,7 @@ use Rattle.atomic_table.proofs.Lists.{at_set, at_snoc, set_else}
 use Rattle.round_lock.specs.declared.sitter.Sitter.{Sitter}
 use Rattle.round_lock.specs.declared.sitter.Size.{Size}
 use Rattle.round_lock.specs.Lists.{Begins, Each}
-use Rattle.round_lock.specs.Rule.{Compared, Fits, Kept, Met, View}
+use Rattle.round_lock.specs.Rule.{Compared, Fits, BookHolds, Met, View}
 use Rattle.round_lock.specs.Sitters.{first_of, held, late, numbered, one, others_of, sitter, sum_in, sum_of, with_seen}
 use Rattle.round_lock.proofs.Lists.{begins_longer, begins_same, each_append, each_left, each_right, elem_one, lacks_from}
 use Rattle.round_lock.proofs.Sums.{numbered_at, numbered_self, same_sum, sum_append, sum_in_append, sum_one, sum_set}
@@ -45,9 +45,9 @@ module _ {E : Type 0} where
 
 module _ {S E : Type 0} (items : S → List E) (room : S → ℕ) (hart seat : E → ℕ) (size : Size) where
   -- a change of views alone that keeps all sums
-  resight : (s : State S (View E)) (k : Kept items room hart seat size s) (views : List (View E)) → SameSums views s.views
+  resight : (s : State S (View E)) (k : BookHolds items room hart seat size s) (views : List (View E)) → SameSums views s.views
       → ((j : ℕ) (v : View E) → get_elem? views j ≡ some v → Each (Fits items room hart seat size k.owners k.log (get_or s.words 0 0) k.who) v)
-      → Kept items room hart seat size record { words = s.words; homes = s.homes; views = views }
+      → BookHolds items room hart seat size record { words = s.words; homes = s.homes; views = views }
   resight s k views sums fits = let counted = k.counted in let late_same = sums.late_are in record {
     owners = k.owners;
     log = k.log;
@@ -68,7 +68,7 @@ module _ {S E : Type 0} (items : S → List E) (room : S → ℕ) (hart seat : E
     fits = fits;
   }
 
-  pub splits : (id : ℕ) (v left right : View E) → left ++ right ≡ v → Splits (Kept items room hart seat size) id v left right
+  pub splits : (id : ℕ) (v left right : View E) → left ++ right ≡ v → Splits (BookHolds items room hart seat size) id v left right
   splits id v left right e s k at =
       let P : Sitter E → Type 0 = Fits items room hart seat size k.owners k.log (get_or s.words 0 0) k.who in
       let whole : Each P (left ++ right) = subst (Each P) (sym e) (k.fits id v at) in
@@ -81,7 +81,7 @@ module _ {S E : Type 0} (items : S → List E) (room : S → ℕ) (hart seat : E
       (λ (t : right ≡ u). subst (Each P) t (each_right P left right whole))
       (at_snoc (set s.views id left) right u j there))
 
-  pub joins : (id : ℕ) (v : View E) (other : ℕ) (w : View E) → Joins (Kept items room hart seat size) id v other w (v ++ w) []
+  pub joins : (id : ℕ) (v : View E) (other : ℕ) (w : View E) → Joins (BookHolds items room hart seat size) id v other w (v ++ w) []
   joins id v other w s k at apart there =
       let P : Sitter E → Type 0 = Fits items room hart seat size k.owners k.log (get_or s.words 0 0) k.who in
       let before : get_elem? s.views other ≡ some w = sym (set_else s.views id other (v ++ w) apart) ∙ there in
@@ -95,9 +95,9 @@ module _ {S E : Type 0} (items : S → List E) (room : S → ℕ) (hart seat : E
       (at_set (set s.views id (v ++ w)) other j [] u here))
 
   -- the two sitters of a view both see the longer of what they saw
-  meet_one : (s : State S (View E)) (k : Kept items room hart seat size s) (id w : ℕ) (x y : Sitter E) (es : List E) (cs : List (ℕ × S)) → get_elem? s.views id ≡ some (x ∷ y ∷ [])
+  meet_one : (s : State S (View E)) (k : BookHolds items room hart seat size s) (id w : ℕ) (x y : Sitter E) (es : List E) (cs : List (ℕ × S)) → get_elem? s.views id ≡ some (x ∷ y ∷ [])
       → get_or s.words 0 0 ≡ w → x.holding ≡ false → y.holding ≡ false → Begins es k.log
-      → Kept items room hart seat size (stepped s 0 w id cs (with_seen es x ∷ with_seen es y ∷ []) keeps)
+      → BookHolds items room hart seat size (stepped s 0 w id cs (with_seen es x ∷ with_seen es y ∷ []) keeps)
   meet_one s k id w x y es cs at now idle_x idle_y begins =
       let P : Sitter E → Type 0 = Fits items room hart seat size k.owners k.log (get_or s.words 0 0) k.who in
       let f = k.fits id (x ∷ y ∷ []) at in
@@ -113,7 +113,7 @@ module _ {S E : Type 0} (items : S → List E) (room : S → ℕ) (hart seat : E
         end_is = p.end_is;
         holds = λ h. absurd (true≢false (sym h ∙ idle));
       } in
-      subst (λ (z : List ℕ). Kept items room hart seat size record { words = z; homes = s.homes; views = set s.views id v }) (sym words)
+      subst (λ (z : List ℕ). BookHolds items room hart seat size record { words = z; homes = s.homes; views = set s.views id v }) (sym words)
       (resight s k (set s.views id v) record {
         late_are = same_sum late s.views id (x ∷ y ∷ []) v at refl;
         held_are = same_sum held s.views id (x ∷ y ∷ []) v at refl;
@@ -125,7 +125,7 @@ module _ {S E : Type 0} (items : S → List E) (room : S → ℕ) (hart seat : E
       (λ (t : (j ≢ id) × (get_elem? s.views j ≡ some u)). k.fits j u t.1)
       (at_set s.views id j v u there)))
 
-  met : (s : State S (View E)) (k : Kept items room hart seat size s) (id w : ℕ) (x y : Sitter E) (es : List E) (m : Me S (View E)) → get_elem? s.views id ≡ some (x ∷ y ∷ [])
+  met : (s : State S (View E)) (k : BookHolds items room hart seat size s) (id w : ℕ) (x y : Sitter E) (es : List E) (m : Me S (View E)) → get_elem? s.views id ≡ some (x ∷ y ∷ [])
       → Begins x.seen es → Begins y.seen es → (es ≡ x.seen) ⊎ (es ≡ y.seen) → Met items room hart seat x y m (with_seen es x ∷ with_seen es y ∷ [], m.1)
   met s k id w x y es m at begins_x begins_y which =
       let f = k.fits id (x ∷ y ∷ []) at in
@@ -154,7 +154,7 @@ module _ {S E : Type 0} (items : S → List E) (room : S → ℕ) (hart seat : E
       (λ gt. (xs, b, begins_same xs, begins_longer ys xs all c b (le_of_lt (lt_of_not-le gt)), inl refl))
 
   pub compares : (slots id : ℕ) (m : Me S (View E)) → m.0 ≡ sitter m.0 ∷ sitter (others_of m.0) ∷ [] → (sitter m.0).holding ≡ false → (sitter (others_of m.0)).holding ≡ false
-      → Allows (Kept items room hart seat size) slots id m 0 (λ n. n) (Compared items room hart seat (step slots 0 0 0 none) m)
+      → Allows (BookHolds items room hart seat size) slots id m 0 (λ n. n) (Compared items room hart seat (step slots 0 0 0 none) m)
   compares slots id m two idle_x idle_y s k long at fits_word =
       let x : Sitter E = sitter m.0 in
       let y : Sitter E = sitter (others_of m.0) in

@@ -10,7 +10,7 @@ use Rattle.round_lock.specs.declared.sitter.Sitter.{Sitter}
 use Rattle.round_lock.specs.declared.sitter.Size.{Size}
 use Rattle.round_lock.specs.Lists.{Each, has, Apart}
 use Rattle.round_lock.specs.Histories.{IsHistory, harts_of, of_seat}
-use Rattle.round_lock.specs.Rule.{Kept, View}
+use Rattle.round_lock.specs.Rule.{BookHolds, View}
 use Rattle.round_lock.specs.Sitters.{numbered}
 use Rattle.round_lock.proofs.Lists.{each_map, each_both, each_mapped, elem_below, elem_one, fewer_than, has_cases, has_head, has_tail, lacks_from, never}
 use Rattle.round_lock.proofs.Sums.{none_numbered, numbered_self, sum_two}
@@ -82,7 +82,7 @@ module _ {E : Type 0} (hart seat : E → ℕ) where
 
 module _ {S E : Type 0} (items : S → List E) (room : S → ℕ) (hart seat : E → ℕ) (size : Size) where
   -- the sitters of every other view have other numbers
-  pub others_differ : (s : State S (View E)) (k : Kept items room hart seat size s) (id j : ℕ) (x : Sitter E) (v : View E) → get_elem? s.views id ≡ some (x ∷ [])
+  pub others_differ : (s : State S (View E)) (k : BookHolds items room hart seat size s) (id j : ℕ) (x : Sitter E) (v : View E) → get_elem? s.views id ≡ some (x ∷ [])
       → x.number < size.seats → j ≢ id → get_elem? s.views j ≡ some v → Each (λ z. z.number ≢ x.number) v
   others_differ s k id j x v at below ne there =
       let t = sum_two (numbered x.number) s.views id j (x ∷ []) v ne at there in
@@ -91,7 +91,7 @@ module _ {S E : Type 0} (items : S → List E) (room : S → ℕ) (hart seat : E
       none_numbered x.number v (omega arith)
 
   -- a fact of all sitters, after one view of one sitter has changed
-  pub refit : (P Q : Sitter E → Type 0) (s : State S (View E)) (k : Kept items room hart seat size s) (id : ℕ) (x y : Sitter E) → get_elem? s.views id ≡ some (x ∷ [])
+  pub refit : (P Q : Sitter E → Type 0) (s : State S (View E)) (k : BookHolds items room hart seat size s) (id : ℕ) (x y : Sitter E) → get_elem? s.views id ≡ some (x ∷ [])
       → x.number < size.seats → ((j : ℕ) (v : View E) → get_elem? s.views j ≡ some v → Each P v) → Q y → ((z : Sitter E) → P z → z.number ≢ x.number → Q z)
       → (j : ℕ) (v : View E) → get_elem? (set s.views id (y ∷ [])) j ≡ some v → Each Q v
   refit P Q s k id x y at below before mine others j v e = ⊎_elim

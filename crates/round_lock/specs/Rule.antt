@@ -32,7 +32,7 @@ module _ {S E : Type 0} (items : S → List E) (room : S → ℕ) (hart seat : E
     pub end_is : x.ended ≡ true → length owners ≡ size.harts
     pub holds : x.holding ≡ true → (lock ≡ 1) × (who ≡ x.number) × (x.seen ≡ log)
 
-  pub record Kept (size : Size) (s : State S (View E)) : Type 0 where
+  pub record BookHolds (size : Size) (s : State S (View E)) : Type 0 where
     -- who claimed hart 0, 1, ..
     pub owners : List ℕ
     -- the history

@@ -23,6 +23,7 @@ use std::sync::Wait;
 ///
 /// It is a table with two words, the lock and the claim counter, and a slot with the history. The lock is taken and given
 /// up inside a put, so no seat holds it between two calls.
+// docs/decisions/shared-book.md
 #[derive(Drop)]
 pub struct RoundBook<E: Entry> {
     pub(crate) table: Table<Vec<E>, Sitters<E>, Size, BookRule, Global>,

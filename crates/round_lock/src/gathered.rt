@@ -43,8 +43,8 @@ impl<E: Entry> Gathered<E> {
             has (harts_of E.hart E.seat self.old.history) h }
         ensures harts { self.new.harts ≡ self.old.harts }
     {
-        let place = place_of(&self.history, hart)?;
-        Some(self.history.swap_remove(place))
+        let index = index_of(&self.history, hart)?;
+        Some(self.history.swap_remove(index))
     }
 
     /// Whether each hart was put. Any two complete legal histories of one start leave the same entries.
@@ -62,7 +62,7 @@ impl<E: Entry> Gathered<E> {
 }
 
 /// Where the entry of a hart stands, if it was put.
-fn place_of<E: Entry>(history: &[E], hart: u32) -> Option<usize>
+fn index_of<E: Entry>(history: &[E], hart: u32) -> Option<usize>
     ensures none { IfNone result (has (harts_of E.hart E.seat history.now) hart ≡ false) }
     ensures some { IfSome result (λ i. (i < length history.now) ×
         ((d : E) → E.hart (slice_index_or history.now i d) ≡ hart)) }

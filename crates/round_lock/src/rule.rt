@@ -1,7 +1,7 @@
 //! The rule of a book's table, and what each step tells.
 
 ghost use Rattle.std.specs.Prelude.{[], ◌++◌, vec_capacity};
-ghost use Rattle.round_lock.specs.Rule.{Kept, Claimed, Acquired, Released, Compared};
+ghost use Rattle.round_lock.specs.Rule.{BookHolds, Claimed, Acquired, Released, Compared};
 ghost use Rattle.round_lock.specs.Sitters.{newcomers, first_of, others_of};
 
 use crate::entry::Entry;
@@ -11,7 +11,7 @@ use atomic_table::{Join, Play, Split, TableRule};
 pub struct BookRule;
 
 impl<E: Entry> TableRule<Vec<E>, Sitters<E>, Size> for BookRule {
-    ghost holds = { Kept (λ v. v.items) (λ v. vec_capacity v) E.hart E.seat };
+    ghost holds = { BookHolds (λ v. v.items) (λ v. vec_capacity v) E.hart E.seat };
 
     ghost first = { λ k. newcomers k.harts k.seats };
 }

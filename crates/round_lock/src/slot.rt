@@ -6,6 +6,7 @@ ghost use Rattle.atomic_table.specs.Table.{rest};
 use atomic_table::{Seat as Place, Shared, TableRule};
 
 /// Puts a value into the first slot, which the seat took last, and gives the value that stood there.
+// docs/decisions/shared-book.md
 pub(crate) fn replace_slot<S, V, K, P: TableRule<S, V, K>>(
     table: &Shared<S, V, K, P>,
     place: &mut Place<S, V>,

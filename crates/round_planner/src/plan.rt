@@ -211,7 +211,7 @@ impl Plan {
         self.budget = budget;
     }
 
-    /// The text of the plan: it reads as the plan's rows. The budget is no part of it.
+    /// The text of the plan: it reads as the plan's rows. It says no budget.
     ///
     /// # Errors
     ///

@@ -20,9 +20,9 @@ fn write_bytes(text: &mut Vec<u8>, bytes: &[u8]) -> Result<(), OutOfMemory>
 fn write_number(text: &mut Vec<u8>, number: u32) -> Result<(), OutOfMemory>
     ensures { OnOk result (text.new.items ≡ text.old.items ++ decimal number) }
 {
-    let mut room = [0; 20];
-    let start = write_digits(u64::from(number), &mut room, 20);
-    write_bytes(text, &room[start..])
+    let mut digits = [0; 20];
+    let start = write_digits(u64::from(number), &mut digits, 20);
+    write_bytes(text, &digits[start..])
 }
 
 /// Adds what follows the first number of a row: the other numbers, and the row's end.

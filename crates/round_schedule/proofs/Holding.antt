@@ -8,7 +8,7 @@ use Rattle.round_schedule.specs.declared.access.Access.TheVariants.{Load, Store,
 use Rattle.round_schedule.specs.declared.event.Event.{Event}
 use Rattle.round_schedule.specs.declared.span.Span.{Span}
 use Rattle.round_schedule.specs.Accesses.{is_lr, is_sc, writes}
-use Rattle.round_schedule.specs.Held.{any_byte, held, held_after, held_from, kept_by_own, unless}
+use Rattle.round_schedule.specs.Held.{any_byte, held, held_after, held_from, held_after_own, unless}
 use Rattle.round_schedule.specs.HeldBy.{HeldBy, HeldIsByLastReserve}
 use Rattle.round_schedule.specs.Positions.{event}
 use Rattle.round_schedule.specs.Spans.{span_of}
@@ -31,7 +31,7 @@ held_push h t e = held-append h t (e ∷ [])
 
 -- what an own access does: it is an LR, an SC, or neither
 own_cases : (a : Access) (r : Option Span) →
-    ((is_lr a ≡ true) × (kept_by_own a r ≡ span_of a)) ⊎ (((is_sc a ≡ true) × (kept_by_own a r ≡ None)) ⊎ ((is_lr a || is_sc a) ≡ false) × (kept_by_own a r ≡ r))
+    ((is_lr a ≡ true) × (held_after_own a r ≡ span_of a)) ⊎ (((is_sc a ≡ true) × (held_after_own a r ≡ None)) ⊎ ((is_lr a || is_sc a) ≡ false) × (held_after_own a r ≡ r))
 own_cases (Load w p a v) r = inr (inr (refl, refl))
 own_cases (Store w p a v) r = inr (inr (refl, refl))
 own_cases (LoadReserved w o p a v) r = inl (refl, refl)
@@ -141,7 +141,7 @@ test_own m h e = grind (arith, nat_tests)
 pub test_other : (m h : ℕ) → m ≢ h → (m == h) ≡ false
 test_other m h d = grind (arith, nat_tests)
 
-after_own : (h : ℕ) (e : Event) (r : Option Span) → e.hart ≡ h → held_after h e r ≡ kept_by_own e.access r
+after_own : (h : ℕ) (e : Event) (r : Option Span) → e.hart ≡ h → held_after h e r ≡ held_after_own e.access r
 after_own h e r o = rw (test_own e.hart h o) refl
 
 after_other : (h : ℕ) (e : Event) (r : Option Span) → e.hart ≢ h → held_after h e r ≡ unless (writes e.access) r
@@ -152,7 +152,7 @@ after_other h e r o = rw (test_other e.hart h o) refl
 HeldIs : ℕ → List Event → Type 0
 HeldIs h t = (s : Span) → held h t ≡ Some s → (l : ℕ) × HeldBy t h s l
 
-by_own : (h : ℕ) (t : List Event) (e : Event) (s : Span) → e.hart ≡ h → HeldIs h t → kept_by_own e.access (held h t) ≡ Some s → (l : ℕ) × HeldBy (t ++ e ∷ []) h s l
+by_own : (h : ℕ) (t : List Event) (e : Event) (s : Span) → e.hart ≡ h → HeldIs h t → held_after_own e.access (held h t) ≡ Some s → (l : ℕ) × HeldBy (t ++ e ∷ []) h s l
 unfolding HeldIs
 by_own h t e s own before is = elim (own_cases e.access (held h t)) [
   | inl lr ↦ (length t, fresh h t e s own lr.0 (sym lr.1 ∙ is))
@@ -164,9 +164,9 @@ by_own h t e s own before is = elim (own_cases e.access (held h t)) [
   ]
 ]
 
-kept_unless : (f : ℕ → Bool) (u s : Span) (b : Bool) → any_byte f u.address (width_bytes u.width) ≡ b → (if b then None else Some u) ≡ Some s → (b ≡ false) × (u ≡ s)
-kept_unless f u s true e is = cc
-kept_unless f u s false e is = (refl, cc)
+held_unless : (f : ℕ → Bool) (u s : Span) (b : Bool) → any_byte f u.address (width_bytes u.width) ≡ b → (if b then None else Some u) ≡ Some s → (b ≡ false) × (u ≡ s)
+held_unless f u s true e is = cc
+held_unless f u s false e is = (refl, cc)
 
 by_other : (h : ℕ) (t : List Event) (e : Event) (s : Span) (r : Option Span) → e.hart ≢ h → held h t ≡ r → HeldIs h t → unless (writes e.access) r ≡ Some s →
     (l : ℕ) × HeldBy (t ++ e ∷ []) h s l
@@ -174,7 +174,7 @@ unfolding HeldIs
 by_other h t e s None other was before is = cc
 by_other h t e s (Some u) other was before is =
     let kept : (any_byte (writes e.access) u.address (width_bytes u.width) ≡ false) × (u ≡ s) =
-    kept_unless (writes e.access) u s (any_byte (writes e.access) u.address (width_bytes u.width)) refl is in
+    held_unless (writes e.access) u s (any_byte (writes e.access) u.address (width_bytes u.width)) refl is in
     let none : any_byte (writes e.access) s.address (width_bytes s.width) ≡ false = sym (ap (λ (v : Span). any_byte (writes e.access) v.address (width_bytes v.width)) kept.1) ∙ kept.0 in
     let found : (l : ℕ) × HeldBy t h s l = before s (was ∙ ap (λ (v : Span). Some v) kept.1) in (
       found.0,
@@ -207,7 +207,7 @@ back_last h t e s b =
     let lr : is_lr e.access ≡ true = sym (ap (λ (f : Event). is_lr f.access) here) ∙ b.reserved in
     held_push h t e ∙ after_own h e (held h t) own ∙ set_by e.access (held h t) lr ∙ sym (ap (λ (f : Event). span_of f.access) here) ∙ b.bytes
   where
-    set_by : (a : Access) (r : Option Span) → is_lr a ≡ true → kept_by_own a r ≡ span_of a
+    set_by : (a : Access) (r : Option Span) → is_lr a ≡ true → held_after_own a r ≡ span_of a
     set_by (Load w p a v) r h = cc
     set_by (Store w p a v) r h = cc
     set_by (LoadReserved w o p a v) r h = refl
@@ -222,7 +222,7 @@ or_else : (a b : Bool) → b ≡ true → (a || b) ≡ true
 or_else true b h = refl
 or_else false b h = h
 
-back_own : (h : ℕ) (t : List Event) (e : Event) (s : Span) → ((is_lr e.access || is_sc e.access) ≡ true → ⊥) → held h t ≡ Some s → kept_by_own e.access (held h t) ≡ Some s
+back_own : (h : ℕ) (t : List Event) (e : Event) (s : Span) → ((is_lr e.access || is_sc e.access) ≡ true → ⊥) → held h t ≡ Some s → held_after_own e.access (held h t) ≡ Some s
 back_own h t e s neither was = elim (own_cases e.access (held h t)) [
   | inl lr ↦ absurd (neither (either (is_lr e.access) (is_sc e.access) lr.0))
   | inr other ↦ elim other [
@@ -231,12 +231,12 @@ back_own h t e s neither was = elim (own_cases e.access (held h t)) [
   ]
 ]
 
-still_kept : (f : ℕ → Bool) (s : Span) (b : Bool) → any_byte f s.address (width_bytes s.width) ≡ b →
+still_held : (f : ℕ → Bool) (s : Span) (b : Bool) → any_byte f s.address (width_bytes s.width) ≡ b →
     ((x : ℕ) → in_range s.address (width_bytes s.width) x ≡ true → f x ≡ true → ⊥) → (if b then None else Some s) ≡ Some s
-still_kept f s true e none =
+still_held f s true e none =
     let found : (x : ℕ) × (s.address ≤ x) × (x < s.address + width_bytes s.width) × (f x ≡ true) = any_found f s.address (width_bytes s.width) e in
     absurd (none found.0 (from_ends s.address (width_bytes s.width) found.0 found.1 found.2) found.3)
-still_kept f s false e none = refl
+still_held f s false e none = refl
 
 back_pushed : (h : ℕ) (t : List Event) (e : Event) → HeldBack h t → HeldBack h (t ++ e ∷ [])
 unfolding HeldBack
@@ -249,7 +249,7 @@ back_pushed h t e before l s b = elim (last_or_before t e l b.within) [
         | inl own ↦ after_own h e (held h t) own ∙ back_own h t e s
             (λ y. b.last (length t) f (omega (arith, length_push t e)) (ap (λ (d : Event). d.hart) here ∙ own) (ap (λ (d : Event). is_lr d.access || is_sc d.access) here ∙ y)) was
         | inr other ↦ after_other h e (held h t) other ∙ ap (unless (writes e.access)) was
-            ∙ still_kept (writes e.access) s (any_byte (writes e.access) s.address (width_bytes s.width)) refl
+            ∙ still_held (writes e.access) s (any_byte (writes e.access) s.address (width_bytes s.width)) refl
             (λ x i y. b.unbroken (length t) x f (omega (arith, length_push t e)) (λ d. other (sym (ap (λ (d : Event). d.hart) here) ∙ d)) i (ap (λ (d : Event). writes d.access x) here ∙ y))
       ]
 ]

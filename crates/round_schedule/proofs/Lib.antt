@@ -1,4 +1,4 @@
-pub mod TabledTurns
+pub mod ReservingTurns
 pub mod Folds
 pub mod Forms
 pub mod Holding
@@ -16,4 +16,4 @@ pub mod Preserved
 pub mod Rising
 pub mod Runs
 pub mod Stopped
-pub mod Tabling
+pub mod ReservationsTied

@@ -1,31 +1,31 @@
--- What is asked of a hart within a round, from a shorter round of it, or from two short turns over a table.
+-- What is asked of a hart within a round, from a shorter round of it, or from two short turns over a list.
 use Rattle.std.proofs.Common.{◌≡◌, ℕ, zero, suc, ◌+◌, ◌-◌, ◌%◌, ◌^◌, ◌<◌, ◌≤◌, ◌==◌, Bool, true, false, cond, List, [], ◌∷◌, ◌++◌, length, take, slice_get, slice_index, Option, Some, None, refl, sym, ap, subst, ◌∙◌, arith}
 use Rattle.std.proofs.lemmas.List.{append-nil}
 use Rattle.pages.specs.Memory.{IsBytes, after}
 use Rattle.round_schedule.specs.declared.event.Event.{Event}
 use Rattle.round_schedule.specs.declared.span.Span.{Span}
-use Rattle.round_schedule.specs.ByTable.{committed_table}
-use Rattle.round_schedule.specs.TabledTurn.{TabledPhase, TabledTurn, tabled_phase_from, tabled_turn_from, log_events, told}
+use Rattle.round_schedule.specs.ByReservations.{committed_reservations}
+use Rattle.round_schedule.specs.ReservingTurn.{ReservingPhase, ReservingTurn, reserving_phase_from, reserving_turn_from, log_events, told}
 use Rattle.round_schedule.specs.Past.{before_turn, goes_on_with, hart_after, parts_from, turn_of_waiting, turns_from}
 use Rattle.round_schedule.specs.Schedule.{HartRound, State, Turn, Words, all_stores, began, events_from, hart_round_of, hart_rounds, serial_from, turn_from}
 use Rattle.round_schedule.specs.Sound.{Counts, Sound}
-use Rattle.round_schedule.specs.Tables.{Tied}
-use Rattle.round_schedule.proofs.TabledTurns.{turn_size}
+use Rattle.round_schedule.specs.Reservations.{Tied}
+use Rattle.round_schedule.proofs.ReservingTurns.{turn_size}
 use Rattle.round_schedule.proofs.Machines.{commits}
 use Rattle.round_schedule.proofs.PastAsking.{counts_steps, counts_turn, early, late}
 use Rattle.round_schedule.proofs.PastEnds.{past_is, rounds_length}
 use Rattle.round_schedule.proofs.PastParts.{parts_are, steps_from, turn_steps, turns_are}
 use Rattle.round_schedule.proofs.PastTurns.{Before, TurnsThere, again, before_is, did_all, did_fewer, did_so_many, shown, start_of, turns_there}
-use Rattle.round_schedule.proofs.Tabling.{commit_ties}
+use Rattle.round_schedule.proofs.ReservationsTied.{commit_ties}
 
--- what is at `count` of a list, by a turn of so many instructions that ended over the table after k, and by one more from there
-pub record TurnAsked {H C : Type 0} (done : H → ℕ) (budget count k : ℕ) (xs : List H) (d e : TabledTurn H C) : Type 0 where
+-- what is at `count` of a list, by a turn of so many instructions that ended over the list after k, and by one more from there
+pub record TurnAsked {H C : Type 0} (done : H → ℕ) (budget count k : ℕ) (xs : List H) (d e : ReservingTurn H C) : Type 0 where
   pub fewer : k < count → slice_get xs count ≡ None
   pub all : count ≤ k → count ≡ budget → slice_get xs count ≡ Some d.hart
   pub ends : count ≤ k → count < budget → done e.hart ≡ done d.hart → slice_get xs count ≡ Some e.hart
   pub goes : count ≤ k → count < budget → (done e.hart ≡ done d.hart → ⊥) → slice_get xs count ≡ Some d.hart
 
-module _ {H C : Type 0} (w : Words H C) (done : H → ℕ) (counts : Counts w done) (n i budget count k : ℕ) (u : Turn H C) (d e : TabledTurn H C)
+module _ {H C : Type 0} (w : Words H C) (done : H → ℕ) (counts : Counts w done) (n i budget count k : ℕ) (u : Turn H C) (d e : ReservingTurn H C)
     (few : count ≤ budget) (small : budget < 2 ^ 63) (low : done u.hart < 2 ^ 64) (k_low : k < 2 ^ 64) (by_k : done d.hart ≡ (done u.hart + k) % 2 ^ 64)
     (first : (turn_from w n i count u).hart ≡ d.hart) (second : (turn_from w n i 1 (turn_from w n i count u)).hart ≡ e.hart) where
   steps_are : k ≡ turn_steps w n i count u
@@ -75,74 +75,74 @@ module _ {H C : Type 0} (w : Words H C) (done : H → ℕ) (counts : Counts w do
 -- ---- from the start of a round
 
 -- what is shared once the stores of these rounds are committed and the harts before hart i had their turns
-abbrev pub tabled_phase_before : {H C : Type 0} → Words H C → ℕ → State H C → List (HartRound H) → List (Option Span) → ℕ → TabledPhase H C
-tabled_phase_before w budget s rs table i =
-    tabled_phase_from w budget (s.rounds + 1) 0 (take i rs) (record { harts = []; bytes = after s.bytes (all_stores rs); console = s.console; table = committed_table 0 rs table; log = [] })
+abbrev pub reserving_phase_before : {H C : Type 0} → Words H C → ℕ → State H C → List (HartRound H) → List (Option Span) → ℕ → ReservingPhase H C
+reserving_phase_before w budget s rs reservations i =
+    reserving_phase_from w budget (s.rounds + 1) 0 (take i rs) (record { harts = []; bytes = after s.bytes (all_stores rs); console = s.console; reservations = committed_reservations 0 rs reservations; log = [] })
 
--- the turn over the table of a hart, after so many instructions of its turn there
-abbrev pub tabled_turn_there : {H C : Type 0} → Words H C → ℕ → State H C → List (HartRound H) → List (Option Span) → ℕ → H → ℕ → TabledTurn H C
-tabled_turn_there w budget s rs table i h count = tabled_turn_from w (s.rounds + 1) i count (start_of h (tabled_phase_before w budget s rs table i))
+-- the turn over the list of a hart, after so many instructions of its turn there
+abbrev pub reserving_turn_there : {H C : Type 0} → Words H C → ℕ → State H C → List (HartRound H) → List (Option Span) → ℕ → H → ℕ → ReservingTurn H C
+reserving_turn_there w budget s rs reservations i h count = reserving_turn_from w (s.rounds + 1) i count (start_of h (reserving_phase_before w budget s rs reservations i))
 
 take_length : {A : Type 0} (i : ℕ) (xs : List A) → length (take i xs) ≤ length xs
 take_length zero xs = omega arith
 take_length (suc i) [] = omega arith
 take_length (suc i) (x ∷ xs) = omega (arith, take_length i xs)
 
-module _ {H C : Type 0} (w : Words H C) (sound : Sound w) (done : H → ℕ) (counts : Counts w done) (budget i count k : ℕ) (s : State H C) (qs : List ℕ) (table : List (Option Span)) (r : HartRound H)
-    (tied : Tied table s.trace) (size : length table ≡ length s.harts) (bytes : IsBytes s.bytes) (there : i < length s.harts) (waits : r.waits ≡ true)
+module _ {H C : Type 0} (w : Words H C) (sound : Sound w) (done : H → ℕ) (counts : Counts w done) (budget i count k : ℕ) (s : State H C) (qs : List ℕ) (reservations : List (Option Span)) (r : HartRound H)
+    (tied : Tied reservations s.trace) (size : length reservations ≡ length s.harts) (bytes : IsBytes s.bytes) (there : i < length s.harts) (waits : r.waits ≡ true)
     (few : count ≤ budget) (small : budget < 2 ^ 63) (low : done r.last.hart < 2 ^ 64) (k_low : k < 2 ^ 64) where
   abbrev rounds : List (HartRound H)
   rounds = hart_rounds w s.bytes qs s.harts
 
-  abbrev ready : TabledPhase H C
-  ready = record { harts = []; bytes = after s.bytes (all_stores rounds); console = s.console; table = committed_table 0 rounds table; log = [] }
+  abbrev ready : ReservingPhase H C
+  ready = record { harts = []; bytes = after s.bytes (all_stores rounds); console = s.console; reservations = committed_reservations 0 rounds reservations; log = [] }
 
   abbrev front : List Event
   front = s.trace ++ events_from (s.rounds + 1) 0 rounds
 
-  abbrev tabled_phase : TabledPhase H C
-  tabled_phase = tabled_phase_before w budget s rounds table i
+  abbrev reserving_phase : ReservingPhase H C
+  reserving_phase = reserving_phase_before w budget s rounds reservations i
 
-  ready_tied : Tied ready.table (front ++ log_events (s.rounds + 1) 0 ready.log)
-  ready_tied = subst (Tied ready.table) (sym (append-nil front)) (commit_ties w sound s.bytes bytes (s.rounds + 1) qs s.harts table ready.table s.trace tied (commits rounds table))
+  ready_tied : Tied ready.reservations (front ++ log_events (s.rounds + 1) 0 ready.log)
+  ready_tied = subst (Tied ready.reservations) (sym (append-nil front)) (commit_ties w sound s.bytes bytes (s.rounds + 1) qs s.harts reservations ready.reservations s.trace tied (commits rounds reservations))
 
   before : Before w budget (s.rounds + 1) i rounds front ready
-  before = before_is w budget (s.rounds + 1) i rounds front ready ready_tied refl (omega (arith, take_length i rounds, rounds_length w s.bytes qs s.harts, size, (commits rounds table).size))
+  before = before_is w budget (s.rounds + 1) i rounds front ready ready_tied refl (omega (arith, take_length i rounds, rounds_length w s.bytes qs s.harts, size, (commits rounds reservations).size))
 
   -- the state in which the turn begins
-  begun : before_turn w budget s rounds i ≡ told front (s.rounds + 1) tabled_phase
+  begun : before_turn w budget s rounds i ≡ told front (s.rounds + 1) reserving_phase
   begun =
       ap (λ (t : List Event). serial_from w budget 0 (take i rounds) (record { harts = []; bytes = ready.bytes; console = ready.console; trace = t; rounds = s.rounds + 1 })) (sym (append-nil front))
       ∙ before.same
 
   abbrev trace : List Event
-  trace = front ++ log_events (s.rounds + 1) 0 tabled_phase.log
+  trace = front ++ log_events (s.rounds + 1) 0 reserving_phase.log
 
   abbrev start : Turn H C
-  start = record { hart = r.last.hart; bytes = tabled_phase.bytes; console = tabled_phase.console; trace = trace }
+  start = record { hart = r.last.hart; bytes = reserving_phase.bytes; console = reserving_phase.console; trace = trace }
 
-  abbrev tabled_turn : TabledTurn H C
-  tabled_turn = tabled_turn_there w budget s rounds table i r.last.hart count
+  abbrev reserving_turn : ReservingTurn H C
+  reserving_turn = reserving_turn_there w budget s rounds reservations i r.last.hart count
 
-  in_table : i < length tabled_phase.table
-  in_table = omega (arith, there, size, before.size, (commits rounds table).size)
+  in_reservations : i < length reserving_phase.reservations
+  in_reservations = omega (arith, there, size, before.size, (commits rounds reservations).size)
 
-  two_turns : TurnsThere w (s.rounds + 1) i count 1 r.last.hart trace tabled_phase
-  two_turns = turns_there w (s.rounds + 1) i count 1 r.last.hart trace tabled_phase before.tied in_table
-      (turn_size w trace (s.rounds + 1) i count (start_of r.last.hart tabled_phase) (subst (Tied tabled_phase.table) (sym (append-nil trace)) before.tied) in_table)
+  two_turns : TurnsThere w (s.rounds + 1) i count 1 r.last.hart trace reserving_phase
+  two_turns = turns_there w (s.rounds + 1) i count 1 r.last.hart trace reserving_phase before.tied in_reservations
+      (turn_size w trace (s.rounds + 1) i count (start_of r.last.hart reserving_phase) (subst (Tied reserving_phase.reservations) (sym (append-nil trace)) before.tied) in_reservations)
 
   whole_turn_is : turn_of_waiting w budget (before_turn w budget s rounds i) i r ≡ turns_from w (s.rounds + 1) i budget start
   whole_turn_is =
       ap (λ (z : State H C). turn_of_waiting w budget z i r) begun
       ∙ ap (λ (b : Bool). turns_from w (s.rounds + 1) i (cond b budget 0) start) waits
 
-  pub asked_there : done tabled_turn.hart ≡ (done r.last.hart + k) % 2 ^ 64 →
-      TurnAsked done budget count k (turn_of_waiting w budget (before_turn w budget s rounds i) i r) tabled_turn (tabled_turn_from w (s.rounds + 1) i 1 (again tabled_turn))
+  pub asked_there : done reserving_turn.hart ≡ (done r.last.hart + k) % 2 ^ 64 →
+      TurnAsked done budget count k (turn_of_waiting w budget (before_turn w budget s rounds i) i r) reserving_turn (reserving_turn_from w (s.rounds + 1) i 1 (again reserving_turn))
   asked_there by_k =
-      let second : turn_from w (s.rounds + 1) i 1 (turn_from w (s.rounds + 1) i count start) ≡ shown (s.rounds + 1) i _ (tabled_turn_from w (s.rounds + 1) i 1 (again tabled_turn)) =
+      let second : turn_from w (s.rounds + 1) i 1 (turn_from w (s.rounds + 1) i count start) ≡ shown (s.rounds + 1) i _ (reserving_turn_from w (s.rounds + 1) i 1 (again reserving_turn)) =
       ap (turn_from w (s.rounds + 1) i 1) two_turns.first ∙ two_turns.second in
-      subst (λ (xs : List H). TurnAsked done budget count k xs tabled_turn (tabled_turn_from w (s.rounds + 1) i 1 (again tabled_turn))) (sym whole_turn_is)
-      (turn_asked w done counts (s.rounds + 1) i budget count k start tabled_turn (tabled_turn_from w (s.rounds + 1) i 1 (again tabled_turn)) few small low k_low by_k
+      subst (λ (xs : List H). TurnAsked done budget count k xs reserving_turn (reserving_turn_from w (s.rounds + 1) i 1 (again reserving_turn))) (sym whole_turn_is)
+      (turn_asked w done counts (s.rounds + 1) i budget count k start reserving_turn (reserving_turn_from w (s.rounds + 1) i 1 (again reserving_turn)) few small low k_low by_k
       (ap (λ (v : Turn H C). v.hart) two_turns.first) (ap (λ (v : Turn H C). v.hart) second))
 
 -- ---- of a hart's whole round

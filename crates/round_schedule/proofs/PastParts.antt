@@ -3,11 +3,11 @@ use Rattle.std.proofs.Common.{◌≡◌, ℕ, zero, suc, ◌+◌, ◌<◌, ◌�
 use Rattle.round_schedule.specs.declared.access.Access.{Access}
 use Rattle.round_schedule.specs.declared.access.Stepped.{Stepped}
 use Rattle.round_schedule.specs.declared.access.Stepped.TheVariants.{Done, Waits, Stopped}
-use Rattle.round_schedule.specs.Schedule.{Words, Outcome, SerialOutcome, Progress, Turn, went, next_of, round_from, turn_from, serial_next}
+use Rattle.round_schedule.specs.Schedule.{Words, StepOutcome, SerialOutcome, Progress, Turn, went, next_of, round_from, turn_from, serial_next}
 use Rattle.round_schedule.specs.Past.{parts_from, gone, turns_from, goes_on_with}
 
 -- how many instructions a hart does in its part
-abbrev pub steps_by : {H : Type 0} → Stepped → Progress H → Outcome H → (Progress H → ℕ) → ℕ
+abbrev pub steps_by : {H : Type 0} → Stepped → Progress H → StepOutcome H → (Progress H → ℕ) → ℕ
 steps_by (Done a) p o f = suc (f (went p o a))
 steps_by Waits p o f = 0
 steps_by (Stopped code) p o f = 0

@@ -1,13 +1,13 @@
--- What is asked of a turn, as two short turns and two tests answer it; and turns over a table.
+-- What is asked of a turn, as two short turns and two tests answer it; and turns over a list.
 use Rattle.std.proofs.Common.{◌≡◌, ℕ, zero, suc, ◌+◌, ◌-◌, ◌<◌, ◌≤◌, ◌==◌, cond, List, [], ◌∷◌, ◌++◌, length, take, slice_get, Some, None, refl, sym, ap, subst, ◌∙◌, arith}
 use Rattle.std.proofs.lemmas.List.{append-nil}
 use Rattle.round_schedule.specs.declared.event.Event.{Event}
 use Rattle.round_schedule.specs.declared.event.Phase.TheVariants.{Serial}
-use Rattle.round_schedule.specs.TabledTurn.{TabledPhase, TabledTurn, SerialByTable, tabled_phase_from, tabled_turn_from, log_events, told}
+use Rattle.round_schedule.specs.ReservingTurn.{ReservingPhase, ReservingTurn, SerialByReservations, reserving_phase_from, reserving_turn_from, log_events, told}
 use Rattle.round_schedule.specs.Events.{events_of}
 use Rattle.round_schedule.specs.Schedule.{Words, HartRound, Turn, serial_from, turn_from}
-use Rattle.round_schedule.specs.Tables.{Tied}
-use Rattle.round_schedule.proofs.TabledTurns.{serial_by_table, turn_same, turn_tied}
+use Rattle.round_schedule.specs.Reservations.{Tied}
+use Rattle.round_schedule.proofs.ReservingTurns.{serial_by_reservations, turn_same, turn_tied}
 use Rattle.round_schedule.specs.Past.{turns_from}
 use Rattle.round_schedule.proofs.PastParts.{turn_steps, turns_are}
 use Rattle.round_schedule.proofs.PastAsking.{short_turn, whole_turn, first_of_turn}
@@ -36,40 +36,40 @@ did_so_many w n i budget count u lt all =
     subst (λ (b : ℕ). slice_get (turns_from w n i b u) count ≡ cond (turn_steps w n i 1 (turn_from w n i count u) == 0) (Some (turn_from w n i 1 (turn_from w n i count u)).hart) (Some (turn_from w n i count u).hart)) e
     (whole_turn w n i count (suc (budget - count - 1)) u all ∙ first_of_turn w n i (budget - count - 1) (turn_from w n i count u) (turn_steps w n i 1 (turn_from w n i count u)) refl)
 
--- ---- over a table
+-- ---- over a list
 
-abbrev pub start_of : {H C : Type 0} → H → TabledPhase H C → TabledTurn H C
-start_of h c = record { hart = h; bytes = c.bytes; console = c.console; table = c.table; log = [] }
+abbrev pub start_of : {H C : Type 0} → H → ReservingPhase H C → ReservingTurn H C
+start_of h c = record { hart = h; bytes = c.bytes; console = c.console; reservations = c.reservations; log = [] }
 
-abbrev pub again : {H C : Type 0} → TabledTurn H C → TabledTurn H C
+abbrev pub again : {H C : Type 0} → ReservingTurn H C → ReservingTurn H C
 again d = record d { log = [] }
 
--- the trace of a turn over the table, after the trace u
-abbrev pub shown : {H C : Type 0} → ℕ → ℕ → List Event → TabledTurn H C → Turn H C
+-- the trace of a turn over the list, after the trace u
+abbrev pub shown : {H C : Type 0} → ℕ → ℕ → List Event → ReservingTurn H C → Turn H C
 shown n i u d = record { hart = d.hart; bytes = d.bytes; console = d.console; trace = u ++ events_of n i Serial d.log }
 
--- the turns of the harts before hart i, from a phase over the table that has no turn yet
-pub record Before {H C : Type 0} (w : Words H C) (budget n i : ℕ) (rs : List (HartRound H)) (t : List Event) (s : TabledPhase H C) : Type 0 where
-  pub same : serial_from w budget 0 (take i rs) (told t n s) ≡ told t n (tabled_phase_from w budget n 0 (take i rs) s)
-  pub tied : Tied (tabled_phase_from w budget n 0 (take i rs) s).table (t ++ log_events n 0 (tabled_phase_from w budget n 0 (take i rs) s).log)
-  pub size : length (tabled_phase_from w budget n 0 (take i rs) s).table ≡ length s.table
+-- the turns of the harts before hart i, from a phase over the list that has no turn yet
+pub record Before {H C : Type 0} (w : Words H C) (budget n i : ℕ) (rs : List (HartRound H)) (t : List Event) (s : ReservingPhase H C) : Type 0 where
+  pub same : serial_from w budget 0 (take i rs) (told t n s) ≡ told t n (reserving_phase_from w budget n 0 (take i rs) s)
+  pub tied : Tied (reserving_phase_from w budget n 0 (take i rs) s).reservations (t ++ log_events n 0 (reserving_phase_from w budget n 0 (take i rs) s).log)
+  pub size : length (reserving_phase_from w budget n 0 (take i rs) s).reservations ≡ length s.reservations
 
-pub before_is : {H C : Type 0} (w : Words H C) (budget n i : ℕ) (rs : List (HartRound H)) (t : List Event) (s : TabledPhase H C) → Tied s.table (t ++ log_events n 0 s.log) → length s.log ≡ 0 → length (take i rs) ≤ length s.table → Before w budget n i rs t s
+pub before_is : {H C : Type 0} (w : Words H C) (budget n i : ℕ) (rs : List (HartRound H)) (t : List Event) (s : ReservingPhase H C) → Tied s.reservations (t ++ log_events n 0 s.log) → length s.log ≡ 0 → length (take i rs) ≤ length s.reservations → Before w budget n i rs t s
 before_is {H} {C} w budget n i rs t s tied none room =
-    let x : SerialByTable w budget n 0 (take i rs) t s = serial_by_table H C w budget n 0 (take i rs) t s tied none (omega (arith, room)) in
+    let x : SerialByReservations w budget n 0 (take i rs) t s = serial_by_reservations H C w budget n 0 (take i rs) t s tied none (omega (arith, room)) in
     record { same = x.same; tied = x.tied; size = x.size }
 
 -- a turn of hart i there, and a second one that goes on from it
-pub record TurnsThere {H C : Type 0} (w : Words H C) (n i k j : ℕ) (h : H) (front : List Event) (c : TabledPhase H C) : Type 0 where
-  pub first : turn_from w n i k (record { hart = h; bytes = c.bytes; console = c.console; trace = front }) ≡ shown n i front (tabled_turn_from w n i k (start_of h c))
-  pub second : turn_from w n i j (shown n i front (tabled_turn_from w n i k (start_of h c))) ≡ shown n i (front ++ events_of n i Serial (tabled_turn_from w n i k (start_of h c)).log) (tabled_turn_from w n i j (again (tabled_turn_from w n i k (start_of h c))))
+pub record TurnsThere {H C : Type 0} (w : Words H C) (n i k j : ℕ) (h : H) (front : List Event) (c : ReservingPhase H C) : Type 0 where
+  pub first : turn_from w n i k (record { hart = h; bytes = c.bytes; console = c.console; trace = front }) ≡ shown n i front (reserving_turn_from w n i k (start_of h c))
+  pub second : turn_from w n i j (shown n i front (reserving_turn_from w n i k (start_of h c))) ≡ shown n i (front ++ events_of n i Serial (reserving_turn_from w n i k (start_of h c)).log) (reserving_turn_from w n i j (again (reserving_turn_from w n i k (start_of h c))))
 
-pub turns_there : {H C : Type 0} (w : Words H C) (n i k j : ℕ) (h : H) (front : List Event) (c : TabledPhase H C) → Tied c.table front → i < length c.table → length (tabled_turn_from w n i k (start_of h c)).table ≡ length c.table → TurnsThere w n i k j h front c
+pub turns_there : {H C : Type 0} (w : Words H C) (n i k j : ℕ) (h : H) (front : List Event) (c : ReservingPhase H C) → Tied c.reservations front → i < length c.reservations → length (reserving_turn_from w n i k (start_of h c)).reservations ≡ length c.reservations → TurnsThere w n i k j h front c
 turns_there w n i k j h front c tied low size =
-    let d = tabled_turn_from w n i k (start_of h c) in
+    let d = reserving_turn_from w n i k (start_of h c) in
     let next : List Event = front ++ events_of n i Serial d.log in
-    let begun : Tied c.table (front ++ []) = subst (Tied c.table) (sym (append-nil front)) tied in
-    let after_it : Tied d.table (next ++ []) = subst (Tied d.table) (sym (append-nil next)) (turn_tied w front n i k (start_of h c) begun low) in
+    let begun : Tied c.reservations (front ++ []) = subst (Tied c.reservations) (sym (append-nil front)) tied in
+    let after_it : Tied d.reservations (next ++ []) = subst (Tied d.reservations) (sym (append-nil next)) (turn_tied w front n i k (start_of h c) begun low) in
     record {
       first = turn_same w front n i k (start_of h c) _ (ap (λ (v : List Event). record { hart = h; bytes = c.bytes; console = c.console; trace = v }) (sym (append-nil front))) begun low;
       second = turn_same w next n i j (again d) _ (ap (λ (v : List Event). record { hart = d.hart; bytes = d.bytes; console = d.console; trace = v }) (sym (append-nil next))) after_it (omega (arith, low, size));

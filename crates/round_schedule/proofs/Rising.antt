@@ -263,7 +263,7 @@ module _ {H C : Type 0} (w : Words H C) (done : H → ℕ) (counts : Counts w do
       (turn_answered last d n i k p (turn_from w n i k) (serial_next w n i p).answer small refl (turn_rises last d n i small k) g)
 
   -- between rounds: counts that are those of the harts, at most so many
-  record Kept (last : ℕ) (s : State H C) : Type 0 where
+  record CountsHold (last : ℕ) (s : State H C) : Type 0 where
     counts_now : ℕ → ℕ
     steady : Steady s.trace counts_now
     linked : Linked last counts_now 0 s.harts
@@ -278,7 +278,7 @@ module _ {H C : Type 0} (w : Words H C) (done : H → ℕ) (counts : Counts w do
   length_pushed (y ∷ ys) x = ap (λ (j : ℕ). suc j) (length_pushed ys x)
 
   serial_rises : (last budget i : ℕ) (rs : List (HartRound H)) (s : State H C) (d : ℕ → ℕ) → last + budget < 2 ^ 64 → length s.harts ≡ i → Steady s.trace d → Linked (last + budget) d 0 s.harts → Rounds last d i rs →
-      ((j : ℕ) → i + length rs ≤ j → d j ≡ 0) → Kept (last + budget) (serial_from w budget i rs s)
+      ((j : ℕ) → i + length rs ≤ j → d j ≡ 0) → CountsHold (last + budget) (serial_from w budget i rs s)
   unfolding Rounds
   serial_rises last budget i [] s d small many st l r none = record { counts_now = d; steady = st; linked = l; past = λ j m. none j (omega (arith, m, many)) }
   serial_rises last budget i (r ∷ rs) s d small many st l rd none =
@@ -304,24 +304,24 @@ module _ {H C : Type 0} (w : Words H C) (done : H → ℕ) (counts : Counts w do
   length-rounds bs qs [] = refl
   length-rounds bs qs (h ∷ hs) = ap (λ (j : ℕ). suc j) (length-rounds bs (rest_of qs) hs)
 
-  round_kept : (last most budget : ℕ) (quotas : ℕ → List ℕ) (s : State H C) → ((m : ℕ) → All (λ q. q ≤ most) (quotas m)) → last + most + budget < 2 ^ 64 → Kept last s →
-      Kept (last + most + budget) (round_of w budget quotas s)
+  counts_hold_on : (last most budget : ℕ) (quotas : ℕ → List ℕ) (s : State H C) → ((m : ℕ) → All (λ q. q ≤ most) (quotas m)) → last + most + budget < 2 ^ 64 → CountsHold last s →
+      CountsHold (last + most + budget) (round_of w budget quotas s)
   unfolding round_of
-  round_kept last most budget quotas s low small k =
+  counts_hold_on last most budget quotas s low small k =
       let rs : List (HartRound H) = hart_rounds w s.bytes (quotas s.rounds) s.harts in
       let rose : Rose (last + most) k.counts_now (s.trace ++ events_from (s.rounds + 1) 0 rs) 0 rs =
       rounds_rise s.bytes last most k.counts_now s.trace (s.rounds + 1) 0 (quotas s.rounds) s.harts (omega (arith, small)) (low s.rounds) k.steady k.linked in
       serial_rises (last + most) budget 0 rs (committed s rs) rose.counts_now small refl rose.steady (no_harts (last + most + budget) rose.counts_now) rose.rounds
       (λ j m. rose.beyond j m ∙ k.past j (omega (arith, m, length-rounds s.bytes (quotas s.rounds) s.harts)))
 
-  run_rises : (last most budget : ℕ) (quotas : ℕ → List ℕ) (n : ℕ) (s : State H C) → ((m : ℕ) → All (λ q. q ≤ most) (quotas m)) → last + n * (most + budget) < 2 ^ 64 → Kept last s →
+  run_rises : (last most budget : ℕ) (quotas : ℕ → List ℕ) (n : ℕ) (s : State H C) → ((m : ℕ) → All (λ q. q ≤ most) (quotas m)) → last + n * (most + budget) < 2 ^ 64 → CountsHold last s →
       PlacesRise (run_of w budget quotas n s).trace
   unfolding run_of
   run_rises last most budget quotas zero s low small k = k.steady.rises
   run_rises last most budget quotas (suc n) s low small k =
       let one_more : (last + most + budget) + n * (most + budget) ≡ last + suc n * (most + budget) = omega arith in
       run_rises (last + most + budget) most budget quotas n (round_of w budget quotas s) low (omega (arith, one_more, small))
-      (round_kept last most budget quotas s low (omega (arith, one_more, small)) k)
+      (counts_hold_on last most budget quotas s low (omega (arith, one_more, small)) k)
 
   linked_start : (i : ℕ) (hs : List H) → All (λ h. done h ≡ 0) hs → Linked 0 (λ j. 0) i hs
   unfolding Linked
@@ -369,10 +369,10 @@ module _ {H C : Type 0} (w : Words H C) (done : H → ℕ) (counts : Counts w do
   none_past (h ∷ hs) zero m = absurd (omega (arith, m))
   none_past (h ∷ hs) (suc j) m = none_past hs j (omega (arith, m))
 
-  kept_placed : (last most budget : ℕ) (quotas : ℕ → List ℕ) (s : State H C) → ((m : ℕ) → All (λ q. q ≤ most) (quotas m)) → last + most + budget < 2 ^ 64 → Placed done last s.harts s.trace →
+  placed_on : (last most budget : ℕ) (quotas : ℕ → List ℕ) (s : State H C) → ((m : ℕ) → All (λ q. q ≤ most) (quotas m)) → last + most + budget < 2 ^ 64 → Placed done last s.harts s.trace →
       Placed done (last + most + budget) (round_of w budget quotas s).harts (round_of w budget quotas s).trace
-  kept_placed last most budget quotas s low small p =
-      let k : Kept (last + most + budget) (round_of w budget quotas s) = round_kept last most budget quotas s low small (record {
+  placed_on last most budget quotas s low small p =
+      let k : CountsHold (last + most + budget) (round_of w budget quotas s) = counts_hold_on last most budget quotas s low small (record {
         counts_now = count_at done s.harts;
         steady = record { rises = p.rising; below = p.below };
         linked = linked_from last (count_at done s.harts) 0 s.harts (λ j. ap (count_at done s.harts) (omega arith)) p.counts;
@@ -387,9 +387,9 @@ module _ {H C : Type 0} (w : Words H C) (done : H → ℕ) (counts : Counts w do
       }
 
 -- places stay below their harts' counts over a round
-pub places_kept : {H C : Type 0} (w : Words H C) (done : H → ℕ) → Counts w done → (last most budget : ℕ) (quotas : ℕ → List ℕ) (s : State H C) → ((m : ℕ) → All (λ q. q ≤ most) (quotas m)) →
+pub places_low : {H C : Type 0} (w : Words H C) (done : H → ℕ) → Counts w done → (last most budget : ℕ) (quotas : ℕ → List ℕ) (s : State H C) → ((m : ℕ) → All (λ q. q ≤ most) (quotas m)) →
     last + most + budget < 2 ^ 64 → Placed done last s.harts s.trace → Placed done (last + most + budget) (round_of w budget quotas s).harts (round_of w budget quotas s).trace
-places_kept w done counts last most budget quotas s low small p = kept_placed w done counts last most budget quotas s low small p
+places_low w done counts last most budget quotas s low small p = placed_on w done counts last most budget quotas s low small p
 
 pub rising : (H C : Type 0) → PlacesOfRunsRise H C
 rising H C = λ w done counts budget most quotas low n hs bs c zero_done small. places w done counts budget most quotas low n hs bs c zero_done small

@@ -19,14 +19,14 @@ unless f None = None
 unless f (Some s) = if any_byte f s.address (width_bytes s.width) then None else Some s
 
 -- what a hart's own access leaves of its reservation: an LR sets it, an SC drops it
-abbrev pub kept_by_own : Access → Option Span → Option Span
-kept_by_own (LoadReserved w o p a r) s = Some (record { address = a; width = w })
-kept_by_own (StoreConditional w o p a v) s = None
-kept_by_own _ s = s
+abbrev pub held_after_own : Access → Option Span → Option Span
+held_after_own (LoadReserved w o p a r) s = Some (record { address = a; width = w })
+held_after_own (StoreConditional w o p a v) s = None
+held_after_own _ s = s
 
 -- the reservation of hart h after an event
 abbrev pub held_after : ℕ → Event → Option Span → Option Span
-held_after h e s = if e.hart == h then kept_by_own e.access s else unless (writes e.access) s
+held_after h e s = if e.hart == h then held_after_own e.access s else unless (writes e.access) s
 
 abbrev pub held_from : ℕ → Option Span → List Event → Option Span
 held_from h s [] = s

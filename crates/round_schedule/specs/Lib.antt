@@ -1,6 +1,6 @@
 pub mod Accesses
-pub mod ByTable
-pub mod TabledTurn
+pub mod ByReservations
+pub mod ReservingTurn
 pub mod Events
 pub mod Held
 pub mod HeldBy
@@ -13,4 +13,4 @@ pub mod Schedule
 pub mod Sound
 pub mod Spans
 pub mod Stopped
-pub mod Tables
+pub mod Reservations

@@ -6,11 +6,11 @@ use Rattle.round_schedule.specs.declared.access.Stepped.{Stepped}
 use Rattle.round_schedule.specs.declared.access.Stepped.TheVariants.{Done, Waits, Stopped}
 use Rattle.round_schedule.specs.declared.event.Phase.TheVariants.{Serial}
 use Rattle.round_schedule.specs.Events.{events_of}
-use Rattle.round_schedule.specs.Schedule.{Words, Outcome, SerialOutcome, Progress, HartRound, State, Turn, began, went, next_of, hart_rounds, committed, serial_next, serial_from, round_of}
+use Rattle.round_schedule.specs.Schedule.{Words, StepOutcome, SerialOutcome, Progress, HartRound, State, Turn, began, went, next_of, hart_rounds, committed, serial_next, serial_from, round_of}
 
 -- ---- in the parallel phase: the hart after 0, 1, 2, .. instructions; the last one is the hart at the phase's end, stop included
 
-abbrev pub by_answer : {H : Type 0} → Stepped → Progress H → Outcome H → (Progress H → List H) → List H
+abbrev pub by_answer : {H : Type 0} → Stepped → Progress H → StepOutcome H → (Progress H → List H) → List H
 by_answer (Done a) p o f = p.hart ∷ f (went p o a)
 by_answer Waits p o f = o.hart ∷ []
 by_answer (Stopped code) p o f = o.hart ∷ []

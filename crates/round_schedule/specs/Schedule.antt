@@ -12,7 +12,7 @@ use Rattle.round_schedule.specs.Events.{events_of}
 use Rattle.round_schedule.specs.Held.{held}
 
 -- what one instruction leaves: its answer, the hart after it, and the stores that it made
-pub record Outcome (H : Type 0) : Type 0 where
+pub record StepOutcome (H : Type 0) : Type 0 where
   pub answer : Stepped
   pub hart : H
   pub stores : List Store
@@ -28,7 +28,7 @@ pub record SerialOutcome (H C : Type 0) : Type 0 where
 -- where the number of the round, the console and the hart's reservation are seen too
 pub record Words (H C : Type 0) : Type 0 where
   pub stopped : H → Bool
-  pub step : H → List ℕ → Outcome H
+  pub step : H → List ℕ → StepOutcome H
   pub serial_step : ℕ → H → List ℕ → C → Option Span → SerialOutcome H C
 
 -- ---- the round of one hart: its part of the parallel phase
@@ -47,20 +47,20 @@ pub record HartRound (H : Type 0) : Type 0 where
 abbrev pub began : {H : Type 0} → H → Progress H
 began h = record { hart = h; stores = []; accesses = [] }
 
-abbrev pub went : {H : Type 0} → Progress H → Outcome H → Option Access → Progress H
+abbrev pub went : {H : Type 0} → Progress H → StepOutcome H → Option Access → Progress H
 went p o a = record { hart = o.hart; stores = p.stores ++ o.stores; accesses = p.accesses ++ option_to_list a }
 
 abbrev pub ended : {H : Type 0} → Progress H → Bool → HartRound H
 ended p waits = record { last = p; waits = waits }
 
-abbrev pub halted : {H : Type 0} → Progress H → Outcome H → Bool → HartRound H
+abbrev pub halted : {H : Type 0} → Progress H → StepOutcome H → Bool → HartRound H
 halted p o waits = ended (record p { hart = o.hart }) waits
 
 -- the hart's next instruction, on the round's bytes under its own stores
-abbrev pub next_of : {H C : Type 0} → Words H C → List ℕ → Progress H → Outcome H
+abbrev pub next_of : {H C : Type 0} → Words H C → List ℕ → Progress H → StepOutcome H
 next_of w bs p = w.step p.hart (after bs p.stores)
 
-abbrev pub by_answer : {H : Type 0} → Stepped → Progress H → Outcome H → (Progress H → HartRound H) → HartRound H
+abbrev pub by_answer : {H : Type 0} → Stepped → Progress H → StepOutcome H → (Progress H → HartRound H) → HartRound H
 by_answer (Done a) p o f = f (went p o a)
 by_answer Waits p o f = halted p o true
 by_answer (Stopped code) p o f = halted p o false

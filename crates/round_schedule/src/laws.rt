@@ -1,8 +1,8 @@
 //! Laws of the definitions, each the contract of a function that does nothing.
 
 ghost use Rattle.round_schedule.specs.HeldBy.{HeldIsByLastReserve};
-ghost use Rattle.round_schedule.specs.ByTable.{CommitsByTable, RoundsByTable, RunsByTable};
-ghost use Rattle.round_schedule.specs.TabledTurn.{SerialPhaseByTable};
+ghost use Rattle.round_schedule.specs.ByReservations.{CommitsByReservations, RoundsByReservations, RunsByReservations};
+ghost use Rattle.round_schedule.specs.ReservingTurn.{SerialPhaseByReservations};
 ghost use Rattle.round_schedule.specs.Past.{PastEndsInRound};
 ghost use Rattle.round_schedule.specs.Places.{EventsPass, PlacesOfRunsRise};
 ghost use Rattle.round_schedule.specs.Preserved.{RoundsPreserve};
@@ -49,30 +49,30 @@ pub fn traces_are_round_traces<H, C>()
     ensures { TracesAreRoundTraces H C }
 {}
 
-/// Where a table of reservations is what the trace says, the serial phase over the table is that over the trace, and the
-/// table after it is what the trace after it says.
-pub fn serial_phase_by_table<H, C>()
-    ensures { SerialPhaseByTable H C }
+/// Where a list of reservations is what the trace says, the serial phase over the list is that over the trace, and the
+/// list after it is what the trace after it says.
+pub fn serial_phase_by_reservations<H, C>()
+    ensures { SerialPhaseByReservations H C }
 {}
 
-/// Where a table of reservations is what the trace says, the table after a commit is what the trace with the round's
+/// Where a list of reservations is what the trace says, the list after a commit is what the trace with the round's
 /// parallel events says.
-pub fn commits_by_table<H, C>()
-    ensures { CommitsByTable H C }
+pub fn commits_by_reservations<H, C>()
+    ensures { CommitsByReservations H C }
 {}
 
-/// Over sound instructions, and where the table is what the trace says, a round over the table is the round over the
-/// trace: it ends in the same state, and the table after it is what the trace after it says.
+/// Over sound instructions, and where the list is what the trace says, a round over the list is the round over the
+/// trace: it ends in the same state, and the list after it is what the trace after it says.
 ///
 /// It leaves bytes below 256, and as many harts and entries as there were, so that the law applies to the next round.
-pub fn rounds_by_table<H, C>()
-    ensures { RoundsByTable H C }
+pub fn rounds_by_reservations<H, C>()
+    ensures { RoundsByReservations H C }
 {}
 
-/// Over sound instructions, a run over a table that begins empty is the run over the trace. Its table is what the trace
+/// Over sound instructions, a run over a list that begins empty is the run over the trace. Its list is what the trace
 /// says at its end, and its trace is a round trace.
-pub fn runs_by_table<H, C>()
-    ensures { RunsByTable H C }
+pub fn runs_by_reservations<H, C>()
+    ensures { RunsByReservations H C }
 {}
 
 /// Where `done` counts a hart's instructions and a run is too short for the counts to wrap, the places of a hart's

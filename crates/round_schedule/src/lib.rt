@@ -13,9 +13,9 @@ pub use access::{Access, Stepped};
 pub use bounds::{MOST_HARTS, MOST_WORKERS};
 pub use event::{Event, Phase};
 pub use laws::{
-    commit_is_last_store, commits_by_table, events_pass, hart_round_is_longest,
-    held_is_by_last_reserve, past_ends_in_round, places_of_runs_rise, rounds_by_table,
-    rounds_preserve, runs_by_table, serial_phase_by_table, serial_turn_is_longest,
+    commit_is_last_store, commits_by_reservations, events_pass, hart_round_is_longest,
+    held_is_by_last_reserve, past_ends_in_round, places_of_runs_rise, rounds_by_reservations,
+    rounds_preserve, runs_by_reservations, serial_phase_by_reservations, serial_turn_is_longest,
     stopped_runs_pass, traces_are_round_traces,
 };
 pub use span::Span;

@@ -41,14 +41,14 @@ pub first_now : (a : Asked) (ws : List Watchpoint) (m : Running) (d : ℕ) (here
 first_now a ws m d here x none e = one_more a ws m d here ∙ ap (λ (y : Option Told). or_else y (first_in a ws (after_rounds d m) here)) none ∙ sym e
 
 -- what is found in some rounds is found in more
-kept_by : (a : Asked) (ws : List Watchpoint) (m : Running) (d n : ℕ) (here : Point) (x : Told) → (d ≡ suc n) ⊎ (d ≡ suc n → ⊥) → d ≤ suc n → next_point_of a ws m d here ≡ Some x → (d ≤ n → next_point_of a ws m n here ≡ Some x) → next_point_of a ws m (suc n) here ≡ Some x
+stays_found : (a : Asked) (ws : List Watchpoint) (m : Running) (d n : ℕ) (here : Point) (x : Told) → (d ≡ suc n) ⊎ (d ≡ suc n → ⊥) → d ≤ suc n → next_point_of a ws m d here ≡ Some x → (d ≤ n → next_point_of a ws m n here ≡ Some x) → next_point_of a ws m (suc n) here ≡ Some x
 unfolding next_point_of
-kept_by a ws m d n here x (inl e) le found ih = ap (λ (k : ℕ). next_point_of a ws m k here) (sym e) ∙ found
-kept_by a ws m d n here x (inr ne) le found ih = ap (λ (y : Option Told). or_else y (first_in a ws (after_rounds n m) here)) (ih (omega (arith, le, ne)))
+stays_found a ws m d n here x (inl e) le found ih = ap (λ (k : ℕ). next_point_of a ws m k here) (sym e) ∙ found
+stays_found a ws m d n here x (inr ne) le found ih = ap (λ (y : Option Told). or_else y (first_in a ws (after_rounds n m) here)) (ih (omega (arith, le, ne)))
 
 pub still_found : (a : Asked) (ws : List Watchpoint) (m : Running) (d n : ℕ) (here : Point) (x : Told) → d ≤ n → next_point_of a ws m d here ≡ Some x → next_point_of a ws m n here ≡ Some x
 still_found a ws m d zero here x le found = (let e : 0 ≡ d = omega (arith, le) in ap (λ (k : ℕ). next_point_of a ws m k here) e) ∙ found
-still_found a ws m d (suc n) here x le found = kept_by a ws m d n here x (cases_eq d (suc n)) le found (λ l. still_found a ws m d n here x l found)
+still_found a ws m d (suc n) here x le found = stays_found a ws m d n here x (cases_eq d (suc n)) le found (λ l. still_found a ws m d n here x l found)
 
 -- ---- on the way back
 

@@ -133,8 +133,8 @@ module _ (a : Asked) (asks : AsksOfStops a) (m : Running) where
   harts_after k = (after_rounds k m).state.harts
 
   -- what a hart is after j rounds, where it has stopped, it is after k
-  kept : (j k i : ℕ) (h : Hart) → j ≤ k → slice_get (harts_after j) i ≡ Some h → is_some h.stop ≡ true → slice_get (harts_after k) i ≡ Some h
-  kept j k i h le e stops =
+  stays_stopped : (j k i : ℕ) (h : Hart) → j ≤ k → slice_get (harts_after j) i ≡ Some h → is_some h.stop ≡ true → slice_get (harts_after k) i ≡ Some h
+  stays_stopped j k i h le e stops =
       let sum : j + (k - j) ≡ k = omega (arith, le) in
       subst (λ (n : ℕ). slice_get (harts_after n) i ≡ Some h) sum
       (subst (λ (r : Running). slice_get r.state.harts i ≡ Some h) (more_rounds j (k - j) m)
@@ -157,7 +157,7 @@ module _ (a : Asked) (asks : AsksOfStops a) (m : Running) where
   quiet_then j k i h g true false lt none eh eg runs et es = asks i g es
   quiet_then j k i h g true true lt none eh eg runs et es =
       let before = ran_before j i h (slice_get m.state.harts i) eh runs refl in
-      absurd (told_then i before.0 g m.state.harts (harts_after k) none before.1 (kept (j + 1) k i g (omega (arith, lt)) eg es) before.2 et)
+      absurd (told_then i before.0 g m.state.harts (harts_after k) none before.1 (stays_stopped (j + 1) k i g (omega (arith, lt)) eg es) before.2 et)
 
   anew_in_round : (j k i : ℕ) (o p : Option Hart) → j < k → NoNewStop a m.state.harts (harts_after k) → slice_get (harts_after j) i ≡ o → slice_get (harts_after (j + 1)) i ≡ p → tells_anew a i o p ≡ false
   anew_in_round j k i None None lt none eo ep = refl
@@ -208,17 +208,17 @@ module _ (a : Asked) (asks : AsksOfStops a) (m : Running) where
 
 -- ---- a search in which nothing was asked for, where no hart has stopped
 
-pub first_kept : (a b : Asked) (asks : AsksOfStops a) (m : Running) (silent : IsSilent b) (ws : List Watchpoint) (n : ℕ) (here : Point) (u v : Untraced) (before after : List Hart) (x : Option Told) → IsUntraced m u → before ≡ u.harts → after ≡ v.harts → NoNewStop a before after →
+pub first_stays : (a b : Asked) (asks : AsksOfStops a) (m : Running) (silent : IsSilent b) (ws : List Watchpoint) (n : ℕ) (here : Point) (u v : Untraced) (before after : List Hart) (x : Option Told) → IsUntraced m u → before ≡ u.harts → after ≡ v.harts → NoNewStop a before after →
     FindsFirst b ws m n here u v x → FindsFirst a ws m n here u v x
-first_kept a b asks m silent ws n here u v before after x is eb ea none f =
+first_stays a b asks m silent ws n here u v before after x is eb ea none f =
     let same : NoNewStop a m.state.harts (after_rounds f.done m).state.harts =
     subst (λ (hs : List Hart). NoNewStop a hs (after_rounds f.done m).state.harts) (eb ∙ is.harts) (subst (λ (hs : List Hart). NoNewStop a before hs) (ea ∙ f.run.harts) none) in
     let le : f.done ≤ f.done = omega arith in
     record { done = f.done; most = f.most; all = f.all; run = f.run; rounds = f.rounds; told = f.told ∙ same_next a asks m b silent ws f.done f.done here le same }
 
-pub last_kept : (a b : Asked) (asks : AsksOfStops a) (m : Running) (silent : IsSilent b) (ws : List Watchpoint) (n : ℕ) (here : Point) (u v : Untraced) (before after : List Hart) (x : Option Told) → IsUntraced m u → before ≡ u.harts → after ≡ v.harts → NoNewStop a before after →
+pub last_stays : (a b : Asked) (asks : AsksOfStops a) (m : Running) (silent : IsSilent b) (ws : List Watchpoint) (n : ℕ) (here : Point) (u v : Untraced) (before after : List Hart) (x : Option Told) → IsUntraced m u → before ≡ u.harts → after ≡ v.harts → NoNewStop a before after →
     FindsLast b ws m n here u v x → FindsLast a ws m n here u v x
-last_kept a b asks m silent ws n here u v before after x is eb ea none f =
+last_stays a b asks m silent ws n here u v before after x is eb ea none f =
     let same : NoNewStop a m.state.harts (after_rounds n m).state.harts =
     subst (λ (hs : List Hart). NoNewStop a hs (after_rounds n m).state.harts) (eb ∙ is.harts) (subst (λ (hs : List Hart). NoNewStop a before hs) (ea ∙ f.run.harts) none) in
     let le : n ≤ n = omega arith in

@@ -25,12 +25,12 @@ is_there m n u v is e same =
 pub start_there : (start : Untraced) → start.rounds ≡ 0 → IsThere start start
 start_there start none = λ m is. from_start m start start is none refl
 
-pub none_kept : (start : Untraced) (us : List Untraced) → us ≡ [] → All (IsThere start) us
-none_kept start us e = All-same (IsThere start) us [] e (All-nil (IsThere start))
+pub none_there : (start : Untraced) (us : List Untraced) → us ≡ [] → All (IsThere start) us
+none_there start us e = All-same (IsThere start) us [] e (All-nil (IsThere start))
 
-pub one_kept : (start u v : Untraced) (us vs : List Untraced) (b : Bool) → All (IsThere start) us → IsThere start u → v ≡ u → vs ≡ cond b (us ++ v ∷ []) us → All (IsThere start) vs
-one_kept start u v us vs true all is same e = All-same (IsThere start) vs (us ++ v ∷ []) e (All-push (IsThere start) us v all (subst (IsThere start) (sym same) is))
-one_kept start u v us vs false all is same e = All-same (IsThere start) vs us e all
+pub one_more_there : (start u v : Untraced) (us vs : List Untraced) (b : Bool) → All (IsThere start) us → IsThere start u → v ≡ u → vs ≡ cond b (us ++ v ∷ []) us → All (IsThere start) vs
+one_more_there start u v us vs true all is same e = All-same (IsThere start) vs (us ++ v ∷ []) e (All-push (IsThere start) us v all (subst (IsThere start) (sym same) is))
+one_more_there start u v us vs false all is same e = All-same (IsThere start) vs us e all
 
 -- a machine some rounds after one that is there
 pub goes_there : (m : Running) (b d : ℕ) (v : Untraced) → IsUntraced (after_rounds d (after_rounds b m)) v → v.rounds ≡ b + d → IsUntraced (after_rounds v.rounds m) v

@@ -14,11 +14,11 @@ abbrev pub IsThere : Untraced → Untraced → Type 0
 IsThere start u = (m : Running) → IsUntraced m start → IsUntraced (after_rounds u.rounds m) u
 
 -- it is that of a run with this code, `here` and those that are kept are machines of that run, and rounds lie between two of these
-pub record Holds (start here : Untraced) (kept : List Untraced) (apart : ℕ) (code : List Range) (rounds : ℕ) : Type 0 where
+pub record Holds (start here : Untraced) (machines : List Untraced) (apart : ℕ) (code : List Range) (rounds : ℕ) : Type 0 where
   pub run : (m : Running) × IsUntraced m start
   pub fresh : start.rounds ≡ 0
   pub has_code : (m : Running) → IsUntraced m start → m.code ≡ code
   pub later : IsThere start here
-  pub there : All (IsThere start) kept
+  pub there : All (IsThere start) machines
   pub some : 1 ≤ apart
   pub few : rounds + 1 < 2 ^ 32

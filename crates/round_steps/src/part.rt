@@ -1,13 +1,13 @@
 ghost use Rattle.std.specs.Prelude.{◌≡◌, ◌++◌, ◌||◌, ◌==◌, if◌then◌else◌, is_some, IfOk, OnOk, Some, None};
 ghost use Rattle.round_schedule.specs.declared.event.Phase.TheVariants.{Parallel};
-ghost use Rattle.hart_step.specs.CodeTables.{Shows};
+ghost use Rattle.hart_step.specs.DecodedCode.{Shows};
 ghost use Rattle.walking.specs.Hits.{harts_in_part, tells};
 ghost use Rattle.walking.specs.Quiet.{AreQuiet};
 ghost use Rattle.walking.specs.Stops.{sight_of};
 ghost use Rattle.round_steps.specs.Places.{part_counts, places, turn_comes};
 
 use crate::place::{Place, add_places};
-use hart_step::{Buffered, CodeTable, Hart};
+use hart_step::{Buffered, DecodedCode, Hart};
 use pages::{OutOfMemory, Pages};
 use round_schedule::Phase;
 use walking::{Asked, hits_in_part};
@@ -21,17 +21,17 @@ pub(crate) struct Before {
 }
 
 /// Adds the places of a hart's part of the parallel phase, which begins with this memory, and answers after how many instructions
-/// its turn comes, if it does. `runs` are the `quiet_runs` of the table and of the addresses that are asked for.
+/// its turn comes, if it does. `runs` are the `quiet_lengths` of the code and of the addresses that are asked for.
 pub(crate) fn add_part(
     before: Before,
     pages: &Pages,
-    table: &CodeTable,
+    code: &DecodedCode,
     runs: &[u8],
     asked: &Asked,
     found: &mut Vec<Place>,
 ) -> Result<Option<u32>, OutOfMemory>
-    requires shows { Shows pages.now.memory table.now.first table.now.instructions }
-    requires quiet { AreQuiet asked.now.stops.items table.now.first table.now.instructions runs.now }
+    requires shows { Shows pages.now.memory code.now.first code.now.instructions }
+    requires quiet { AreQuiet asked.now.stops.items code.now.first code.now.instructions runs.now }
     ensures places { OnOk result (found.new.items ≡ found.old.items ++ places Parallel before.number
         (part_counts (tells asked.now before.number) before.hart (harts_in_part
         pages.now.memory.code before.quota (sight_of before.hart pages.now.memory)))) }
@@ -48,7 +48,7 @@ pub(crate) fn add_part(
         before.number,
         &mut turned,
         &mut view,
-        table,
+        code,
         runs,
         before.quota,
         asked,

@@ -33,7 +33,7 @@ pub struct Point {
 pub struct Told {
     /// The point.
     pub point: Point,
-    /// The watchpoint that tells it, by its place in the list, where one does.
+    /// The watchpoint that tells it, by its index in the list, where one does.
     pub watch: Option<usize>,
 }
 

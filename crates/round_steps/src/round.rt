@@ -14,7 +14,7 @@ use pages::{OutOfMemory, Range};
 use std::alloc::Global;
 use std::sync::Wait;
 use std::thread::Threads;
-use walking::{Asked, decoded, quiet_runs};
+use walking::{Asked, decoded, quiet_lengths};
 
 /// What the parts of the parallel phase of a round came to.
 #[derive(Drop)]
@@ -74,8 +74,8 @@ fn parts_in_round(
         // A run keeps its code.
         return Err(OutOfMemory);
     }
-    let table = decoded(pages, u64::MAX)?;
-    let runs = quiet_runs(pages.allocator(), &table, &asked.stops)?;
+    let decoded_code = decoded(pages, u64::MAX)?;
+    let runs = quiet_lengths(pages.allocator(), &decoded_code, &asked.stops)?;
     let mut found = Vec::new(pages.allocator());
     let mut turns = Vec::new(pages.allocator());
     // At most 64.
@@ -87,7 +87,7 @@ fn parts_in_round(
             hart: harts[number],
             quota: machine.plan().quota(machine.rounds() + 1, number as u32),
         };
-        turns.push(add_part(before, pages, &table, &runs, asked, &mut found)?)?;
+        turns.push(add_part(before, pages, &decoded_code, &runs, asked, &mut found)?)?;
     }
     Ok(Parts { found, turns })
 }

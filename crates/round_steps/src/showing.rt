@@ -242,12 +242,12 @@ fn end_of_moves(
         // A run keeps its code.
         return Err(OutOfMemory);
     }
-    let table = decoded(pages, u64::MAX)?;
+    let decoded_code = decoded(pages, u64::MAX)?;
     // As many as the machine has.
     let _harts = machine.harts();
     let quota = machine.plan().quota(machine.rounds() + 1, number);
     let most = count.min(u64::from(quota)) as u32;
-    Sight::after_part(pages.copy(pages.allocator())?, &table, hart, most)
+    Sight::after_part(pages.copy(pages.allocator())?, &decoded_code, hart, most)
 }
 
 /// A hart at the end of its part of the parallel phase.
@@ -271,11 +271,11 @@ fn end_of_part(
         // A run keeps its code.
         return Err(OutOfMemory);
     }
-    let table = decoded(pages, u64::MAX)?;
+    let decoded_code = decoded(pages, u64::MAX)?;
     // As many as the machine has.
     let _harts = machine.harts();
     let quota = machine.plan().quota(machine.rounds() + 1, number);
-    Sight::after_part(pages.copy(pages.allocator())?, &table, hart, quota)
+    Sight::after_part(pages.copy(pages.allocator())?, &decoded_code, hart, quota)
 }
 
 /// A hart at the end of the round.

@@ -22,7 +22,7 @@ use std::thread::Threads;
 const LONGER: u32 = 8;
 
 /// The most machines that are kept to go on from.
-const MOST_KEPT: u32 = 128;
+const MOST_MACHINES: u32 = 128;
 
 /// The most pages that they may have of their own: 256 MiB.
 const MOST_PAGES: u32 = 65_536;
@@ -35,7 +35,7 @@ pub struct Timeline {
     /// The machine before the round that was looked at last.
     here: UntracedMachine,
     /// Machines after some rounds, to go on from.
-    kept: Vec<UntracedMachine>,
+    machines: Vec<UntracedMachine>,
     /// How many rounds lie between two of them, at least.
     apart: u32,
     code: Vec<Range>,
@@ -49,7 +49,7 @@ impl Model for Timeline {
 
     ghost view = { λ t. record { start = t.start; rounds = t.rounds } };
 
-    ghost invariant = { λ t. Holds t.start t.here t.kept.items t.apart t.code.items t.rounds };
+    ghost invariant = { λ t. Holds t.start t.here t.machines.items t.apart t.code.items t.rounds };
 }
 
 impl Timeline {
@@ -73,12 +73,12 @@ impl Timeline {
     {
         let mut start = machine;
         let here = start.share()?;
-        let kept = Vec::new(start.pages().allocator());
+        let machines = Vec::new(start.pages().allocator());
         let apart = rounds_apart(rounds, start.pages().count());
         Ok(Timeline {
             start,
             here,
-            kept,
+            machines,
             apart,
             code,
             rounds,
@@ -248,7 +248,7 @@ impl Timeline {
         if self.here.rounds() <= rounds {
             nearest = &self.here;
         }
-        for machine in &self.kept {
+        for machine in &self.machines {
             if machine.rounds() <= rounds && machine.rounds() > nearest.rounds() {
                 nearest = machine;
             }
@@ -288,20 +288,20 @@ impl Timeline {
         ensures refused { IfErr result (λ e. e ≡ refusals.OutOfMemory) }
     {
         self.here = machine.share()?;
-        if self.kept.len() >= MOST_KEPT as usize
-            || !is_far(&self.kept, self.apart, machine.rounds())
+        if self.machines.len() >= MOST_MACHINES as usize
+            || !is_far(&self.machines, self.apart, machine.rounds())
         {
             return Ok(());
         }
-        let kept = machine.share()?;
-        self.kept.push(kept).map_err(|_| RunError::OutOfMemory)?;
+        let copy = machine.share()?;
+        self.machines.push(copy).map_err(|_| RunError::OutOfMemory)?;
         Ok(())
     }
 }
 
 /// Whether none of these machines did so many rounds, or fewer than `apart` less.
-fn is_far(kept: &[UntracedMachine], apart: u32, rounds: u32) -> bool {
-    for machine in kept {
+fn is_far(machines: &[UntracedMachine], apart: u32, rounds: u32) -> bool {
+    for machine in machines {
         let done = machine.rounds();
         if done <= rounds && rounds - done < apart {
             return false;
@@ -314,6 +314,6 @@ fn is_far(kept: &[UntracedMachine], apart: u32, rounds: u32) -> bool {
 fn rounds_apart(rounds: u32, pages: u32) -> u32
     ensures { 1 ≤ result }
 {
-    let most = (MOST_PAGES / pages.max(1)).min(MOST_KEPT).max(1);
+    let most = (MOST_PAGES / pages.max(1)).min(MOST_MACHINES).max(1);
     (rounds / most).saturating_add(1)
 }

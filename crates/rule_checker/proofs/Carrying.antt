@@ -9,13 +9,13 @@ use Rattle.round_schedule.specs.Accesses.{stores}
 use Rattle.round_schedule.specs.Positions.{ProgramBefore, event, reads_at}
 use Rattle.hart_step.specs.Registers.{reg, set_reg}
 use Rattle.memory_order.specs.Operations.{is_operation, is_store}
-use Rattle.memory_order.specs.Orders.{ListsOperations, place}
+use Rattle.memory_order.specs.Orders.{ListsOperations, order_position}
 use Rattle.memory_order.specs.Rvwmo.{IsSource, MaySee}
-use Rattle.memory_order.proofs.Placing.{place_of_contained}
+use Rattle.memory_order.proofs.Placing.{position_of_contained}
 use Rattle.memory_order.proofs.Sources.{store_at}
-use Rattle.dependencies.specs.declared.table.Registers.{Registers}
-use Rattle.dependencies.specs.Dependencies.{AddressDependency, AnyDependency, DataDependency, DependencyRule, Depends, IsSourceRegister, KeptAt, by-address, by-address-between, by-control, by-data, by-forwarding, destination_at, registers_at}
-use Rattle.dependencies.proofs.Steps.{Carried_on, depends_earlier, depends_hart, depends_register, kept_down, kept_up, new_down, new_here, new_up}
+use Rattle.dependencies.specs.declared.registers.Registers.{Registers}
+use Rattle.dependencies.specs.Dependencies.{AddressDependency, AnyDependency, DataDependency, DependencyRule, Depends, IsSourceRegister, RespectsAt, by-address, by-address-between, by-control, by-data, by-forwarding, destination_at, registers_at}
+use Rattle.dependencies.proofs.Steps.{Carried_on, depends_earlier, depends_hart, depends_register, stays_down, stays_up, new_down, new_here, new_up}
 use Rattle.rule_checker.specs.declared.carried.Carried.{Carried}
 use Rattle.order_checker.specs.Checking.{IsMax}
 use Rattle.rule_checker.specs.CarriedBounds.{AllowedBy, AreOperands, AreRegisters, MayForwardAll, carried_after, destination_with, none_carried, operand_bound, result_bound, sources_bound}
@@ -47,17 +47,17 @@ length-set_reg xs d v = elim (cases_eq d 0) [
 reg_zero : (xs : List ℕ) → reg xs 0 ≡ 0
 reg_zero xs = refl
 
--- ---- the bounds of a hart before place j
+-- ---- the bounds of a hart before index j
 
 -- memory operations that register r depends on
 abbrev pub Reached : List Instr → List Event → ℕ → ℕ → ℕ → ℕ → Type 0
 Reached is t h j r a = (is_operation (event t a) ≡ true) × Depends is t h j r a
 
--- memory operations that a branch or indirect jump before place j depends on
+-- memory operations that a branch or indirect jump before index j depends on
 abbrev pub Steered : List Instr → List Event → ℕ → ℕ → ℕ → Type 0
 Steered is t h j a = (is_operation (event t a) ≡ true) × ((m : ℕ) × (m < j) × ((event t m).hart ≡ h) × ((registers_at is m).steers ≡ true) × AnyDependency is t a m)
 
--- memory operations that the address of an instruction before place j depends on
+-- memory operations that the address of an instruction before index j depends on
 abbrev pub Addressed : List Instr → List Event → ℕ → ℕ → ℕ → Type 0
 Addressed is t h j a = (is_operation (event t a) ≡ true) × ((m : ℕ) × (m < j) × ((event t m).hart ≡ h) × AddressDependency is t a m)
 
@@ -177,8 +177,8 @@ registers_more is t pos h j next c here fit at k r l = elim (cases_eq r d) [
   | inr other ↦
       subst (IsMax pos (Reached is t h (j + 1) r)) (sym (reg_other c.registers d r v other))
       (max_alike pos (Reached is t h j r) (Reached is t h (j + 1) r) (reg c.registers r)
-      (λ a p. (p.0, kept_up is t h j r a (λ _ s. other (sym s)) p.1))
-      (λ a p. (p.0, kept_down is t h j (j + 1) r a refl (λ _ s. other (sym s)) p.1))
+      (λ a p. (p.0, stays_up is t h j r a (λ _ s. other (sym s)) p.1))
+      (λ a p. (p.0, stays_down is t h j (j + 1) r a refl (λ _ s. other (sym s)) p.1))
       (k.registers r l))
 ]
   where
@@ -188,7 +188,7 @@ registers_more is t pos h j next c here fit at k r l = elim (cases_eq r d) [
     v : ℕ
     v = result_bound c (registers_at is j) (is_operation (event t j)) next
 
--- what held before a place holds before the next, and what is new is of the place itself
+-- what held before an index holds before the next, and what is new is of the index itself
 pub split_place : (j m : ℕ) → m < j + 1 → (m < j) ⊎ (m ≡ j)
 split_place j m l = elim (cases_lt m j) [ inl b ↦ inl b | inr b ↦ inr (omega (arith, b, l)) ]
 
@@ -235,8 +235,8 @@ carries_skip : (is : List Instr) (t : List Event) (pos : ℕ → ℕ) (h j : ℕ
 carries_skip is t pos h j c other k = record {
   size = k.size;
   registers = λ r l. max_alike pos (Reached is t h j r) (Reached is t h (j + 1) r) (reg c.registers r)
-      (λ a p. (p.0, kept_up is t h j r a (λ s. absurd (other s)) p.1))
-      (λ a p. (p.0, kept_down is t h j (j + 1) r a refl (λ s. absurd (other s)) p.1))
+      (λ a p. (p.0, stays_up is t h j r a (λ s. absurd (other s)) p.1))
+      (λ a p. (p.0, stays_down is t h j (j + 1) r a refl (λ s. absurd (other s)) p.1))
       (k.registers r l);
   steered = max_alike pos (Steered is t h j) (Steered is t h (j + 1)) c.steered
       (λ a p. (p.0, (p.1.0, omega (arith, p.1.1), p.1.2, p.1.3, p.1.4)))
@@ -277,30 +277,30 @@ bound_of_source t pos b x m s source k =
       | inr v ↦ let l = source.1 v.0 v.1 in omega (arith, u, l, v.2)
     ]
 
-pub listed_at : (t : List Event) (g : List ℕ) (m s : ℕ) → ListsOperations t g → is_operation (event t m) ≡ true → s ≡ place g m + 1 → get_or g (s - 1) 0 ≡ m
+pub listed_at : (t : List Event) (g : List ℕ) (m s : ℕ) → ListsOperations t g → is_operation (event t m) ≡ true → s ≡ order_position g m + 1 → get_or g (s - 1) 0 ≡ m
 listed_at t g m s lists op e =
-    let f = place_of_contained g m (lists.each m op) in
-    let k : s - 1 ≡ place g m = omega (arith, e) in
+    let f = position_of_contained g m (lists.each m op) in
+    let k : s - 1 ≡ order_position g m = omega (arith, e) in
     ap (λ n. get_or g n 0) k ∙ f.1
 
-pub source_of_bound : (t : List Event) (g : List ℕ) (b x s : ℕ) → ListsOperations t g → IsMax (place g) (MaySee t (place g) b x) s → s ≢ 0 → IsSource t (place g) b x (Some (get_or g (s - 1) 0))
+pub source_of_bound : (t : List Event) (g : List ℕ) (b x s : ℕ) → ListsOperations t g → IsMax (order_position g) (MaySee t (order_position g) b x) s → s ≢ 0 → IsSource t (order_position g) b x (Some (get_or g (s - 1) 0))
 source_of_bound t g b x s lists k nonzero = elim k.attained [
   | inl z ↦ absurd (nonzero z)
   | inr v ↦
       let m : get_or g (s - 1) 0 ≡ v.0 = listed_at t g v.0 s lists (store_at t v.0 x v.1.0) (sym v.2) in
-      subst (λ n. IsSource t (place g) b x (Some n)) (sym m) (v.1, λ u q. let l = k.upper u q in omega (arith, l, v.2))
+      subst (λ n. IsSource t (order_position g) b x (Some n)) (sym m) (v.1, λ u q. let l = k.upper u q in omega (arith, l, v.2))
 ]
 
 -- ---- what the bounds say
 
-pub kept_from_allowed : (is : List Instr) (t : List Event) (g : List ℕ) (b p : ℕ) (e : Event) (x : Registers) (c : Carried) (operands : List ℕ) (sources : ℕ → ℕ) → e ≡ event t b → x ≡ registers_at is b →
-    AreRegisters x → p ≡ place g b → ListsOperations t g → Carries is t (place g) e.hart b c → AreOperands is t (place g) b operands →
-    ((y : ℕ) → reads_at t b y ≡ true → IsMax (place g) (MaySee t (place g) b y) (sources y)) →
-    AllowedBy c x e.access p → MayForwardAll t g operands sources b p → KeptAt is t (place g) b
-kept_from_allowed is t g b p e x c operands sources is_event is_registers fit at lists k are max allowed forwards a op rule = by_rule rule
+pub respected_from_allowed : (is : List Instr) (t : List Event) (g : List ℕ) (b p : ℕ) (e : Event) (x : Registers) (c : Carried) (operands : List ℕ) (sources : ℕ → ℕ) → e ≡ event t b → x ≡ registers_at is b →
+    AreRegisters x → p ≡ order_position g b → ListsOperations t g → Carries is t (order_position g) e.hart b c → AreOperands is t (order_position g) b operands →
+    ((y : ℕ) → reads_at t b y ≡ true → IsMax (order_position g) (MaySee t (order_position g) b y) (sources y)) →
+    AllowedBy c x e.access p → MayForwardAll t g operands sources b p → RespectsAt is t (order_position g) b
+respected_from_allowed is t g b p e x c operands sources is_event is_registers fit at lists k are max allowed forwards a op rule = by_rule rule
   where
     pos : ℕ → ℕ
-    pos = place g
+    pos = order_position g
 
     hart : e.hart ≡ (event t b).hart
     hart = ap (λ (f : Event). f.hart) is_event
@@ -340,21 +340,21 @@ kept_from_allowed is t g b p e x c operands sources is_event is_registers fit at
     by_rule (by-address-between m s before d) = below (below_max pos (Addressed is t (event t b).hart b) c.addressed p here.addressed (allowed.1 (storing s)).2 a
         (op, (m, before.earlier, before.same_hart, d)))
 
-pub allowed_from_kept : (is : List Instr) (t : List Event) (g : List ℕ) (b p : ℕ) (e : Event) (x : Registers) (c : Carried) → e ≡ event t b → x ≡ registers_at is b →
-    AreRegisters x → p ≡ place g b → Carries is t (place g) e.hart b c → KeptAt is t (place g) b → AllowedBy c x e.access p
-allowed_from_kept is t g b p e x c is_event is_registers fit at k kept = (
+pub allowed_from_respected : (is : List Instr) (t : List Event) (g : List ℕ) (b p : ℕ) (e : Event) (x : Registers) (c : Carried) → e ≡ event t b → x ≡ registers_at is b →
+    AreRegisters x → p ≡ order_position g b → Carries is t (order_position g) e.hart b c → RespectsAt is t (order_position g) b → AllowedBy c x e.access p
+allowed_from_respected is t g b p e x c is_event is_registers fit at k respected = (
   subst (λ (y : Registers). reg c.registers y.address ≤ p) (sym is_registers) (via (registers_at is b).address fits.address (λ a d. by-address d)),
   λ s. (
     subst (λ (y : Registers). reg c.registers y.value ≤ p) (sym is_registers) (via (registers_at is b).value fits.value (λ a d. by-data (storing s) d)),
     max_below pos (Steered is t (event t b).hart b) c.steered p here.steered
-        (λ a q. below a (kept a q.0 (by-control (storing s) (q.1.0, record { earlier = q.1.1; same_hart = q.1.2 }, q.1.3, q.1.4)))),
+        (λ a q. below a (respected a q.0 (by-control (storing s) (q.1.0, record { earlier = q.1.1; same_hart = q.1.2 }, q.1.3, q.1.4)))),
     max_below pos (Addressed is t (event t b).hart b) c.addressed p here.addressed
-        (λ a q. below a (kept a q.0 (by-address-between q.1.0 (storing s) (record { earlier = q.1.1; same_hart = q.1.2 }) q.1.3))),
+        (λ a q. below a (respected a q.0 (by-address-between q.1.0 (storing s) (record { earlier = q.1.1; same_hart = q.1.2 }) q.1.3))),
   ),
 )
   where
     pos : ℕ → ℕ
-    pos = place g
+    pos = order_position g
 
     here : Carries is t pos (event t b).hart b c
     here = subst (λ h. Carries is t pos h b c) (ap (λ (f : Event). f.hart) is_event) k
@@ -369,14 +369,14 @@ allowed_from_kept is t g b p e x c is_event is_registers fit at k kept = (
     below a l = omega (arith, l, at)
 
     via : (r : ℕ) → r < 32 → ((a : ℕ) → Depends is t (event t b).hart b r a → DependencyRule is t pos a b) → reg c.registers r ≤ p
-    via r l rule = max_below pos (Reached is t (event t b).hart b r) (reg c.registers r) p (here.registers r l) (λ a q. below a (kept a q.0 (rule a q.1)))
+    via r l rule = max_below pos (Reached is t (event t b).hart b r) (reg c.registers r) p (here.registers r l) (λ a q. below a (respected a q.0 (rule a q.1)))
 
-pub forwards_from_kept : (is : List Instr) (t : List Event) (g : List ℕ) (b p : ℕ) (operands : List ℕ) (sources : ℕ → ℕ) → p ≡ place g b → ListsOperations t g →
-    AreOperands is t (place g) b operands → ((y : ℕ) → reads_at t b y ≡ true → IsMax (place g) (MaySee t (place g) b y) (sources y)) →
-    KeptAt is t (place g) b → MayForwardAll t g operands sources b p
-forwards_from_kept is t g b p operands sources at lists are max kept y reads nonzero l hart =
-    max_below (place g) _ (get_or operands (get_or g (sources y - 1) 0) 0) p (are.1 (get_or g (sources y - 1) 0) l)
-    (λ a q. let k = kept a q.0 (by-forwarding (get_or g (sources y - 1) 0) y (record { earlier = l; same_hart = hart }) q.1 reads
+pub forwards_from_respected : (is : List Instr) (t : List Event) (g : List ℕ) (b p : ℕ) (operands : List ℕ) (sources : ℕ → ℕ) → p ≡ order_position g b → ListsOperations t g →
+    AreOperands is t (order_position g) b operands → ((y : ℕ) → reads_at t b y ≡ true → IsMax (order_position g) (MaySee t (order_position g) b y) (sources y)) →
+    RespectsAt is t (order_position g) b → MayForwardAll t g operands sources b p
+forwards_from_respected is t g b p operands sources at lists are max respected y reads nonzero l hart =
+    max_below (order_position g) _ (get_or operands (get_or g (sources y - 1) 0) 0) p (are.1 (get_or g (sources y - 1) 0) l)
+    (λ a q. let k = respected a q.0 (by-forwarding (get_or g (sources y - 1) 0) y (record { earlier = l; same_hart = hart }) q.1 reads
     (source_of_bound t g b y (sources y) lists (max y reads) nonzero)) in omega (arith, k, at))
 
 -- one more event's operands

@@ -7,11 +7,11 @@ use Rattle.round_schedule.specs.declared.event.Event.{Event}
 use Rattle.round_schedule.specs.Accesses.{is_sc, loads, reads, stores, writes}
 use Rattle.round_schedule.specs.Positions.{ProgramBefore, event, reads_at, writes_at}
 use Rattle.memory_order.specs.Operations.{covers, is_amo, is_operation, is_plain_store}
-use Rattle.memory_order.specs.Orders.{ListsOperations, place}
+use Rattle.memory_order.specs.Orders.{ListsOperations, order_position}
 use Rattle.memory_order.specs.Rvwmo.{IsSource, MaySee}
-use Rattle.memory_order.proofs.Sources.{load_at, one_place, store_at}
+use Rattle.memory_order.proofs.Sources.{load_at, one_position, store_at}
 use Rattle.order_checker.specs.Checking.{Earlier, IsMax}
-use Rattle.rule_checker.specs.Bytes.{BytesKeptAt, IsForwarded, MayLoad, RuleByByte, byte-atomic, byte-different, byte-overlap}
+use Rattle.rule_checker.specs.Bytes.{RespectsBytesAt, IsForwarded, MayLoad, RuleByByte, byte-atomic, byte-different, byte-overlap}
 use Rattle.order_checker.proofs.Bounding.{below_max, earlier_none, earlier_step, max_below, max_join_if, max_none}
 use Rattle.rule_checker.proofs.Carrying.{bound_of_source, listed_at, source_of_bound, split_place}
 use Rattle.order_checker.proofs.Sourcing.{same_number}
@@ -41,7 +41,7 @@ touched_step t pos i next e old new is at set was h x =
     from : (event t i).hart ≡ h → is_touching x (event t i) ≡ true → (h == e.hart && is_touching x e) ≡ true
     from s w = and_from (h == e.hart) (is_touching x e) (eq-eqb h e.hart (sym s ∙ ap (λ (f : Event). f.hart) (sym is))) (ap (is_touching x) is ∙ w)
 
--- a store that a load of byte x of hart h before place i may be from
+-- a store that a load of byte x of hart h before index i may be from
 abbrev SeenBy : List Event → (ℕ → ℕ) → ℕ → ℕ → ℕ → ℕ → Type 0
 SeenBy t pos h i x w = (a : ℕ) × (a < i) × ((event t a).hart ≡ h) × (reads_at t a x ≡ true) × MaySee t pos a x w
 
@@ -114,10 +114,10 @@ passes_on t pos a b x w before l none m = elim m.1 [
   ]
 ]
 
-pub atomic_from_tests : (t : List Event) (g : List ℕ) (b p a x s : ℕ) → ListsOperations t g → p ≡ place g b → (is_amo (event t a).access || is_sc (event t a).access) ≡ true →
-    IsMax (place g) (MaySee t (place g) b x) s → IsForwarded t g p s → IsSource t (place g) b x (Some a) → place g a < place g b
+pub atomic_from_tests : (t : List Event) (g : List ℕ) (b p a x s : ℕ) → ListsOperations t g → p ≡ order_position g b → (is_amo (event t a).access || is_sc (event t a).access) ≡ true →
+    IsMax (order_position g) (MaySee t (order_position g) b x) s → IsForwarded t g p s → IsSource t (order_position g) b x (Some a) → order_position g a < order_position g b
 atomic_from_tests t g b p a x s lists at atomic max forwarded source =
-    let e = bound_of_source t (place g) b x a s source max in
+    let e = bound_of_source t (order_position g) b x a s source max in
     elim forwarded [
       | inl l ↦ omega (arith, e, l, at)
       | inr plain ↦
@@ -125,10 +125,10 @@ atomic_from_tests t g b p a x s lists at atomic max forwarded source =
           absurd (not_plain (event t a).access atomic (subst (λ i. is_plain_store (event t i).access ≡ true) n plain))
     ]
 
-different_from_tests : (t : List Event) (g : List ℕ) (b p a x : ℕ) (s u : Option ℕ) (v : ℕ) → ListsOperations t g → p ≡ place g b → ProgramBefore t a b → reads_at t a x ≡ true → reads_at t b x ≡ true →
+different_from_tests : (t : List Event) (g : List ℕ) (b p a x : ℕ) (s u : Option ℕ) (v : ℕ) → ListsOperations t g → p ≡ order_position g b → ProgramBefore t a b → reads_at t a x ≡ true → reads_at t b x ≡ true →
     ((k : ℕ) → a < k → k < b → (event t k).hart ≡ (event t b).hart → writes_at t k x ≡ true → ⊥) →
-    IsMax (place g) (MaySee t (place g) b x) v → IsForwarded t g p v → ((w : ℕ) → MaySee t (place g) a x w → place g w < v) →
-    IsSource t (place g) a x s → IsSource t (place g) b x u → s ≢ u → place g b < place g a → ⊥
+    IsMax (order_position g) (MaySee t (order_position g) b x) v → IsForwarded t g p v → ((w : ℕ) → MaySee t (order_position g) a x w → order_position g w < v) →
+    IsSource t (order_position g) a x s → IsSource t (order_position g) b x u → s ≢ u → order_position g b < order_position g a → ⊥
 different_from_tests t g b p a x None None v lists at before ra rb none max forwarded seen sa ub d l = d refl
 different_from_tests t g b p a x (Some w) None v lists at before ra rb none max forwarded seen sa ub d l =
     let k = seen w sa.0 in
@@ -136,62 +136,62 @@ different_from_tests t g b p a x (Some w) None v lists at before ra rb none max 
       | inl z ↦ omega (arith, z, k)
       | inr m ↦ ub m.0 m.1
     ]
-different_from_tests t g b p a x s (Some y) v lists at before ra rb none max forwarded seen sa ub d l = elim (passes_on t (place g) a b x y before l none ub.0) [
+different_from_tests t g b p a x s (Some y) v lists at before ra rb none max forwarded seen sa ub d l = elim (passes_on t (order_position g) a b x y before l none ub.0) [
   | inl m ↦ earlier_source s sa d m
   | inr same ↦
       let wa : writes_at t a x ≡ true = subst (λ n. writes_at t n x ≡ true) same ub.0.0 in
       let k = atomic_from_tests t g b p a x v lists at (both_is_amo (event t a).access (and_parts (loads (event t a).access) (covers (event t a).access x) ra).0 (and_parts (stores (event t a).access) (covers (event t a).access x) wa).0) max forwarded
-      (subst (λ n. IsSource t (place g) b x (Some n)) same ub) in
+      (subst (λ n. IsSource t (order_position g) b x (Some n)) same ub) in
       omega (arith, k, l)
 ]
   where
-    earlier_source : (o : Option ℕ) → IsSource t (place g) a x o → o ≢ Some y → MaySee t (place g) a x y → ⊥
+    earlier_source : (o : Option ℕ) → IsSource t (order_position g) a x o → o ≢ Some y → MaySee t (order_position g) a x y → ⊥
     earlier_source None none_a different m = none_a y m
     earlier_source (Some w) w_a different m =
         let up = w_a.1 y m in
         let down = seen w w_a.0 in
-        let e = bound_of_source t (place g) b x y v ub max in
-        different (ap (λ n. Some n) (one_place t g w y lists (store_at t w x w_a.0.0) (store_at t y x m.0) (omega (arith, up, down, e))))
+        let e = bound_of_source t (order_position g) b x y v ub max in
+        different (ap (λ n. Some n) (one_position t g w y lists (store_at t w x w_a.0.0) (store_at t y x m.0) (omega (arith, up, down, e))))
 
-pub bytes_from_tests : (t : List Event) (g : List ℕ) (i p : ℕ) (e : Event) (touched seen sources : ℕ → ℕ → ℕ) → ListsOperations t g → e ≡ event t i → p ≡ place g i →
-    Touched t (place g) i touched → Seen t (place g) i seen → ((r x : ℕ) → reads_at t r x ≡ true → IsMax (place g) (MaySee t (place g) r x) (sources r x)) →
-    ((x : ℕ) → writes e.access x ≡ true → touched e.hart x ≤ p) → MayLoad t g (seen e.hart) (sources i) i p → BytesKeptAt t (place g) i
+pub bytes_from_tests : (t : List Event) (g : List ℕ) (i p : ℕ) (e : Event) (touched seen sources : ℕ → ℕ → ℕ) → ListsOperations t g → e ≡ event t i → p ≡ order_position g i →
+    Touched t (order_position g) i touched → Seen t (order_position g) i seen → ((r x : ℕ) → reads_at t r x ≡ true → IsMax (order_position g) (MaySee t (order_position g) r x) (sources r x)) →
+    ((x : ℕ) → writes e.access x ≡ true → touched e.hart x ≤ p) → MayLoad t g (seen e.hart) (sources i) i p → RespectsBytesAt t (order_position g) i
 bytes_from_tests t g i p e touched seen sources lists is at touch see max storing loading a op before rule = by_rule rule
   where
     hart : (event t a).hart ≡ e.hart
     hart = before.same_hart ∙ ap (λ (f : Event). f.hart) (sym is)
 
-    by_rule : RuleByByte t (place g) a i → place g a < place g i
+    by_rule : RuleByByte t (order_position g) a i → order_position g a < order_position g i
     by_rule (byte-overlap x s ca cb) =
         let w : writes e.access x ≡ true = ap (λ (f : Event). writes f.access x) is ∙ and_from (stores (event t i).access) (covers (event t i).access x) s cb in
-        let u = below_max (place g) (Earlier (is_touching x) t e.hart i) (touched e.hart x) p (touch e.hart x) (storing x w) a
+        let u = below_max (order_position g) (Earlier (is_touching x) t e.hart i) (touched e.hart x) p (touch e.hart x) (storing x w) a
         (before.earlier, hart, and_from (is_operation (event t a)) (covers (event t a).access x) op ca) in
         omega (arith, u, at)
     by_rule (byte-atomic x atomic rb source) = atomic_from_tests t g i p a x (sources i x) lists at atomic (max i x rb) (loading x rb).1 source
-    by_rule (byte-different x s u ra rb none sa ub d) = elim (cases_lt (place g a) (place g i)) [
+    by_rule (byte-different x s u ra rb none sa ub d) = elim (cases_lt (order_position g a) (order_position g i)) [
       | inl l ↦ l
-      | inr n ↦ elim (cases_eq (place g a) (place g i)) [
-        | inl same ↦ absurd (let k = one_place t g a i lists op (load_at t i x rb) same in let l = before.earlier in omega (arith, k, l))
+      | inr n ↦ elim (cases_eq (order_position g a) (order_position g i)) [
+        | inl same ↦ absurd (let k = one_position t g a i lists op (load_at t i x rb) same in let l = before.earlier in omega (arith, k, l))
         | inr o ↦ absurd (different_from_tests t g i p a x s u (sources i x) lists at before ra rb none (max i x rb) (loading x rb).1
-            (λ w m. below_max (place g) (SeenBy t (place g) e.hart i x) (seen e.hart x) (sources i x) (see e.hart x) (loading x rb).0 w (a, before.earlier, hart, ra, m))
+            (λ w m. below_max (order_position g) (SeenBy t (order_position g) e.hart i x) (seen e.hart x) (sources i x) (see e.hart x) (loading x rb).0 w (a, before.earlier, hart, ra, m))
             sa ub d (omega (arith, n, o)))
       ]
     ]
 
 -- ---- from the rules to the tests
 
-pub touched_from_kept : (t : List Event) (g : List ℕ) (i p : ℕ) (e : Event) (touched : ℕ → ℕ → ℕ) → e ≡ event t i → p ≡ place g i → Touched t (place g) i touched →
-    (is_operation (event t i) ≡ true → BytesKeptAt t (place g) i) → (x : ℕ) → writes e.access x ≡ true → touched e.hart x ≤ p
-touched_from_kept t g i p e touched is at touch kept x w =
+pub touched_from_respected : (t : List Event) (g : List ℕ) (i p : ℕ) (e : Event) (touched : ℕ → ℕ → ℕ) → e ≡ event t i → p ≡ order_position g i → Touched t (order_position g) i touched →
+    (is_operation (event t i) ≡ true → RespectsBytesAt t (order_position g) i) → (x : ℕ) → writes e.access x ≡ true → touched e.hart x ≤ p
+touched_from_respected t g i p e touched is at touch respected x w =
     let here : writes_at t i x ≡ true = sym (ap (λ (f : Event). writes f.access x) is) ∙ w in
-    max_below (place g) (Earlier (is_touching x) t e.hart i) (touched e.hart x) p (touch e.hart x)
+    max_below (order_position g) (Earlier (is_touching x) t e.hart i) (touched e.hart x) p (touch e.hart x)
     (λ a q.
     let parts = and_parts (is_operation (event t a)) (covers (event t a).access x) q.2 in
     let both = and_parts (stores (event t i).access) (covers (event t i).access x) here in
-    let k = kept (store_at t i x here) a parts.0 (record { earlier = q.0; same_hart = q.1 ∙ ap (λ (f : Event). f.hart) is }) (byte-overlap x both.0 parts.1 both.1) in
+    let k = respected (store_at t i x here) a parts.0 (record { earlier = q.0; same_hart = q.1 ∙ ap (λ (f : Event). f.hart) is }) (byte-overlap x both.0 parts.1 both.1) in
     omega (arith, k, at))
 
--- a store of the hart between two places, or none
+-- a store of the hart between two indexes, or none
 abbrev StoreBetween : List Event → ℕ → ℕ → ℕ → ℕ → Type 0
 StoreBetween t h x a n = (k : ℕ) × (a < k) × (k < n) × ((event t k).hart ≡ h) × (writes_at t k x ≡ true)
 
@@ -220,27 +220,27 @@ store_between t h x a (suc n) = elim (store_between t h x a n) [
   ]
 ]
 
-any_source : (t : List Event) (g : List ℕ) (b x s : ℕ) → ListsOperations t g → IsMax (place g) (MaySee t (place g) b x) s → (u : Option ℕ) × IsSource t (place g) b x u × ((w : ℕ) → u ≡ Some w → place g w < s)
+any_source : (t : List Event) (g : List ℕ) (b x s : ℕ) → ListsOperations t g → IsMax (order_position g) (MaySee t (order_position g) b x) s → (u : Option ℕ) × IsSource t (order_position g) b x u × ((w : ℕ) → u ≡ Some w → order_position g w < s)
 any_source t g b x s lists max = elim (cases_eq s 0) [
   | inl z ↦ (None, (λ w m. let l = max.upper w m in omega (arith, l, z)), λ w e. cc)
   | inr n ↦ (Some (get_or g (s - 1) 0), source_of_bound t g b x s lists max n, λ w e. let k = source_of_bound t g b x s lists max n in below w e k)
 ]
   where
-    below : (w : ℕ) → Some (get_or g (s - 1) 0) ≡ Some w → IsSource t (place g) b x (Some (get_or g (s - 1) 0)) → place g w < s
-    below w e k = let q = subst (IsSource t (place g) b x) e k in max.upper w q.0
+    below : (w : ℕ) → Some (get_or g (s - 1) 0) ≡ Some w → IsSource t (order_position g) b x (Some (get_or g (s - 1) 0)) → order_position g w < s
+    below w e k = let q = subst (IsSource t (order_position g) b x) e k in max.upper w q.0
 
-abbrev pub KeptBefore : List Event → (ℕ → ℕ) → ℕ → Type 0
-KeptBefore t pos i = (b : ℕ) → b < i → is_operation (event t b) ≡ true → BytesKeptAt t pos b
+abbrev pub RespectedBefore : List Event → (ℕ → ℕ) → ℕ → Type 0
+RespectedBefore t pos i = (b : ℕ) → b < i → is_operation (event t b) ≡ true → RespectsBytesAt t pos b
 
-seen_below : (t : List Event) (g : List ℕ) (a b x w : ℕ) (sources : ℕ → ℕ → ℕ) → ListsOperations t g → KeptBefore t (place g) b → BytesKeptAt t (place g) b → ProgramBefore t a b → reads_at t a x ≡ true → reads_at t b x ≡ true →
-    ((r y : ℕ) → reads_at t r y ≡ true → IsMax (place g) (MaySee t (place g) r y) (sources r y)) → MaySee t (place g) a x w → place g w < sources b x
-seen_below t g a b x w sources lists earlier kept before ra rb max m = elim (store_between t (event t b).hart x a b) [
+seen_below : (t : List Event) (g : List ℕ) (a b x w : ℕ) (sources : ℕ → ℕ → ℕ) → ListsOperations t g → RespectedBefore t (order_position g) b → RespectsBytesAt t (order_position g) b → ProgramBefore t a b → reads_at t a x ≡ true → reads_at t b x ≡ true →
+    ((r y : ℕ) → reads_at t r y ≡ true → IsMax (order_position g) (MaySee t (order_position g) r y) (sources r y)) → MaySee t (order_position g) a x w → order_position g w < sources b x
+seen_below t g a b x w sources lists earlier respected before ra rb max m = elim (store_between t (event t b).hart x a b) [
   | inl k ↦ past k
   | inr none ↦ beside none
 ]
   where
     pos : ℕ → ℕ
-    pos = place g
+    pos = order_position g
 
     up : (v : ℕ) → MaySee t pos b x v → pos v < sources b x
     up v q = (max b x rb).upper v q
@@ -276,7 +276,7 @@ seen_below t g a b x w sources lists earlier kept before ra rb max m = elim (sto
           let sa = any_source t g a x (sources a x) lists (max a x ra) in
           let sb = any_source t g b x (sources b x) lists (max b x rb) in
           let wa = (max a x ra).upper w m in
-          ahead (kept a (load_at t a x ra) before (byte-different x sa.0 sb.0 ra rb none sa.1 sb.1 (differ sa.0 sb.0 sa.1 sb.2 n)))
+          ahead (respected a (load_at t a x ra) before (byte-different x sa.0 sb.0 ra rb none sa.1 sb.1 (differ sa.0 sb.0 sa.1 sb.2 n)))
     ]
       where
         -- the store that a's byte is from is none that b's byte may be from
@@ -284,12 +284,12 @@ seen_below t g a b x w sources lists earlier kept before ra rb max m = elim (sto
         differ None u none_a below n e = none_a w m
         differ (Some v) u at_a below n e = let l = below v (sym e) in let k = at_a.1 w m in omega (arith, l, k, n)
 
-pub load_from_kept : (t : List Event) (g : List ℕ) (i p : ℕ) (e : Event) (seen sources : ℕ → ℕ → ℕ) → ListsOperations t g → e ≡ event t i → p ≡ place g i →
-    Seen t (place g) i seen → ((r x : ℕ) → reads_at t r x ≡ true → IsMax (place g) (MaySee t (place g) r x) (sources r x)) →
-    KeptBefore t (place g) i → (is_operation (event t i) ≡ true → BytesKeptAt t (place g) i) → MayLoad t g (seen e.hart) (sources i) i p
-load_from_kept t g i p e seen sources lists is at see max earlier kept x reads = (
-  max_below (place g) (SeenBy t (place g) e.hart i x) (seen e.hart x) (sources i x) (see e.hart x)
-      (λ w q. seen_below t g q.0 i x w sources lists earlier (kept (load_at t i x reads)) (record { earlier = q.1; same_hart = q.2 ∙ ap (λ (f : Event). f.hart) is }) q.3 reads max q.4),
+pub load_from_respected : (t : List Event) (g : List ℕ) (i p : ℕ) (e : Event) (seen sources : ℕ → ℕ → ℕ) → ListsOperations t g → e ≡ event t i → p ≡ order_position g i →
+    Seen t (order_position g) i seen → ((r x : ℕ) → reads_at t r x ≡ true → IsMax (order_position g) (MaySee t (order_position g) r x) (sources r x)) →
+    RespectedBefore t (order_position g) i → (is_operation (event t i) ≡ true → RespectsBytesAt t (order_position g) i) → MayLoad t g (seen e.hart) (sources i) i p
+load_from_respected t g i p e seen sources lists is at see max earlier respected x reads = (
+  max_below (order_position g) (SeenBy t (order_position g) e.hart i x) (seen e.hart x) (sources i x) (see e.hart x)
+      (λ w q. seen_below t g q.0 i x w sources lists earlier (respected (load_at t i x reads)) (record { earlier = q.1; same_hart = q.2 ∙ ap (λ (f : Event). f.hart) is }) q.3 reads max q.4),
   elim (cases_lt p (sources i x)) [
     | inr l ↦ inl l
     | inl l ↦
@@ -298,14 +298,14 @@ load_from_kept t g i p e seen sources lists is at see max earlier kept x reads =
         elim (plain_or_atomic (event t (get_or g (sources i x - 1) 0)).access (and_parts (stores (event t (get_or g (sources i x - 1) 0)).access) (covers (event t (get_or g (sources i x - 1) 0)).access x) source.0.0).0) [
           | inl plain ↦ inr plain
           | inr atomic ↦
-              let bound = bound_of_source t (place g) i x (get_or g (sources i x - 1) 0) (sources i x) source (max i x reads) in
+              let bound = bound_of_source t (order_position g) i x (get_or g (sources i x - 1) 0) (sources i x) source (max i x reads) in
               absurd (forward (get_or g (sources i x - 1) 0) source atomic (omega (arith, bound, l, at)))
         ]
   ],
 )
   where
-    forward : (a : ℕ) → IsSource t (place g) i x (Some a) → (is_amo (event t a).access || is_sc (event t a).access) ≡ true → place g i ≤ place g a → ⊥
+    forward : (a : ℕ) → IsSource t (order_position g) i x (Some a) → (is_amo (event t a).access || is_sc (event t a).access) ≡ true → order_position g i ≤ order_position g a → ⊥
     forward a source atomic l = elim source.0.1 [
       | inl k ↦ omega (arith, k, l)
-      | inr q ↦ let k = kept (load_at t i x reads) a (store_at t a x source.0.0) q (byte-atomic x atomic reads source) in omega (arith, k, l)
+      | inr q ↦ let k = respected (load_at t i x reads) a (store_at t a x source.0.0) q (byte-atomic x atomic reads source) in omega (arith, k, l)
     ]

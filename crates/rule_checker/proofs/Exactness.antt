@@ -7,12 +7,12 @@ use Rattle.round_schedule.specs.declared.event.Event.{Event}
 use Rattle.round_schedule.specs.Accesses.{is_lr, is_sc, loads, stores}
 use Rattle.round_schedule.specs.Positions.{event}
 use Rattle.memory_order.specs.Operations.{is_operation, is_store}
-use Rattle.memory_order.specs.Orders.{ListsOperations, place}
+use Rattle.memory_order.specs.Orders.{ListsOperations, order_position}
 use Rattle.memory_order.specs.Rvwmo.{AtomicityAxiom, IsPaired, LoadValueAxiom, MeetsRvwmoBy, PreservedOrderBy, Rule, acquired, both-annotated, dependent, different-writes, fenced, overlapping-store, paired, released, returns-atomic}
-use Rattle.dependencies.specs.Dependencies.{DependencyRule, KeptAt}
-use Rattle.rule_checker.specs.Bytes.{BytesKeptAt, RuleByByte, byte-atomic, byte-different, byte-overlap}
-use Rattle.rule_checker.specs.Kinds.{KindsKeptAt, RuleByKind, kind-acquired, kind-annotated, kind-fenced, kind-released}
-use Rattle.rule_checker.specs.Unkept.{PairKeptAt, PreservedAt}
+use Rattle.dependencies.specs.Dependencies.{DependencyRule, RespectsAt}
+use Rattle.rule_checker.specs.Bytes.{RespectsBytesAt, RuleByByte, byte-atomic, byte-different, byte-overlap}
+use Rattle.rule_checker.specs.Kinds.{RespectsKindsAt, RuleByKind, kind-acquired, kind-annotated, kind-fenced, kind-released}
+use Rattle.rule_checker.specs.Violations.{RespectsPairAt, PreservedAt}
 use Rattle.rule_checker.proofs.Carrying.{rule_before}
 
 kind_rule : (D : ℕ → ℕ → Type 0) (t : List Event) (pos : ℕ → ℕ) (a b : ℕ) → RuleByKind t a b → Rule D t pos a b
@@ -51,9 +51,9 @@ sc_stores e o h = of_access e.access o h
 lr_operation : (t : List Event) (l c : ℕ) → IsPaired t l c → is_operation (event t l) ≡ true
 lr_operation t l c p = lr_is_operation (event t l) p.reserved
 
-pub kept_by_parts : (is : List Instr) (t : List Event) (pos : ℕ → ℕ) (b : ℕ) → is_operation (event t b) ≡ true →
-    (KindsKeptAt t pos b × BytesKeptAt t pos b) × (PairKeptAt t pos b × KeptAt is t pos b) → PreservedAt (DependencyRule is t pos) t pos b
-kept_by_parts is t pos b ob parts a oa before rule = by_rule rule
+pub preserved_by_parts : (is : List Instr) (t : List Event) (pos : ℕ → ℕ) (b : ℕ) → is_operation (event t b) ≡ true →
+    (RespectsKindsAt t pos b × RespectsBytesAt t pos b) × (RespectsPairAt t pos b × RespectsAt is t pos b) → PreservedAt (DependencyRule is t pos) t pos b
+preserved_by_parts is t pos b ob parts a oa before rule = by_rule rule
   where
     by_rule : Rule (DependencyRule is t pos) t pos a b → pos a < pos b
     by_rule (overlapping-store x s ca cb) = parts.0.1 a oa before (byte-overlap x s ca cb)
@@ -66,20 +66,20 @@ kept_by_parts is t pos b ob parts a oa before rule = by_rule rule
     by_rule (paired p) = parts.1.0 a p (sc_stores (event t b) ob p.conditional)
     by_rule (dependent d) = parts.1.1 a oa d
 
-pub parts_of_kept : (is : List Instr) (t : List Event) (pos : ℕ → ℕ) (b : ℕ) → is_operation (event t b) ≡ true →
-    PreservedAt (DependencyRule is t pos) t pos b → (KindsKeptAt t pos b × BytesKeptAt t pos b) × (PairKeptAt t pos b × KeptAt is t pos b)
-parts_of_kept is t pos b ob kept = (
+pub parts_of_preserved : (is : List Instr) (t : List Event) (pos : ℕ → ℕ) (b : ℕ) → is_operation (event t b) ≡ true →
+    PreservedAt (DependencyRule is t pos) t pos b → (RespectsKindsAt t pos b × RespectsBytesAt t pos b) × (RespectsPairAt t pos b × RespectsAt is t pos b)
+parts_of_preserved is t pos b ob respected = (
   (
-    λ a oa before rule. kept a oa before (kind_rule (DependencyRule is t pos) t pos a b rule),
-    λ a oa before rule. kept a oa before (byte_rule (DependencyRule is t pos) t pos a b rule),
+    λ a oa before rule. respected a oa before (kind_rule (DependencyRule is t pos) t pos a b rule),
+    λ a oa before rule. respected a oa before (byte_rule (DependencyRule is t pos) t pos a b rule),
   ),
   (
-    λ l pair s. kept l (lr_operation t l b pair) pair.in_program (paired pair),
-    λ a oa rule. kept a oa (rule_before is t pos a b rule) (dependent rule),
+    λ l pair s. respected l (lr_operation t l b pair) pair.in_program (paired pair),
+    λ a oa rule. respected a oa (rule_before is t pos a b rule) (dependent rule),
   ),
 )
 
 pub meets_all_whole : (D : (ℕ → ℕ) → ℕ → ℕ → Type 0) (t : List Event) (opening : ℕ → ℕ) (g : List ℕ) (b : Bool) → ListsOperations t g →
-    (IsTrue b ↔ (PreservedOrderBy (D (place g)) t (place g) × LoadValueAxiom t opening (place g) × AtomicityAxiom t (place g))) → IsTrue b ↔ MeetsRvwmoBy D t opening g
+    (IsTrue b ↔ (PreservedOrderBy (D (order_position g)) t (order_position g) × LoadValueAxiom t opening (order_position g) × AtomicityAxiom t (order_position g))) → IsTrue b ↔ MeetsRvwmoBy D t opening g
 meets_all_whole D t opening g b lists h =
     ((λ y. let a = h.0 y in record { lists = lists; load_value = a.1; atomicity = a.2; preserved = a.0 }), λ m. h.1 (m.preserved, m.load_value, m.atomicity))

@@ -11,7 +11,7 @@ use Rattle.memory_order.specs.Operations.{fence_orders, is_acquire, is_operation
 use Rattle.memory_order.proofs.Facts.{load_is_operation, store_is_operation}
 use Rattle.rule_checker.specs.declared.annotated.KindBounds.{KindBounds}
 use Rattle.order_checker.specs.Checking.{Earlier, IsMax}
-use Rattle.rule_checker.specs.Kinds.{AllowedByKind, KindsKeptAt, RuleByKind, is_annotated, kind-acquired, kind-annotated, kind-fenced, kind-released, kinds_after, loads_loads, loads_stores, no_kinds}
+use Rattle.rule_checker.specs.Kinds.{AllowedByKind, RespectsKindsAt, RuleByKind, is_annotated, kind-acquired, kind-annotated, kind-fenced, kind-released, kinds_after, loads_loads, loads_stores, no_kinds}
 use Rattle.order_checker.specs.CheckingProgram.{orders_loads, orders_stores}
 use Rattle.order_checker.proofs.Bounding.{below_max, earlier_none, earlier_step, max_alike, max_below, max_join_if, max_none}
 
@@ -133,7 +133,7 @@ is_acquiring e = is_operation e && is_acquire e.access
 abbrev is_marked : Event → Bool
 is_marked e = is_operation e && is_annotated e.access
 
--- an operation of the hart before a fence of a kind, both before place i
+-- an operation of the hart before a fence of a kind, both before index i
 abbrev Behind : (Access → Bool) → (Event → Bool) → List Event → ℕ → ℕ → ℕ → Type 0
 Behind q k t h i a = (f : ℕ) × (f < i) × ((event t f).hart ≡ h) × (q (event t f).access ≡ true) × Earlier k t h f a
 
@@ -171,7 +171,7 @@ earlier_here : (q : Event → Bool) (t : List Event) (pos : ℕ → ℕ) (h i v 
     IsMax pos (Earlier q t h (i + 1)) (if q (event t i) then max v next else v)
 earlier_here q t pos h i v next here at x = earlier_step q t pos h i v next (q (event t i)) (λ e. (here, e)) (λ _ e. e) (λ _. at) x
 
--- ---- the bounds of a hart before place i
+-- ---- the bounds of a hart before index i
 
 pub record Kinds (t : List Event) (pos : ℕ → ℕ) (h i : ℕ) (b : KindBounds) : Type 0 where
   pub loads : IsMax pos (Earlier is_loading t h i) b.loads
@@ -245,7 +245,7 @@ load_or_store e h = either (loads e.access) (stores e.access) h
     either false q h = inr h
 
 pub kinds_from_allowed : (t : List Event) (pos : ℕ → ℕ) (b p : ℕ) (e : Event) (d : KindBounds) → e ≡ event t b → p ≡ pos b →
-    Kinds t pos e.hart b d → AllowedByKind d e.access p → KindsKeptAt t pos b
+    Kinds t pos e.hart b d → AllowedByKind d e.access p → RespectsKindsAt t pos b
 kinds_from_allowed t pos b p e d is at x allowed a op before rule = by_rule rule
   where
     hart : (n : ℕ) → (event t n).hart ≡ (event t b).hart → (event t n).hart ≡ e.hart
@@ -276,8 +276,8 @@ kinds_from_allowed t pos b p e d is at x allowed a op before rule = by_rule rule
     by_rule (kind-annotated h k) = under (Earlier is_marked t e.hart b) d.annotated x.annotated (allowed.4 (access is_annotated k)) (early is_marked (and_from (is_operation (event t a)) (is_annotated (event t a).access) op h))
 
 pub allowed_from_kinds : (t : List Event) (pos : ℕ → ℕ) (b p : ℕ) (e : Event) (d : KindBounds) → e ≡ event t b → p ≡ pos b →
-    Kinds t pos e.hart b d → KindsKeptAt t pos b → AllowedByKind d e.access p
-allowed_from_kinds t pos b p e d is at x kept = (
+    Kinds t pos e.hart b d → RespectsKindsAt t pos b → AllowedByKind d e.access p
+allowed_from_kinds t pos b p e d is at x respected = (
   limit (Earlier is_acquiring t e.hart b) d.acquires x.acquires (λ a w. by a w.0 w.1 (parts a (is_acquire (event t a).access) w.2).0 (kind-acquired (parts a (is_acquire (event t a).access) w.2).1)),
   λ h. (
     limit (Behind loads_loads is_loading t e.hart b) d.load_load x.load_load (λ a w. way loads_loads is_loading a w (load_is_operation (event t a) w.4.2) (λ f q. ll q w.4.2 (access loads h))),
@@ -307,7 +307,7 @@ allowed_from_kinds t pos b p e d is at x kept = (
     limit P v m each = max_below pos P v p m (λ a w. let l = each a w in omega (arith, l, at))
 
     by : (a : ℕ) → a < b → (event t a).hart ≡ e.hart → is_operation (event t a) ≡ true → RuleByKind t a b → pos a < pos b
-    by a l s op rule = kept a op (record { earlier = l; same_hart = hart a s }) rule
+    by a l s op rule = respected a op (record { earlier = l; same_hart = hart a s }) rule
 
     way : (q : Access → Bool) (k : Event → Bool) (a : ℕ) → Behind q k t e.hart b a → is_operation (event t a) ≡ true →
         ((f : Access) → q f ≡ true → Ways f (event t a).access (event t b).access) → pos a < pos b

@@ -14,11 +14,11 @@ pub data RuleByByte (t : List Event) (pos : ℕ → ℕ) (a b : ℕ) : Type 0 wh
   byte-atomic : (x : ℕ) → (is_amo (event t a).access || is_sc (event t a).access) ≡ true → reads_at t b x ≡ true →
       IsSource t pos b x (Some a) → RuleByByte t pos a b
 
-abbrev pub BytesKeptAt : List Event → (ℕ → ℕ) → ℕ → Type 0
-BytesKeptAt t pos b = (a : ℕ) → is_operation (event t a) ≡ true → ProgramBefore t a b → RuleByByte t pos a b → pos a < pos b
+abbrev pub RespectsBytesAt : List Event → (ℕ → ℕ) → ℕ → Type 0
+RespectsBytesAt t pos b = (a : ℕ) → is_operation (event t a) ≡ true → ProgramBefore t a b → RuleByByte t pos a b → pos a < pos b
 
-abbrev pub KeptByByte : List Event → (ℕ → ℕ) → Type 0
-KeptByByte t pos = (b : ℕ) → is_operation (event t b) ≡ true → BytesKeptAt t pos b
+abbrev pub RespectsBytes : List Event → (ℕ → ℕ) → Type 0
+RespectsBytes t pos = (b : ℕ) → is_operation (event t b) ≡ true → RespectsBytesAt t pos b
 
 -- a byte may be from the store before position s of the order, where its load stands at p: an SC or AMO is not read ahead (rule 3)
 abbrev pub IsForwarded : List Event → List ℕ → ℕ → ℕ → Type 0

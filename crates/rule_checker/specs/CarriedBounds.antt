@@ -7,7 +7,7 @@ use Rattle.round_schedule.specs.Accesses.{stores}
 use Rattle.round_schedule.specs.Positions.{event, reads_at}
 use Rattle.hart_step.specs.Registers.{reg, set_reg}
 use Rattle.memory_order.specs.Operations.{is_operation}
-use Rattle.dependencies.specs.declared.table.Registers.{Registers}
+use Rattle.dependencies.specs.declared.registers.Registers.{Registers}
 use Rattle.dependencies.specs.Dependencies.{AddressDependency, DataDependency, has_failed}
 use Rattle.rule_checker.specs.declared.carried.Carried.{Carried}
 use Rattle.order_checker.specs.Checking.{IsMax}

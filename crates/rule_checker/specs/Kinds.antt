@@ -27,11 +27,11 @@ pub data RuleByKind (t : List Event) (a b : ℕ) : Type 0 where
   kind-released : is_release (event t b).access ≡ true → RuleByKind t a b
   kind-annotated : is_annotated (event t a).access ≡ true → is_annotated (event t b).access ≡ true → RuleByKind t a b
 
-abbrev pub KindsKeptAt : List Event → (ℕ → ℕ) → ℕ → Type 0
-KindsKeptAt t pos b = (a : ℕ) → is_operation (event t a) ≡ true → ProgramBefore t a b → RuleByKind t a b → pos a < pos b
+abbrev pub RespectsKindsAt : List Event → (ℕ → ℕ) → ℕ → Type 0
+RespectsKindsAt t pos b = (a : ℕ) → is_operation (event t a) ≡ true → ProgramBefore t a b → RuleByKind t a b → pos a < pos b
 
-abbrev pub KeptByKind : List Event → (ℕ → ℕ) → Type 0
-KeptByKind t pos = (b : ℕ) → is_operation (event t b) ≡ true → KindsKeptAt t pos b
+abbrev pub RespectsKinds : List Event → (ℕ → ℕ) → Type 0
+RespectsKinds t pos = (b : ℕ) → is_operation (event t b) ≡ true → RespectsKindsAt t pos b
 
 abbrev pub no_kinds : KindBounds
 no_kinds = record { loads = 0; stores = 0; acquires = 0; annotated = 0; load_load = 0; load_store = 0; store_load = 0; store_store = 0 }

@@ -1,4 +1,4 @@
 pub mod Bytes
 pub mod CarriedBounds
 pub mod Kinds
-pub mod Unkept
+pub mod Violations

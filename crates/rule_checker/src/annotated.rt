@@ -1,10 +1,10 @@
 ghost use Rattle.std.specs.Prelude.{◌≡◌, ◌↔◌, All, IsTrue, IfOk, MatchOption};
 ghost use Rattle.trace.specs.Traced.{HasForm};
 ghost use Rattle.memory_order.specs.Operations.{is_acquire};
-ghost use Rattle.memory_order.specs.Orders.{place};
+ghost use Rattle.memory_order.specs.Orders.{order_position};
 ghost use Rattle.order_checker.specs.Checking.{IsRanking};
-ghost use Rattle.rule_checker.specs.Kinds.{AllowedByKind, KeptByKind, KindsKeptAt, is_annotated, kinds_after, loads_loads, loads_stores};
-ghost use Rattle.rule_checker.specs.Unkept.{IsFirstUnkept};
+ghost use Rattle.rule_checker.specs.Kinds.{AllowedByKind, RespectsKinds, RespectsKindsAt, is_annotated, kinds_after, loads_loads, loads_stores};
+ghost use Rattle.rule_checker.specs.Violations.{IsFirstViolation};
 
 use memory_order::is_operation;
 use order_checker::{
@@ -53,8 +53,8 @@ pub(crate) fn first_by_kind(
 ) -> Result<Option<usize>, OutOfMemory>
     requires formed { All HasForm events.now }
     requires ranked { IsRanking events.now order.now ranks.now }
-    ensures { IfOk result (λ first. MatchOption first (KeptByKind events.now (place order.now))
-        (IsFirstUnkept events.now (KindsKeptAt events.now (place order.now)))) }
+    ensures { IfOk result (λ first. MatchOption first (RespectsKinds events.now (order_position order.now))
+        (IsFirstViolation events.now (RespectsKindsAt events.now (order_position order.now)))) }
 {
     let mut harts = vec![in alloc; NO_KINDS; 256]?;
     for i in 0..events.len() {

@@ -1,12 +1,12 @@
 ghost use Rattle.std.specs.Prelude.{◌≡◌, ◌<◌, ◌↔◌, All, IsTrue, IfOk, MatchOption, length};
 ghost use Rattle.trace.specs.Traced.{HasForm};
-ghost use Rattle.memory_order.specs.Orders.{ListsOperations, place};
+ghost use Rattle.memory_order.specs.Orders.{ListsOperations, order_position};
 ghost use Rattle.memory_order.specs.Rvwmo.{MaySee};
-ghost use Rattle.dependencies.specs.Dependencies.{KeepsDependencies, KeptAt, has_failed};
+ghost use Rattle.dependencies.specs.Dependencies.{RespectsDependencies, RespectsAt, has_failed};
 ghost use Rattle.hart_step.specs.Registers.{reg, set_reg};
 ghost use Rattle.order_checker.specs.Checking.{AreSources, IsRanking, source_of};
 ghost use Rattle.rule_checker.specs.CarriedBounds.{AllowedBy, AreRegisters, MayForward, MayForwardAll, carried_after, operand_bound, sources_bound};
-ghost use Rattle.rule_checker.specs.Unkept.{IsFirstUnkept};
+ghost use Rattle.rule_checker.specs.Violations.{IsFirstViolation};
 
 use dependencies::{Registers, used_registers};
 use memory_order::is_operation;
@@ -46,9 +46,9 @@ pub(crate) fn first_by_dependency(
     requires lists { ListsOperations events.now order.now }
     requires ranked { IsRanking events.now order.now ranks.now }
     requires along { length instructions.now ≡ length events.now }
-    requires sourced { AreSources events.now order.now (MaySee events.now (place order.now)) sources.now.items }
-    ensures { IfOk result (λ first. MatchOption first (KeepsDependencies instructions.now events.now (place order.now))
-        (IsFirstUnkept events.now (KeptAt instructions.now events.now (place order.now)))) }
+    requires sourced { AreSources events.now order.now (MaySee events.now (order_position order.now)) sources.now.items }
+    ensures { IfOk result (λ first. MatchOption first (RespectsDependencies instructions.now events.now (order_position order.now))
+        (IsFirstViolation events.now (RespectsAt instructions.now events.now (order_position order.now)))) }
 {
     let mut harts = vec![in alloc; NONE_CARRIED; 256]?;
     // of each event so far, what its address and data depend on
@@ -166,9 +166,9 @@ fn may_forward(
     requires within { i < length events.now }
     requires formed { All HasForm events.now }
     requires lists { ListsOperations events.now order.now }
-    requires standing { position ≡ place order.now i }
+    requires standing { position ≡ order_position order.now i }
     requires operands { length operands.now ≡ i }
-    requires sourced { AreSources events.now order.now (MaySee events.now (place order.now)) sources.now.items }
+    requires sourced { AreSources events.now order.now (MaySee events.now (order_position order.now)) sources.now.items }
     ensures { IsTrue result ↔ MayForwardAll events.now order.now operands.now
         (λ x. source_of order.now sources.now.items i x) i position }
 {

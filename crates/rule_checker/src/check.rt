@@ -1,12 +1,12 @@
 ghost use Rattle.std.specs.Prelude.{◌≡◌, ◌↔◌, All, IfOk, IsTrue, length};
 ghost use Rattle.trace.specs.Traced.{HasForm, opening_at};
-ghost use Rattle.memory_order.specs.Orders.{ListsOperations, place};
+ghost use Rattle.memory_order.specs.Orders.{ListsOperations, order_position};
 ghost use Rattle.memory_order.specs.Rvwmo.{AtomicityAxiom, LoadValueAxiom, MeetsRvwmoBy, PreservedOrderBy};
 ghost use Rattle.dependencies.specs.Dependencies.{DependencyRule};
 ghost use Rattle.order_checker.specs.Checking.{IsRanking};
 
 use crate::own::sources_of_loads;
-use crate::unkept::first_unkept;
+use crate::violation::first_violation;
 use memory_order::Order;
 use order_checker::{loads_are_right, pairs_are_atomic, positions};
 use pages::OutOfMemory;
@@ -38,7 +38,7 @@ pub fn check_instructions(
     meets_rvwmo(alloc, opening, instructions, events, &order.0)
 }
 
-/// The same of places.
+/// The same of indexes.
 fn meets_rvwmo(
     alloc: Global,
     opening: &Trace,
@@ -70,15 +70,15 @@ fn meets_all(
     requires along { length instructions.now ≡ length events.now }
     requires lists { ListsOperations events.now order.now }
     requires ranked { IsRanking events.now order.now ranks.now }
-    ensures { IfOk result (λ yes. IsTrue yes ↔ (PreservedOrderBy (DependencyRule instructions.now events.now (place order.now)) events.now (place order.now) ×
-        LoadValueAxiom events.now (opening_at opening.now.opening) (place order.now) ×
-        AtomicityAxiom events.now (place order.now))) }
+    ensures { IfOk result (λ yes. IsTrue yes ↔ (PreservedOrderBy (DependencyRule instructions.now events.now (order_position order.now)) events.now (order_position order.now) ×
+        LoadValueAxiom events.now (opening_at opening.now.opening) (order_position order.now) ×
+        AtomicityAxiom events.now (order_position order.now))) }
 {
     let sources = sources_of_loads(alloc, events, order, ranks)?;
     if !loads_are_right(opening, events, order, ranks, &sources) {
         return Ok(false);
     }
-    let broken = first_unkept(alloc, instructions, events, order, ranks, &sources)?;
+    let broken = first_violation(alloc, instructions, events, order, ranks, &sources)?;
     match broken {
         Some(_) => Ok(false),
         None => Ok(pairs_are_atomic(alloc, events, order, ranks, &sources)?),

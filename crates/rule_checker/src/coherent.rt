@@ -2,11 +2,11 @@ ghost use Rattle.std.specs.Prelude.{◌≡◌, ◌+◌, ◌==◌, ◌&&◌, ◌�
 ghost use Rattle.round_schedule.specs.Accesses.{address_of, bytes_of, loads, reads};
 ghost use Rattle.trace.specs.Traced.{HasForm};
 ghost use Rattle.memory_order.specs.Operations.{covers, is_operation};
-ghost use Rattle.memory_order.specs.Orders.{ListsOperations, place};
+ghost use Rattle.memory_order.specs.Orders.{ListsOperations, order_position};
 ghost use Rattle.memory_order.specs.Rvwmo.{MaySee};
 ghost use Rattle.order_checker.specs.Checking.{AreSources, IsRanking, bound, source_at, source_of};
-ghost use Rattle.rule_checker.specs.Bytes.{BytesKeptAt, IsForwarded, KeptByByte, MayLoad, MayLoadByte};
-ghost use Rattle.rule_checker.specs.Unkept.{IsFirstUnkept};
+ghost use Rattle.rule_checker.specs.Bytes.{RespectsBytesAt, IsForwarded, RespectsBytes, MayLoad, MayLoadByte};
+ghost use Rattle.rule_checker.specs.Violations.{IsFirstViolation};
 
 use memory_order::is_operation;
 use order_checker::{
@@ -32,9 +32,9 @@ pub(crate) fn first_by_byte(
     requires formed { All HasForm events.now }
     requires lists { ListsOperations events.now order.now }
     requires ranked { IsRanking events.now order.now ranks.now }
-    requires sourced { AreSources events.now order.now (MaySee events.now (place order.now)) sources.now.items }
-    ensures { IfOk result (λ first. MatchOption first (KeptByByte events.now (place order.now))
-        (IsFirstUnkept events.now (BytesKeptAt events.now (place order.now)))) }
+    requires sourced { AreSources events.now order.now (MaySee events.now (order_position order.now)) sources.now.items }
+    ensures { IfOk result (λ first. MatchOption first (RespectsBytes events.now (order_position order.now))
+        (IsFirstViolation events.now (RespectsBytesAt events.now (order_position order.now)))) }
 {
     let mut touched = BTreeMap::new(alloc);
     let mut seen = BTreeMap::new(alloc);
@@ -111,8 +111,8 @@ fn may_load(
     requires within { i < length events.now }
     requires formed { All HasForm events.now }
     requires lists { ListsOperations events.now order.now }
-    requires standing { position ≡ place order.now i }
-    requires sourced { AreSources events.now order.now (MaySee events.now (place order.now)) sources.now.items }
+    requires standing { position ≡ order_position order.now i }
+    requires sourced { AreSources events.now order.now (MaySee events.now (order_position order.now)) sources.now.items }
     ensures { IsTrue result ↔ MayLoad events.now order.now (λ x. bound seen.now hart x)
         (λ x. source_of order.now sources.now.items i x) i position }
 {

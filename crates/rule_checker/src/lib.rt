@@ -7,8 +7,8 @@ mod check;
 mod coherent;
 mod own;
 mod paired_order;
-mod unkept;
+mod violation;
 
 pub use check::check_instructions;
 pub use own::sources_of_loads;
-pub use unkept::first_unkept;
+pub use violation::first_violation;

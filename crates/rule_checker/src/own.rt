@@ -3,7 +3,7 @@
 ghost use Rattle.std.specs.Prelude.{◌≡◌, ◌≢◌, ◌+◌, ◌^◌, ◌<◌, ◌==◌, ◌&&◌, ℕ, All, IfOk, OnOk, if◌then◌else◌, length, max, true};
 ghost use Rattle.round_schedule.specs.Accesses.{address_of, bytes_of, loads, reads, writes};
 ghost use Rattle.trace.specs.Traced.{HasForm};
-ghost use Rattle.memory_order.specs.Orders.{ListsOperations, place};
+ghost use Rattle.memory_order.specs.Orders.{ListsOperations, order_position};
 ghost use Rattle.memory_order.specs.Rvwmo.{MaySee};
 ghost use Rattle.order_checker.specs.Checking.{AreSources, IsRanking, OwnWrite, bound, row_of, source_at};
 
@@ -23,7 +23,7 @@ pub fn sources_of_loads(
     requires formed { All HasForm events.now }
     requires lists { ListsOperations events.now order.now }
     requires ranked { IsRanking events.now order.now ranks.now }
-    ensures { IfOk result (λ s. AreSources events.now order.now (MaySee events.now (place order.now)) s.items) }
+    ensures { IfOk result (λ s. AreSources events.now order.now (MaySee events.now (order_position order.now)) s.items) }
 {
     let own = own_sources(alloc, events, order, ranks)?;
     all_sources(alloc, events, order, own)

@@ -1,8 +1,8 @@
 ghost use Rattle.std.specs.Prelude.{◌<◌, ◌↔◌, All, IsTrue, IfOk, MatchOption, length};
 ghost use Rattle.trace.specs.Traced.{HasForm};
-ghost use Rattle.memory_order.specs.Orders.{place};
+ghost use Rattle.memory_order.specs.Orders.{order_position};
 ghost use Rattle.order_checker.specs.Checking.{AreReserved, IsRanking};
-ghost use Rattle.rule_checker.specs.Unkept.{IsFirstUnkept, IsKept, PairKeptAt};
+ghost use Rattle.rule_checker.specs.Violations.{IsFirstViolation, RespectsAll, RespectsPairAt};
 
 use order_checker::{event_at, last_reserved, paired, position_of};
 use pages::OutOfMemory;
@@ -18,19 +18,19 @@ pub(crate) fn first_by_pair(
 ) -> Result<Option<usize>, OutOfMemory>
     requires formed { All HasForm events.now }
     requires ranked { IsRanking events.now order.now ranks.now }
-    ensures { IfOk result (λ first. MatchOption first (IsKept events.now (PairKeptAt events.now (place order.now)))
-        (IsFirstUnkept events.now (PairKeptAt events.now (place order.now)))) }
+    ensures { IfOk result (λ first. MatchOption first (RespectsAll events.now (RespectsPairAt events.now (order_position order.now)))
+        (IsFirstViolation events.now (RespectsPairAt events.now (order_position order.now)))) }
 {
     let reserved = last_reserved(alloc, events)?;
     for i in 0..events.len() {
-        if !pair_is_kept(events, order, ranks, &reserved, i) {
+        if !respects_pair(events, order, ranks, &reserved, i) {
             return Ok(Some(i));
         }
     }
     Ok(None)
 }
 
-fn pair_is_kept(
+fn respects_pair(
     events: &[Event],
     order: &[usize],
     ranks: &[usize],
@@ -41,7 +41,7 @@ fn pair_is_kept(
     requires formed { All HasForm events.now }
     requires ranked { IsRanking events.now order.now ranks.now }
     requires reserved { AreReserved events.now (length events.now) reserved.now }
-    ensures { IsTrue result ↔ PairKeptAt events.now (place order.now) i }
+    ensures { IsTrue result ↔ RespectsPairAt events.now (order_position order.now) i }
 {
     if !event_at(events, i).access.stores() {
         return true;

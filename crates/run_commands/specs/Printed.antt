@@ -7,8 +7,8 @@ use Rattle.emulation.specs.Reports.{report_after}
 use Rattle.emulation.specs.Showing.{end_of, shown_text}
 use Rattle.emulation.specs.declared.run_end.RunEnd.{RunEnd}
 use Rattle.emulation.specs.declared.run_end.RunEnd.TheVariants.{Badly, RunsOn, Well}
-use Rattle.emulation.specs.declared.showing.Shown.{Shown}
-use Rattle.emulation.specs.declared.showing.Shown.TheVariants as parts
+use Rattle.emulation.specs.declared.showing.ShownState.{ShownState}
+use Rattle.emulation.specs.declared.showing.ShownState.TheVariants as parts
 use Rattle.machine.specs.Runs.{after_run}
 use Rattle.run_settings.specs.Settings.{IsPlan}
 use Rattle.run_settings.specs.declared.settings.Settings.{Settings}
@@ -17,14 +17,14 @@ use Rattle.program_world.specs.declared.exit_status.ExitStatus.TheVariants.{Done
 use Rattle.round_planner.specs.Quotas.{Planned}
 
 -- what is shown of the run, by --show and --no-trace; none is the whole report
-abbrev pub shown_of : Asked → Bool → Option Shown
+abbrev pub shown_of : Asked → Bool → Option ShownState
 shown_of asked.Report true = Some parts.State
 shown_of asked.Report false = None
 shown_of asked.Harts no_trace = Some parts.Harts
 shown_of asked.Output no_trace = Some parts.Output
 
 -- the text of it
-abbrev pub text_of : Option Shown → Settings → List ℕ → List ℕ → Planned → List ℕ
+abbrev pub text_of : Option ShownState → Settings → List ℕ → List ℕ → Planned → List ℕ
 text_of None s image input plan = report_after s image input plan
 text_of (Some shown) s image input plan = shown_text shown (after_run s image input plan).state
 

@@ -6,14 +6,14 @@ use emulation::RunEnd;
 use program_world::ExitStatus;
 
 /// What of a run the line asks for, where it isn't the whole report.
-pub(crate) fn shown_of(asked: &Print<'_>) -> Option<emulation::Shown>
+pub(crate) fn shown_of(asked: &Print<'_>) -> Option<emulation::ShownState>
     ensures { result ≡ shown_of asked.now.show asked.now.no_trace }
 {
     match asked.show {
-        Shown::Report if asked.no_trace => Some(emulation::Shown::State),
+        Shown::Report if asked.no_trace => Some(emulation::ShownState::State),
         Shown::Report => None,
-        Shown::Harts => Some(emulation::Shown::Harts),
-        Shown::Output => Some(emulation::Shown::Output),
+        Shown::Harts => Some(emulation::ShownState::Harts),
+        Shown::Output => Some(emulation::ShownState::Output),
     }
 }
 

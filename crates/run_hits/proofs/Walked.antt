@@ -17,9 +17,9 @@ stays k n u m few stopped is =
     ∙ ap (λ (j : ℕ). (after_rounds j m).state.trace) sum
 
 -- who kept none before has kept the events of all n rounds
-pub all_kept : (k n : ℕ) (u v : Untraced) (before after : List Event → Type 0) (m : Running) → HasRun k u v before after → k ≤ n → (k ≡ n) ⊎ HasStopped v →
+pub keeps_all : (k n : ℕ) (u v : Untraced) (before after : List Event → Type 0) (m : Running) → HasRun k u v before after → k ≤ n → (k ≡ n) ⊎ HasStopped v →
     IsUntraced m u → m.state.trace ≡ [] → before [] → after (after_rounds n m).state.trace
-all_kept k n u v before after m ran few ended is none kept =
+keeps_all k n u v before after m ran few ended is none kept =
     let all = ran.events m [] is kept in
     let here : all.0 ≡ (after_rounds k m).state.trace = sym (all.1 ∙ ap (λ (es : List Event). es ++ all.0) none) in
     let there : (after_rounds k m).state.trace ≡ (after_rounds n m).state.trace =

@@ -6,7 +6,7 @@ use Rattle.pages.specs.declared.access.Width.{Width}
 use Rattle.pages.specs.Memory.{Memory, value_at, loaded, store_fault, fetched}
 use Rattle.round_schedule.specs.declared.span.Span.{Span}
 use Rattle.round_schedule.specs.Accesses.{is_full_fence}
-use Rattle.round_schedule.specs.Schedule.{Outcome, SerialOutcome}
+use Rattle.round_schedule.specs.Schedule.{StepOutcome, SerialOutcome}
 use Rattle.rv64_decode.specs.declared.instruction.Instr.{Instr}
 use Rattle.rv64_decode.specs.declared.instruction.Instr.TheVariants.{Ecall}
 use Rattle.rv64_decode.specs.declared.ordering.AcquireRelease.{AcquireRelease}
@@ -19,7 +19,7 @@ use Rattle.hart_step.specs.SerialStep.{called, conditional_by, exchanged_by, is_
 use Rattle.hart_step.specs.Step.{by_instr, by_word, performed, read_by, stepped, written_by}
 use Rattle.run_loops.specs.Forgetting.{CountsAreForgotten, SameOutcome, SameSerial, asks_number, is_ecall, uncounted}
 
-abbrev Same : Outcome Hart → Outcome Hart → Type 0
+abbrev Same : StepOutcome Hart → StepOutcome Hart → Type 0
 Same o q = SameOutcome uncounted o q
 
 abbrev SameServed : SerialOutcome Hart ConsoleState → SerialOutcome Hart ConsoleState → Type 0
@@ -88,7 +88,7 @@ step_same h d m =
     (λ i. performed_same h d m (action i h.x h.pc))
 
 -- an outcome that leaves the console as it was
-quiet : (c : ConsoleState) (o q : Outcome Hart) → Same o q → SameServed (with_console c o) (with_console c q)
+quiet : (c : ConsoleState) (o q : StepOutcome Hart) → Same o q → SameServed (with_console c o) (with_console c q)
 quiet c o q s = record { answer = s.answer; hart = s.hart; stores = s.stores; console = refl }
 
 back : (h : Hart) (d : ℕ) (r : Answered) → SameServed (returned h r) (returned (counted h d) r)

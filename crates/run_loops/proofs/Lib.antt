@@ -1,5 +1,5 @@
 pub mod Decided
 pub mod Forgetting
 pub mod Returning
-pub mod Tabling
+pub mod ReservationsTied
 pub mod Words

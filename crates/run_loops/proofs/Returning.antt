@@ -68,11 +68,11 @@ held_same h n m i s t u as' bs e d =
     ∙ sym (held_from_placeless h m i s bs (held h u))
     ∙ sym (held-append h u (events_of m i s bs))
 
-module _ {H K C : Type 0} (w : Words H C) (kept : H → K) (asks : H → List ℕ → Bool) (forgets : Forgets w kept asks) where
+module _ {H K C : Type 0} (w : Words H C) (view : H → K) (asks : H → List ℕ → Bool) (forgets : Forgets w view asks) where
   -- ---- the parallel phase
 
   record SameProgress (p q : Progress H) : Type 0 where
-    hart : kept p.hart ≡ kept q.hart
+    hart : view p.hart ≡ view q.hart
     stores : p.stores ≡ q.stores
     accesses : map placeless p.accesses ≡ map placeless q.accesses
 
@@ -80,15 +80,15 @@ module _ {H K C : Type 0} (w : Words H C) (kept : H → K) (asks : H → List �
     last : SameProgress r.last v.last
     waits : r.waits ≡ v.waits
 
-  next_same : (bs : List ℕ) (p q : Progress H) → SameProgress p q → SameOutcome kept (next_of w bs p) (next_of w bs q)
+  next_same : (bs : List ℕ) (p q : Progress H) → SameProgress p q → SameOutcome view (next_of w bs p) (next_of w bs q)
   next_same bs p q s =
-      subst (λ (ss : List Store). SameOutcome kept (next_of w bs p) (w.step q.hart (after bs ss))) s.stores (forgets.steps p.hart q.hart (after bs p.stores) s.hart)
+      subst (λ (ss : List Store). SameOutcome view (next_of w bs p) (w.step q.hart (after bs ss))) s.stores (forgets.steps p.hart q.hart (after bs p.stores) s.hart)
 
   round_same : (bs : List ℕ) (k : ℕ) (p q : Progress H) → SameProgress p q → SameRound (round_from w bs k p) (round_from w bs k q)
   unfolding round_from
   round_same bs zero p q s = record { last = s; waits = refl }
   round_same bs (suc k) p q s =
-      let o : SameOutcome kept (next_of w bs p) (next_of w bs q) = next_same bs p q s in
+      let o : SameOutcome view (next_of w bs p) (next_of w bs q) = next_same bs p q s in
       choose SameRound (w.stopped p.hart) (w.stopped q.hart) _ _ _ _ (forgets.stopped p.hart q.hart s.hart) (record { last = s; waits = refl })
       (λ e. by_both (λ (y z : Stepped). SameRound (by_answer y p (next_of w bs p) (round_from w bs k)) (by_answer z q (next_of w bs q) (round_from w bs k)))
       (next_of w bs p).answer (next_of w bs q).answer o.answer
@@ -118,12 +118,12 @@ module _ {H K C : Type 0} (w : Words H C) (kept : H → K) (asks : H → List �
   head_is : {X : Type 0} (x y : X) (xs ys : List X) → x ∷ xs ≡ y ∷ ys → (x ≡ y) × (xs ≡ ys)
   head_is x y xs ys e = (cc, cc)
 
-  rounds_same : (bs qs : List ℕ) (hs gs : List H) → map kept hs ≡ map kept gs → SameRounds (hart_rounds w bs qs hs) (hart_rounds w bs qs gs)
+  rounds_same : (bs qs : List ℕ) (hs gs : List H) → map view hs ≡ map view gs → SameRounds (hart_rounds w bs qs hs) (hart_rounds w bs qs gs)
   rounds_same bs qs [] [] e = tt
   rounds_same bs qs [] (g ∷ gs) e = cc
   rounds_same bs qs (h ∷ hs) [] e = cc
   rounds_same bs qs (h ∷ hs) (g ∷ gs) e =
-      let d : (kept h ≡ kept g) × (map kept hs ≡ map kept gs) = head_is (kept h) (kept g) (map kept hs) (map kept gs) e in
+      let d : (view h ≡ view g) × (map view hs ≡ map view gs) = head_is (view h) (view g) (map view hs) (map view gs) e in
       (round_same bs (first_or_zero qs) (began h) (began g) (record { hart = d.0; stores = refl; accesses = refl }), rounds_same bs (rest_of qs) hs gs d.1)
 
   stores_same : (rs vs : List (HartRound H)) → SameRounds rs vs → all_stores rs ≡ all_stores vs
@@ -146,23 +146,23 @@ module _ {H K C : Type 0} (w : Words H C) (kept : H → K) (asks : H → List �
   -- ---- a serial turn
 
   record SameTurn (b : ℕ) (p q : Turn H C) : Type 0 where
-    hart : kept p.hart ≡ kept q.hart
+    hart : view p.hart ≡ view q.hart
     bytes : p.bytes ≡ q.bytes
     console : p.console ≡ q.console
     holds : (h : ℕ) → h < b → held h p.trace ≡ held h q.trace
 
-  serial_same : (b n m i : ℕ) (p q : Turn H C) → i < b → SameTurn b p q → asks p.hart p.bytes ≡ false → SameSerial kept (serial_next w n i p) (serial_next w m i q)
+  serial_same : (b n m i : ℕ) (p q : Turn H C) → i < b → SameTurn b p q → asks p.hart p.bytes ≡ false → SameSerial view (serial_next w n i p) (serial_next w m i q)
   serial_same b n m i p q l s u =
-      subst (λ (x : Option Span). SameSerial kept (serial_next w n i p) (w.serial_step m q.hart q.bytes q.console x)) (s.holds i l)
-      (subst (λ (x : C). SameSerial kept (serial_next w n i p) (w.serial_step m q.hart q.bytes x (held i p.trace))) s.console
-      (subst (λ (x : List ℕ). SameSerial kept (serial_next w n i p) (w.serial_step m q.hart x p.console (held i p.trace))) s.bytes
+      subst (λ (x : Option Span). SameSerial view (serial_next w n i p) (w.serial_step m q.hart q.bytes q.console x)) (s.holds i l)
+      (subst (λ (x : C). SameSerial view (serial_next w n i p) (w.serial_step m q.hart q.bytes x (held i p.trace))) s.console
+      (subst (λ (x : List ℕ). SameSerial view (serial_next w n i p) (w.serial_step m q.hart x p.console (held i p.trace))) s.bytes
       (forgets.serial_steps n m p.hart q.hart p.bytes p.console (held i p.trace) s.hart u)))
 
   -- whether an instruction after this one asks, of the next k
   asks_later : (n i k : ℕ) (p : Turn H C) → Stepped → Bool
   asks_later n i k p y = asks_after y (λ a. asks_in_turn w asks n i k (turn_went n i p (serial_next w n i p) a))
 
-  went_same : (b n m i : ℕ) (p q : Turn H C) (c d : Option Access) → SameTurn b p q → SameSerial kept (serial_next w n i p) (serial_next w m i q) →
+  went_same : (b n m i : ℕ) (p q : Turn H C) (c d : Option Access) → SameTurn b p q → SameSerial view (serial_next w n i p) (serial_next w m i q) →
       map placeless (option_to_list c) ≡ map placeless (option_to_list d) → SameTurn b (turn_went n i p (serial_next w n i p) c) (turn_went m i q (serial_next w m i q) d)
   went_same b n m i p q c d s o e = record {
     hart = o.hart;
@@ -171,7 +171,7 @@ module _ {H K C : Type 0} (w : Words H C) (kept : H → K) (asks : H → List �
     holds = λ h l. held_same h n m i Serial p.trace q.trace (option_to_list c) (option_to_list d) (s.holds h l) e;
   }
 
-  turn_taken : (b n m i k : ℕ) (p q : Turn H C) → SameTurn b p q → SameSerial kept (serial_next w n i p) (serial_next w m i q) →
+  turn_taken : (b n m i k : ℕ) (p q : Turn H C) → SameTurn b p q → SameSerial view (serial_next w n i p) (serial_next w m i q) →
       ((x y : Turn H C) → asks_in_turn w asks n i k x ≡ false → SameTurn b x y → SameTurn b (turn_from w n i k x) (turn_from w m i k y)) →
       asks_later n i k p (serial_next w n i p).answer ≡ false →
       SameTurn b (turned n i (serial_next w n i p).answer p (serial_next w n i p) (turn_from w n i k)) (turned m i (serial_next w m i q).answer q (serial_next w m i q) (turn_from w m i k))
@@ -206,7 +206,7 @@ module _ {H K C : Type 0} (w : Words H C) (kept : H → K) (asks : H → List �
       choose (λ (x y : Bool). x ≡ false → y ≡ false) (w.stopped p.hart) (w.stopped q.hart) _ _ _ _ (forgets.stopped p.hart q.hart s.hart) (λ v. v)
       (λ e v.
       let d : (asks p.hart p.bytes ≡ false) × (asks_later n i k p (serial_next w n i p).answer ≡ false) = neither _ _ v in
-      let o : SameSerial kept (serial_next w n i p) (serial_next w m i q) = serial_same b n m i p q l s d.0 in
+      let o : SameSerial view (serial_next w n i p) (serial_next w m i q) = serial_same b n m i p q l s d.0 in
       both_no _ _ (sym (forgets.asking p.hart q.hart p.bytes s.hart ∙ ap (asks q.hart) s.bytes) ∙ d.0)
       (by_both (λ (y z : Stepped). asks_later n i k p y ≡ false → asks_later m i k q z ≡ false) (serial_next w n i p).answer (serial_next w m i q).answer o.answer
       (λ c f g x. turn_unasked b n m i k (turn_went n i p (serial_next w n i p) c) (turn_went m i q (serial_next w m i q) f) l (went_same b n m i p q c f s o g) x)
@@ -216,16 +216,16 @@ module _ {H K C : Type 0} (w : Words H C) (kept : H → K) (asks : H → List �
   -- ---- the serial phase
 
   record AlikeTo (b : ℕ) (s t : State H C) : Type 0 where
-    harts : map kept s.harts ≡ map kept t.harts
+    harts : map view s.harts ≡ map view t.harts
     bytes : s.bytes ≡ t.bytes
     console : s.console ≡ t.console
     holds : (h : ℕ) → h < b → held h s.trace ≡ held h t.trace
 
   joined_alike : (b : ℕ) (s t : State H C) (d f : Turn H C) → AlikeTo b s t → SameTurn b d f → AlikeTo b (joined s d) (joined t f)
   joined_alike b s t d f a k = record {
-    harts = map-append kept s.harts (d.hart ∷ [])
-        ∙ pair (λ (x y : List K). x ++ y) (map kept s.harts) (map kept t.harts) (kept d.hart ∷ []) (kept f.hart ∷ []) a.harts (ap (λ (x : K). x ∷ []) k.hart)
-        ∙ sym (map-append kept t.harts (f.hart ∷ []));
+    harts = map-append view s.harts (d.hart ∷ [])
+        ∙ pair (λ (x y : List K). x ++ y) (map view s.harts) (map view t.harts) (view d.hart ∷ []) (view f.hart ∷ []) a.harts (ap (λ (x : K). x ∷ []) k.hart)
+        ∙ sym (map-append view t.harts (f.hart ∷ []));
     bytes = k.bytes;
     console = k.console;
     holds = k.holds;
@@ -395,15 +395,15 @@ module _ {H K C : Type 0} (w : Words H C) (kept : H → K) (asks : H → List �
 
     -- ---- round and round
 
-    to_alike : (b : ℕ) (s t : State H C) → length s.harts ≤ b → AlikeTo b s t → Alike kept s t
+    to_alike : (b : ℕ) (s t : State H C) → length s.harts ≤ b → AlikeTo b s t → Alike view s t
     to_alike b s t l a = record { harts = a.harts; bytes = a.bytes; console = a.console; holds = λ h k. a.holds h (omega (arith, k, l)) }
 
-    from_alike : (s t : State H C) → Alike kept s t → AlikeTo (length s.harts) s t
+    from_alike : (s t : State H C) → Alike view s t → AlikeTo (length s.harts) s t
     from_alike s t a = record { harts = a.harts; bytes = a.bytes; console = a.console; holds = a.holds }
 
     -- from states that are alike, p rounds apart, so many rounds lead to states that are alike
-    apart : (p n : ℕ) (s : State H C) → ComesBack w kept asks budget quotas p s → asks_in_run w asks budget quotas n s ≡ false →
-        Alike kept (run_of w budget quotas n s) (run_of w budget quotas n (run_of w budget quotas p s))
+    apart : (p n : ℕ) (s : State H C) → ComesBack w view asks budget quotas p s → asks_in_run w asks budget quotas n s ≡ false →
+        Alike view (run_of w budget quotas n s) (run_of w budget quotas n (run_of w budget quotas p s))
         × asks_in_run w asks budget quotas n (run_of w budget quotas p s) ≡ false
     apart p n s c u =
         let x : State H C = run_of w budget quotas p s in
@@ -411,7 +411,7 @@ module _ {H K C : Type 0} (w : Words H C) (kept : H → K) (asks : H → List �
         (to_alike (length s.harts) (run_of w budget quotas n s) (run_of w budget quotas n x) (omega (arith, run_harts n s)) k.0, k.1)
 
     -- the state after p rounds comes back too
-    comes_back_again : (p : ℕ) (s : State H C) → ComesBack w kept asks budget quotas p s → ComesBack w kept asks budget quotas p (run_of w budget quotas p s)
+    comes_back_again : (p : ℕ) (s : State H C) → ComesBack w view asks budget quotas p s → ComesBack w view asks budget quotas p (run_of w budget quotas p s)
     comes_back_again p s c =
         let k = apart p p s c c.unasked in
         record { on = c.on; again = c.again; alike = k.0; unasked = k.1 }
@@ -422,7 +422,7 @@ module _ {H K C : Type 0} (w : Words H C) (kept : H → K) (asks : H → List �
     asks_none (suc n) s e = absurd (omega (arith, e))
 
     -- so no number is ever asked for
-    never_in_times : (p k : ℕ) (s : State H C) → ComesBack w kept asks budget quotas p s → asks_in_run w asks budget quotas (k * p) s ≡ false
+    never_in_times : (p k : ℕ) (s : State H C) → ComesBack w view asks budget quotas p s → asks_in_run w asks budget quotas (k * p) s ≡ false
     never_in_times p zero s c = asks_none (0 * p) s (omega arith)
     never_in_times p (suc k) s c =
         subst (λ (n : ℕ). asks_in_run w asks budget quotas n s ≡ false) (sums p k)
@@ -434,23 +434,23 @@ module _ {H K C : Type 0} (w : Words H C) (kept : H → K) (asks : H → List �
     whole : (n p q : ℕ) → p ≡ q + 1 → n + (n * p - n) ≡ n * p
     whole n p q e = let f : n * p ≡ n * q + n = ap (λ (x : ℕ). n * x) e ∙ omega arith in omega (arith, f)
 
-    never_asks : (p n : ℕ) (s : State H C) → ComesBack w kept asks budget quotas p s → asks_in_run w asks budget quotas n s ≡ false
+    never_asks : (p n : ℕ) (s : State H C) → ComesBack w view asks budget quotas p s → asks_in_run w asks budget quotas n s ≡ false
     never_asks p n s c =
         asks_first n (n * p - n) s (subst (λ (k : ℕ). asks_in_run w asks budget quotas k s ≡ false) (sym (whole n p (p - 1) (omega (arith, c.on)))) (never_in_times p n s c))
 
     -- and each later state comes back
-    pub comes_back_later : (p n : ℕ) (s : State H C) → ComesBack w kept asks budget quotas p s → ComesBack w kept asks budget quotas p (run_of w budget quotas n s)
+    pub comes_back_later : (p n : ℕ) (s : State H C) → ComesBack w view asks budget quotas p s → ComesBack w view asks budget quotas p (run_of w budget quotas n s)
     comes_back_later p n s c = record {
       on = c.on;
       again = c.again;
-      alike = subst (Alike kept (run_of w budget quotas n s)) (sym (run_sum p n s) ∙ ap (λ (k : ℕ). run_of w budget quotas k s) (swap p n) ∙ run_sum n p s) (apart p n s c (never_asks p n s c)).0;
+      alike = subst (Alike view (run_of w budget quotas n s)) (sym (run_sum p n s) ∙ ap (λ (k : ℕ). run_of w budget quotas k s) (swap p n) ∙ run_sum n p s) (apart p n s c (never_asks p n s c)).0;
       unasked = asks_last n p s (never_asks p (n + p) s c);
     }
       where
         swap : (p n : ℕ) → p + n ≡ n + p
         swap p n = omega arith
 
-    alike_on : (s t u : State H C) → length s.harts ≡ length t.harts → Alike kept s t → Alike kept t u → Alike kept s u
+    alike_on : (s t u : State H C) → length s.harts ≡ length t.harts → Alike view s t → Alike view t u → Alike view s u
     alike_on s t u l a b = record {
       harts = a.harts ∙ b.harts;
       bytes = a.bytes ∙ b.bytes;
@@ -459,24 +459,24 @@ module _ {H K C : Type 0} (w : Words H C) (kept : H → K) (asks : H → List �
     }
 
     -- after any number of times p rounds the state is like this one
-    times_round : (p k : ℕ) (s : State H C) → ComesBack w kept asks budget quotas p s → Alike kept s (run_of w budget quotas (k * p) s)
+    times_round : (p k : ℕ) (s : State H C) → ComesBack w view asks budget quotas p s → Alike view s (run_of w budget quotas (k * p) s)
     unfolding run_of
-    times_round p zero s c = subst (λ (n : ℕ). Alike kept s (run_of w budget quotas n s)) none (record { harts = refl; bytes = refl; console = refl; holds = λ h l. refl })
+    times_round p zero s c = subst (λ (n : ℕ). Alike view s (run_of w budget quotas n s)) none (record { harts = refl; bytes = refl; console = refl; holds = λ h l. refl })
       where
         none : 0 ≡ 0 * p
         none = omega arith
     times_round p (suc k) s c =
         let x : State H C = run_of w budget quotas p s in
-        subst (Alike kept s) (sym (run_sum p (k * p) s) ∙ ap (λ (n : ℕ). run_of w budget quotas n s) (sums p k))
+        subst (Alike view s) (sym (run_sum p (k * p) s) ∙ ap (λ (n : ℕ). run_of w budget quotas n s) (sums p k))
         (alike_on s x (run_of w budget quotas (k * p) x) (sym (run_harts p s)) c.alike (times_round p k x (comes_back_again p s c)))
       where
         sums : (p k : ℕ) → p + k * p ≡ suc k * p
         sums p k = omega arith
 
     -- so the state after k times p and r further rounds is like that after r
-    turns_round : (p k r : ℕ) (s : State H C) → ComesBack w kept asks budget quotas p s → Alike kept (run_of w budget quotas r s) (run_of w budget quotas (k * p + r) s)
+    turns_round : (p k r : ℕ) (s : State H C) → ComesBack w view asks budget quotas p s → Alike view (run_of w budget quotas r s) (run_of w budget quotas (k * p + r) s)
     turns_round p k r s c =
-        subst (Alike kept (run_of w budget quotas r s)) (sym (run_sum r (k * p) s) ∙ ap (λ (n : ℕ). run_of w budget quotas n s) (swap r (k * p)))
+        subst (Alike view (run_of w budget quotas r s)) (sym (run_sum r (k * p) s) ∙ ap (λ (n : ℕ). run_of w budget quotas n s) (swap r (k * p)))
         (times_round p k (run_of w budget quotas r s) (comes_back_later p r s c))
       where
         swap : (r n : ℕ) → r + n ≡ n + r
@@ -548,17 +548,17 @@ module _ {H K C : Type 0} (w : Words H C) (kept : H → K) (asks : H → List �
     both_ways false true f g = sym (g refl)
     both_ways false false f g = refl
 
-    same_stops : (hs gs fs : List H) → Stays hs gs → Stays gs fs → map kept hs ≡ map kept fs → map w.stopped gs ≡ map w.stopped hs
+    same_stops : (hs gs fs : List H) → Stays hs gs → Stays gs fs → map view hs ≡ map view fs → map w.stopped gs ≡ map w.stopped hs
     same_stops [] [] fs a b e = refl
     same_stops [] (g ∷ gs) fs a b e = absurd a
     same_stops (h ∷ hs) [] fs a b e = absurd a
     same_stops (h ∷ hs) (g ∷ gs) [] a b e = absurd b
     same_stops (h ∷ hs) (g ∷ gs) (f ∷ fs) a b e =
-        let d : (kept h ≡ kept f) × (map kept hs ≡ map kept fs) = head_is (kept h) (kept f) (map kept hs) (map kept fs) e in
+        let d : (view h ≡ view f) × (map view hs ≡ map view fs) = head_is (view h) (view f) (map view hs) (map view fs) e in
         pair (λ (x : Bool) (xs : List Bool). x ∷ xs) (w.stopped g) (w.stopped h) (map w.stopped gs) (map w.stopped hs)
         (both_ways (w.stopped h) (w.stopped g) a.0 (λ s. forgets.stopped h f d.0 ∙ b.0 s)) (same_stops hs gs fs a.1 b.1 d.1)
 
-    goes_round : (p : ℕ) (s : State H C) → ComesBack w kept asks budget quotas p s → (n : ℕ) → map w.stopped (run_of w budget quotas n s).harts ≡ map w.stopped s.harts
+    goes_round : (p : ℕ) (s : State H C) → ComesBack w view asks budget quotas p s → (n : ℕ) → map w.stopped (run_of w budget quotas n s).harts ≡ map w.stopped s.harts
     goes_round p s c n =
         same_stops s.harts (run_of w budget quotas n s).harts (run_of w budget quotas (n * p) s).harts (run_stays n s)
         (subst (λ (x : State H C). Stays (run_of w budget quotas n s).harts x.harts) (sym (run_sum n (n * p - n) s) ∙ ap (λ (m : ℕ). run_of w budget quotas m s) (whole n p (p - 1) (omega (arith, c.on))))
@@ -566,10 +566,10 @@ module _ {H K C : Type 0} (w : Words H C) (kept : H → K) (asks : H → List �
         (times_round p n s c).harts
 
 pub runs_come_back : (H K C : Type 0) → RunsComeBack H K C
-runs_come_back H K C = λ w kept asks forgets budget quotas p s c n. goes_round w kept asks forgets budget quotas p s c n
+runs_come_back H K C = λ w view asks forgets budget quotas p s c n. goes_round w view asks forgets budget quotas p s c n
 
 pub later_comes_back : (H K C : Type 0) → LaterComesBack H K C
-later_comes_back H K C = λ w kept asks forgets budget quotas p s c n. comes_back_later w kept asks forgets budget quotas p n s c
+later_comes_back H K C = λ w view asks forgets budget quotas p s c n. comes_back_later w view asks forgets budget quotas p n s c
 
 pub runs_go_round : (H K C : Type 0) → RunsGoRound H K C
-runs_go_round H K C = λ w kept asks forgets budget quotas p s c k r. turns_round w kept asks forgets budget quotas p k r s c
+runs_go_round H K C = λ w view asks forgets budget quotas p s c k r. turns_round w view asks forgets budget quotas p k r s c

@@ -5,11 +5,11 @@ use Rattle.pages.specs.Memory.{IsBytes, after}
 use Rattle.round_schedule.specs.declared.access.Access.{Access}
 use Rattle.round_schedule.specs.declared.access.Stepped.{Stepped}
 use Rattle.round_schedule.specs.declared.access.Stepped.TheVariants.{Done, Waits, Stopped}
-use Rattle.round_schedule.specs.ByTable.{Tabled, tabled_phase_of}
+use Rattle.round_schedule.specs.ByReservations.{Reserving, reserving_phase_of}
 use Rattle.round_schedule.specs.Schedule.{HartRound, SerialOutcome, State, Turn, Words, committed, hart_rounds, joined, run_of, serial_next, turn_of, turn_went}
 use Rattle.round_schedule.specs.Sound.{Sound}
-use Rattle.round_schedule.specs.TabledTurn.{TabledPhase, TabledTurn, tabled_phase_joined, tabled_turn_next, tabled_turn_of, updated_by}
-use Rattle.round_schedule.specs.Tables.{Tied}
+use Rattle.round_schedule.specs.ReservingTurn.{ReservingPhase, ReservingTurn, reserving_phase_joined, reserving_turn_next, reserving_turn_of, updated_by}
+use Rattle.round_schedule.specs.Reservations.{Tied}
 
 -- by the answer of an instruction: where it is done, what is said of what comes after it
 abbrev pub asks_after : Stepped → (Option Access → Bool) → Bool
@@ -42,32 +42,32 @@ unfoldable pub asks_in_run : {H C : Type 0} → Words H C → (H → List ℕ �
 asks_in_run w asks budget quotas zero s = false
 asks_in_run w asks budget quotas (suc n) s = asks_in_run w asks budget quotas n s || asks_in_round w asks budget quotas (run_of w budget quotas n s)
 
--- ---- the same over a table of reservations
+-- ---- the same over a list of reservations
 
 -- the state of a turn after an instruction that is done
-abbrev pub tabled_turn_went : {H C : Type 0} → ℕ → TabledTurn H C → SerialOutcome H C → Option Access → TabledTurn H C
-tabled_turn_went i d o a = record { hart = o.hart; bytes = after d.bytes o.stores; console = o.console; table = updated_by i a d.table; log = d.log ++ option_to_list a }
+abbrev pub reserving_turn_went : {H C : Type 0} → ℕ → ReservingTurn H C → SerialOutcome H C → Option Access → ReservingTurn H C
+reserving_turn_went i d o a = record { hart = o.hart; bytes = after d.bytes o.stores; console = o.console; reservations = updated_by i a d.reservations; log = d.log ++ option_to_list a }
 
-unfoldable pub asks_in_tabled_turn : {H C : Type 0} → Words H C → (H → List ℕ → Bool) → ℕ → ℕ → ℕ → TabledTurn H C → Bool
-asks_in_tabled_turn w asks n i zero d = false
-asks_in_tabled_turn w asks n i (suc k) d =
+unfoldable pub asks_in_reserving_turn : {H C : Type 0} → Words H C → (H → List ℕ → Bool) → ℕ → ℕ → ℕ → ReservingTurn H C → Bool
+asks_in_reserving_turn w asks n i zero d = false
+asks_in_reserving_turn w asks n i (suc k) d =
     if w.stopped d.hart then false
-    else (asks d.hart d.bytes || asks_after (tabled_turn_next w n i d).answer (λ a. asks_in_tabled_turn w asks n i k (tabled_turn_went i d (tabled_turn_next w n i d) a)))
+    else (asks d.hart d.bytes || asks_after (reserving_turn_next w n i d).answer (λ a. asks_in_reserving_turn w asks n i k (reserving_turn_went i d (reserving_turn_next w n i d) a)))
 
-abbrev pub asks_in_tabled_phase : {H C : Type 0} → Words H C → (H → List ℕ → Bool) → ℕ → ℕ → ℕ → List (HartRound H) → TabledPhase H C → Bool
-asks_in_tabled_phase w asks budget n i [] s = false
-asks_in_tabled_phase w asks budget n i (r ∷ rs) s =
-    asks_in_tabled_turn w asks n i (if r.waits then budget else 0) (record { hart = r.last.hart; bytes = s.bytes; console = s.console; table = s.table; log = [] })
-    || asks_in_tabled_phase w asks budget n (suc i) rs (tabled_phase_joined s (tabled_turn_of w budget n s i r.last.hart r.waits))
+abbrev pub asks_in_reserving_phase : {H C : Type 0} → Words H C → (H → List ℕ → Bool) → ℕ → ℕ → ℕ → List (HartRound H) → ReservingPhase H C → Bool
+asks_in_reserving_phase w asks budget n i [] s = false
+asks_in_reserving_phase w asks budget n i (r ∷ rs) s =
+    asks_in_reserving_turn w asks n i (if r.waits then budget else 0) (record { hart = r.last.hart; bytes = s.bytes; console = s.console; reservations = s.reservations; log = [] })
+    || asks_in_reserving_phase w asks budget n (suc i) rs (reserving_phase_joined s (reserving_turn_of w budget n s i r.last.hart r.waits))
 
-unfoldable pub asks_in_tabled_round : {H C : Type 0} → Words H C → (H → List ℕ → Bool) → ℕ → (ℕ → List ℕ) → Tabled H C → Bool
-asks_in_tabled_round w asks budget quotas m =
+unfoldable pub asks_in_reserving_round : {H C : Type 0} → Words H C → (H → List ℕ → Bool) → ℕ → (ℕ → List ℕ) → Reserving H C → Bool
+asks_in_reserving_round w asks budget quotas m =
     let rs = hart_rounds w m.state.bytes (quotas m.state.rounds) m.state.harts in
-    asks_in_tabled_phase w asks budget (m.state.rounds + 1) 0 rs (tabled_phase_of m rs)
+    asks_in_reserving_phase w asks budget (m.state.rounds + 1) 0 rs (reserving_phase_of m rs)
 
--- where the table is what the trace says, it makes no difference which of the two is looked at
-abbrev pub AskingByTable : (H C : Type 0) → Type 0
-AskingByTable H C =
-    (w : Words H C) (asks : H → List ℕ → Bool) (budget : ℕ) (quotas : ℕ → List ℕ) (m : Tabled H C) →
-    Sound w → IsBytes m.state.bytes → Tied m.table m.state.trace → length m.table ≡ length m.state.harts →
-    asks_in_tabled_round w asks budget quotas m ≡ asks_in_round w asks budget quotas m.state
+-- where the list is what the trace says, it makes no difference which of the two is looked at
+abbrev pub AskingByReservations : (H C : Type 0) → Type 0
+AskingByReservations H C =
+    (w : Words H C) (asks : H → List ℕ → Bool) (budget : ℕ) (quotas : ℕ → List ℕ) (m : Reserving H C) →
+    Sound w → IsBytes m.state.bytes → Tied m.reservations m.state.trace → length m.reservations ≡ length m.state.harts →
+    asks_in_reserving_round w asks budget quotas m ≡ asks_in_round w asks budget quotas m.state

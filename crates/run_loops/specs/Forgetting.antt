@@ -7,7 +7,7 @@ use Rattle.round_schedule.specs.declared.access.Access.TheVariants.{Load, Store,
 use Rattle.round_schedule.specs.declared.access.Stepped.{Stepped}
 use Rattle.round_schedule.specs.declared.access.Stepped.TheVariants.{Done, Waits, Stopped}
 use Rattle.round_schedule.specs.declared.span.Span.{Span}
-use Rattle.round_schedule.specs.Schedule.{Outcome, SerialOutcome, Words}
+use Rattle.round_schedule.specs.Schedule.{StepOutcome, SerialOutcome, Words}
 use Rattle.rv64_decode.specs.declared.instruction.Instr.{Instr}
 use Rattle.rv64_decode.specs.declared.instruction.Instr.TheVariants.{Ecall}
 use Rattle.hart_step.specs.declared.hart.Hart.{Hart}
@@ -30,26 +30,26 @@ placeless_answer (Done (Some a)) = Done (Some (placeless a))
 placeless_answer Waits = Waits
 placeless_answer (Stopped code) = Stopped code
 
--- two outcomes that differ at most in places, and in what `kept` leaves out of a hart
-pub record SameOutcome {H K : Type 0} (kept : H → K) (o q : Outcome H) : Type 0 where
+-- two outcomes that differ at most in places, and in what `view` leaves out of a hart
+pub record SameOutcome {H K : Type 0} (view : H → K) (o q : StepOutcome H) : Type 0 where
   pub answer : placeless_answer o.answer ≡ placeless_answer q.answer
-  pub hart : kept o.hart ≡ kept q.hart
+  pub hart : view o.hart ≡ view q.hart
   pub stores : o.stores ≡ q.stores
 
-pub record SameSerial {H K C : Type 0} (kept : H → K) (o q : SerialOutcome H C) : Type 0 where
+pub record SameSerial {H K C : Type 0} (view : H → K) (o q : SerialOutcome H C) : Type 0 where
   pub answer : placeless_answer o.answer ≡ placeless_answer q.answer
-  pub hart : kept o.hart ≡ kept q.hart
+  pub hart : view o.hart ≡ view q.hart
   pub stores : o.stores ≡ q.stores
   pub console : o.console ≡ q.console
 
--- what instructions do depends on `kept` of the hart alone; and in the serial phase the outcome of one that doesn't ask for the
+-- what instructions do depends on `view` of the hart alone; and in the serial phase the outcome of one that doesn't ask for the
 -- round's number is the same in every round
-pub record Forgets {H K C : Type 0} (w : Words H C) (kept : H → K) (asks : H → List ℕ → Bool) : Type 0 where
-  pub stopped : (h g : H) → kept h ≡ kept g → w.stopped h ≡ w.stopped g
-  pub asking : (h g : H) (bs : List ℕ) → kept h ≡ kept g → asks h bs ≡ asks g bs
-  pub steps : (h g : H) (bs : List ℕ) → kept h ≡ kept g → SameOutcome kept (w.step h bs) (w.step g bs)
-  pub serial_steps : (n m : ℕ) (h g : H) (bs : List ℕ) (c : C) (r : Option Span) → kept h ≡ kept g → asks h bs ≡ false →
-      SameSerial kept (w.serial_step n h bs c r) (w.serial_step m g bs c r)
+pub record Forgets {H K C : Type 0} (w : Words H C) (view : H → K) (asks : H → List ℕ → Bool) : Type 0 where
+  pub stopped : (h g : H) → view h ≡ view g → w.stopped h ≡ w.stopped g
+  pub asking : (h g : H) (bs : List ℕ) → view h ≡ view g → asks h bs ≡ asks g bs
+  pub steps : (h g : H) (bs : List ℕ) → view h ≡ view g → SameOutcome view (w.step h bs) (w.step g bs)
+  pub serial_steps : (n m : ℕ) (h g : H) (bs : List ℕ) (c : C) (r : Option Span) → view h ≡ view g → asks h bs ≡ false →
+      SameSerial view (w.serial_step n h bs c r) (w.serial_step m g bs c r)
 
 -- ---- of RV64IMA
 

@@ -3,7 +3,7 @@
 //! The laws are the contracts of functions that do nothing.
 #![tactic(auto)]
 
-ghost use Rattle.run_loops.specs.Asking.{AskingByTable};
+ghost use Rattle.run_loops.specs.Asking.{AskingByReservations};
 ghost use Rattle.run_loops.specs.Decided.{AlikeIsDecided, EarlierGoesRound, GoingRoundComesBack};
 ghost use Rattle.run_loops.specs.Forgetting.{CountsAreForgotten};
 ghost use Rattle.run_loops.specs.Returning.{LaterComesBack, RunsComeBack, RunsGoRound};
@@ -29,10 +29,10 @@ pub fn runs_go_round<H, K, C>()
     ensures { RunsGoRound H K C }
 {}
 
-/// Where a table of reservations is what the trace says, a hart asks for a round's number over the table where it does over the
+/// Where a list of reservations is what the trace says, a hart asks for a round's number over the list where it does over the
 /// trace.
-pub fn asking_by_table<H, C>()
-    ensures { AskingByTable H C }
+pub fn asking_by_reservations<H, C>()
+    ensures { AskingByReservations H C }
 {}
 
 /// `are_alike` answers whether all that later rounds depend on is the same in two states.

@@ -8,7 +8,7 @@ use Rattle.round_schedule.specs.Schedule.{HartRound, hart_round_of, round_from}
 use Rattle.store_buffer.specs.Covered.{stores_of}
 use Rattle.hart_step.specs.declared.hart.Hart.{Hart}
 use Rattle.hart_step.specs.Buffered.{Overlay, Puts, seen_through}
-use Rattle.hart_step.specs.CodeTables.{Shows}
+use Rattle.hart_step.specs.DecodedCode.{Shows}
 use Rattle.hart_step.specs.Rounds.{Leaves}
 use Rattle.hart_step.specs.Words.{words_of}
 use Rattle.rv64_decode.specs.declared.instruction.Instr.{Instr}
@@ -16,7 +16,7 @@ use Rattle.moments.specs.Sights.{Sight, part_sights}
 use Rattle.moments.proofs.Ends.{sights_end}
 use Rattle.seeing.specs.Bytes.{sight_of}
 
--- a table that shows memory shows it through an empty buffer
+-- a code that shows memory shows it through an empty buffer
 pub shows_through : (m : Memory) (v : Overlay) (first : ℕ) (words : List Instr) → v ≡ record { base = m; bytes = [] } → Shows m first words → Shows (seen_through v) first words
 shows_through m v first words e shows = subst (λ (y : Overlay). Shows (seen_through y) first words) (sym e) shows
 

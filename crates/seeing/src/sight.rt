@@ -1,11 +1,11 @@
 ghost use Rattle.std.specs.Prelude.{◌≡◌, ◌+◌, ◌<◌, ◌≤◌, IfNone, IfOk, IfSome, Some, length, slice_index};
-ghost use Rattle.hart_step.specs.CodeTables.{Shows};
+ghost use Rattle.hart_step.specs.DecodedCode.{Shows};
 ghost use Rattle.hart_step.specs.Words.{words_of};
 ghost use Rattle.moments.specs.Sights.{part_sights};
 ghost use Rattle.round_schedule.specs.Past.{last_of};
 ghost use Rattle.seeing.specs.Bytes.{bytes_from, sight_of};
 
-use hart_step::{AccessCount, Buffered, CodeTable, Hart, hart_round};
+use hart_step::{AccessCount, Buffered, DecodedCode, Hart, hart_round};
 use pages::{OutOfMemory, Pages, Width};
 use std::alloc::Global;
 use std::marker::Model;
@@ -41,18 +41,18 @@ impl Sight {
     /// `OutOfMemory` alone.
     pub fn after_part(
         pages: Pages,
-        table: &CodeTable,
+        code: &DecodedCode,
         hart: Hart,
         quota: u32,
     ) -> Result<Sight, OutOfMemory>
-        requires { Shows pages.memory table.now.first table.now.instructions }
+        requires { Shows pages.memory code.now.first code.now.instructions }
         ensures { IfOk result (λ s. last_of (part_sights (words_of pages.memory.code) quota
             (sight_of hart pages.memory)) ≡ Some s) }
     {
         let mut turned = hart;
         let mut view = Buffered::new(pages.allocator(), &pages);
         let mut count = AccessCount { count: 0 };
-        let _waits = hart_round(&mut turned, &mut view, table, quota, &mut count)?;
+        let _waits = hart_round(&mut turned, &mut view, code, quota, &mut count)?;
         let own = view.into_buffer();
         Ok(Sight {
             hart: turned,
@@ -92,8 +92,8 @@ impl Sight {
         ensures { IfOk result (λ v. v.items ≡ bytes_from self.now.bytes address count) }
     {
         let mut bytes = Vec::new(alloc);
-        for place in 0..count {
-            match self.byte(address, place) {
+        for offset in 0..count {
+            match self.byte(address, offset) {
                 Some(byte) => bytes.push(byte)?,
                 None => return Ok(bytes),
             }
@@ -102,18 +102,18 @@ impl Sight {
     }
 
     /// The byte so many after an address; none past the end of memory.
-    fn byte(&self, address: u64, place: u64) -> Option<u8>
-        ensures past { IfNone result (length self.now.bytes ≤ address + place) }
-        ensures within { IfSome result (λ _. address + place < length self.now.bytes) }
-        ensures byte { IfSome result (λ byte. byte ≡ slice_index self.now.bytes (address + place)) }
+    fn byte(&self, address: u64, offset: u64) -> Option<u8>
+        ensures past { IfNone result (length self.now.bytes ≤ address + offset) }
+        ensures within { IfSome result (λ _. address + offset < length self.now.bytes) }
+        ensures byte { IfSome result (λ byte. byte ≡ slice_index self.now.bytes (address + offset)) }
     {
         // At most 64 MiB, each of which is a byte.
         self.pages.bytes_fit();
         let _count = self.pages.count();
-        if place > u64::MAX - address {
+        if offset > u64::MAX - address {
             return None;
         }
-        match self.own.read_over(&self.pages, address + place, Width::W1) {
+        match self.own.read_over(&self.pages, address + offset, Width::W1) {
             Ok(number) => {
                 let byte = number as u8;
                 Some(byte)

@@ -1,5 +1,5 @@
 ghost use Rattle.std.specs.Prelude.{◌≡◌, ◌<◌, ℕ, List, length, None};
-ghost use Rattle.hart_step.specs.CodeTables.{Shows};
+ghost use Rattle.hart_step.specs.DecodedCode.{Shows};
 ghost use Rattle.rv64_decode.specs.declared.instruction.Instr.{Instr};
 
 use crate::serving::{lay, serve_next};
@@ -16,7 +16,7 @@ use serial_phase::SharedState;
 pub struct Memory {
     state: SharedState,
     ghost shows: { Shows state.pages.memory state.code.first state.code.instructions },
-    ghost table: { length state.reservations ≡ 64 },
+    ghost reservations: { length state.reservations ≡ 64 },
 }
 
 impl Memory {

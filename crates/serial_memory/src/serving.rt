@@ -1,6 +1,6 @@
 //! Single instructions on what the harts share.
 ghost use Rattle.std.specs.Prelude.{◌≡◌, ◌<◌, ℕ, List, length, None};
-ghost use Rattle.hart_step.specs.CodeTables.{Shows};
+ghost use Rattle.hart_step.specs.DecodedCode.{Shows};
 ghost use Rattle.rv64_decode.specs.declared.instruction.Instr.{Instr};
 
 use hart_step::{Bus, Hart};
@@ -20,7 +20,7 @@ pub(crate) fn serve_next(
     requires hart { hart < length shared.old.reservations }
     requires shows { Shows shared.old.pages.memory shared.old.code.first shared.old.code.instructions }
     ensures shows { Shows shared.new.pages.memory shared.new.code.first shared.new.code.instructions }
-    ensures table { length shared.new.reservations ≡ length shared.old.reservations }
+    ensures reservations { length shared.new.reservations ≡ length shared.old.reservations }
 {
     let alloc = shared.pages.allocator();
     shared.pages.prepare(alloc, &[], 1)?;

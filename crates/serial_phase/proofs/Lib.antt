@@ -1,5 +1,5 @@
 pub mod TurnLists
-pub mod TableUpdates
+pub mod ReservationUpdates
 pub mod ServedWords
 pub mod PlainSteps
 pub mod Came
@@ -7,7 +7,7 @@ pub mod Effects
 pub mod Served
 pub mod Settled
 pub mod TurnUnderWay
-pub mod TurnRuns
+pub mod TurnStretches
 pub mod PhaseUnderWay
-pub mod CodeKept
+pub mod ShownCode
 pub mod PlainRun

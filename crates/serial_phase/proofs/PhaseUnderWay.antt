@@ -5,7 +5,7 @@ use Rattle.std.proofs.lemmas.List.{drop_all, take_all}
 use Rattle.pages.specs.declared.access.Range.{Range}
 use Rattle.pages.specs.Paged.{Paged, is_page_ready}
 use Rattle.round_schedule.specs.declared.access.Access.{Access}
-use Rattle.round_schedule.specs.TabledTurn.{TabledPhase, tabled_phase_from, tabled_phase_joined, tabled_turn_of, tabled_turn_from}
+use Rattle.round_schedule.specs.ReservingTurn.{ReservingPhase, reserving_phase_from, reserving_phase_joined, reserving_turn_of, reserving_turn_from}
 use Rattle.round_schedule.specs.Schedule.{HartRound}
 use Rattle.hart_step.specs.declared.hart.Hart.{Hart}
 use Rattle.hart_step.specs.Console.{ConsoleState}
@@ -17,7 +17,7 @@ use Rattle.serial_phase.specs.declared.shared.Turn.{Turn}
 use Rattle.serial_phase.specs.Phase.{TakesTurns, turn_done, turn_of, serial_done, waiting_rounds, is_waiting, budget_of, budget_from, budget_of_all}
 use Rattle.serial_phase.specs.Roomed.{Roomed, HasRoom}
 use Rattle.serial_phase.specs.Turns.{Turns}
-use Rattle.serial_phase.proofs.CodeKept.{ShowsCode}
+use Rattle.serial_phase.proofs.ShownCode.{ShowsCode}
 use Rattle.serial_phase.specs.UnderWay.{At}
 use Rattle.serial_phase.proofs.TurnUnderWay.{Ends}
 
@@ -26,12 +26,12 @@ pub record Group : Type 0 where
   pub harts : List Hart
   pub state : SharedState
 
-abbrev tabled_phase_at : ℕ → Group → TabledPhase Hart ConsoleState
-tabled_phase_at i y = record {
+abbrev reserving_phase_at : ℕ → Group → ReservingPhase Hart ConsoleState
+reserving_phase_at i y = record {
   harts = take i y.harts;
   bytes = y.state.pages.memory.bytes;
   console = y.state.console.console;
-  table = y.state.reservations;
+  reservations = y.state.reservations;
   log = y.state.log.closed;
 }
 
@@ -41,7 +41,7 @@ to_come phase i count = budget_from phase.waiting phase.budget i (count - i)
 
 -- harts 0 to i - 1 had their turns, in a phase that began at x and is at y
 pub record Serving (phase : SerialRound) (i : ℕ) (x y : Group) : Type 0 where
-  pub going : tabled_phase_from (words_of x.state.pages.memory.code) phase.budget phase.round i (waiting_rounds phase.waiting i (drop i x.harts)) (tabled_phase_at i y) ≡ serial_done phase x.harts x.state
+  pub going : reserving_phase_from (words_of x.state.pages.memory.code) phase.budget phase.round i (waiting_rounds phase.waiting i (drop i x.harts)) (reserving_phase_at i y) ≡ serial_done phase x.harts x.state
   pub rest : drop i y.harts ≡ drop i x.harts
   pub code : y.state.pages.memory.code ≡ x.state.pages.memory.code
   pub count : length y.state.pages.ready ≡ length x.state.pages.ready
@@ -69,7 +69,7 @@ serving_first phase x b =
     let whole : length x.harts ≡ length x.harts - 0 = omega arith in
     let w = words_of x.state.pages.memory.code in
     record {
-      going = ap (λ (l : List (List Access)). tabled_phase_from w phase.budget phase.round 0 (waiting_rounds phase.waiting 0 x.harts) (record (tabled_phase_at 0 x) { log = l })) b.closed;
+      going = ap (λ (l : List (List Access)). reserving_phase_from w phase.budget phase.round 0 (waiting_rounds phase.waiting 0 x.harts) (record (reserving_phase_at 0 x) { log = l })) b.closed;
       rest = refl;
       code = refl;
       count = refl;
@@ -145,22 +145,22 @@ serving_more phase i x y h z l low same_length here e closes s =
     let parts = tail_of _ _ _ _ whole in
     let same : get_or x.harts i h ≡ h = sym parts.0 ∙ sym here in
     let w = words_of x.state.pages.memory.code in
-    let tabled_turn : turn_done (turn_of phase i) h y.state ≡ tabled_turn_of w phase.budget phase.round (tabled_phase_at i y) i h (is_waiting phase.waiting i) =
-    ap (λ (code : List Range). tabled_turn_from (words_of code) phase.round i b (record { hart = h; bytes = y.state.pages.memory.bytes; console = y.state.console.console; table = y.state.reservations; log = [] })) s.code in
+    let reserving_turn : turn_done (turn_of phase i) h y.state ≡ reserving_turn_of w phase.budget phase.round (reserving_phase_at i y) i h (is_waiting phase.waiting i) =
+    ap (λ (code : List Range). reserving_turn_from (words_of code) phase.round i b (record { hart = h; bytes = y.state.pages.memory.bytes; console = y.state.console.console; reservations = y.state.reservations; log = [] })) s.code in
     let front : take (i + 1) (set y.harts i z.hart) ≡ take i y.harts ++ z.hart ∷ [] = ap (λ (m : ℕ). take m (set y.harts i z.hart)) (add-one i) ∙ take-suc-set y.harts i z.hart (omega arith) in
     let d = turn_done (turn_of phase i) h y.state in
     let harts : take (i + 1) (set y.harts i z.hart) ≡ take i y.harts ++ d.hart ∷ [] = front ∙ ap (λ (g : Hart). take i y.harts ++ g ∷ []) e.taken.hart in
     let log : l.closed ≡ y.state.log.closed ++ d.log ∷ [] = closes.closed ∙ ap (λ (ls : List (List Access)). ls ++ z.state.log.current ∷ []) e.taken.closed ∙ ap (λ (xs : List Access). y.state.log.closed ++ xs ∷ []) e.taken.log in
-    let parted : tabled_phase_at (i + 1) (turned i y z l) ≡ tabled_phase_joined (tabled_phase_at i y) d = cc (harts, e.taken.pages.bytes, e.taken.console, e.taken.table, log) in
-    let joined : tabled_phase_at (i + 1) (turned i y z l) ≡ tabled_phase_joined (tabled_phase_at i y) (tabled_turn_of w phase.budget phase.round (tabled_phase_at i y) i h (is_waiting phase.waiting i)) =
-    parted ∙ ap (tabled_phase_joined (tabled_phase_at i y)) tabled_turn in
+    let parted : reserving_phase_at (i + 1) (turned i y z l) ≡ reserving_phase_joined (reserving_phase_at i y) d = cc (harts, e.taken.pages.bytes, e.taken.console, e.taken.reservations, log) in
+    let joined : reserving_phase_at (i + 1) (turned i y z l) ≡ reserving_phase_joined (reserving_phase_at i y) (reserving_turn_of w phase.budget phase.round (reserving_phase_at i y) i h (is_waiting phase.waiting i)) =
+    parted ∙ ap (reserving_phase_joined (reserving_phase_at i y)) reserving_turn in
     let rounds : waiting_rounds phase.waiting i (drop i x.harts) ≡ waiting_rounds phase.waiting i (h ∷ drop (i + 1) x.harts) =
     ap (waiting_rounds phase.waiting i) (drop_next x.harts i h low ∙ ap (λ (g : Hart). g ∷ drop (i + 1) x.harts) same) in
     record {
       going =
-          ap (λ (m : ℕ). tabled_phase_from w phase.budget phase.round m (waiting_rounds phase.waiting m (drop (i + 1) x.harts)) (tabled_phase_at (i + 1) (turned i y z l))) (add-one i)
-          ∙ ap (tabled_phase_from w phase.budget phase.round (suc i) (waiting_rounds phase.waiting (suc i) (drop (i + 1) x.harts))) joined
-          ∙ ap (λ (rs : List (HartRound Hart)). tabled_phase_from w phase.budget phase.round i rs (tabled_phase_at i y)) (sym rounds)
+          ap (λ (m : ℕ). reserving_phase_from w phase.budget phase.round m (waiting_rounds phase.waiting m (drop (i + 1) x.harts)) (reserving_phase_at (i + 1) (turned i y z l))) (add-one i)
+          ∙ ap (reserving_phase_from w phase.budget phase.round (suc i) (waiting_rounds phase.waiting (suc i) (drop (i + 1) x.harts))) joined
+          ∙ ap (λ (rs : List (HartRound Hart)). reserving_phase_from w phase.budget phase.round i rs (reserving_phase_at i y)) (sym rounds)
           ∙ s.going;
       rest = ap (λ (m : ℕ). drop m (set y.harts i z.hart)) (add-one i) ∙ drop_set y.harts i z.hart ∙ ap (λ (m : ℕ). drop m y.harts) (sym (add-one i)) ∙ parts.1;
       code = e.taken.pages.code ∙ s.code;
@@ -171,7 +171,7 @@ serving_more phase i x y h z l low same_length here e closes s =
       log = omega (arith, need, s.log, e.log, closes.room);
       turns = ap length closes.closed ∙ length-append z.state.log.closed (z.state.log.current ∷ []) ∙ ap (λ (m : ℕ). m + 1) (ap length e.taken.closed ∙ s.turns);
       current = closes.current;
-      size = e.table ∙ s.size;
+      size = e.reservations ∙ s.size;
       decoded = e.code ∙ s.decoded;
       shows = e.shows;
     }
@@ -181,12 +181,12 @@ serving_over phase i x y same_length over s =
     let none : drop i x.harts ≡ [] = drop_all i x.harts over in
     let all : take i y.harts ≡ y.harts = take_all i y.harts (omega arith) in
     let w = words_of x.state.pages.memory.code in
-    let same : tabled_phase_at i y ≡ serial_done phase x.harts x.state =
-    ap (λ (hs : List Hart). tabled_phase_from w phase.budget phase.round i (waiting_rounds phase.waiting i hs) (tabled_phase_at i y)) (sym none) ∙ s.going in
+    let same : reserving_phase_at i y ≡ serial_done phase x.harts x.state =
+    ap (λ (hs : List Hart). reserving_phase_from w phase.budget phase.round i (waiting_rounds phase.waiting i hs) (reserving_phase_at i y)) (sym none) ∙ s.going in
     record {
-      harts = sym all ∙ ap (λ (c : TabledPhase Hart ConsoleState). c.harts) same;
-      pages = record { bytes = ap (λ (c : TabledPhase Hart ConsoleState). c.bytes) same; code = s.code; count = s.count; stays = s.stays };
-      table = ap (λ (c : TabledPhase Hart ConsoleState). c.table) same;
-      console = ap (λ (c : TabledPhase Hart ConsoleState). c.console) same;
-      log = ap (λ (c : TabledPhase Hart ConsoleState). c.log) same;
+      harts = sym all ∙ ap (λ (c : ReservingPhase Hart ConsoleState). c.harts) same;
+      pages = record { bytes = ap (λ (c : ReservingPhase Hart ConsoleState). c.bytes) same; code = s.code; count = s.count; stays = s.stays };
+      reservations = ap (λ (c : ReservingPhase Hart ConsoleState). c.reservations) same;
+      console = ap (λ (c : ReservingPhase Hart ConsoleState). c.console) same;
+      log = ap (λ (c : ReservingPhase Hart ConsoleState). c.log) same;
     }

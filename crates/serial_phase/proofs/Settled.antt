@@ -10,7 +10,7 @@ use Rattle.rv64_decode.specs.Table.{instr_of}
 use Rattle.round_schedule.specs.declared.access.Stepped.{Stepped}
 use Rattle.round_schedule.specs.declared.access.Stepped.TheVariants.{Done, Waits, Stopped}
 use Rattle.round_schedule.specs.declared.span.Span.{Span}
-use Rattle.round_schedule.specs.Schedule.{SerialOutcome, Outcome}
+use Rattle.round_schedule.specs.Schedule.{SerialOutcome, StepOutcome}
 use Rattle.hart_step.specs.declared.hart.Hart.{Hart}
 use Rattle.hart_step.specs.Console.{ConsoleState}
 use Rattle.hart_step.specs.Effect.{Action, Put, Jump, Branch, Read, Write, Order, Halt, Reserve, Conditional, Exchange, Call, action}
@@ -31,7 +31,7 @@ pub record Settled (c : ConsoleState) (o : SerialOutcome Hart ConsoleState) : Ty
 done_none : (c : ConsoleState) (o : SerialOutcome Hart ConsoleState) → o.stores ≡ [] → Idle o.answer o.stores c o.console → Settled c o
 done_none c o e i = record { few = omega (arith, ap length e); idle = i }
 
-by_bool : (c : ConsoleState) (b : Bool) (o p : Outcome Hart) → Settled c (with_console c o) → Settled c (with_console c p) → Settled c (with_console c (cond b o p))
+by_bool : (c : ConsoleState) (b : Bool) (o p : StepOutcome Hart) → Settled c (with_console c o) → Settled c (with_console c p) → Settled c (with_console c (cond b o p))
 by_bool c true o p x y = x
 by_bool c false o p x y = y
 

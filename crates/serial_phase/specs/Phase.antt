@@ -1,7 +1,7 @@
 -- The serial phase as the code leaves it.
 use Rattle.std.specs.Prelude.{◌≡◌, ℕ, zero, suc, ◌+◌, ◌/◌, ◌%◌, ◌^◌, ◌==◌, Bool, true, if◌then◌else◌, List, [], ◌∷◌, length}
 use Rattle.pages.specs.Paged.{Paged, is_page_ready}
-use Rattle.round_schedule.specs.TabledTurn.{TabledTurn, tabled_turn_from, TabledPhase, tabled_phase_from}
+use Rattle.round_schedule.specs.ReservingTurn.{ReservingTurn, reserving_turn_from, ReservingPhase, reserving_phase_from}
 use Rattle.round_schedule.specs.Schedule.{HartRound, began}
 use Rattle.hart_step.specs.declared.hart.Hart.{Hart}
 use Rattle.hart_step.specs.Console.{ConsoleState}
@@ -18,21 +18,21 @@ pub record HasBytes (p : Paged) (bs : List ℕ) (q : Paged) : Type 0 where
   pub stays : (page : ℕ) → is_page_ready p page ≡ true → is_page_ready q page ≡ true
 
 -- a turn, from a hart and what is shared
-abbrev pub turn_done : Turn → Hart → SharedState → TabledTurn Hart ConsoleState
+abbrev pub turn_done : Turn → Hart → SharedState → ReservingTurn Hart ConsoleState
 turn_done turn h s =
-    tabled_turn_from (words_of s.pages.memory.code) turn.round turn.hart turn.budget (record {
+    reserving_turn_from (words_of s.pages.memory.code) turn.round turn.hart turn.budget (record {
       hart = h;
       bytes = s.pages.memory.bytes;
       console = s.console.console;
-      table = s.reservations;
+      reservations = s.reservations;
       log = [];
     })
 
 -- the turn is done, and its accesses are the current ones of the log
-pub record TakesTurn (d : TabledTurn Hart ConsoleState) (h : Hart) (s t : SharedState) : Type 0 where
+pub record TakesTurn (d : ReservingTurn Hart ConsoleState) (h : Hart) (s t : SharedState) : Type 0 where
   pub hart : h ≡ d.hart
   pub pages : HasBytes s.pages d.bytes t.pages
-  pub table : t.reservations ≡ d.table
+  pub reservations : t.reservations ≡ d.reservations
   pub console : t.console.console ≡ d.console
   pub log : t.log.current ≡ d.log
   pub closed : t.log.closed ≡ s.log.closed
@@ -48,23 +48,23 @@ waiting_rounds waiting i (h ∷ hs) =
     record { last = began h; waits = is_waiting waiting i } ∷ waiting_rounds waiting (suc i) hs
 
 -- the serial phase, from the harts and what is shared
-abbrev pub serial_done : SerialRound → List Hart → SharedState → TabledPhase Hart ConsoleState
+abbrev pub serial_done : SerialRound → List Hart → SharedState → ReservingPhase Hart ConsoleState
 serial_done phase hs s =
     let rounds = waiting_rounds phase.waiting 0 hs in
-    tabled_phase_from (words_of s.pages.memory.code) phase.budget phase.round 0 rounds (record {
+    reserving_phase_from (words_of s.pages.memory.code) phase.budget phase.round 0 rounds (record {
       harts = [];
       bytes = s.pages.memory.bytes;
       console = s.console.console;
-      table = s.reservations;
+      reservations = s.reservations;
       log = [];
     })
 
 -- the serial phase is done, and the log has each hart's accesses
-pub record TakesTurns (d : TabledPhase Hart ConsoleState) (hs : List Hart) (s t : SharedState)
+pub record TakesTurns (d : ReservingPhase Hart ConsoleState) (hs : List Hart) (s t : SharedState)
     : Type 0 where
   pub harts : hs ≡ d.harts
   pub pages : HasBytes s.pages d.bytes t.pages
-  pub table : t.reservations ≡ d.table
+  pub reservations : t.reservations ≡ d.reservations
   pub console : t.console.console ≡ d.console
   pub log : t.log.closed ≡ d.log
 

@@ -1,5 +1,5 @@
 ghost use Rattle.std.specs.Prelude.{◌≡◌, ℕ, ◌<◌, ◌≤◌, ◌+◌, [], length};
-ghost use Rattle.hart_step.specs.CodeTables.{Shows};
+ghost use Rattle.hart_step.specs.DecodedCode.{Shows};
 ghost use Rattle.hart_step.specs.Room.{HasSpares};
 ghost use Rattle.serial_phase.specs.Phase.{TakesTurn, TakesTurns, budget_of, budget_of_all, is_waiting, serial_done, turn_done, turn_of};
 ghost use Rattle.serial_phase.specs.Roomed.{HasRoom};
@@ -29,7 +29,7 @@ pub fn serial(state: &mut SharedState, harts: &mut [Hart], phase: SerialRound)
     requires current { state.old.log.current ≡ [] }
     ensures turns { TakesTurns (serial_done phase harts.old state.old)
         harts.new state.old state.new }
-    ensures table { length state.new.reservations ≡ length state.old.reservations }
+    ensures reservations { length state.new.reservations ≡ length state.old.reservations }
     ensures shows { Shows state.new.pages.memory state.new.code.first state.new.code.instructions }
     ensures current { state.new.log.current ≡ [] }
     ensures code { state.new.code ≡ state.old.code }
@@ -67,7 +67,7 @@ fn take_turn_of_waiting(h: &mut Hart, state: &mut SharedState, hart: u32, phase:
         state.old.console → HasRoom n state.new.console }
     ensures log { state.old.log.room ≤
         state.new.log.room + budget_of phase.waiting hart phase.budget }
-    ensures table { length state.new.reservations ≡ length state.old.reservations }
+    ensures reservations { length state.new.reservations ≡ length state.old.reservations }
     ensures shows { Shows state.new.pages.memory state.new.code.first state.new.code.instructions }
     ensures code { state.new.code ≡ state.old.code }
 {
@@ -100,7 +100,7 @@ pub fn take_turn(h: &mut Hart, state: &mut SharedState, turn: Turn)
     ensures console { (n : ℕ) →
         HasRoom (n + turn.budget) state.old.console → HasRoom n state.new.console }
     ensures log { state.old.log.room ≤ state.new.log.room + turn.budget }
-    ensures table { length state.new.reservations ≡ length state.old.reservations }
+    ensures reservations { length state.new.reservations ≡ length state.old.reservations }
     ensures shows { Shows state.new.pages.memory state.new.code.first state.new.code.instructions }
     ensures code { state.new.code ≡ state.old.code }
 {

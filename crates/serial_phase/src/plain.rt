@@ -1,11 +1,11 @@
 ghost use Rattle.std.specs.Prelude.{◌≡◌, Some};
-ghost use Rattle.hart_step.specs.CodeTables.{decoded};
+ghost use Rattle.hart_step.specs.DecodedCode.{decoded};
 ghost use Rattle.hart_step.specs.Room.{HasSpares};
 ghost use Rattle.hart_step.specs.Step.{stepped};
 ghost use Rattle.round_schedule.specs.declared.access.Stepped.TheVariants.{Done};
-ghost use Rattle.round_schedule.specs.TabledTurn.{updated, updated_by};
+ghost use Rattle.round_schedule.specs.ReservingTurn.{updated, updated_by};
 ghost use Rattle.serial_phase.specs.Plain.{IsPlain, IsPlainAnswer};
-ghost use Rattle.serial_phase.specs.Words.{Leaves, answered_table};
+ghost use Rattle.serial_phase.specs.Words.{Leaves, answered_reservations};
 
 use crate::shared::SharedState;
 use hart_step::{Hart, step_decoded};
@@ -29,12 +29,12 @@ pub(crate) fn plain(h: &mut Hart, state: &mut SharedState, hart: u32, i: Instr) 
 }
 
 /// Breaks the reservations that a plain instruction breaks.
-fn note_answer(answer: Stepped, table: &mut Reservations, hart: u32)
+fn note_answer(answer: Stepped, reservations: &mut Reservations, hart: u32)
     requires { IsPlainAnswer answer }
-    ensures { table.new ≡ answered_table hart answer table.old }
+    ensures { reservations.new ≡ answered_reservations hart answer reservations.old }
 {
     match answer {
-        Stepped::Done(seen) => note_seen(seen, table, hart),
+        Stepped::Done(seen) => note_seen(seen, reservations, hart),
         Stepped::Waits => {}
         Stepped::Stopped(_) => {}
     }
@@ -42,23 +42,23 @@ fn note_answer(answer: Stepped, table: &mut Reservations, hart: u32)
 
 /// Breaks the reservations of other harts that the access of a plain instruction breaks, where it made one.
 #[inline(always)]
-pub(crate) fn note_seen(seen: Option<Access>, table: &mut Reservations, hart: u32)
+pub(crate) fn note_seen(seen: Option<Access>, reservations: &mut Reservations, hart: u32)
     requires { IsPlainAnswer (Done seen) }
-    ensures { table.new ≡ updated_by hart seen table.old }
+    ensures { reservations.new ≡ updated_by hart seen reservations.old }
 {
     match seen {
-        Some(access) => note(access, table, hart),
+        Some(access) => note(access, reservations, hart),
         None => {}
     }
 }
 
 /// Breaks the reservations of other harts that an access of a plain instruction breaks.
-fn note(access: Access, table: &mut Reservations, hart: u32)
+fn note(access: Access, reservations: &mut Reservations, hart: u32)
     requires { IsPlain access }
-    ensures { table.new ≡ updated hart 0 access table.old }
+    ensures { reservations.new ≡ updated hart 0 access reservations.old }
 {
     match access {
-        Access::Store { width, address, .. } => table.break_by(hart, address, width),
+        Access::Store { width, address, .. } => reservations.break_by(hart, address, width),
         Access::Load { .. } => {}
         Access::Fence { .. } => {}
         Access::LoadReserved { .. } => unreachable!(),

@@ -1,6 +1,6 @@
 use crate::console::Console;
 use crate::log::SerialLog;
-use hart_step::CodeTable;
+use hart_step::DecodedCode;
 use pages::Pages;
 use reservations::Reservations;
 
@@ -10,7 +10,7 @@ pub struct SharedState {
     /// Guest memory.
     pub pages: Pages,
     /// The words of its code, decoded.
-    pub code: CodeTable,
+    pub code: DecodedCode,
     /// The reservation of each hart.
     pub reservations: Reservations,
     /// The input and the output.
@@ -27,6 +27,7 @@ pub struct SerialRound {
     /// Bit h says that hart h waits.
     pub waiting: u64,
     /// How many instructions the turn of each waiting hart may do.
+    // docs/decisions/serial-budget.md
     pub budget: u32,
 }
 

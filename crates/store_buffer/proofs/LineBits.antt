@@ -12,7 +12,7 @@ use Rattle.pages.proofs.StoreLaws.{written_at}
 use Rattle.store_buffer.specs.declared.line.Line.{Line}
 use Rattle.store_buffer.specs.Lines.{byte_if, line_at}
 
--- ones of a width, shifted to a place
+-- ones of a width, shifted to a index
 mask_1 : (p : ℕ) → p + 1 ≤ 64 → (2 ^ 1 - 1) * 2 ^ p % 2 ^ 64 ≡ 2 ^ (p + 1) - 2 ^ p
 mask_1 p h = let b = pow-le-pow_right {n = 2} (omega arith) {i = p + 1} {j = 64} h in let e = pow-add 2 p 1 in mod-eq_of_lt (omega arith) ∙ omega arith
 
@@ -43,7 +43,7 @@ bit_or_at m c j = bit_at_or m c j
 bit_small : (m j : ℕ) → m / 2 ^ j % 2 < 2
 bit_small m j = bit_at-lt m j
 
--- a bit of a mask with the bits of n places set
+-- a bit of a mask with the bits of n indices set
 pub bit_put : (m p n j : ℕ) → (bit_or m (2 ^ (p + n) - 2 ^ p) / 2 ^ j % 2 == 1) ≡ (in_range p n j || (m / 2 ^ j % 2 == 1))
 bit_put m p n j =
     let c = 2 ^ (p + n) - 2 ^ p in

@@ -130,7 +130,7 @@ next_next ls latest number h a i other =
           a.next h p here.0 below (ap (slot n) e ∙ sym here.1);
     }
 
--- the line before stands at a lower place
+-- the line before stands at a lower index
 pub link_lower : (ls : List Numbered) (latest : List (Option ℕ)) (h : ℕ) → AreChained (length ls) ls latest → h < length ls → up_to (before_in ls h) < up_to (Some h)
 link_lower ls latest h a low = lower (before_in ls h) refl
   where
@@ -144,7 +144,7 @@ pub record IsChaining (k : ℕ) (ls ms : List Numbered) (empty latest : List (Op
   pub slots : length latest ≡ length empty
   pub same : AreSameLines ls ms
 
--- a line takes its place in its slot, and no other changes
+-- a line is put into its slot, and no other changes
 pub chaining_on : (k : ℕ) (ls ms : List Numbered) (empty latest : List (Option ℕ)) → IsChaining k ls ms empty latest → length ls ≤ length empty → k < length ls → (s : ℕ) → s ≡ slot (length latest) (number_in ms k) → s < length latest → (x : Numbered) → x.number ≡ number_in ms k → x.line ≡ line_in ms k → x.before ≡ get_or latest s None → IsChaining (k + 1) ls (set ms k x) empty (set latest s (Some k))
 chaining_on k ls ms empty latest i room low s at inside x number line before =
     let count = i.same.count in
@@ -171,7 +171,7 @@ chaining_on k ls ms empty latest i room low s at inside x number line before =
       };
     }
 
--- a line that comes behind the others takes its place in its slot
+-- a line that comes behind the others is put into its slot
 pub appended_chained : (ls : List Numbered) (latest : List (Option ℕ)) (s : ℕ) (x : Numbered) → AreChained (length ls) ls latest → length ls < length latest → s ≡ slot (length latest) x.number → s < length latest → x.before ≡ get_or latest s None → AreChained (length (ls ++ x ∷ [])) (ls ++ x ∷ []) (set latest s (Some (length ls)))
 appended_chained ls latest s x a more at inside link =
     let ms = ls ++ x ∷ [] in

@@ -9,7 +9,7 @@ use Rattle.std.specs.Map.{keys_of}
 use Rattle.std.proofs.lemmas.List.Elements.{All-cons, All-head, All-nil, All-tail}
 use Rattle.store_buffer.proofs.LineNumbers.{no_mask}
 
--- places with no byte give nothing
+-- indices with no byte give nothing
 skip : (k n a j : ℕ) (l : Line) → ((i : ℕ) → i < k → line_at l (j + i) ≡ None) → line_bytes a l j (k + n) ≡ line_bytes a l (j + k) n
 skip zero n a j l none =
     let z : 0 + n ≡ n = omega arith in
@@ -29,12 +29,12 @@ pub whole_empty : (a : ℕ) (l : Line) → l.mask ≡ 0 → whole_line a l ≡ [
 unfolding whole_line
 whole_empty a l e = skip 64 0 a 0 l (λ i h. no_mask l (0 + i) e)
 
-same_places : (n a j : ℕ) (l m : Line) → ((i : ℕ) → i < n → line_at l (j + i) ≡ line_at m (j + i)) → line_bytes a l j n ≡ line_bytes a m j n
-same_places zero a j l m same = refl
-same_places (suc n) a j l m same =
+same_indices : (n a j : ℕ) (l m : Line) → ((i : ℕ) → i < n → line_at l (j + i) ≡ line_at m (j + i)) → line_bytes a l j n ≡ line_bytes a m j n
+same_indices zero a j l m same = refl
+same_indices (suc n) a j l m same =
     let y : j ≡ j + 0 = omega arith in
     let here : line_at l j ≡ line_at m j = ap (line_at l) y ∙ same 0 (omega arith) ∙ ap (line_at m) (sym y) in
-    let rest = same_places n a (j + 1) l m (λ i h. let s : j + 1 + i ≡ j + suc i = omega arith in ap (line_at l) s ∙ same (suc i) (omega arith) ∙ ap (line_at m) (sym s)) in
+    let rest = same_indices n a (j + 1) l m (λ i h. let s : j + 1 + i ≡ j + suc i = omega arith in ap (line_at l) s ∙ same (suc i) (omega arith) ∙ ap (line_at m) (sym s)) in
     ap (λ o. put_first (a + j) o (line_bytes a l (j + 1) n)) here ∙ ap (put_first (a + j) (line_at m j)) rest
 
 bit_none : (l : Line) (j : ℕ) → l.mask / 2 ^ j % 2 ≡ 0 → line_at l j ≡ None
@@ -57,7 +57,7 @@ whole_first a l some small =
     let same : (i : ℕ) → i < 64 → i ≢ p → line_at m i ≡ line_at l i = λ i h n. ap (λ b. byte_if (b == 1) (slice_index l.bytes i)) (bit_at_clear_other w64 l.mask p found.0 i h n) in
     let none' : (i : ℕ) → i < p → line_at m (0 + i) ≡ None = λ i h. ap (line_at m) (z i) ∙ same i (omega (arith, found.0)) (λ e. omega arith) ∙ bit_none l i (found.2 i h) in
     let gone : line_at m p ≡ None = bit_none m p (bit_at_clear_same w64 l.mask p found.0) in
-    let rest : line_bytes a l (p + 1) q ≡ line_bytes a m (p + 1) q = same_places q a (p + 1) l m (λ i h. sym (same (p + 1 + i) (omega arith) (λ e. omega arith))) in
+    let rest : line_bytes a l (p + 1) q ≡ line_bytes a m (p + 1) q = same_indices q a (p + 1) l m (λ i h. sym (same (p + 1 + i) (omega arith) (λ e. omega arith))) in
     let first : line_bytes a l 0 64 ≡ (a + p, slice_index l.bytes p % 2 ^ 8) ∷ line_bytes a l (p + 1) q =
     ap (line_bytes a l 0) (sym size) ∙ skip p (suc q) a 0 l none ∙ ap (λ x. line_bytes a l x (suc q)) (z p) ∙ ap (λ o. put_first (a + p) o (line_bytes a l (p + 1) q)) (bit_some l p found.1) in
     let second : line_bytes a m 0 64 ≡ line_bytes a m (p + 1) q =
@@ -74,8 +74,8 @@ lines_first a l bs self e some small = sym e ∙ ap (λ xs. xs ++ bs) (whole_fir
 -- a line with nothing left gives way to the next
 pub lines_next : (a k : ℕ) (l m : Line) (es : List (ℕ × Line)) (rest self : List (ℕ × ℕ)) → whole_line a l ++ rest ≡ self → l.mask ≡ 0 → rest ≡ whole_line (64 * k) m ++ lines_bytes es → whole_line (k * 64) m ++ lines_bytes es ≡ self
 lines_next a k l m es rest self e none is =
-    let place : k * 64 ≡ 64 * k = omega arith in
-    ap (λ x. whole_line x m ++ lines_bytes es) place ∙ sym is ∙ sym (ap (λ xs. xs ++ rest) (whole_empty a l none)) ∙ e
+    let index : k * 64 ≡ 64 * k = omega arith in
+    ap (λ x. whole_line x m ++ lines_bytes es) index ∙ sym is ∙ sym (ap (λ xs. xs ++ rest) (whole_empty a l none)) ∙ e
 
 pub lent_is : (es : List (ℕ × Line)) → lent_bytes (addressed es) ≡ lines_bytes es
 lent_is [] = refl

@@ -139,7 +139,7 @@ mixed_value w l p m k bs h before =
     let low : i < 8 = omega (arith, short w) in
     ap (λ j. get_or bs j 0) z ∙ before i low ∙ ap (λ t. if t then unwrap_or (line_at l (p + i)) (m / 2 ^ (8 * i) % 2 ^ 8) else m / 2 ^ (8 * i) % 2 ^ 8) (done i k first))
 
--- a number with the covered bytes of a line in the place of its own, as it stands in bytes
+-- a number with the covered bytes of a line instead of its own, as it stands in bytes
 pub over_value : (w : Width) (l : Line) (j : ℕ) (bs cs : List ℕ) (a : ℕ) → ((k : ℕ) → get_or bs k 0 < 2 ^ 8) → ((i : ℕ) → i < width_bytes w → get_or cs (a + i) 0 ≡ unwrap_or (line_at l (j + i)) (get_or bs (a + i) 0)) → number_over l j (value_at bs a w) (width_bytes w) ≡ value_at cs a w
 over_value w l j bs cs a small known =
     let n = width_bytes w in

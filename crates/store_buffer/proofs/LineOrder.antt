@@ -14,7 +14,7 @@ use Rattle.store_buffer.specs.declared.line.Line.{Line}
 use Rattle.store_buffer.specs.Covered.{Rising, byte_at, with_store}
 use Rattle.store_buffer.proofs.CoveredLaws.{byte_at-with_store, rising_from, rising_with_store, same_bytes}
 use Rattle.store_buffer.specs.Held.{RisingLines}
-use Rattle.store_buffer.specs.Lines.{byte_if, line_at, line_bytes, line_of, lines_bytes, place_of, put_first, whole_line}
+use Rattle.store_buffer.specs.Lines.{byte_if, line_at, line_bytes, line_of, lines_bytes, index_of, put_first, whole_line}
 
 abbrev pub or_else : Option ℕ → Option ℕ → Option ℕ
 or_else None o = o
@@ -40,7 +40,7 @@ first_at a x None es = same (a == x) (byte_at es x)
     same false o = refl
 first_at a x (Some b) es = refl
 
--- a byte of n places of a line
+-- a byte of n indices of a line
 pub byte_at-line_bytes : (n a j x : ℕ) (l : Line) → byte_at (line_bytes a l j n) x ≡ (if in_range (a + j) n x then line_at l (x - a) else None)
 byte_at-line_bytes zero a j x l = ap (λ t. if t then line_at l (x - a) else None) (sym (none (a + j) x))
   where
@@ -53,12 +53,12 @@ byte_at-line_bytes (suc n) a j x l =
     ∙ ap (λ o. if a + j == x then or_else (line_at l j) o else o) rest
     ∙ ⊎_elim
     (λ (same : a + j ≡ x).
-    let place : j ≡ x - a = omega arith in
+    let index : j ≡ x - a = omega arith in
     let past : in_range (a + j + 1) n x ≡ false = in_no (a + j + 1) n x (inl (omega arith)) in
     let here : in_range (a + j) (suc n) x ≡ true = in_yes (a + j) (suc n) x (omega arith) (omega arith) in
     at_same (a + j) x (or_else (line_at l j) (if in_range (a + j + 1) n x then line_at l (x - a) else None)) (if in_range (a + j + 1) n x then line_at l (x - a) else None) same
     ∙ ap (λ t. or_else (line_at l j) (if t then line_at l (x - a) else None)) past
-    ∙ or_none (line_at l j) ∙ ap (line_at l) place ∙ sym (ap (λ t. if t then line_at l (x - a) else None) here))
+    ∙ or_none (line_at l j) ∙ ap (line_at l) index ∙ sym (ap (λ t. if t then line_at l (x - a) else None) here))
     (λ (other : a + j ≡ x → ⊥).
     at_other (a + j) x (or_else (line_at l j) (if in_range (a + j + 1) n x then line_at l (x - a) else None)) (if in_range (a + j + 1) n x then line_at l (x - a) else None) other
     ∙ ap (λ t. if t then line_at l (x - a) else None) (moved (a + j) n x other))
@@ -117,8 +117,8 @@ line_of-below low [] k l h = refl
 line_of-below low (e ∷ es) k l h =
     ap (λ t. cond t (Some e.1) (line_of es k)) (is_at_other k e.0 (λ s. omega (arith, h.0))) ∙ line_of-below (e.0 + 1) es k (omega (arith, h.0)) h.1
 
--- a byte of lines, by the number of its line and its place there
-pub lines_at : (low : ℕ) (es : List (ℕ × Line)) (x : ℕ) → RisingLines low es → byte_at (lines_bytes es) x ≡ place_of (line_of es (x / 64)) (x % 64)
+-- a byte of lines, by the number of its line and its index there
+pub lines_at : (low : ℕ) (es : List (ℕ × Line)) (x : ℕ) → RisingLines low es → byte_at (lines_bytes es) x ≡ index_of (line_of es (x / 64)) (x % 64)
 unfolding whole_line
 lines_at low [] x h = refl
 lines_at low (e ∷ es) x h =
@@ -129,17 +129,17 @@ lines_at low (e ∷ es) x h =
     ∙ ap (λ o. or_else (if in_range (64 * e.0) 64 x then line_at e.1 (x - 64 * e.0) else None) o) rest
     ∙ ⊎_elim
     (λ (same : x / 64 ≡ e.0).
-    let place : x - 64 * e.0 ≡ x % 64 = omega arith in
+    let index : x - 64 * e.0 ≡ x % 64 = omega arith in
     let inside : in_range (64 * e.0) 64 x ≡ true = in_yes (64 * e.0) 64 x (omega arith) (omega arith) in
     let absent : line_of es (x / 64) ≡ None = line_of-below (e.0 + 1) es (x / 64) (omega arith) h.1 in
-    ap (λ t. or_else (if t then line_at e.1 (x - 64 * e.0) else None) (place_of (line_of es (x / 64)) (x % 64))) inside
-    ∙ ap (λ o. or_else (line_at e.1 (x - 64 * e.0)) (place_of o (x % 64))) absent
-    ∙ or_none (line_at e.1 (x - 64 * e.0)) ∙ ap (line_at e.1) place
-    ∙ sym (ap (λ t. place_of (cond t (Some e.1) (line_of es (x / 64))) (x % 64)) (is_at_same (x / 64) e.0 same)))
+    ap (λ t. or_else (if t then line_at e.1 (x - 64 * e.0) else None) (index_of (line_of es (x / 64)) (x % 64))) inside
+    ∙ ap (λ o. or_else (line_at e.1 (x - 64 * e.0)) (index_of o (x % 64))) absent
+    ∙ or_none (line_at e.1 (x - 64 * e.0)) ∙ ap (line_at e.1) index
+    ∙ sym (ap (λ t. index_of (cond t (Some e.1) (line_of es (x / 64))) (x % 64)) (is_at_same (x / 64) e.0 same)))
     (λ (other : x / 64 ≡ e.0 → ⊥).
     let outside : in_range (64 * e.0) 64 x ≡ false = in_no (64 * e.0) 64 x (apart x e.0 other) in
-    ap (λ t. or_else (if t then line_at e.1 (x - 64 * e.0) else None) (place_of (line_of es (x / 64)) (x % 64))) outside
-    ∙ sym (ap (λ t. place_of (cond t (Some e.1) (line_of es (x / 64))) (x % 64)) (is_at_other (x / 64) e.0 other)))
+    ap (λ t. or_else (if t then line_at e.1 (x - 64 * e.0) else None) (index_of (line_of es (x / 64)) (x % 64))) outside
+    ∙ sym (ap (λ t. index_of (cond t (Some e.1) (line_of es (x / 64))) (x % 64)) (is_at_other (x / 64) e.0 other)))
     (cases_eq (x / 64) e.0)
   where
     or_none : (o : Option ℕ) → or_else o None ≡ o
@@ -174,25 +174,25 @@ other_line : (a w x : ℕ) → a % 64 + w ≤ 64 → (x / 64 ≡ a / 64 → ⊥)
 other_line a w x h n = in_no a w x (⊎_elim (λ (lt : x < a). inl lt) (λ (ge : a ≤ x). ⊎_elim (λ (lt : x < a + w). absurd (n (omega arith))) (λ (past : a + w ≤ x). inr past) (cases_lt x (a + w))) (cases_lt x a))
 
 -- lines of which one took a store
-pub put_lines : (es fs : List (ℕ × Line)) (l : Line) (s : Store) → RisingLines 0 es → RisingLines 0 fs → s.address % 64 + width_bytes s.width ≤ 64 → ((q : ℕ) → line_of fs q ≡ cond (is_at (nat_cmp (s.address / 64)) q) (Some l) (line_of es q)) → ((j : ℕ) → j < 64 → line_at l j ≡ (if in_range (s.address % 64) (width_bytes s.width) j then Some (byte_of s.value (j - s.address % 64)) else place_of (line_of es (s.address / 64)) j)) → lines_bytes fs ≡ with_store (lines_bytes es) s
+pub put_lines : (es fs : List (ℕ × Line)) (l : Line) (s : Store) → RisingLines 0 es → RisingLines 0 fs → s.address % 64 + width_bytes s.width ≤ 64 → ((q : ℕ) → line_of fs q ≡ cond (is_at (nat_cmp (s.address / 64)) q) (Some l) (line_of es q)) → ((j : ℕ) → j < 64 → line_at l j ≡ (if in_range (s.address % 64) (width_bytes s.width) j then Some (byte_of s.value (j - s.address % 64)) else index_of (line_of es (s.address / 64)) j)) → lines_bytes fs ≡ with_store (lines_bytes es) s
 put_lines es fs l s r t within others here =
     let w = width_bytes s.width in
     let re : Rising 0 (lines_bytes es) = rising_lines 0 es r in
     same_bytes 0 0 (lines_bytes fs) (with_store (lines_bytes es) s) (rising_lines 0 fs t) (rising_with_store (lines_bytes es) s re)
     (λ x.
-    lines_at 0 fs x t ∙ ap (λ o. place_of o (x % 64)) (others (x / 64))
+    lines_at 0 fs x t ∙ ap (λ o. index_of o (x % 64)) (others (x / 64))
     ∙ ⊎_elim
     (λ (same : x / 64 ≡ s.address / 64).
     let back : s.address / 64 ≡ x / 64 = sym same in
     let low : x % 64 < 64 = omega arith in
-    ap (λ b. place_of (cond b (Some l) (line_of es (x / 64))) (x % 64)) (is_at_same (s.address / 64) (x / 64) back)
+    ap (λ b. index_of (cond b (Some l) (line_of es (x / 64))) (x % 64)) (is_at_same (s.address / 64) (x / 64) back)
     ∙ here (x % 64) low
-    ∙ ap (λ b. if b then Some (byte_of s.value (x % 64 - s.address % 64)) else place_of (line_of es (s.address / 64)) (x % 64)) (sym (same_line s.address w x within same))
-    ∙ ap (λ k. if covers s x then Some (byte_of s.value (x % 64 - s.address % 64)) else place_of (line_of es k) (x % 64)) back
-    ∙ ap (λ k. if covers s x then Some (byte_of s.value k) else place_of (line_of es (x / 64)) (x % 64)) (distance s.address x same)
+    ∙ ap (λ b. if b then Some (byte_of s.value (x % 64 - s.address % 64)) else index_of (line_of es (s.address / 64)) (x % 64)) (sym (same_line s.address w x within same))
+    ∙ ap (λ k. if covers s x then Some (byte_of s.value (x % 64 - s.address % 64)) else index_of (line_of es k) (x % 64)) back
+    ∙ ap (λ k. if covers s x then Some (byte_of s.value k) else index_of (line_of es (x / 64)) (x % 64)) (distance s.address x same)
     ∙ ap (λ o. if covers s x then Some (byte_put s x) else o) (sym (lines_at 0 es x r)))
     (λ (other : x / 64 ≡ s.address / 64 → ⊥).
-    ap (λ b. place_of (cond b (Some l) (line_of es (x / 64))) (x % 64)) (is_at_other (s.address / 64) (x / 64) (λ e. other (sym e)))
+    ap (λ b. index_of (cond b (Some l) (line_of es (x / 64))) (x % 64)) (is_at_other (s.address / 64) (x / 64) (λ e. other (sym e)))
     ∙ sym (lines_at 0 es x r)
     ∙ sym (ap (λ b. if b then Some (byte_put s x) else byte_at (lines_bytes es) x) (other_line s.address w x within other)))
     (cases_eq (x / 64) (s.address / 64))
@@ -205,13 +205,13 @@ put_lines es fs l s r t within others here =
 pub line_there : (es : List (ℕ × Line)) (q : ℕ) → RisingLines 0 es → is_some (byte_at (lines_bytes es) q) ≡ true → is_some (line_of es (q / 64)) ≡ true
 line_there es q r h = there (line_of es (q / 64)) (q % 64) (sym (ap (λ o. is_some o) (lines_at 0 es q r)) ∙ h)
   where
-    there : (o : Option Line) (j : ℕ) → is_some (place_of o j) ≡ true → is_some o ≡ true
+    there : (o : Option Line) (j : ℕ) → is_some (index_of o j) ≡ true → is_some o ≡ true
     there None j h = h
     there (Some l) j h = refl
 
--- in a buffer where the line is there, a byte of it is found at its place
+-- in a buffer where the line is there, a byte of it is found at its index
 pub line_read : (es : List (ℕ × Line)) (l : Line) (x : ℕ) → RisingLines 0 es → Some l ≡ line_of es (x / 64) → byte_at (lines_bytes es) x ≡ line_at l (x % 64)
-line_read es l x r e = lines_at 0 es x r ∙ ap (λ o. place_of o (x % 64)) (sym e)
+line_read es l x r e = lines_at 0 es x r ∙ ap (λ o. index_of o (x % 64)) (sym e)
 
 pub line_missing : (es : List (ℕ × Line)) (x : ℕ) → RisingLines 0 es → None ≡ line_of es (x / 64) → byte_at (lines_bytes es) x ≡ None
-line_missing es x r e = lines_at 0 es x r ∙ ap (λ o. place_of o (x % 64)) (sym e)
+line_missing es x r e = lines_at 0 es x r ∙ ap (λ o. index_of o (x % 64)) (sym e)

@@ -4,7 +4,7 @@ use Rattle.pages.specs.declared.access.Store.{Store}
 use Rattle.pages.specs.declared.access.Width.TheVariants.{W1}
 use Rattle.pages.specs.Memory.{width_bytes}
 
--- a byte put in its place
+-- a byte put where it belongs
 abbrev pub with_byte : List (ℕ × ℕ) → ℕ → ℕ → List (ℕ × ℕ)
 with_byte [] a b = (a, b) ∷ []
 with_byte (e ∷ es) a b = if nat_lt a e.0 then (a, b) ∷ e ∷ es else (if a == e.0 then (a, b) ∷ es else e ∷ with_byte es a b)

@@ -1,4 +1,4 @@
--- How a line is found by its number: a slot has the place of the line that came last in it, and each line that of the
+-- How a line is found by its number: a slot has the index of the line that came last in it, and each line that of the
 -- one before it in its slot.
 use Rattle.std.specs.Prelude.{◌≡◌, ℕ, ◌+◌, ◌-◌, ◌*◌, ◌%◌, ◌^◌, ◌<◌, ◌≤◌, List, [], length, Option, Some, None, bit_and, get_or}
 use Rattle.std.specs.Int.{rotate_left, w64}
@@ -9,7 +9,7 @@ use Rattle.store_buffer.specs.declared.line.Line.{Line}
 abbrev pub blank : Numbered
 blank = record { number = 0; before = None; line = record { bytes = []; mask = 0 } }
 
--- the line at a place, its number, and the place of the one before it in its slot
+-- the line at a index, its number, and the index of the one before it in its slot
 abbrev pub line_in : List Numbered → ℕ → Line
 line_in ls p = (get_or ls p blank).line
 
@@ -23,7 +23,7 @@ before_in ls p = (get_or ls p blank).before
 unfoldable pub slot : ℕ → ℕ → ℕ
 slot count number = bit_and (rotate_left w64 (number * 11400714819323198485 % 2 ^ 64) 32) (count - 1)
 
--- how many places there are up to an optional one
+-- how many indices there are up to an optional one
 abbrev pub up_to : Option ℕ → ℕ
 up_to None = 0
 up_to (Some p) = p + 1

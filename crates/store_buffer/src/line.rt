@@ -28,46 +28,46 @@ impl Line {
         }
     }
 
-    /// Writes a number from a place on, and covers its bytes.
+    /// Writes a number from an index on, and covers its bytes.
     #[inline]
-    pub(crate) fn put(&mut self, place: u64, width: Width, value: u64)
-        requires { place + width_bytes width ≤ 64 }
-        ensures { (j : ℕ) → j < 64 → line_at self.new j ≡ (if in_range place (width_bytes width) j
-            then Some (byte_of value (j - place)) else line_at self.old j) }
+    pub(crate) fn put(&mut self, index: u64, width: Width, value: u64)
+        requires { index + width_bytes width ≤ 64 }
+        ensures { (j : ℕ) → j < 64 → line_at self.new j ≡ (if in_range index (width_bytes width) j
+            then Some (byte_of value (j - index)) else line_at self.old j) }
     {
-        write_number(&mut self.bytes, place as usize, width, value);
-        self.mask |= ones(width) << place;
+        write_number(&mut self.bytes, index as usize, width, value);
+        self.mask |= ones(width) << index;
     }
 
-    /// A number with the covered bytes from a place on in the place of its own.
+    /// A number with the covered bytes from an index on instead of its own.
     #[inline]
-    pub(crate) fn over(&self, number: u64, place: u64, width: Width) -> u64
-        requires place { place + width_bytes width ≤ 64 }
+    pub(crate) fn over(&self, number: u64, index: u64, width: Width) -> u64
+        requires index { index + width_bytes width ≤ 64 }
         requires fits { number < 2 ^ (8 * width_bytes width) }
-        ensures { result ≡ number_over self.now place number (width_bytes width) }
+        ensures { result ≡ number_over self.now index number (width_bytes width) }
     {
         let all = ones(width);
-        let cover = (self.mask >> place) & all;
+        let cover = (self.mask >> index) & all;
         if cover == 0 {
             return number;
         }
         if cover == all {
-            return number_in(&self.bytes, place as usize, width);
+            return number_in(&self.bytes, index as usize, width);
         }
-        self.mixed(number, place, width)
+        self.mixed(number, index, width)
     }
 
     // The same byte by byte, for a number of which only some bytes are covered.
     #[cold]
     #[inline(never)]
-    fn mixed(&self, number: u64, place: u64, width: Width) -> u64
-        requires place { place + width_bytes width ≤ 64 }
-        ensures { result ≡ number_over self.now place number (width_bytes width) }
+    fn mixed(&self, number: u64, index: u64, width: Width) -> u64
+        requires index { index + width_bytes width ≤ 64 }
+        ensures { result ≡ number_over self.now index number (width_bytes width) }
     {
         let mut bytes = number.to_le_bytes();
         for k in 0..width.bytes() {
-            if (self.mask >> (place + k)) & 1 == 1 {
-                bytes[k as usize] = self.bytes[(place + k) as usize];
+            if (self.mask >> (index + k)) & 1 == 1 {
+                bytes[k as usize] = self.bytes[(index + k) as usize];
             }
         }
         number_in(&bytes, 0, width)

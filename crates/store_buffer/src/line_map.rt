@@ -19,14 +19,15 @@ use std::collections::{BTreeMap, btree_map};
 use std::marker::Model;
 
 /// Lines, each with a number of its own.
+// docs/decisions/storage.md
 #[derive(Drop)]
 pub(crate) struct LineMap {
     /// The lines as they came.
     lines: Vec<Numbered>,
-    /// For each slot of numbers, the place of the line that came last in it: where to look for a line.
+    /// For each slot of numbers, the index of the line that came last in it: where to look for a line.
     latest: Vec<Option<usize>>,
-    /// The place of each line by its number: the order in which they are lent.
-    places: BTreeMap<u64, usize>,
+    /// The index of each line by its number: the order in which they are lent.
+    indices: BTreeMap<u64, usize>,
 }
 
 impl Model for LineMap {
@@ -36,9 +37,9 @@ impl Model for LineMap {
 
     ghost Value = { List (ℕ × LineOf) };
 
-    ghost view = { λ m. lines_in m.lines.items m.places.entries };
+    ghost view = { λ m. lines_in m.lines.items m.indices.entries };
 
-    ghost invariant = { λ m. IsLineMap m.lines.items m.latest.items m.places };
+    ghost invariant = { λ m. IsLineMap m.lines.items m.latest.items m.indices };
 }
 
 impl LineMap {
@@ -50,7 +51,7 @@ impl LineMap {
         LineMap {
             lines: Vec::new(alloc),
             latest: Vec::new(alloc),
-            places: BTreeMap::new(alloc),
+            indices: BTreeMap::new(alloc),
         }
     }
 
@@ -60,11 +61,11 @@ impl LineMap {
         ensures { MatchOption result (None ≡ line_of self.now number) (λ line. Some line.now ≡
             line_of self.now number) }
     {
-        let place = find(&self.lines, &self.latest, number)?;
-        Some(&self.lines[place].line)
+        let index = find(&self.lines, &self.latest, number)?;
+        Some(&self.lines[index].line)
     }
 
-    /// Writes a number from a place of a line on, which is a new one where there is none of that number. A line that is
+    /// Writes a number from a index of a line on, which is a new one where there is none of that number. A line that is
     /// there takes no memory.
     #[inline]
     pub(crate) fn put(
@@ -82,8 +83,8 @@ impl LineMap {
         ensures rising { RisingLines 0 self.new }
         ensures near { AllNear self.new }
     {
-        let place = place_for(&mut self.lines, &mut self.latest, &mut self.places, number)?;
-        self.lines[place].line.put(at, width, value);
+        let index = index_for(&mut self.lines, &mut self.latest, &mut self.indices, number)?;
+        self.lines[index].line.put(at, width, value);
         Ok(())
     }
 
@@ -93,7 +94,7 @@ impl LineMap {
         ensures { result ≡ self.now }
     {
         InOrder {
-            places: self.places.iter(),
+            indices: self.indices.iter(),
             lines: &self.lines,
         }
     }
@@ -112,68 +113,68 @@ impl LineMap {
     {
         self.lines.clear();
         self.latest.clear();
-        self.places.clear();
+        self.indices.clear();
     }
 }
 
-/// The place of the line of a number, an empty one where there was none.
+/// The index of the line of a number, an empty one where there was none.
 #[inline(always)]
-fn place_for(
+fn index_for(
     lines: &mut Vec<Numbered>,
     latest: &mut Vec<Option<usize>>,
-    places: &mut BTreeMap<u64, usize>,
+    indices: &mut BTreeMap<u64, usize>,
     number: u64,
 ) -> Result<usize, OutOfMemory>
-    requires placed { ArePlaced lines.old.items places.old.entries }
+    requires placed { ArePlaced lines.old.items indices.old.entries }
     requires chained { AreChained (length lines.old.items) lines.old.items latest.old.items }
-    ensures ok { IfOk result (λ place.
-        IsOpen number place lines.old.items lines.new.items places.old.entries places.new.entries) }
+    ensures ok { IfOk result (λ index.
+        IsOpen number index lines.old.items lines.new.items indices.old.entries indices.new.entries) }
     ensures chained { AreChained (length lines.new.items) lines.new.items latest.new.items }
-    ensures ordered { IsOrdered nat_cmp places.old → IsOrdered nat_cmp places.new }
-    ensures near { number < 2 ^ 58 → All (λ k. k < 2 ^ 58) (keys_of places.old.entries) →
-        All (λ k. k < 2 ^ 58) (keys_of places.new.entries) }
+    ensures ordered { IsOrdered nat_cmp indices.old → IsOrdered nat_cmp indices.new }
+    ensures near { number < 2 ^ 58 → All (λ k. k < 2 ^ 58) (keys_of indices.old.entries) →
+        All (λ k. k < 2 ^ 58) (keys_of indices.new.entries) }
     ensures err_lines { OnErr result (lines.new.items ≡ lines.old.items) }
-    ensures err_places { OnErr result (places.new.entries ≡ places.old.entries) }
-    ensures room { IsSome (listed_at places.old.entries number) → IsOk result }
+    ensures err_indices { OnErr result (indices.new.entries ≡ indices.old.entries) }
+    ensures room { IsSome (listed_at indices.old.entries number) → IsOk result }
 {
     match find(lines, latest, number) {
-        Some(place) => Ok(place),
-        None => add_line(lines, latest, places, number),
+        Some(index) => Ok(index),
+        None => add_line(lines, latest, indices, number),
     }
 }
 
-/// Adds an empty line, and answers its place.
+/// Adds an empty line, and answers its index.
 #[inline(never)]
 fn add_line(
     lines: &mut Vec<Numbered>,
     latest: &mut Vec<Option<usize>>,
-    places: &mut BTreeMap<u64, usize>,
+    indices: &mut BTreeMap<u64, usize>,
     number: u64,
 ) -> Result<usize, OutOfMemory>
     requires chained { AreChained (length lines.old.items) lines.old.items latest.old.items }
-    ensures ok { IfOk result (λ place. HasAdded number place lines.old.items lines.new.items
-        places.old.entries places.new.entries) }
+    ensures ok { IfOk result (λ index. HasAdded number index lines.old.items lines.new.items
+        indices.old.entries indices.new.entries) }
     ensures chained { AreChained (length lines.new.items) lines.new.items latest.new.items }
-    ensures ordered { IsOrdered nat_cmp places.old → IsOrdered nat_cmp places.new }
-    ensures near { number < 2 ^ 58 → All (λ k. k < 2 ^ 58) (keys_of places.old.entries) →
-        All (λ k. k < 2 ^ 58) (keys_of places.new.entries) }
+    ensures ordered { IsOrdered nat_cmp indices.old → IsOrdered nat_cmp indices.new }
+    ensures near { number < 2 ^ 58 → All (λ k. k < 2 ^ 58) (keys_of indices.old.entries) →
+        All (λ k. k < 2 ^ 58) (keys_of indices.new.entries) }
     ensures err_lines { OnErr result (lines.new.items ≡ lines.old.items) }
-    ensures err_places { OnErr result (places.new.entries ≡ places.old.entries) }
+    ensures err_indices { OnErr result (indices.new.entries ≡ indices.old.entries) }
 {
-    let place = lines.len();
+    let index = lines.len();
     lines.reserve(1)?;
-    let wider = wider_table(latest, place)?;
-    places.insert(number, place)?;
+    let wider = wider_slots(latest, index)?;
+    indices.insert(number, index)?;
     if let Some(slots) = wider {
         *latest = slots;
         chain(lines, latest);
     }
     append(lines, latest, number);
-    Ok(place)
+    Ok(index)
 }
 
-/// A table of more slots, all of them empty, where there are no more slots than lines.
-fn wider_table(
+/// A list of more slots, all of them empty, where there are no more slots than lines.
+fn wider_slots(
     latest: &Vec<Option<usize>>,
     lines: usize,
 ) -> Result<Option<Vec<Option<usize>>>, OutOfMemory>
@@ -196,10 +197,10 @@ fn append(lines: &mut Vec<Numbered>, latest: &mut [Option<usize>], number: u64)
     ensures appended { HasAppended number lines.old.items lines.new.items }
     ensures chained { AreChained (length lines.new.items) lines.new.items latest.new }
 {
-    let place = lines.len();
+    let index = lines.len();
     let slot = slot_of(number, latest.len());
     let before = latest[slot];
-    latest[slot] = Some(place);
+    latest[slot] = Some(index);
     lines.push_reserved(Numbered {
         number,
         before,
@@ -210,7 +211,7 @@ fn append(lines: &mut Vec<Numbered>, latest: &mut [Option<usize>], number: u64)
 /// The lines of a map that are left to give, each with its number, which rises.
 #[derive(Drop)]
 pub(crate) struct InOrder<'a> {
-    places: btree_map::Iter<'a, u64, usize>,
+    indices: btree_map::Iter<'a, u64, usize>,
     lines: &'a [Numbered],
 }
 
@@ -222,9 +223,9 @@ impl<'a> Model for InOrder<'a> {
 
     ghost Value = { List (ℕ × LineOf) };
 
-    ghost view = { λ i. lines_in i.lines.now i.places };
+    ghost view = { λ i. lines_in i.lines.now i.indices };
 
-    ghost invariant = { λ i. All (λ p. p < length i.lines.now) (values_of i.places) };
+    ghost invariant = { λ i. All (λ p. p < length i.lines.now) (values_of i.indices) };
 }
 
 impl<'a> Iterator for InOrder<'a> {
@@ -236,8 +237,8 @@ impl<'a> Iterator for InOrder<'a> {
 
     #[inline]
     fn next(&mut self) -> Option<(u64, &'a Line)> {
-        let (number, place) = self.places.next()?;
+        let (number, index) = self.indices.next()?;
         let lines: &'a [Numbered] = self.lines;
-        Some((*number, &lines[*place].line))
+        Some((*number, &lines[*index].line))
     }
 }

@@ -12,7 +12,7 @@ const SPREAD: u64 = 0x9e37_79b9_7f4a_7c15;
 #[derive(Drop)]
 pub(crate) struct Numbered {
     pub(crate) number: u64,
-    /// The place of the line that came before in the same slot.
+    /// The index of the line that came before in the same slot.
     pub(crate) before: Option<usize>,
     pub(crate) line: Line,
 }
@@ -30,12 +30,12 @@ pub(crate) fn slot_of(number: u64, count: usize) -> usize
     (spread & (count as u64 - 1)) as usize
 }
 
-/// The place of the line of a number, if there is one.
+/// The index of the line of a number, if there is one.
 #[inline(always)]
 pub(crate) fn find(lines: &[Numbered], latest: &[Option<usize>], number: u64) -> Option<usize>
     requires { AreChained (length lines.now) lines.now latest.now }
-    ensures some { IfSome result (λ place. (place < length lines.now) ×
-        (number_in lines.now place ≡ number)) }
+    ensures some { IfSome result (λ index. (index < length lines.now) ×
+        (number_in lines.now index ≡ number)) }
     ensures none { IfNone result ((p : ℕ) → p < length lines.now →
         number_in lines.now p ≡ number → ⊥) }
 {
@@ -43,17 +43,17 @@ pub(crate) fn find(lines: &[Numbered], latest: &[Option<usize>], number: u64) ->
         return None;
     }
     let mut next = latest[slot_of(number, latest.len())];
-    while let Some(place) = next {
-        let found = &lines[place];
+    while let Some(index) = next {
+        let found = &lines[index];
         if found.number == number {
-            return Some(place);
+            return Some(index);
         }
         next = found.before;
     }
     None
 }
 
-/// Puts all lines into the slots of an empty table, in the order in which they came.
+/// Puts all lines into the slots of an empty list, in the order in which they came.
 pub(crate) fn chain(lines: &mut [Numbered], latest: &mut [Option<usize>])
     requires room { length lines.old ≤ length latest.old }
     requires empty { (i : ℕ) → get_or latest.old i None ≡ None }
@@ -61,9 +61,9 @@ pub(crate) fn chain(lines: &mut [Numbered], latest: &mut [Option<usize>])
     ensures slots { length latest.new ≡ length latest.old }
     ensures same { AreSameLines lines.old lines.new }
 {
-    for place in 0..lines.len() {
-        let slot = slot_of(lines[place].number, latest.len());
-        lines[place].before = latest[slot];
-        latest[slot] = Some(place);
+    for index in 0..lines.len() {
+        let slot = slot_of(lines[index].number, latest.len());
+        lines[index].before = latest[slot];
+        latest[slot] = Some(index);
     }
 }

@@ -58,12 +58,12 @@ impl<'a> Iterator for Stores<'a> {
             self.start = number * LINE_BYTES;
             self.line = *line;
         }
-        let place = self.line.mask.trailing_zeros();
-        self.line.mask &= !(1 << place);
+        let index = self.line.mask.trailing_zeros();
+        self.line.mask &= !(1 << index);
         Some(Store {
-            address: self.start + u64::from(place),
+            address: self.start + u64::from(index),
             width: Width::W1,
-            value: u64::from(self.line.bytes[place as usize]),
+            value: u64::from(self.line.bytes[index as usize]),
         })
     }
 }

@@ -29,8 +29,8 @@ fn is_ripe(held: &HeldStore, ripe: &Ripe) -> bool {
 
 /// Whether a store that a hart holds goes to memory now.
 fn has_ripe(timing: &Timing, ripe: &Ripe) -> bool {
-    for place in 0..MOST_HELD {
-        if let Some(held) = timing.held[place] {
+    for slot in 0..MOST_HELD {
+        if let Some(held) = timing.held[slot] {
             if is_ripe(&held, ripe) {
                 return true;
             }
@@ -92,10 +92,10 @@ pub(crate) fn put_ripe(
     common: &mut Common,
     ripe: &Ripe,
 ) -> Result<(), OutOfMemory> {
-    for place in 0..MOST_HELD {
-        if let Some(held) = timing.held[place] {
+    for slot in 0..MOST_HELD {
+        if let Some(held) = timing.held[slot] {
             if is_ripe(&held, ripe) {
-                timing.held[place] = None;
+                timing.held[slot] = None;
                 put(timing, common, &held)?;
             }
         }
@@ -118,7 +118,7 @@ fn put(timing: &mut Timing, common: &mut Common, held: &HeldStore) -> Result<(),
     timing.views.store(store.address, store.width, time)?;
     timing
         .views
-        .keep_behind(held.before_reads, held.before_writes, time);
+        .order_behind(held.before_reads, held.before_writes, time);
     common.note_time(held.deed, time);
     Ok(())
 }

@@ -2,7 +2,7 @@
 ghost use Rattle.std.specs.Prelude.{◌≡◌, None};
 
 use crate::common::Common;
-use crate::stepping::{Outcome, count, ended, scripted};
+use crate::stepping::{Advance, count, ended, scripted};
 use crate::timed_hart::{TimedHart, Timing};
 use access_times::{Bytes, MOST_HELD, Operation, shift_of};
 use departures::{Deed, Departure, Way};
@@ -110,7 +110,7 @@ pub(crate) fn load(
     round: u32,
     registers: &Registers,
     operation: &Operation,
-) -> Result<Outcome, OutOfMemory>
+) -> Result<Advance, OutOfMemory>
     requires { hart.old.state.stop ≡ None }
 {
     let pc = hart.state.pc;
@@ -139,7 +139,7 @@ pub(crate) fn load(
     count(hart, common);
     common.note_step(scripted(hart, round, read_by(&access), false))?;
     note(hart, common, look, pc, access)?;
-    Ok(Outcome::Operated)
+    Ok(Advance::Operated)
 }
 
 /// Notes what a load did. Where it reads old, it leaves no reservation.

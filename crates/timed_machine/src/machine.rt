@@ -1,9 +1,9 @@
 ghost use Rattle.std.specs.Prelude.{◌≤◌, ◌<◌, length};
-ghost use Rattle.hart_step.specs.CodeTables.{Shows};
+ghost use Rattle.hart_step.specs.DecodedCode.{Shows};
 
 use crate::common::Common;
 use crate::holding::{Ripe, put_ripe};
-use crate::stepping::{Outcome, step};
+use crate::stepping::{Advance, step};
 use crate::timed_hart::TimedHart;
 use access_times::History;
 use departures::{Departure, Draws, Listed, Record};
@@ -102,7 +102,9 @@ impl TimedMachine {
 
     /// Whether a store came early, and its hart did it.
     pub fn came_early(&self) -> bool {
-        self.common.promise.is_some_and(|promise| promise.is_kept())
+        self.common
+            .promise
+            .is_some_and(|promise| promise.is_fulfilled())
     }
 
     /// From now on a full fence is assumed before each instruction at one of these addresses, and nowhere else.
@@ -266,12 +268,12 @@ impl TimedMachine {
                 break;
             };
             match step(hart, &mut self.common, round, forced)? {
-                Outcome::Operated => {
+                Advance::Operated => {
                     went = true;
                     self.put_due(index)?;
                 }
-                Outcome::Went => went = true,
-                Outcome::Waits | Outcome::HasStopped => break,
+                Advance::Went => went = true,
+                Advance::Waits | Advance::HasStopped => break,
             }
         }
         Ok(went)

@@ -4,7 +4,7 @@ ghost use Rattle.std.specs.Prelude.{◌≡◌, None};
 use crate::common::Common;
 use crate::holding::may_go_on;
 use crate::loading::read_by;
-use crate::stepping::{Outcome, count, scripted};
+use crate::stepping::{Advance, count, scripted};
 use crate::timed_hart::TimedHart;
 use access_times::{
     Bytes, Kind, Maker, Operation, Promise, PutStore, Stage, operation_of, shift_of,
@@ -26,10 +26,10 @@ pub(crate) fn mind(
     promise: Promise,
     round: u32,
     forced: bool,
-) -> Result<Option<Outcome>, OutOfMemory> {
+) -> Result<Option<Advance>, OutOfMemory> {
     if hart.state.stop.is_some() {
         common.promise = Some(promise.stopped(hart.timing.number));
-        return Ok(Some(Outcome::HasStopped));
+        return Ok(Some(Advance::HasStopped));
     }
     if promise.hart != hart.timing.number {
         return Ok(None);
@@ -41,7 +41,7 @@ pub(crate) fn mind(
     };
     let others = common.operations.wrapping_sub(hart.timing.operations);
     if others < put.until && common.steps < put.until_step && !forced {
-        return Ok(Some(Outcome::Waits));
+        return Ok(Some(Advance::Waits));
     }
     go_on(hart, common, promise, put, Going { round, forced })
 }
@@ -86,7 +86,7 @@ fn go_on(
     promise: Promise,
     put: PutStore,
     going: Going,
-) -> Result<Option<Outcome>, OutOfMemory>
+) -> Result<Option<Advance>, OutOfMemory>
     requires { hart.old.state.stop ≡ None }
 {
     let next = match common.memory.instruction_at(hart.state.pc) {
@@ -103,9 +103,9 @@ fn go_on(
         return Ok(give_up(common, promise));
     };
     if !may_go_on(&mut hart.timing, common, &operation, going.forced)? {
-        return Ok(Some(Outcome::Waits));
+        return Ok(Some(Advance::Waits));
     }
-    let is_kept = keep(
+    let is_fulfilled = fulfil(
         hart,
         common,
         promise,
@@ -114,15 +114,19 @@ fn go_on(
         &used_registers(&i),
         &operation,
     )?;
-    let stage = if is_kept { Stage::Kept } else { Stage::Broken };
+    let stage = if is_fulfilled {
+        Stage::Fulfilled
+    } else {
+        Stage::Broken
+    };
     common.promise = Some(promise.at(stage));
-    Ok(Some(Outcome::Operated))
+    Ok(Some(Advance::Operated))
 }
 
 /// The hart doesn't do the store.
-fn give_up(common: &mut Common, promise: Promise) -> Option<Outcome> {
+fn give_up(common: &mut Common, promise: Promise) -> Option<Advance> {
     common.promise = Some(promise.at(Stage::Broken));
-    Some(Outcome::Waits)
+    Some(Advance::Waits)
 }
 
 /// The hart comes to an operation before the store. The LR of an SC reads what was there before the SC, if it can.
@@ -133,7 +137,7 @@ fn pass(
     put: PutStore,
     i: &Instr,
     operation: &Operation,
-) -> Option<Outcome> {
+) -> Option<Advance> {
     if promise.early.lets_pass(operation) {
         return None;
     }
@@ -152,7 +156,7 @@ fn pass(
 }
 
 /// The hart does its next operation, which has to be the store. Says whether it is, and can be done so early.
-fn keep(
+fn fulfil(
     hart: &mut TimedHart,
     common: &mut Common,
     promise: Promise,

@@ -16,7 +16,7 @@ use rv64_decode::{FenceMode, FenceSet, Instr};
 
 /// What came of a hart's next step.
 #[derive(Clone, Copy, Debug, PartialEq, Eq)]
-pub(crate) enum Outcome {
+pub(crate) enum Advance {
     /// It did a memory operation.
     Operated,
     /// It did another instruction, or stopped.
@@ -40,17 +40,17 @@ pub(crate) fn step(
     common: &mut Common,
     round: u32,
     forced: bool,
-) -> Result<Outcome, OutOfMemory> {
+) -> Result<Advance, OutOfMemory> {
     if common.has_fence_before(hart.state.pc) {
         hart.timing.pass_fence(ALL, ALL, FenceMode::Normal);
     }
     if let Some(promise) = common.promise {
-        if let Some(outcome) = mind(hart, common, promise, round, forced)? {
-            return Ok(outcome);
+        if let Some(advance) = mind(hart, common, promise, round, forced)? {
+            return Ok(advance);
         }
     }
     if hart.state.stop.is_some() {
-        return Ok(Outcome::HasStopped);
+        return Ok(Advance::HasStopped);
     }
     let Some(i) = common.memory.instruction_at(hart.state.pc) else {
         return stop(hart, common, round);
@@ -58,7 +58,7 @@ pub(crate) fn step(
     match operation_of(&hart.state, &i) {
         Some(operation) => {
             if !may_go_on(&mut hart.timing, common, &operation, forced)? {
-                return Ok(Outcome::Waits);
+                return Ok(Advance::Waits);
             }
             operate(hart, common, round, &used_registers(&i), &operation)
         }
@@ -68,7 +68,7 @@ pub(crate) fn step(
 
 /// A hart that has no next instruction stops.
 #[inline(never)]
-fn stop(hart: &mut TimedHart, common: &mut Common, round: u32) -> Result<Outcome, OutOfMemory>
+fn stop(hart: &mut TimedHart, common: &mut Common, round: u32) -> Result<Advance, OutOfMemory>
     requires { hart.old.state.stop ≡ None }
 {
     let _answer = common
@@ -82,9 +82,9 @@ pub(crate) fn ended(
     hart: &TimedHart,
     common: &mut Common,
     round: u32,
-) -> Result<Outcome, OutOfMemory> {
+) -> Result<Advance, OutOfMemory> {
     common.note_step(scripted(hart, round, None, false))?;
-    Ok(Outcome::Went)
+    Ok(Advance::Went)
 }
 
 /// The step of a script.
@@ -108,7 +108,7 @@ fn compute(
     common: &mut Common,
     round: u32,
     i: &Instr,
-) -> Result<Outcome, OutOfMemory>
+) -> Result<Advance, OutOfMemory>
     requires { hart.old.state.stop ≡ None }
 {
     let answer = common
@@ -127,7 +127,7 @@ fn compute(
         hart.timing.pass_fence(before, after, mode);
     }
     common.note_step(scripted(hart, round, None, false))?;
-    Ok(Outcome::Went)
+    Ok(Advance::Went)
 }
 
 /// A memory operation.
@@ -138,7 +138,7 @@ fn operate(
     round: u32,
     registers: &Registers,
     operation: &Operation,
-) -> Result<Outcome, OutOfMemory>
+) -> Result<Advance, OutOfMemory>
     requires { hart.old.state.stop ≡ None }
 {
     match operation.kind {

@@ -3,7 +3,7 @@ ghost use Rattle.std.specs.Prelude.{◌≡◌, ◌<◌, None};
 
 use crate::common::Common;
 use crate::loading::read_by;
-use crate::stepping::{Outcome, count, ended, scripted};
+use crate::stepping::{Advance, count, ended, scripted};
 use crate::timed_hart::TimedHart;
 use access_times::{Bytes, HeldStore, Kind, Maker, Operation};
 use departures::{Deed, Departure, Way};
@@ -18,7 +18,7 @@ pub(crate) fn store(
     round: u32,
     registers: &Registers,
     operation: &Operation,
-) -> Result<Outcome, OutOfMemory>
+) -> Result<Advance, OutOfMemory>
     requires { hart.old.state.stop ≡ None }
 {
     let depends = hart
@@ -26,10 +26,10 @@ pub(crate) fn store(
         .views
         .of(registers.address)
         .max(hart.timing.views.of(registers.value));
-    if let Some(place) = hart.timing.free_place() {
+    if let Some(slot) = hart.timing.free_slot() {
         if let Some(operations) = common.late(hart.timing.number, hart.state.done) {
             let hold = Hold {
-                place,
+                slot,
                 depends,
                 operations,
             };
@@ -59,7 +59,7 @@ pub(crate) fn store(
     count(hart, common);
     common.note_step(scripted(hart, round, None, false))?;
     let _deed = note(hart, common, pc, access, Times { time, behind })?;
-    Ok(Outcome::Operated)
+    Ok(Advance::Operated)
 }
 
 /// The time of a store, and the one that it has to be behind.
@@ -107,8 +107,8 @@ fn note(
 /// How a store is held.
 #[derive(Clone, Copy)]
 struct Hold {
-    /// Its place among the stores that the hart holds.
-    place: usize,
+    /// Its slot among the stores that the hart holds.
+    slot: usize,
     /// The time that its address and its data depend on.
     depends: u32,
     /// For how many operations of the other harts.
@@ -122,9 +122,9 @@ fn put_off(
     round: u32,
     registers: &Registers,
     hold: Hold,
-) -> Result<Outcome, OutOfMemory>
+) -> Result<Advance, OutOfMemory>
     requires running { hart.old.state.stop ≡ None }
-    requires place { hold.place < 4 }
+    requires slot { hold.slot < 4 }
 {
     let pc = hart.state.pc;
     let answer = common.memory.hold_back(&mut hart.state)?;
@@ -152,10 +152,10 @@ fn put_off(
         ..
     } = access
     else {
-        return Ok(Outcome::Operated);
+        return Ok(Advance::Operated);
     };
     let others = common.operations.wrapping_sub(hart.timing.operations);
-    hart.timing.held[hold.place] = Some(HeldStore {
+    hart.timing.held[hold.slot] = Some(HeldStore {
         store: Store {
             address,
             width,
@@ -168,7 +168,7 @@ fn put_off(
         deed,
     });
     common.held = common.held.saturating_add(1);
-    Ok(Outcome::Operated)
+    Ok(Advance::Operated)
 }
 
 /// An AMO or an SC.
@@ -178,7 +178,7 @@ pub(crate) fn exchange(
     round: u32,
     registers: &Registers,
     operation: &Operation,
-) -> Result<Outcome, OutOfMemory>
+) -> Result<Advance, OutOfMemory>
     requires { hart.old.state.stop ≡ None }
 {
     let pc = hart.state.pc;
@@ -196,7 +196,7 @@ pub(crate) fn exchange(
     if !wrote {
         let _event = common.note_event();
         hart.timing.views.address(registers.address);
-        return Ok(Outcome::Operated);
+        return Ok(Advance::Operated);
     }
     let maker = Maker {
         hart: hart.timing.number,
@@ -208,5 +208,5 @@ pub(crate) fn exchange(
     let behind = behind_which(hart, common, registers, operation);
     hart.timing.views.exchange(registers, operation, time)?;
     let _deed = note(hart, common, pc, access, Times { time, behind })?;
-    Ok(Outcome::Operated)
+    Ok(Advance::Operated)
 }

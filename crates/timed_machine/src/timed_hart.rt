@@ -53,20 +53,20 @@ impl Timing {
     /// The hart passes a fence.
     pub(crate) fn pass_fence(&mut self, before: FenceSet, after: FenceSet, mode: FenceMode) {
         self.views.fence(before, after, mode);
-        for place in 0..MOST_HELD {
-            if let Some(held) = self.held[place] {
-                self.held[place] = Some(held.behind_fence(before, after, mode));
+        for slot in 0..MOST_HELD {
+            if let Some(held) = self.held[slot] {
+                self.held[slot] = Some(held.behind_fence(before, after, mode));
             }
         }
     }
 
-    /// A place where a store can be held, if there is one.
-    pub(crate) fn free_place(&self) -> Option<usize>
-        ensures { IfSome result (λ place. place < MOST_HELD) }
+    /// A slot where a store can be held, if there is one.
+    pub(crate) fn free_slot(&self) -> Option<usize>
+        ensures { IfSome result (λ slot. slot < MOST_HELD) }
     {
-        for place in 0..MOST_HELD {
-            if self.held[place].is_none() {
-                return Some(place);
+        for slot in 0..MOST_HELD {
+            if self.held[slot].is_none() {
+                return Some(slot);
             }
         }
         None

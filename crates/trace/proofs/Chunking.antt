@@ -34,7 +34,7 @@ joined_up_to chunks i j l =
 starts_rise : (chunks : List Chunk) → AreChunks chunks → IsNonDecreasingBy (λ p. p.start) chunks
 starts_rise chunks h i j d l m = omega (arith, h.starts i d (omega (arith, l, m)), h.starts j d m, joined_up_to chunks i j l)
 
--- so many chunks start at a place or before it
+-- so many chunks start at an index or before it
 abbrev pub AreBegun : List Chunk → ℕ → ℕ → Type 0
 AreBegun chunks i n = IsPartitionPoint (λ p. leb p.start i ≡ true) (λ p. leb p.start i ≡ false) chunks n
 
@@ -44,12 +44,12 @@ pub begun : {F : Type 0} {g : Mut F (Bor Chunk × Unit {0}) Bool} {f : F} (chunk
     ((a : Bor Chunk × Unit {0}) (r : Bool) (f' : F) → Called g f a r f' → (r ≡ leb a.0.now.start i) × (f' ≡ f)) → AreBegun chunks i n
 begun chunks i n h clause calls = IsPartitionPoint-from_clause (λ p. leb p.start i) chunks n clause (IsPartitionedBy-leb (λ p. p.start) chunks i (starts_rise chunks h)) calls
 
--- a place in the chunks is not before the first of them
+-- an index in the chunks is not before the first of them
 pub some_begun : (chunks : List Chunk) (i n : ℕ) → AreChunks chunks → i < length (joined chunks) → AreBegun chunks i n → 0 < n
 some_begun [] i n h l b = omega (arith, l)
 some_begun (p ∷ ps) i n h l b = elim (cases_lt 0 n) [ inl k ↦ k | inr k ↦ omega (arith, leb-false p.start i (b.1 0 p k (omega arith)), h.starts 0 p (omega arith)) ]
 
--- p is the last of the first n chunks, and has the event at place i
+-- p is the last of the first n chunks, and has the event at index i
 pub record IsWith (chunks : List Chunk) (i n : ℕ) (p : Chunk) : Type 0 where
   pub start : p.start ≤ i
   pub within : i - p.start < length (events_in p)
@@ -86,18 +86,18 @@ last_begun chunks i n e h l m b = record { start = start; within = within; same 
 
     same : event (events_in p) (i - p.start) ≡ event (joined chunks) i
     same =
-        let place : length (joined (take (n - 1) chunks)) + (i - p.start) ≡ i = omega (arith, first, start) in
-        sym (get_or-flat_map events_in chunks (n - 1) (i - p.start) e no_event (omega (arith, some)) within) ∙ ap (event (joined chunks)) place
+        let index : length (joined (take (n - 1) chunks)) + (i - p.start) ≡ i = omega (arith, first, start) in
+        sym (get_or-flat_map events_in chunks (n - 1) (i - p.start) e no_event (omega (arith, some)) within) ∙ ap (event (joined chunks)) index
 
     rest : drop (i - p.start) (events_in p) ++ joined (drop n chunks) ≡ drop i (joined chunks)
     rest =
         let before = joined (take (n - 1) chunks) in
         let next : n - 1 + 1 ≡ n = omega (arith, some) in
-        let place : length before + (i - p.start) ≡ i = omega (arith, first, start) in
+        let index : length before + (i - p.start) ≡ i = omega (arith, first, start) in
         let cut : drop (n - 1) chunks ≡ p ∷ drop n chunks = drop_more chunks (n - 1) e (omega (arith, some)) ∙ ap (λ (j : ℕ). p ∷ drop j chunks) next in
         let split : joined chunks ≡ before ++ (events_in p ++ joined (drop n chunks)) =
         ap joined (sym (take-append-drop (n - 1) chunks)) ∙ flat_map-append events_in (take (n - 1) chunks) (drop (n - 1) chunks) ∙ ap (λ (ps : List Chunk). before ++ joined ps) cut in
-        sym (ap (λ (j : ℕ). drop j (joined chunks)) (sym place) ∙ ap (drop (length before + (i - p.start))) split
+        sym (ap (λ (j : ℕ). drop j (joined chunks)) (sym index) ∙ ap (drop (length before + (i - p.start))) split
         ∙ drop-append-add before (events_in p ++ joined (drop n chunks)) (i - p.start)
         ∙ drop-append-le (i - p.start) (events_in p) (joined (drop n chunks)) (omega (arith, within)))
 

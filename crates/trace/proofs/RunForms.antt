@@ -16,7 +16,7 @@ use Rattle.round_schedule.specs.Held.{held}
 use Rattle.round_schedule.specs.Schedule.{HartRound, Progress, State, Turn, Words, all_stores, began, by_answer, committed, ended, events_from, first_or_zero, hart_round_of, hart_rounds, joined, next_of, opening_state, rest_of, round_from, round_of, run_of, serial_from, serial_next, turn_from, turn_of, turned, went}
 use Rattle.round_schedule.specs.Places.{Placed}
 use Rattle.round_schedule.specs.Sound.{Counts}
-use Rattle.round_schedule.proofs.Rising.{places_kept, rising}
+use Rattle.round_schedule.proofs.Rising.{places_low, rising}
 use Rattle.hart_step.specs.Forms.{Formed, Forms}
 use Rattle.trace.specs.Traced.{IsTrace}
 
@@ -165,5 +165,5 @@ pub round_leaves_trace : {H C : Type 0} (w : Words H C) (done : H → ℕ) → F
 unfolding AllFormed
 round_leaves_trace w done forms counts last most budget quotas s low small bytes size t p = record {
   formed = (one_round_formed w forms (2 ^ 32) budget quotas s (record { formed = t.formed; sized = record { bytes = bytes; size = size } })).formed;
-  rising = (places_kept w done counts last most budget quotas s low small p).rising;
+  rising = (places_low w done counts last most budget quotas s low small p).rising;
 }

@@ -6,8 +6,8 @@ use Rattle.round_schedule.specs.Events.{events_of}
 use Rattle.trace.specs.declared.chunk.Batch.{Batch}
 use Rattle.trace.specs.declared.chunk.Batch.TheVariants as batches
 use Rattle.trace.specs.declared.chunk.Chunk.{Chunk}
-use Rattle.trace.specs.declared.run.Run.{Run}
-use Rattle.trace.specs.declared.run.Run.TheVariants as runs
+use Rattle.trace.specs.declared.event_slice.EventSlice.{EventSlice}
+use Rattle.trace.specs.declared.event_slice.EventSlice.TheVariants as slices
 use Rattle.trace.specs.LentLogs.{accesses_lent}
 
 -- the events, the room that is reserved for more, and for how many logs there is room
@@ -24,10 +24,10 @@ batch_events (batches.Log n i s l) = events_of n i s l
 abbrev pub events_in : Chunk → List Event
 events_in p = batch_events p.batch
 
--- the events of a run that is lent
-abbrev pub run_events : Run → List Event
-run_events (runs.Events es) = es.now
-run_events (runs.Log l) = events_of l.round l.hart l.phase (accesses_lent l.accesses)
+-- the events of a slice
+abbrev pub slice_events : EventSlice → List Event
+slice_events (slices.Events es) = es.now
+slice_events (slices.Log l) = events_of l.round l.hart l.phase (accesses_lent l.accesses)
 
 -- the events of finished chunks, one after another
 abbrev pub joined : List Chunk → List Event

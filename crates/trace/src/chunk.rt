@@ -2,10 +2,10 @@
 
 ghost use Rattle.std.specs.Prelude.{◌≡◌, ◌-◌, ◌<◌, ◌≤◌, ◌++◌, All, IfOk, drop, length};
 ghost use Rattle.round_schedule.specs.Positions.{event};
-ghost use Rattle.trace.specs.Chunks.{AreChunks, HasEvents, events_in, joined, run_events};
+ghost use Rattle.trace.specs.Chunks.{AreChunks, HasEvents, events_in, joined, slice_events};
 
+use crate::event_slice::{EventSlice, LogSlice};
 use crate::log::Log;
-use crate::run::{LogRun, Run};
 use pages::OutOfMemory;
 use round_schedule::{Event, Phase};
 use std::sync::Arc;
@@ -34,17 +34,17 @@ pub(crate) enum Batch {
 
 impl Chunk {
     /// The events.
-    pub(crate) fn run(&self) -> Run<'_>
-        ensures { run_events result ≡ events_in self.now }
+    pub(crate) fn slice(&self) -> EventSlice<'_>
+        ensures { slice_events result ≡ events_in self.now }
     {
         match &self.batch {
-            Batch::Events(events) => Run::Events(events.as_slice()),
+            Batch::Events(events) => EventSlice::Events(events.as_slice()),
             Batch::Log {
                 round,
                 hart,
                 phase,
                 log,
-            } => Run::Log(LogRun {
+            } => EventSlice::Log(LogSlice {
                 round: *round,
                 hart: *hart,
                 phase: *phase,
@@ -79,18 +79,18 @@ impl Chunk {
     }
 }
 
-/// The chunk that has the event at a place of the list, and those after it.
-pub(crate) fn chunks_with(chunks: &[Chunk], place: usize) -> (&Chunk, &[Chunk])
+/// The chunk that has the event at an index of the list, and those after it.
+pub(crate) fn chunks_with(chunks: &[Chunk], index: usize) -> (&Chunk, &[Chunk])
     requires chunks { AreChunks chunks.now }
-    requires within { place < length (joined chunks.now) }
-    ensures start { result.0.now.start ≤ place }
-    ensures within { place - result.0.now.start < length (events_in result.0.now) }
-    ensures event { event (events_in result.0.now) (place - result.0.now.start) ≡
-        event (joined chunks.now) place }
-    ensures rest { drop (place - result.0.now.start) (events_in result.0.now) ++
-        joined result.1.now ≡ drop place (joined chunks.now) }
+    requires within { index < length (joined chunks.now) }
+    ensures start { result.0.now.start ≤ index }
+    ensures within { index - result.0.now.start < length (events_in result.0.now) }
+    ensures event { event (events_in result.0.now) (index - result.0.now.start) ≡
+        event (joined chunks.now) index }
+    ensures rest { drop (index - result.0.now.start) (events_in result.0.now) ++
+        joined result.1.now ≡ drop index (joined chunks.now) }
     ensures filled { All HasEvents result.1.now }
 {
-    let begun = chunks.partition_point(|chunk| chunk.start <= place);
+    let begun = chunks.partition_point(|chunk| chunk.start <= index);
     (&chunks[begun - 1], &chunks[begun..])
 }

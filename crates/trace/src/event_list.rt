@@ -16,7 +16,7 @@ use std::mem;
 use std::sync::Arc;
 
 /// From how many events on a tail is finished where more are to come.
-const PART: usize = 4096;
+const LONG_TAIL: usize = 4096;
 
 /// How many events may be finished, so that the number of all is a `usize`.
 const MOST_FINISHED: usize = 1 << 62;
@@ -73,16 +73,16 @@ impl EventList {
         self.finished + self.tail.len()
     }
 
-    /// The event at a place.
-    pub(crate) fn get(&self, place: usize) -> Event
-        requires { place < length self.now.events }
-        ensures { result ≡ event self.now.events place }
+    /// The event at an index.
+    pub(crate) fn get(&self, index: usize) -> Event
+        requires { index < length self.now.events }
+        ensures { result ≡ event self.now.events index }
     {
-        if place < self.finished {
-            let (chunk, _) = chunks_with(&self.chunks, place);
-            chunk.run().get(place - chunk.start)
+        if index < self.finished {
+            let (chunk, _) = chunks_with(&self.chunks, index);
+            chunk.slice().get(index - chunk.start)
         } else {
-            self.tail[place - self.finished]
+            self.tail[index - self.finished]
         }
     }
 
@@ -93,15 +93,15 @@ impl EventList {
         Events::new(&self.chunks, &self.tail)
     }
 
-    /// The events from a place on, in order.
-    pub(crate) fn from(&self, place: usize) -> Events<'_>
-        ensures { result ≡ drop place self.now.events }
+    /// The events from an index on, in order.
+    pub(crate) fn from(&self, index: usize) -> Events<'_>
+        ensures { result ≡ drop index self.now.events }
     {
-        if place < self.finished {
-            let (chunk, others) = chunks_with(&self.chunks, place);
-            Events::beginning(chunk.run().from(place - chunk.start), others, &self.tail)
+        if index < self.finished {
+            let (chunk, others) = chunks_with(&self.chunks, index);
+            Events::beginning(chunk.slice().from(index - chunk.start), others, &self.tail)
         } else {
-            let passed = (place - self.finished).min(self.tail.len());
+            let passed = (index - self.finished).min(self.tail.len());
             Events::new(&[], &self.tail[passed..])
         }
     }
@@ -123,12 +123,12 @@ impl EventList {
         ensures ok { OnOk result (n ≤ self.new.room) }
         ensures logs { self.old.logs ≤ self.new.logs }
     {
-        if self.tail.len() < PART {
+        if self.tail.len() < LONG_TAIL {
             return Ok(self.tail.reserve(n)?);
         }
         finish(&mut self.chunks, &mut self.finished, &mut self.tail)?;
         // The room is for a chunk more, so that a tail short of a chunk still has it.
-        Ok(self.tail.reserve(n.saturating_add(PART))?)
+        Ok(self.tail.reserve(n.saturating_add(LONG_TAIL))?)
     }
 
     /// Makes room for so many logs, which have so many accesses together. What stands in the tail is finished first. This is
@@ -202,7 +202,7 @@ fn finish(
         joined chunks.old.items ++ tail.old.items }
     ensures emptied { OnOk result (tail.new.items ≡ []) }
     ensures err { OnErr result (tail.new.items ≡ tail.old.items) }
-    ensures kept { tail.old.items ≡ [] → (chunks.new ≡ chunks.old) × (tail.new ≡ tail.old) }
+    ensures unchanged { tail.old.items ≡ [] → (chunks.new ≡ chunks.old) × (tail.new ≡ tail.old) }
 {
     let count = tail.len();
     if count == 0 {
@@ -218,7 +218,7 @@ fn finish(
     Ok(())
 }
 
-/// Moves a tail into a chunk that starts at a place, and leaves an empty one.
+/// Moves a tail into a chunk that starts at an index, and leaves an empty one.
 fn chunk_of(start: usize, tail: &mut Vec<Event>) -> Result<Chunk, OutOfMemory>
     ensures start { IfOk result (λ p. p.start ≡ start) }
     ensures events { IfOk result (λ p. events_in p ≡ tail.old.items) }

@@ -2,10 +2,10 @@
 
 ghost use Rattle.std.specs.Prelude.{◌≡◌, ◌<◌, ◌++◌, [], All, length};
 ghost use Rattle.std.specs.Iterator.{YieldsFirst, item_count};
-ghost use Rattle.trace.specs.Chunks.{HasEvents, joined, run_events};
+ghost use Rattle.trace.specs.Chunks.{HasEvents, joined, slice_events};
 
 use crate::chunk::Chunk;
-use crate::run::Run;
+use crate::event_slice::EventSlice;
 use round_schedule::Event;
 use std::marker::Model;
 
@@ -13,7 +13,7 @@ use std::marker::Model;
 #[derive(Drop)]
 pub struct Events<'a> {
     /// Those of the chunk that is gone through; only at the end there are none.
-    run: Run<'a>,
+    slice: EventSlice<'a>,
     chunks: &'a [Chunk],
     tail: &'a [Event],
 }
@@ -21,14 +21,14 @@ pub struct Events<'a> {
 impl<'a> Model for Events<'a> {
     ghost use Rattle.std.specs.Prelude.{◌≡◌, List, [], ◌++◌, All};
     ghost use Rattle.round_schedule.specs.declared.event.Event.{Event as EventOf};
-    ghost use Rattle.trace.specs.Chunks.{HasEvents, joined, run_events};
+    ghost use Rattle.trace.specs.Chunks.{HasEvents, joined, slice_events};
 
     ghost Value = { List EventOf };
 
-    ghost view = { λ e. run_events e.run ++ (joined e.chunks.now ++ e.tail.now) };
+    ghost view = { λ e. slice_events e.slice ++ (joined e.chunks.now ++ e.tail.now) };
 
     ghost invariant = { λ e. All HasEvents e.chunks.now ×
-        (run_events e.run ≡ [] → joined e.chunks.now ++ e.tail.now ≡ []) };
+        (slice_events e.slice ≡ [] → joined e.chunks.now ++ e.tail.now ≡ []) };
 }
 
 impl<'a> Events<'a> {
@@ -37,19 +37,31 @@ impl<'a> Events<'a> {
         requires { All HasEvents chunks.now }
         ensures { result ≡ joined chunks.now ++ tail.now }
     {
-        let mut run = Run::Events(&[]);
+        let mut slice = EventSlice::Events(&[]);
         let (mut chunks, mut tail) = (chunks, tail);
-        open_chunk(&mut run, &mut chunks, &mut tail);
-        Events { run, chunks, tail }
+        open_chunk(&mut slice, &mut chunks, &mut tail);
+        Events {
+            slice,
+            chunks,
+            tail,
+        }
     }
 
-    /// The events of a run, then those of these chunks, and then those of the tail.
-    pub(crate) fn beginning(run: Run<'a>, chunks: &'a [Chunk], tail: &'a [Event]) -> Events<'a>
-        requires some { 0 < length (run_events run) }
+    /// The events of a slice, then those of these chunks, and then those of the tail.
+    pub(crate) fn beginning(
+        slice: EventSlice<'a>,
+        chunks: &'a [Chunk],
+        tail: &'a [Event],
+    ) -> Events<'a>
+        requires some { 0 < length (slice_events slice) }
         requires filled { All HasEvents chunks.now }
-        ensures { result ≡ run_events run.entry ++ (joined chunks.now ++ tail.now) }
+        ensures { result ≡ slice_events slice.entry ++ (joined chunks.now ++ tail.now) }
     {
-        Events { run, chunks, tail }
+        Events {
+            slice,
+            chunks,
+            tail,
+        }
     }
 }
 
@@ -62,9 +74,9 @@ impl<'a> Iterator for Events<'a> {
 
     #[inline(always)]
     fn next(&mut self) -> Option<Event> {
-        let event = self.run.take_first()?;
-        if self.run.is_empty() {
-            open_chunk(&mut self.run, &mut self.chunks, &mut self.tail);
+        let event = self.slice.take_first()?;
+        if self.slice.is_empty() {
+            open_chunk(&mut self.slice, &mut self.chunks, &mut self.tail);
         }
         Some(event)
     }
@@ -73,20 +85,20 @@ impl<'a> Iterator for Events<'a> {
 /// Opens the next chunk, or the tail after the last one. It stands apart and answers nothing, so that `next` stays short.
 #[cold]
 #[inline(never)]
-fn open_chunk<'a>(run: &mut Run<'a>, chunks: &mut &'a [Chunk], tail: &mut &'a [Event])
+fn open_chunk<'a>(slice: &mut EventSlice<'a>, chunks: &mut &'a [Chunk], tail: &mut &'a [Event])
     requires { All HasEvents chunks.old.now }
-    ensures same { run_events run.new ++ (joined chunks.new.now ++ tail.new.now) ≡
+    ensures same { slice_events slice.new ++ (joined chunks.new.now ++ tail.new.now) ≡
         joined chunks.old.now ++ tail.old.now }
     ensures filled { All HasEvents chunks.new.now }
-    ensures some { run_events run.new ≡ [] → joined chunks.new.now ++ tail.new.now ≡ [] }
+    ensures some { slice_events slice.new ≡ [] → joined chunks.new.now ++ tail.new.now ≡ [] }
 {
     match chunks.split_first() {
         Some((chunk, others)) => {
-            *run = chunk.run();
+            *slice = chunk.slice();
             *chunks = others;
         }
         None => {
-            *run = Run::Events(tail);
+            *slice = EventSlice::Events(tail);
             *tail = &[];
         }
     }

@@ -1,20 +1,20 @@
 //! What a run leaves: its trace, which has the events in the order of the rounds and the bytes that memory opened with.
 #![tactic(auto)]
 
-mod accesses;
-mod brief;
+mod access_slice;
+mod brief_access;
+mod brief_group;
+mod brief_log;
+mod brief_slice;
 mod chunk;
 mod event_list;
+mod event_slice;
 mod events;
 mod form;
 mod laws;
 mod log;
 mod opening;
-mod remaining;
 mod rising;
-mod run;
-mod stretch;
-mod stretches;
 mod trace;
 
 pub use events::Events;

@@ -1,11 +1,11 @@
-//! The accesses of a hart, as a trace takes them over.
+//! A log: the accesses of a hart, as a trace takes them over.
 
 ghost use Rattle.std.specs.Prelude.{◌≡◌, ◌<◌, [], length, slice_index_or, IfOk, IfSome};
 ghost use Rattle.trace.specs.LentLogs.{accesses_lent};
 ghost use Rattle.trace.specs.Logs.{accesses_in};
 
-use crate::accesses::Accesses;
-use crate::stretches::Stretches;
+use crate::access_slice::AccessSlice;
+use crate::brief_log::BriefLog;
 use pages::OutOfMemory;
 use round_schedule::Access;
 use std::alloc::Global;
@@ -16,17 +16,17 @@ use std::sync::Arc;
 /// The accesses of one hart in one phase of a round, in program order.
 #[derive(Drop)]
 pub struct Log {
-    kept: Kept,
+    contents: Contents,
 }
 
-/// How a log keeps its accesses.
+/// How a log stores its accesses.
 #[derive(Drop)]
-pub(crate) enum Kept {
+pub(crate) enum Contents {
     Nothing,
     /// As the hart left them.
     Own(Vec<Access>),
     /// In brief. Copies share them.
-    Brief(Arc<Stretches>),
+    Brief(Arc<BriefLog>),
 }
 
 impl Model for Log {
@@ -36,7 +36,7 @@ impl Model for Log {
 
     ghost Value = { List AccessOf };
 
-    ghost view = { λ l. accesses_in l.kept };
+    ghost view = { λ l. accesses_in l.contents };
 }
 
 impl Log {
@@ -45,7 +45,7 @@ impl Log {
         ensures { result ≡ accesses.items }
     {
         Log {
-            kept: Kept::Own(accesses),
+            contents: Contents::Own(accesses),
         }
     }
 
@@ -69,7 +69,7 @@ impl Log {
         ensures { IfOk result (λ l. l ≡ accesses.now) }
     {
         match brief_of(alloc, accesses)? {
-            Some(kept) => Ok(Log { kept }),
+            Some(contents) => Ok(Log { contents }),
             None => Log::copied(alloc, accesses),
         }
     }
@@ -83,11 +83,11 @@ impl Log {
     pub fn share(&mut self) -> Result<(), OutOfMemory>
         ensures { self.new ≡ self.old }
     {
-        let Kept::Own(accesses) = &self.kept else {
+        let Contents::Own(accesses) = &self.contents else {
             return Ok(());
         };
-        if let Some(kept) = brief_of(*accesses.allocator(), accesses)? {
-            self.kept = kept;
+        if let Some(contents) = brief_of(*accesses.allocator(), accesses)? {
+            self.contents = contents;
         }
         Ok(())
     }
@@ -96,29 +96,29 @@ impl Log {
     pub fn len(&self) -> usize
         ensures { result ≡ length self.now }
     {
-        match &self.kept {
-            Kept::Nothing => 0,
-            Kept::Own(accesses) => accesses.len(),
-            Kept::Brief(stretches) => stretches.len(),
+        match &self.contents {
+            Contents::Nothing => 0,
+            Contents::Own(accesses) => accesses.len(),
+            Contents::Brief(log) => log.len(),
         }
     }
 
-    /// The access at a place, counted from 0.
-    pub fn get(&self, place: usize) -> Access
-        requires { place < length self.now }
-        ensures { result ≡ slice_index_or self.now place result }
+    /// The access at an index, counted from 0.
+    pub fn get(&self, index: usize) -> Access
+        requires { index < length self.now }
+        ensures { result ≡ slice_index_or self.now index result }
     {
-        self.accesses().get(place)
+        self.accesses().get(index)
     }
 
     /// The accesses.
-    pub(crate) fn accesses(&self) -> Accesses<'_>
+    pub(crate) fn accesses(&self) -> AccessSlice<'_>
         ensures { accesses_lent result ≡ self.now }
     {
-        match &self.kept {
-            Kept::Nothing => Accesses::Whole(&[]),
-            Kept::Own(accesses) => Accesses::Whole(accesses.as_slice()),
-            Kept::Brief(stretches) => Accesses::Brief(stretches.lent()),
+        match &self.contents {
+            Contents::Nothing => AccessSlice::Whole(&[]),
+            Contents::Own(accesses) => AccessSlice::Whole(accesses.as_slice()),
+            Contents::Brief(log) => AccessSlice::Brief(log.lent()),
         }
     }
 
@@ -130,7 +130,7 @@ impl Log {
         mem::replace(
             self,
             Log {
-                kept: Kept::Nothing,
+                contents: Contents::Nothing,
             },
         )
     }
@@ -139,27 +139,27 @@ impl Log {
     pub(crate) fn copy(&self) -> Result<Log, OutOfMemory>
         ensures { IfOk result (λ l. l ≡ self.now) }
     {
-        let kept = match &self.kept {
-            Kept::Nothing => Kept::Nothing,
-            Kept::Own(accesses) => {
-                Kept::Own(Vec::from_slice(*accesses.allocator(), accesses.as_slice())?)
+        let contents = match &self.contents {
+            Contents::Nothing => Contents::Nothing,
+            Contents::Own(accesses) => {
+                Contents::Own(Vec::from_slice(*accesses.allocator(), accesses.as_slice())?)
             }
-            Kept::Brief(stretches) => Kept::Brief(stretches.clone()?),
+            Contents::Brief(log) => Contents::Brief(log.clone()?),
         };
-        Ok(Log { kept })
+        Ok(Log { contents })
     }
 }
 
 /// Accesses in brief, where there are some and each has a form in brief.
-fn brief_of(alloc: Global, accesses: &[Access]) -> Result<Option<Kept>, OutOfMemory>
-    ensures { IfOk result (λ r. IfSome r (λ kept. accesses_in kept ≡ accesses.now)) }
+fn brief_of(alloc: Global, accesses: &[Access]) -> Result<Option<Contents>, OutOfMemory>
+    ensures { IfOk result (λ r. IfSome r (λ contents. accesses_in contents ≡ accesses.now)) }
 {
     if accesses.is_empty() {
         return Ok(None);
     }
-    let Some(stretches) = Stretches::of(alloc, accesses)? else {
+    let Some(log) = BriefLog::of(alloc, accesses)? else {
         return Ok(None);
     };
-    let stretches = Arc::new(alloc, stretches).map_err(|_| OutOfMemory)?;
-    Ok(Some(Kept::Brief(stretches)))
+    let log = Arc::new(alloc, log).map_err(|_| OutOfMemory)?;
+    Ok(Some(Contents::Brief(log)))
 }

@@ -16,13 +16,13 @@ pub(crate) fn places_rise(events: &[Event]) -> bool
         if !is_above(events, i, &last) {
             return false;
         }
-        keep(&mut last, &events[i]);
+        note(&mut last, &events[i]);
     }
     true
 }
 
-/// Whether the place of event `i` is above those of its hart before it, where the last place of each hart before it is in
-/// the table.
+/// Whether the place of event `i` is above those of its hart before it, where `last` has the last place of each hart before
+/// it.
 fn is_above(events: &[Event], i: usize, last: &[Option<u64>]) -> bool
     requires within { i < length events.now }
     requires all { length last.now ≡ 256 }
@@ -37,7 +37,7 @@ fn is_above(events: &[Event], i: usize, last: &[Option<u64>]) -> bool
 }
 
 /// Notes the place of an event as the last one of its hart.
-fn keep(last: &mut [Option<u64>], event: &Event)
+fn note(last: &mut [Option<u64>], event: &Event)
     requires { length last.old ≡ 256 }
     ensures { last.new ≡ noted last.old event.now }
 {

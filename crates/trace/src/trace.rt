@@ -5,7 +5,7 @@ ghost use Rattle.round_schedule.specs.Positions.{event};
 ghost use Rattle.trace.specs.LentLogs.{accesses_lent};
 ghost use Rattle.trace.specs.Traced.{HasForm, IsTrace, StandsAbove, laid, opening_at};
 
-use crate::accesses::Accesses;
+use crate::access_slice::AccessSlice;
 use crate::event_list::EventList;
 use crate::events::Events;
 use crate::form::all_have_forms;
@@ -129,7 +129,7 @@ impl Trace {
         ensures opening { self.new.opening ≡ self.old.opening }
         ensures room { self.old.room ≤ self.new.room + length accesses.now }
     {
-        self.push_all(round, hart, phase, Accesses::Whole(accesses));
+        self.push_all(round, hart, phase, AccessSlice::Whole(accesses));
     }
 
     /// Adds the accesses of a log, of a hart in one phase of a round, where room for them as events was made. It takes no
@@ -145,7 +145,7 @@ impl Trace {
     }
 
     /// Adds accesses of a hart in one phase of a round, event by event, where room for them was made.
-    fn push_all(&mut self, round: u32, hart: u8, phase: Phase, accesses: Accesses<'_>)
+    fn push_all(&mut self, round: u32, hart: u8, phase: Phase, accesses: AccessSlice<'_>)
         requires room { length (accesses_lent accesses) ≤ self.old.room }
         requires sound { IsTrace (self.old.events ++
             events_of round hart phase (accesses_lent accesses)) }
@@ -187,12 +187,12 @@ impl Trace {
         self.events.len()
     }
 
-    /// The event at a place, counted from 0.
-    pub fn event(&self, place: usize) -> Event
-        requires { place < length self.now.events }
-        ensures { result ≡ event self.now.events place }
+    /// The event at an index, counted from 0.
+    pub fn event(&self, index: usize) -> Event
+        requires { index < length self.now.events }
+        ensures { result ≡ event self.now.events index }
     {
-        self.events.get(place)
+        self.events.get(index)
     }
 
     /// The events so far, in order.
@@ -202,11 +202,11 @@ impl Trace {
         self.events.iter()
     }
 
-    /// The events from a place on, in order.
-    pub fn events_from(&self, place: usize) -> Events<'_>
-        ensures { result ≡ drop place self.now.events }
+    /// The events from an index on, in order.
+    pub fn events_from(&self, index: usize) -> Events<'_>
+        ensures { result ≡ drop index self.now.events }
     {
-        self.events.from(place)
+        self.events.from(index)
     }
 
     /// The events so far, as one vector.

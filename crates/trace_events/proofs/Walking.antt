@@ -10,7 +10,7 @@ use Rattle.round_schedule.specs.Positions.{event, writes_at}
 use Rattle.byte_sources.specs.Sources.{gives, last_below, sees}
 use Rattle.trace_events.specs.Writers.{IndexesBy, IsPast, LiesInWord, after_last, is_same_bytes, is_same_doer, stores_word, word_at}
 
--- what the place after the last one says
+-- what the index after the last one says
 pub record IsLast (test : ℕ → Bool) (n w : ℕ) : Type 0 where
   pub below : w < n
   pub passes : test w ≡ true
@@ -111,8 +111,8 @@ gives_none t r x v lies none = by_test (gives t r x v) refl
     by_test true e = let f = gives_word t r x v lies e in let bad : false ≡ true = sym none ∙ f in absurd cc
 
 -- what the call answers of the event at w
-pub gives_is : (t : List Event) (place x v : ℕ) (a b : Event) (g is : Bool) → a ≡ event t v → b ≡ event t place → g ≡ (writes a.access x && sees b a) → g ≡ is → gives t (event t place) x v ≡ is
-gives_is t place x v a b g is ea eb eg e =
+pub gives_is : (t : List Event) (index x v : ℕ) (a b : Event) (g is : Bool) → a ≡ event t v → b ≡ event t index → g ≡ (writes a.access x && sees b a) → g ≡ is → gives t (event t index) x v ≡ is
+gives_is t index x v a b g is ea eb eg e =
     sym (eg ∙ ap (λ (z : Event). writes z.access x && sees b z) ea ∙ ap (λ (z : Event). writes (event t v).access x && sees z (event t v)) eb) ∙ e
 
 -- ---- events that don't give the byte for the same reason
@@ -157,7 +157,7 @@ unwritten_too t r x u v s isnt same =
 
 -- ---- one step back
 
-module _ (t : List Event) (place x b : ℕ) (latest others other_bytes : List ℕ) (w : IndexesBy t place latest others other_bytes true) (r : Event) (le : b ≤ place) where
+module _ (t : List Event) (index x b : ℕ) (latest others other_bytes : List ℕ) (w : IndexesBy t index latest others other_bytes true) (r : Event) (le : b ≤ index) where
   abbrev G : ℕ → Bool
   G = gives t r x
 
@@ -175,7 +175,7 @@ module _ (t : List Event) (place x b : ℕ) (latest others other_bytes : List �
       let l : IsLast P b v = last_is P b v e in
       passed_over G (suc v) b (omega (arith, l.below)) (λ u lo hi. off u hi (l.none u (omega (arith, lo)) hi))
 
-  -- the store before a place
+  -- the store before an index
   pub record IsStore (v : ℕ) : Type 0 where
     pub below : v < b
     pub stores_some : stores (event t v).access ≡ true

@@ -5,7 +5,7 @@ use Rattle.std.specs.Fmt.{decimal}
 use Rattle.round_schedule.specs.declared.event.Event.{Event}
 use Rattle.round_schedule.specs.Positions.{event}
 use Rattle.report_lines.specs.Text.{hex}
-use Rattle.byte_sources.specs.Sources.{is_place, sources}
+use Rattle.byte_sources.specs.Sources.{is_index, sources}
 
 -- the start of an end of a flow, of this kind
 unfoldable pub flow_start : List ℕ → ℕ → ℕ → List ℕ
@@ -24,7 +24,7 @@ flow_text t r k w =
 -- the flow for the next byte's source, where no byte before has the same one
 abbrev pub flow_to : List Event → ℕ → List (Option ℕ) → Option ℕ → List ℕ
 flow_to t r earlier None = []
-flow_to t r earlier (Some w) = if list_any (is_place w) earlier then [] else flow_text t r (length earlier) w
+flow_to t r earlier (Some w) = if list_any (is_index w) earlier then [] else flow_text t r (length earlier) w
 
 abbrev pub flows_from : List Event → ℕ → List (Option ℕ) → List (Option ℕ) → List ℕ
 flows_from t r earlier [] = []

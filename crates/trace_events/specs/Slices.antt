@@ -1,5 +1,5 @@
 -- Slices of tracks, as JSON objects of Chrome's trace events. Track 0 is that of the rounds, and track h + 1 that of hart h. Time is
--- the place in the trace, in microseconds. Each object begins with the comma and the end of the line before it.
+-- the index in the trace, in microseconds. Each object begins with the comma and the end of the line before it.
 use Rattle.std.specs.Prelude.{ℕ, ◌+◌, ◌==◌, ◌&&◌, Bool, not, true, if◌then◌else◌, List, [], ◌++◌, codes, length, take_while, Option, Some, None}
 use Rattle.std.specs.Fmt.{decimal}
 use Rattle.pages.specs.declared.access.Width.{Width}
@@ -54,7 +54,7 @@ slice_start track time count =
     codes ",\n{\"ph\":\"X\",\"pid\":0,\"tid\":" ++ decimal track ++ codes ",\"ts\":" ++ decimal time ++ codes ",\"dur\":" ++ decimal count
     ++ codes ",\"name\":\""
 
--- the slice of the event at place i, on its hart's track
+-- the slice of the event at index i, on its hart's track
 unfoldable pub event_text : ℕ → Event → List ℕ
 event_text i e =
     slice_start (e.hart + 1) i 1 ++ name_text e.access ++ codes "\",\"args\":{\"round\":" ++ decimal e.round ++ codes ",\"phase\":\""
@@ -75,19 +75,19 @@ opens same None e = true
 opens same (Some before) e = not (same before e)
 
 -- how many events the part has that begins with e, which these events follow
-abbrev pub count_of_part : (Event → Event → Bool) → Event → List Event → ℕ
-count_of_part same e es = length (take_while (same e) es) + 1
+abbrev pub count_of_slice : (Event → Event → Bool) → Event → List Event → ℕ
+count_of_slice same e es = length (take_while (same e) es) + 1
 
 -- the slice of a round, before its first event
 unfoldable pub round_text : ℕ → Option Event → Event → List Event → List ℕ
 round_text i before e es =
     if opens same_round before e
-    then slice_start 0 i (count_of_part same_round e es) ++ codes "round " ++ decimal e.round ++ codes "\"}"
+    then slice_start 0 i (count_of_slice same_round e es) ++ codes "round " ++ decimal e.round ++ codes "\"}"
     else []
 
 -- the slice of a serial phase, before its first event
 unfoldable pub serial_text : ℕ → Option Event → Event → List Event → List ℕ
 serial_text i before e es =
     if is_serial e.phase && opens same_serial before e
-    then slice_start 0 i (count_of_part same_serial e es) ++ codes "serial phase\"}"
+    then slice_start 0 i (count_of_slice same_serial e es) ++ codes "serial phase\"}"
     else []

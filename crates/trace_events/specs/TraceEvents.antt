@@ -23,16 +23,16 @@ head_text harts =
     codes "{\"traceEvents\":[\n{\"ph\":\"M\",\"pid\":0,\"tid\":0,\"name\":\"thread_name\",\"args\":{\"name\":\"rounds\"}}"
     ++ tracks_text 0 harts
 
--- what stands of an event of the trace t, which has place i: the slices that begin with it, its own, and the flows to it
+-- what stands of an event of the trace t, which has index i: the slices that begin with it, its own, and the flows to it
 unfoldable pub entry_text : List Event → ℕ → Option Event → Event → List Event → List ℕ
 entry_text t i before e es = round_text i before e es ++ serial_text i before e es ++ event_text i e ++ flows_text t i
 
--- the event before place i
-abbrev pub before_place : List Event → ℕ → Option Event
-before_place t zero = None
-before_place t (suc i) = Some (event t i)
+-- the event before index i
+abbrev pub before_index : List Event → ℕ → Option Event
+before_index t zero = None
+before_index t (suc i) = Some (event t i)
 
--- the same of the events from place i on
+-- the same of the events from index i on
 abbrev pub entries_text : List Event → ℕ → Option Event → List Event → List ℕ
 entries_text t i before [] = []
 entries_text t i before (e ∷ es) = entry_text t i before e es ++ entries_text t (i + 1) (Some e) es

@@ -29,18 +29,18 @@ is_same_doer e f = (e.round == f.round) && (e.hart == f.hart)
 abbrev pub is_same_bytes : Event → Event → Bool
 is_same_bytes e f = (address_of e.access == address_of f.access) && (bytes_of e.access == bytes_of f.access)
 
--- the place after a store, from which on up to the event at i all stores to its word are like that event; 0 where all before it are
+-- the index after a store, from which on up to the event at i all stores to its word are like that event; 0 where all before it are
 pub record IsPast (same : Event → Event → Bool) (t : List Event) (i s : ℕ) : Type 0 where
   pub before : s ≤ i
   pub at_store : after_last (stores_word t (word_at t i)) s ≡ s
   pub alike : (v : ℕ) → s ≤ v → v < i → stores_word t (word_at t i) v ≡ true → same (event t v) (event t i) ≡ true
 
--- how it is found: by the place after the last store before, and what was found for that one
+-- how it is found: by the index after the last store before, and what was found for that one
 abbrev pub past : (Event → Event → Bool) → List Event → List ℕ → ℕ → ℕ → ℕ
 past same t found i zero = 0
 past same t found i (suc w) = if same (event t w) (event t i) then slice_index found w else suc w
 
--- these are the stores among the first n events of a trace: for each word of the table the place after the last store to it, and for
+-- these are the stores among the first n events of a trace: for each word of the list the index after the last store to it, and for
 -- each store what stands past those before it to the same word that are of its hart and round, and past those of the same bytes; where
 -- it is exact, each store lies in its word
 pub record IndexesBy (t : List Event) (n : ℕ) (latest others other_bytes : List ℕ) (exact : Bool) : Type 0 where

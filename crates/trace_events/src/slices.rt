@@ -5,7 +5,7 @@ ghost use Rattle.std.specs.Fmt.{decimal};
 ghost use Rattle.std.specs.Option.{option_copied};
 ghost use Rattle.pages.specs.Memory.{width_bytes};
 ghost use Rattle.report_lines.specs.Text.{mode_text, number_text, ordering_text, phase_text, set_number};
-ghost use Rattle.trace_events.specs.Slices.{arguments_text, count_of_part, event_text, fence_text, name_text, operands_text, opens, ordering_member, round_text, same_round, same_serial, serial_text, slice_start};
+ghost use Rattle.trace_events.specs.Slices.{arguments_text, count_of_slice, event_text, fence_text, name_text, operands_text, opens, ordering_member, round_text, same_round, same_serial, serial_text, slice_start};
 
 use pages::{OutOfMemory, Width};
 use report_lines::Line;
@@ -216,12 +216,12 @@ pub(crate) fn track_of(hart: u8) -> u64
     u64::from(hart) + 1
 }
 
-/// Adds the slice of the event at a place.
+/// Adds the slice of the event at an index.
 #[tactic(auto, unfolding(crate::specs::Slices::event_text))]
-pub(crate) fn add_event(line: &mut Line, place: u64, event: &Event) -> Result<(), OutOfMemory>
-    ensures { OnOk result (line.new ≡ line.old ++ event_text place event.now) }
+pub(crate) fn add_event(line: &mut Line, index: u64, event: &Event) -> Result<(), OutOfMemory>
+    ensures { OnOk result (line.new ≡ line.old ++ event_text index event.now) }
 {
-    add_slice(line, track_of(event.hart), place, 1)?;
+    add_slice(line, track_of(event.hart), index, 1)?;
     line.text(name(&event.access))?;
     line.text("\",\"args\":{\"round\":")?;
     line.decimal(u64::from(event.round))?;
@@ -267,7 +267,7 @@ fn opens_serial(before: Option<&Event>, event: &Event) -> bool
 
 /// How many events the round has that begins with this one.
 fn count_of_round(event: &Event, rest: &[Event]) -> u64
-    ensures { result ≡ count_of_part same_round event.now rest.now }
+    ensures { result ≡ count_of_slice same_round event.now rest.now }
 {
     let mut count = 1;
     for other in rest {
@@ -281,7 +281,7 @@ fn count_of_round(event: &Event, rest: &[Event]) -> u64
 
 /// How many events the serial phase has that begins with this one.
 fn count_of_serial(event: &Event, rest: &[Event]) -> u64
-    ensures { result ≡ count_of_part same_serial event.now rest.now }
+    ensures { result ≡ count_of_slice same_serial event.now rest.now }
 {
     let mut count = 1;
     for other in rest {
@@ -297,18 +297,18 @@ fn count_of_serial(event: &Event, rest: &[Event]) -> u64
 #[tactic(auto, unfolding(crate::specs::Slices::round_text))]
 pub(crate) fn add_round(
     line: &mut Line,
-    place: u64,
+    index: u64,
     before: Option<&Event>,
     event: &Event,
     rest: &[Event],
 ) -> Result<(), OutOfMemory>
     ensures { OnOk result (line.new ≡
-        line.old ++ round_text place (option_copied before.entry) event.now rest.now) }
+        line.old ++ round_text index (option_copied before.entry) event.now rest.now) }
 {
     if !opens_round(before, event) {
         return Ok(());
     }
-    add_slice(line, 0, place, count_of_round(event, rest))?;
+    add_slice(line, 0, index, count_of_round(event, rest))?;
     line.text("round ")?;
     line.decimal(u64::from(event.round))?;
     line.text("\"}")
@@ -318,17 +318,17 @@ pub(crate) fn add_round(
 #[tactic(auto, unfolding(crate::specs::Slices::serial_text))]
 pub(crate) fn add_serial(
     line: &mut Line,
-    place: u64,
+    index: u64,
     before: Option<&Event>,
     event: &Event,
     rest: &[Event],
 ) -> Result<(), OutOfMemory>
     ensures { OnOk result (line.new ≡
-        line.old ++ serial_text place (option_copied before.entry) event.now rest.now) }
+        line.old ++ serial_text index (option_copied before.entry) event.now rest.now) }
 {
     if event.phase != Phase::Serial || !opens_serial(before, event) {
         return Ok(());
     }
-    add_slice(line, 0, place, count_of_serial(event, rest))?;
+    add_slice(line, 0, index, count_of_serial(event, rest))?;
     line.text("serial phase\"}")
 }

@@ -12,7 +12,7 @@ use pages::OutOfMemory;
 use round_schedule::{Access, Event};
 use std::alloc::Global;
 
-/// The stores among the first events of a trace, by the words of 8 bytes that they write to. Places are counted from 1 here; 0 says
+/// The stores among the first events of a trace, by the words of 8 bytes that they write to. Indexes are counted from 1 here; 0 says
 /// that there is none.
 ///
 /// From a store that doesn't give a byte one goes back past all that don't for the same reason. So a hart that polls a word which
@@ -47,12 +47,12 @@ impl Writers {
     }
 
     /// Adds the event that comes next.
-    pub(crate) fn add(&mut self, events: &[Event], place: usize) -> Result<(), OutOfMemory>
-        requires place { place < length events.now }
-        requires before { Indexes events.now place self.old }
-        ensures { OnOk result (Indexes events.now (place + 1) self.new) }
+    pub(crate) fn add(&mut self, events: &[Event], index: usize) -> Result<(), OutOfMemory>
+        requires index { index < length events.now }
+        requires before { Indexes events.now index self.old }
+        ensures { OnOk result (Indexes events.now (index + 1) self.new) }
     {
-        let access = &event_at(events, place).access;
+        let access = &event_at(events, index).access;
         if !access.stores() {
             return self.note(0, 0);
         }
@@ -62,9 +62,9 @@ impl Writers {
             return self.note(0, 0);
         }
         let before = self.last[word];
-        let of_others = past_own(&self.of_others, events, place, before);
-        let of_other_bytes = past_same_bytes(&self.of_other_bytes, events, place, before);
-        self.last[word] = place + 1;
+        let of_others = past_own(&self.of_others, events, index, before);
+        let of_other_bytes = past_same_bytes(&self.of_other_bytes, events, index, before);
+        self.last[word] = index + 1;
         self.note(of_others, of_other_bytes)
     }
 
@@ -81,35 +81,35 @@ impl Writers {
         push(&mut self.of_other_bytes, of_other_bytes)
     }
 
-    /// The place of the store that a byte of the event at a place is from; `None` where it is as memory opened.
+    /// The index of the store that a byte of the event at an index is from; `None` where it is as memory opened.
     #[tactic(auto, unfolding(byte_sources::specs::Sources::source))]
-    pub(crate) fn source(&self, events: &[Event], place: usize, byte: u64) -> Option<usize>
-        requires place { place < length events.now }
-        requires before { Indexes events.now place self.now }
-        ensures { result ≡ source events.now place byte }
+    pub(crate) fn source(&self, events: &[Event], index: usize, byte: u64) -> Option<usize>
+        requires index { index < length events.now }
+        requires before { Indexes events.now index self.now }
+        ensures { result ≡ source events.now index byte }
     {
         let word = (byte / 8) as usize;
         if self.exact && word < self.last.len() {
-            self.walk(events, place, byte, self.last[word])
+            self.walk(events, index, byte, self.last[word])
         } else {
-            look_back(events, place, byte)
+            look_back(events, index, byte)
         }
     }
 
     /// The same, from the last store to the word on, and from each past those that don't give the byte for the same reason.
-    fn walk(&self, events: &[Event], place: usize, byte: u64, last: usize) -> Option<usize>
-        requires place { place < length events.now }
-        requires before { Indexes events.now place self.now }
+    fn walk(&self, events: &[Event], index: usize, byte: u64, last: usize) -> Option<usize>
+        requires index { index < length events.now }
+        requires before { Indexes events.now index self.now }
         requires exact { self.now.exact ≡ true }
         requires word { byte / 8 < length self.now.last.items }
-        requires last { last ≡ after_last (stores_word events.now (byte / 8)) place }
-        ensures { result ≡ last_below (gives events.now (event events.now place) byte) place }
+        requires last { last ≡ after_last (stores_word events.now (byte / 8)) index }
+        ensures { result ≡ last_below (gives events.now (event events.now index) byte) index }
     {
         let mut next = last;
         while next > 0 {
             let writer = next - 1;
             let store = event_at(events, writer);
-            if !sees(event_at(events, place), store) {
+            if !sees(event_at(events, index), store) {
                 next = self.of_others[writer];
             } else if !writes(&store.access, byte) {
                 next = self.of_other_bytes[writer];
@@ -122,13 +122,13 @@ impl Writers {
 }
 
 /// From an event past the stores before it to the same word, of which the last is `before`, that its hart did in its round.
-fn past_own(of_others: &[usize], events: &[Event], place: usize, before: usize) -> usize
-    requires place { place < length events.now }
-    requires before { before ≤ place }
-    requires size { length of_others.now ≡ place }
-    ensures { result ≡ past is_same_doer events.now of_others.now place before }
+fn past_own(of_others: &[usize], events: &[Event], index: usize, before: usize) -> usize
+    requires index { index < length events.now }
+    requires before { before ≤ index }
+    requires size { length of_others.now ≡ index }
+    ensures { result ≡ past is_same_doer events.now of_others.now index before }
 {
-    if before > 0 && is_same_doer(event_at(events, before - 1), event_at(events, place)) {
+    if before > 0 && is_same_doer(event_at(events, before - 1), event_at(events, index)) {
         of_others[before - 1]
     } else {
         before
@@ -136,13 +136,13 @@ fn past_own(of_others: &[usize], events: &[Event], place: usize, before: usize) 
 }
 
 /// The same past those of the same bytes.
-fn past_same_bytes(of_other_bytes: &[usize], events: &[Event], place: usize, before: usize) -> usize
-    requires place { place < length events.now }
-    requires before { before ≤ place }
-    requires size { length of_other_bytes.now ≡ place }
-    ensures { result ≡ past is_same_bytes events.now of_other_bytes.now place before }
+fn past_same_bytes(of_other_bytes: &[usize], events: &[Event], index: usize, before: usize) -> usize
+    requires index { index < length events.now }
+    requires before { before ≤ index }
+    requires size { length of_other_bytes.now ≡ index }
+    ensures { result ≡ past is_same_bytes events.now of_other_bytes.now index before }
 {
-    if before > 0 && is_same_bytes(event_at(events, before - 1), event_at(events, place)) {
+    if before > 0 && is_same_bytes(event_at(events, before - 1), event_at(events, index)) {
         of_other_bytes[before - 1]
     } else {
         before
@@ -175,31 +175,31 @@ fn push(list: &mut Vec<usize>, number: usize) -> Result<(), OutOfMemory>
 }
 
 /// The same, by all events before it.
-fn look_back(events: &[Event], place: usize, byte: u64) -> Option<usize>
-    requires { place < length events.now }
-    ensures { result ≡ last_below (gives events.now (event events.now place) byte) place }
+fn look_back(events: &[Event], index: usize, byte: u64) -> Option<usize>
+    requires { index < length events.now }
+    ensures { result ≡ last_below (gives events.now (event events.now index) byte) index }
 {
-    let mut before = place;
+    let mut before = index;
     while before > 0 {
         before -= 1;
-        if gives(event_at(events, before), event_at(events, place), byte) {
+        if gives(event_at(events, before), event_at(events, index), byte) {
             return Some(before);
         }
     }
     None
 }
 
-/// The event at a place.
-fn event_at(events: &[Event], place: usize) -> &Event
-    requires { place < length events.now }
-    ensures { result.now ≡ event events.now place }
+/// The event at an index.
+fn event_at(events: &[Event], index: usize) -> &Event
+    requires { index < length events.now }
+    ensures { result.now ≡ event events.now index }
 {
-    &events[place]
+    &events[index]
 }
 
 /// Whether stores lie in one word each, as they did before, also with this access.
 fn stays_exact(exact: bool, access: &Access) -> bool
-    ensures kept { IsTrue result → IsTrue exact }
+    ensures still { IsTrue result → IsTrue exact }
     ensures lies { IsTrue result → address_of access.now % 8 + bytes_of access.now ≤ 8 }
 {
     exact && access.address() % 8 + access.byte_count() <= 8

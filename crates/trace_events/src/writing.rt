@@ -7,7 +7,7 @@ ghost use Rattle.round_schedule.specs.Accesses.{address_of};
 ghost use Rattle.round_schedule.specs.Positions.{event};
 ghost use Rattle.trace.specs.Traced.{IsTrace};
 ghost use Rattle.report.specs.Pending.{Puts};
-ghost use Rattle.trace_events.specs.TraceEvents.{before_place, entries_text, entry_text, head_text, trace_events_text, track_text, tracks_text};
+ghost use Rattle.trace_events.specs.TraceEvents.{before_index, entries_text, entry_text, head_text, trace_events_text, track_text, tracks_text};
 ghost use Rattle.trace_events.specs.Writers.{Indexes};
 
 use crate::flows::add_flows;
@@ -60,57 +60,57 @@ fn add_head(line: &mut Line, harts: u32) -> Result<(), OutOfMemory>
     add_tracks(line, 0, u64::from(harts))
 }
 
-/// Adds what stands of the event at a place.
+/// Adds what stands of the event at an index.
 #[tactic(auto, unfolding(crate::specs::TraceEvents::entry_text))]
 fn add_entry(
     alloc: Global,
     line: &mut Line,
     events: &[Event],
     writers: &Writers,
-    place: usize,
+    index: usize,
     before: Option<&Event>,
 ) -> Result<(), OutOfMemory>
-    requires place { place < length events.now }
-    requires before { Indexes events.now place writers.now }
-    requires low { address_of (event events.now place).access < 2 ^ 32 }
-    ensures { OnOk result (line.new ≡ line.old ++ entry_text events.now place
-        (option_copied before.entry) (event events.now place) (drop (place + 1) events.now)) }
+    requires index { index < length events.now }
+    requires before { Indexes events.now index writers.now }
+    requires low { address_of (event events.now index).access < 2 ^ 32 }
+    ensures { OnOk result (line.new ≡ line.old ++ entry_text events.now index
+        (option_copied before.entry) (event events.now index) (drop (index + 1) events.now)) }
 {
-    let event = &events[place];
-    let rest = &events[place + 1..];
-    add_round(line, place as u64, before, event, rest)?;
-    add_serial(line, place as u64, before, event, rest)?;
-    add_event(line, place as u64, event)?;
-    add_flows(alloc, line, events, writers, place)
+    let event = &events[index];
+    let rest = &events[index + 1..];
+    add_round(line, index as u64, before, event, rest)?;
+    add_serial(line, index as u64, before, event, rest)?;
+    add_event(line, index as u64, event)?;
+    add_flows(alloc, line, events, writers, index)
 }
 
-/// The event before a place.
-fn event_before(events: &[Event], place: usize) -> Option<&Event>
-    requires { place ≤ length events.now }
-    ensures { option_copied result ≡ before_place events.now place }
+/// The event before an index.
+fn event_before(events: &[Event], index: usize) -> Option<&Event>
+    requires { index ≤ length events.now }
+    ensures { option_copied result ≡ before_index events.now index }
 {
-    match place {
+    match index {
         0 => None,
-        _ => Some(&events[place - 1]),
+        _ => Some(&events[index - 1]),
     }
 }
 
-/// Puts what stands of the event at a place.
+/// Puts what stands of the event at an index.
 fn put_entry<S: Sink>(
     alloc: Global,
     out: &mut S,
     line: &mut Line,
     events: &[Event],
     writers: &Writers,
-    place: usize,
+    index: usize,
 ) -> Result<(), RunError>
-    requires place { place < length events.now }
-    requires before { Indexes events.now place writers.now }
-    requires low { address_of (event events.now place).access < 2 ^ 32 }
-    ensures { Puts S.took S.failures (entry_text events.now place (before_place events.now place) (event events.now place) (drop (place + 1) events.now)) out.old line.old result out.new line.new }
+    requires index { index < length events.now }
+    requires before { Indexes events.now index writers.now }
+    requires low { address_of (event events.now index).access < 2 ^ 32 }
+    ensures { Puts S.took S.failures (entry_text events.now index (before_index events.now index) (event events.now index) (drop (index + 1) events.now)) out.old line.old result out.new line.new }
 {
-    let before = event_before(events, place);
-    add_entry(alloc, line, events, writers, place, before)?;
+    let before = event_before(events, index);
+    add_entry(alloc, line, events, writers, index, before)?;
     put_long(out, line)
 }
 
@@ -126,9 +126,9 @@ fn put_entries<S: Sink>(
     requires sound { IsTrace events.now }
     ensures { Puts S.took S.failures (entries_text events.now 0 None events.now) out.old line.old result out.new line.new }
 {
-    for place in 0..events.len() {
-        put_entry(alloc, out, line, events, &writers, place)?;
-        writers.add(events, place)?;
+    for index in 0..events.len() {
+        put_entry(alloc, out, line, events, &writers, index)?;
+        writers.add(events, index)?;
     }
     Ok(())
 }
@@ -172,7 +172,7 @@ fn put_trace<S: Sink>(
 /// Writes a trace of a run on so many harts, with memory of so many pages, as JSON in the format of Chrome's trace events: piece by
 /// piece, so that no second copy of a large text is made.
 ///
-/// Each event is a slice on its hart's track, at the microsecond of its place in the trace. Each round and each serial phase that
+/// Each event is a slice on its hart's track, at the microsecond of its index in the trace. Each round and each serial phase that
 /// have events are slices on a track of their own. Each store has a flow to each event that read a byte of it.
 ///
 /// # Errors

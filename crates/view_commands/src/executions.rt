@@ -156,13 +156,13 @@ fn sites_of<'a>(
     let format = if file.flat { Format::Flat } else { Format::Elf };
     let mut sites = Vec::new(alloc);
     for position in positions {
-        let place = checked.order.0.get(*position).copied();
-        let place = place.unwrap_or(usize::MAX);
-        let object = match checked.execution.events().get(place) {
+        let index = checked.order.0.get(*position).copied();
+        let index = index.unwrap_or(usize::MAX);
+        let object = match checked.execution.events().get(index) {
             Some(event) => object_touched(format, &file.image, event),
             None => None,
         };
-        let pc = checked.sights.pcs.get(place).copied();
+        let pc = checked.sights.pcs.get(index).copied();
         sites.push(Site { pc, object })?;
     }
     Ok(sites)

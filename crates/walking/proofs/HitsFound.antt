@@ -7,10 +7,10 @@ use Rattle.round_schedule.specs.declared.access.Access.{Access}
 use Rattle.round_schedule.specs.declared.access.Stepped.{Stepped}
 use Rattle.round_schedule.specs.declared.access.Stepped.TheVariants.{Done, Waits, Stopped}
 use Rattle.round_schedule.specs.Past.{last_of}
-use Rattle.round_schedule.specs.Schedule.{Outcome, Words}
+use Rattle.round_schedule.specs.Schedule.{StepOutcome, Words}
 use Rattle.rv64_decode.specs.declared.instruction.Instr.{Instr}
 use Rattle.hart_step.specs.declared.hart.Hart.{Hart}
-use Rattle.hart_step.specs.CodeTables.{Shows}
+use Rattle.hart_step.specs.DecodedCode.{Shows}
 use Rattle.hart_step.specs.Step.{stepped}
 use Rattle.hart_step.specs.Words.{words_of}
 use Rattle.hart_step.proofs.Shown.{shows_step}
@@ -24,7 +24,7 @@ rest code n h m = harts_in_part code n (sight_of h m)
 
 -- ---- the rest, by the next instruction
 
-by_outcome : {H C : Type 0} (w : Words H C) (n : ℕ) (s : Sight H) (o : Outcome H) → next_seen w s ≡ o → w.stopped s.hart ≡ false → part_sights w (suc n) s ≡ part_by o.answer s o (part_sights w n)
+by_outcome : {H C : Type 0} (w : Words H C) (n : ℕ) (s : Sight H) (o : StepOutcome H) → next_seen w s ≡ o → w.stopped s.hart ≡ false → part_sights w (suc n) s ≡ part_by o.answer s o (part_sights w n)
 unfolding part_sights
 by_outcome w n s o e hs = rw (hs, e) refl
 

@@ -11,7 +11,7 @@ use Rattle.round_schedule.specs.declared.access.Stepped.TheVariants.{Done, Waits
 use Rattle.round_schedule.specs.declared.event.Event.{Event}
 use Rattle.round_schedule.specs.Accesses.{place_of}
 use Rattle.hart_step.specs.declared.hart.Hart.{Hart}
-use Rattle.hart_step.specs.CodeTables.{Shows}
+use Rattle.hart_step.specs.DecodedCode.{Shows}
 use Rattle.hart_step.specs.Step.{stepped}
 use Rattle.hart_step.specs.Words.{words_of}
 use Rattle.hart_step.proofs.Shown.{shows_step}
@@ -155,12 +155,12 @@ one_more f xs i d a front old new lt o n e =
 pub with_its_pc : (quota k first : ℕ) (words : List Instr) (h₀ : Hart) (m₀ : Memory) (h : Hart) (m : Memory) → GoesOn quota k first words h₀ m₀ h m → (events : List Event) (i : ℕ) (d : Event) (count : ℕ) (pc : Option ℕ) (front old new : List (Option ℕ)) →
     i < length events → k ≤ count → count ≡ place_of (get_or events i d).access - h₀.done → pc ≡ pc_after (rest m.code (quota - k) h m) (count - k) →
     old ≡ front ++ map (pc_in h₀.done (rest m₀.code quota h₀ m₀)) (take i events) → new ≡ old ++ pc ∷ [] → new ≡ front ++ map (pc_in h₀.done (rest m₀.code quota h₀ m₀)) (take (i + 1) events)
-with_its_pc quota k first words h₀ m₀ h m on events i d count pc front old new lt le places is so_far added =
+with_its_pc quota k first words h₀ m₀ h m on events i d count pc front old new lt le indexes is so_far added =
     let there : pc ≡ pc_after (rest m₀.code quota h₀ m₀) count = pc_further quota k first words h₀ m₀ h m on (count - k) count pc (omega (arith, le)) is in
-    one_more (pc_in h₀.done (rest m₀.code quota h₀ m₀)) events i d pc front old new lt so_far added (there ∙ ap (pc_after (rest m₀.code quota h₀ m₀)) places)
+    one_more (pc_in h₀.done (rest m₀.code quota h₀ m₀)) events i d pc front old new lt so_far added (there ∙ ap (pc_after (rest m₀.code quota h₀ m₀)) indexes)
 
-pub its_count : (count place place2 before : ℕ) → count ≡ place - before → place ≡ place2 → count ≡ place2 - before
-its_count count place place2 before e same = e ∙ ap (λ (p : ℕ). p - before) same
+pub its_count : (count index place2 before : ℕ) → count ≡ index - before → index ≡ place2 → count ≡ place2 - before
+its_count count index place2 before e same = e ∙ ap (λ (p : ℕ). p - before) same
 
 pub where_some : (pc : Option ℕ) (P : Type 0) → is_some pc ≡ true → IfSome pc (λ _. P) → P
 where_some None P e p = absurd cc

@@ -5,19 +5,19 @@ use Rattle.pages.specs.Memory.{Memory, stored}
 use Rattle.round_schedule.specs.declared.access.Access.{Access}
 use Rattle.round_schedule.specs.declared.access.Stepped.{Stepped}
 use Rattle.round_schedule.specs.declared.access.Stepped.TheVariants.{Done, Waits, Stopped}
-use Rattle.round_schedule.specs.Schedule.{Outcome, Words}
+use Rattle.round_schedule.specs.Schedule.{StepOutcome, Words}
 use Rattle.hart_step.specs.declared.hart.Hart.{Hart}
 use Rattle.hart_step.specs.Step.{stepped}
 use Rattle.hart_step.specs.Words.{words_of}
 use Rattle.moments.specs.Moves.{moved_by, part_moves}
 use Rattle.moments.specs.Sights.{Sight, next_seen}
-use Rattle.walking.specs.Stops.{begins_at, first_place, is_one_of, later, sight_of}
+use Rattle.walking.specs.Stops.{begins_at, first_index, is_one_of, later, sight_of}
 
--- the place of the first move that stops, of at most n
-abbrev pub place : List Range → List ℕ → ℕ → Hart → Memory → Option ℕ
-place code stops n h m = first_place (begins_at stops) (part_moves (words_of code) 0 n (sight_of h m))
+-- the index of the first move that stops, of at most n
+abbrev pub index : List Range → List ℕ → ℕ → Hart → Memory → Option ℕ
+index code stops n h m = first_index (begins_at stops) (part_moves (words_of code) 0 n (sight_of h m))
 
--- a place after k others
+-- an index after k others
 abbrev pub counted : ℕ → Option ℕ → Option ℕ
 counted k None = None
 counted k (Some n) = Some (k + n)
@@ -30,7 +30,7 @@ counted_later k (Some n) = ap Some (omega arith)
 pub record On (m₀ : Memory) (h₀ : Hart) (stops : List ℕ) (quota k : ℕ) (m : Memory) (h : Hart) : Type 0 where
   pub code : m.code ≡ m₀.code
   pub within : k ≤ quota
-  pub rest : place m₀.code stops quota h₀ m₀ ≡ counted k (place m₀.code stops (quota - k) h m)
+  pub rest : index m₀.code stops quota h₀ m₀ ≡ counted k (index m₀.code stops (quota - k) h m)
 
 counted_zero : (p : Option ℕ) → counted 0 p ≡ p
 counted_zero None = refl
@@ -39,9 +39,9 @@ counted_zero (Some n) = ap Some (omega arith)
 pub begins : (m : Memory) (h : Hart) (stops : List ℕ) (quota : ℕ) → On m h stops quota 0 m h
 begins m h stops quota =
     let all : quota - 0 ≡ quota = omega arith in
-    record { code = refl; within = omega arith; rest = sym (ap (λ (n : ℕ). counted 0 (place m.code stops n h m)) all ∙ counted_zero (place m.code stops quota h m)) }
+    record { code = refl; within = omega arith; rest = sym (ap (λ (n : ℕ). counted 0 (index m.code stops n h m)) all ∙ counted_zero (index m.code stops quota h m)) }
 
-by_outcome : {H C : Type 0} (w : Words H C) (n : ℕ) (s : Sight H) (o : Outcome H) → next_seen w s ≡ o → w.stopped s.hart ≡ false → part_moves w 0 (suc n) s ≡ moved_by 0 o.answer s o (part_moves w 0 n)
+by_outcome : {H C : Type 0} (w : Words H C) (n : ℕ) (s : Sight H) (o : StepOutcome H) → next_seen w s ≡ o → w.stopped s.hart ≡ false → part_moves w 0 (suc n) s ≡ moved_by 0 o.answer s o (part_moves w 0 n)
 unfolding part_moves
 by_outcome w n s o e hs = rw (hs, e) refl
 
@@ -49,12 +49,12 @@ pub is_next : (code : List Range) (h : Hart) (m : Memory) → m.code ≡ code �
 is_next code h m e = ap (λ (c : List Range). stepped h (record { bytes = m.bytes; code = c })) (sym e)
 
 place_by : (code : List Range) (stops : List ℕ) (n : ℕ) (h : Hart) (m : Memory) (a : Stepped) → m.code ≡ code → h.stop ≡ None → (stepped h m).answer ≡ a →
-    place code stops (suc n) h m ≡ first_place (begins_at stops) (moved_by 0 a (sight_of h m) (stepped h m) (part_moves (words_of code) 0 n))
+    index code stops (suc n) h m ≡ first_index (begins_at stops) (moved_by 0 a (sight_of h m) (stepped h m) (part_moves (words_of code) 0 n))
 place_by code stops n h m a e hs ha =
-    ap (first_place (begins_at stops)) (by_outcome (words_of code) n (sight_of h m) (stepped h m) (is_next code h m e) (ap is_some hs))
-    ∙ ap (λ (x : Stepped). first_place (begins_at stops) (moved_by 0 x (sight_of h m) (stepped h m) (part_moves (words_of code) 0 n))) ha
+    ap (first_index (begins_at stops)) (by_outcome (words_of code) n (sight_of h m) (stepped h m) (is_next code h m e) (ap is_some hs))
+    ∙ ap (λ (x : Stepped). first_index (begins_at stops) (moved_by 0 x (sight_of h m) (stepped h m) (part_moves (words_of code) 0 n))) ha
 
-stopped_place : (code : List Range) (stops : List ℕ) (n : ℕ) (h : Hart) (m : Memory) → is_some h.stop ≡ true → place code stops n h m ≡ None
+stopped_place : (code : List Range) (stops : List ℕ) (n : ℕ) (h : Hart) (m : Memory) → is_some h.stop ≡ true → index code stops n h m ≡ None
 unfolding part_moves
 stopped_place code stops zero h m hs = refl
 stopped_place code stops (suc n) h m hs = rw hs refl
@@ -64,20 +64,20 @@ suc_left quota k lt = omega (arith, lt)
 
 module _ (m₀ : Memory) (h₀ : Hart) (stops : List ℕ) (quota k : ℕ) (m : Memory) (h : Hart) (on : On m₀ h₀ stops quota k m h) where
   abbrev all : Option ℕ
-  all = place m₀.code stops quota h₀ m₀
+  all = index m₀.code stops quota h₀ m₀
 
   here_by : (a : Stepped) → k < quota → h.stop ≡ None → (stepped h m).answer ≡ a →
-      all ≡ counted k (first_place (begins_at stops) (moved_by 0 a (sight_of h m) (stepped h m) (part_moves (words_of m₀.code) 0 (quota - (k + 1)))))
+      all ≡ counted k (first_index (begins_at stops) (moved_by 0 a (sight_of h m) (stepped h m) (part_moves (words_of m₀.code) 0 (quota - (k + 1)))))
   here_by a lt hs ha =
       on.rest
-      ∙ ap (λ (n : ℕ). counted k (place m₀.code stops n h m)) (suc_left quota k lt)
+      ∙ ap (λ (n : ℕ). counted k (index m₀.code stops n h m)) (suc_left quota k lt)
       ∙ ap (counted k) (place_by m₀.code stops (quota - (k + 1)) h m a on.code hs ha)
 
   pub at_end : quota ≤ k → None ≡ all
   unfolding part_moves
   at_end le =
       let z : quota - k ≡ 0 = omega (arith, le) in
-      sym (on.rest ∙ ap (λ (n : ℕ). counted k (place m₀.code stops n h m)) z)
+      sym (on.rest ∙ ap (λ (n : ℕ). counted k (index m₀.code stops n h m)) z)
 
   pub is_stopped : is_some h.stop ≡ true → None ≡ all
   is_stopped hs = sym (on.rest ∙ ap (counted k) (stopped_place m₀.code stops (quota - k) h m hs))
@@ -101,9 +101,9 @@ module _ (m₀ : Memory) (h₀ : Hart) (stops : List ℕ) (quota k : ℕ) (m : M
     within = omega (arith, lt);
     rest =
         here_by (Done a) lt hs ha
-        ∙ rw t (counted_later k (place m₀.code stops (quota - (k + 1)) (stepped h m).hart (stored m (stepped h m).stores)))
-        ∙ ap (λ (x : Hart). counted (k + 1) (place m₀.code stops (quota - (k + 1)) x (stored m (stepped h m).stores))) (sym he)
-        ∙ ap (λ (n : Memory). counted (k + 1) (place m₀.code stops (quota - (k + 1)) h₁ n)) (sym me);
+        ∙ rw t (counted_later k (index m₀.code stops (quota - (k + 1)) (stepped h m).hart (stored m (stepped h m).stores)))
+        ∙ ap (λ (x : Hart). counted (k + 1) (index m₀.code stops (quota - (k + 1)) x (stored m (stepped h m).stores))) (sym he)
+        ∙ ap (λ (n : Memory). counted (k + 1) (index m₀.code stops (quota - (k + 1)) h₁ n)) (sym me);
   }
 
 pub running : {A : Type 0} (x : Option A) → is_some x ≡ false → x ≡ None

@@ -5,7 +5,7 @@ use Rattle.rv64_decode.specs.declared.instruction.Instr.{Instr}
 use Rattle.round_schedule.specs.declared.event.Event.{Event}
 use Rattle.round_schedule.specs.Accesses.{place_of}
 use Rattle.hart_step.specs.declared.hart.Hart.{Hart}
-use Rattle.hart_step.specs.CodeTables.{Shows}
+use Rattle.hart_step.specs.DecodedCode.{Shows}
 use Rattle.walking.specs.Hits.{harts_in_part}
 use Rattle.walking.specs.Stops.{sight_of}
 
@@ -25,7 +25,7 @@ pub record ComeInOrder (before : ℕ) (part : List Hart) (es : List Event) : Typ
   pub later : (k : ℕ) (d : Event) → suc k < length es → place_of (get_or es k d).access - before < place_of (get_or es (suc k) d).access - before
   pub there : All (λ (e : Event). is_some (pc_in before part e) ≡ true) es
 
--- n instructions of a part of at most `quota` are done, and the rest of it is the part that begins here; the words of a table are still those of memory
+-- n instructions of a part of at most `quota` are done, and the rest of it is the part that begins here; the words of a code are still those of memory
 pub record GoesOn (quota n first : ℕ) (words : List Instr) (h₀ : Hart) (m₀ : Memory) (h : Hart) (m : Memory) : Type 0 where
   pub code : m.code ≡ m₀.code
   pub within : n ≤ quota

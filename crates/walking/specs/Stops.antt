@@ -14,14 +14,14 @@ is_one_of stops pc = list_any (λ x. x == pc) stops
 abbrev pub begins_at : List ℕ → Move Hart → Bool
 begins_at stops m = is_one_of stops m.before.hart.pc
 
--- the place of the first move that passes a test, if there is one
+-- the index of the first move that passes a test, if there is one
 abbrev pub later : Option ℕ → Option ℕ
 later None = None
 later (Some k) = Some (suc k)
 
-abbrev pub first_place : {H : Type 0} → (Move H → Bool) → List (Move H) → Option ℕ
-first_place t [] = None
-first_place t (m ∷ ms) = if t m then Some 0 else later (first_place t ms)
+abbrev pub first_index : {H : Type 0} → (Move H → Bool) → List (Move H) → Option ℕ
+first_index t [] = None
+first_index t (m ∷ ms) = if t m then Some 0 else later (first_index t ms)
 
 -- a hart that sees this memory
 abbrev pub sight_of : Hart → Memory → Sight Hart

@@ -1,5 +1,5 @@
 ghost use Rattle.std.specs.Prelude.{◌≡◌, ◌++◌, ◌+◌, [], ◌∷◌, IfOk, OnOk, Some, length};
-ghost use Rattle.hart_step.specs.CodeTables.{Shows};
+ghost use Rattle.hart_step.specs.DecodedCode.{Shows};
 ghost use Rattle.round_schedule.specs.Past.{last_of};
 ghost use Rattle.walking.specs.Hits.{Walked, harts_in_part, hits_from, tells};
 ghost use Rattle.walking.specs.Quiet.{AreQuiet};
@@ -8,7 +8,7 @@ ghost use Rattle.walking.specs.Stops.{sight_of};
 use crate::asked::Asked;
 use crate::quiet::pass_over;
 use crate::stepping::step_by;
-use hart_step::{Bus, CodeTable, Hart};
+use hart_step::{Bus, DecodedCode, Hart};
 use pages::OutOfMemory;
 use round_schedule::Stepped;
 use std::alloc::Global;
@@ -23,8 +23,8 @@ pub struct PartHits {
 }
 
 /// Walks over the part of the parallel phase of hart `number`, and notes where something is told. The part may begin anywhere: it is that of the
-/// hart and the bytes that it sees now, of at most `quota` instructions. The hart is left as the part leaves it. `runs` are the
-/// `quiet_runs` of the table and of the addresses that are asked for.
+/// hart and the bytes that it sees now, of at most `quota` instructions. The hart is left as the part leaves it. `lengths` are the
+/// `quiet_lengths` of the decoded code and of the addresses that are asked for.
 ///
 /// # Errors
 ///
@@ -34,13 +34,13 @@ pub fn hits_in_part<B: Bus>(
     number: u32,
     h: &mut Hart,
     b: &mut B,
-    table: &CodeTable,
-    runs: &[u8],
+    code: &DecodedCode,
+    lengths: &[u8],
     quota: u32,
     asked: &Asked,
 ) -> Result<PartHits, OutOfMemory>
-    requires shows { Shows (B.memory b.old) table.now.first table.now.instructions }
-    requires quiet { AreQuiet asked.now.stops.items table.now.first table.now.instructions runs.now }
+    requires shows { Shows (B.memory b.old) code.now.first code.now.instructions }
+    requires quiet { AreQuiet asked.now.stops.items code.now.first code.now.instructions lengths.now }
     ensures counts { IfOk result (λ p. p.counts.items ≡ hits_from (tells asked.now number) 0
         (harts_in_part (B.memory b.old).code quota (sight_of h.old (B.memory b.old)))) }
     ensures done { IfOk result (λ p. length (harts_in_part (B.memory b.old).code quota
@@ -49,7 +49,7 @@ pub fn hits_in_part<B: Bus>(
         (sight_of h.old (B.memory b.old))) ≡ Some h.new) }
 {
     let mut counts = Vec::new(alloc);
-    let done = walk(number, h, b, table, runs, quota, asked, &mut counts)?;
+    let done = walk(number, h, b, code, lengths, quota, asked, &mut counts)?;
     note_end(number, h, done, asked, &mut counts)?;
     Ok(PartHits { counts, done })
 }
@@ -77,14 +77,14 @@ fn walk<B: Bus>(
     number: u32,
     h: &mut Hart,
     b: &mut B,
-    table: &CodeTable,
-    runs: &[u8],
+    code: &DecodedCode,
+    lengths: &[u8],
     quota: u32,
     asked: &Asked,
     counts: &mut Vec<u32>,
 ) -> Result<u32, OutOfMemory>
-    requires shows { Shows (B.memory b.old) table.now.first table.now.instructions }
-    requires quiet { AreQuiet asked.now.stops.items table.now.first table.now.instructions runs.now }
+    requires shows { Shows (B.memory b.old) code.now.first code.now.instructions }
+    requires quiet { AreQuiet asked.now.stops.items code.now.first code.now.instructions lengths.now }
     requires none { counts.old.items ≡ [] }
     ensures { IfOk result (λ done. Walked (tells asked.now number) (harts_in_part (B.memory b.old).code quota
         (sight_of h.old (B.memory b.old))) counts.new.items done h.new) }
@@ -94,12 +94,12 @@ fn walk<B: Bus>(
         if h.stop.is_some() {
             return Ok(done);
         }
-        done += pass_over(number, h, b, table, runs, quota - done, asked);
+        done += pass_over(number, h, b, code, lengths, quota - done, asked);
         if done >= quota {
             return Ok(done);
         }
         let told = asked.tells(number, h);
-        match step_by(h, b, table)? {
+        match step_by(h, b, code)? {
             Stepped::Waits => return Ok(done),
             Stepped::Stopped(_) => return Ok(done),
             Stepped::Done(_) => {}

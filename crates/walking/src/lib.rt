@@ -14,5 +14,5 @@ pub use asked::Asked;
 pub use decoding::decoded;
 pub use hits::{PartHits, hits_in_part};
 pub use pcs::add_pcs_in_part;
-pub use quiet::quiet_runs;
+pub use quiet::quiet_lengths;
 pub use walk::first_in_part;

@@ -1,11 +1,11 @@
 ghost use Rattle.std.specs.Prelude.{◌≡◌, ◌≤◌, ◌+◌, ◌++◌, IfOk, IfSome, length, map, take};
-ghost use Rattle.hart_step.specs.CodeTables.{Shows};
+ghost use Rattle.hart_step.specs.DecodedCode.{Shows};
 ghost use Rattle.walking.specs.Hits.{harts_in_part};
 ghost use Rattle.walking.specs.Pcs.{ComeInOrder, GoesOn, pc_after, pc_in};
 ghost use Rattle.walking.specs.Stops.{sight_of};
 
 use crate::stepping::step_by;
-use hart_step::{Bus, CodeTable, Hart};
+use hart_step::{Bus, DecodedCode, Hart};
 use pages::OutOfMemory;
 use round_schedule::{Event, Stepped};
 
@@ -20,12 +20,12 @@ use round_schedule::{Event, Stepped};
 pub fn add_pcs_in_part<B: Bus>(
     h: &mut Hart,
     b: &mut B,
-    table: &CodeTable,
+    code: &DecodedCode,
     quota: u32,
     events: &[Event],
     pcs: &mut Vec<Option<u64>>,
 ) -> Result<usize, OutOfMemory>
-    requires shows { Shows (B.memory b.old) table.now.first table.now.instructions }
+    requires shows { Shows (B.memory b.old) code.now.first code.now.instructions }
     requires some { 1 ≤ length events.now }
     ensures some { IfOk result (λ n. 1 ≤ n) }
     ensures few { IfOk result (λ n. n ≤ length events.now) }
@@ -43,7 +43,7 @@ pub fn add_pcs_in_part<B: Bus>(
         if count < u64::from(done) {
             return Ok(number);
         }
-        let pc = pc_there(h, b, table, quota - done, count - u64::from(done))?;
+        let pc = pc_there(h, b, code, quota - done, count - u64::from(done))?;
         pcs.push(pc)?;
         if pc.is_none() {
             return Ok(number + 1);
@@ -58,15 +58,15 @@ pub fn add_pcs_in_part<B: Bus>(
 fn pc_there<B: Bus>(
     h: &mut Hart,
     b: &mut B,
-    table: &CodeTable,
+    code: &DecodedCode,
     quota: u32,
     count: u64,
 ) -> Result<Option<u64>, OutOfMemory>
-    requires { Shows (B.memory b.old) table.now.first table.now.instructions }
+    requires { Shows (B.memory b.old) code.now.first code.now.instructions }
     ensures pc { IfOk result (λ pc. pc ≡ pc_after (harts_in_part (B.memory b.old).code quota
         (sight_of h.old (B.memory b.old))) count) }
     ensures rest { IfOk result (λ pc. IfSome pc (λ _.
-        GoesOn quota (count + 1) table.now.first table.now.instructions h.old (B.memory b.old) h.new
+        GoesOn quota (count + 1) code.now.first code.now.instructions h.old (B.memory b.old) h.new
         (B.memory b.new))) }
 {
     let mut done = 0;
@@ -75,7 +75,7 @@ fn pc_there<B: Bus>(
             return Ok(None);
         }
         let pc = h.pc;
-        match step_by(h, b, table)? {
+        match step_by(h, b, code)? {
             Stepped::Waits => return Ok(None),
             Stepped::Stopped(_) => return Ok(None),
             Stepped::Done(_) => {}

@@ -27,7 +27,7 @@ use Rattle.watching.specs.declared.watchpoint.Way.{Way}
 use Rattle.watching.specs.declared.watchpoint.Way.TheVariants.{On, Back}
 use Rattle.watching.specs.Watches.{access_hits, beside, changes, hit_at, hits_after, hits_of, is_rival, is_told, on_access, speaks_of, tells_changes, told_by, writes_in_part}
 use Rattle.watching.specs.Saved.{SavedBytes, bytes_from, saved_byte, saved_of}
-use Rattle.watching.specs.Events.{event_hits, hits_from, is_kept, seen_by, sees, tells, tells_by}
+use Rattle.watching.specs.Events.{event_hits, hits_from, touches_some, seen_by, sees, tells, tells_by}
 use Rattle.watching.specs.Events as found
 use Rattle.hart_step.specs.declared.hart.Hart.{Hart}
 use Rattle.hart_step.specs.Console.{ConsoleState}
@@ -163,51 +163,51 @@ got_some bs x b g = (slice_get_within bs x b g, get_or_from_slice_get bs x b 0 g
 -- ---- the events that are kept of some moves
 
 module _ {H : Type 0} (n : ℕ) (ws : List Watchpoint) where
-  abbrev kept : List (Move H) → List Event
-  kept e = filter (is_kept ws) (events_left n e)
+  abbrev touching : List (Move H) → List Event
+  touching e = filter (touches_some ws) (events_left n e)
 
   abbrev event : Move H → Access → Event
   event m a = event_of n m.hart m.phase a
 
-  kept_none : (m : Move H) (e : List (Move H)) → m.access ≡ None → kept (m ∷ e) ≡ kept e
-  kept_none m e h = rw h refl
+  touching_none : (m : Move H) (e : List (Move H)) → m.access ≡ None → touching (m ∷ e) ≡ touching e
+  touching_none m e h = rw h refl
 
-  kept_not : (m : Move H) (a : Access) (e : List (Move H)) → m.access ≡ Some a → is_kept ws (event m a) ≡ false → kept (m ∷ e) ≡ kept e
-  kept_not m a e h k = rw (h, k) refl
+  touching_not : (m : Move H) (a : Access) (e : List (Move H)) → m.access ≡ Some a → touches_some ws (event m a) ≡ false → touching (m ∷ e) ≡ touching e
+  touching_not m a e h k = rw (h, k) refl
 
-  kept_some : (m : Move H) (a : Access) (e : List (Move H)) → m.access ≡ Some a → is_kept ws (event m a) ≡ true → kept (m ∷ e) ≡ event m a ∷ kept e
-  kept_some m a e h k = rw (h, k) refl
+  touching_some : (m : Move H) (a : Access) (e : List (Move H)) → m.access ≡ Some a → touches_some ws (event m a) ≡ true → touching (m ∷ e) ≡ event m a ∷ touching e
+  touching_some m a e h k = rw (h, k) refl
 
-  kept_append : (e f : List (Move H)) → kept (e ++ f) ≡ kept e ++ kept f
-  kept_append e f = ap (filter (is_kept ws)) (flat_map-append (left_by n) e f) ∙ filter-append (is_kept ws) (events_left n e) (events_left n f)
+  touching_append : (e f : List (Move H)) → touching (e ++ f) ≡ touching e ++ touching f
+  touching_append e f = ap (filter (touches_some ws)) (flat_map-append (left_by n) e f) ∙ filter-append (touches_some ws) (events_left n e) (events_left n f)
 
   -- a test of moves that only those pass whose event is kept and passes a test of events
   abbrev AgreesOn : (Event → Bool) → (Move H → Bool) → Move H → Option Access → Type 0
   AgreesOn te tm m None = tm m ≡ false
-  AgreesOn te tm m (Some a) = (te (event m a) ≡ tm m) × (is_kept ws (event m a) ≡ false → tm m ≡ false)
+  AgreesOn te tm m (Some a) = (te (event m a) ≡ tm m) × (touches_some ws (event m a) ≡ false → tm m ≡ false)
 
-  any_kept_first : (te : Event → Bool) (tm : Move H → Bool) (m : Move H) (e : List (Move H)) (a : Option Access) → m.access ≡ a → AgreesOn te tm m a → list_any te (kept e) ≡ list_any tm e → list_any te (kept (m ∷ e)) ≡ list_any tm (m ∷ e)
-  any_kept_first te tm m e None h g ih = ap (list_any te) (kept_none m e h) ∙ ih ∙ sym (ap (λ (b : Bool). b || list_any tm e) g)
-  any_kept_first te tm m e (Some a) h g ih = by (is_kept ws (event m a)) refl
+  any_touching_first : (te : Event → Bool) (tm : Move H → Bool) (m : Move H) (e : List (Move H)) (a : Option Access) → m.access ≡ a → AgreesOn te tm m a → list_any te (touching e) ≡ list_any tm e → list_any te (touching (m ∷ e)) ≡ list_any tm (m ∷ e)
+  any_touching_first te tm m e None h g ih = ap (list_any te) (touching_none m e h) ∙ ih ∙ sym (ap (λ (b : Bool). b || list_any tm e) g)
+  any_touching_first te tm m e (Some a) h g ih = by (touches_some ws (event m a)) refl
     where
-      by : (t : Bool) → is_kept ws (event m a) ≡ t → list_any te (kept (m ∷ e)) ≡ list_any tm (m ∷ e)
-      by false k = ap (list_any te) (kept_not m a e h k) ∙ ih ∙ sym (ap (λ (b : Bool). b || list_any tm e) (g.1 k))
-      by true k = ap (list_any te) (kept_some m a e h k) ∙ ap (λ (b : Bool). b || list_any te (kept e)) g.0 ∙ ap (λ (b : Bool). tm m || b) ih
+      by : (t : Bool) → touches_some ws (event m a) ≡ t → list_any te (touching (m ∷ e)) ≡ list_any tm (m ∷ e)
+      by false k = ap (list_any te) (touching_not m a e h k) ∙ ih ∙ sym (ap (λ (b : Bool). b || list_any tm e) (g.1 k))
+      by true k = ap (list_any te) (touching_some m a e h k) ∙ ap (λ (b : Bool). b || list_any te (touching e)) g.0 ∙ ap (λ (b : Bool). tm m || b) ih
 
-  any_kept : (te : Event → Bool) (tm : Move H → Bool) → ((m : Move H) → AgreesOn te tm m m.access) → (e : List (Move H)) → list_any te (kept e) ≡ list_any tm e
-  any_kept te tm g [] = refl
-  any_kept te tm g (m ∷ e) = any_kept_first te tm m e m.access refl (g m) (any_kept te tm g e)
+  any_touching : (te : Event → Bool) (tm : Move H → Bool) → ((m : Move H) → AgreesOn te tm m m.access) → (e : List (Move H)) → list_any te (touching e) ≡ list_any tm e
+  any_touching te tm g [] = refl
+  any_touching te tm g (m ∷ e) = any_touching_first te tm m e m.access refl (g m) (any_touching te tm g e)
 
   -- ---- rivals
 
   module _ (w : Watchpoint) (wi : In w ws) where
-    not_spoken : (m : Move H) (a : Access) → is_kept ws (event m a) ≡ false → speaks_of w.range a ≡ false
+    not_spoken : (m : Move H) (a : Access) → touches_some ws (event m a) ≡ false → speaks_of w.range a ≡ false
     not_spoken m a k = any_none (λ (v : Watchpoint). speaks_of v.range a) w ws wi k
 
     part_agrees : (m : Move H) (a : Option Access) → m.access ≡ a → AgreesOn (found.writes_in_part w) (writes_in_part w) m a
     part_agrees m None h = rw h (and_last (tells_changes w.kind) (not (is_serial m.phase) && false) (and_last (not (is_serial m.phase)) false refl))
     part_agrees m (Some a) h =
-        let none = λ (k : is_kept ws (event m a) ≡ false). and_last (tells_changes w.kind) (not (is_serial m.phase) && (stores a && speaks_of w.range a)) (and_last (not (is_serial m.phase)) (stores a && speaks_of w.range a) (and_last (stores a) (speaks_of w.range a) (not_spoken m a k))) in
+        let none = λ (k : touches_some ws (event m a) ≡ false). and_last (tells_changes w.kind) (not (is_serial m.phase) && (stores a && speaks_of w.range a)) (and_last (not (is_serial m.phase)) (stores a && speaks_of w.range a) (and_last (stores a) (speaks_of w.range a) (not_spoken m a k))) in
         rw h (refl, none)
 
     own_agrees : (hart : ℕ) (m : Move H) (a : Option Access) → AgreesOn (found.writes_in_part w) (writes_in_part w) m a →
@@ -215,14 +215,14 @@ module _ {H : Type 0} (n : ℕ) (ws : List Watchpoint) where
     own_agrees hart m None g = and_last (m.hart == hart) (writes_in_part w m) g
     own_agrees hart m (Some a) g = (ap (λ (b : Bool). m.hart == hart && b) g.0, λ k. and_last (m.hart == hart) (writes_in_part w m) (g.1 k))
 
-    rival_same : (e : List (Move H)) (m : Move H) (a : Access) → m.access ≡ Some a → found.is_rival (kept e) (event m a) w ≡ is_rival e m w
+    rival_same : (e : List (Move H)) (m : Move H) (a : Access) → m.access ≡ Some a → found.is_rival (touching e) (event m a) w ≡ is_rival e m w
     rival_same e m a h =
         let agrees = λ (k : Move H). part_agrees k k.access refl in
-        ap (λ (b : Bool). b && (not (list_any (λ (f : Event). f.hart == m.hart && found.writes_in_part w f) (kept e)) && list_any (found.writes_in_part w) (kept e))) (part_agrees m (Some a) h).0
-        ∙ ap (λ (b : Bool). writes_in_part w m && (not b && list_any (found.writes_in_part w) (kept e)))
-        (any_kept (λ (f : Event). f.hart == m.hart && found.writes_in_part w f) (λ (k : Move H). k.hart == m.hart && writes_in_part w k) (λ k. own_agrees m.hart k k.access (agrees k)) e)
+        ap (λ (b : Bool). b && (not (list_any (λ (f : Event). f.hart == m.hart && found.writes_in_part w f) (touching e)) && list_any (found.writes_in_part w) (touching e))) (part_agrees m (Some a) h).0
+        ∙ ap (λ (b : Bool). writes_in_part w m && (not b && list_any (found.writes_in_part w) (touching e)))
+        (any_touching (λ (f : Event). f.hart == m.hart && found.writes_in_part w f) (λ (k : Move H). k.hart == m.hart && writes_in_part w k) (λ k. own_agrees m.hart k k.access (agrees k)) e)
         ∙ ap (λ (b : Bool). writes_in_part w m && (not (list_any (λ (k : Move H). k.hart == m.hart && writes_in_part w k) e) && b))
-        (any_kept (found.writes_in_part w) (writes_in_part w) agrees e)
+        (any_touching (found.writes_in_part w) (writes_in_part w) agrees e)
 
     -- ---- bytes
 
@@ -236,26 +236,26 @@ module _ {H : Type 0} (n : ℕ) (ws : List Watchpoint) where
       both false u c b = refl
 
       abbrev SameBytes : ℕ → List (Move H) → Type 0
-      SameBytes b e = seen_by (event m a) x b (kept e) ≡ over (visible m) x b e
+      SameBytes b e = seen_by (event m a) x b (touching e) ≡ over (visible m) x b e
 
       bytes_first : (b : ℕ) (k : Move H) (e : List (Move H)) (c : Option Access) → k.access ≡ c → ((d : ℕ) → SameBytes d e) → SameBytes b (k ∷ e)
       bytes_first b k e None h ih =
-          ap (seen_by (event m a) x b) (kept_none k e h) ∙ ih b
+          ap (seen_by (event m a) x b) (touching_none k e h) ∙ ih b
           ∙ ap (λ (d : ℕ). over (visible m) x d e) (sym (laid (visible m k) b))
           ∙ ap (λ (c : Option Access). over (visible m) x (if visible m k then wrote c x b else b) e) (sym h)
-      bytes_first b k e (Some c) h ih = by (is_kept ws (event k c)) refl
+      bytes_first b k e (Some c) h ih = by (touches_some ws (event k c)) refl
         where
           last : over (visible m) x (if visible m k then wrote (Some c) x b else b) e ≡ over (visible m) x b (k ∷ e)
           last = ap (λ (z : Option Access). over (visible m) x (if visible m k then wrote z x b else b) e) (sym h)
 
-          by : (t : Bool) → is_kept ws (event k c) ≡ t → SameBytes b (k ∷ e)
+          by : (t : Bool) → touches_some ws (event k c) ≡ t → SameBytes b (k ∷ e)
           by true t =
-              ap (seen_by (event m a) x b) (kept_some k c e h t) ∙ ih (if visible m k && writes c x then byte_written c x else b)
+              ap (seen_by (event m a) x b) (touching_some k c e h t) ∙ ih (if visible m k && writes c x then byte_written c x else b)
               ∙ ap (λ (d : ℕ). over (visible m) x d e) (both (visible m k) (writes c x) (byte_written c x) b)
               ∙ last
           by false t =
               let none : writes c x ≡ false = writes_none w.range c x inside (not_spoken k c t) in
-              ap (seen_by (event m a) x b) (kept_not k c e h t) ∙ ih b
+              ap (seen_by (event m a) x b) (touching_not k c e h t) ∙ ih b
               ∙ ap (λ (d : ℕ). over (visible m) x d e) (sym (laid (visible m k) b))
               ∙ ap (λ (u : Bool). over (visible m) x (if visible m k then (if u then byte_written c x else b) else b) e) (sym none)
               ∙ last
@@ -279,16 +279,16 @@ module _ {H : Type 0} (n : ℕ) (ws : List Watchpoint) where
       equal_not : (b c : ℕ) → b ≡ c → not (b == c) ≡ false
       equal_not b c s = ap (λ (d : ℕ). not (b == d)) (sym s) ∙ same_number b
 
-      change_inside : (x : ℕ) (u : Bool) → in_range w.range.start w.range.len x ≡ true → x < length start → writes a x ≡ u → found.changes_from (slice_index start x) (kept e) (event m a) x ≡ changes m x
+      change_inside : (x : ℕ) (u : Bool) → in_range w.range.start w.range.len x ≡ true → x < length start → writes a x ≡ u → found.changes_from (slice_index start x) (touching e) (event m a) x ≡ changes m x
       change_inside x true i lt u =
           let after : slice_index m.after.bytes x ≡ byte_written a x = sees_access.written x (omega (arith, lt, seen.size)) ∙ ap (λ (b : Bool). if b then byte_written a x else slice_index m.before.bytes x) u in
-          let before : seen_by (event m a) x (slice_index start x) (kept e) ≡ slice_index m.before.bytes x = bytes_same m a x i (slice_index start x) e ∙ sym (seen.bytes x lt) in
-          ap (λ (b : Bool). b && not (seen_by (event m a) x (slice_index start x) (kept e) == byte_written a x)) u
+          let before : seen_by (event m a) x (slice_index start x) (touching e) ≡ slice_index m.before.bytes x = bytes_same m a x i (slice_index start x) e ∙ sym (seen.bytes x lt) in
+          ap (λ (b : Bool). b && not (seen_by (event m a) x (slice_index start x) (touching e) == byte_written a x)) u
           ∙ ap (λ (b : ℕ). not (b == byte_written a x)) before
           ∙ ap (λ (b : ℕ). not (slice_index m.before.bytes x == b)) (sym after)
       change_inside x false i lt u =
           let after : slice_index m.after.bytes x ≡ slice_index m.before.bytes x = sees_access.written x (omega (arith, lt, seen.size)) ∙ ap (λ (b : Bool). if b then byte_written a x else slice_index m.before.bytes x) u in
-          ap (λ (b : Bool). b && not (seen_by (event m a) x (slice_index start x) (kept e) == byte_written a x)) u
+          ap (λ (b : Bool). b && not (seen_by (event m a) x (slice_index start x) (touching e) == byte_written a x)) u
           ∙ sym (equal_not (slice_index m.before.bytes x) (slice_index m.after.bytes x) (sym after))
 
       change_past : (x : ℕ) → length start ≤ x → false ≡ changes m x
@@ -298,24 +298,24 @@ module _ {H : Type 0} (n : ℕ) (ws : List Watchpoint) where
           sym (equal_not (slice_index m.before.bytes x) (slice_index m.after.bytes x) (before ∙ sym after))
 
       -- by the byte that is saved there
-      change_there : (x : ℕ) (b : Option ℕ) → tells_changes w.kind ≡ true → in_range w.range.start w.range.len x ≡ true → slice_get start x ≡ b → found.changes saved (kept e) (event m a) x ≡ changes m x
+      change_there : (x : ℕ) (b : Option ℕ) → tells_changes w.kind ≡ true → in_range w.range.start w.range.len x ≡ true → slice_get start x ≡ b → found.changes saved (touching e) (event m a) x ≡ changes m x
       change_there x b tells i g =
-          ap (λ (o : Option ℕ). found.changes_at o (kept e) (event m a) x) (saved_is ws w x start wi tells i ∙ g) ∙ by b g
+          ap (λ (o : Option ℕ). found.changes_at o (touching e) (event m a) x) (saved_is ws w x start wi tells i ∙ g) ∙ by b g
         where
-          by : (b : Option ℕ) → slice_get start x ≡ b → found.changes_at b (kept e) (event m a) x ≡ changes m x
+          by : (b : Option ℕ) → slice_get start x ≡ b → found.changes_at b (touching e) (event m a) x ≡ changes m x
           by None g = change_past x (got_none start x g)
           by (Some b) g =
               let there = got_some start x b g in
-              ap (λ (c : ℕ). found.changes_from c (kept e) (event m a) x) (sym there.1) ∙ change_inside x (writes a x) i there.0 refl
+              ap (λ (c : ℕ). found.changes_from c (touching e) (event m a) x) (sym there.1) ∙ change_inside x (writes a x) i there.0 refl
 
       change_same : (x : ℕ) (t : Bool) → tells_changes w.kind ≡ true → in_range w.range.start w.range.len x ≡ t →
-          (in_range w.range.start w.range.len x && found.changes saved (kept e) (event m a) x) ≡ (in_range w.range.start w.range.len x && changes m x)
-      change_same x false tells i = and_first (in_range w.range.start w.range.len x) (found.changes saved (kept e) (event m a) x) i ∙ sym (and_first (in_range w.range.start w.range.len x) (changes m x) i)
+          (in_range w.range.start w.range.len x && found.changes saved (touching e) (event m a) x) ≡ (in_range w.range.start w.range.len x && changes m x)
+      change_same x false tells i = and_first (in_range w.range.start w.range.len x) (found.changes saved (touching e) (event m a) x) i ∙ sym (and_first (in_range w.range.start w.range.len x) (changes m x) i)
       change_same x true tells i = ap (λ (b : Bool). in_range w.range.start w.range.len x && b) (change_there x (slice_get start x) tells i refl)
 
-      told_same : (kind : WatchKind) → w.kind ≡ kind → tells_by kind w.range saved (kept e) (event m a) ≡ told_by kind w.range m a
+      told_same : (kind : WatchKind) → w.kind ≡ kind → tells_by kind w.range saved (touching e) (event m a) ≡ told_by kind w.range m a
       told_same Changes k =
-          any_same (λ x. in_range w.range.start w.range.len x && found.changes saved (kept e) (event m a) x) (λ x. in_range w.range.start w.range.len x && changes m x) (address_of a) (bytes_of a)
+          any_same (λ x. in_range w.range.start w.range.len x && found.changes saved (touching e) (event m a) x) (λ x. in_range w.range.start w.range.len x && changes m x) (address_of a) (bytes_of a)
           (λ x. change_same x (in_range w.range.start w.range.len x) (ap tells_changes k) refl)
       told_same Reads k = refl
       told_same Accesses k = refl
@@ -325,62 +325,62 @@ module _ {H : Type 0} (n : ℕ) (ws : List Watchpoint) where
     told_none m a Reads s = and_last (loads a) (speaks_of w.range a) s
     told_none m a Accesses s = and_last (loads a || stores a) (speaks_of w.range a) s
 
-    rival_none : (others : List (Move H)) (m : Move H) (a : Access) → m.access ≡ Some a → is_kept ws (event m a) ≡ false → is_rival others m w ≡ false
+    rival_none : (others : List (Move H)) (m : Move H) (a : Access) → m.access ≡ Some a → touches_some ws (event m a) ≡ false → is_rival others m w ≡ false
     rival_none others m a h k = and_first (writes_in_part w m) (not (list_any (λ (j : Move H). j.hart == m.hart && writes_in_part w j) others) && list_any (writes_in_part w) others) ((part_agrees m (Some a) h).1 k)
 
   -- ---- hits
 
-  beside_kept : (way : Way) (e f : List (Move H)) → beside way (kept e) (kept f) ≡ kept (beside way e f)
-  beside_kept On e f = refl
-  beside_kept Back e f = refl
+  beside_touching : (way : Way) (e f : List (Move H)) → beside way (touching e) (touching f) ≡ touching (beside way e f)
+  beside_touching On e f = refl
+  beside_touching Back e f = refl
 
-  access_same : (way : Way) (start : List ℕ) (e f : List (Move H)) (m : Move H) (a : Access) → m.access ≡ Some a → SeenAfter start e m → event_hits way (saved_of ws start) ws (kept e) (kept f) (event m a) ≡ access_hits ws (beside way e f) m (Some a)
+  access_same : (way : Way) (start : List ℕ) (e f : List (Move H)) (m : Move H) (a : Access) → m.access ≡ Some a → SeenAfter start e m → event_hits way (saved_of ws start) ws (touching e) (touching f) (event m a) ≡ access_hits ws (beside way e f) m (Some a)
   access_same way start e f m a h seen =
-      ap (λ (o : List Event). hit_at m.phase m.hart a true (position (found.is_rival o (event m a)) ws) ++ hit_at m.phase m.hart a false (position (tells (saved_of ws start) (kept e) (event m a)) ws)) (beside_kept way e f)
-      ∙ ap (λ (p : Option ℕ). hit_at m.phase m.hart a true p ++ hit_at m.phase m.hart a false (position (tells (saved_of ws start) (kept e) (event m a)) ws))
-      (position_same (found.is_rival (kept (beside way e f)) (event m a)) (is_rival (beside way e f) m) ws (λ w i. rival_same w i (beside way e f) m a h))
+      ap (λ (o : List Event). hit_at m.phase m.hart a true (position (found.is_rival o (event m a)) ws) ++ hit_at m.phase m.hart a false (position (tells (saved_of ws start) (touching e) (event m a)) ws)) (beside_touching way e f)
+      ∙ ap (λ (p : Option ℕ). hit_at m.phase m.hart a true p ++ hit_at m.phase m.hart a false (position (tells (saved_of ws start) (touching e) (event m a)) ws))
+      (position_same (found.is_rival (touching (beside way e f)) (event m a)) (is_rival (beside way e f) m) ws (λ w i. rival_same w i (beside way e f) m a h))
       ∙ ap (λ (p : Option ℕ). hit_at m.phase m.hart a true (position (is_rival (beside way e f) m) ws) ++ hit_at m.phase m.hart a false p)
-      (position_same (tells (saved_of ws start) (kept e) (event m a)) (is_told m) ws (λ w i. told_same w i start e m a h seen w.kind refl ∙ ap (λ (c : Option Access). on_access c (told_by w.kind w.range m)) (sym h)))
+      (position_same (tells (saved_of ws start) (touching e) (event m a)) (is_told m) ws (λ w i. told_same w i start e m a h seen w.kind refl ∙ ap (λ (c : Option Access). on_access c (told_by w.kind w.range m)) (sym h)))
 
-  access_none : (others : List (Move H)) (m : Move H) (a : Access) → m.access ≡ Some a → is_kept ws (event m a) ≡ false → access_hits ws others m (Some a) ≡ []
+  access_none : (others : List (Move H)) (m : Move H) (a : Access) → m.access ≡ Some a → touches_some ws (event m a) ≡ false → access_hits ws others m (Some a) ≡ []
   access_none others m a h k =
       ap (λ (p : Option ℕ). hit_at m.phase m.hart a true p ++ hit_at m.phase m.hart a false (position (is_told m) ws)) (position_none (is_rival others m) ws (λ w i. rival_none w i others m a h k))
       ∙ ap (λ (p : Option ℕ). hit_at m.phase m.hart a false p)
       (position_none (is_told m) ws (λ w i. ap (λ (c : Option Access). on_access c (told_by w.kind w.range m)) h ∙ told_none w i m a w.kind (not_spoken w i m a k)))
 
   abbrev SameHits : Way → List ℕ → List (Move H) → List (Move H) → Type 0
-  SameHits way start e ms = hits_from way (saved_of ws start) ws (kept e) (kept ms) ≡ hits_after way ws e ms
+  SameHits way start e ms = hits_from way (saved_of ws start) ws (touching e) (touching ms) ≡ hits_after way ws e ms
 
-  kept_on_none : (e : List (Move H)) (m : Move H) → m.access ≡ None → kept (e ++ m ∷ []) ≡ kept e
-  kept_on_none e m h = kept_append e (m ∷ []) ∙ ap (λ (es : List Event). kept e ++ es) (kept_none m [] h) ∙ append-nil (kept e)
+  touching_on_none : (e : List (Move H)) (m : Move H) → m.access ≡ None → touching (e ++ m ∷ []) ≡ touching e
+  touching_on_none e m h = touching_append e (m ∷ []) ∙ ap (λ (es : List Event). touching e ++ es) (touching_none m [] h) ∙ append-nil (touching e)
 
-  kept_on_not : (e : List (Move H)) (m : Move H) (a : Access) → m.access ≡ Some a → is_kept ws (event m a) ≡ false → kept (e ++ m ∷ []) ≡ kept e
-  kept_on_not e m a h k = kept_append e (m ∷ []) ∙ ap (λ (es : List Event). kept e ++ es) (kept_not m a [] h k) ∙ append-nil (kept e)
+  touching_on_not : (e : List (Move H)) (m : Move H) (a : Access) → m.access ≡ Some a → touches_some ws (event m a) ≡ false → touching (e ++ m ∷ []) ≡ touching e
+  touching_on_not e m a h k = touching_append e (m ∷ []) ∙ ap (λ (es : List Event). touching e ++ es) (touching_not m a [] h k) ∙ append-nil (touching e)
 
-  kept_on_some : (e : List (Move H)) (m : Move H) (a : Access) → m.access ≡ Some a → is_kept ws (event m a) ≡ true → kept (e ++ m ∷ []) ≡ kept e ++ event m a ∷ []
-  kept_on_some e m a h k = kept_append e (m ∷ []) ∙ ap (λ (es : List Event). kept e ++ es) (kept_some m a [] h k)
+  touching_on_some : (e : List (Move H)) (m : Move H) (a : Access) → m.access ≡ Some a → touches_some ws (event m a) ≡ true → touching (e ++ m ∷ []) ≡ touching e ++ event m a ∷ []
+  touching_on_some e m a h k = touching_append e (m ∷ []) ∙ ap (λ (es : List Event). touching e ++ es) (touching_some m a [] h k)
 
   hits_first : (way : Way) (start : List ℕ) (e : List (Move H)) (m : Move H) (ms : List (Move H)) (c : Option Access) → m.access ≡ c → SeenAfter start e m → SameHits way start (e ++ m ∷ []) ms → SameHits way start e (m ∷ ms)
   hits_first way start e m ms None h seen ih =
-      ap (hits_from way (saved_of ws start) ws (kept e)) (kept_none m ms h)
-      ∙ ap (λ (es : List Event). hits_from way (saved_of ws start) ws es (kept ms)) (sym (kept_on_none e m h))
+      ap (hits_from way (saved_of ws start) ws (touching e)) (touching_none m ms h)
+      ∙ ap (λ (es : List Event). hits_from way (saved_of ws start) ws es (touching ms)) (sym (touching_on_none e m h))
       ∙ ih
       ∙ ap (λ (c : Option Access). access_hits ws (beside way e ms) m c ++ hits_after way ws (e ++ m ∷ []) ms) (sym h)
-  hits_first way start e m ms (Some a) h seen ih = by (is_kept ws (event m a)) refl
+  hits_first way start e m ms (Some a) h seen ih = by (touches_some ws (event m a)) refl
     where
       last : access_hits ws (beside way e ms) m (Some a) ++ hits_after way ws (e ++ m ∷ []) ms ≡ hits_after way ws e (m ∷ ms)
       last = ap (λ (c : Option Access). access_hits ws (beside way e ms) m c ++ hits_after way ws (e ++ m ∷ []) ms) (sym h)
 
-      by : (t : Bool) → is_kept ws (event m a) ≡ t → SameHits way start e (m ∷ ms)
+      by : (t : Bool) → touches_some ws (event m a) ≡ t → SameHits way start e (m ∷ ms)
       by true t =
-          ap (hits_from way (saved_of ws start) ws (kept e)) (kept_some m a ms h t)
-          ∙ ap (λ (hs : List Hit). hs ++ hits_from way (saved_of ws start) ws (kept e ++ event m a ∷ []) (kept ms)) (access_same way start e ms m a h seen)
-          ∙ ap (λ (es : List Event). access_hits ws (beside way e ms) m (Some a) ++ hits_from way (saved_of ws start) ws es (kept ms)) (sym (kept_on_some e m a h t))
+          ap (hits_from way (saved_of ws start) ws (touching e)) (touching_some m a ms h t)
+          ∙ ap (λ (hs : List Hit). hs ++ hits_from way (saved_of ws start) ws (touching e ++ event m a ∷ []) (touching ms)) (access_same way start e ms m a h seen)
+          ∙ ap (λ (es : List Event). access_hits ws (beside way e ms) m (Some a) ++ hits_from way (saved_of ws start) ws es (touching ms)) (sym (touching_on_some e m a h t))
           ∙ ap (λ (hs : List Hit). access_hits ws (beside way e ms) m (Some a) ++ hs) ih
           ∙ last
       by false t =
-          ap (hits_from way (saved_of ws start) ws (kept e)) (kept_not m a ms h t)
-          ∙ ap (λ (es : List Event). hits_from way (saved_of ws start) ws es (kept ms)) (sym (kept_on_not e m a h t))
+          ap (hits_from way (saved_of ws start) ws (touching e)) (touching_not m a ms h t)
+          ∙ ap (λ (es : List Event). hits_from way (saved_of ws start) ws es (touching ms)) (sym (touching_on_not e m a h t))
           ∙ ih
           ∙ ap (λ (hs : List Hit). hs ++ hits_after way ws (e ++ m ∷ []) ms) (sym (access_none (beside way e ms) m a h t))
           ∙ last
@@ -392,11 +392,11 @@ module _ {H : Type 0} (n : ℕ) (ws : List Watchpoint) where
 -- ---- a round
 
 pub found_in_round : (code : List Range) (budget : ℕ) (quotas : ℕ → List ℕ) (s : State Hart ConsoleState) (way : Way) (ws : List Watchpoint) (saved : List SavedBytes) (es fs : List Event) →
-    IsBytes s.bytes → saved ≡ saved_of ws s.bytes → es ≡ events_left (s.rounds + 1) (moves_of (words_of code) budget quotas s) → fs ≡ filter (is_kept ws) es →
+    IsBytes s.bytes → saved ≡ saved_of ws s.bytes → es ≡ events_left (s.rounds + 1) (moves_of (words_of code) budget quotas s) → fs ≡ filter (touches_some ws) es →
     hits_from way saved ws [] fs ≡ hits_of way ws (moves_of (words_of code) budget quotas s)
-found_in_round code budget quotas s way ws kept_bytes es fs fit e f g =
+found_in_round code budget quotas s way ws touching_bytes es fs fit e f g =
     ap (λ (b : List SavedBytes). hits_from way b ws [] fs) e
-    ∙ ap (hits_from way (saved_of ws s.bytes) ws []) (g ∙ ap (filter (is_kept ws)) f)
+    ∙ ap (hits_from way (saved_of ws s.bytes) ws []) (g ∙ ap (filter (touches_some ws)) f)
     ∙ hits_same (s.rounds + 1) ws way s.bytes [] (moves_of (words_of code) budget quotas s) (moves_seen (words_of code) (sound code) budget quotas s fit)
 
 -- at a step of a loop over all events

@@ -16,8 +16,8 @@ use Rattle.watching.specs.Saved.{SavedBytes, saved_byte}
 use Rattle.watching.specs.Watches.{beside, hit_at, speaks_of, tells_changes}
 
 -- an event speaks of a byte of one of the ranges
-abbrev pub is_kept : List Watchpoint → Event → Bool
-is_kept ws e = list_any (λ (w : Watchpoint). speaks_of w.range e.access) ws
+abbrev pub touches_some : List Watchpoint → Event → Bool
+touches_some ws e = list_any (λ (w : Watchpoint). speaks_of w.range e.access) ws
 
 -- the hart of an event sees what this earlier one wrote: in its turn all of the round's, and before it its own
 abbrev pub sees : Event → Event → Bool

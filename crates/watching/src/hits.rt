@@ -9,7 +9,7 @@ ghost use Rattle.hart_step.specs.Words.{words_of};
 ghost use Rattle.moments.specs.Moves.{events_left, moves_of};
 ghost use Rattle.watching.specs.Watches.{beside, hit_at, hits_of};
 ghost use Rattle.watching.specs.Saved.{saved_of};
-ghost use Rattle.watching.specs.Events.{event_hits, hits_from, is_kept, is_rival, tells};
+ghost use Rattle.watching.specs.Events.{event_hits, hits_from, touches_some, is_rival, tells};
 
 use crate::rivals::is_rival;
 use crate::saved::Saved;
@@ -54,17 +54,17 @@ pub fn hits_in_round(
         events_left (s.rounds + 1) (moves_of (words_of code) budget quotas s) →
         IfOk result (λ v. v.items ≡ hits_of way watches.now (moves_of (words_of code) budget quotas s)) }
 {
-    let events = kept(alloc, trace, watches)?;
+    let events = touching(alloc, trace, watches)?;
     hits(alloc, saved, &events, watches, way)
 }
 
 /// The events of a trace that speak of a byte of one of the watched ranges.
-fn kept(alloc: Global, trace: &Trace, watches: &[Watchpoint]) -> Result<Vec<Event>, OutOfMemory>
-    ensures { IfOk result (λ v. v.items ≡ filter (is_kept watches.now) trace.now.events) }
+fn touching(alloc: Global, trace: &Trace, watches: &[Watchpoint]) -> Result<Vec<Event>, OutOfMemory>
+    ensures { IfOk result (λ v. v.items ≡ filter (touches_some watches.now) trace.now.events) }
 {
     let mut found = Vec::new(alloc);
     for event in trace.events() {
-        if is_kept(watches, &event) {
+        if touches_some(watches, &event) {
             found.push(event)?;
         }
     }
@@ -72,8 +72,8 @@ fn kept(alloc: Global, trace: &Trace, watches: &[Watchpoint]) -> Result<Vec<Even
 }
 
 /// Whether an event does.
-fn is_kept(watches: &[Watchpoint], event: &Event) -> bool
-    ensures { result ≡ is_kept watches.now event.now }
+fn touches_some(watches: &[Watchpoint], event: &Event) -> bool
+    ensures { result ≡ touches_some watches.now event.now }
 {
     watches
         .iter()
@@ -92,9 +92,9 @@ fn hits(
         hits_from way saved.now watches.now [] events.now) }
 {
     let mut found = Vec::new(alloc);
-    for place in 0..events.len() {
-        let earlier = &events[..place];
-        let later = &events[place + 1..];
+    for index in 0..events.len() {
+        let earlier = &events[..index];
+        let later = &events[index + 1..];
         add_hits(
             &mut found,
             saved,
@@ -102,7 +102,7 @@ fn hits(
             way,
             earlier,
             later,
-            &events[place],
+            &events[index],
         )?;
     }
     Ok(found)

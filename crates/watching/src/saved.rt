@@ -69,8 +69,8 @@ fn bytes_of(alloc: Global, pages: &Pages, range: Range) -> Result<Vec<u8>, OutOf
     let end = 4096 * u64::from(pages.count());
     let first = range.start.min(end);
     let count = range.len.min(end - first);
-    for place in 0..count {
-        bytes.push(pages.byte(first + place))?;
+    for offset in 0..count {
+        bytes.push(pages.byte(first + offset))?;
     }
     Ok(bytes)
 }
@@ -92,12 +92,12 @@ pub(crate) fn saved_byte(saved: &[Saved], address: u128) -> Option<u8>
     }
 }
 
-/// The byte at a place.
-fn byte_at(bytes: &[u8], place: u128) -> Option<u8>
-    ensures { result ≡ slice_get bytes.now place }
+/// The byte at an offset.
+fn byte_at(bytes: &[u8], offset: u128) -> Option<u8>
+    ensures { result ≡ slice_get bytes.now offset }
 {
-    if place < bytes.len() as u128 {
-        Some(bytes[place as usize])
+    if offset < bytes.len() as u128 {
+        Some(bytes[offset as usize])
     } else {
         None
     }

@@ -10,10 +10,10 @@ use std::sync::atomic::{AtomicU64, Ordering};
 use std::thread::{self, Threads};
 use timed_machine::TimedMachine;
 
-/// The ending of an execution, which is told by its place in the block.
+/// The ending of an execution, which is told by its index in the block.
 #[derive(Drop)]
 struct Found {
-    place: u32,
+    index: u32,
     ending: Ending,
 }
 
@@ -59,9 +59,9 @@ fn empty_slots(alloc: Global, count: u32) -> Result<Vec<Option<Ending>>, OutOfMe
 /// Puts what was found into the slots of the executions.
 fn put(slots: &mut [Option<Ending>], found: Vec<Found>) {
     for one in found {
-        let place = one.place as usize;
-        if place < slots.len() {
-            slots[place] = Some(one.ending);
+        let index = one.index as usize;
+        if index < slots.len() {
+            slots[index] = Some(one.ending);
         }
     }
 }
@@ -72,15 +72,15 @@ fn work(guest: &Guest<'_>, first: u32, count: u32, next: &AtomicU64) -> Vec<Foun
 {
     let mut found = Vec::new(guest.alloc);
     for _ in 0..count {
-        let place = next.fetch_add(1, Ordering::SeqCst);
-        if place >= u64::from(count) {
+        let index = next.fetch_add(1, Ordering::SeqCst);
+        if index >= u64::from(count) {
             break;
         }
-        let place = place as u32;
-        let Ok(ending) = executed(guest, first + place) else {
+        let index = index as u32;
+        let Ok(ending) = executed(guest, first + index) else {
             break;
         };
-        if found.push(Found { place, ending }).is_err() {
+        if found.push(Found { index, ending }).is_err() {
             break;
         }
     }

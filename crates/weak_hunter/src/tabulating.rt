@@ -48,9 +48,9 @@ fn add_endings(
     requires table { IsSomeTable first done rows.old.items }
     ensures { OnOk result (IsSomeTable first (done + length slots.old) rows.new.items) }
 {
-    for place in 0..slots.len() {
-        let before = done + place as u32;
-        let ending = match slots[place].take() {
+    for index in 0..slots.len() {
+        let before = done + index as u32;
+        let ending = match slots[index].take() {
             Some(ending) => ending,
             None => executed(guest, first + before)?,
         };

@@ -6,7 +6,7 @@ use crate::failure::Failure;
 use crate::fence_kind::FenceKind;
 use crate::missing::{Missing, Shown};
 use crate::tally::Tally;
-use crate::writing::places::{add_fence, add_moved, add_place};
+use crate::writing::gaps::{add_fence, add_gap, add_moved};
 use hunt_table::{SeenRange, add_output, add_ranges};
 use pages::OutOfMemory;
 use report_lines::{Line, add_stop};
@@ -113,8 +113,8 @@ fn add_missing(
 ) -> Result<(), OutOfMemory>
     ensures { OnOk result (line.new ≡ line.old ++ missing_text ranges.now number missing.now) }
 {
-    add_front(line, number, missing.place.fence, missing.numbers)?;
-    add_place(alloc, line, &missing.place)?;
+    add_front(line, number, missing.gap.fence, missing.numbers)?;
+    add_gap(alloc, line, &missing.gap)?;
     add_moved(alloc, line, &missing.moved)?;
     add_failure(line, ranges, &missing.failure)?;
     add_shown(line, &missing.shown)
@@ -129,8 +129,8 @@ pub(crate) fn add_each_missing(
 ) -> Result<(), OutOfMemory>
     ensures { OnOk result (line.new ≡ line.old ++ missing_texts ranges.now 1 all.now) }
 {
-    for (place, missing) in all.iter().enumerate() {
-        add_missing(alloc, line, ranges, place as u64 + 1, missing)?;
+    for (index, missing) in all.iter().enumerate() {
+        add_missing(alloc, line, ranges, index as u64 + 1, missing)?;
     }
     Ok(())
 }

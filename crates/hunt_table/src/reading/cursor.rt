@@ -8,11 +8,15 @@ pub(crate) fn skip(text: &[u8], count: usize) -> &[u8]
     &text[count.min(text.len())..]
 }
 
-/// The byte at a place, or 0 where there is none.
-pub(crate) fn byte_at(text: &[u8], place: usize) -> u8
-    ensures { result ≡ slice_index text.now place }
+/// The byte at a position, or 0 where there is none.
+pub(crate) fn byte_at(text: &[u8], position: usize) -> u8
+    ensures { result ≡ slice_index text.now position }
 {
-    if place < text.len() { text[place] } else { 0 }
+    if position < text.len() {
+        text[position]
+    } else {
+        0
+    }
 }
 
 /// The decimal number at the front, and what follows. A number over the largest is told as the largest.

@@ -34,9 +34,9 @@ fn name_len(text: &[u8]) -> usize
     ensures count { result ≡ prefix_len is_name_byte text.now }
     ensures within { result ≤ length text.now }
 {
-    for (place, byte) in text.iter().enumerate() {
+    for (position, byte) in text.iter().enumerate() {
         if !is_name_byte(*byte) {
-            return place;
+            return position;
         }
     }
     text.len()

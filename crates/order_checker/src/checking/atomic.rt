@@ -2,7 +2,7 @@ ghost use Rattle.std.specs.Prelude.{◌≡◌, ◌+◌, ◌≤◌, ◌<◌, ◌^
 ghost use Rattle.pages.specs.Memory.{in_range};
 ghost use Rattle.round_schedule.specs.Accesses.{address_of, bytes_of};
 ghost use Rattle.trace.specs.Traced.{HasForm};
-ghost use Rattle.memory_order.specs.Orders.{ListsOperations, place};
+ghost use Rattle.memory_order.specs.Orders.{ListsOperations, order_position};
 ghost use Rattle.memory_order.specs.Rvwmo.{AtomicityAxiom, MaySee};
 ghost use Rattle.order_checker.specs.Checking.{AreReserved, AreSources, IsRanking, source_at};
 ghost use Rattle.order_checker.specs.CheckingAtomic.{AtomicAt, IsLatestStore, latest_of, others_of};
@@ -10,7 +10,7 @@ ghost use Rattle.order_checker.specs.CheckingAtomic.{AtomicAt, IsLatestStore, la
 use crate::checking::kinds::{event_at, listed, position_of};
 use crate::checking::latest::{LatestStores, latest_of, note_latest, others_of};
 use crate::checking::pairs::{last_reserved, paired};
-use crate::checking::source_table::{Sources, source_at};
+use crate::checking::source_bounds::{Sources, source_at};
 use pages::OutOfMemory;
 use round_schedule::{Access, Event};
 use std::alloc::Global;
@@ -27,14 +27,14 @@ pub fn pairs_are_atomic(
     requires formed { All HasForm events.now }
     requires lists { ListsOperations events.now order.now }
     requires ranked { IsRanking events.now order.now ranks.now }
-    requires sourced { AreSources events.now order.now (MaySee events.now (place order.now)) sources.now.items }
-    ensures { IfOk result (λ yes. IsTrue yes ↔ AtomicityAxiom events.now (place order.now)) }
+    requires sourced { AreSources events.now order.now (MaySee events.now (order_position order.now)) sources.now.items }
+    ensures { IfOk result (λ yes. IsTrue yes ↔ AtomicityAxiom events.now (order_position order.now)) }
 {
     let reserved = last_reserved(alloc, events)?;
     let mut latest = BTreeMap::new(alloc);
     for p in 0..order.len() {
-        let place = listed(events, order, p);
-        let event = event_at(events, place);
+        let index = listed(events, order, p);
+        let event = event_at(events, index);
         if !is_atomic(events, order, ranks, sources, &reserved, &latest, p) {
             return Ok(false);
         }
@@ -57,26 +57,26 @@ fn is_atomic(
     requires formed { All HasForm events.now }
     requires lists { ListsOperations events.now order.now }
     requires ranked { IsRanking events.now order.now ranks.now }
-    requires sourced { AreSources events.now order.now (MaySee events.now (place order.now)) sources.now.items }
+    requires sourced { AreSources events.now order.now (MaySee events.now (order_position order.now)) sources.now.items }
     requires reserved { AreReserved events.now (length events.now) reserved.now }
     requires latest { (x : ℕ) →
-        IsLatestStore events.now (place order.now) p x (latest_of latest.now x) }
-    ensures { IsTrue result ↔ AtomicAt events.now (place order.now) (slice_index order.now p) }
+        IsLatestStore events.now (order_position order.now) p x (latest_of latest.now x) }
+    ensures { IsTrue result ↔ AtomicAt events.now (order_position order.now) (slice_index order.now p) }
 {
-    let place = listed(events, order, p);
-    let hart = event_at(events, place).hart;
-    match paired(events, reserved, place) {
+    let index = listed(events, order, p);
+    let hart = event_at(events, index).hart;
+    match paired(events, reserved, index) {
         None => true,
         Some(first) => {
             let reserve = event_at(events, first);
             let reader = position_of(events, order, ranks, first);
-            keeps_bytes(sources, reader, &reserve.access, latest, hart, p)
+            are_undisturbed(sources, reader, &reserve.access, latest, hart, p)
         }
     }
 }
 
 /// Whether from the source of each byte of a load up to a position no other hart than this stores to it.
-fn keeps_bytes(
+fn are_undisturbed(
     sources: &Sources,
     reader: usize,
     access: &Access,

@@ -5,42 +5,42 @@ ghost use Rattle.round_schedule.specs.Accesses.{address_of, bytes_of, is_sc};
 ghost use Rattle.round_schedule.specs.Positions.{event};
 ghost use Rattle.trace.specs.Traced.{HasForm};
 ghost use Rattle.memory_order.specs.Operations.{is_lr_or_sc, is_normal, is_operation, is_plain_store, is_release};
-ghost use Rattle.memory_order.specs.Orders.{ListsOperations, place};
+ghost use Rattle.memory_order.specs.Orders.{ListsOperations, order_position};
 ghost use Rattle.order_checker.specs.Checking.{IsRanking};
 ghost use Rattle.order_checker.specs.CheckingProgram.{orders_loads, orders_stores};
 
 use round_schedule::{Access, Event};
 use rv64_decode::FenceMode;
 
-/// The event at a place of the trace.
-pub fn event_at(events: &[Event], place: usize) -> Event
-    requires within { place < length events.now }
+/// The event at an index of the trace.
+pub fn event_at(events: &[Event], index: usize) -> Event
+    requires within { index < length events.now }
     requires formed { All HasForm events.now }
-    ensures at { result ≡ event events.now place }
+    ensures at { result ≡ event events.now index }
     ensures fits { address_of result.access + bytes_of result.access < 2 ^ 64 }
 {
-    events[place]
+    events[index]
 }
 
-/// Where the event at a place of the trace stands in the order.
+/// Where the event at an index of the trace stands in the order.
 pub fn position_of(events: &[Event], order: &[usize], ranks: &[usize], i: usize) -> usize
     requires within { i < length events.now }
     requires ranked { IsRanking events.now order.now ranks.now }
-    ensures at { result ≡ place order.now i }
+    ensures at { result ≡ order_position order.now i }
     ensures fits { result + 1 < 2 ^ 64 }
 {
     let _events = events;
     ranks[i].min(order.len())
 }
 
-/// The place of the trace that stands at a position of the order.
+/// The index of the trace that stands at a position of the order.
 pub fn listed(events: &[Event], order: &[usize], p: usize) -> usize
     requires within { p < length order.now }
     requires lists { ListsOperations events.now order.now }
     ensures at { result ≡ slice_index order.now p }
     ensures within { result < length events.now }
     ensures operation { is_operation (event events.now result) ≡ true }
-    ensures position { place order.now result ≡ p }
+    ensures position { order_position order.now result ≡ p }
 {
     let _events = events;
     order[p]

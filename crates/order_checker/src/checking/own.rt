@@ -1,12 +1,12 @@
 ghost use Rattle.std.specs.Prelude.{All, IfOk, MatchOption};
 ghost use Rattle.trace.specs.Traced.{HasForm};
-ghost use Rattle.memory_order.specs.Orders.{ListsOperations, place};
+ghost use Rattle.memory_order.specs.Orders.{ListsOperations, order_position};
 ghost use Rattle.order_checker.specs.Checking.{AreSources, IsRanking, OwnWrite};
-ghost use Rattle.order_checker.specs.CheckingProgram.{KeptOverlap};
+ghost use Rattle.order_checker.specs.CheckingProgram.{RespectsOverlap};
 
 use crate::checking::kinds::{event_at, position_of};
 use crate::checking::noting::{may_store, note_store};
-use crate::checking::source_table::{Sources, note_load};
+use crate::checking::source_bounds::{Sources, note_load};
 use pages::OutOfMemory;
 use round_schedule::Event;
 use std::alloc::Global;
@@ -24,8 +24,8 @@ pub fn own_stores(
     requires formed { All HasForm events.now }
     requires lists { ListsOperations events.now order.now }
     requires ranked { IsRanking events.now order.now ranks.now }
-    ensures { IfOk result (λ o. MatchOption o (KeptOverlap events.now (place order.now) →
-        ⊥) (λ s. KeptOverlap events.now (place order.now) × AreSources events.now order.now (OwnWrite events.now) s.items)) }
+    ensures { IfOk result (λ o. MatchOption o (RespectsOverlap events.now (order_position order.now) →
+        ⊥) (λ s. RespectsOverlap events.now (order_position order.now) × AreSources events.now order.now (OwnWrite events.now) s.items)) }
 {
     let mut own = BTreeMap::new(alloc);
     let mut sources = vec![in alloc; [0; 8]; order.len()]?;

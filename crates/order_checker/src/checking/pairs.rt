@@ -11,7 +11,7 @@ use pages::OutOfMemory;
 use round_schedule::Event;
 use std::alloc::Global;
 
-/// For each event, one more than the place of the last LR or SC of its hart before it; 0 where there is none.
+/// For each event, one more than the index of the last LR or SC of its hart before it; 0 where there is none.
 pub fn last_reserved(alloc: Global, events: &[Event]) -> Result<Vec<usize>, OutOfMemory>
     requires { All HasForm events.now }
     ensures { IfOk result (λ v. AreReserved events.now (length events.now) v.items) }
@@ -29,7 +29,7 @@ pub fn last_reserved(alloc: Global, events: &[Event]) -> Result<Vec<usize>, OutO
     Ok(reserved)
 }
 
-/// The place of the LR that the event at a place is paired with, if it is an SC that has one.
+/// The index of the LR that the event at an index is paired with, if it is an SC that has one.
 pub fn paired(events: &[Event], reserved: &[usize], i: usize) -> Option<usize>
     requires within { i < length events.now }
     requires formed { All HasForm events.now }

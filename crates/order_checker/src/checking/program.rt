@@ -1,8 +1,8 @@
 ghost use Rattle.std.specs.Prelude.{◌≡◌, ◌==◌, ◌↔◌, ℕ, All, max, if◌then◌else◌, IsTrue, IfOk, OnOk};
 ghost use Rattle.trace.specs.Traced.{HasForm};
-ghost use Rattle.memory_order.specs.Orders.{place};
+ghost use Rattle.memory_order.specs.Orders.{order_position};
 ghost use Rattle.order_checker.specs.Checking.{IsRanking};
-ghost use Rattle.order_checker.specs.CheckingProgram.{Allowed, KeptButOverlap, bounds_after, bounds_of};
+ghost use Rattle.order_checker.specs.CheckingProgram.{Allowed, RespectsButOverlap, bounds_after, bounds_of};
 
 use crate::checking::harts::{of_hart, raised, set_of_hart};
 use crate::checking::kinds::{
@@ -34,7 +34,7 @@ const NO_BOUNDS: HartBounds = HartBounds {
 };
 
 /// Whether an order keeps preserved program order, but for the rule on overlapping stores.
-pub(crate) fn keeps_but_overlap(
+pub(crate) fn respects_but_overlap(
     alloc: Global,
     events: &[Event],
     order: &[usize],
@@ -42,7 +42,7 @@ pub(crate) fn keeps_but_overlap(
 ) -> Result<bool, OutOfMemory>
     requires formed { All HasForm events.now }
     requires ranked { IsRanking events.now order.now ranks.now }
-    ensures { IfOk result (λ yes. IsTrue yes ↔ KeptButOverlap events.now (place order.now)) }
+    ensures { IfOk result (λ yes. IsTrue yes ↔ RespectsButOverlap events.now (order_position order.now)) }
 {
     let mut harts = vec![in alloc; NO_BOUNDS; 256]?;
     for i in 0..events.len() {

@@ -21,11 +21,11 @@ pub fn positions(
     let absent = order.len();
     let mut ranks = vec![in alloc; absent; events.len()]?;
     for p in 0..order.len() {
-        let place = order[p];
-        if !is_operation_at(events, place) || ranks[place] != absent {
+        let index = order[p];
+        if !is_operation_at(events, index) || ranks[index] != absent {
             return Ok(None);
         }
-        ranks[place] = p;
+        ranks[index] = p;
     }
     for i in 0..events.len() {
         if is_operation_at(events, i) && ranks[i] == absent {

@@ -1,12 +1,12 @@
 ghost use Rattle.std.specs.Prelude.{All, IfOk};
 ghost use Rattle.trace.specs.Traced.{HasForm};
-ghost use Rattle.memory_order.specs.Orders.{ListsOperations, place};
+ghost use Rattle.memory_order.specs.Orders.{ListsOperations, order_position};
 ghost use Rattle.memory_order.specs.Rvwmo.{MaySee};
 ghost use Rattle.order_checker.specs.Checking.{AreSources, OwnWrite};
 
 use crate::checking::kinds::{event_at, listed};
 use crate::checking::noting::note_store;
-use crate::checking::source_table::{Sources, note_load};
+use crate::checking::source_bounds::{Sources, note_load};
 use pages::OutOfMemory;
 use round_schedule::Event;
 use std::alloc::Global;
@@ -24,7 +24,7 @@ pub fn all_sources(
     requires formed { All HasForm events.now }
     requires lists { ListsOperations events.now order.now }
     requires own { AreSources events.now order.now (OwnWrite events.now) sources.items }
-    ensures { IfOk result (λ s. AreSources events.now order.now (MaySee events.now (place order.now)) s.items) }
+    ensures { IfOk result (λ s. AreSources events.now order.now (MaySee events.now (order_position order.now)) s.items) }
 {
     // the stores so far, at owner 0
     let mut seen = BTreeMap::new(alloc);

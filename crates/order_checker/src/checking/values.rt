@@ -3,12 +3,12 @@ ghost use Rattle.pages.specs.Memory.{byte_of};
 ghost use Rattle.round_schedule.specs.Accesses.{byte_written, number_or_zero, read_of, written_of};
 ghost use Rattle.round_schedule.specs.Positions.{reads_at};
 ghost use Rattle.trace.specs.Traced.{HasForm, opening_at};
-ghost use Rattle.memory_order.specs.Orders.{ListsOperations, place};
+ghost use Rattle.memory_order.specs.Orders.{ListsOperations, order_position};
 ghost use Rattle.memory_order.specs.Rvwmo.{MaySee};
 ghost use Rattle.order_checker.specs.Checking.{AreSources, IsLeft, IsRanking, left_by, source_of};
 
 use crate::checking::kinds::{event_at, listed, position_of};
-use crate::checking::source_table::{Sources, source_at};
+use crate::checking::source_bounds::{Sources, source_at};
 use round_schedule::{Access, Event};
 use trace::Trace;
 
@@ -23,7 +23,7 @@ pub fn loads_are_right(
     requires formed { All HasForm events.now }
     requires lists { ListsOperations events.now order.now }
     requires ranked { IsRanking events.now order.now ranks.now }
-    requires sourced { AreSources events.now order.now (MaySee events.now (place order.now)) sources.now.items }
+    requires sourced { AreSources events.now order.now (MaySee events.now (order_position order.now)) sources.now.items }
     ensures { IsTrue result ↔ ((r x : ℕ) → reads_at events.now r x ≡ true → IsLeft events.now
         (opening_at trace.now.opening) order.now r x (source_of order.now sources.now.items r x)) }
 {
@@ -47,7 +47,7 @@ fn load_is_right(
     requires formed { All HasForm events.now }
     requires lists { ListsOperations events.now order.now }
     requires ranked { IsRanking events.now order.now ranks.now }
-    requires sourced { AreSources events.now order.now (MaySee events.now (place order.now)) sources.now.items }
+    requires sourced { AreSources events.now order.now (MaySee events.now (order_position order.now)) sources.now.items }
     ensures { IsTrue result ↔ ((x : ℕ) → reads_at events.now reader x ≡ true → IsLeft events.now
         (opening_at trace.now.opening) order.now reader x (source_of order.now sources.now.items reader x)) }
 {

@@ -22,7 +22,7 @@ returns-then-is_some c =
       pages = e.pages;
       console = e.console;
       log = e.log;
-      table = e.table;
+      reservations = e.reservations;
       shows = e.shows;
     }
 
@@ -53,7 +53,7 @@ returns-in-Waits c =
       pages = e.pages;
       console = e.console;
       log = e.log;
-      table = e.table;
+      reservations = e.reservations;
       shows = e.shows;
     }
 
@@ -72,7 +72,7 @@ returns-in-Stopped c =
       pages = e.pages;
       console = e.console;
       log = e.log;
-      table = e.table;
+      reservations = e.reservations;
       shows = e.shows;
     }
 
@@ -103,6 +103,6 @@ returns c =
       pages = e.pages;
       console = e.console;
       log = e.log;
-      table = e.table;
+      reservations = e.reservations;
       shows = e.shows;
     }

@@ -6,5 +6,5 @@ use Rattle.byte_sources.proofs.marks.is_last_source.Goals as goal
 
 pub returns : goal.returns
 returns c =
-    c.gives.ensures ∙ ap (λ (e : Event). gives c.args.trace.now.events e c.args.byte c.args.place) c.event_at.ensures.event
-    ∙ source_last c.args.trace.now.events c.args.place c.args.byte c.args.later c.requires.over c.requires.later (omega arith)
+    c.gives.ensures ∙ ap (λ (e : Event). gives c.args.trace.now.events e c.args.byte c.args.index) c.event_at.ensures.event
+    ∙ source_last c.args.trace.now.events c.args.index c.args.byte c.args.later c.requires.over c.requires.later (omega arith)

@@ -20,5 +20,5 @@ returns g c =
           ap (λ (p : Paged). p.ready) c.keep_unready.ensures ∙ ready_back pages c.parts.result.now c.write_beside.new.parts stores c.parts.ensures.ready c.write_beside.ensures;
       spare = ap (λ (p : Paged). p.spare) c.keep_unready.ensures;
       size = c.break_all.ensures.size;
-      table = c.break_all.ensures.table;
+      reservations = c.break_all.ensures.reservations;
     }

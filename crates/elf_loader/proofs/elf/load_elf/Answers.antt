@@ -3,7 +3,7 @@ use Rattle.std.proofs.lemmas.Result.{err_from_is_err_and}
 use Rattle.elf_loader.proofs.Bytes.{file_bytes}
 use Rattle.elf_loader.proofs.Causes.{exact}
 use Rattle.elf_loader.proofs.ElfLaws.{clear, entry_refused, header_refused, none_stands, same_entry, segments_passed, segments_refused}
-use Rattle.elf_loader.proofs.Pieces.{elf_is, elf_kept}
+use Rattle.elf_loader.proofs.Pieces.{elf_is, elf_is_image}
 use Rattle.elf_loader.specs.ElfCauses.{is_entry}
 use Rattle.elf_loader.specs.ElfTests.{ArePieces}
 use Rattle.elf_loader.specs.Segments.{code_of}
@@ -48,7 +48,7 @@ pub invariant_of-result : goal.invariant_of-result
 invariant_of-result c =
     let same = c.deref.ensures.value ∙ c.in_ok-segments.ensures in
     let k = clear c.args.file.now c.args.pages _ _ _ (ap (λ n. 4096 * n) c.from.ensures) same c.in_ok-check_segments.ensures in
-    elf_kept c.args.file.now c.args.pages _ _ _ _ c.requires.some_pages c.requires.few_pages (file_bytes c.args.file.now (λ i. omega (arith, c.type_inv.file i)))
+    elf_is_image c.args.file.now c.args.pages _ _ _ _ c.requires.some_pages c.requires.few_pages (file_bytes c.args.file.now (λ i. omega (arith, c.type_inv.file i)))
     k.past_file k.past_memory k.overlap
     (subst (λ v. ArePieces c.args.file.now v c.in_ok-pieces_of.field-0.items) (c.deref-4.ensures.value ∙ c.in_ok-segments.ensures) c.in_ok-pieces_of.ensures)
     (c.in_ok-code.ensures ∙ ap code_of (c.deref-2.ensures.value ∙ c.in_ok-segments.ensures))

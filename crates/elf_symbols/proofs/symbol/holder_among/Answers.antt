@@ -1,5 +1,5 @@
 use Rattle.std.proofs.Common.{◌+◌, ◌-◌, ◌/◌, length, Some, sym, ◌∙◌, ap, arith}
-use Rattle.elf_symbols.specs.Parts.{has_address}
+use Rattle.elf_symbols.specs.Offsets.{has_address}
 use Rattle.elf_symbols.proofs.Holding.{holder_here, other_holder}
 use Rattle.elf_symbols.proofs.symbol.holder_among.Goals as goal
 
@@ -16,5 +16,5 @@ entries-preserved c = record {
       sym (other_holder c.args.kind c.args.entries.now c.args.address c.entries.offset _ _
       (sym (c.if-has_address.ensures ∙ ap (has_address c.args.kind c.args.address) c.at-symbol.ensures)) (omega (arith, c.entries-test.true)))
       ∙ c.entries.invariant.told;
-  place = omega (arith, c.entries.invariant.place);
+  at = omega (arith, c.entries.invariant.at);
 }

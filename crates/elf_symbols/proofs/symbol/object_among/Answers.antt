@@ -16,5 +16,5 @@ entries-preserved c = record {
       sym (other_symbol c.args.kind c.args.entries.now c.args.strings.now c.args.name.now c.entries.offset _ _
       (sym (c.if-is_named.ensures ∙ ap (is_named c.args.kind c.args.strings.now c.args.name.now) c.at-symbol.ensures)) (omega (arith, c.entries-test.true)))
       ∙ c.entries.invariant.told;
-  place = omega (arith, c.entries.invariant.place);
+  at = omega (arith, c.entries.invariant.at);
 }

@@ -6,5 +6,5 @@ use Rattle.elf_symbols.proofs.symbol.object_among.Given as goal
 abbrev pub invariant-entries : goal.invariant-entries
 invariant-entries l = record {
   told : object_from l.kind l.entries l.strings l.name l.offset (length l.entries / 24 - l.counter) ≡ object_among l.kind l.entries l.strings l.name;
-  place : l.offset ≡ 24 * l.counter;
+  at : l.offset ≡ 24 * l.counter;
 }

@@ -29,7 +29,7 @@ returns-clause-writes g c =
       text = order_text t.events o.0 true;
       is_text = record {
         plan = run.0;
-        places = o.0;
+        indices = o.0;
         is_order = order_of s c.args.image.now c.args.input.now run.0 o.0 t.events run.1 run.2 o.1.by_rounds over_image;
         is_text = ap (λ (events : List Event). order_text events o.0 true) run.2;
       };
@@ -40,7 +40,7 @@ returns-clause-writes g c =
       text = order_text t.events o.0 o.1;
       is_text = record {
         plan = run.0;
-        places = o.0;
+        indices = o.0;
         is_order = order_of s c.args.image.now c.args.input.now run.0 o.0 t.events run.1 run.2 o.2.by_rounds over_image;
         is_text = ap (λ (answer : Bool). order_text t.events o.0 answer) (o.2.checked.1 (meets_rvwmo _ o.0 o.2.by_rounds (opening_at t.opening) s.budget rounds))
             ∙ ap (λ (events : List Event). order_text events o.0 true) run.2;

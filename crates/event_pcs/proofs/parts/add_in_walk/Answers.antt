@@ -2,7 +2,7 @@ use Rattle.std.proofs.Common.{◌≡◌, ◌++◌, ℕ, List, Option, map, take,
 use Rattle.std.proofs.lemmas.Result.{IfOk-weaker}
 use Rattle.pages.specs.Memory.{Memory}
 use Rattle.hart_step.specs.Buffered.{Overlay, seen_through}
-use Rattle.hart_step.specs.CodeTables.{Shows}
+use Rattle.hart_step.specs.DecodedCode.{Shows}
 use Rattle.hart_step.specs.declared.hart.Hart.{Hart}
 use Rattle.walking.specs.Pcs.{pc_in}
 use Rattle.event_pcs.proofs.InParts.{all_of_part, is_memory, same_quota, walk_is}
@@ -13,8 +13,8 @@ add_pcs_in_part-requires-clause-shows c =
     let u = c.args.machine.now in
     let memory : c.pages-pages.result.now.memory ≡ record { bytes = u.bytes; code = u.code } =
     is_memory u c.pages-pages.result.now.memory c.pages-pages.ensures.bytes c.pages-pages.ensures.code in
-    subst (λ (v : Overlay). Shows (seen_through v) c.args.table.now.first c.args.table.now.instructions) (sym c.new-view.ensures)
-    (subst (λ (m : Memory). Shows m c.args.table.now.first c.args.table.now.instructions) (sym memory) c.requires.shows)
+    subst (λ (v : Overlay). Shows (seen_through v) c.args.code.now.first c.args.code.now.instructions) (sym c.new-view.ensures)
+    (subst (λ (m : Memory). Shows m c.args.code.now.first c.args.code.now.instructions) (sym memory) c.requires.shows)
 
 pub returns-clause-pcs : goal.returns-clause-pcs
 returns-clause-pcs c =

@@ -1,7 +1,7 @@
 use Rattle.std.proofs.Common.{◌≡◌, ◌++◌, List, [], length, map, take, ap, ◌∙◌, subst, arith, length-drop}
 use Rattle.pages.specs.Memory.{Memory}
 use Rattle.round_schedule.specs.declared.event.Event.{Event}
-use Rattle.hart_step.specs.CodeTables.{Shows}
+use Rattle.hart_step.specs.DecodedCode.{Shows}
 use Rattle.event_pcs.specs.Parts.{pc_in_parts}
 use Rattle.event_pcs.proofs.InParts.{is_memory}
 use Rattle.event_pcs.proofs.StretchByStretch.{told_on}
@@ -12,7 +12,7 @@ add_first_pcs-requires-clause-shows c =
     let u = c.args.machine.now in
     let memory : c.pages-pages.result.now.memory ≡ record { bytes = u.bytes; code = u.code } =
     is_memory u c.pages-pages.result.now.memory c.pages-pages.ensures.bytes c.pages-pages.ensures.code in
-    subst (λ (m : Memory). Shows m c.in_ok-table.table.first c.in_ok-table.table.instructions) memory c.in_ok-table.ensures
+    subst (λ (m : Memory). Shows m c.in_ok-code.code.first c.in_ok-code.code.instructions) memory c.in_ok-code.ensures
 
 pub loop-done-preserved : goal.loop-done-preserved
 loop-done-preserved c =

@@ -36,11 +36,11 @@ returns-in-Some-clause-ready c =
     record {
       few = omega (arith, length-set p.harts.items i c.do_step.new.h, c.requires.few);
       shows = c.in_ok-answer.ensures.shows;
-      table = c.in_ok-answer.ensures.table ∙ c.requires.table ∙ sym (length-set p.harts.items i c.do_step.new.h);
-      owned = length-set p.own.items i c.kept_by.result ∙ c.requires.owned ∙ sym (length-set p.harts.items i c.do_step.new.h);
+      reservations = c.in_ok-answer.ensures.reservations ∙ c.requires.reservations ∙ sym (length-set p.harts.items i c.do_step.new.h);
+      owned = length-set p.own.items i c.own_held_after.result ∙ c.requires.owned ∙ sym (length-set p.harts.items i c.do_step.new.h);
       own = λ j l.
           let k : j < n = omega (arith, l, length-set p.harts.items i c.do_step.new.h) in
-          owned_step p.own.items p.events.items n i c.in-Done.access c.index-own.result.now c.kept_by.result c.requires.owned inside c.requires.own holds c.kept_by.ensures j k
+          owned_step p.own.items p.events.items n i c.in-Done.access c.index-own.result.now c.own_held_after.result c.requires.owned inside c.requires.own holds c.own_held_after.ensures j k
           ∙ ap (own_held j) (ap (λ (k : ℕ). p.events.items ++ step_event k c.in-Done.access ∷ []) c.from-index.ensures
           ∙ ap (λ (f : Event). p.events.items ++ f ∷ []) (sym c.event_of-event.ensures)
           ∙ ap (λ (t : List Event). t ++ c.event_of-event.result ∷ []) (sym c.in_ok-reserve_one.ensures.events) ∙ sym c.note.ensures.events);

@@ -1,5 +1,5 @@
 use Rattle.std.proofs.Common.{◌∙◌, ap, sym}
-use Rattle.hart_step.specs.CodeTables.{decoded, instr_in}
+use Rattle.hart_step.specs.DecodedCode.{decoded, instr_in}
 use Rattle.execution.proofs.step.instruction_at.Goals as goal
 
 pub returns-in-Some : goal.returns-in-Some

@@ -1,7 +1,7 @@
 use Rattle.std.proofs.Common.{ℕ, List}
 use Rattle.pages.specs.Memory.{Memory}
 use Rattle.rv64_decode.specs.declared.instruction.Instr.{Instr}
-use Rattle.hart_step.specs.CodeTables.{Shows}
+use Rattle.hart_step.specs.DecodedCode.{Shows}
 use Rattle.execution.specs.Executions.{IsLike}
 use Rattle.execution.proofs.step.lay_bytes.Given as goal
 

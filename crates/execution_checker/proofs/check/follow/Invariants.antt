@@ -3,8 +3,8 @@ use Rattle.execution.specs.Executions.{IsLike}
 use Rattle.execution_checker.specs.Allowed.{Follows}
 use Rattle.execution_checker.proofs.check.follow.Given as goal
 
-abbrev pub invariant-loop-place : goal.invariant-loop-place
-invariant-loop-place l = record {
+abbrev pub invariant-loop-index : goal.invariant-loop-index
+invariant-loop-index l = record {
   like : IsLike l.fn.execution.memory l.execution.memory;
-  follows : Follows l.fn.execution.memory (take l.place l.script) l.fn.execution.standing l.execution.standing;
+  follows : Follows l.fn.execution.memory (take l.index l.script) l.fn.execution.standing l.execution.standing;
 }

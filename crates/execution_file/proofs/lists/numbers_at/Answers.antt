@@ -2,7 +2,7 @@ use Rattle.std.proofs.Common.{◌≡◌, ℕ, List, Ok, length, map, arith, subs
 use Rattle.std.proofs.lemmas.List.{map-id}
 use Rattle.std.proofs.lemmas.Result.{err_from_is_err_and}
 use Rattle.execution_file.specs.Grammar.{double}
-use Rattle.execution_file.specs.Parts.{taken_list}
+use Rattle.execution_file.specs.Formats.{taken_list}
 use Rattle.execution_file.proofs.WordLoops.{list_breaks, list_cut, list_ends, list_fails, list_goes, list_spent}
 use Rattle.execution_file.proofs.lists.numbers_at.Goals as goal
 

@@ -1,6 +1,6 @@
 use Rattle.std.proofs.Common.{◌≡◌, ◌≤◌, ◌-◌, ℕ, length, map}
 use Rattle.execution_file.specs.Grammar.{double}
-use Rattle.execution_file.specs.Parts.{taken_list}
+use Rattle.execution_file.specs.Formats.{taken_list}
 use Rattle.execution_file.proofs.Loops.{with_front}
 use Rattle.execution_file.proofs.lists.numbers_at.Given as goal
 

@@ -1,7 +1,7 @@
 use Rattle.std.proofs.Common.{length, map, arith}
 use Rattle.std.proofs.lemmas.Result.{err_from_is_err_and}
 use Rattle.execution_file.specs.Grammar.{hart_turn}
-use Rattle.execution_file.specs.Parts.{taken_list}
+use Rattle.execution_file.specs.Formats.{taken_list}
 use Rattle.execution_file.specs.Views.{turn_view}
 use Rattle.execution_file.proofs.WordLoops.{list_breaks, list_cut, list_ends, list_fails, list_goes, list_spent}
 use Rattle.execution_file.proofs.lists.turns_at.Goals as goal

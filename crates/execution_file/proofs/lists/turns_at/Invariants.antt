@@ -1,6 +1,6 @@
 use Rattle.std.proofs.Common.{◌≡◌, ◌≤◌, ◌-◌, length, map}
 use Rattle.execution_file.specs.Grammar.{hart_turn}
-use Rattle.execution_file.specs.Parts.{taken_list}
+use Rattle.execution_file.specs.Formats.{taken_list}
 use Rattle.execution_file.specs.Views.{turn_view}
 use Rattle.execution_file.proofs.Loops.{with_front}
 use Rattle.execution_file.proofs.lists.turns_at.Given as goal

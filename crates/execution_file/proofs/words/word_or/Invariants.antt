@@ -1,5 +1,5 @@
 use Rattle.std.proofs.Common.{◌≡◌, drop}
-use Rattle.execution_file.specs.Parts.{taken_word}
+use Rattle.execution_file.specs.Formats.{taken_word}
 use Rattle.execution_file.proofs.words.word_or.Given as goal
 
 abbrev pub invariant-loop-byte : goal.invariant-loop-byte

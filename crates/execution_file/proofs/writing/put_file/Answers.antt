@@ -1,9 +1,9 @@
 use Rattle.std.proofs.Common.{◌++◌, ◌-◌, ◌^◌, ◌∙◌, List, ℕ, ap, append_assoc, codes, map}
 use Rattle.std.specs.Fmt.{decimal}
-use Rattle.execution_file.specs.declared.file.HartPart.{HartPart}
+use Rattle.execution_file.specs.declared.file.HartDeeds.{HartDeeds}
 use Rattle.execution_file.specs.declared.file.Turn.{Turn}
 use Rattle.execution_file.specs.Grammar.{bytes, hart_lines, hart_turn, number_of_flag}
-use Rattle.execution_file.specs.Parts.{counted, spelled_list}
+use Rattle.execution_file.specs.Formats.{counted, spelled_list}
 use Rattle.execution_file.specs.Views.{hart_view, turn_view}
 use Rattle.execution_file.proofs.Written.{on_ok, then_written}
 use Rattle.execution_file.proofs.writing.put_file.Goals as goal
@@ -17,7 +17,7 @@ returns c =
     (then_written c.put_named_bytes.new.text.items c.put_named_bytes-2.new.text.items _ _ c.put_named_turns-2.new.text.items
     (c.in_ok-put_named_bytes-2.ensures ∙ ap (λ (bs : List ℕ). c.put_named_bytes.new.text.items ++ (codes "input " ++ bytes.spelled bs)) c.as_slice-2.ensures.value)
     (then_written c.put_named_bytes-2.new.text.items c.put_harts.new.text.items _ _ c.put_named_turns-2.new.text.items
-    (c.in_ok-put_harts.ensures ∙ ap (λ (hs : List HartPart). c.put_named_bytes-2.new.text.items ++ (codes "harts " ++ (counted (2 ^ 64 - 1) (λ n i. hart_lines i)).spelled (map hart_view hs))) c.as_slice-3.ensures.value)
+    (c.in_ok-put_harts.ensures ∙ ap (λ (hs : List HartDeeds). c.put_named_bytes-2.new.text.items ++ (codes "harts " ++ (counted (2 ^ 64 - 1) (λ n i. hart_lines i)).spelled (map hart_view hs))) c.as_slice-3.ensures.value)
     (then_written c.put_harts.new.text.items c.put_named_turns.new.text.items _ _ c.put_named_turns-2.new.text.items
     (c.in_ok-put_named_turns.ensures ∙ ap (λ (ts : List Turn). c.put_harts.new.text.items ++ (codes "calls" ++ spelled_list hart_turn (map turn_view ts))) c.as_slice-4.ensures.value)
     (e ∙ ap (λ (ts : List Turn). c.put_named_turns.new.text.items ++ (codes "order" ++ spelled_list hart_turn (map turn_view ts))) c.as_slice-5.ensures.value)))))

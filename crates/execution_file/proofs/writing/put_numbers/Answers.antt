@@ -1,7 +1,7 @@
 use Rattle.std.proofs.Common.{◌++◌, ◌∙◌, ℕ, List, ap, get_or, refl}
 use Rattle.std.proofs.lemmas.List.{map-id}
 use Rattle.execution_file.specs.Grammar.{double}
-use Rattle.execution_file.specs.Parts.{spelled_list}
+use Rattle.execution_file.specs.Formats.{spelled_list}
 use Rattle.execution_file.proofs.Written.{list_ended, list_more, on_ok}
 use Rattle.execution_file.proofs.writing.put_numbers.Goals as goal
 

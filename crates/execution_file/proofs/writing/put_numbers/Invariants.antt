@@ -1,6 +1,6 @@
 use Rattle.std.proofs.Common.{◌≡◌, ◌++◌, ℕ, drop, map}
 use Rattle.execution_file.specs.Grammar.{double}
-use Rattle.execution_file.specs.Parts.{spelled_list}
+use Rattle.execution_file.specs.Formats.{spelled_list}
 use Rattle.execution_file.proofs.writing.put_numbers.Given as goal
 
 abbrev pub invariant-loop-number : goal.invariant-loop-number

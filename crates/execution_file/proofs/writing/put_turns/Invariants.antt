@@ -1,6 +1,6 @@
 use Rattle.std.proofs.Common.{◌≡◌, ◌++◌, drop, map}
 use Rattle.execution_file.specs.Grammar.{hart_turn}
-use Rattle.execution_file.specs.Parts.{spelled_list}
+use Rattle.execution_file.specs.Formats.{spelled_list}
 use Rattle.execution_file.specs.Views.{turn_view}
 use Rattle.execution_file.proofs.writing.put_turns.Given as goal
 

@@ -2,5 +2,5 @@ use Rattle.std.proofs.Common.{slice_index}
 use Rattle.execution_moments.proofs.Timing.{LatestSoFar}
 use Rattle.execution_moments.proofs.times.latest_loads.Given as goal
 
-abbrev pub invariant-loop-place : goal.invariant-loop-place
-invariant-loop-place l = LatestSoFar l.events (λ i. slice_index l.positions i) l.place l.latest.items l.found.items
+abbrev pub invariant-loop-index : goal.invariant-loop-index
+invariant-loop-index l = LatestSoFar l.events (λ i. slice_index l.positions i) l.index l.latest.items l.found.items

@@ -3,7 +3,7 @@ use Rattle.std.proofs.lemmas.Bool.{cases_eq, cond-false, cond-true, eq-eqb, ne_e
 use Rattle.std.proofs.lemmas.List.{get_or_default, length-map, length-replicate}
 use Rattle.round_schedule.specs.Positions.{event}
 use Rattle.memory_order.specs.Operations.{is_operation}
-use Rattle.memory_order.specs.Orders.{place}
+use Rattle.memory_order.specs.Orders.{order_position}
 use Rattle.memory_order.proofs.Facts.{within}
 use Rattle.order_checker.specs.Checking.{Earlier, IsMax}
 use Rattle.order_checker.proofs.Bounding.{earlier_none}
@@ -24,7 +24,7 @@ loop-i-init c =
     record {
       harts = ap length all ∙ length-replicate {A = Passed} 256 nothing_passed;
       counts = λ h. ap (λ (p : Passed). p.count) (at h);
-      latest = λ h. subst (IsMax (place c.args.order.now) (Earlier is_operation t h 0)) (sym (ap (λ (p : Passed). p.latest) (at h))) (earlier_none is_operation t (place c.args.order.now) h);
+      latest = λ h. subst (IsMax (order_position c.args.order.now) (Earlier is_operation t h 0)) (sym (ap (λ (p : Passed). p.latest) (at h))) (earlier_none is_operation t (order_position c.args.order.now) h);
       named = λ a l op. absurd (omega (arith, l));
     }
 
@@ -53,8 +53,8 @@ loop-i-preserved c = elim c.if-is_operation_at.branch [
       let is_before = w.of_hart-before.ensures nothing_passed in
       let known : before ≡ get_or old hart nothing_passed = is_before ∙ ap (λ k. get_or old k nothing_passed) w.hart_at-hart.ensures in
       let count : before.count ≡ operations_of hart (take i t) = ap (λ (p : Passed). p.count) known ∙ c.loop-i.invariant.counts hart in
-      let most : IsMax (place g) (Earlier is_operation t hart i) before.latest =
-      subst (IsMax (place g) (Earlier is_operation t hart i)) (sym (ap (λ (p : Passed). p.latest) known)) (c.loop-i.invariant.latest hart) in
+      let most : IsMax (order_position g) (Earlier is_operation t hart i) before.latest =
+      subst (IsMax (order_position g) (Earlier is_operation t hart i)) (sym (ap (λ (p : Passed). p.latest) known)) (c.loop-i.invariant.latest hart) in
       let here : (h : ℕ) → hart ≡ h → get_or new h nothing_passed ≡ w.after.result = λ h same.
       w.set_of_hart.ensures.set nothing_passed h
       ∙ cond-true (h == w.hart_at-hart.result) w.after.result (get_or old h nothing_passed) (eq-eqb h w.hart_at-hart.result (sym same ∙ sym w.hart_at-hart.ensures)) in
@@ -73,10 +73,10 @@ loop-i-preserved c = elim c.if-is_operation_at.branch [
         ];
         latest = λ h. elim (cases_eq hart h) [
           | inl same ↦
-              subst (IsMax (place g) (Earlier is_operation t h (i + 1))) (sym (ap (λ (p : Passed). p.latest) (here h same) ∙ w.after.ensures.latest))
-              (latest_here t g h i before.latest (rank + 1) same op (ap (λ k. k + 1) w.position_of-rank.ensures.at) (subst (λ k. IsMax (place g) (Earlier is_operation t k i) before.latest) same most))
+              subst (IsMax (order_position g) (Earlier is_operation t h (i + 1))) (sym (ap (λ (p : Passed). p.latest) (here h same) ∙ w.after.ensures.latest))
+              (latest_here t g h i before.latest (rank + 1) same op (ap (λ k. k + 1) w.position_of-rank.ensures.at) (subst (λ k. IsMax (order_position g) (Earlier is_operation t k i) before.latest) same most))
           | inr other ↦
-              subst (IsMax (place g) (Earlier is_operation t h (i + 1))) (sym (ap (λ (p : Passed). p.latest) (elsewhere h other)))
+              subst (IsMax (order_position g) (Earlier is_operation t h (i + 1))) (sym (ap (λ (p : Passed). p.latest) (elsewhere h other)))
               (latest_elsewhere t g h i _ other (c.loop-i.invariant.latest h))
         ];
         named = named_more (map turn_view us) t g i c.loop-i.invariant.named (λ yes.

@@ -5,8 +5,8 @@ use Rattle.execution_views.proofs.moment.next_operation.Goals as goal
 
 pub returns-then-is_next_of : goal.returns-then-is_next_of
 returns-then-is_next_of c =
-    first_found (is_next_of c.args.events.now c.args.place) c.loop-later.later (length c.args.events.now) _ c.loop-later.invariant (omega arith) (sym c.is_next_of.ensures ∙ c.if-is_next_of.true)
+    first_found (is_next_of c.args.events.now c.args.index) c.loop-later.later (length c.args.events.now) _ c.loop-later.invariant (omega arith) (sym c.is_next_of.ensures ∙ c.if-is_next_of.true)
 
 pub loop-later-preserved : goal.loop-later-preserved
 loop-later-preserved c =
-    first_passed (is_next_of c.args.events.now c.args.place) c.loop-later.later (length c.args.events.now) _ c.loop-later.invariant (omega arith) (sym c.is_next_of.ensures ∙ c.if-is_next_of.false)
+    first_passed (is_next_of c.args.events.now c.args.index) c.loop-later.later (length c.args.events.now) _ c.loop-later.invariant (omega arith) (sym c.is_next_of.ensures ∙ c.if-is_next_of.false)

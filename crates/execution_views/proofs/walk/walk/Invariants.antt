@@ -4,9 +4,9 @@ use Rattle.execution_checker.specs.Allowed.{Follows}
 use Rattle.execution_views.specs.Walks.{AreNotes}
 use Rattle.execution_views.proofs.walk.walk.Given as goal
 
-abbrev pub invariant-loop-place : goal.invariant-loop-place
-invariant-loop-place l = record {
+abbrev pub invariant-loop-index : goal.invariant-loop-index
+invariant-loop-index l = record {
   like : IsLike l.fn.execution.memory l.execution.memory;
-  follows : Follows l.fn.execution.memory (take l.place l.script) l.fn.execution.standing l.execution.standing;
+  follows : Follows l.fn.execution.memory (take l.index l.script) l.fn.execution.standing l.execution.standing;
   notes : AreNotes l.fn.execution.memory l.fn.execution.standing l.execution.standing l.asked l.notes;
 }

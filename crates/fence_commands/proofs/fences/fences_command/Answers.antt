@@ -2,7 +2,7 @@ use Rattle.std.proofs.Common.{◌∙◌, List, ap, inl, inr, map, subst, ⊎_eli
 use Rattle.execution_file.specs.Views.{as_recorded}
 use Rattle.execution_file.specs.declared.file.ExecutionFile.{ExecutionFile}
 use Rattle.fence_commands.specs.Asked.{keep_of}
-use Rattle.fence_commands.specs.Kept.{AreKept}
+use Rattle.fence_commands.specs.Saved.{AreSaved}
 use Rattle.fence_commands.specs.Status.{fences_status}
 use Rattle.program_files.proofs.Begun.{on_err, whole}
 use Rattle.fence_commands.proofs.fences.fences_command.Goals as goal
@@ -46,6 +46,6 @@ returns-clause-searches g c =
       c.in_ok-hand_on.ensures.took ∙ done.1,
       c.in_ok-hand_on.ensures.out,
       c.fences_status.ensures ∙ ap (fences_status asked.fail_on) done.2,
-      subst (λ (es : List ExecutionFile). AreKept g.F.Files.was_given (keep_of asked) (map as_recorded es) c.args.files.now c.keep.new.files) (c.deref-2.ensures.value ∙ done.3)
-          c.in_ok-keep.ensures.kept,
+      subst (λ (es : List ExecutionFile). AreSaved g.F.Files.was_given (keep_of asked) (map as_recorded es) c.args.files.now c.keep.new.files) (c.deref-2.ensures.value ∙ done.3)
+          c.in_ok-keep.ensures.saved,
     )

@@ -1,11 +1,11 @@
 use Rattle.std.proofs.Common.{◌≡◌, ℕ, ◌≤◌, ◌<◌, length}
 use Rattle.round_schedule.specs.Held.{held_from}
-use Rattle.round_schedule.specs.Tables.{entry}
+use Rattle.round_schedule.specs.Reservations.{entry}
 use Rattle.gdb_answers.proofs.held.note.Given as goal
 
 abbrev pub invariant-loop-hart : goal.invariant-loop-hart
 invariant-loop-hart l = record {
-  count : length l.table.items ≡ length l.fn.table.items;
-  done : (h : ℕ) → h < l.hart → entry l.table.items h ≡ held_from h (entry l.fn.table.items h) l.events;
-  rest : (h : ℕ) → l.hart ≤ h → entry l.table.items h ≡ entry l.fn.table.items h;
+  count : length l.reservations.items ≡ length l.fn.reservations.items;
+  done : (h : ℕ) → h < l.hart → entry l.reservations.items h ≡ held_from h (entry l.fn.reservations.items h) l.events;
+  rest : (h : ℕ) → l.hart ≤ h → entry l.reservations.items h ≡ entry l.fn.reservations.items h;
 }

@@ -1,6 +1,6 @@
 use Rattle.std.proofs.Common.{ℕ, ◌+◌, ◌++◌, List, Option, ap, sym, ◌∙◌, add-one}
 use Rattle.round_schedule.specs.declared.span.Span.{Span}
-use Rattle.round_schedule.specs.Tables.{entry}
+use Rattle.round_schedule.specs.Reservations.{entry}
 use Rattle.gdb_answers.specs.Reserved.{held_lines, span_line}
 use Rattle.gdb_answers.proofs.reserved.held_lines.Goals as goal
 
@@ -13,6 +13,6 @@ unfolding held_lines
 loop-hart-preserved c = λ t tied.
     let h = c.loop-hart.hart in
     c.in_ok-add_span.ensures
-    ∙ ap (λ (xs : List ℕ). xs ++ span_line h (entry c.args.table.now h)) (c.loop-hart.invariant t tied)
+    ∙ ap (λ (xs : List ℕ). xs ++ span_line h (entry c.args.reservations.now h)) (c.loop-hart.invariant t tied)
     ∙ ap (λ (s : Option Span). held_lines t h ++ span_line h s) (tied.each h c.loop-hart-test.true)
     ∙ ap (held_lines t) (sym (add-one h))

@@ -10,5 +10,5 @@ returns-in-Ok-clause-writes g c = λ t tied.
     let took = g.K.Sink.took c.args.out.now in
     let after = g.K.Sink.took c.say_or.new.out in
     let W : List ℕ → Type 0 = λ xs. OnOk c.say_or.result (after ≡ took ++ packet_text (encode_lower (text_or (codes "no reservations\n") xs))) in
-    let is : c.as_slice.result.now ≡ held_lines t (length c.args.table.now) = c.as_slice.ensures.value ∙ c.in-Ok.ensures t tied in
+    let is : c.as_slice.result.now ≡ held_lines t (length c.args.reservations.now) = c.as_slice.ensures.value ∙ c.in-Ok.ensures t tied in
     subst W is c.say_or.ensures.writes.ok

@@ -7,8 +7,8 @@ commit_on-requires-clause-writable g c = λ lifetimes within. all_writable c.arg
 pub returns-then-stores_lines-clause-committed : goal.returns-then-stores_lines-clause-committed
 returns-then-stores_lines-clause-committed g c =
     let e = c.commit_on.ensures in
-    committed_at_once c.args.ends.now c.args.pages.now c.commit_on.new.pages c.args.table.now c.commit_on.new.table
-    (record { memory = e.memory; ready = e.ready; spare = e.spare; size = e.size; table = e.table })
+    committed_at_once c.args.ends.now c.args.pages.now c.commit_on.new.pages c.args.reservations.now c.commit_on.new.reservations
+    (record { memory = e.memory; ready = e.ready; spare = e.spare; size = e.size; reservations = e.reservations })
 
 pub commit-requires-clause-writable : goal.commit-requires-clause-writable
 commit-requires-clause-writable g c = all_writable c.args.pages.now c.args.ends.now c.requires.fits c.requires.ready
@@ -16,5 +16,5 @@ commit-requires-clause-writable g c = all_writable c.args.pages.now c.args.ends.
 pub returns-else-crew-gt1-clause-committed : goal.returns-else-crew-gt1-clause-committed
 returns-else-crew-gt1-clause-committed g c =
     let e = c.commit.ensures in
-    committed_at_once c.args.ends.now c.args.pages.now c.commit.new.pages c.args.table.now c.commit.new.table
-    (record { memory = e.memory; ready = e.ready; spare = e.spare; size = e.size; table = e.table })
+    committed_at_once c.args.ends.now c.args.pages.now c.commit.new.pages c.args.reservations.now c.commit.new.reservations
+    (record { memory = e.memory; ready = e.ready; spare = e.spare; size = e.size; reservations = e.reservations })

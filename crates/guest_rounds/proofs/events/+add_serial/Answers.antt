@@ -1,10 +1,10 @@
 use Rattle.std.proofs.Common.{◌+◌, ◌++◌, List, arith, drop, drop-cons, subst, sym}
 use Rattle.std.proofs.lemmas.Grind.{common_steps}
 use Rattle.round_schedule.specs.declared.event.Event.{Event}
-use Rattle.round_schedule.specs.TabledTurn.{log_events}
+use Rattle.round_schedule.specs.ReservingTurn.{log_events}
 use Rattle.trace.specs.Traced.{IsTrace}
 use Rattle.trace.proofs.Growing.{beginning}
-use Rattle.guest_rounds.proofs.TraceKept.{turn_first}
+use Rattle.guest_rounds.proofs.TraceHolds.{turn_first}
 use Rattle.guest_rounds.proofs.events.+add_serial.Goals as goal
 
 pub add_turn-requires-clause-sound : goal.add_turn-requires-clause-sound

@@ -7,21 +7,21 @@ use Rattle.hart_rounds.specs.Starts.{Start}
 use Rattle.guest_rounds.specs.HartEnds.{AreEndsOf}
 use Rattle.hart_rounds.specs.declared.hart_end.HartEnd.{HartEnd}
 use Rattle.hart_rounds.proofs.HartRounds.{indexed}
-use Rattle.guest_rounds.proofs.KeptHarts.{kept_at}
+use Rattle.guest_rounds.proofs.StoppedHarts.{stays_at}
 use Rattle.guest_rounds.proofs.RoundsOfHarts.{is_end_of, ends_more}
 use Rattle.guest_rounds.proofs.parallel.rounds_in_place.Goals as goal
 
 pub loop-number-init : goal.loop-number-init
 loop-number-init g c = record { done = tt; rest = λ k o low. refl }
 
-pub round_in_place-requires-clause-kept : goal.round_in_place-requires-clause-kept
-round_in_place-requires-clause-kept g c = λ stopped.
+pub round_in_place-requires-clause-stays : goal.round_in_place-requires-clause-stays
+round_in_place-requires-clause-stays g c = λ stopped.
     let hs : List Hart = c.args.start.now.harts in
     let n = c.loop-number.number in
     let o : HartEnd = c.index-ends-number.result in
     let low : n < length hs = subst (λ (xs : List Hart). n < length xs) c.harts-number-end.ensures.harts c.loop-number-test.true in
     let same : get_or c.loop-number.ends n o ≡ get_or c.args.ends.now n o = c.loop-number.invariant.rest n o (omega arith) in
-    let here : get_or hs n o.hart ≡ (get_or c.args.ends.now n o).hart = kept_at hs c.args.ends.now n o low (omega (arith, low, c.requires.many)) c.requires.kept (ap (λ (x : HartEnd). is_some x.hart.stop) (sym same) ∙ stopped) in
+    let here : get_or hs n o.hart ≡ (get_or c.args.ends.now n o).hart = stays_at hs c.args.ends.now n o low (omega (arith, low, c.requires.many)) c.requires.kept (ap (λ (x : HartEnd). is_some x.hart.stop) (sym same) ∙ stopped) in
     indexed hs n o.hart low ∙ ap Some (here ∙ ap (λ (x : HartEnd). x.hart) (sym same))
 
 pub loop-number-preserved : goal.loop-number-preserved

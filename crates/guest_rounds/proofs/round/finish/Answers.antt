@@ -2,17 +2,17 @@ use Rattle.std.proofs.Common.{◌≡◌, Bool, ◌*◌, ◌≤◌, ◌++◌, ℕ
 use Rattle.std.proofs.lemmas.Nat.{mul-le}
 use Rattle.pages.specs.Memory.{Memory}
 use Rattle.commit_phase.specs.Commit.{Committed}
-use Rattle.hart_step.specs.CodeTables.{Shows}
+use Rattle.hart_step.specs.DecodedCode.{Shows}
 use Rattle.serial_phase.specs.declared.shared.SharedState.{SharedState}
 use Rattle.round_schedule.specs.declared.event.Event.{Event}
 use Rattle.hart_step.specs.declared.hart.Hart.{Hart}
 use Rattle.serial_phase.specs.Phase.{TakesTurns, serial_done, budget_from}
 use Rattle.serial_phase.specs.Roomed.{HasRoom}
 use Rattle.hart_rounds.specs.declared.hart_end.HartEnd.{HartEnd}
-use Rattle.guest_rounds.specs.HartEnds.{AreFit, AreKept, AreEndsOf, AreReady, mask_of, waits_of, harts_of, events_of_rounds, round_events}
-use Rattle.guest_rounds.proofs.CodeKept.{shows_committed}
+use Rattle.guest_rounds.specs.HartEnds.{AreFit, StoppedStay, AreEndsOf, AreReady, mask_of, waits_of, harts_of, events_of_rounds, round_events}
+use Rattle.guest_rounds.proofs.ShownCode.{shows_committed}
 use Rattle.guest_rounds.proofs.Counted.{all_logged, count_events, few_turns}
-use Rattle.guest_rounds.proofs.KeptHarts.{kept_by_turns}
+use Rattle.guest_rounds.proofs.StoppedHarts.{stay_by_turns}
 use Rattle.guest_rounds.proofs.RoundDone.{by_ends, by_rounds, finished_from, needed_is, length-waits, length-harts, spares_left, log_of}
 use Rattle.guest_rounds.proofs.Tallied.{count_most, turns_by_count}
 use Rattle.guest_rounds.proofs.round.finish.Goals as goal
@@ -58,7 +58,7 @@ serial-requires g c =
     let committed = c.commit.ensures.committed g.E.EventKeeper.logs rounds.0 (subst (λ (x : Memory). AreEndsOf g.E.EventKeeper.logs x rounds.0 c.make_room.new.ends) (sym same)
     (subst (λ (x : List HartEnd). AreEndsOf g.E.EventKeeper.logs m rounds.0 x) (sym c.in_ok-adopts.ensures.ends) rounds.1)) in
     record {
-      shows = shows_committed rounds.0 m room.pages c.commit.new.pages room.reservations c.commit.new.table room.code.first room.code.instructions same committed rounds.2
+      shows = shows_committed rounds.0 m room.pages c.commit.new.pages room.reservations c.commit.new.reservations room.code.first room.code.instructions same committed rounds.2
           (subst (λ x. Shows m x.first x.instructions) (sym c.make_turn_room.ensures.code) c.requires.shows);
       harts = size ∙ sym c.requires.size ∙ ap length (sym c.make_turn_room.ensures.reservations) ∙ sym c.commit.ensures.size;
       few = omega (arith, size, c.requires.few);
@@ -74,8 +74,8 @@ len-requires g c = c.serial.ensures.current
 
 pub returns-clause-kept : goal.returns-clause-kept
 returns-clause-kept g c =
-    subst (AreKept c.serial.new.harts) (c.give_harts.ensures ∙ sym c.add.ensures.harts)
-    (kept_by_turns c.args.phase c.give_harts.new.harts c.serial.new.harts _ c.serial.new.state c.serial.ensures.turns)
+    subst (StoppedStay c.serial.new.harts) (c.give_harts.ensures ∙ sym c.add.ensures.harts)
+    (stay_by_turns c.args.phase c.give_harts.new.harts c.serial.new.harts _ c.serial.new.state c.serial.ensures.turns)
 
 pub add-requires : goal.add-requires
 add-requires g c =
@@ -84,13 +84,13 @@ add-requires g c =
     let a = c.requires.rounds.1 in
     let sound = c.requires.rounds.3 in
     let phase = c.args.phase in
-    let start : SharedState = record c.make_turn_room.new.shared { pages = c.commit.new.pages; reservations = c.commit.new.table } in
+    let start : SharedState = record c.make_turn_room.new.shared { pages = c.commit.new.pages; reservations = c.commit.new.reservations } in
     let served = subst (λ (hs : List Hart). TakesTurns (serial_done phase hs start) c.serial.new.harts start c.serial.new.state) (c.give_harts.ensures ∙ ap harts_of c.in_ok-adopts.ensures.ends) c.serial.ensures.turns in
     let fits = log_of phase (waits_of os) (harts_of os) c.serial.new.harts start c.serial.new.state (length-waits os ∙ sym (length-harts os)) c.requires.waiting served in
     let kept = c.in_ok-make_turn_room.ensures.keeps.memory in
     let same = c.in_ok-adopts.ensures.ends in
     let finished = finished_from phase rs os c.serial.new.harts c.args.shared.now c.make_turn_room.new.shared start c.serial.new.state kept
-    (subst (λ t. Committed rs c.make_turn_room.new.shared.pages c.commit.new.pages t c.commit.new.table) c.make_turn_room.ensures.reservations (c.commit.ensures.committed g.E.EventKeeper.logs rs (subst (λ (m : Memory). AreEndsOf g.E.EventKeeper.logs m rs c.make_room.new.ends) (sym kept)
+    (subst (λ t. Committed rs c.make_turn_room.new.shared.pages c.commit.new.pages t c.commit.new.reservations) c.make_turn_room.ensures.reservations (c.commit.ensures.committed g.E.EventKeeper.logs rs (subst (λ (m : Memory). AreEndsOf g.E.EventKeeper.logs m rs c.make_room.new.ends) (sym kept)
     (subst (λ (x : List HartEnd). AreEndsOf g.E.EventKeeper.logs c.args.shared.now.pages.memory rs x) (sym same) a)))) c.make_turn_room.ensures.console served in
     record {
       harts = fits.length ∙ length-harts os ∙ sym (ap length same);
@@ -108,12 +108,12 @@ pub returns-clause-ok : goal.returns-clause-ok
 returns-clause-ok g c = λ rs a.
     let os = c.args.ends.now in
     let phase = c.args.phase in
-    let start : SharedState = record c.make_turn_room.new.shared { pages = c.commit.new.pages; reservations = c.commit.new.table } in
+    let start : SharedState = record c.make_turn_room.new.shared { pages = c.commit.new.pages; reservations = c.commit.new.reservations } in
     let served = subst (λ (hs : List Hart). TakesTurns (serial_done phase hs start) c.serial.new.harts start c.serial.new.state) (c.give_harts.ensures ∙ ap harts_of c.in_ok-adopts.ensures.ends) c.serial.ensures.turns in
     let kept = c.in_ok-make_turn_room.ensures.keeps.memory in
     let same = c.in_ok-adopts.ensures.ends in
     let finished = finished_from phase rs os c.serial.new.harts c.args.shared.now c.make_turn_room.new.shared start c.serial.new.state kept
-    (subst (λ t. Committed rs c.make_turn_room.new.shared.pages c.commit.new.pages t c.commit.new.table) c.make_turn_room.ensures.reservations (c.commit.ensures.committed g.E.EventKeeper.logs rs (subst (λ (m : Memory). AreEndsOf g.E.EventKeeper.logs m rs c.make_room.new.ends) (sym kept)
+    (subst (λ t. Committed rs c.make_turn_room.new.shared.pages c.commit.new.pages t c.commit.new.reservations) c.make_turn_room.ensures.reservations (c.commit.ensures.committed g.E.EventKeeper.logs rs (subst (λ (m : Memory). AreEndsOf g.E.EventKeeper.logs m rs c.make_room.new.ends) (sym kept)
     (subst (λ (x : List HartEnd). AreEndsOf g.E.EventKeeper.logs c.args.shared.now.pages.memory rs x) (sym same) a)))) c.make_turn_room.ensures.console served in
     let closed = c.serial.new.state.log.closed in
     let all = events_of_rounds phase.round rs closed in
@@ -129,7 +129,7 @@ pub returns-clause-few : goal.returns-clause-few
 returns-clause-few g c =
     let os = c.args.ends.now in
     let phase = c.args.phase in
-    let start : SharedState = record c.make_turn_room.new.shared { pages = c.commit.new.pages; reservations = c.commit.new.table } in
+    let start : SharedState = record c.make_turn_room.new.shared { pages = c.commit.new.pages; reservations = c.commit.new.reservations } in
     let served = subst (λ (hs : List Hart). TakesTurns (serial_done phase hs start) c.serial.new.harts start c.serial.new.state) (c.give_harts.ensures ∙ ap harts_of c.in_ok-adopts.ensures.ends) c.serial.ensures.turns in
     let fits = log_of phase (waits_of os) (harts_of os) c.serial.new.harts start c.serial.new.state (length-waits os ∙ sym (length-harts os)) c.requires.waiting served in
     omega (arith, c.requires.accesses, c.requires.counted, c.len.ensures, fits.fits, few_turns phase.budget (waits_of os) c.requires.budget, length-waits os, c.requires.few)
@@ -138,7 +138,7 @@ pub overflow_add-events : goal.overflow_add-events
 overflow_add-events g c =
     let os = c.args.ends.now in
     let phase = c.args.phase in
-    let start : SharedState = record c.make_turn_room.new.shared { pages = c.commit.new.pages; reservations = c.commit.new.table } in
+    let start : SharedState = record c.make_turn_room.new.shared { pages = c.commit.new.pages; reservations = c.commit.new.reservations } in
     let served = subst (λ (hs : List Hart). TakesTurns (serial_done phase hs start) c.serial.new.harts start c.serial.new.state) (c.give_harts.ensures ∙ ap harts_of c.in_ok-adopts.ensures.ends) c.serial.ensures.turns in
     let fits = log_of phase (waits_of os) (harts_of os) c.serial.new.harts start c.serial.new.state (length-waits os ∙ sym (length-harts os)) c.requires.waiting served in
     omega (arith, c.requires.accesses, c.requires.counted, c.len.ensures, fits.fits, few_turns phase.budget (waits_of os) c.requires.budget, length-waits os, c.requires.few)

@@ -33,7 +33,7 @@ take_turns-requires t c =
         (
           grind (arith, common_steps),
           (
-            omega (arith, c.take_turn.ensures.table, c.requires.few),
+            omega (arith, c.take_turn.ensures.reservations, c.requires.few),
             (
               c.take_turn.ensures.pages (turns_of c.args.turn.budget (waits_of (rest c.args.ends.now))) (subst (λ (z : ℕ). HasSpares z c.args.shared.now.pages) sum c.requires.pages),
               (

@@ -2,11 +2,11 @@ use Rattle.std.proofs.Common.{◌+◌, refl, sym, subst, ◌∙◌, arith}
 use Rattle.std.proofs.lemmas.Result.{IfOk-weaker}
 use Rattle.pages.specs.Memory.{Memory}
 use Rattle.commit_phase.specs.Commit.{Committed}
-use Rattle.hart_step.specs.CodeTables.{Shows}
+use Rattle.hart_step.specs.DecodedCode.{Shows}
 use Rattle.guest_rounds.specs.Guests.{shared_of}
 use Rattle.guest_rounds.specs.HartEnds.{AreEndsOf}
 use Rattle.guest_turns.proofs.AskedTurns.{begun_there, same_room}
-use Rattle.guest_rounds.proofs.CodeKept.{shows_committed}
+use Rattle.guest_rounds.proofs.ShownCode.{shows_committed}
 use Rattle.guest_rounds.proofs.RoundDone.{spares_left}
 use Rattle.guest_turns.proofs.asked_turn.ask_turn.Goals as goal
 
@@ -17,7 +17,7 @@ take_turns-requires-clause-shows g c =
     let m = c.args.shared.now.pages.memory in
     let same = c.in_ok-make_turn_room.ensures.keeps.memory in
     let committed = c.commit.ensures.committed rounds.0 rounds.1 (subst (λ (x : Memory). AreEndsOf rounds.0 x rounds.1 c.args.ends.now) (sym same) rounds.2) in
-    shows_committed rounds.1 m room.pages c.commit.new.pages room.reservations c.commit.new.table room.code.first room.code.instructions same committed rounds.3
+    shows_committed rounds.1 m room.pages c.commit.new.pages room.reservations c.commit.new.reservations room.code.first room.code.instructions same committed rounds.3
     (subst (λ x. Shows m x.first x.instructions) (sym c.in_ok-make_turn_room.ensures.code) c.requires.shows)
 
 pub sight_at-requires-clause-pages : goal.sight_at-requires-clause-pages
@@ -37,7 +37,7 @@ returns g c =
     let old = shared_of c.args.shared.now in
     let os = c.args.ends.now in
     let same = c.in_ok-make_turn_room.ensures.keeps.memory in
-    let committed = subst (λ t. Committed rs c.make_turn_room.new.shared.pages c.commit.new.pages t c.commit.new.table) c.in_ok-make_turn_room.ensures.reservations
+    let committed = subst (λ t. Committed rs c.make_turn_room.new.shared.pages c.commit.new.pages t c.commit.new.reservations) c.in_ok-make_turn_room.ensures.reservations
     (c.commit.ensures.committed logs rs (subst (λ (x : Memory). AreEndsOf logs x rs os) (sym same) a)) in
     p
     ∙ begun_there logs _ c.args.place c.args.start old rs os c.make_turn_room.new.shared.pages _ c.take_turns.new.shared refl a same committed c.in_ok-make_turn_room.ensures.console c.take_turns.ensures.turns)

@@ -30,7 +30,7 @@ one_asks-requires t c =
         (
           grind (arith, common_steps),
           (
-            omega (arith, c.take_asking_turn-asks.ensures.table, c.requires.few),
+            omega (arith, c.take_asking_turn-asks.ensures.reservations, c.requires.few),
             (
               c.take_asking_turn-asks.ensures.pages (turns_of c.args.turn.budget (waits_of (rest c.args.ends.now))) (subst (λ (z : ℕ). HasSpares z c.args.shared.now.pages) sum c.requires.pages),
               (

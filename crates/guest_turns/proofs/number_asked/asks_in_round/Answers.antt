@@ -8,7 +8,7 @@ use Rattle.hart_rounds.specs.Starts.{keeps_log}
 use Rattle.hart_rounds.specs.declared.hart_end.HartEnd.{HartEnd}
 use Rattle.guest_rounds.specs.Guests.{Shared, shared_of}
 use Rattle.guest_rounds.specs.HartEnds.{AreEndsOf, AreFit}
-use Rattle.run_loops.specs.Asking.{asks_in_round, asks_in_tabled_phase}
+use Rattle.run_loops.specs.Asking.{asks_in_round, asks_in_reserving_phase}
 use Rattle.run_loops.specs.Forgetting.{asks_number}
 use Rattle.guest_turns.specs.Asked.{ready_for_turns}
 use Rattle.guest_turns.proofs.HalfRounds.{bytes_here, ends_here, fit_here, many_here, rounds_here, tied_here, touches_here}
@@ -53,5 +53,5 @@ returns g c =
     round_asks logs plan n guest.harts s.pages s.reservations s.console.console es os b (ends_here logs plan n guest s os h)
     (bytes_here logs plan n guest s os h (subst IsBytes (ap (λ (m : Memory). m.bytes) c.pages.ensures) c.bytes_fit.ensures)) (tied_here logs plan n guest s os h es tied) h.size
     (λ ls rs a. f ls rs (subst (λ (xs : List HartEnd). AreEndsOf ls s.pages.memory rs xs) (sym c.as_slice.ensures.value) a)
-    ∙ ap (λ (k : ℕ). asks_in_tabled_phase (words_of s.pages.memory.code) (asks_number s.pages.memory.code) k (n + 1) 0 rs (ready_for_turns (shared_of s) rs)) c.budget-budget.ensures.budget)
+    ∙ ap (λ (k : ℕ). asks_in_reserving_phase (words_of s.pages.memory.code) (asks_number s.pages.memory.code) k (n + 1) 0 rs (ready_for_turns (shared_of s) rs)) c.budget-budget.ensures.budget)
     ∙ ap (λ (x : Shared). asks_in_round (words_of x.memory.code) (asks_number x.memory.code) plan.budget (quotas_of plan) (record { harts = guest.harts; bytes = x.memory.bytes; console = x.console; trace = es; rounds = n })) h.shared) c.asks_in_turns.ensures

@@ -6,7 +6,7 @@ use Rattle.hart_step.specs.Room.{HasSpares}
 use Rattle.hart_step.specs.declared.hart.Hart.{Hart}
 use Rattle.serial_phase.specs.Roomed.{HasRoom}
 use Rattle.guest_rounds.specs.HartEnds.{turns_of, waits_of}
-use Rattle.guest_turns.specs.TabledTurnHarts.{WalksTurn}
+use Rattle.guest_turns.specs.ReservingTurnHarts.{WalksTurn}
 use Rattle.guest_turns.proofs.AskedTurns.{rest, sums_0}
 use Rattle.guest_turns.proofs.TurnHartsFound.{none_added, one_added}
 use Rattle.guest_turns.proofs.turn_harts.+add_turns.Goals as goal
@@ -37,7 +37,7 @@ add_turns-requires t c =
         (
           grind (arith, common_steps),
           (
-            omega (arith, walked.table, c.requires.few),
+            omega (arith, walked.reservations, c.requires.few),
             (
               walked.pages (turns_of c.args.turn.budget (waits_of (rest c.args.ends.now))) (subst (λ (z : ℕ). HasSpares z c.args.shared.now.pages) sum c.requires.pages),
               (

@@ -9,7 +9,7 @@ use Rattle.hart_rounds.specs.declared.hart_end.HartEnd.{HartEnd}
 use Rattle.guest_rounds.specs.Guests.{Shared, shared_of}
 use Rattle.guest_rounds.specs.HartEnds.{AreEndsOf, AreFit}
 use Rattle.guest_turns.specs.Asked.{ready_for_turns}
-use Rattle.guest_turns.specs.TabledTurnHarts.{turns_in_tabled_phase}
+use Rattle.guest_turns.specs.ReservingTurnHarts.{turns_in_reserving_phase}
 use Rattle.guest_turns.specs.TurnHarts.{turns_in_round}
 use Rattle.guest_turns.proofs.HalfRounds.{bytes_here, ends_here, fit_here, many_here, rounds_here, tied_here, touches_here}
 use Rattle.guest_turns.proofs.TurnHartsFound.{round_turns}
@@ -53,5 +53,5 @@ returns g c =
     round_turns logs plan n guest.harts s.pages s.reservations s.console.console es os _ (ends_here logs plan n guest s os h)
     (bytes_here logs plan n guest s os h (subst IsBytes (ap (λ (m : Memory). m.bytes) c.pages.ensures) c.bytes_fit.ensures)) (tied_here logs plan n guest s os h es tied) h.size
     (λ ls rs a. f ls rs (subst (λ (xs : List HartEnd). AreEndsOf ls s.pages.memory rs xs) (sym c.as_slice.ensures.value) a)
-    ∙ ap (λ (k : ℕ). turns_in_tabled_phase (words_of s.pages.memory.code) k (n + 1) 0 rs (ready_for_turns (shared_of s) rs)) c.budget-budget.ensures.budget)
+    ∙ ap (λ (k : ℕ). turns_in_reserving_phase (words_of s.pages.memory.code) k (n + 1) 0 rs (ready_for_turns (shared_of s) rs)) c.budget-budget.ensures.budget)
     ∙ ap (λ (x : Shared). turns_in_round (words_of x.memory.code) plan.budget (quotas_of plan) (record { harts = guest.harts; bytes = x.memory.bytes; console = x.console; trace = es; rounds = n })) h.shared) c.walk_turns.ensures

@@ -1,5 +1,5 @@
 use Rattle.std.proofs.Common.{◌≡◌, ◌∙◌, ◌<◌, ◌^◌, ℕ, List, [], length, get_or, slice_get, Some, subst, sym, ap, refl, arith}
-use Rattle.hart_step.specs.CodeTables.{Shows}
+use Rattle.hart_step.specs.DecodedCode.{Shows}
 use Rattle.hart_step.specs.Words.{words_of}
 use Rattle.hart_step.specs.declared.hart.Hart.{Hart}
 use Rattle.pages.specs.Memory.{Memory}
@@ -12,10 +12,10 @@ use Rattle.hart_rounds.proofs.rounds.do_round.Goals as goal
 
 pub hart_round-requires : goal.hart_round-requires
 hart_round-requires g c =
-    let first = c.table.result.now.first in
-    let words = c.table.result.now.instructions in
+    let first = c.code.result.now.first in
+    let words = c.code.result.now.instructions in
     shows_through c.pages-pages.result.now.memory c.new-view.result first words c.new-view.ensures
-    (subst (λ (m : Memory). Shows m first words) (sym c.pages-pages.ensures) c.table.ensures)
+    (subst (λ (m : Memory). Shows m first words) (sym c.pages-pages.ensures) c.code.ensures)
 
 pub returns : goal.returns
 returns g c =

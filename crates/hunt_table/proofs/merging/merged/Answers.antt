@@ -43,36 +43,36 @@ loop-text-init c =
 pub returns-in_err-append-clause-apart : goal.returns-in_err-append-clause-apart
 returns-in_err-append-clause-apart c = λ e.
     let texts = c.args.texts.now in
-    let place = c.loop-text.text-index + 1 in
-    let at : c.text-item.result ≡ get_or texts place c.text-item.result = grind (arith, common_steps, c.text-item.is) in
-    let among : place < length texts = omega (arith, c.loop-text-test.true) in
+    let index = c.loop-text.text-index + 1 in
+    let at : c.text-item.result ≡ get_or texts index c.text-item.result = grind (arith, common_steps, c.text-item.is) in
+    let among : index < length texts = omega (arith, c.loop-text-test.true) in
     let p = err_from_is_err_and c.from_residual-in_err-append.result c.from_residual-in_err-append.ensures.1 in
     let same : c.in_err-append.field-0.0 ≡ Apart = cc (p.1, p.2) in
     let not : Adjoins c.harts_of-harts.result c.loop-text.whole c.in_ok-read_table.field-0 → ⊥ = c.in_err-append.ensures.apart (cc same) in
     let first = c.loop-text.invariant.0 in
     let tables = c.loop-text.invariant.1 in
     let t = c.in_ok-read_table.field-0 in
-    let read = next_text texts place c.text-item.result (first ∷ tables) t among at c.loop-text.invariant.2 (is_read c.text-item.result c.deref-in-loop-text.result.now c.read_table-in-loop-text.result t c.deref-in-loop-text.ensures.value c.in_ok-read_table.was c.in_ok-read_table.ensures.found c.read_table-in-loop-text.ensures.only) in
+    let read = next_text texts index c.text-item.result (first ∷ tables) t among at c.loop-text.invariant.2 (is_read c.text-item.result c.deref-in-loop-text.result.now c.read_table-in-loop-text.result t c.deref-in-loop-text.ensures.value c.in_ok-read_table.was c.in_ok-read_table.ensures.found c.read_table-in-loop-text.ensures.only) in
     inr (record {
-      before = place;
+      before = index;
       among = among;
-      slices = tell_slices (take place texts) (first ∷ tables) c.loop-text.invariant.2 c.loop-text.invariant.3.slices;
+      slices = tell_slices (take index texts) (first ∷ tables) c.loop-text.invariant.2 c.loop-text.invariant.3.slices;
       tables = (first ∷ tables) ++ t ∷ [];
-      are_texts = texts_of (take (place + 1) texts) ((first ∷ tables) ++ t ∷ []) read;
-      apart = apart_from (take (place + 1) texts) first tables c.loop-text.whole t read c.loop-text.invariant.3 (subst (λ (h : ℕ). Adjoins h c.loop-text.whole t → ⊥) c.loop-text.invariant.4 not);
+      are_texts = texts_of (take (index + 1) texts) ((first ∷ tables) ++ t ∷ []) read;
+      apart = apart_from (take (index + 1) texts) first tables c.loop-text.whole t read c.loop-text.invariant.3 (subst (λ (h : ℕ). Adjoins h c.loop-text.whole t → ⊥) c.loop-text.invariant.4 not);
     })
 
 pub loop-text-preserved : goal.loop-text-preserved
 loop-text-preserved c =
     let texts = c.args.texts.now in
-    let place = c.loop-text.text-index + 1 in
+    let index = c.loop-text.text-index + 1 in
     let first = c.loop-text.invariant.0 in
     let tables = c.loop-text.invariant.1 in
     let t = c.in_ok-read_table.field-0 in
-    let at : c.text-item.result ≡ get_or texts place c.text-item.result = grind (arith, common_steps, c.text-item.is) in (
+    let at : c.text-item.result ≡ get_or texts index c.text-item.result = grind (arith, common_steps, c.text-item.is) in (
       first,
       tables ++ t ∷ [],
-      next_text texts place c.text-item.result (first ∷ tables) t (omega (arith, c.loop-text-test.true)) at c.loop-text.invariant.2 (is_read c.text-item.result c.deref-in-loop-text.result.now c.read_table-in-loop-text.result t c.deref-in-loop-text.ensures.value c.in_ok-read_table.was c.in_ok-read_table.ensures.found c.read_table-in-loop-text.ensures.only),
+      next_text texts index c.text-item.result (first ∷ tables) t (omega (arith, c.loop-text-test.true)) at c.loop-text.invariant.2 (is_read c.text-item.result c.deref-in-loop-text.result.now c.read_table-in-loop-text.result t c.deref-in-loop-text.ensures.value c.in_ok-read_table.was c.in_ok-read_table.ensures.found c.read_table-in-loop-text.ensures.only),
       next_table first tables c.loop-text.whole t c.append.new.whole c.loop-text.invariant.3 (subst (λ (h : ℕ). Adjoins h c.loop-text.whole t) c.loop-text.invariant.4 c.in_ok-append.ensures.ok.0) c.in_ok-append.ensures.ok.1,
       c.loop-text.invariant.4,
     )
@@ -96,11 +96,11 @@ returns-in_err-read_table-clause-not_a_table c = λ e.
     let refused : refusal_of c.in_err-read_table.field-0.0 ≡ NotATable = cc (p.1, p.2) in
     let same : c.in_err-read_table.field-0.0 ≡ reading.NotATable = same_refusal c.in_err-read_table.field-0.0 refused in
     let texts = c.args.texts.now in
-    let place = c.loop-text.text-index + 1 in
-    let at : c.text-item.result ≡ get_or texts place c.text-item.result = grind (arith, common_steps, c.text-item.is) in record {
-      before = place;
+    let index = c.loop-text.text-index + 1 in
+    let at : c.text-item.result ≡ get_or texts index c.text-item.result = grind (arith, common_steps, c.text-item.is) in record {
+      before = index;
       among = omega (arith, c.loop-text-test.true);
-      slices = tell_slices (take place texts) (c.loop-text.invariant.0 ∷ c.loop-text.invariant.1) c.loop-text.invariant.2 c.loop-text.invariant.3.slices;
+      slices = tell_slices (take index texts) (c.loop-text.invariant.0 ∷ c.loop-text.invariant.1) c.loop-text.invariant.2 c.loop-text.invariant.3.slices;
       text = c.text-item.result;
       is_next = sym at;
       no_table = subst IsNoTable c.deref-in-loop-text.ensures.value (no_table c.deref-in-loop-text.result.now c.read_table-in-loop-text.result (cc (c.in_err-read_table.was, same)) c.read_table-in-loop-text.ensures.only);

@@ -7,6 +7,6 @@ pub returns : goal.returns
 returns c = λ m n first second.
     let size = λ (t : List (Option Span)). length t in
     tells m n c.args.one.now c.args.other.now c.are_same.result first second
-    (ap size (sym c.reservations-first.ensures.table) ∙ c.reservations-first.ensures.count)
-    (ap size (sym c.reservations-second.ensures.table) ∙ c.reservations-second.ensures.count)
+    (ap size (sym c.reservations-first.ensures.reservations) ∙ c.reservations-first.ensures.count)
+    (ap size (sym c.reservations-second.ensures.reservations) ∙ c.reservations-second.ensures.count)
     c.are_same.ensures

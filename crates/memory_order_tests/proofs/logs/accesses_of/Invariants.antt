@@ -1,5 +1,5 @@
 use Rattle.std.proofs.Common.{◌≡◌, take}
 use Rattle.memory_order_tests.proofs.logs.accesses_of.Given as goal
 
-abbrev pub invariant-loop-place : goal.invariant-loop-place
-invariant-loop-place l = l.accesses.items ≡ take l.place l.log
+abbrev pub invariant-loop-index : goal.invariant-loop-index
+invariant-loop-index l = l.accesses.items ≡ take l.index l.log

@@ -1,9 +1,9 @@
 use Rattle.std.proofs.Common.{IsTrue}
 use Rattle.trace.specs.Traced.{opening_at}
-use Rattle.memory_order.specs.Orders.{place}
+use Rattle.memory_order.specs.Orders.{order_position}
 use Rattle.order_checker.specs.Checking.{source_of}
 use Rattle.order_checker.proofs.Composing.{at_none, at_some}
-use Rattle.order_checker.proofs.Preserving.{kept_but_overlap, kept_overlap, preserved_from}
+use Rattle.order_checker.proofs.Preserving.{but_overlap_respected, overlap_respected, preserved_from}
 use Rattle.order_checker.proofs.Valuing.{left_from_values, values_from_left}
 use Rattle.order_checker.proofs.check.meets_axioms.Goals as goal
 
@@ -11,7 +11,7 @@ pub returns-then-not-branch : goal.returns-then-not-branch
 returns-then-not-branch c = (
   λ h. cc,
   λ m.
-      let yes : IsTrue c.in_ok-keeps_but_overlap.field-0 = c.in_ok-keeps_but_overlap.ensures.1 (kept_but_overlap c.args.events.now (place c.args.order.now) m.0) in
+      let yes : IsTrue c.in_ok-respects_but_overlap.field-0 = c.in_ok-respects_but_overlap.ensures.1 (but_overlap_respected c.args.events.now (order_position c.args.order.now) m.0) in
       cc,
 )
 
@@ -19,7 +19,7 @@ pub returns-in-None : goal.returns-in-None
 returns-in-None c = (
   λ h. cc,
   λ m.
-      absurd (at_none c.in_ok-own.field-0 _ _ c.in-None.is c.in_ok-own.ensures (kept_overlap c.args.events.now (place c.args.order.now) m.0)),
+      absurd (at_none c.in_ok-own.field-0 _ _ c.in-None.is c.in_ok-own.ensures (overlap_respected c.args.events.now (order_position c.args.order.now) m.0)),
 )
 
 pub returns-then-not-loads_are_right : goal.returns-then-not-loads_are_right
@@ -34,7 +34,7 @@ returns-then-not-loads_are_right c = (
 pub returns : goal.returns
 returns c = (
   λ h. (
-    preserved_from c.args.events.now (place c.args.order.now) (c.in_ok-keeps_but_overlap.ensures.0 c.if-not-branch.false) (at_some c.in_ok-own.field-0 c.in-Some.own _ _ c.in-Some.is c.in_ok-own.ensures).0,
+    preserved_from c.args.events.now (order_position c.args.order.now) (c.in_ok-respects_but_overlap.ensures.0 c.if-not-branch.false) (at_some c.in_ok-own.field-0 c.in-Some.own _ _ c.in-Some.is c.in_ok-own.ensures).0,
     values_from_left c.args.events.now (opening_at c.args.trace.now.opening) c.args.order.now (λ r x. source_of c.args.order.now c.in_ok-sources.sources.items r x) c.requires.lists c.in_ok-sources.ensures.max
         (c.loads_are_right.ensures.0 c.if-not-loads_are_right.false),
     c.in_ok-pairs_are_atomic.ensures.0 h,

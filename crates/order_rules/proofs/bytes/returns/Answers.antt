@@ -1,5 +1,5 @@
 use Rattle.std.proofs.Common.{inl, inr, subst, sym}
-use Rattle.memory_order.specs.Orders.{place}
+use Rattle.memory_order.specs.Orders.{order_position}
 use Rattle.order_rules.specs.Orders.{IsFrom}
 use Rattle.order_checker.proofs.Bounding.{range_last}
 use Rattle.order_rules.proofs.bytes.returns.Goals as goal
@@ -8,7 +8,7 @@ pub loop-k-preserved : goal.loop-k-preserved
 loop-k-preserved c = λ x h d. elim (range_last c.address-start.result c.loop-k.k x h) [
   | inl old ↦ c.loop-k.invariant x old d
   | inr same ↦
-      let yes = c.is_from.ensures.1 (subst (IsFrom c.args.events.now (place c.args.order.now) c.args.b c.args.a) (sym same) d) in
+      let yes = c.is_from.ensures.1 (subst (IsFrom c.args.events.now (order_position c.args.order.now) c.args.b c.args.a) (sym same) d) in
       let no = c.if-is_from.false in
       cc
 ]

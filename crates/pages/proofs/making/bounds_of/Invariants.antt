@@ -1,6 +1,6 @@
 use Rattle.std.proofs.Common.{◌≤◌, ◌<◌, ◌^◌, ℕ, get_or}
 use Rattle.pages.specs.declared.access.Range.{Range}
-use Rattle.pages.specs.Kept.{LiesWithin}
+use Rattle.pages.specs.PagesHold.{LiesWithin}
 use Rattle.pages.proofs.making.bounds_of.Given as goal
 
 abbrev pub invariant-loop-range : goal.invariant-loop-range

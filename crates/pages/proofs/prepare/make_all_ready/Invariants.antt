@@ -1,6 +1,6 @@
 use Rattle.std.proofs.Common.{◌≡◌, ◌≤◌, ℕ, vec_len, map, take, true, false, get_or}
 use Rattle.pages.specs.Flat.{flat, is_ready}
-use Rattle.pages.specs.Kept.{IsCounted}
+use Rattle.pages.specs.PagesHold.{IsCounted}
 use Rattle.pages.specs.Paged.{all_ready}
 use Rattle.pages.proofs.prepare.make_all_ready.Given as goal
 

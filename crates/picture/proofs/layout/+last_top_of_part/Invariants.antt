@@ -1,5 +1,5 @@
 use Rattle.std.proofs.Common.{length}
-use Rattle.picture.proofs.layout.+last_top_of_part.Given as goal
+use Rattle.picture.proofs.layout.+last_top_of_phase.Given as goal
 
-abbrev pub decreases-last_top_of_part : goal.decreases-last_top_of_part
-decreases-last_top_of_part l = length l.boxes.now
+abbrev pub decreases-last_top_of_phase : goal.decreases-last_top_of_phase
+decreases-last_top_of_phase l = length l.boxes.now

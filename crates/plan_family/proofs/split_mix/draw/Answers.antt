@@ -6,6 +6,6 @@ use Rattle.plan_family.proofs.split_mix.draw.Goals as goal
 pub returns : goal.returns
 unfolding draw
 returns c =
-    let state : (c.args.seed + (c.args.place + 1) * 11400714819323198485 % 2 ^ 64) % 2 ^ 64 ≡ (c.args.seed + (c.args.place + 1) * 11400714819323198485) % 2 ^ 64 =
-    add-mod-mod c.args.seed ((c.args.place + 1) * 11400714819323198485) (2 ^ 64) in
+    let state : (c.args.seed + (c.args.index + 1) * 11400714819323198485 % 2 ^ 64) % 2 ^ 64 ≡ (c.args.seed + (c.args.index + 1) * 11400714819323198485) % 2 ^ 64 =
+    add-mod-mod c.args.seed ((c.args.index + 1) * 11400714819323198485) (2 ^ 64) in
     rw (c.folded-twice.ensures, c.folded-once.ensures) (ap mixed state)

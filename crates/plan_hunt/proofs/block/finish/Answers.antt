@@ -6,7 +6,7 @@ use Rattle.plan_hunt.proofs.Added.{plans_fit, table_adds}
 use Rattle.plan_hunt.proofs.Slots.{slot_holds, slots_taken}
 use Rattle.plan_hunt.proofs.block.finish.Goals as goal
 
--- a place counted from the block's first plan is the plan that is done next
+-- an index counted from the block's first plan is the plan that is done next
 regrouped : (a b c : ℕ) → a + b + c ≡ a + (b + c)
 regrouped a b c = omega arith
 
@@ -15,22 +15,22 @@ one_further a b = omega arith
 
 pub ending_of-requires-clause-found : goal.ending_of-requires-clause-found
 ending_of-requires-clause-found g c κs within =
-    subst (λ (n : ℕ). IfSome c.take.result (λ e. e ≡ g.Q.Runs.ends c.args.runs.now n)) (regrouped c.args.block.first c.args.block.done c.loop-place.place)
-    (slot_holds (g.Q.Runs.ends c.args.runs.now) (c.args.block.first + c.args.block.done) c.loop-place.slots c.loop-place.place c.index-slots-place.result c.take.result
-    c.loop-place.invariant.slots (omega (arith, c.loop-place-test.true, c.loop-place.auto.slots)) c.index-slots-place.is (c.take.ensures.value ∙ sym c.index-slots-place.is))
+    subst (λ (n : ℕ). IfSome c.take.result (λ e. e ≡ g.Q.Runs.ends c.args.runs.now n)) (regrouped c.args.block.first c.args.block.done c.loop-index.index)
+    (slot_holds (g.Q.Runs.ends c.args.runs.now) (c.args.block.first + c.args.block.done) c.loop-index.slots c.loop-index.index c.index-slots-index.result c.take.result
+    c.loop-index.invariant.slots (omega (arith, c.loop-index-test.true, c.loop-index.auto.slots)) c.index-slots-index.is (c.take.ensures.value ∙ sym c.index-slots-index.is))
 
 pub add-requires : goal.add-requires
 add-requires g c =
-    plans_fit (g.Q.Runs.ends c.args.runs.now) c.args.block.first (c.args.block.done + c.loop-place.place) (2 ^ 32) c.loop-place.rows.items c.loop-place.invariant.table
-    (omega (arith, c.requires.few, c.loop-place-test.true))
+    plans_fit (g.Q.Runs.ends c.args.runs.now) c.args.block.first (c.args.block.done + c.loop-index.index) (2 ^ 32) c.loop-index.rows.items c.loop-index.invariant.table
+    (omega (arith, c.requires.few, c.loop-index-test.true))
 
-pub loop-place-preserved : goal.loop-place-preserved
-loop-place-preserved g c = record {
+pub loop-index-preserved : goal.loop-index-preserved
+loop-index-preserved g c = record {
   table =
-      subst (λ (n : ℕ). IsTable (g.Q.Runs.ends c.args.runs.now) c.args.block.first n c.add.new.rows.items) (one_further c.args.block.done c.loop-place.place)
-      (table_adds (g.Q.Runs.ends c.args.runs.now) c.args.block.first (c.args.block.done + c.loop-place.place) c.loop-place.rows.items c.add.new.rows.items c.in_ok-ending.ending
-      c.loop-place.invariant.table c.in_ok-ending.ensures c.in_ok-add.ensures);
+      subst (λ (n : ℕ). IsTable (g.Q.Runs.ends c.args.runs.now) c.args.block.first n c.add.new.rows.items) (one_further c.args.block.done c.loop-index.index)
+      (table_adds (g.Q.Runs.ends c.args.runs.now) c.args.block.first (c.args.block.done + c.loop-index.index) c.loop-index.rows.items c.add.new.rows.items c.in_ok-ending.ending
+      c.loop-index.invariant.table c.in_ok-ending.ensures c.in_ok-add.ensures);
   slots =
-      subst (λ (o : Option Ended). AreSlots (g.Q.Runs.ends c.args.runs.now) (c.args.block.first + c.args.block.done) (set c.loop-place.slots c.loop-place.place o)) (sym c.take.ensures.after)
-      (slots_taken (g.Q.Runs.ends c.args.runs.now) (c.args.block.first + c.args.block.done) c.loop-place.slots c.loop-place.place c.loop-place.invariant.slots);
+      subst (λ (o : Option Ended). AreSlots (g.Q.Runs.ends c.args.runs.now) (c.args.block.first + c.args.block.done) (set c.loop-index.slots c.loop-index.index o)) (sym c.take.ensures.after)
+      (slots_taken (g.Q.Runs.ends c.args.runs.now) (c.args.block.first + c.args.block.done) c.loop-index.slots c.loop-index.index c.loop-index.invariant.slots);
 }

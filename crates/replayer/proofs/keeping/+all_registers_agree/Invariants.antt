@@ -2,4 +2,4 @@ use Rattle.std.proofs.Common.{length}
 use Rattle.replayer.proofs.keeping.+all_registers_agree.Given as goal
 
 abbrev pub decreases-all_registers_agree : goal.decreases-all_registers_agree
-decreases-all_registers_agree l = length l.kept.now
+decreases-all_registers_agree l = length l.recorded.now

@@ -2,4 +2,4 @@ use Rattle.std.proofs.Common.{length}
 use Rattle.replayer.proofs.keeping.+are_same.Given as goal
 
 abbrev pub decreases-are_same : goal.decreases-are_same
-decreases-are_same l = length l.kept.now
+decreases-are_same l = length l.recorded.now

@@ -4,7 +4,7 @@ use Rattle.std.specs.Int.{w64}
 use Rattle.recording.specs.Fields.{each}
 use Rattle.recording.specs.Grammar.{any}
 use Rattle.replayer.specs.Summaries.{registers_of}
-use Rattle.replayer.proofs.Kept.{have_seen, one_more_seen}
+use Rattle.replayer.proofs.Checkpoint.{have_seen, one_more_seen}
 use Rattle.replayer.proofs.keeping.registers_of_all.Goals as goal
 
 pub loop-place-preserved : goal.loop-place-preserved

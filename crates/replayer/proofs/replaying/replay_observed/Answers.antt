@@ -1,8 +1,8 @@
 use Rattle.std.proofs.Common.{List, map, subst, ℕ}
 use Rattle.std.proofs.lemmas.Result.{IfOk-weaker}
 use Rattle.machine.specs.Machine.{Running}
-use Rattle.recording.specs.Recorded.{Kept}
-use Rattle.recording.specs.Views.{kept_view}
+use Rattle.recording.specs.Recorded.{Checkpoint}
+use Rattle.recording.specs.Views.{checkpoint_view}
 use Rattle.replayer.specs.Replayed.{IsVerdictOn, start_of}
 use Rattle.replayer.proofs.replaying.replay_observed.Goals as goal
 
@@ -13,6 +13,6 @@ returns-clause-verdict g c =
     IfOk-weaker c.first_difference.result _ _ (λ v is. (
       made.0,
       made.1,
-      subst (λ (ks : List Kept). IsVerdictOn ks c.args.recording.now.every m v) c.kept.ensures.value
-          (subst (λ (n : ℕ). IsVerdictOn (map kept_view c.kept.result.now) n m v) c.every.ensures is),
+      subst (λ (ks : List Checkpoint). IsVerdictOn ks c.args.recording.now.every m v) c.checkpoints.ensures.value
+          (subst (λ (n : ℕ). IsVerdictOn (map checkpoint_view c.checkpoints.result.now) n m v) c.every.ensures is),
     )) (c.first_difference.ensures.verdict m made.2)

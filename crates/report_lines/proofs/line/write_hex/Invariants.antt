@@ -2,12 +2,12 @@ use Rattle.std.proofs.Common.{◌≡◌, ◌≤◌, ◌++◌, drop, length}
 use Rattle.report_lines.specs.Text.{hex}
 use Rattle.report_lines.proofs.line.write_hex.Given as goal
 
-abbrev pub invariant-loop-place : goal.invariant-loop-place
-invariant-loop-place l = record {
-  size : length l.room ≡ length l.fn.room;
-  within : l.place ≤ length l.fn.room;
-  digits : hex (length l.fn.room) l.number ≡ hex l.place l.rest ++ drop l.place l.room;
+abbrev pub invariant-loop-index : goal.invariant-loop-index
+invariant-loop-index l = record {
+  size : length l.buffer ≡ length l.fn.buffer;
+  within : l.index ≤ length l.fn.buffer;
+  digits : hex (length l.fn.buffer) l.number ≡ hex l.index l.rest ++ drop l.index l.buffer;
 }
 
-abbrev pub decreases-loop-place : goal.decreases-loop-place
-decreases-loop-place l = l.place
+abbrev pub decreases-loop-index : goal.decreases-loop-index
+decreases-loop-index l = l.index

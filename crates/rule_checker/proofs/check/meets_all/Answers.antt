@@ -19,7 +19,7 @@ returns-in-Some c = (
   λ h. cc,
   λ m.
       let first = at_some c.in_ok-broken.broken c.in-Some.field-0 _ _ c.in-Some.is c.in_ok-broken.ensures in
-      absurd (first.unkept (λ a oa before rule. m.0 a _ oa first.operation before rule)),
+      absurd (first.violated (λ a oa before rule. m.0 a _ oa first.operation before rule)),
 )
 
 pub returns : goal.returns

@@ -1,11 +1,11 @@
 use Rattle.std.proofs.Common.{◌≡◌, ℕ, ◌+◌, ◌==◌, ◌&&◌, max, if◌then◌else◌, ◌∙◌, ap, arith, subst, sym, true}
 use Rattle.round_schedule.specs.declared.event.Event.{Event}
 use Rattle.round_schedule.specs.Accesses.{reads, writes}
-use Rattle.memory_order.specs.Orders.{place}
+use Rattle.memory_order.specs.Orders.{order_position}
 use Rattle.memory_order.proofs.Facts.{within}
 use Rattle.memory_order.proofs.Sources.{load_at}
 use Rattle.order_checker.specs.Checking.{bound, source_at, source_of}
-use Rattle.order_checker.proofs.Sourcing.{here_raised, load_within, noted_step, others_kept, own_step}
+use Rattle.order_checker.proofs.Sourcing.{here_raised, load_within, noted_step, others_stay, own_step}
 use Rattle.rule_checker.proofs.own.own_sources.Goals as goal
 
 pub note_load-requires-clause-within : goal.note_load-requires-clause-within
@@ -18,7 +18,7 @@ pub loop-i-preserved : goal.loop-i-preserved
 loop-i-preserved c =
     let t = c.args.events.now in
     let g = c.args.order.now in
-    let pos = place g in
+    let pos = order_position g in
     let i = c.loop-i.i in
     let p = c.position_of-position.result in
     let e = c.event_at-event.result in
@@ -37,7 +37,7 @@ loop-i-preserved c =
       len = c.note_load.ensures.len ∙ c.loop-i.invariant.len;
       sources = noted_step t pos i e (λ h x. bound c.loop-i.own h x) (λ r x. source_of g was r x) (λ r x. source_of g now r x)
           c.event_at-event.ensures.at
-          (others_kept t g i p e.access was now c.requires.lists access c.position_of-position.ensures.at c.note_load.ensures.others)
+          (others_stay t g i p e.access was now c.requires.lists access c.position_of-position.ensures.at c.note_load.ensures.others)
           (here_raised g i p e.hart c.from-hart.result e.access was now (λ h x. bound c.loop-i.own h x) c.position_of-position.ensures.at c.from-hart.ensures raised)
           c.loop-i.invariant.own c.loop-i.invariant.sources;
     }

@@ -1,12 +1,12 @@
 use Rattle.std.proofs.Common.{◌≡◌, length}
-use Rattle.memory_order.specs.Orders.{place}
+use Rattle.memory_order.specs.Orders.{order_position}
 use Rattle.order_checker.specs.Checking.{bound, source_of}
 use Rattle.order_checker.proofs.Sourcing.{Noted, OwnStores}
 use Rattle.rule_checker.proofs.own.own_sources.Given as goal
 
 abbrev pub invariant-loop-i : goal.invariant-loop-i
 invariant-loop-i l = record {
-  own : OwnStores l.events (place l.order) l.i (λ h x. bound l.own h x);
+  own : OwnStores l.events (order_position l.order) l.i (λ h x. bound l.own h x);
   len : length l.sources.items ≡ length l.order;
-  sources : Noted l.events (place l.order) l.i (λ r x. source_of l.order l.sources.items r x);
+  sources : Noted l.events (order_position l.order) l.i (λ r x. source_of l.order l.sources.items r x);
 }

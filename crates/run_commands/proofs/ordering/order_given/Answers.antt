@@ -11,7 +11,7 @@ returns-clause-orders g c =
     let old = g.O.Sink.took c.args.out.now in
     told_done _ c.explain.result _ c.explain.ensures (on_value c.order_run-answer.result _ _ (λ u w. (
       record { settings = s; plan = w.is_text.plan; set = c.settings_of-settings.ensures; planned = w.is_text.is_order.planned },
-      w.is_text.places,
+      w.is_text.indices,
       w.is_text.is_order,
       w.bytes ∙ ap (λ (t : List ℕ). old ++ t) w.is_text.is_text,
     )) (rw (c.deref.ensures.value, c.deref-2.ensures.value) at c.order_run-answer.ensures.writes.written))
@@ -23,7 +23,7 @@ returns-clause-begun g c =
     let new = g.O.Sink.took c.order_run-answer.new.out in
     told_refused _ c.explain.result _ c.explain.ensures (where_refused c.order_run-answer.result _ _ (λ h. ⊎_elim (λ same. inl same) (λ b. inr (
       record { settings = s; plan = b.is_text.plan; set = c.settings_of-settings.ensures; planned = b.is_text.is_order.planned },
-      b.is_text.places,
+      b.is_text.indices,
       b.is_text.is_order,
       subst (λ (t : List ℕ). BeganText old new t) b.is_text.is_text b.began,
     )) h) (begun c.order_run-answer.result (rw (c.deref.ensures.value, c.deref-2.ensures.value) at c.order_run-answer.ensures.writes)))

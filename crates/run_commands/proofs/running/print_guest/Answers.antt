@@ -1,5 +1,5 @@
 use Rattle.std.proofs.Common.{◌≡◌, ◌∙◌, None, Option, Some, ap, sym}
-use Rattle.emulation.specs.declared.showing.Shown.{Shown}
+use Rattle.emulation.specs.declared.showing.ShownState.{ShownState}
 use Rattle.text_writes.proofs.Answered.{in_words}
 use Rattle.run_commands.specs.Printed.{shown_of, text_of}
 use Rattle.run_commands.proofs.running.print_guest.Goals as goal
@@ -13,7 +13,7 @@ returns-in-Some-clause-writes g c =
     in_words c.show_run.result (λ end text is. record {
       plan = is.plan;
       planned = is.planned;
-      is_text = is.is_text ∙ ap (λ (o : Option Shown). text_of o s guest.image.now guest.input.now is.plan) (sym h);
+      is_text = is.is_text ∙ ap (λ (o : Option ShownState). text_of o s guest.image.now guest.input.now is.plan) (sym h);
       is_end = is.is_end;
     }) (λ e reason. reason) c.show_run.ensures.writes
 
@@ -26,6 +26,6 @@ returns-in-None-clause-writes g c =
     in_words c.report_run.result (λ end text is. record {
       plan = is.plan;
       planned = is.planned;
-      is_text = is.is_text ∙ ap (λ (o : Option Shown). text_of o s guest.image.now guest.input.now is.plan) (sym h);
+      is_text = is.is_text ∙ ap (λ (o : Option ShownState). text_of o s guest.image.now guest.input.now is.plan) (sym h);
       is_end = is.is_end;
     }) (λ e reason. reason) c.report_run.ensures.writes

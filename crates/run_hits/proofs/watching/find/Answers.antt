@@ -1,6 +1,6 @@
 use Rattle.std.proofs.Common.{[], arith}
 use Rattle.machine.specs.Machine.{after_rounds}
-use Rattle.run_hits.proofs.Walked.{all_kept}
+use Rattle.run_hits.proofs.Walked.{keeps_all}
 use Rattle.run_hits.proofs.watching.find.Goals as goal
 
 pub walk_keeping-requires-clause-sound : goal.walk_keeping-requires-clause-sound
@@ -11,4 +11,4 @@ pub returns : goal.returns
 returns g c = λ m is none.
     let walked = c.in_ok-walk_keeping.ensures in
     c.into_found.ensures (after_rounds c.args.rounds m).state.trace
-    (all_kept c.in_ok-walk_keeping.field-0 c.args.rounds c.args.machine.now c.walk_keeping.new.self _ _ m walked.done walked.most walked.ended is none c.new-watcher.ensures)
+    (keeps_all c.in_ok-walk_keeping.field-0 c.args.rounds c.args.machine.now c.walk_keeping.new.self _ _ m walked.done walked.most walked.ended is none c.new-watcher.ensures)

@@ -44,7 +44,7 @@ loop-i-preserved c =
     let same = c.loop-i.auto.harts in
     serving_more c.args.phase c.loop-i.i x y _ z c.end_turn.new.self c.loop-i-test.true same
     (get_or_default c.loop-i.harts c.loop-i.i _ _ (omega (arith, same)))
-    (record { taken = e.turn; pages = e.pages; console = e.console; log = e.log; table = e.table; shows = e.shows; code = e.code })
+    (record { taken = e.turn; pages = e.pages; console = e.console; log = e.log; reservations = e.reservations; shows = e.shows; code = e.code })
     (record { closed = c.end_turn.ensures.closed; current = c.end_turn.ensures.current; room = c.end_turn.ensures.room })
     c.loop-i.invariant
 
@@ -55,7 +55,7 @@ returns c =
     let s = c.loop-i.invariant in
     record {
       turns = serving_over c.args.phase c.loop-i.i x y c.loop-i.auto.harts c.loop-i-test.false s;
-      table = s.size;
+      reservations = s.size;
       shows = s.shows;
       current = s.current;
       code = s.decoded;

@@ -12,7 +12,7 @@ returns-then-is_some c =
     let x : At = record { hart = c.args.h.now; state = c.args.state.now } in
     let y : At = record { hart = c.loop-left.h; state = c.loop-left.state } in
     let e = ends_off c.args.turn c.loop-left.left x y c.loop-left-test.true (sym c.if-is_some.ensures) c.requires.began c.loop-left.invariant in
-    record { turn = e.taken; pages = e.pages; console = e.console; log = e.log; table = e.table; shows = e.shows; code = e.code }
+    record { turn = e.taken; pages = e.pages; console = e.console; log = e.log; reservations = e.reservations; shows = e.shows; code = e.code }
 
 pub serve-requires-clause-pages : goal.serve-requires-clause-pages
 serve-requires-clause-pages c =
@@ -33,7 +33,7 @@ returns-in-Waits c =
     let z : Came = record { answer = c.serve.result; hart = c.serve.new.h; state = c.serve.new.state } in
     let e = ends_waiting c.args.turn c.loop-left.left x y z c.loop-left-test.true (sym c.if-is_some.ensures) c.requires.began
     c.in-Waits.is (c.serve.ensures.answer, c.serve.ensures.serves) c.loop-left.invariant in
-    record { turn = e.taken; pages = e.pages; console = e.console; log = e.log; table = e.table; shows = e.shows; code = e.code }
+    record { turn = e.taken; pages = e.pages; console = e.console; log = e.log; reservations = e.reservations; shows = e.shows; code = e.code }
 
 pub returns-in-Stopped : goal.returns-in-Stopped
 returns-in-Stopped c =
@@ -42,7 +42,7 @@ returns-in-Stopped c =
     let z : Came = record { answer = c.serve.result; hart = c.serve.new.h; state = c.serve.new.state } in
     let e = ends_stopped c.args.turn c.loop-left.left x y z c.in-Stopped.field-0 c.loop-left-test.true (sym c.if-is_some.ensures) c.requires.began
     c.in-Stopped.is (c.serve.ensures.answer, c.serve.ensures.serves) c.loop-left.invariant in
-    record { turn = e.taken; pages = e.pages; console = e.console; log = e.log; table = e.table; shows = e.shows; code = e.code }
+    record { turn = e.taken; pages = e.pages; console = e.console; log = e.log; reservations = e.reservations; shows = e.shows; code = e.code }
 
 pub take_plain-left-requires-clause-pages : goal.take_plain-left-requires-clause-pages
 take_plain-left-requires-clause-pages c =
@@ -69,4 +69,4 @@ returns c =
     let x : At = record { hart = c.args.h.now; state = c.args.state.now } in
     let y : At = record { hart = c.loop-left.h; state = c.loop-left.state } in
     let e = ends_over c.args.turn c.loop-left.left x y (omega arith) c.requires.began c.loop-left.invariant in
-    record { turn = e.taken; pages = e.pages; console = e.console; log = e.log; table = e.table; shows = e.shows; code = e.code }
+    record { turn = e.taken; pages = e.pages; console = e.console; log = e.log; reservations = e.reservations; shows = e.shows; code = e.code }

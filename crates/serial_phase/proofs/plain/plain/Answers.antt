@@ -4,7 +4,7 @@ use Rattle.hart_step.specs.Room.{TakesDirectly}
 use Rattle.hart_step.specs.Rounds.{IsStep}
 use Rattle.hart_step.specs.Step.{stepped}
 use Rattle.serial_phase.specs.Plain.{IsPlainAnswer}
-use Rattle.serial_phase.specs.Words.{answered_table}
+use Rattle.serial_phase.specs.Words.{answered_reservations}
 use Rattle.serial_phase.proofs.PlainSteps.{good_step, all_room, if_ok}
 use Rattle.serial_phase.proofs.plain.plain.Goals as goal
 
@@ -24,7 +24,7 @@ returns c =
       leaves = record {
         hart = s.hart;
         pages = s.stores;
-        table = c.note_answer.ensures ∙ ap (λ (y : Stepped). answered_table c.args.hart y c.args.state.now.reservations) s.answer;
+        reservations = c.note_answer.ensures ∙ ap (λ (y : Stepped). answered_reservations c.args.hart y c.args.state.now.reservations) s.answer;
         console = refl;
         code = refl;
         log = refl;

@@ -8,7 +8,7 @@ apply-requires-clause-room c = room_for c.args.state.now.pages c.args.store _ c.
 pub returns : goal.returns
 returns c = record {
   pages = taken c.args.state.now.pages c.apply.new.self c.args.store _ c.requires.fault c.count-pages.ensures.pages c.count-pages.ensures.bytes c.apply.ensures;
-  table = c.break_by.ensures;
+  reservations = c.break_by.ensures;
   console = refl;
   code = refl;
   log = refl;

@@ -7,16 +7,16 @@ pub loop-next-init : goal.loop-next-init
 loop-next-init c =
     subst (λ (o : Option ℕ). IsNext c.args.lines.now (length c.args.latest.now) c.args.number o) (search (rules, c.slot_of.ensures)) (first_next c.args.lines.now c.args.latest.now c.args.number c.requires)
 
-pub bounds-lines-place : goal.bounds-lines-place
-bounds-lines-place c = (c.loop-next.invariant.inside c.in-Some.place (sym c.in-Some.is)).0
+pub bounds-lines-index : goal.bounds-lines-index
+bounds-lines-index c = (c.loop-next.invariant.inside c.in-Some.index (sym c.in-Some.is)).0
 
-pub offset_bounds-lines-place : goal.offset_bounds-lines-place
-offset_bounds-lines-place c = let b = bounds-lines-place c in search (rules, b)
+pub offset_bounds-lines-index : goal.offset_bounds-lines-index
+offset_bounds-lines-index c = let b = bounds-lines-index c in search (rules, b)
 
 pub loop-next-smaller : goal.loop-next-smaller
 loop-next-smaller c =
-    subst (λ (o : Option ℕ). up_to (before_in c.args.lines.now c.in-Some.place) < up_to o) (sym c.in-Some.is) (link_lower c.args.lines.now c.args.latest.now c.in-Some.place c.requires (c.loop-next.invariant.inside c.in-Some.place (sym c.in-Some.is)).0)
+    subst (λ (o : Option ℕ). up_to (before_in c.args.lines.now c.in-Some.index) < up_to o) (sym c.in-Some.is) (link_lower c.args.lines.now c.args.latest.now c.in-Some.index c.requires (c.loop-next.invariant.inside c.in-Some.index (sym c.in-Some.is)).0)
 
 pub loop-next-preserved : goal.loop-next-preserved
 loop-next-preserved c =
-    next_next c.args.lines.now c.args.latest.now c.args.number c.in-Some.place c.requires (subst (λ (o : Option ℕ). IsNext c.args.lines.now (length c.args.latest.now) c.args.number o) c.in-Some.is c.loop-next.invariant) c.if-found-number.false
+    next_next c.args.lines.now c.args.latest.now c.args.number c.in-Some.index c.requires (subst (λ (o : Option ℕ). IsNext c.args.lines.now (length c.args.latest.now) c.args.number o) c.in-Some.is c.loop-next.invariant) c.if-found-number.false

@@ -16,8 +16,8 @@ loop-i-preserved c =
     let t = c.args.events.now in
     let i = c.loop-i.i in
     let here : IsAbove t i = c.is_above.ensures.0 c.if-not-is_above.false in
-    let kept : c.keep.new.last ≡ noted c.loop-i.last (event t i) = c.keep.ensures ∙ ap (noted c.loop-i.last) (get_or_default t i _ _ (omega arith)) in
+    let same : c.note.new.last ≡ noted c.loop-i.last (event t i) = c.note.ensures ∙ ap (noted c.loop-i.last) (get_or_default t i _ _ (omega arith)) in
     record {
       above = below_more _ _ c.loop-i.invariant.above here;
-      last = subst (AreLast t (i + 1)) (sym kept) (last_more t i c.loop-i.last c.loop-i.invariant.last here);
+      last = subst (AreLast t (i + 1)) (sym same) (last_more t i c.loop-i.last c.loop-i.invariant.last here);
     }

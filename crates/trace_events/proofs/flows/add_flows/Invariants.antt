@@ -4,4 +4,4 @@ use Rattle.trace_events.proofs.flows.add_flows.Given as goal
 
 -- the flows to the bytes so far
 abbrev pub invariant-loop-byte : goal.invariant-loop-byte
-invariant-loop-byte l = l.line ≡ l.fn.line ++ flows_from l.events l.place [] (take l.byte l.writer-items)
+invariant-loop-byte l = l.line ≡ l.fn.line ++ flows_from l.events l.index [] (take l.byte l.writer-items)

@@ -8,7 +8,7 @@ pub returns : goal.returns
 unfolding flow_number
 returns c =
     let t1 = codes ",\"id\":\"" in
-    let t2 = hex 15 c.args.place in
+    let t2 = hex 15 c.args.index in
     let t3 = hex 1 c.args.byte in
     let t4 = codes "\",\"cat\":\"read\",\"name\":\"read\"}" in
     let e2 = more c.args.line.now (t1) _ _ t2 _ (c.in_ok-text.ensures) c.in_ok-hex.ensures refl in

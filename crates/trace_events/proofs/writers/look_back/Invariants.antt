@@ -6,8 +6,8 @@ use Rattle.trace_events.proofs.writers.look_back.Given as goal
 -- none of those that were looked at gives the byte
 abbrev pub invariant-loop-before : goal.invariant-loop-before
 invariant-loop-before l =
-    (l.before ≤ l.place)
-    × (last_below (gives l.events (event l.events l.place) l.byte) l.place ≡ last_below (gives l.events (event l.events l.place) l.byte) l.before)
+    (l.before ≤ l.index)
+    × (last_below (gives l.events (event l.events l.index) l.byte) l.index ≡ last_below (gives l.events (event l.events l.index) l.byte) l.before)
 
 abbrev pub decreases-loop-before : goal.decreases-loop-before
 decreases-loop-before l = l.before

@@ -15,7 +15,7 @@ returns-in_err-add_entry g c =
 pub returns : goal.returns
 returns g c =
     let t = c.args.events.now in
-    let i = c.args.place in
+    let i = c.args.index in
     same_text (entry_text t i (option_copied c.event_before-before.result) (event t i) (drop (i + 1) t)) _ (way (g.S.Sink.took c.args.out.now) (g.S.Sink.failures c.args.out.now) c.args.line.now) _ _
     (ap (λ b. entry_text t i b (event t i) (drop (i + 1) t)) c.event_before-before.ensures)
     (line_then _ _ (way (g.S.Sink.took c.args.out.now) (g.S.Sink.failures c.args.out.now) c.args.line.now) _ _ c.in_ok-add_entry.ensures c.put_long.ensures)

@@ -3,5 +3,5 @@ use Rattle.weak_hunter.specs.WeakHunts.{IsSomeTable}
 use Rattle.weak_hunter.proofs.tabulating.add_endings.Given as goal
 
 -- the table of the endings so far
-abbrev pub invariant-loop-place : goal.invariant-loop-place
-invariant-loop-place l = IsSomeTable l.first (l.done + l.place) l.rows.items
+abbrev pub invariant-loop-index : goal.invariant-loop-index
+invariant-loop-index l = IsSomeTable l.first (l.done + l.index) l.rows.items

@@ -3,9 +3,9 @@ use Rattle.fence_table.specs.Accepting.{Words, accepted_in, lines_said}
 use Rattle.fence_table.proofs.Lists.{after_none, goes_on, is_none}
 use Rattle.fence_table.proofs.accepted.Accepted.read.Goals as goal
 
-pub loop-place-init : goal.loop-place-init
+pub loop-index-init : goal.loop-index-init
 unfolding accepted_in
-loop-place-init c =
+loop-index-init c =
     let text = c.args.text.now in
     let all : length text - 0 ≡ length text = omega arith in
     ap (λ (ps : List Words). option_map (λ more. ps ++ more) (lines_said (length text - 0) text)) c.new-pairs.ensures.items
@@ -13,10 +13,10 @@ loop-place-init c =
 
 pub returns-then-not-branch-clause-errors : goal.returns-then-not-branch-clause-errors
 returns-then-not-branch-clause-errors c =
-    let more : length c.args.text.now - c.loop-place.place ≡ suc (length c.args.text.now - (c.loop-place.place + 1)) = omega arith in
-    inr (is_none _ _ _ c.loop-place.pairs.items c.loop-place.rest.now _ more c.length_before-end.ensures.count (c.in_ok-add_line.ensures ∙ ap (λ (t : Bool). if t then Some c.add_line.new.pairs.items else None) c.if-not-branch.true) c.loop-place.invariant)
+    let more : length c.args.text.now - c.loop-index.index ≡ suc (length c.args.text.now - (c.loop-index.index + 1)) = omega arith in
+    inr (is_none _ _ _ c.loop-index.pairs.items c.loop-index.rest.now _ more c.length_before-end.ensures.count (c.in_ok-add_line.ensures ∙ ap (λ (t : Bool). if t then Some c.add_line.new.pairs.items else None) c.if-not-branch.true) c.loop-index.invariant)
 
-pub loop-place-preserved : goal.loop-place-preserved
-loop-place-preserved c =
-    let more : length c.args.text.now - c.loop-place.place ≡ suc (length c.args.text.now - (c.loop-place.place + 1)) = omega arith in
-    goes_on _ _ _ c.loop-place.pairs.items c.add_line.new.pairs.items c.loop-place.rest.now _ _ more c.length_before-end.ensures.count c.after-rest.ensures (c.in_ok-add_line.ensures ∙ ap (λ (t : Bool). if t then Some c.add_line.new.pairs.items else None) c.if-not-branch.false) c.loop-place.invariant
+pub loop-index-preserved : goal.loop-index-preserved
+loop-index-preserved c =
+    let more : length c.args.text.now - c.loop-index.index ≡ suc (length c.args.text.now - (c.loop-index.index + 1)) = omega arith in
+    goes_on _ _ _ c.loop-index.pairs.items c.add_line.new.pairs.items c.loop-index.rest.now _ _ more c.length_before-end.ensures.count c.after-rest.ensures (c.in_ok-add_line.ensures ∙ ap (λ (t : Bool). if t then Some c.add_line.new.pairs.items else None) c.if-not-branch.false) c.loop-index.invariant

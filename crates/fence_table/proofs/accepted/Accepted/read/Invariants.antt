@@ -2,6 +2,6 @@ use Rattle.std.proofs.Common.{◌≡◌, ◌++◌, ◌-◌, length, option_map}
 use Rattle.fence_table.specs.Accepting.{accepted_in, lines_said}
 use Rattle.fence_table.proofs.accepted.Accepted.read.Given as goal
 
--- the places of the lines before, and those of the lines that are left
-abbrev pub invariant-loop-place : goal.invariant-loop-place
-invariant-loop-place l = option_map (λ more. l.pairs.items ++ more) (lines_said (length l.text - l.place) l.rest) ≡ accepted_in l.text
+-- the gaps of the lines before, and those of the lines that are left
+abbrev pub invariant-loop-index : goal.invariant-loop-index
+invariant-loop-index l = option_map (λ more. l.pairs.items ++ more) (lines_said (length l.text - l.index) l.rest) ≡ accepted_in l.text

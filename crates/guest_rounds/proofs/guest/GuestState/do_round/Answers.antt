@@ -8,14 +8,14 @@ use Rattle.hart_step.specs.Words.{words_of}
 use Rattle.hart_rounds.specs.declared.hart_end.HartEnd.{HartEnd}
 use Rattle.guest_rounds.specs.Guests.{Guest, guest_events, guest_of, next_guest}
 use Rattle.guest_rounds.specs.Rounds.{count_waiting}
-use Rattle.guest_rounds.specs.HartEnds.{AreAtRest, AreFit, AreKept, AreEndsOf, count_accesses, count_true, harts_of, mask_of, waits_of}
+use Rattle.guest_rounds.specs.HartEnds.{AreAtRest, AreFit, StoppedStay, AreEndsOf, count_accesses, count_true, harts_of, mask_of, waits_of}
 use Rattle.guest_rounds.proofs.AtRest.{at_rest}
-use Rattle.guest_rounds.proofs.CodeKept.{rounds_touch}
+use Rattle.guest_rounds.proofs.ShownCode.{rounds_touch}
 use Rattle.guest_rounds.proofs.Counted.{few_accesses}
 use Rattle.guest_rounds.proofs.GuestRounds.{here_are, many_here, many_of}
 use Rattle.guest_rounds.proofs.Listed.{are_fit}
 use Rattle.guest_rounds.proofs.RoundDone.{finished_done, waited_is}
-use Rattle.guest_rounds.proofs.TraceKept.{low_quotas}
+use Rattle.guest_rounds.proofs.TraceHolds.{low_quotas}
 use Rattle.guest_rounds.proofs.guest.GuestState.do_round.Goals as goal
 
 pub finish-requires-clause-workers : goal.finish-requires-clause-workers
@@ -176,7 +176,7 @@ invariant_of-self-2 g c =
     record {
       size = c.finish.ensures.size ∙ c.self.invariant.size ∙ sym (ap length whole ∙ omega (arith, c.finish.auto.harts, ap length c.deref_mut-2.ensures.value));
       shows = c.finish.ensures.shows;
-      kept = subst (λ (hs : List Hart). AreKept hs (harts_of (take c.args.ends.len (c.finish.new.ends ++ drop (length c.finish.new.ends) c.args.ends.items)))) (sym whole) (subst (λ (os : List HartEnd). AreKept c.finish.new.harts (harts_of os)) (sym all) c.in_ok-counts.ensures.kept);
+      kept = subst (λ (hs : List Hart). StoppedStay hs (harts_of (take c.args.ends.len (c.finish.new.ends ++ drop (length c.finish.new.ends) c.args.ends.items)))) (sym whole) (subst (λ (os : List HartEnd). StoppedStay c.finish.new.harts (harts_of os)) (sym all) c.in_ok-counts.ensures.kept);
     }
 
 pub returns-clause-count : goal.returns-clause-count

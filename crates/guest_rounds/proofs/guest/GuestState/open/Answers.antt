@@ -1,4 +1,4 @@
-use Rattle.guest_rounds.proofs.KeptHarts.{kept_none}
+use Rattle.guest_rounds.proofs.StoppedHarts.{stay_none}
 use Rattle.guest_rounds.specs.HartEnds.{harts_of}
 use Rattle.std.proofs.Common.{◌*◌, ℕ, List, length, sym, ap, ◌∙◌}
 use Rattle.std.proofs.lemmas.List.{length-replicate}
@@ -12,7 +12,7 @@ pub invariant_of-result : goal.invariant_of-result
 invariant_of-result c = record {
   size = ap length c.new-2.ensures ∙ length-replicate c.args.count _ ∙ sym (ap length c.in_ok-harts.ensures ∙ length-opening c.entry-entry.result c.args.count 0 c.args.count);
   shows = c.in_ok-code.ensures;
-  kept = kept_none _ _ (ap harts_of c.new-5.ensures);
+  kept = stay_none _ _ (ap harts_of c.new-5.ensures);
 }
 
 pub returns : goal.returns

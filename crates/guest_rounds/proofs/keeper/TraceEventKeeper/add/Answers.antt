@@ -1,6 +1,6 @@
 use Rattle.std.proofs.Common.{◌++◌, List, sym, ap, ◌∙◌, subst, append_assoc, arith}
 use Rattle.round_schedule.specs.declared.event.Event.{Event}
-use Rattle.round_schedule.specs.TabledTurn.{log_events}
+use Rattle.round_schedule.specs.ReservingTurn.{log_events}
 use Rattle.trace.specs.Traced.{IsTrace}
 use Rattle.trace.proofs.Growing.{beginning}
 use Rattle.guest_rounds.specs.HartEnds.{events_of_ends}

@@ -1,7 +1,7 @@
 use Rattle.std.proofs.Common.{subst}
 use Rattle.std.proofs.lemmas.Result.{IfOk-weaker}
 use Rattle.hart_rounds.specs.Starts.{keeps_log}
-use Rattle.machine.specs.Kept.{AreOfNext}
+use Rattle.machine.specs.RoundStarts.{AreOfNext}
 use Rattle.machine.specs.Untraced.{Untraced}
 use Rattle.machine.proofs.untraced.UntracedMachine.do_parallel.Goals as goal
 

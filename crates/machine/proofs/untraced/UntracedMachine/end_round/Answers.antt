@@ -1,7 +1,7 @@
 use Rattle.std.proofs.Common.{◌≡◌, ◌+◌, ◌++◌, List, length, sym, ap, ◌∙◌, subst, arith}
 use Rattle.pages.specs.Memory.{IsBytes, Memory}
 use Rattle.round_schedule.specs.declared.event.Event.{Event}
-use Rattle.machine.specs.Kept.{AreOfNext}
+use Rattle.machine.specs.RoundStarts.{AreOfNext}
 use Rattle.machine.specs.Untraced.{HasRun, Untraced, next_events, untraced_of, untraced_round}
 use Rattle.machine.proofs.UntracedRounds.{CanGoOn, once_run, same_untraced}
 use Rattle.machine.proofs.untraced.UntracedMachine.end_round.Goals as goal

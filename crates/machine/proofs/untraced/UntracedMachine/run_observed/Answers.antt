@@ -1,13 +1,13 @@
 use Rattle.std.proofs.lemmas.Result.{IfOk-weaker}
 use Rattle.std.proofs.Common.{[]}
-use Rattle.machine.proofs.UntracedRounds.{nothing_kept}
+use Rattle.machine.proofs.UntracedRounds.{nothing_to_keep}
 use Rattle.machine.proofs.untraced.UntracedMachine.run_observed.Goals as goal
 
 pub run_keeping-requires-clause-kept : goal.run_keeping-requires-clause-kept
 run_keeping-requires-clause-kept g c = λ lifetimes within. ([], tt)
 
 pub run_keeping-requires-clause-sound : goal.run_keeping-requires-clause-sound
-run_keeping-requires-clause-sound g c = λ lifetimes within n es few kept. nothing_kept n es c.args.self.now
+run_keeping-requires-clause-sound g c = λ lifetimes within n es few kept. nothing_to_keep n es c.args.self.now
 
 pub returns-clause-ok : goal.returns-clause-ok
 returns-clause-ok g c = IfOk-weaker c.run_keeping.result _ _ (λ done x. x.run) c.run_keeping.ensures.ok

@@ -1,11 +1,11 @@
 use Rattle.std.proofs.Common.{[]}
 use Rattle.std.proofs.lemmas.Result.{IfOk-weaker, on_err_weaker}
-use Rattle.machine.proofs.UntracedRounds.{nothing_kept}
+use Rattle.machine.proofs.UntracedRounds.{nothing_to_keep}
 use Rattle.machine.proofs.Walked.{has_done}
 use Rattle.machine.proofs.untraced.UntracedMachine.run_visited.Goals as goal
 
 pub run_within-requires-clause-sound : goal.run_within-requires-clause-sound
-run_within-requires-clause-sound g c = λ lifetimes within. ([], tt, nothing_kept c.args.rounds [] c.args.self.now)
+run_within-requires-clause-sound g c = λ lifetimes within. ([], tt, nothing_to_keep c.args.rounds [] c.args.self.now)
 
 pub returns-clause-done : goal.returns-clause-done
 returns-clause-done g c =

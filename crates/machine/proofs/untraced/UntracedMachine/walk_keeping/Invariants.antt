@@ -1,4 +1,4 @@
-use Rattle.machine.specs.Kept.{start_at}
+use Rattle.machine.specs.RoundStarts.{start_at}
 use Rattle.machine.proofs.untraced.UntracedMachine.walk_keeping.Given as goal
 
 abbrev pub ghosts-walk_on_board : goal.ghosts-walk_on_board

@@ -1,7 +1,7 @@
 use Rattle.std.proofs.Common.{◌≡◌, ◌∙◌, sym, subst, arith, rules, lit<, Err}
 use Rattle.machine.specs.Untraced.{HasRun, Untraced}
 use Rattle.machine.specs.Walks.{HasStopped}
-use Rattle.machine.proofs.UntracedRounds.{kept_on, none_run}
+use Rattle.machine.proofs.UntracedRounds.{still_keeps, none_run}
 use Rattle.machine.proofs.Walked.{stopped_run}
 use Rattle.machine.proofs.untraced.UntracedMachine.walk_round.Goals as goal
 
@@ -27,5 +27,5 @@ returns-in_err-end_round-clause-ran g c =
       0,
       lit< tt,
       subst (λ (w : Untraced). HasRun 0 c.args.self.now w before keeps) (sym same)
-          (kept_on 0 c.args.self.now c.args.self.now before before keeps (none_run c.args.self.now before) none.untold),
+          (still_keeps 0 c.args.self.now c.args.self.now before before keeps (none_run c.args.self.now before) none.untold),
     )

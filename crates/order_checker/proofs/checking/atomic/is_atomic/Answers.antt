@@ -1,15 +1,15 @@
 use Rattle.std.proofs.Common.{ℕ, ◌∙◌, ap, arith, subst, sym}
 use Rattle.round_schedule.specs.declared.event.Event.{Event}
 use Rattle.round_schedule.specs.Accesses.{is_lr}
-use Rattle.memory_order.specs.Orders.{place}
+use Rattle.memory_order.specs.Orders.{order_position}
 use Rattle.order_checker.specs.Checking.{source_at, source_of}
 use Rattle.order_checker.specs.CheckingAtomic.{AtomicAt, latest_of, others_of}
-use Rattle.order_checker.proofs.Atomicity.{KeepsTest, atomic_from_test, lr_loads, others_max, test_from_atomic}
+use Rattle.order_checker.proofs.Atomicity.{UndisturbedByTest, atomic_from_test, lr_loads, others_max, test_from_atomic}
 use Rattle.order_checker.proofs.Sourcing.{load_within}
 use Rattle.order_checker.proofs.checking.atomic.is_atomic.Goals as goal
 
-pub keeps_bytes-requires-clause-within : goal.keeps_bytes-requires-clause-within
-keeps_bytes-requires-clause-within c =
+pub are_undisturbed-requires-clause-within : goal.are_undisturbed-requires-clause-within
+are_undisturbed-requires-clause-within c =
     let access = ap (λ (e : Event). e.access) c.event_at-reserve.ensures.at in
     let l = load_within c.args.events.now c.args.order.now c.in-Some.first c.position_of-reader.result c.event_at-reserve.result.access c.requires.lists access c.position_of-reader.ensures.at
     (lr_loads c.event_at-reserve.result.access (ap is_lr access ∙ c.in-Some.ensures.1.reserved)) in
@@ -26,14 +26,14 @@ returns-in-Some c =
     let e = c.event_at-reserve.result in
     let others = λ (x : ℕ). others_of (latest_of c.args.latest.now x) hart in
     let of = ap (λ (f : Event). f.hart) c.event_at-hart.ensures.at in
-    let most = λ (x : ℕ). others_max t (place g) p x hart (latest_of c.args.latest.now x) (c.requires.latest x) in (
-      λ h. subst (AtomicAt t (place g)) c.listed-place.ensures.at
-          (atomic_from_test t g c.listed-place.result p first hart e others (λ x. source_of g s first x) c.requires.lists c.listed-place.ensures.position
+    let most = λ (x : ℕ). others_max t (order_position g) p x hart (latest_of c.args.latest.now x) (c.requires.latest x) in (
+      λ h. subst (AtomicAt t (order_position g)) c.listed-index.ensures.at
+          (atomic_from_test t g c.listed-index.result p first hart e others (λ x. source_of g s first x) c.requires.lists c.listed-index.ensures.position
           c.in-Some.ensures.1 c.event_at-reserve.ensures.at of most (λ x r. c.requires.sourced.max first x r)
-          (subst (λ q. KeepsTest e.access others (λ x. source_at s q x) p) c.position_of-reader.ensures.at (c.keeps_bytes.ensures.0 h))),
-      λ a. c.keeps_bytes.ensures.1
-          (subst (λ q. KeepsTest e.access others (λ x. source_at s q x) p) (sym c.position_of-reader.ensures.at)
-          (test_from_atomic t g c.listed-place.result p first hart e others (λ x. source_of g s first x) c.requires.lists c.listed-place.ensures.operation c.listed-place.ensures.position
+          (subst (λ q. UndisturbedByTest e.access others (λ x. source_at s q x) p) c.position_of-reader.ensures.at (c.are_undisturbed.ensures.0 h))),
+      λ a. c.are_undisturbed.ensures.1
+          (subst (λ q. UndisturbedByTest e.access others (λ x. source_at s q x) p) (sym c.position_of-reader.ensures.at)
+          (test_from_atomic t g c.listed-index.result p first hart e others (λ x. source_of g s first x) c.requires.lists c.listed-index.ensures.operation c.listed-index.ensures.position
           c.in-Some.ensures.1 c.event_at-reserve.ensures.at of most (λ x r. c.requires.sourced.max first x r)
-          (subst (AtomicAt t (place g)) (sym c.listed-place.ensures.at) a))),
+          (subst (AtomicAt t (order_position g)) (sym c.listed-index.ensures.at) a))),
     )

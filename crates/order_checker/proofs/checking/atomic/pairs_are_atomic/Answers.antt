@@ -5,9 +5,9 @@ use Rattle.order_checker.proofs.checking.atomic.pairs_are_atomic.Goals as goal
 
 pub loop-p-preserved : goal.loop-p-preserved
 loop-p-preserved c = record {
-  latest = latest_step c.args.events.now c.args.order.now c.listed-place.result c.loop-p.p c.event_at-event.result.hart c.event_at-event.result
+  latest = latest_step c.args.events.now c.args.order.now c.listed-index.result c.loop-p.p c.event_at-event.result.hart c.event_at-event.result
       (λ x. latest_of c.loop-p.latest x) (λ x. latest_of c.note_latest.new.latest x) c.requires.lists
-      c.event_at-event.ensures.at refl c.listed-place.ensures.operation c.listed-place.ensures.position
+      c.event_at-event.ensures.at refl c.listed-index.ensures.operation c.listed-index.ensures.position
       (λ x. c.in_ok-note_latest.ensures x) c.loop-p.invariant.latest;
   atomic = below_more _ _ c.loop-p.invariant.atomic (c.is_atomic.ensures.0 c.if-not-is_atomic.false);
 }

@@ -1,5 +1,5 @@
 use Rattle.memory_order.proofs.Facts.{within}
-use Rattle.order_checker.proofs.Ranking.{place_at}
+use Rattle.order_checker.proofs.Ranking.{position_at}
 use Rattle.order_checker.proofs.checking.kinds.listed.Goals as goal
 
 pub returns-clause-within : goal.returns-clause-within
@@ -9,4 +9,4 @@ pub returns-clause-operation : goal.returns-clause-operation
 returns-clause-operation c = c.requires.lists.only c.args.p 0 c.requires.within
 
 pub returns-clause-position : goal.returns-clause-position
-returns-clause-position c = place_at c.args.order.now c.requires.lists.once c.args.p c.requires.within
+returns-clause-position c = position_at c.args.order.now c.requires.lists.once c.args.p c.requires.within

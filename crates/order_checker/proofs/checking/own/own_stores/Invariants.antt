@@ -1,14 +1,14 @@
 use Rattle.std.proofs.Common.{◌≡◌, ℕ, ◌<◌, length, true}
 use Rattle.round_schedule.specs.Positions.{ProgramBefore, writes_at}
-use Rattle.memory_order.specs.Orders.{place}
+use Rattle.memory_order.specs.Orders.{order_position}
 use Rattle.order_checker.specs.Checking.{bound, source_of}
 use Rattle.order_checker.proofs.Sourcing.{Noted, OwnStores}
 use Rattle.order_checker.proofs.checking.own.own_stores.Given as goal
 
 abbrev pub invariant-loop-i : goal.invariant-loop-i
 invariant-loop-i l = record {
-  own : OwnStores l.events (place l.order) l.i (λ h x. bound l.own h x);
+  own : OwnStores l.events (order_position l.order) l.i (λ h x. bound l.own h x);
   len : length l.sources.items ≡ length l.order;
-  sources : Noted l.events (place l.order) l.i (λ r x. source_of l.order l.sources.items r x);
-  kept : (b : ℕ) → b < l.i → (a x : ℕ) → ProgramBefore l.events a b → writes_at l.events a x ≡ true → writes_at l.events b x ≡ true → place l.order a < place l.order b;
+  sources : Noted l.events (order_position l.order) l.i (λ r x. source_of l.order l.sources.items r x);
+  respected : (b : ℕ) → b < l.i → (a x : ℕ) → ProgramBefore l.events a b → writes_at l.events a x ≡ true → writes_at l.events b x ≡ true → order_position l.order a < order_position l.order b;
 }

@@ -5,7 +5,7 @@ use Rattle.round_schedule.specs.Positions.{event}
 use Rattle.order_checker.specs.Checking.{Earlier, IsMax}
 use Rattle.order_checker.proofs.Bounding.{earlier_none}
 use Rattle.order_checker.proofs.Harts.{alike_at_first}
-use Rattle.order_checker.proofs.Pairing.{is_reserving, last_kept, last_step, reserved_more}
+use Rattle.order_checker.proofs.Pairing.{is_reserving, last_stays, last_step, reserved_more}
 use Rattle.order_checker.proofs.checking.pairs.last_reserved.Goals as goal
 use Rattle.order_checker.proofs.checking.pairs.last_reserved.Goals.{then-is_lr_or_sc, else-is_lr_or_sc}
 
@@ -39,6 +39,6 @@ loop-i-preserved c =
             (last_step t i e (λ k. get_or c.loop-i.last.items k 0) (λ k. get_or w.set_of_hart.new.harts.items k 0) at (sym c.is_lr_or_sc.ensures ∙ w.if-is_lr_or_sc.true)
             (λ k. w.set_of_hart.ensures.set 0 k) c.loop-i.invariant.last h)
         | else-is_lr_or_sc w ↦ rw w.last-is
-            (last_kept t i e (λ k. get_or c.loop-i.last.items k 0) at (sym c.is_lr_or_sc.ensures ∙ w.if-is_lr_or_sc.false) c.loop-i.invariant.last h)
+            (last_stays t i e (λ k. get_or c.loop-i.last.items k 0) at (sym c.is_lr_or_sc.ensures ∙ w.if-is_lr_or_sc.false) c.loop-i.invariant.last h)
       ];
     }

@@ -1,9 +1,9 @@
 use Rattle.std.proofs.Common.{◌+◌, ◌∙◌, ap, arith, refl, sym}
 use Rattle.round_schedule.specs.declared.event.Event.{Event}
-use Rattle.memory_order.proofs.Placing.{place_of_contained}
+use Rattle.memory_order.proofs.Placing.{position_of_contained}
 use Rattle.memory_order.proofs.Sources.{load_at}
 use Rattle.order_checker.specs.Checking.{bound, source_of}
-use Rattle.order_checker.proofs.Sourcing.{here_raised, others_kept, seen_step, sourced_step}
+use Rattle.order_checker.proofs.Sourcing.{here_raised, others_stay, seen_step, sourced_step}
 use Rattle.order_checker.proofs.checking.sources.all_sources.Goals as goal
 
 pub loop-p-preserved : goal.loop-p-preserved
@@ -23,7 +23,7 @@ loop-p-preserved c =
           (λ x. c.in_ok-note_store.ensures 0 x) c.loop-p.invariant.seen;
       sources = sourced_step t g i p e (λ x. bound c.loop-p.seen 0 x) (λ r x. source_of g was r x) (λ r x. source_of g now r x) c.requires.lists
           c.event_at-event.ensures.at c.listed-reader.ensures.operation c.listed-reader.ensures.position
-          (others_kept t g i p e.access was now c.requires.lists (ap (λ (e : Event). e.access) c.event_at-event.ensures.at) at c.note_load.ensures.others)
+          (others_stay t g i p e.access was now c.requires.lists (ap (λ (e : Event). e.access) c.event_at-event.ensures.at) at c.note_load.ensures.others)
           (here_raised g i p 0 0 e.access was now (λ h x. bound c.loop-p.seen h x) at refl c.note_load.ensures.raised)
           c.loop-p.invariant.seen c.loop-p.invariant.sources;
     }
@@ -32,6 +32,6 @@ pub returns : goal.returns
 returns c = record {
   len = c.loop-p.invariant.len;
   max = λ r x h.
-      let f = place_of_contained c.args.order.now r (c.requires.lists.each r (load_at c.args.events.now r x h)) in
+      let f = position_of_contained c.args.order.now r (c.requires.lists.each r (load_at c.args.events.now r x h)) in
       c.loop-p.invariant.sources.noted r x h (omega (arith, f.0));
 }

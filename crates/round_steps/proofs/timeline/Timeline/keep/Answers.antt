@@ -2,7 +2,7 @@ use Rattle.std.proofs.Common.{subst, sym, ◌∙◌}
 use Rattle.std.specs.Result.{is_ok}
 use Rattle.machine.specs.Untraced.{Untraced}
 use Rattle.round_steps.specs.Timelines.{IsThere, Line}
-use Rattle.round_steps.proofs.Stretches.{one_kept}
+use Rattle.round_steps.proofs.Stretches.{one_more_there}
 use Rattle.round_steps.proofs.timeline.Timeline.keep.Goals as goal
 
 pub invariant_of-self-in_err-map_err : goal.invariant_of-self-in_err-map_err
@@ -15,7 +15,7 @@ invariant_of-self-in_err-map_err c =
       fresh = inv.fresh;
       has_code = inv.has_code;
       later = subst (IsThere start) (sym c.in_ok-self-inside.ensures.same) there;
-      there = one_kept start c.args.machine.now c.in_ok-kept.kept c.self.inside.kept.items c.push.new.self.items (is_ok c.push.result) inv.there there (c.in_ok-kept.ensures.same ∙ c.in_ok-self-inside.ensures.stays) c.push.ensures.items;
+      there = one_more_there start c.args.machine.now c.in_ok-copy.copy c.self.inside.machines.items c.push.new.self.items (is_ok c.push.result) inv.there there (c.in_ok-machines.ensures.same ∙ c.in_ok-self-inside.ensures.stays) c.push.ensures.items;
       some = inv.some;
       few = inv.few;
     }
@@ -30,7 +30,7 @@ invariant_of-self-2 c =
       fresh = inv.fresh;
       has_code = inv.has_code;
       later = subst (IsThere start) (sym c.in_ok-self-inside.ensures.same) there;
-      there = one_kept start c.args.machine.now c.in_ok-kept.kept c.self.inside.kept.items c.push.new.self.items (is_ok c.push.result) inv.there there (c.in_ok-kept.ensures.same ∙ c.in_ok-self-inside.ensures.stays) c.push.ensures.items;
+      there = one_more_there start c.args.machine.now c.in_ok-copy.copy c.self.inside.machines.items c.push.new.self.items (is_ok c.push.result) inv.there there (c.in_ok-machines.ensures.same ∙ c.in_ok-self-inside.ensures.stays) c.push.ensures.items;
       some = inv.some;
       few = inv.few;
     }

@@ -1,7 +1,7 @@
 use Rattle.std.proofs.Common.{ap, subst, sym, ◌∙◌}
 use Rattle.machine.specs.Machine.{Running}
 use Rattle.machine.specs.Untraced.{IsUntraced, Untraced}
-use Rattle.round_steps.proofs.Stretches.{from_start, none_kept}
+use Rattle.round_steps.proofs.Stretches.{from_start, none_there}
 use Rattle.round_steps.proofs.timeline.Timeline.new.Goals as goal
 
 pub invariant_of-result : goal.invariant_of-result
@@ -13,7 +13,7 @@ invariant_of-result c =
       fresh = ap (λ (u : Untraced). u.rounds) stays ∙ c.requires.fresh;
       has_code = λ m is. c.requires.code m (back m is);
       later = λ m is. from_start m c.args.machine c.in_ok-here.here (back m is) c.requires.fresh c.in_ok-here.ensures.same;
-      there = none_kept c.share.new.self c.new-kept.result.items c.new-kept.ensures.items;
+      there = none_there c.share.new.self c.new-machines.result.items c.new-machines.ensures.items;
       some = c.rounds_apart-apart.ensures;
       few = c.requires.rounds;
     }

@@ -3,7 +3,7 @@ use Rattle.seeing.proofs.Parts.{part_ended, shows_through}
 use Rattle.seeing.proofs.sight.Sight.after_part.Goals as goal
 
 pub hart_round-requires : goal.hart_round-requires
-hart_round-requires c = shows_through c.args.pages.memory c.new-view.result c.args.table.now.first c.args.table.now.instructions c.new-view.ensures c.requires
+hart_round-requires c = shows_through c.args.pages.memory c.new-view.result c.args.code.now.first c.args.code.now.instructions c.new-view.ensures c.requires
 
 pub returns : goal.returns
 returns c =

@@ -2,8 +2,8 @@ use Rattle.std.proofs.Common.{◌<◌, ◌^◌, ap, arith}
 use Rattle.seeing.proofs.Loaded.{seen_fit, seen_past, seen_size, seen_there}
 use Rattle.seeing.proofs.sight.Sight.byte.Goals as goal
 
-pub returns-then-place-address-clause-past : goal.returns-then-place-address-clause-past
-returns-then-place-address-clause-past c =
+pub returns-then-offset-address-clause-past : goal.returns-then-offset-address-clause-past
+returns-then-offset-address-clause-past c =
     let size = seen_size c.self.inside.pages.memory c.self.inside.own _ (ap (λ s. s.bytes) c.self.view_is) in
     omega (arith, size)
 

@@ -11,4 +11,4 @@ no_lines ls (e ∷ es) none within = absurd (omega (arith, none, within 0 0 (ome
 pub returns : goal.returns
 returns c = λ empty.
     let none : length c.self.inside.lines.items ≡ 0 = grind (arith, empty, c.is_empty.ensures) in
-    sym c.self.view_is ∙ no_lines c.self.inside.lines.items c.self.inside.places.entries none c.self.invariant.placed.within
+    sym c.self.view_is ∙ no_lines c.self.inside.lines.items c.self.inside.indices.entries none c.self.invariant.placed.within

@@ -14,8 +14,8 @@ returns-in_err-number c =
     let failed = load_err c.args.p.now.memory (stores_of c.args.self.now) c.args.address c.args.width c.in_err-number.field-0.0 (sym c.in_err-number.ensures.value) in
     rw (p.1, p.2) (sym failed)
 
-pub over-requires-clause-place : goal.over-requires-clause-place
-over-requires-clause-place c =
+pub over-requires-clause-index : goal.over-requires-clause-index
+over-requires-clause-index c =
     let ok = load_ok c.args.p.now.memory (stores_of c.args.self.now) c.args.address c.args.width c.in_ok-number.number (sym c.in_ok-number.ensures.value) in
     in_one_line c.args.address c.args.width ok.1
 

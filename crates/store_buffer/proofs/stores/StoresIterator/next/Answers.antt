@@ -38,13 +38,13 @@ pub returns-clause-steps : goal.returns-clause-steps
 returns-clause-steps c =
     let inside = c.loop-self.self-inside in
     let small : inside.line.mask < 2 ^ 64 = search rules in
-    let place = trailing_zeros w64 inside.line.mask in
+    let index = trailing_zeros w64 inside.line.mask in
     let first = lines_first inside.start inside.line (lines_bytes inside.rest) c.args.self.now c.loop-self.invariant.same c.loop-self-test.false small in
-    let byte : slice_index inside.line.bytes place < 2 ^ 8 = search rules in
-    let value : slice_index inside.line.bytes place % 2 ^ 8 ≡ c.from-2.result = mod-eq_of_lt byte ∙ sym c.from-2.ensures in
-    let address : inside.start + place ≡ inside.start + c.from.result = ap (λ n. inside.start + n) (sym c.from.ensures) in
-    ap stores_of first ∙ ap (λ s. s ∷ stores_of (whole_line inside.start (record inside.line { mask = bit_and inside.line.mask (bit_not w64 (1 * 2 ^ place % 2 ^ 64)) }) ++ lines_bytes inside.rest))
-    (ap (λ a. one_byte (a, slice_index inside.line.bytes place % 2 ^ 8)) address ∙ ap (λ v. one_byte (inside.start + c.from.result, v)) value)
+    let byte : slice_index inside.line.bytes index < 2 ^ 8 = search rules in
+    let value : slice_index inside.line.bytes index % 2 ^ 8 ≡ c.from-2.result = mod-eq_of_lt byte ∙ sym c.from-2.ensures in
+    let address : inside.start + index ≡ inside.start + c.from.result = ap (λ n. inside.start + n) (sym c.from.ensures) in
+    ap stores_of first ∙ ap (λ s. s ∷ stores_of (whole_line inside.start (record inside.line { mask = bit_and inside.line.mask (bit_not w64 (1 * 2 ^ index % 2 ^ 64)) }) ++ lines_bytes inside.rest))
+    (ap (λ a. one_byte (a, slice_index inside.line.bytes index % 2 ^ 8)) address ∙ ap (λ v. one_byte (inside.start + c.from.result, v)) value)
 
 pub returns-clause-goes : goal.returns-clause-goes
 returns-clause-goes c =

@@ -1,8 +1,0 @@
-use Rattle.std.proofs.Common.{◌-◌, ◌+◌}
-use Rattle.store_buffer.specs.Lines.{line_bytes}
-use Rattle.commit_phase.specs.Writing.{word_bytes}
-use Rattle.commit_phase.proofs.Writing.{Writing}
-use Rattle.commit_phase.proofs.part.write_places.Given as goal
-
-abbrev pub invariant-loop-j : goal.invariant-loop-j
-invariant-loop-j l = record { writing : Writing l.fn.part l.part (word_bytes l.start l.line l.place) (line_bytes l.start l.line l.j (l.place + 8 - l.j)) }

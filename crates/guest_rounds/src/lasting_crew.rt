@@ -1,0 +1,158 @@
+ghost use Rattle.std.specs.Prelude.{◌≡◌, ◌<◌, ◌≤◌, ◌+◌, ◌^◌, ℕ, length, IfOk, []};
+ghost use Rattle.hart_rounds.specs.Starts.{keeps_log};
+ghost use Rattle.lasting_workers.specs.Histories.{IsWholeHistory};
+ghost use Rattle.guest_rounds.specs.NextStarts.{AreOfGuest, next_start};
+
+use crate::crew::{Crew, MANY_LINES};
+use crate::guest::GuestState;
+use crate::parallel::set_quotas;
+use hart_rounds::{HartEnd, LogForm};
+use hart_step::{DecodedCode, Hart};
+use lasting_workers::{Board, BorrowedStart, History, PostedStart, RunStarts};
+use pages::{OutOfMemory, Pages};
+use parallel_phase::Open;
+use round_planner::Plan;
+use serial_phase::SharedState;
+use std::alloc::Global;
+use std::mem;
+use std::sync::Wait;
+
+/// Workers that last for a run, with what the calling thread needs to share rounds with them.
+#[derive(Drop)]
+pub struct LastingCrew<'a, S: RunStarts, R> {
+    /// Who commits: threads are started for a commit of many lines.
+    pub crew: Crew<'a, Open, R>,
+    /// Where the starts of rounds are posted.
+    board: &'a Board<S>,
+    /// The history of the round before, for its capacity.
+    history: History<S>,
+    /// What stands in the guest while the workers hold what they borrow of it.
+    stand_in: Option<BorrowedStart>,
+    ghost within: { (1 ≤ crew.workers) × (crew.workers ≤ 16) },
+}
+
+impl<'a, S: RunStarts, R> LastingCrew<'a, S, R> {
+    /// A crew that shares rounds by this board.
+    pub fn new(rt: &'a R, board: &'a Board<S>, form: LogForm) -> LastingCrew<'a, S, R>
+        ensures { result.crew.form ≡ form }
+    {
+        LastingCrew {
+            crew: Crew {
+                rt,
+                workers: board.workers,
+                gate: &Open,
+                least_lines: MANY_LINES,
+                form,
+            },
+            board,
+            history: board.history(),
+            stand_in: None,
+        }
+    }
+
+    /// What may stand in a guest for a while, with room for the quotas of so many harts.
+    fn take_stand_in(&mut self, alloc: Global, harts: usize) -> Result<BorrowedStart, OutOfMemory>
+        ensures sized { IfOk result (λ p. length p.quotas.items ≡ harts) }
+        ensures form { IfOk result (λ p. p.form ≡ self.old.crew.form) }
+        ensures crew { self.new.crew.form ≡ self.old.crew.form }
+    {
+        let form = self.crew.form;
+        if let Some(borrowed) = self.stand_in.take() {
+            if borrowed.quotas.len() == harts {
+                return Ok(BorrowedStart { form, ..borrowed });
+            }
+        }
+        stand_in(alloc, harts, form)
+    }
+}
+
+/// A page of memory, and no hart.
+fn stand_in(alloc: Global, harts: usize, form: LogForm) -> Result<BorrowedStart, OutOfMemory>
+    ensures sized { IfOk result (λ p. length p.quotas.items ≡ harts) }
+    ensures form { IfOk result (λ p. p.form ≡ form) }
+{
+    let pages = Pages::new(alloc, 1, &[], &[])?;
+    let code = DecodedCode::new(alloc, &pages, 0, 0)?;
+    Ok(BorrowedStart {
+        pages,
+        code,
+        harts: Vec::new(alloc),
+        quotas: Vec::from_elem(alloc, 0, harts)?,
+        form,
+    })
+}
+
+/// Has what is borrowed change places with what stands in a guest.
+// docs/decisions/threads.md
+fn swap_borrowed(harts: &mut Vec<Hart>, shared: &mut SharedState, borrowed: &mut BorrowedStart)
+    ensures harts { harts.new ≡ borrowed.old.harts }
+    ensures shared { shared.new ≡
+        record shared.old { pages = borrowed.old.pages; code = borrowed.old.code } }
+    ensures borrowed { borrowed.new ≡ record borrowed.old {
+      pages = shared.old.pages;
+      code = shared.old.code;
+      harts = harts.old;
+    } }
+{
+    mem::swap(harts, &mut borrowed.harts);
+    mem::swap(&mut shared.pages, &mut borrowed.pages);
+    mem::swap(&mut shared.code, &mut borrowed.code);
+}
+
+impl<S: RunStarts, R: Wait> LastingCrew<'_, S, R> {
+    /// Does the rounds of all harts of a guest after so many rounds, whose next one starts as the run says. Refused or not, the guest
+    /// is as it was.
+    pub fn do_parallel(
+        &mut self,
+        guest: &mut GuestState,
+        plan: &Plan,
+        done: u32,
+    ) -> Result<Vec<HartEnd>, OutOfMemory>
+        requires start { S.starts (done + 1) ≡
+            next_start (keeps_log self.old.crew.form) plan.now done guest.old }
+        requires harts { length guest.old.harts ≡ plan.now.harts }
+        requires done { done + 1 < 2 ^ 32 }
+        ensures guest { guest.new ≡ guest.old }
+        ensures form { self.new.crew.form ≡ self.old.crew.form }
+        ensures whole { IfOk result (λ os. IsWholeHistory (next_start
+            (keeps_log self.old.crew.form) plan.now done guest.old) os.items) }
+        ensures ends { IfOk result (λ os.
+            AreOfGuest (keeps_log self.old.crew.form) plan.now done guest.old os.items) }
+    {
+        let alloc = guest.shared.pages.allocator();
+        let mut spare = guest.spare.take_ends(alloc);
+        // The round before has what it left until here: two rounds' stores would be in memory at once.
+        spare.clear();
+        // At most 64.
+        let _harts = plan.harts();
+        let mut borrowed = self.take_stand_in(alloc, guest.harts.len())?;
+        let round = done + 1;
+        set_quotas(plan, round, borrowed.quotas.as_mut_slice());
+        swap_borrowed(&mut guest.harts, &mut guest.shared, &mut borrowed);
+        let start = PostedStart::new(round, borrowed);
+        let (start, ends) = self.share(start, spare);
+        let mut borrowed = start.into_borrowed();
+        swap_borrowed(&mut guest.harts, &mut guest.shared, &mut borrowed);
+        self.stand_in = Some(borrowed);
+        ends
+    }
+
+    /// Shares the rounds of a start, and gives it back with what they left, in hart order, in an empty list that is taken for its capacity.
+    fn share(
+        &mut self,
+        start: PostedStart<S>,
+        spare: Vec<HartEnd>,
+    ) -> (PostedStart<S>, Result<Vec<HartEnd>, OutOfMemory>)
+        requires empty { spare.items ≡ [] }
+        ensures start { result.0 ≡ start }
+        ensures whole { IfOk result.1 (λ os. IsWholeHistory (S.starts start.round) os.items) }
+        ensures form { self.new.crew.form ≡ self.old.crew.form }
+    {
+        let (start, whole) = self.board.share(self.crew.rt, start, &mut self.history);
+        let ends = match whole {
+            Ok(()) => self.history.take_ends(spare),
+            Err(refused) => Err(refused),
+        };
+        (start, ends)
+    }
+}

@@ -1,5 +1,0 @@
-use Rattle.kept_workers.proofs.Placed.{placed_put}
-use Rattle.kept_workers.proofs.history.History.put.Goals as goal
-
-pub invariant_of-self : goal.invariant_of-self
-invariant_of-self g c = record { placed = placed_put c.args.self.now.round c.args.self.now.places.items c.args.round c.args.self.now.placed c.if-round-self.true }

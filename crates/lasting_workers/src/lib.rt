@@ -1,0 +1,14 @@
+//! Workers that last from round to round of a run: they take the start of each round from a board, and leave on it the
+//! rounds of the harts that they did, each in its slot of the round's history.
+#![tactic(auto)]
+
+mod board;
+mod history;
+mod posted_round;
+mod posted_start;
+mod postings;
+
+pub use board::Board;
+pub use history::History;
+pub use posted_round::PostedRound;
+pub use posted_start::{BorrowedStart, PostedStart, RunStarts};
