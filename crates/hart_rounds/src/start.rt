@@ -5,6 +5,7 @@ ghost use Rattle.hart_rounds.specs.Starts.{Start, keeps_log};
 use crate::log_form::LogForm;
 use hart_step::{DecodedCode, Hart};
 use pages::Pages;
+use round_schedule::MOST_HARTS;
 use std::marker::Model;
 
 /// What the parallel phase of a round starts from: guest memory with its decoded code, and the state and the
@@ -42,7 +43,7 @@ impl<'a> RoundStart<'a> {
         quotas: &'a [u32],
     ) -> RoundStart<'a>
         requires quotas { length quotas.now ≡ length harts.now }
-        requires few { length harts.now ≤ 64 }
+        requires few { length harts.now ≤ MOST_HARTS }
         requires shows { Shows pages.now.memory code.now.first code.now.instructions }
         ensures { result ≡ record {
           memory = pages.now.memory;

@@ -1,5 +1,6 @@
 ghost use Rattle.std.specs.Prelude.{◌≡◌, ◌≤◌, IfOk};
 ghost use Rattle.round_lock.specs.Rounds.{IsTable};
+ghost use Rattle.round_schedule.specs.Bounds.{AreWorkers};
 
 use crate::gate::Gate;
 use crate::working::work_all;
@@ -24,7 +25,7 @@ pub fn gather<B: BookStart + Send + Sync, G: Gate + Sync, R: Threads + Wait + Sy
     gate: &G,
 ) -> Result<Gathered<HartRound<B>>, OutOfMemory>
     requires start { start.now ≡ B.start }
-    requires workers { (1 ≤ workers) × (workers ≤ 16) }
+    requires workers { AreWorkers workers }
     ensures { IfOk result (λ g. IsTable start.now g) }
 {
     let (book, mut seats) = RoundBook::<HartRound<B>>::open(start, workers)?;

@@ -12,6 +12,7 @@ use crate::formatting::Formatting;
 use crate::putting::put_all_blocks;
 use crate::run_state::RunState;
 use host_io::{RunError, Sink};
+use round_schedule::MOST_WORKERS;
 use std::alloc::Global;
 use std::marker::Brand;
 use std::sync::Wait;
@@ -69,7 +70,7 @@ fn put_body_of<B: PutBody + Send + Sync, S: Sink, R: Threads + Wait + Sync>(
     requires output { state.now.output.now ≡ B.output }
     requires events { trace.now.events ≡ B.events }
     requires some { 0 < workers }
-    requires few { workers ≤ 16 }
+    requires few { workers ≤ MOST_WORKERS }
     ensures { Puts S.took S.failures (body_of state.now trace.now.events) out.old [] result out.new [] }
 {
     let formatting = Formatting::<B>::new(alloc, cut, state, trace, workers);
@@ -90,7 +91,7 @@ pub(crate) fn put_body<S: Sink, R: Threads + Wait + Sync>(
     trace: &Trace,
 ) -> Result<(), RunError>
     requires some { 0 < workers }
-    requires few { workers ≤ 16 }
+    requires few { workers ≤ MOST_WORKERS }
     ensures { Puts S.took S.failures (body_of state.now trace.now.events) out.old [] result out.new [] }
 {
     put_body_of::<Brand, S, R>(rt, workers, alloc, out, cut, state, trace)

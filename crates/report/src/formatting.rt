@@ -10,6 +10,7 @@ use crate::piece::Piece;
 use crate::run_state::RunState;
 use pages::{OutOfMemory, Pages};
 use report_lines::Line;
+use round_schedule::MOST_WORKERS;
 use std::alloc::Global;
 use std::sync::{Condvar, Mutex, Wait};
 use trace::Trace;
@@ -54,7 +55,7 @@ impl<'a, B: PutBody> Formatting<'a, B> {
         requires output { state.now.output.now ≡ B.output }
         requires events { trace.now.events ≡ B.events }
         requires some { 0 < workers }
-        requires few { workers ≤ 16 }
+        requires few { workers ≤ MOST_WORKERS }
     {
         let desk = Desk::new(cut.pieces(), 2 * workers);
         Formatting {

@@ -203,7 +203,7 @@ fn put_state_on<S: Sink, R: Threads + Wait + Sync>(
     state: &RunState<'_>,
     trace: &Trace,
 ) -> Result<(), RunError>
-    requires { workers ≤ 16 }
+    requires { workers ≤ MOST_WORKERS }
     ensures wrote { Puts S.took S.failures (report_with state.now trace.now.events) out.old line.old result out.new line.new }
     ensures empty { OnOk result (line.new ≡ []) }
 {

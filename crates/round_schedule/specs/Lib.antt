@@ -1,4 +1,5 @@
 pub mod Accesses
+pub mod Bounds
 pub mod ByReservations
 pub mod ReservingTurn
 pub mod Events

@@ -1,5 +1,6 @@
 -- What a run is asked for: the ranges of its numbers, the image of its file, and its plan.
 use Rattle.std.specs.Prelude.{◌≡◌, ◌⊎◌, ℕ, ◌≤◌, ◌||◌, nat_lt, if◌then◌else◌, List, Option, Some, None, Result, Err}
+use Rattle.round_schedule.specs.declared.bounds.TheConstants.{MOST_HARTS, MOST_WORKERS}
 use Rattle.host_io.specs.declared.error.RunError.{RunError}
 use Rattle.host_io.specs.declared.error.RunError.TheVariants as refusals
 use Rattle.elf_loader.specs.Causes.{IsGood, IsLeast as IsLeastOfImage, StandsInFlat}
@@ -18,20 +19,20 @@ use Rattle.run_settings.specs.declared.settings.Settings.{Settings}
 -- 1 to 64 harts, 1 to 16,384 pages, 1 to 16 workers, and a budget of 1 to 1,000
 pub record IsInRange (s : Settings) : Type 0 where
   pub some_harts : 1 ≤ s.harts
-  pub few_harts : s.harts ≤ 64
+  pub few_harts : s.harts ≤ MOST_HARTS
   pub some_pages : 1 ≤ s.pages
   pub few_pages : s.pages ≤ 16384
   pub some_workers : 1 ≤ s.workers
-  pub few_workers : s.workers ≤ 16
+  pub few_workers : s.workers ≤ MOST_WORKERS
   pub some_budget : 1 ≤ s.budget
   pub few_budget : s.budget ≤ 1000
 
 -- the refusal of numbers that are out of range; of several, the one of the least number
 abbrev pub settings_fault : Settings → Option RunError
 settings_fault s =
-    if nat_lt s.harts 1 || nat_lt 64 s.harts then Some refusals.HartsOutOfRange
+    if nat_lt s.harts 1 || nat_lt MOST_HARTS s.harts then Some refusals.HartsOutOfRange
     else (if nat_lt s.pages 1 || nat_lt 16384 s.pages then Some refusals.PagesOutOfRange
-    else (if nat_lt s.workers 1 || nat_lt 16 s.workers then Some refusals.WorkersOutOfRange
+    else (if nat_lt s.workers 1 || nat_lt MOST_WORKERS s.workers then Some refusals.WorkersOutOfRange
     else (if nat_lt s.budget 1 || nat_lt 1000 s.budget then Some refusals.BudgetOutOfRange
     else None)))
 

@@ -10,6 +10,7 @@ use crate::settings::Format;
 use elf_loader::{Image, LoadError, load_elf, load_flat};
 use host_io::RunError;
 use round_planner::{Plan, PlanError};
+use round_schedule::MOST_HARTS;
 use std::alloc::Global;
 
 /// The image of a file, for memory of so many pages.
@@ -55,7 +56,7 @@ fn load_as(alloc: Global, format: Format, file: &[u8], pages: u32) -> Result<Ima
 /// The plan of a text.
 pub fn read_plan(alloc: Global, text: &[u8], harts: u32, budget: u32) -> Result<Plan, RunError>
     requires some_harts { 1 ≤ harts }
-    requires few_harts { harts ≤ 64 }
+    requires few_harts { harts ≤ MOST_HARTS }
     requires some_budget { 1 ≤ budget }
     requires few_budget { budget ≤ 1000 }
     ensures plan { IfOk result (λ p. IsPlanOf harts text.now budget p) }
