@@ -90,7 +90,7 @@ pub asks_first : (turn : Turn) (x : At) → asks_left turn x turn.budget x ≡ (
 asks_first turn x = refl
 
 pub asks_more : (turn : Turn) (left : ℕ) (asked : Bool) (x y : At) (z : Came) (l : Turns) (a : Option Access) → 0 < left → is_some y.hart.stop ≡ false → z.answer ≡ Done a → IsNext turn y z →
-    l.current ≡ z.state.log.current ++ option_to_list a → Watched turn left asked x y → asks_left turn x turn.budget x ≡ ((asked || asks_now y) || asks_left turn x (left - 1) (went z l))
+    l.current ≡ z.state.log.current ++ option_to_list a → Watched turn left asked x y → asks_left turn x turn.budget x ≡ ((asked || asks_now y) || asks_left turn x (left - 1) (went z l z.state.shows))
 asks_more turn left asked x y z l a some on is n log u =
     let s = n.1 in
     let o = outcome_at turn y in
@@ -98,14 +98,14 @@ asks_more turn left asked x y z l a some on is n log u =
     let bytes : z.state.pages.memory.bytes ≡ after y.state.pages.memory.bytes o.stores = ap (λ (m : Memory). m.bytes) s.pages.memory in
     let entries : z.state.reservations ≡ updated_by turn.hart a y.state.reservations = s.reservations ∙ ap (λ (b : Stepped). answered_reservations turn.hart b y.state.reservations) done in
     let current : l.current ≡ y.state.log.current ++ option_to_list a = log ∙ ap (λ (k : Turns). k.current ++ option_to_list a) s.log in
-    let there : reserving_turn_at (went z l) ≡ reserving_turn_went turn.hart (reserving_turn_at y) o a = cc (s.hart, bytes, s.console, entries, current) in
+    let there : reserving_turn_at (went z l z.state.shows) ≡ reserving_turn_went turn.hart (reserving_turn_at y) o a = cc (s.hart, bytes, s.console, entries, current) in
     let rest : ReservingTurn Hart ConsoleState → Bool = asks_in_reserving_turn (words_of x.state.pages.memory.code) (asks_number x.state.pages.memory.code) turn.round turn.hart (left - 1) in
     u.asks
     ∙ ap (λ (b : Bool). asked || b)
     (next_left turn x y left z some on u.under.keeps.code n
     ∙ ap (λ (b : Stepped). asks_now y || asks_after b (λ e. rest (reserving_turn_went turn.hart (reserving_turn_at y) o e))) is
     ∙ ap (λ (d : ReservingTurn Hart ConsoleState). asks_now y || rest d) (sym there))
-    ∙ or_more asked (asks_now y) (asks_left turn x (left - 1) (went z l))
+    ∙ or_more asked (asks_now y) (asks_left turn x (left - 1) (went z l z.state.shows))
 
 asks_ended : (turn : Turn) (left : ℕ) (asked : Bool) (x y : At) (z : Came) → 0 < left → is_some y.hart.stop ≡ false → ((f : Option Access → Bool) → asks_after z.answer f ≡ false) → IsNext turn y z →
     Watched turn left asked x y → (asked || asks_now y) ≡ asks_left turn x turn.budget x

@@ -1,5 +1,4 @@
 ghost use Rattle.std.specs.Prelude.{◌≡◌, ℕ, ◌+◌, ◌≤◌, ◌<◌, ◌==◌, ◌++◌, ◌||◌, ◌&&◌, [], length, option_to_list};
-ghost use Rattle.hart_step.specs.DecodedCode.{Shows};
 ghost use Rattle.hart_step.specs.Registers.{reg};
 ghost use Rattle.hart_step.specs.Room.{HasSpares};
 ghost use Rattle.hart_step.specs.Words.{words_of};
@@ -17,7 +16,6 @@ use serial_phase::{SerialLog, SharedState, Turn, serve};
 /// Does the serial turn of a hart as `take_turn` does it, and answers whether one of its instructions is the call for the number
 /// of the round.
 pub fn take_asking_turn(h: &mut Hart, state: &mut SharedState, turn: Turn) -> bool
-    requires shows { Shows state.old.pages.memory state.old.code.first state.old.code.instructions }
     requires hart { turn.hart < length state.old.reservations }
     requires pages { HasSpares turn.budget state.old.pages }
     requires console { HasRoom turn.budget state.old.console }
@@ -38,7 +36,6 @@ pub fn take_asking_turn(h: &mut Hart, state: &mut SharedState, turn: Turn) -> bo
         HasRoom (n + turn.budget) state.old.console → HasRoom n state.new.console }
     ensures log { state.old.log.room ≤ state.new.log.room + turn.budget }
     ensures reservations { length state.new.reservations ≡ length state.old.reservations }
-    ensures shows { Shows state.new.pages.memory state.new.code.first state.new.code.instructions }
 {
     let mut asked = false;
     let mut left = turn.budget;

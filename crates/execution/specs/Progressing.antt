@@ -1,11 +1,11 @@
 -- An execution under way, as callers see it, and what is kept of it.
 use Rattle.std.specs.Prelude.{◌≡◌, ℕ, ◌<◌, ◌≤◌, true, [], List, length, slice_index_or, is_some, unwrap_or, Option, None}
+use Rattle.round_schedule.specs.declared.bounds.TheConstants.{MOST_HARTS}
 use Rattle.pages.specs.Memory.{Memory}
 use Rattle.round_schedule.specs.declared.access.Access.{Access}
 use Rattle.round_schedule.specs.declared.event.Event.{Event}
 use Rattle.round_schedule.specs.declared.event.Phase.TheVariants.{Parallel}
 use Rattle.hart_step.specs.declared.hart.Hart.{Hart}
-use Rattle.hart_step.specs.DecodedCode.{Shows}
 use Rattle.hart_step.specs.Console.{ConsoleState}
 use Rattle.execution.specs.declared.progress.Progress.{Progress}
 use Rattle.execution.specs.declared.step_fault.StepFault.{StepFault}
@@ -39,8 +39,7 @@ step_event i a = record { access = unwrap_or a no_access; round = 0; hart = i; p
 
 -- what is kept is that of each of at most 64 harts
 pub record IsReady (p : Progress) : Type 0 where
-  pub few : length p.harts.items ≤ 64
-  pub shows : Shows p.shared.pages.memory p.shared.code.first p.shared.code.instructions
+  pub few : length p.harts.items ≤ MOST_HARTS
   pub reservations : length p.shared.reservations ≡ length p.harts.items
   pub owned : length p.own.items ≡ length p.harts.items
   pub own : (i : ℕ) → i < length p.harts.items → slice_index_or p.own.items i None ≡ own_held i p.events.items

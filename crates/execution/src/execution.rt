@@ -1,6 +1,5 @@
 ghost use Rattle.std.specs.Prelude.{◌≡◌, ◌≤◌, ◌^◌, length, IfOk, MatchOption, OnErr};
 ghost use Rattle.pages.specs.Memory.{Memory};
-ghost use Rattle.hart_step.specs.DecodedCode.{Shows};
 ghost use Rattle.execution.specs.Executions.{IsLike, Takes};
 ghost use Rattle.execution.specs.Progressing.{HasNoStep, at_start};
 
@@ -9,7 +8,7 @@ use crate::step::ScriptedStep;
 use crate::step_fault::StepFault;
 use hart_step::Hart;
 use pages::OutOfMemory;
-use round_schedule::Event;
+use round_schedule::{Event, MOST_HARTS};
 use rv64_decode::Instr;
 use serial_phase::SharedState;
 use std::alloc::Global;
@@ -42,9 +41,8 @@ impl Execution {
         harts: Vec<Hart>,
         shared: SharedState,
     ) -> Result<Execution, OutOfMemory>
-        requires few { length harts.items ≤ 64 }
+        requires few { length harts.items ≤ MOST_HARTS }
         requires reservations { length shared.reservations ≡ length harts.items }
-        requires shows { Shows shared.pages.memory shared.code.first shared.code.instructions }
         ensures memory { IfOk result (λ e. e.memory ≡ shared.pages.memory) }
         ensures standing { IfOk result (λ e. e.standing ≡ at_start harts.items shared.console.console) }
     {

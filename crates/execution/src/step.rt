@@ -39,9 +39,7 @@ pub(crate) fn do_step(
 ) -> Result<Stepped, OutOfMemory>
     requires running { h.old.stop ≡ None }
     requires hart { step.hart < length shared.old.reservations }
-    requires shows { Shows shared.old.pages.memory shared.old.code.first shared.old.code.instructions }
     ensures like { (image : Memory) → IsLike image shared.old.pages.memory → IsLike image shared.new.pages.memory }
-    ensures shows { Shows shared.new.pages.memory shared.new.code.first shared.new.code.instructions }
     ensures reservations { length shared.new.reservations ≡ length shared.old.reservations }
     ensures step { IfOk result (λ answer. (image : Memory) → IsLike image shared.old.pages.memory →
         IsStep image step.round own shared.old.console.console shared.new.console.console h.old h.new answer) }
@@ -56,9 +54,7 @@ pub(crate) fn do_step(
 
 /// Lays a number on memory, and makes room for what an instruction may store and put out.
 fn make_room(shared: &mut SharedState, number: Option<Store>) -> Result<(), OutOfMemory>
-    requires { Shows shared.old.pages.memory shared.old.code.first shared.old.code.instructions }
     ensures like { (image : Memory) → IsLike image shared.old.pages.memory → IsLike image shared.new.pages.memory }
-    ensures shows { Shows shared.new.pages.memory shared.new.code.first shared.new.code.instructions }
     ensures reservations { shared.new.reservations ≡ shared.old.reservations }
     ensures console { shared.new.console.console ≡ shared.old.console.console }
     ensures pages { OnOk result (HasSpares 1 shared.new.pages) }

@@ -79,7 +79,7 @@ pub fn check_file(
 /// The image of a file.
 fn load_image(alloc: Global, file: &ExecutionFile) -> Result<Image, RunError>
     requires some_pages { 1 ≤ file.now.pages }
-    requires few_pages { file.now.pages ≤ 16384 }
+    requires few_pages { file.now.pages ≤ MOST_PAGES }
     ensures { IfOk result (λ i. i ≡ image_in (as_recorded file.now)) }
 {
     load(alloc, format_of(file), &file.image, file.pages)
@@ -93,7 +93,7 @@ fn format_of(file: &ExecutionFile) -> Format
 
 /// How many harts a file has, of which there are few.
 fn count_harts(file: &ExecutionFile) -> u32
-    requires { length file.now.harts.items ≤ 64 }
+    requires { length file.now.harts.items ≤ MOST_HARTS }
     ensures count { result ≡ length (as_recorded file.now).harts }
     ensures few { result ≤ 64 }
 {
@@ -108,7 +108,7 @@ fn check_over(
     harts: u32,
     asked: Option<HartStep>,
 ) -> Result<Checked, RunError>
-    requires { harts ≤ 64 }
+    requires { harts ≤ MOST_HARTS }
     ensures { IfOk result (λ c. IsFound (opening_guest image file.now.input.items harts) (as_recorded file.now).harts (as_recorded file.now).order asked c.finding c) }
 {
     let execution = open_execution(alloc, &image, &file.input, harts)?;
@@ -150,7 +150,7 @@ fn judge(
     harts: u32,
     asked: Option<HartStep>,
 ) -> Result<Checked, RunError>
-    requires { harts ≤ 64 }
+    requires { harts ≤ MOST_HARTS }
     ensures { IfOk result (λ c. IsFound (opening_guest image file.now.input.items harts) (as_recorded file.now).harts (as_recorded file.now).order asked c.finding c) }
 {
     let mut execution = open_execution(alloc, &image, &file.input, harts)?;

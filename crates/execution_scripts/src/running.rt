@@ -19,7 +19,8 @@ use execution_file::{ExecutionFile, HartDeeds, Turn};
 use host_io::RunError;
 use machine::{Format, Machine, Observer, Settings, load, prepare};
 use memory_order::memory_order;
-use pages::OutOfMemory;
+use pages::{MOST_PAGES, OutOfMemory};
+use round_schedule::MOST_WORKERS;
 use std::alloc::Global;
 use std::sync::Wait;
 use std::thread::Threads;
@@ -75,7 +76,7 @@ fn run_of<O: Observer, R: Threads + Wait + Sync>(
 ) -> Result<Ran, RunError>
     requires fresh { machine.old.state.rounds ≡ 0 }
     requires some_workers { 1 ≤ settings.now.workers }
-    requires few_workers { settings.now.workers ≤ 16 }
+    requires few_workers { settings.now.workers ≤ MOST_WORKERS }
     ensures parts { IfOk result (λ ran. let m = after_rounds settings.now.rounds machine.old in
         map hart_view ran.parts.items ≡ deeds m.state.harts m.state.trace) }
     ensures errors { IfErr result (λ e. e ≡ refusals.OutOfMemory) }
@@ -100,7 +101,7 @@ fn paces_of<O: Observer, R: Threads + Wait + Sync>(
 ) -> Result<(Vec<u32>, Vec<u64>), RunError>
     requires fresh { machine.old.state.rounds ≡ 0 }
     requires some_workers { 1 ≤ settings.now.workers }
-    requires few_workers { settings.now.workers ≤ 16 }
+    requires few_workers { settings.now.workers ≤ MOST_WORKERS }
     ensures ran { OnOk result (machine.new ≡ after_rounds settings.now.rounds machine.old) }
     ensures errors { IfErr result (λ e. e ≡ refusals.OutOfMemory) }
 {
@@ -139,7 +140,7 @@ fn file_of(
     ran: Ran,
 ) -> Result<ExecutionFile, RunError>
     requires some_pages { 1 ≤ settings.now.pages }
-    requires few_pages { settings.now.pages ≤ 16384 }
+    requires few_pages { settings.now.pages ≤ MOST_PAGES }
     ensures file { IfOk result (λ f. IsFileWith settings.now image.now input.now (map hart_view ran.parts.items) (as_recorded f)) }
     ensures errors { IfErr result (λ e. IsReason settings.now image.now e) }
 {
@@ -175,7 +176,7 @@ fn calls_in(
     ran: &Ran,
 ) -> Result<Vec<Turn>, RunError>
     requires some_pages { 1 ≤ settings.now.pages }
-    requires few_pages { settings.now.pages ≤ 16384 }
+    requires few_pages { settings.now.pages ≤ MOST_PAGES }
     ensures errors { IfErr result (λ e. IsReason settings.now image.now e) }
 {
     let loaded = load(alloc, settings.format, image, settings.pages)?;

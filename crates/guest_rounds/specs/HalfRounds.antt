@@ -1,7 +1,6 @@
 -- A round between its parallel phase and its commit.
 use Rattle.std.specs.Prelude.{◌≡◌, ℕ, Bool, List, length}
 use Rattle.round_planner.specs.Quotas.{Planned}
-use Rattle.hart_step.specs.DecodedCode.{Shows}
 use Rattle.serial_phase.specs.declared.shared.SharedState.{SharedState}
 use Rattle.hart_rounds.specs.declared.hart_end.HartEnd.{HartEnd}
 use Rattle.guest_rounds.specs.Guests.{Guest, shared_of}
@@ -10,6 +9,5 @@ use Rattle.guest_rounds.specs.NextStarts.{AreOfGuest}
 -- what the harts of a guest share as the round after n rounds began, and what their part of its parallel phase left
 pub record IsHalfDone (logs : Bool) (plan : Planned) (n : ℕ) (g : Guest) (s : SharedState) (os : List HartEnd) : Type 0 where
   pub shared : shared_of s ≡ g.shared
-  pub shows : Shows s.pages.memory s.code.first s.code.instructions
   pub size : length s.reservations ≡ length g.harts
   pub ends : AreOfGuest logs plan n g os

@@ -9,6 +9,7 @@ use commit_phase::{OpenShards, commit as commit_all, commit_on};
 use hart_rounds::HartEnd;
 use pages::Pages;
 use reservations::Reservations;
+use round_schedule::MOST_HARTS;
 use std::thread::Threads;
 use store_buffer::StoreBuffer;
 
@@ -21,7 +22,7 @@ pub fn commit<G, R: Threads + Sync>(
     ends: &[HartEnd],
 )
     requires workers { 1 ≤ crew.now.workers }
-    requires few { length ends.now ≤ 64 }
+    requires few { length ends.now ≤ MOST_HARTS }
     requires fits { AreFit pages.old.memory ends.now }
     requires ready { AreReady pages.old ends.now }
     ensures ready { pages.new.ready ≡ pages.old.ready }

@@ -8,13 +8,13 @@ ghost use Rattle.serial_phase.specs.Turns.{count_log};
 
 use hart_rounds::HartEnd;
 use hart_step::Access;
-use round_schedule::Phase;
+use round_schedule::{MOST_HARTS, Phase};
 use serial_phase::SerialLog;
 use trace::{Log, Trace};
 
 /// How many instructions the serial turns may do together.
 pub fn turns_needed(ends: &[HartEnd], budget: u32) -> u32
-    requires few { length ends.now ≤ 64 }
+    requires few { length ends.now ≤ MOST_HARTS }
     requires budget { budget ≤ 1000 }
     ensures needed { result ≡ turns_of budget (waits_of ends.now) }
     ensures small { result ≤ 1000 * length ends.now }
@@ -27,7 +27,7 @@ pub fn turns_needed(ends: &[HartEnd], budget: u32) -> u32
 
 /// Adds the events of the parallel phase, hart by hart. Where the trace adopts the harts' logs, they are handed over as they are.
 pub(crate) fn add_parallel(trace: &mut Trace, round: u32, ends: &mut [HartEnd], adopts: bool)
-    requires few { length ends.old ≤ 64 }
+    requires few { length ends.old ≤ MOST_HARTS }
     requires places { HasPlaces adopts ends.old trace.old }
     requires sound { IsTrace (trace.old.events ++ events_of_ends round 0 ends.old) }
     ensures events { trace.new.events ≡ trace.old.events ++ events_of_ends round 0 ends.old }
@@ -42,7 +42,7 @@ pub(crate) fn add_parallel(trace: &mut Trace, round: u32, ends: &mut [HartEnd], 
 
 /// Adds the events of one hart: hands its log over, or copies its accesses.
 fn add_log(trace: &mut Trace, round: u32, hart: u32, log: &mut Log, adopts: bool)
-    requires hart { hart < 64 }
+    requires hart { hart < MOST_HARTS }
     requires room { (if adopts then 0 else length log.old) ≤ trace.old.room }
     requires logs { adopts ≡ true → 0 < trace.old.logs }
     requires few { adopts ≡ true → length trace.old.events + length log.old ≤ 2 ^ 62 }
@@ -65,7 +65,7 @@ fn add_log(trace: &mut Trace, round: u32, hart: u32, log: &mut Log, adopts: bool
 /// Adds the events of the serial turns of harts `first`, `first` + 1, .., `left` of them.
 pub(crate) fn add_serial(trace: &mut Trace, round: u32, first: u32, left: u32, log: &SerialLog)
     requires harts { first + left ≡ length log.now.closed }
-    requires few { length log.now.closed ≤ 64 }
+    requires few { length log.now.closed ≤ MOST_HARTS }
     requires room { count_log (drop first log.now.closed) ≤ trace.old.room }
     requires sound { IsTrace (trace.old.events ++
         log_events round first (drop first log.now.closed)) }
@@ -82,7 +82,7 @@ pub(crate) fn add_serial(trace: &mut Trace, round: u32, first: u32, left: u32, l
 
 /// Adds the events of one hart's turn.
 fn add_turn(trace: &mut Trace, round: u32, hart: u32, accesses: &[Access])
-    requires hart { hart < 64 }
+    requires hart { hart < MOST_HARTS }
     requires room { length accesses.now ≤ trace.old.room }
     requires sound { IsTrace (trace.old.events ++ events_of round hart Serial accesses.now) }
     ensures events { trace.new.events ≡

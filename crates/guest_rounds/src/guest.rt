@@ -8,6 +8,7 @@ use elf_loader::Image;
 use hart_step::{DecodedCode, Hart};
 use pages::{OutOfMemory, Pages};
 use reservations::Reservations;
+use round_schedule::MOST_HARTS;
 use serial_phase::{Console, SerialLog, SharedState};
 use std::alloc::Global;
 use std::marker::Model;
@@ -39,7 +40,7 @@ impl GuestState {
         input: Vec<u8>,
         count: u32,
     ) -> Result<GuestState, OutOfMemory>
-        requires { count ≤ 64 }
+        requires { count ≤ MOST_HARTS }
         ensures { IfOk result (λ g. g ≡ opening_guest image.now input.items count) }
     {
         let pages = Pages::new(alloc, image.pages(), image.pieces(), image.code())?;

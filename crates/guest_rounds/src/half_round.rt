@@ -1,6 +1,7 @@
 ghost use Rattle.std.specs.Prelude.{◌≡◌, ◌<◌, ◌≤◌, ◌+◌, ◌^◌, length, IfOk};
 ghost use Rattle.hart_rounds.specs.Starts.{keeps_log};
 ghost use Rattle.guest_rounds.specs.HalfRounds.{IsHalfDone};
+ghost use Rattle.round_schedule.specs.Bounds.{AreWorkers};
 
 use crate::crew::Crew;
 use crate::guest::GuestState;
@@ -29,7 +30,7 @@ impl GuestState {
         plan: &Plan,
         done: u32,
     ) -> Result<HalfRound, OutOfMemory>
-        requires workers { (1 ≤ crew.now.workers) × (crew.now.workers ≤ 16) }
+        requires workers { AreWorkers crew.now.workers }
         requires harts { length self.harts ≡ plan.now.harts }
         requires done { done + 1 < 2 ^ 32 }
         ensures { IfOk result (λ r. IsHalfDone (keeps_log crew.now.form) plan.now done self r.shared r.ends.items) }

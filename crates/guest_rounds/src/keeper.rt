@@ -12,6 +12,7 @@ use crate::room::make_places;
 use crate::tally::Tally;
 use hart_rounds::{HartEnd, LogForm};
 use pages::OutOfMemory;
+use round_schedule::MOST_HARTS;
 use serial_phase::SerialLog;
 use trace::Trace;
 
@@ -53,7 +54,7 @@ pub trait EventKeeper {
     /// Adds the events of a round, for which room was made. It takes no memory.
     fn add(&mut self, round: u32, ends: &mut [HartEnd], log: &SerialLog, adopts: bool)
         requires harts { length log.now.closed ≡ length ends.old }
-        requires few { length ends.old ≤ 64 }
+        requires few { length ends.old ≤ MOST_HARTS }
         requires room { (turns : ℕ) × has_room self.old adopts ends.old turns ×
             (count_log log.now.closed ≤ turns) }
         requires sound { (es : List Happened) × keeps self.old es ×

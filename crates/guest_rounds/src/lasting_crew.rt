@@ -2,6 +2,7 @@ ghost use Rattle.std.specs.Prelude.{◌≡◌, ◌<◌, ◌≤◌, ◌+◌, ◌^
 ghost use Rattle.hart_rounds.specs.Starts.{keeps_log};
 ghost use Rattle.lasting_workers.specs.Histories.{IsWholeHistory};
 ghost use Rattle.guest_rounds.specs.NextStarts.{AreOfGuest, next_start};
+ghost use Rattle.round_schedule.specs.Bounds.{AreWorkers};
 
 use crate::crew::{Crew, MANY_LINES};
 use crate::guest::GuestState;
@@ -28,7 +29,7 @@ pub struct LastingCrew<'a, S: RunStarts, R> {
     history: History<S>,
     /// What stands in the guest while the workers hold what they borrow of it.
     stand_in: Option<BorrowedStart>,
-    ghost within: { (1 ≤ crew.workers) × (crew.workers ≤ 16) },
+    ghost within: { AreWorkers crew.workers },
 }
 
 impl<'a, S: RunStarts, R> LastingCrew<'a, S, R> {
@@ -57,9 +58,10 @@ impl<'a, S: RunStarts, R> LastingCrew<'a, S, R> {
         ensures crew { self.new.crew.form ≡ self.old.crew.form }
     {
         let form = self.crew.form;
-        if let Some(borrowed) = self.stand_in.take() {
+        if let Some(mut borrowed) = self.stand_in.take() {
             if borrowed.quotas.len() == harts {
-                return Ok(BorrowedStart { form, ..borrowed });
+                borrowed.form = form;
+                return Ok(borrowed);
             }
         }
         stand_in(alloc, harts, form)
@@ -86,11 +88,15 @@ fn stand_in(alloc: Global, harts: usize, form: LogForm) -> Result<BorrowedStart,
 // docs/decisions/threads.md
 fn swap_borrowed(harts: &mut Vec<Hart>, shared: &mut SharedState, borrowed: &mut BorrowedStart)
     ensures harts { harts.new ≡ borrowed.old.harts }
-    ensures shared { shared.new ≡
-        record shared.old { pages = borrowed.old.pages; code = borrowed.old.code } }
+    ensures shared { shared.new ≡ record shared.old {
+      pages = borrowed.old.pages;
+      code = borrowed.old.code;
+      shows = borrowed.old.shows;
+    } }
     ensures borrowed { borrowed.new ≡ record borrowed.old {
       pages = shared.old.pages;
       code = shared.old.code;
+      shows = shared.old.shows;
       harts = harts.old;
     } }
 {

@@ -3,10 +3,10 @@
 ghost use Rattle.std.specs.Prelude.{◌≡◌, ◌<◌, ◌≤◌, ◌-◌, ℕ, [], IfOk, OnOk, length, slice_index, vec_capacity};
 ghost use Rattle.round_schedule.specs.Schedule.{hart_rounds};
 ghost use Rattle.round_planner.specs.Quotas.{quota_of, quotas_of};
-ghost use Rattle.hart_step.specs.DecodedCode.{Shows};
 ghost use Rattle.hart_step.specs.Words.{words_of};
 ghost use Rattle.hart_rounds.specs.Starts.{keeps_log, rounds_of};
 ghost use Rattle.guest_rounds.specs.HartEnds.{AreAtRest, AreEndsOf, StoppedStay, harts_of};
+ghost use Rattle.round_schedule.specs.Bounds.{AreWorkers};
 
 use crate::crew::Crew;
 use crate::spare_lists::SpareLists;
@@ -34,9 +34,7 @@ pub(crate) fn parallel<G: Gate + Sync, R: Threads + Wait + Sync>(
     round: u32,
     spare: &mut SpareLists,
 ) -> Result<Vec<HartEnd>, OutOfMemory>
-    requires workers { (1 ≤ crew.now.workers) × (crew.now.workers ≤ 16) }
-    requires shows { Shows shared.now.pages.memory shared.now.code.first
-        shared.now.code.instructions }
+    requires workers { AreWorkers crew.now.workers }
     requires harts { length harts.now ≡ plan.now.harts }
     requires round { 1 ≤ round }
     requires kept { StoppedStay harts.now (harts_of spare.old.ends.items) }
@@ -60,7 +58,7 @@ fn parallel_from<B: BookStart + Send + Sync, G: Gate + Sync, R: Threads + Wait +
     start: &RoundStart<'_>,
     spare: &mut SpareLists,
 ) -> Result<Vec<HartEnd>, OutOfMemory>
-    requires workers { (1 ≤ crew.now.workers) × (crew.now.workers ≤ 16) }
+    requires workers { AreWorkers crew.now.workers }
     requires start { start.now ≡ B.start }
     requires sized { length start.now.quotas ≡ length start.now.harts }
     requires kept { StoppedStay start.now.harts (harts_of spare.old.ends.items) }
@@ -137,7 +135,7 @@ fn gather_ends<B: BookStart + Send + Sync, G: Gate + Sync, R: Threads + Wait + S
     start: &RoundStart<'_>,
     mut ends: Vec<HartEnd>,
 ) -> Result<Vec<HartEnd>, OutOfMemory>
-    requires workers { (1 ≤ crew.now.workers) × (crew.now.workers ≤ 16) }
+    requires workers { AreWorkers crew.now.workers }
     requires start { start.now ≡ B.start }
     requires sized { length start.now.quotas ≡ length start.now.harts }
     requires empty { ends.items ≡ [] }

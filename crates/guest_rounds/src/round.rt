@@ -4,7 +4,6 @@ ghost use Rattle.round_schedule.specs.declared.event.Event.{Event};
 ghost use Rattle.round_schedule.specs.Schedule.{HartRound, all_stores, hart_rounds};
 ghost use Rattle.round_planner.specs.Quotas.{quotas_of};
 ghost use Rattle.hart_step.specs.declared.hart.Hart.{Hart};
-ghost use Rattle.hart_step.specs.DecodedCode.{Shows};
 ghost use Rattle.hart_step.specs.Words.{words_of};
 ghost use Rattle.hart_rounds.specs.Starts.{keeps_log};
 ghost use Rattle.lasting_workers.specs.Histories.{IsWholeHistory};
@@ -14,6 +13,7 @@ ghost use Rattle.guest_rounds.specs.NextStarts.{AreOfGuest, next_start};
 ghost use Rattle.guest_rounds.specs.Rounds.{count_waiting};
 ghost use Rattle.guest_rounds.specs.HartEnds.{AreAtRest, AreFit, StoppedStay, AreEndsOf, count_accesses, count_true, harts_of, mask_of, waits_of};
 ghost use Rattle.guest_rounds.specs.Rounds.{IsFinished, MayFinish};
+ghost use Rattle.round_schedule.specs.Bounds.{AreWorkers};
 
 use crate::committing::commit;
 use crate::crew::Crew;
@@ -27,6 +27,7 @@ use hart_step::Hart;
 use pages::OutOfMemory;
 use parallel_phase::Gate;
 use round_planner::Plan;
+use round_schedule::MOST_HARTS;
 use serial_phase::{SerialRound, SharedState, serial};
 use std::sync::Wait;
 use std::thread::Threads;
@@ -48,7 +49,7 @@ impl GuestState {
         plan: &Plan,
         done: u32,
     ) -> Result<Vec<HartEnd>, OutOfMemory>
-        requires workers { (1 ≤ crew.now.workers) × (crew.now.workers ≤ 16) }
+        requires workers { AreWorkers crew.now.workers }
         requires harts { length self.old.harts ≡ plan.now.harts }
         requires done { done + 1 < 2 ^ 32 }
         ensures stays { self.new ≡ self.old }
@@ -132,13 +133,11 @@ fn finish<E: EventKeeper, G, R: Threads + Sync>(
     tally: Tally,
 ) -> Result<RoundCounts, OutOfMemory>
     requires workers { 1 ≤ crew.now.workers }
-    requires shows { Shows shared.old.pages.memory shared.old.code.first
-        shared.old.code.instructions }
     requires rounds { (rs : List (HartRound Hart)) × AreEndsOf E.logs shared.old.pages.memory
         rs ends.old × TouchesNoCode shared.old.pages.memory.code (all_stores rs) ×
         ((es : List Event) × E.keeps keeper.old es ×
         MayFinish E.may_keep phase rs ends.old (shared_of shared.old) es) }
-    requires few { length ends.old ≤ 64 }
+    requires few { length ends.old ≤ MOST_HARTS }
     requires fits { AreFit shared.old.pages.memory ends.old }
     requires harts { length harts.old ≡ length ends.old }
     requires at_rest { AreAtRest harts.old ends.old }
@@ -156,8 +155,6 @@ fn finish<E: EventKeeper, G, R: Threads + Sync>(
     ensures few { IfOk result (λ n. n.events ≤ 64 * most_of_round) }
     ensures opening { E.opens_with keeper.new ≡ E.opens_with keeper.old }
     ensures size { length shared.new.reservations ≡ length shared.old.reservations }
-    ensures shows { Shows shared.new.pages.memory shared.new.code.first
-        shared.new.code.instructions }
     ensures waited { IfOk result (λ n. n.waited ≡ count_true (waits_of ends.old)) }
     ensures harts { OnErr result (harts.new ≡ harts.old) }
     ensures memory { OnErr result (shared.new.pages.memory ≡ shared.old.pages.memory) }

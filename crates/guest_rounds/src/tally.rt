@@ -2,6 +2,7 @@ ghost use Rattle.std.specs.Prelude.{◌≡◌, ◌≤◌, ◌<◌, ◌^◌, leng
 ghost use Rattle.guest_rounds.specs.HartEnds.{count_accesses, count_true, mask_of, waits_of};
 
 use hart_rounds::{HartEnd, LONG};
+use round_schedule::MOST_HARTS;
 
 /// What the rounds of all harts come to together.
 #[derive(Clone, Copy)]
@@ -19,7 +20,7 @@ pub struct Tally {
 impl Tally {
     /// The tally of what the harts left. They did a million instructions each at most.
     pub(crate) fn of(ends: &[HartEnd]) -> Tally
-        requires few { length ends.now ≤ 64 }
+        requires few { length ends.now ≤ MOST_HARTS }
         requires accesses { count_accesses ends.now < 2 ^ 32 }
         ensures waiting { result.waiting ≡ mask_of (waits_of ends.now) }
         ensures below { result.waiting < 2 ^ length ends.now }

@@ -19,6 +19,7 @@ use Rattle.serial_phase.specs.Roomed.{HasRoom, Roomed}
 use Rattle.serial_phase.specs.Turns.{Turns}
 use Rattle.serial_phase.specs.declared.shared.SharedState.{SharedState}
 use Rattle.serial_phase.specs.declared.shared.Turn.{Turn}
+use Rattle.serial_phase.proofs.ShownCode.{ShowsCode}
 use Rattle.guest_turns.specs.declared.asked_turn.TurnPlace.{TurnPlace}
 use Rattle.hart_rounds.specs.declared.hart_end.HartEnd.{HartEnd}
 use Rattle.guest_rounds.specs.Guests.{Shared}
@@ -54,10 +55,10 @@ turn_for turn o = record turn { budget = cond o.waits turn.budget 0 }
 abbrev pub next_turn : Turn → Turn
 next_turn turn = record turn { hart = turn.hart + 1 }
 
-turns_more : (turn : Turn) (o : HartEnd) (os : List HartEnd) (s s' u : SharedState) (k : Turns) (h : Hart) →
-    TakesTurn (turn_done (turn_for turn o) o.hart s) h s s' → HadTurns (next_turn turn) os (record s' { log = k }) u → HadTurns turn (o ∷ os) s u
-turns_more turn o os s s' u k h x y logs m [] c a eb ec et = absurd a
-turns_more turn o os s s' u k h x y logs m (r ∷ rs) c a eb ec et =
+turns_more : (turn : Turn) (o : HartEnd) (os : List HartEnd) (s s' u : SharedState) (k : Turns) (shows : ShowsCode s'.pages s'.code) (h : Hart) →
+    TakesTurn (turn_done (turn_for turn o) o.hart s) h s s' → HadTurns (next_turn turn) os (record s' { log = k; shows = shows }) u → HadTurns turn (o ∷ os) s u
+turns_more turn o os s s' u k shows h x y logs m [] c a eb ec et = absurd a
+turns_more turn o os s s' u k shows h x y logs m (r ∷ rs) c a eb ec et =
     let n = turn.round in
     let first = turn.hart in
     let budget = turn.budget in
@@ -73,8 +74,8 @@ turns_more turn o os s s' u k h x y logs m (r ∷ rs) c a eb ec et =
     let x' = subst (λ (z : ReservingTurn Hart ConsoleState). TakesTurn z h s s') same x in
     let z = y logs m rs (reserving_phase_joined c D) a.1 (sym x'.pages.bytes) (sym x'.console) (sym x'.reservations) in
     let next : first + 1 ≡ suc first = omega arith in
-    let w = subst (λ (j : ℕ). LeftBy (reserving_phase_from W budget n j rs (reserving_phase_joined c D)) (record s' { log = k }) u) next
-    (subst (λ (code : List Range). LeftBy (reserving_phase_from (words_of code) budget n (first + 1) rs (reserving_phase_joined c D)) (record s' { log = k }) u) x'.pages.code z) in
+    let w = subst (λ (j : ℕ). LeftBy (reserving_phase_from W budget n j rs (reserving_phase_joined c D)) (record s' { log = k; shows = shows }) u) next
+    (subst (λ (code : List Range). LeftBy (reserving_phase_from (words_of code) budget n (first + 1) rs (reserving_phase_joined c D)) (record s' { log = k; shows = shows }) u) x'.pages.code z) in
     record { pages = same_bytes s.pages s'.pages u.pages _ _ x'.pages w.pages; reservations = w.reservations; console = w.console }
 
 -- by the first of a list
@@ -93,13 +94,13 @@ pub none_there : (turn : Turn) (os : List HartEnd) (s : SharedState) → length 
 none_there turn [] s lt = no_turns turn s
 none_there turn (o ∷ os) s lt = absurd (omega (arith, lt))
 
-pub turns_up : (turn of_first : Turn) (o : HartEnd) (os : List HartEnd) (s s' u : SharedState) (k : Turns) (h : Hart) → 1 ≤ length os → o ≡ get_or os 0 o → of_first ≡ turn_for turn o →
-    TakesTurn (turn_done of_first o.hart s) h s s' → HadTurns (next_turn turn) (rest os) (record s' { log = k }) u → HadTurns turn os s u
-turns_up turn of_first o [] s s' u k h some is e x y = absurd (omega (arith, some))
-turns_up turn of_first o (v ∷ os) s s' u k h some is e x y =
+pub turns_up : (turn of_first : Turn) (o : HartEnd) (os : List HartEnd) (s s' u : SharedState) (k : Turns) (shows : ShowsCode s'.pages s'.code) (h : Hart) → 1 ≤ length os → o ≡ get_or os 0 o → of_first ≡ turn_for turn o →
+    TakesTurn (turn_done of_first o.hart s) h s s' → HadTurns (next_turn turn) (rest os) (record s' { log = k; shows = shows }) u → HadTurns turn os s u
+turns_up turn of_first o [] s s' u k shows h some is e x y = absurd (omega (arith, some))
+turns_up turn of_first o (v ∷ os) s s' u k shows h some is e x y =
     let x1 = subst (λ (t : Turn). TakesTurn (turn_done t o.hart s) h s s') e x in
     let x2 : TakesTurn (turn_done (turn_for turn v) v.hart s) h s s' = subst (λ (z : HartEnd). TakesTurn (turn_done (turn_for turn z) z.hart s) h s s') is x1 in
-    turns_more turn v os s s' u k h x2 (subst (λ (r : List HartEnd). HadTurns (next_turn turn) r (record s' { log = k }) u) (rest_is v os) y)
+    turns_more turn v os s s' u k shows h x2 (subst (λ (r : List HartEnd). HadTurns (next_turn turn) r (record s' { log = k; shows = shows }) u) (rest_is v os) y)
 
 -- what the turns may need together
 pub sums : (budget n k : ℕ) (o : HartEnd) (os : List HartEnd) → 1 ≤ length os → o ≡ get_or os 0 o → k ≡ cond o.waits budget 0 → n + turns_of budget (waits_of os) ≡ (n + turns_of budget (waits_of (rest os))) + k

@@ -1,5 +1,5 @@
 -- A round between its parallel phase and its commit: what is asked of it.
-use Rattle.std.proofs.Common.{◌≡◌, ◌<◌, ◌≤◌, ◌^◌, ℕ, zero, suc, Bool, List, [], ◌∷◌, Option, None, All, length, get_or, refl, sym, ap, ◌∙◌, subst, arith}
+use Rattle.std.proofs.Common.{◌≡◌, ◌<◌, ◌≤◌, ◌^◌, ℕ, zero, suc, Bool, List, [], ◌∷◌, Option, None, All, length, get_or, refl, sym, ap, subst, arith}
 use Rattle.pages.specs.Memory.{IsBytes, Memory, TouchesNoCode}
 use Rattle.round_schedule.specs.declared.event.Event.{Event}
 use Rattle.round_schedule.specs.declared.span.Span.{Span}

@@ -84,7 +84,7 @@ pub harts_first : (turn : Turn) (old : List Hart) (x : At) → old ++ harts_left
 harts_first turn old x = refl
 
 pub harts_more : (turn : Turn) (left : ℕ) (old passed more : List Hart) (x y : At) (z : Came) (l : Turns) (a : Option Access) → 0 < left → is_some y.hart.stop ≡ false → z.answer ≡ Done a → IsNext turn y z →
-    l.current ≡ z.state.log.current ++ option_to_list a → more ≡ passed ++ y.hart ∷ [] → Walked turn left old passed x y → old ++ harts_left turn x turn.budget x ≡ more ++ harts_left turn x (left - 1) (went z l)
+    l.current ≡ z.state.log.current ++ option_to_list a → more ≡ passed ++ y.hart ∷ [] → Walked turn left old passed x y → old ++ harts_left turn x turn.budget x ≡ more ++ harts_left turn x (left - 1) (went z l z.state.shows)
 harts_more turn left old passed more x y z l a some on is n log pushed u =
     let s = n.1 in
     let o = outcome_at turn y in
@@ -92,15 +92,15 @@ harts_more turn left old passed more x y z l a some on is n log pushed u =
     let bytes : z.state.pages.memory.bytes ≡ after y.state.pages.memory.bytes o.stores = ap (λ (m : Memory). m.bytes) s.pages.memory in
     let entries : z.state.reservations ≡ updated_by turn.hart a y.state.reservations = s.reservations ∙ ap (λ (b : Stepped). answered_reservations turn.hart b y.state.reservations) done in
     let current : l.current ≡ y.state.log.current ++ option_to_list a = log ∙ ap (λ (k : Turns). k.current ++ option_to_list a) s.log in
-    let at_next : reserving_turn_at (went z l) ≡ reserving_turn_went turn.hart (reserving_turn_at y) o a = cc (s.hart, bytes, s.console, entries, current) in
+    let at_next : reserving_turn_at (went z l z.state.shows) ≡ reserving_turn_went turn.hart (reserving_turn_at y) o a = cc (s.hart, bytes, s.console, entries, current) in
     let later : ReservingTurn Hart ConsoleState → List Hart = reserving_turns_from (words_of x.state.pages.memory.code) turn.round turn.hart (left - 1) in
     u.harts
     ∙ ap (λ (hs : List Hart). passed ++ hs)
     (next_left turn x y left z some on u.under.keeps.code n
     ∙ ap (λ (b : Stepped). by_reserving_answer turn.hart b (reserving_turn_at y) o later) is
     ∙ ap (λ (d : ReservingTurn Hart ConsoleState). y.hart ∷ later d) (sym at_next))
-    ∙ sym (append_assoc passed (y.hart ∷ []) (later (reserving_turn_at (went z l))))
-    ∙ ap (λ (hs : List Hart). hs ++ later (reserving_turn_at (went z l))) (sym pushed)
+    ∙ sym (append_assoc passed (y.hart ∷ []) (later (reserving_turn_at (went z l z.state.shows))))
+    ∙ ap (λ (hs : List Hart). hs ++ later (reserving_turn_at (went z l z.state.shows))) (sym pushed)
 
 harts_ended : (turn : Turn) (left : ℕ) (old passed : List Hart) (x y : At) (z : Came) → 0 < left → is_some y.hart.stop ≡ false →
     ((o : SerialOutcome Hart ConsoleState) (f : ReservingTurn Hart ConsoleState → List Hart) → by_reserving_answer turn.hart z.answer (reserving_turn_at y) o f ≡ o.hart ∷ []) → IsNext turn y z →
@@ -134,7 +134,6 @@ walks turn old passed x y began harts e = record {
   console = e.console;
   log = e.log;
   reservations = e.reservations;
-  shows = e.shows;
 }
 
 -- ---- turn by turn

@@ -7,7 +7,6 @@ use Rattle.round_schedule.specs.Schedule.{HartRound, SerialOutcome, Words}
 use Rattle.round_schedule.specs.ReservingTurn.{ReservingPhase, ReservingTurn, reserving_phase_joined, reserving_turn_next, reserving_turn_of}
 use Rattle.run_loops.specs.Asking.{reserving_turn_went}
 use Rattle.hart_step.specs.declared.hart.Hart.{Hart}
-use Rattle.hart_step.specs.DecodedCode.{Shows}
 use Rattle.hart_step.specs.Console.{ConsoleState}
 use Rattle.hart_step.specs.Room.{HasSpares}
 use Rattle.hart_step.specs.Words.{words_of}
@@ -46,7 +45,6 @@ pub record WalksTurn (turn : Turn) (h : Hart) (s : SharedState) (old : List Hart
   pub console : (n : ℕ) → HasRoom (n + turn.budget) s.console → HasRoom n t.console
   pub log : s.log.room ≤ t.log.room + turn.budget
   pub reservations : length t.reservations ≡ length s.reservations
-  pub shows : Shows t.pages.memory t.code.first t.code.instructions
 
 -- the harts along the turns of those whose rounds left these, of which the first one's turn would be this, are added
 abbrev pub AddsTurns : Turn → List HartEnd → SharedState → List (List Hart) → List (List Hart) → Type 0

@@ -2,7 +2,6 @@ ghost use Rattle.std.specs.Prelude.{◌≡◌, ℕ, ◌<◌, ◌≤◌, ◌+◌,
 ghost use Rattle.pages.specs.Memory.{TouchesNoCode};
 ghost use Rattle.round_schedule.specs.Schedule.{HartRound, all_stores};
 ghost use Rattle.hart_step.specs.declared.hart.Hart.{Hart};
-ghost use Rattle.hart_step.specs.DecodedCode.{Shows};
 ghost use Rattle.hart_step.specs.Room.{HasSpares};
 ghost use Rattle.serial_phase.specs.Roomed.{HasRoom};
 ghost use Rattle.guest_turns.specs.Asked.{HadTurns, reserving_turn_begun, found_at, found_in, one_further};
@@ -13,6 +12,7 @@ use guest_rounds::{Crew, commit, make_turn_room, turns_needed};
 use hart_rounds::HartEnd;
 use hart_step::Hart;
 use pages::OutOfMemory;
+use round_schedule::MOST_HARTS;
 use seeing::Sight;
 use serial_phase::{SharedState, Turn, take_turn};
 use std::thread::Threads;
@@ -40,12 +40,10 @@ pub(crate) fn ask_turn<G, R: Threads + Sync>(
     place: TurnPlace,
 ) -> Result<Option<Sight>, OutOfMemory>
     requires workers { 1 ≤ crew.now.workers }
-    requires shows { Shows shared.old.pages.memory shared.old.code.first
-        shared.old.code.instructions }
     requires rounds { (logs : Bool) × (rs : List (HartRound Hart)) ×
         AreEndsOf logs shared.old.pages.memory rs ends.now ×
         TouchesNoCode shared.old.pages.memory.code (all_stores rs) }
-    requires few { length ends.now ≤ 64 }
+    requires few { length ends.now ≤ MOST_HARTS }
     requires fits { AreFit shared.old.pages.memory ends.now }
     requires size { length shared.old.reservations ≡ length ends.now }
     requires hart { place.hart < length ends.now }
@@ -70,10 +68,8 @@ pub(crate) fn ask_turn<G, R: Threads + Sync>(
 
 /// Does the turns of the waiting ones among these harts, of which the first one's turn would be this.
 fn take_turns(shared: &mut SharedState, ends: &[HartEnd], turn: Turn)
-    requires shows { Shows shared.old.pages.memory shared.old.code.first
-        shared.old.code.instructions }
     requires harts { turn.hart + length ends.now ≤ length shared.old.reservations }
-    requires few { length shared.old.reservations ≤ 64 }
+    requires few { length shared.old.reservations ≤ MOST_HARTS }
     requires pages { HasSpares (turns_of turn.budget (waits_of ends.now)) shared.old.pages }
     requires console { HasRoom (turns_of turn.budget (waits_of ends.now)) shared.old.console }
     requires log { turns_of turn.budget (waits_of ends.now) ≤ shared.old.log.room }
@@ -87,8 +83,6 @@ fn take_turns(shared: &mut SharedState, ends: &[HartEnd], turn: Turn)
         shared.new.log.room + turns_of turn.budget (waits_of ends.now) }
     ensures began { shared.new.log.current ≡ [] }
     ensures size { length shared.new.reservations ≡ length shared.old.reservations }
-    ensures shows { Shows shared.new.pages.memory shared.new.code.first
-        shared.new.code.instructions }
 {
     match ends {
         [] => {}
@@ -121,8 +115,6 @@ fn sight_at(
     start: Hart,
     place: TurnPlace,
 ) -> Result<Option<Sight>, OutOfMemory>
-    requires shows { Shows shared.old.pages.memory shared.old.code.first
-        shared.old.code.instructions }
     requires hart { place.hart < length shared.old.reservations }
     requires count { place.count ≤ place.budget }
     requires pages { HasSpares place.budget shared.old.pages }
@@ -157,8 +149,6 @@ fn sight_at(
 
 /// A hart after one more instruction of its turn.
 fn after_one_more(shared: &mut SharedState, hart: Hart, turn: Turn) -> Result<Hart, OutOfMemory>
-    requires shows { Shows shared.old.pages.memory shared.old.code.first
-        shared.old.code.instructions }
     requires hart { turn.hart < length shared.old.reservations }
     requires console { HasRoom 1 shared.old.console }
     requires log { 1 ≤ shared.old.log.room }

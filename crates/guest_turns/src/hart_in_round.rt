@@ -3,12 +3,12 @@ ghost use Rattle.round_schedule.specs.declared.event.Event.{Event};
 ghost use Rattle.round_schedule.specs.Past.{last_of};
 ghost use Rattle.round_schedule.specs.Reservations.{Tied};
 ghost use Rattle.round_planner.specs.Quotas.{quotas_of};
-ghost use Rattle.hart_step.specs.DecodedCode.{Shows};
 ghost use Rattle.hart_step.specs.Numbers.{minus};
 ghost use Rattle.hart_step.specs.Words.{words_of};
 ghost use Rattle.moments.specs.Sights.{part_sights, sight_after};
 ghost use Rattle.seeing.specs.Bytes.{sight_of};
 ghost use Rattle.guest_rounds.specs.Guests.{guest_state};
+ghost use Rattle.round_schedule.specs.Bounds.{AreWorkers};
 
 use crate::asked_turn::{TurnPlace, ask_turn};
 use guest_rounds::{Crew, GuestState, HalfRound};
@@ -32,7 +32,7 @@ pub fn sight_in_round<R: Threads + Wait + Sync>(
     hart: u32,
     count: u64,
 ) -> Result<Option<Sight>, OutOfMemory>
-    requires workers { (1 ≤ crew.now.workers) × (crew.now.workers ≤ 16) }
+    requires workers { AreWorkers crew.now.workers }
     requires harts { length guest.harts ≡ plan.now.harts }
     requires done { done + 1 < 2 ^ 32 }
     requires hart { hart < length guest.harts }
@@ -84,7 +84,6 @@ fn done_since(before: Hart, after: Hart) -> u64
 
 /// What a hart sees after its part of the parallel phase, of so many instructions at most.
 fn shorter_part(shared: SharedState, hart: Hart, quota: u32) -> Result<Sight, OutOfMemory>
-    requires { Shows shared.pages.memory shared.code.first shared.code.instructions }
     ensures { IfOk result (λ s. last_of (part_sights (words_of shared.pages.memory.code) quota
         (sight_of hart shared.pages.memory)) ≡ Some s) }
 {

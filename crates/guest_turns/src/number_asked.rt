@@ -5,7 +5,6 @@ ghost use Rattle.round_schedule.specs.Schedule.{HartRound, all_stores};
 ghost use Rattle.round_schedule.specs.Reservations.{Tied};
 ghost use Rattle.round_planner.specs.Quotas.{quotas_of};
 ghost use Rattle.hart_step.specs.declared.hart.Hart.{Hart};
-ghost use Rattle.hart_step.specs.DecodedCode.{Shows};
 ghost use Rattle.hart_step.specs.Room.{HasSpares};
 ghost use Rattle.hart_step.specs.Words.{words_of};
 ghost use Rattle.run_loops.specs.Asking.{asks_in_round, asks_in_reserving_phase};
@@ -15,6 +14,7 @@ ghost use Rattle.guest_rounds.specs.Guests.{guest_state, shared_of};
 ghost use Rattle.guest_rounds.specs.HartEnds.{AreFit, AreEndsOf, turns_of, waits_of};
 ghost use Rattle.guest_turns.specs.Asked.{ready_for_turns};
 ghost use Rattle.guest_turns.specs.NumberAsked.{TellsAsking};
+ghost use Rattle.round_schedule.specs.Bounds.{AreWorkers};
 
 use crate::asked_turn::turn_of;
 use asking_turn::take_asking_turn;
@@ -23,6 +23,7 @@ use hart_rounds::HartEnd;
 use pages::OutOfMemory;
 use parallel_phase::Open;
 use round_planner::Plan;
+use round_schedule::MOST_HARTS;
 use serial_phase::{SharedState, Turn};
 use std::sync::Wait;
 use std::thread::Threads;
@@ -34,7 +35,7 @@ pub fn asks_in_round<R: Threads + Wait + Sync>(
     plan: &Plan,
     done: u32,
 ) -> Result<bool, OutOfMemory>
-    requires workers { (1 ≤ crew.now.workers) × (crew.now.workers ≤ 16) }
+    requires workers { AreWorkers crew.now.workers }
     requires harts { length guest.harts ≡ plan.now.harts }
     requires done { done + 1 < 2 ^ 32 }
     ensures { IfOk result (λ b. (es : List Event) → Tied guest.shared.reservations es → b ≡
@@ -59,12 +60,10 @@ fn asks_in_turns<G, R: Threads + Sync>(
     budget: u32,
 ) -> Result<bool, OutOfMemory>
     requires workers { 1 ≤ crew.now.workers }
-    requires shows { Shows shared.old.pages.memory shared.old.code.first
-        shared.old.code.instructions }
     requires rounds { (logs : Bool) × (rs : List (HartRound Hart)) ×
         AreEndsOf logs shared.old.pages.memory rs ends.now ×
         TouchesNoCode shared.old.pages.memory.code (all_stores rs) }
-    requires few { length ends.now ≤ 64 }
+    requires few { length ends.now ≤ MOST_HARTS }
     requires fits { AreFit shared.old.pages.memory ends.now }
     requires size { length shared.old.reservations ≡ length ends.now }
     requires budget { budget ≤ 1000 }
@@ -88,10 +87,8 @@ fn asks_in_turns<G, R: Threads + Sync>(
 /// Does the turns of the waiting ones among these harts, of which the first one's turn would be this, up to one in which its hart
 /// asks, and answers whether there is one.
 fn one_asks(shared: &mut SharedState, ends: &[HartEnd], turn: Turn) -> bool
-    requires shows { Shows shared.old.pages.memory shared.old.code.first
-        shared.old.code.instructions }
     requires harts { turn.hart + length ends.now ≤ length shared.old.reservations }
-    requires few { length shared.old.reservations ≤ 64 }
+    requires few { length shared.old.reservations ≤ MOST_HARTS }
     requires pages { HasSpares (turns_of turn.budget (waits_of ends.now)) shared.old.pages }
     requires console { HasRoom (turns_of turn.budget (waits_of ends.now)) shared.old.console }
     requires log { turns_of turn.budget (waits_of ends.now) ≤ shared.old.log.room }

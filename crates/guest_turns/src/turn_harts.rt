@@ -5,7 +5,6 @@ ghost use Rattle.round_schedule.specs.Schedule.{HartRound, all_stores};
 ghost use Rattle.round_schedule.specs.Reservations.{Tied};
 ghost use Rattle.round_planner.specs.Quotas.{quotas_of};
 ghost use Rattle.hart_step.specs.declared.hart.Hart.{Hart};
-ghost use Rattle.hart_step.specs.DecodedCode.{Shows};
 ghost use Rattle.hart_step.specs.Room.{HasSpares};
 ghost use Rattle.hart_step.specs.Words.{words_of};
 ghost use Rattle.serial_phase.specs.Roomed.{HasRoom};
@@ -14,6 +13,7 @@ ghost use Rattle.guest_rounds.specs.HartEnds.{AreFit, AreEndsOf, turns_of, waits
 ghost use Rattle.guest_turns.specs.Asked.{ready_for_turns};
 ghost use Rattle.guest_turns.specs.ReservingTurnHarts.{AddsTurns, WalksTurn, turns_in_reserving_phase};
 ghost use Rattle.guest_turns.specs.TurnHarts.{TurnsEndThePast, turns_in_round};
+ghost use Rattle.round_schedule.specs.Bounds.{AreWorkers};
 
 use crate::asked_turn::turn_of;
 use guest_rounds::{Crew, GuestState, HalfRound, commit, make_turn_room, turns_needed};
@@ -22,7 +22,7 @@ use hart_step::Hart;
 use pages::OutOfMemory;
 use parallel_phase::Open;
 use round_planner::Plan;
-use round_schedule::{Access, Stepped};
+use round_schedule::{Access, MOST_HARTS, Stepped};
 use serial_phase::{SerialLog, SharedState, Turn, serve};
 use std::sync::Wait;
 use std::thread::Threads;
@@ -41,7 +41,7 @@ pub fn turns_in_round<R: Threads + Wait + Sync>(
     plan: &Plan,
     done: u32,
 ) -> Result<Vec<Vec<Hart>>, OutOfMemory>
-    requires workers { (1 ≤ crew.now.workers) × (crew.now.workers ≤ 16) }
+    requires workers { AreWorkers crew.now.workers }
     requires harts { length guest.harts ≡ plan.now.harts }
     requires done { done + 1 < 2 ^ 32 }
     ensures { IfOk result (λ v. (es : List Event) → Tied guest.shared.reservations es →
@@ -66,12 +66,10 @@ fn walk_turns<G, R: Threads + Sync>(
     budget: u32,
 ) -> Result<Vec<Vec<Hart>>, OutOfMemory>
     requires workers { 1 ≤ crew.now.workers }
-    requires shows { Shows shared.old.pages.memory shared.old.code.first
-        shared.old.code.instructions }
     requires rounds { (logs : Bool) × (rs : List (HartRound Hart)) ×
         AreEndsOf logs shared.old.pages.memory rs ends.now ×
         TouchesNoCode shared.old.pages.memory.code (all_stores rs) }
-    requires few { length ends.now ≤ 64 }
+    requires few { length ends.now ≤ MOST_HARTS }
     requires fits { AreFit shared.old.pages.memory ends.now }
     requires size { length shared.old.reservations ≡ length ends.now }
     requires budget { budget ≤ 1000 }
@@ -100,10 +98,8 @@ fn add_turns(
     turn: Turn,
     turns: &mut Vec<Vec<Hart>>,
 ) -> Result<(), OutOfMemory>
-    requires shows { Shows shared.old.pages.memory shared.old.code.first
-        shared.old.code.instructions }
     requires harts { turn.hart + length ends.now ≤ length shared.old.reservations }
-    requires few { length shared.old.reservations ≤ 64 }
+    requires few { length shared.old.reservations ≤ MOST_HARTS }
     requires pages { HasSpares (turns_of turn.budget (waits_of ends.now)) shared.old.pages }
     requires console { HasRoom (turns_of turn.budget (waits_of ends.now)) shared.old.console }
     requires log { turns_of turn.budget (waits_of ends.now) ≤ shared.old.log.room }
@@ -136,7 +132,6 @@ fn walk_turn(
     turn: Turn,
     passed: &mut Vec<Hart>,
 ) -> Result<(), OutOfMemory>
-    requires shows { Shows state.old.pages.memory state.old.code.first state.old.code.instructions }
     requires hart { turn.hart < length state.old.reservations }
     requires pages { HasSpares turn.budget state.old.pages }
     requires console { HasRoom turn.budget state.old.console }

@@ -1,6 +1,7 @@
 ghost use Rattle.std.specs.Prelude.{◌≡◌, ◌≤◌, [], OnOk};
 ghost use Rattle.std.specs.Arc.{arc_value};
 ghost use Rattle.lasting_workers.specs.Histories.{IsWholeHistory, ends_in};
+ghost use Rattle.round_schedule.specs.Bounds.{AreWorkers};
 
 use crate::history::History;
 use crate::posted_round::PostedRound;
@@ -24,13 +25,13 @@ pub struct Board<S: RunStarts> {
     news: Condvar,
     // Told to the one who posts: a worker left.
     leaving: Condvar,
-    ghost within: { (1 ≤ workers) × (workers ≤ 16) },
+    ghost within: { AreWorkers workers },
 }
 
 impl<S: RunStarts> Board<S> {
     /// A board with no start, for so many workers, of which the one who posts is one. This takes no memory.
     pub fn new(alloc: Global, workers: u32) -> Board<S>
-        requires { (1 ≤ workers) × (workers ≤ 16) }
+        requires { AreWorkers workers }
         ensures { result.workers ≡ workers }
     {
         Board {

@@ -3,12 +3,14 @@
 #![tactic(auto)]
 
 mod board;
+mod borrowed_start;
 mod history;
 mod posted_round;
 mod posted_start;
 mod postings;
 
 pub use board::Board;
+pub use borrowed_start::BorrowedStart;
 pub use history::History;
 pub use posted_round::PostedRound;
-pub use posted_start::{BorrowedStart, PostedStart, RunStarts};
+pub use posted_start::{PostedStart, RunStarts};

@@ -2,9 +2,8 @@ ghost use Rattle.std.specs.Prelude.{◌≡◌, ◌<◌, ℕ, length, IfSome};
 ghost use Rattle.hart_rounds.specs.Starts.{Start, empty_start};
 ghost use Rattle.lasting_workers.specs.Borrowed.{Fits, start_of};
 
-use hart_rounds::{LogForm, RoundStart};
-use hart_step::{DecodedCode, Hart};
-use pages::Pages;
+use crate::borrowed_start::BorrowedStart;
+use hart_rounds::RoundStart;
 use std::marker::{Brand, PhantomData};
 use std::sync::atomic::{AtomicU64, Ordering};
 
@@ -15,22 +14,6 @@ pub trait RunStarts {
 
 impl RunStarts for Brand {
     ghost starts = { λ _. empty_start };
-}
-
-/// What the parallel phase of a round borrows of a guest: its owner hands it over and gets it back.
-// docs/decisions/threads.md
-#[derive(Drop)]
-pub struct BorrowedStart {
-    /// Guest memory.
-    pub pages: Pages,
-    /// The decoded words of a stretch of its code.
-    pub code: DecodedCode,
-    /// The harts, in hart order.
-    pub harts: Vec<Hart>,
-    /// The quota of each hart.
-    pub quotas: Vec<u32>,
-    /// What becomes of the harts' accesses.
-    pub form: LogForm,
 }
 
 /// The start of a round of a run, which several workers read at once. Its type keeps that it is that.

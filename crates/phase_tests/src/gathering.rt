@@ -3,6 +3,7 @@
 //! and loaded it from there.
 
 ghost use Rattle.std.specs.Prelude.{◌≡◌, ◌≤◌, length};
+ghost use Rattle.round_schedule.specs.Bounds.{AreWorkers};
 
 mod gates;
 
@@ -64,7 +65,7 @@ fn gathers_exits<B: BookStart + Send + Sync, R: Abort + Threads + Wait + Sync>(
     workers: u32,
 )
     requires start { start.now ≡ B.start }
-    requires workers { (1 ≤ workers) × (workers ≤ 16) }
+    requires workers { AreWorkers workers }
 {
     let gathered = gather::<B, Open, R>(rt, start, workers, &Open).expect(rt, "memory");
     assert!(rt; gathered.is_complete());
@@ -98,7 +99,7 @@ fn gathers_stores<B: BookStart + Send + Sync, R: Abort + Threads + Wait + Sync>(
     workers: u32,
 )
     requires start { start.now ≡ B.start }
-    requires workers { (1 ≤ workers) × (workers ≤ 16) }
+    requires workers { AreWorkers workers }
 {
     let gathered = gather::<B, Open, R>(rt, start, workers, &Open).expect(rt, "memory");
     assert!(rt; gathered.is_complete());
@@ -155,7 +156,7 @@ fn gathers_numbers<B: BookStart + Send + Sync, R: Abort + Threads + Wait + Sync>
     workers: u32,
 )
     requires start { start.now ≡ B.start }
-    requires workers { (1 ≤ workers) × (workers ≤ 16) }
+    requires workers { AreWorkers workers }
 {
     let gathered = gather::<B, Open, R>(rt, start, workers, &Open).expect(rt, "memory");
     for h in 0..start.harts().len() {

@@ -1,7 +1,6 @@
 //! Serial turns, through the public calls of the crate `serial_phase`.
 
 ghost use Rattle.std.specs.Prelude.{◌≡◌, ◌*◌, ◌+◌, ◌≤◌, ◌<◌, IfOk, length};
-ghost use Rattle.hart_step.specs.DecodedCode.{Shows};
 ghost use Rattle.serial_phase.specs.Phase.{budget_from, budget_of};
 
 mod budgets;
@@ -12,6 +11,7 @@ use crate::code::code_of;
 use hart_step::Hart;
 use pages::OutOfMemory;
 use reservations::Reservations;
+use round_schedule::MOST_HARTS;
 use serial_phase::{Console, SerialLog, SerialRound, SharedState, serial};
 use std::alloc::Global;
 
@@ -23,9 +23,8 @@ fn begin(
     harts: u32,
     input: &[u8],
 ) -> Result<SharedState, OutOfMemory>
-    requires { harts ≤ 64 }
+    requires { harts ≤ MOST_HARTS }
     ensures size { IfOk result (λ s. length s.reservations ≡ harts) }
-    ensures shows { IfOk result (λ s. Shows s.pages.memory s.code.first s.code.instructions) }
 {
     let input = input.to_vec(alloc)?;
     let (pages, code) = code_of(alloc, &words)?;
@@ -66,7 +65,7 @@ fn room_from(waiting: u64, budget: u32, first: u32, left: u32) -> u32
 
 /// How many instructions one hart may do.
 fn own_room(waiting: u64, budget: u32, hart: u32) -> u32
-    requires { hart < 64 }
+    requires { hart < MOST_HARTS }
     ensures room { result ≡ budget_of waiting hart budget }
     ensures small { result ≤ budget }
 {
@@ -85,13 +84,9 @@ fn turns(
     waiting: u64,
     budget: u32,
 ) -> Result<(), OutOfMemory>
-    requires shows { Shows shared.old.pages.memory shared.old.code.first
-        shared.old.code.instructions }
     requires harts { length harts.old ≡ length shared.old.reservations }
-    requires few { length harts.old ≤ 64 }
+    requires few { length harts.old ≤ MOST_HARTS }
     requires budget { budget ≤ 1000 }
-    ensures shows { Shows shared.new.pages.memory shared.new.code.first
-        shared.new.code.instructions }
     ensures size { length shared.new.reservations ≡ length shared.old.reservations }
 {
     let room = room_from(waiting, budget, 0, harts.len() as u32);

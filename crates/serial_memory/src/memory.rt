@@ -1,6 +1,4 @@
-ghost use Rattle.std.specs.Prelude.{◌≡◌, ◌<◌, ℕ, List, length, None};
-ghost use Rattle.hart_step.specs.DecodedCode.{Shows};
-ghost use Rattle.rv64_decode.specs.declared.instruction.Instr.{Instr};
+ghost use Rattle.std.specs.Prelude.{◌≡◌, ◌<◌, length, None};
 
 use crate::serving::{lay, serve_next};
 use access_times::shift_of;
@@ -15,15 +13,12 @@ use serial_phase::SharedState;
 #[derive(Drop)]
 pub struct Memory {
     state: SharedState,
-    ghost shows: { Shows state.pages.memory state.code.first state.code.instructions },
     ghost reservations: { length state.reservations ≡ 64 },
 }
 
 impl Memory {
     /// What the harts share, where no hart has a reservation.
-    pub fn new(shared: SharedState) -> Memory
-        requires { Shows shared.pages.memory shared.code.first shared.code.instructions }
-    {
+    pub fn new(shared: SharedState) -> Memory {
         let mut state = shared;
         state.reservations = Reservations::new(MOST_HARTS);
         Memory { state }

@@ -18,8 +18,6 @@ pub(crate) fn serve_next(
 ) -> Result<Stepped, OutOfMemory>
     requires running { h.old.stop ≡ None }
     requires hart { hart < length shared.old.reservations }
-    requires shows { Shows shared.old.pages.memory shared.old.code.first shared.old.code.instructions }
-    ensures shows { Shows shared.new.pages.memory shared.new.code.first shared.new.code.instructions }
     ensures reservations { length shared.new.reservations ≡ length shared.old.reservations }
 {
     let alloc = shared.pages.allocator();

@@ -13,12 +13,11 @@ use Rattle.hart_step.specs.Room.{HasSpares}
 use Rattle.hart_step.specs.Words.{words_of}
 use Rattle.serial_phase.specs.declared.shared.SerialRound.{SerialRound}
 use Rattle.serial_phase.specs.declared.shared.SharedState.{SharedState}
-use Rattle.serial_phase.specs.declared.shared.Turn.{Turn}
 use Rattle.serial_phase.specs.Phase.{TakesTurns, turn_done, turn_of, serial_done, waiting_rounds, is_waiting, budget_of, budget_from, budget_of_all}
 use Rattle.serial_phase.specs.Roomed.{Roomed, HasRoom}
 use Rattle.serial_phase.specs.Turns.{Turns}
-use Rattle.serial_phase.proofs.ShownCode.{ShowsCode}
 use Rattle.serial_phase.specs.UnderWay.{At}
+use Rattle.serial_phase.proofs.ShownCode.{ShowsCode}
 use Rattle.serial_phase.proofs.TurnUnderWay.{Ends}
 
 -- all harts with what they share
@@ -53,7 +52,6 @@ pub record Serving (phase : SerialRound) (i : ℕ) (x y : Group) : Type 0 where
   pub current : y.state.log.current ≡ []
   pub size : length y.state.reservations ≡ length x.state.reservations
   pub decoded : y.state.code ≡ x.state.code
-  pub shows : ShowsCode y.state
 
 -- what the phase needs when it begins
 pub record Begins (phase : SerialRound) (x : Group) : Type 0 where
@@ -62,7 +60,6 @@ pub record Begins (phase : SerialRound) (x : Group) : Type 0 where
   pub log : budget_of_all phase x.harts ≤ x.state.log.room
   pub closed : x.state.log.closed ≡ []
   pub current : x.state.log.current ≡ []
-  pub shows : ShowsCode x.state
 
 pub serving_first : (phase : SerialRound) (x : Group) → Begins phase x → Serving phase 0 x x
 serving_first phase x b =
@@ -81,7 +78,6 @@ serving_first phase x b =
       current = b.current;
       size = refl;
       decoded = refl;
-      shows = b.shows;
     }
 
 need_split : (phase : SerialRound) (i count : ℕ) → i < count → to_come phase i count ≡ budget_of phase.waiting i phase.budget + to_come phase (i + 1) count
@@ -132,12 +128,12 @@ pub record Closes (l k : Turns) : Type 0 where
   pub room : k.room ≡ l.room
 
 -- the harts after hart i had its turn as z, with this log
-abbrev pub turned : ℕ → Group → At → Turns → Group
-turned i y z l = record { harts = set y.harts i z.hart; state = record z.state { log = l } }
+abbrev pub turned : ℕ → Group → (z : At) → Turns → ShowsCode z.state.pages z.state.code → Group
+turned i y z l shows = record { harts = set y.harts i z.hart; state = record z.state { log = l; shows = shows } }
 
-pub serving_more : (phase : SerialRound) (i : ℕ) (x y : Group) (h : Hart) (z : At) (l : Turns) → i < length x.harts → length y.harts ≡ length x.harts → h ≡ get_or y.harts i h →
-    Ends (turn_of phase i) (record { hart = h; state = y.state }) z → Closes z.state.log l → Serving phase i x y → Serving phase (i + 1) x (turned i y z l)
-serving_more phase i x y h z l low same_length here e closes s =
+pub serving_more : (phase : SerialRound) (i : ℕ) (x y : Group) (h : Hart) (z : At) (l : Turns) (shows : ShowsCode z.state.pages z.state.code) → i < length x.harts → length y.harts ≡ length x.harts → h ≡ get_or y.harts i h →
+    Ends (turn_of phase i) (record { hart = h; state = y.state }) z → Closes z.state.log l → Serving phase i x y → Serving phase (i + 1) x (turned i y z l shows)
+serving_more phase i x y h z l shows low same_length here e closes s =
     let total = length x.harts in
     let need = need_split phase i total low in
     let b = budget_of phase.waiting i phase.budget in
@@ -151,14 +147,14 @@ serving_more phase i x y h z l low same_length here e closes s =
     let d = turn_done (turn_of phase i) h y.state in
     let harts : take (i + 1) (set y.harts i z.hart) ≡ take i y.harts ++ d.hart ∷ [] = front ∙ ap (λ (g : Hart). take i y.harts ++ g ∷ []) e.taken.hart in
     let log : l.closed ≡ y.state.log.closed ++ d.log ∷ [] = closes.closed ∙ ap (λ (ls : List (List Access)). ls ++ z.state.log.current ∷ []) e.taken.closed ∙ ap (λ (xs : List Access). y.state.log.closed ++ xs ∷ []) e.taken.log in
-    let parted : reserving_phase_at (i + 1) (turned i y z l) ≡ reserving_phase_joined (reserving_phase_at i y) d = cc (harts, e.taken.pages.bytes, e.taken.console, e.taken.reservations, log) in
-    let joined : reserving_phase_at (i + 1) (turned i y z l) ≡ reserving_phase_joined (reserving_phase_at i y) (reserving_turn_of w phase.budget phase.round (reserving_phase_at i y) i h (is_waiting phase.waiting i)) =
+    let parted : reserving_phase_at (i + 1) (turned i y z l shows) ≡ reserving_phase_joined (reserving_phase_at i y) d = cc (harts, e.taken.pages.bytes, e.taken.console, e.taken.reservations, log) in
+    let joined : reserving_phase_at (i + 1) (turned i y z l shows) ≡ reserving_phase_joined (reserving_phase_at i y) (reserving_turn_of w phase.budget phase.round (reserving_phase_at i y) i h (is_waiting phase.waiting i)) =
     parted ∙ ap (reserving_phase_joined (reserving_phase_at i y)) reserving_turn in
     let rounds : waiting_rounds phase.waiting i (drop i x.harts) ≡ waiting_rounds phase.waiting i (h ∷ drop (i + 1) x.harts) =
     ap (waiting_rounds phase.waiting i) (drop_next x.harts i h low ∙ ap (λ (g : Hart). g ∷ drop (i + 1) x.harts) same) in
     record {
       going =
-          ap (λ (m : ℕ). reserving_phase_from w phase.budget phase.round m (waiting_rounds phase.waiting m (drop (i + 1) x.harts)) (reserving_phase_at (i + 1) (turned i y z l))) (add-one i)
+          ap (λ (m : ℕ). reserving_phase_from w phase.budget phase.round m (waiting_rounds phase.waiting m (drop (i + 1) x.harts)) (reserving_phase_at (i + 1) (turned i y z l shows))) (add-one i)
           ∙ ap (reserving_phase_from w phase.budget phase.round (suc i) (waiting_rounds phase.waiting (suc i) (drop (i + 1) x.harts))) joined
           ∙ ap (λ (rs : List (HartRound Hart)). reserving_phase_from w phase.budget phase.round i rs (reserving_phase_at i y)) (sym rounds)
           ∙ s.going;
@@ -173,7 +169,6 @@ serving_more phase i x y h z l low same_length here e closes s =
       current = closes.current;
       size = e.reservations ∙ s.size;
       decoded = e.code ∙ s.decoded;
-      shows = e.shows;
     }
 
 pub serving_over : (phase : SerialRound) (i : ℕ) (x y : Group) → length y.harts ≡ length x.harts → length x.harts ≤ i → Serving phase i x y → TakesTurns (serial_done phase x.harts x.state) y.harts x.state y.state

@@ -1,5 +1,4 @@
 ghost use Rattle.std.specs.Prelude.{◌≡◌, ℕ, ◌<◌, ◌≤◌, ◌+◌, [], length};
-ghost use Rattle.hart_step.specs.DecodedCode.{Shows};
 ghost use Rattle.hart_step.specs.Room.{HasSpares};
 ghost use Rattle.serial_phase.specs.Phase.{TakesTurn, TakesTurns, budget_of, budget_of_all, is_waiting, serial_done, turn_done, turn_of};
 ghost use Rattle.serial_phase.specs.Roomed.{HasRoom};
@@ -19,7 +18,6 @@ use round_schedule::Stepped;
 /// as there are pages that are not ready, room for output and room in the log, each for as many
 /// instructions as the turns may do. So no memory is taken.
 pub fn serial(state: &mut SharedState, harts: &mut [Hart], phase: SerialRound)
-    requires shows { Shows state.old.pages.memory state.old.code.first state.old.code.instructions }
     requires harts { length harts.old ≡ length state.old.reservations }
     requires few { length harts.old ≤ 64 }
     requires pages { HasSpares (budget_of_all phase harts.old) state.old.pages }
@@ -30,7 +28,6 @@ pub fn serial(state: &mut SharedState, harts: &mut [Hart], phase: SerialRound)
     ensures turns { TakesTurns (serial_done phase harts.old state.old)
         harts.new state.old state.new }
     ensures reservations { length state.new.reservations ≡ length state.old.reservations }
-    ensures shows { Shows state.new.pages.memory state.new.code.first state.new.code.instructions }
     ensures current { state.new.log.current ≡ [] }
     ensures code { state.new.code ≡ state.old.code }
 {
@@ -52,7 +49,6 @@ fn waits(waiting: u64, hart: u32) -> bool
 // Inlined, since most harts of a round have no turn.
 #[inline(always)]
 fn take_turn_of_waiting(h: &mut Hart, state: &mut SharedState, hart: u32, phase: SerialRound)
-    requires shows { Shows state.old.pages.memory state.old.code.first state.old.code.instructions }
     requires few { hart < 64 }
     requires hart { hart < length state.old.reservations }
     requires pages { HasSpares (budget_of phase.waiting hart phase.budget) state.old.pages }
@@ -68,7 +64,6 @@ fn take_turn_of_waiting(h: &mut Hart, state: &mut SharedState, hart: u32, phase:
     ensures log { state.old.log.room ≤
         state.new.log.room + budget_of phase.waiting hart phase.budget }
     ensures reservations { length state.new.reservations ≡ length state.old.reservations }
-    ensures shows { Shows state.new.pages.memory state.new.code.first state.new.code.instructions }
     ensures code { state.new.code ≡ state.old.code }
 {
     if !waits(phase.waiting, hart) {
@@ -88,7 +83,6 @@ fn take_turn_of_waiting(h: &mut Hart, state: &mut SharedState, hart: u32, phase:
 /// the turn that is under way in the log. What the turn may need is there before, and what is left
 /// of it is there after. So no memory is taken.
 pub fn take_turn(h: &mut Hart, state: &mut SharedState, turn: Turn)
-    requires shows { Shows state.old.pages.memory state.old.code.first state.old.code.instructions }
     requires hart { turn.hart < length state.old.reservations }
     requires pages { HasSpares turn.budget state.old.pages }
     requires console { HasRoom turn.budget state.old.console }
@@ -101,7 +95,6 @@ pub fn take_turn(h: &mut Hart, state: &mut SharedState, turn: Turn)
         HasRoom (n + turn.budget) state.old.console → HasRoom n state.new.console }
     ensures log { state.old.log.room ≤ state.new.log.room + turn.budget }
     ensures reservations { length state.new.reservations ≡ length state.old.reservations }
-    ensures shows { Shows state.new.pages.memory state.new.code.first state.new.code.instructions }
     ensures code { state.new.code ≡ state.old.code }
 {
     let mut left = turn.budget;

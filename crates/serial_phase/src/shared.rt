@@ -1,3 +1,5 @@
+ghost use Rattle.hart_step.specs.DecodedCode.{Shows};
+
 use crate::console::Console;
 use crate::log::SerialLog;
 use hart_step::DecodedCode;
@@ -11,6 +13,8 @@ pub struct SharedState {
     pub pages: Pages,
     /// The words of its code, decoded.
     pub code: DecodedCode,
+    // They are memory's, and stay so: no store touches code.
+    pub ghost shows: { Shows pages.memory code.first code.instructions },
     /// The reservation of each hart.
     pub reservations: Reservations,
     /// The input and the output.

@@ -1,5 +1,4 @@
 ghost use Rattle.std.specs.Prelude.{◌≤◌, ◌<◌, length};
-ghost use Rattle.hart_step.specs.DecodedCode.{Shows};
 
 use crate::common::Common;
 use crate::holding::{Ripe, put_ripe};
@@ -55,7 +54,6 @@ impl TimedMachine {
         is_recorded: bool,
     ) -> Result<TimedMachine, OutOfMemory>
         requires few { length harts.now ≤ 64 }
-        requires shows { Shows shared.pages.memory shared.code.first shared.code.instructions }
     {
         let memory = Memory::new(shared);
         let pages = memory.pages();

@@ -1,5 +1,4 @@
 ghost use Rattle.std.specs.Prelude.{◌≡◌, ◌≤◌, length};
-ghost use Rattle.hart_step.specs.DecodedCode.{Shows};
 
 use super::{begin, hart, turns};
 use hart_step::{Hart, Stop};
@@ -19,8 +18,6 @@ type Left = (u64, u64, u64, Option<Stop>);
 
 /// What a turn of this budget leaves of a hart at address 0.
 fn turn(alloc: Global, shared: &mut SharedState, budget: u32) -> Result<Left, OutOfMemory>
-    requires shows { Shows shared.old.pages.memory shared.old.code.first
-        shared.old.code.instructions }
     requires size { length shared.old.reservations ≡ 1 }
     requires budget { budget ≤ 1000 }
 {

@@ -1,5 +1,4 @@
 ghost use Rattle.std.specs.Prelude.{◌≡◌, ◌≤◌, length};
-ghost use Rattle.hart_step.specs.DecodedCode.{Shows};
 
 use super::{begin, hart, turns};
 use hart_step::{Hart, Stop};
@@ -33,8 +32,6 @@ fn call(
     budget: u32,
     output: &[u8],
 ) -> Result<Left, OutOfMemory>
-    requires shows { Shows shared.old.pages.memory shared.old.code.first
-        shared.old.code.instructions }
     requires size { length shared.old.reservations ≡ 1 }
     requires budget { budget ≤ 1000 }
 {
@@ -88,11 +85,7 @@ fn the_exit_call(rt: HostRuntime) -> Result<(), Fail> {
 
 /// The answers of three harts, of which the first and the last take a byte, and the second puts a Z.
 fn answers(alloc: Global, shared: &mut SharedState) -> Result<[u64; 3], OutOfMemory>
-    requires shows { Shows shared.old.pages.memory shared.old.code.first
-        shared.old.code.instructions }
     requires size { length shared.old.reservations ≡ 3 }
-    ensures shows { Shows shared.new.pages.memory shared.new.code.first
-        shared.new.code.instructions }
     ensures size { length shared.new.reservations ≡ 3 }
 {
     let mut harts = [caller(2, 0), caller(1, 0x5a), caller(2, 0)];
@@ -106,8 +99,6 @@ fn three_answers(
     shared: &mut SharedState,
     output: &[u8],
 ) -> Result<([[u64; 3]; 3], bool), OutOfMemory>
-    requires shows { Shows shared.old.pages.memory shared.old.code.first
-        shared.old.code.instructions }
     requires size { length shared.old.reservations ≡ 3 }
 {
     let first = answers(alloc, shared)?;
@@ -139,8 +130,6 @@ fn two_puts(
     alloc: Global,
     shared: &mut SharedState,
 ) -> Result<([u64; 2], usize, Option<u8>), OutOfMemory>
-    requires shows { Shows shared.old.pages.memory shared.old.code.first
-        shared.old.code.instructions }
     requires size { length shared.old.reservations ≡ 2 }
 {
     shared.console.output = Vec::from_elem(alloc, 0u8, 1_048_575)?;

@@ -1,10 +1,9 @@
 ghost use Rattle.std.specs.Prelude.{◌≡◌, ◌<◌, ◌≤◌, length};
-ghost use Rattle.hart_step.specs.DecodedCode.{Shows};
 
 use super::{begin, hart, turns};
 use hart_step::{Hart, Stop};
 use pages::{Fault, OutOfMemory, Width};
-use round_schedule::Access;
+use round_schedule::{Access, MOST_HARTS};
 use rv64_decode::{AcquireRelease, FenceMode, FenceSet};
 use serial_phase::SharedState;
 use std::alloc::Global;
@@ -66,8 +65,6 @@ fn store(
     budget: u32,
     events: &[Access],
 ) -> Result<Broken, OutOfMemory>
-    requires shows { Shows shared.old.pages.memory shared.old.code.first
-        shared.old.code.instructions }
     requires size { length shared.old.reservations ≡ 2 }
     requires budget { budget ≤ 1000 }
 {
@@ -121,13 +118,9 @@ fn step(
     harts: &mut [Hart],
     number: u64,
 ) -> Result<Step, OutOfMemory>
-    requires shows { Shows shared.old.pages.memory shared.old.code.first
-        shared.old.code.instructions }
     requires harts { length harts.old ≡ length shared.old.reservations }
     requires one { 0 < length harts.old }
-    requires few { length harts.old ≤ 64 }
-    ensures shows { Shows shared.new.pages.memory shared.new.code.first
-        shared.new.code.instructions }
+    requires few { length harts.old ≤ MOST_HARTS }
     ensures size { length shared.new.reservations ≡ length shared.old.reservations }
 {
     harts[0].x[6] = number;
@@ -143,8 +136,6 @@ fn step(
 
 /// An LR and two SC after it, each of another number, and whether a reservation is left.
 fn three_steps(alloc: Global, shared: &mut SharedState) -> Result<([Step; 3], bool), OutOfMemory>
-    requires shows { Shows shared.old.pages.memory shared.old.code.first
-        shared.old.code.instructions }
     requires size { length shared.old.reservations ≡ 1 }
 {
     let mut harts = [hart(0, 0x100, 0)];
@@ -191,8 +182,6 @@ fn pair(
     writer: u32,
     address: u64,
 ) -> Result<Step, OutOfMemory>
-    requires shows { Shows shared.old.pages.memory shared.old.code.first
-        shared.old.code.instructions }
     requires size { length shared.old.reservations ≡ 2 }
 {
     let mut harts = [hart(0, 0x100, 9), hart(0, 0, 0)];
@@ -227,8 +216,6 @@ fn store_conditional(
     shared: &mut SharedState,
     address: u64,
 ) -> Result<Conditional, OutOfMemory>
-    requires shows { Shows shared.old.pages.memory shared.old.code.first
-        shared.old.code.instructions }
     requires size { length shared.old.reservations ≡ 1 }
 {
     shared.reservations.set(0, 0x100, Width::W8);
@@ -277,8 +264,6 @@ type Added = ([[u64; 3]; 3], Option<Access>, Result<u64, Fault>, [bool; 2]);
 
 /// Three harts add 1 to the word at 0x100. Hart 0 has a reservation of it, and hart 1 one behind it.
 fn add(alloc: Global, shared: &mut SharedState) -> Result<Added, OutOfMemory>
-    requires shows { Shows shared.old.pages.memory shared.old.code.first
-        shared.old.code.instructions }
     requires size { length shared.old.reservations ≡ 3 }
 {
     // SD first puts the number there, as hart 0 alone has a turn

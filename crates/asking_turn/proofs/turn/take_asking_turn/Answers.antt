@@ -8,7 +8,7 @@ use Rattle.asking_turn.proofs.turn.take_asking_turn.Goals as goal
 pub loop-left-init : goal.loop-left-init
 loop-left-init c =
     let x : At = record { hart = c.args.h.now; state = c.args.state.now } in
-    record { under = under_first c.args.turn x c.requires.shows; asks = asks_first c.args.turn x }
+    record { under = under_first c.args.turn x; asks = asks_first c.args.turn x }
 
 pub returns-then-is_some : goal.returns-then-is_some
 returns-then-is_some c =
@@ -23,7 +23,6 @@ returns-then-is_some c =
       console = e.console;
       log = e.log;
       reservations = e.reservations;
-      shows = e.shows;
     }
 
 pub serve-requires-clause-pages : goal.serve-requires-clause-pages
@@ -54,7 +53,6 @@ returns-in-Waits c =
       console = e.console;
       log = e.log;
       reservations = e.reservations;
-      shows = e.shows;
     }
 
 pub returns-in-Stopped : goal.returns-in-Stopped
@@ -73,7 +71,6 @@ returns-in-Stopped c =
       console = e.console;
       log = e.log;
       reservations = e.reservations;
-      shows = e.shows;
     }
 
 pub loop-left-preserved : goal.loop-left-preserved
@@ -83,11 +80,11 @@ loop-left-preserved c =
     let z : Came = record { answer = c.serve.result; hart = c.serve.new.h; state = c.serve.new.state } in
     let u = c.loop-left.invariant in
     record {
-      under = under_more c.args.turn c.loop-left.left x y z c.keep.new.log c.in-Done.access c.loop-left-test.true (sym c.if-is_some.ensures)
+      under = under_more c.args.turn c.loop-left.left x y z c.keep.new.log _ c.in-Done.access c.loop-left-test.true (sym c.if-is_some.ensures)
           c.in-Done.is (c.serve.ensures.answer, c.serve.ensures.serves) c.keep.ensures.current c.keep.ensures.closed c.keep.ensures.room u.under;
       asks = asks_more c.args.turn c.loop-left.left c.loop-left.asked x y z c.keep.new.log c.in-Done.access c.loop-left-test.true (sym c.if-is_some.ensures)
           c.in-Done.is (c.serve.ensures.answer, c.serve.ensures.serves) c.keep.ensures.current u
-          ∙ ap (λ (b : Bool). b || asks_left c.args.turn x (c.loop-left.left - 1) (went z c.keep.new.log)) (sym c.asked_by-asked.ensures);
+          ∙ ap (λ (b : Bool). b || asks_left c.args.turn x (c.loop-left.left - 1) (went z c.keep.new.log z.state.shows)) (sym c.asked_by-asked.ensures);
     }
 
 pub returns : goal.returns
@@ -104,5 +101,4 @@ returns c =
       console = e.console;
       log = e.log;
       reservations = e.reservations;
-      shows = e.shows;
     }

@@ -35,7 +35,6 @@ returns-in-Some-clause-ready c =
     let holds = c.index-own.ensures ∙ get_or_default p.own.items i c.index-own.result.now None inside_own ∙ c.requires.own i inside in
     record {
       few = omega (arith, length-set p.harts.items i c.do_step.new.h, c.requires.few);
-      shows = c.in_ok-answer.ensures.shows;
       reservations = c.in_ok-answer.ensures.reservations ∙ c.requires.reservations ∙ sym (length-set p.harts.items i c.do_step.new.h);
       owned = length-set p.own.items i c.own_held_after.result ∙ c.requires.owned ∙ sym (length-set p.harts.items i c.do_step.new.h);
       own = λ j l.

@@ -2,7 +2,6 @@ use Rattle.std.proofs.Common.{◌≡◌, Bool, ◌*◌, ◌≤◌, ◌++◌, ℕ
 use Rattle.std.proofs.lemmas.Nat.{mul-le}
 use Rattle.pages.specs.Memory.{Memory}
 use Rattle.commit_phase.specs.Commit.{Committed}
-use Rattle.hart_step.specs.DecodedCode.{Shows}
 use Rattle.serial_phase.specs.declared.shared.SharedState.{SharedState}
 use Rattle.round_schedule.specs.declared.event.Event.{Event}
 use Rattle.hart_step.specs.declared.hart.Hart.{Hart}
@@ -40,6 +39,16 @@ pub commit-requires-clause-ready : goal.commit-requires-clause-ready
 commit-requires-clause-ready g c = λ lifetimes within.
     subst (λ (x : List HartEnd). AreReady c.make_turn_room.new.shared.pages x) (sym c.in_ok-adopts.ensures.ends) c.in_ok-make_turn_room.ensures.ready
 
+pub invariant_of-shared : goal.invariant_of-shared
+invariant_of-shared g c =
+    let room = c.make_turn_room.new.shared in
+    let rounds = c.requires.rounds in
+    let m = c.args.shared.now.pages.memory in
+    let same = c.in_ok-make_turn_room.ensures.keeps.memory in
+    let committed = c.commit.ensures.committed g.E.EventKeeper.logs rounds.0 (subst (λ (x : Memory). AreEndsOf g.E.EventKeeper.logs x rounds.0 c.make_room.new.ends) (sym same)
+    (subst (λ (x : List HartEnd). AreEndsOf g.E.EventKeeper.logs m rounds.0 x) (sym c.in_ok-adopts.ensures.ends) rounds.1)) in
+    record { shows = shows_committed rounds.0 m room c.commit.new.pages c.commit.new.reservations same committed rounds.2 }
+
 pub serial-requires : goal.serial-requires
 serial-requires g c =
     let os = c.args.ends.now in
@@ -58,8 +67,6 @@ serial-requires g c =
     let committed = c.commit.ensures.committed g.E.EventKeeper.logs rounds.0 (subst (λ (x : Memory). AreEndsOf g.E.EventKeeper.logs x rounds.0 c.make_room.new.ends) (sym same)
     (subst (λ (x : List HartEnd). AreEndsOf g.E.EventKeeper.logs m rounds.0 x) (sym c.in_ok-adopts.ensures.ends) rounds.1)) in
     record {
-      shows = shows_committed rounds.0 m room.pages c.commit.new.pages room.reservations c.commit.new.reservations room.code.first room.code.instructions same committed rounds.2
-          (subst (λ x. Shows m x.first x.instructions) (sym c.make_turn_room.ensures.code) c.requires.shows);
       harts = size ∙ sym c.requires.size ∙ ap length (sym c.make_turn_room.ensures.reservations) ∙ sym c.commit.ensures.size;
       few = omega (arith, size, c.requires.few);
       pages = spares_left turns _ room.pages c.commit.new.pages need c.commit.ensures.ready c.commit.ensures.spare c.in_ok-make_turn_room.ensures.spares;
@@ -84,7 +91,7 @@ add-requires g c =
     let a = c.requires.rounds.1 in
     let sound = c.requires.rounds.3 in
     let phase = c.args.phase in
-    let start : SharedState = record c.make_turn_room.new.shared { pages = c.commit.new.pages; reservations = c.commit.new.reservations } in
+    let start : SharedState = record c.make_turn_room.new.shared { pages = c.commit.new.pages; reservations = c.commit.new.reservations; shows = _ } in
     let served = subst (λ (hs : List Hart). TakesTurns (serial_done phase hs start) c.serial.new.harts start c.serial.new.state) (c.give_harts.ensures ∙ ap harts_of c.in_ok-adopts.ensures.ends) c.serial.ensures.turns in
     let fits = log_of phase (waits_of os) (harts_of os) c.serial.new.harts start c.serial.new.state (length-waits os ∙ sym (length-harts os)) c.requires.waiting served in
     let kept = c.in_ok-make_turn_room.ensures.keeps.memory in
@@ -108,7 +115,7 @@ pub returns-clause-ok : goal.returns-clause-ok
 returns-clause-ok g c = λ rs a.
     let os = c.args.ends.now in
     let phase = c.args.phase in
-    let start : SharedState = record c.make_turn_room.new.shared { pages = c.commit.new.pages; reservations = c.commit.new.reservations } in
+    let start : SharedState = record c.make_turn_room.new.shared { pages = c.commit.new.pages; reservations = c.commit.new.reservations; shows = _ } in
     let served = subst (λ (hs : List Hart). TakesTurns (serial_done phase hs start) c.serial.new.harts start c.serial.new.state) (c.give_harts.ensures ∙ ap harts_of c.in_ok-adopts.ensures.ends) c.serial.ensures.turns in
     let kept = c.in_ok-make_turn_room.ensures.keeps.memory in
     let same = c.in_ok-adopts.ensures.ends in
@@ -129,7 +136,7 @@ pub returns-clause-few : goal.returns-clause-few
 returns-clause-few g c =
     let os = c.args.ends.now in
     let phase = c.args.phase in
-    let start : SharedState = record c.make_turn_room.new.shared { pages = c.commit.new.pages; reservations = c.commit.new.reservations } in
+    let start : SharedState = record c.make_turn_room.new.shared { pages = c.commit.new.pages; reservations = c.commit.new.reservations; shows = _ } in
     let served = subst (λ (hs : List Hart). TakesTurns (serial_done phase hs start) c.serial.new.harts start c.serial.new.state) (c.give_harts.ensures ∙ ap harts_of c.in_ok-adopts.ensures.ends) c.serial.ensures.turns in
     let fits = log_of phase (waits_of os) (harts_of os) c.serial.new.harts start c.serial.new.state (length-waits os ∙ sym (length-harts os)) c.requires.waiting served in
     omega (arith, c.requires.accesses, c.requires.counted, c.len.ensures, fits.fits, few_turns phase.budget (waits_of os) c.requires.budget, length-waits os, c.requires.few)
@@ -138,7 +145,7 @@ pub overflow_add-events : goal.overflow_add-events
 overflow_add-events g c =
     let os = c.args.ends.now in
     let phase = c.args.phase in
-    let start : SharedState = record c.make_turn_room.new.shared { pages = c.commit.new.pages; reservations = c.commit.new.reservations } in
+    let start : SharedState = record c.make_turn_room.new.shared { pages = c.commit.new.pages; reservations = c.commit.new.reservations; shows = _ } in
     let served = subst (λ (hs : List Hart). TakesTurns (serial_done phase hs start) c.serial.new.harts start c.serial.new.state) (c.give_harts.ensures ∙ ap harts_of c.in_ok-adopts.ensures.ends) c.serial.ensures.turns in
     let fits = log_of phase (waits_of os) (harts_of os) c.serial.new.harts start c.serial.new.state (length-waits os ∙ sym (length-harts os)) c.requires.waiting served in
     omega (arith, c.requires.accesses, c.requires.counted, c.len.ensures, fits.fits, few_turns phase.budget (waits_of os) c.requires.budget, length-waits os, c.requires.few)

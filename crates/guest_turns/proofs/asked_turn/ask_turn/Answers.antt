@@ -2,7 +2,6 @@ use Rattle.std.proofs.Common.{◌+◌, refl, sym, subst, ◌∙◌, arith}
 use Rattle.std.proofs.lemmas.Result.{IfOk-weaker}
 use Rattle.pages.specs.Memory.{Memory}
 use Rattle.commit_phase.specs.Commit.{Committed}
-use Rattle.hart_step.specs.DecodedCode.{Shows}
 use Rattle.guest_rounds.specs.Guests.{shared_of}
 use Rattle.guest_rounds.specs.HartEnds.{AreEndsOf}
 use Rattle.guest_turns.proofs.AskedTurns.{begun_there, same_room}
@@ -10,15 +9,12 @@ use Rattle.guest_rounds.proofs.ShownCode.{shows_committed}
 use Rattle.guest_rounds.proofs.RoundDone.{spares_left}
 use Rattle.guest_turns.proofs.asked_turn.ask_turn.Goals as goal
 
-pub take_turns-requires-clause-shows : goal.take_turns-requires-clause-shows
-take_turns-requires-clause-shows g c =
+pub invariant_of-shared : goal.invariant_of-shared
+invariant_of-shared g c =
     let rounds = c.requires.rounds in
-    let room = c.make_turn_room.new.shared in
-    let m = c.args.shared.now.pages.memory in
     let same = c.in_ok-make_turn_room.ensures.keeps.memory in
     let committed = c.commit.ensures.committed rounds.0 rounds.1 (subst (λ (x : Memory). AreEndsOf rounds.0 x rounds.1 c.args.ends.now) (sym same) rounds.2) in
-    shows_committed rounds.1 m room.pages c.commit.new.pages room.reservations c.commit.new.reservations room.code.first room.code.instructions same committed rounds.3
-    (subst (λ x. Shows m x.first x.instructions) (sym c.in_ok-make_turn_room.ensures.code) c.requires.shows)
+    record { shows = shows_committed rounds.1 c.args.shared.now.pages.memory c.make_turn_room.new.shared c.commit.new.pages c.commit.new.reservations same committed rounds.3 }
 
 pub sight_at-requires-clause-pages : goal.sight_at-requires-clause-pages
 sight_at-requires-clause-pages g c =

@@ -1,13 +1,10 @@
-use Rattle.std.proofs.Common.{◌-◌, ◌+◌, ◌≡◌, ℕ, List, length, get_or, sym, ap, ◌∙◌, subst, arith}
+use Rattle.std.proofs.Common.{◌-◌, ◌+◌, ℕ, List, length, get_or, sym, ap, ◌∙◌, subst, arith}
 use Rattle.std.proofs.lemmas.Result.{IfOk-weaker}
 use Rattle.pages.specs.Memory.{IsBytes, Memory}
-use Rattle.round_schedule.specs.declared.event.Event.{Event}
-use Rattle.round_planner.specs.Quotas.{quotas_of}
-use Rattle.hart_step.specs.Words.{words_of}
 use Rattle.hart_step.specs.declared.hart.Hart.{Hart}
 use Rattle.hart_rounds.specs.Starts.{keeps_log}
 use Rattle.hart_rounds.specs.declared.hart_end.HartEnd.{HartEnd}
-use Rattle.guest_rounds.specs.Guests.{Shared, shared_of}
+use Rattle.guest_rounds.specs.Guests.{shared_of}
 use Rattle.guest_rounds.specs.HartEnds.{AreEndsOf, AreFit}
 use Rattle.guest_turns.specs.Asked.{found_in}
 use Rattle.guest_turns.proofs.Asked.{there_is}

@@ -26,17 +26,14 @@ one_asks-requires t c =
     let sum = sums_0 c.args.turn.budget c.turn_of.result.budget c.end-item.result c.args.ends.now c.in-len1-up.len_at_least c.end-item.is (ap (λ x. x.budget) c.turn_of.ensures) in (
       grind (arith, common_steps),
       (
-        c.take_asking_turn-asks.ensures.shows,
+        grind (arith, common_steps),
         (
-          grind (arith, common_steps),
+          omega (arith, c.take_asking_turn-asks.ensures.reservations, c.requires.few),
           (
-            omega (arith, c.take_asking_turn-asks.ensures.reservations, c.requires.few),
+            c.take_asking_turn-asks.ensures.pages (turns_of c.args.turn.budget (waits_of (rest c.args.ends.now))) (subst (λ (z : ℕ). HasSpares z c.args.shared.now.pages) sum c.requires.pages),
             (
-              c.take_asking_turn-asks.ensures.pages (turns_of c.args.turn.budget (waits_of (rest c.args.ends.now))) (subst (λ (z : ℕ). HasSpares z c.args.shared.now.pages) sum c.requires.pages),
-              (
-                c.take_asking_turn-asks.ensures.console (turns_of c.args.turn.budget (waits_of (rest c.args.ends.now))) (subst (λ (z : ℕ). HasRoom z c.args.shared.now.console) sum c.requires.console),
-                (omega (arith, c.take_asking_turn-asks.ensures.log, c.requires.log, c.clear.ensures.room, sum), c.clear.ensures.current),
-              ),
+              c.take_asking_turn-asks.ensures.console (turns_of c.args.turn.budget (waits_of (rest c.args.ends.now))) (subst (λ (z : ℕ). HasRoom z c.args.shared.now.console) sum c.requires.console),
+              (omega (arith, c.take_asking_turn-asks.ensures.log, c.requires.log, c.clear.ensures.room, sum), c.clear.ensures.current),
             ),
           ),
         ),

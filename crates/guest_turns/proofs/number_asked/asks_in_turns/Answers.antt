@@ -1,7 +1,6 @@
 use Rattle.std.proofs.Common.{refl, sym, subst, arith}
 use Rattle.pages.specs.Memory.{Memory}
 use Rattle.commit_phase.specs.Commit.{Committed}
-use Rattle.hart_step.specs.DecodedCode.{Shows}
 use Rattle.serial_phase.specs.declared.shared.SharedState.{SharedState}
 use Rattle.guest_rounds.specs.Guests.{shared_of}
 use Rattle.guest_rounds.specs.HartEnds.{AreEndsOf}
@@ -11,15 +10,12 @@ use Rattle.guest_turns.proofs.NumbersAsked.{committed_asks}
 use Rattle.guest_rounds.proofs.RoundDone.{spares_left}
 use Rattle.guest_turns.proofs.number_asked.asks_in_turns.Goals as goal
 
-pub one_asks-requires-clause-shows : goal.one_asks-requires-clause-shows
-one_asks-requires-clause-shows g c =
+pub invariant_of-shared : goal.invariant_of-shared
+invariant_of-shared g c =
     let rounds = c.requires.rounds in
-    let room = c.make_turn_room.new.shared in
-    let m = c.args.shared.now.pages.memory in
     let same = c.in_ok-make_turn_room.ensures.keeps.memory in
     let committed = c.commit.ensures.committed rounds.0 rounds.1 (subst (λ (x : Memory). AreEndsOf rounds.0 x rounds.1 c.args.ends.now) (sym same) rounds.2) in
-    shows_committed rounds.1 m room.pages c.commit.new.pages room.reservations c.commit.new.reservations room.code.first room.code.instructions same committed rounds.3
-    (subst (λ x. Shows m x.first x.instructions) (sym c.in_ok-make_turn_room.ensures.code) c.requires.shows)
+    record { shows = shows_committed rounds.1 c.args.shared.now.pages.memory c.make_turn_room.new.shared c.commit.new.pages c.commit.new.reservations same committed rounds.3 }
 
 pub one_asks-requires-clause-pages : goal.one_asks-requires-clause-pages
 one_asks-requires-clause-pages g c =
@@ -37,5 +33,11 @@ returns g c = λ logs rs a.
     let committed = subst (λ t. Committed rs c.make_turn_room.new.shared.pages c.commit.new.pages t c.commit.new.reservations) c.in_ok-make_turn_room.ensures.reservations
     (c.commit.ensures.committed logs rs (subst (λ (x : Memory). AreEndsOf logs x rs os) (sym same) a)) in
     let room = c.make_turn_room.new.shared in
-    let start : SharedState = record room { pages = c.commit.new.pages; reservations = c.commit.new.reservations } in
+    let rounds = c.requires.rounds in
+    let first = c.commit.ensures.committed rounds.0 rounds.1 (subst (λ (x : Memory). AreEndsOf rounds.0 x rounds.1 os) (sym same) rounds.2) in
+    let start : SharedState = record room {
+      pages = c.commit.new.pages;
+      reservations = c.commit.new.reservations;
+      shows = shows_committed rounds.1 old.memory room c.commit.new.pages c.commit.new.reservations same first rounds.3;
+    } in
     committed_asks logs _ c.args.round c.args.budget old rs os room.pages start c.one_asks.result refl a same committed c.in_ok-make_turn_room.ensures.console c.one_asks.ensures

@@ -33,17 +33,14 @@ add_turns-requires t c =
     let walked = c.in_ok-walk_turn-in-len1-up.ensures in (
       grind (arith, common_steps),
       (
-        walked.shows,
+        grind (arith, common_steps),
         (
-          grind (arith, common_steps),
+          omega (arith, walked.reservations, c.requires.few),
           (
-            omega (arith, walked.reservations, c.requires.few),
+            walked.pages (turns_of c.args.turn.budget (waits_of (rest c.args.ends.now))) (subst (λ (z : ℕ). HasSpares z c.args.shared.now.pages) sum c.requires.pages),
             (
-              walked.pages (turns_of c.args.turn.budget (waits_of (rest c.args.ends.now))) (subst (λ (z : ℕ). HasSpares z c.args.shared.now.pages) sum c.requires.pages),
-              (
-                walked.console (turns_of c.args.turn.budget (waits_of (rest c.args.ends.now))) (subst (λ (z : ℕ). HasRoom z c.args.shared.now.console) sum c.requires.console),
-                (omega (arith, walked.log, c.requires.log, c.clear.ensures.room, sum), c.clear.ensures.current),
-              ),
+              walked.console (turns_of c.args.turn.budget (waits_of (rest c.args.ends.now))) (subst (λ (z : ℕ). HasRoom z c.args.shared.now.console) sum c.requires.console),
+              (omega (arith, walked.log, c.requires.log, c.clear.ensures.room, sum), c.clear.ensures.current),
             ),
           ),
         ),

@@ -8,7 +8,7 @@ use Rattle.guest_turns.proofs.turn_harts.walk_turn.Goals as goal
 pub loop-left-init : goal.loop-left-init
 loop-left-init c =
     let x : At = record { hart = c.args.h.now; state = c.args.state.now } in
-    record { under = under_first c.args.turn x c.requires.shows; harts = harts_first c.args.turn c.args.passed.now.items x }
+    record { under = under_first c.args.turn x; harts = harts_first c.args.turn c.args.passed.now.items x }
 
 pub serve-requires-clause-pages : goal.serve-requires-clause-pages
 serve-requires-clause-pages c =
@@ -59,7 +59,7 @@ loop-left-preserved c =
     let z : Came = record { answer = c.serve.result; hart = c.serve.new.h; state = c.serve.new.state } in
     let u = c.loop-left.invariant in
     record {
-      under = under_more c.args.turn c.loop-left.left x y z c.keep.new.log c.in-Done.access c.loop-left-test.true (sym c.if-is_some.ensures)
+      under = under_more c.args.turn c.loop-left.left x y z c.keep.new.log _ c.in-Done.access c.loop-left-test.true (sym c.if-is_some.ensures)
           c.in-Done.is (c.serve.ensures.answer, c.serve.ensures.serves) c.keep.ensures.current c.keep.ensures.closed c.keep.ensures.room u.under;
       harts = harts_more c.args.turn c.loop-left.left c.args.passed.now.items c.loop-left.passed.items _ x y z c.keep.new.log c.in-Done.access c.loop-left-test.true (sym c.if-is_some.ensures)
           c.in-Done.is (c.serve.ensures.answer, c.serve.ensures.serves) c.keep.ensures.current c.in_ok-push.ensures.items u;

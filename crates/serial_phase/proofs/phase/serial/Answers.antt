@@ -32,7 +32,6 @@ loop-i-init c = serving_first c.args.phase (record { harts = c.args.harts.now; s
   log = c.requires.log;
   closed = c.requires.closed;
   current = c.requires.current;
-  shows = c.requires.shows;
 })
 
 pub loop-i-preserved : goal.loop-i-preserved
@@ -42,9 +41,9 @@ loop-i-preserved c =
     let z : At = record { hart = c.take_turn_of_waiting.new.h; state = c.take_turn_of_waiting.new.state } in
     let e = c.take_turn_of_waiting.ensures in
     let same = c.loop-i.auto.harts in
-    serving_more c.args.phase c.loop-i.i x y _ z c.end_turn.new.self c.loop-i-test.true same
+    serving_more c.args.phase c.loop-i.i x y _ z c.end_turn.new.self _ c.loop-i-test.true same
     (get_or_default c.loop-i.harts c.loop-i.i _ _ (omega (arith, same)))
-    (record { taken = e.turn; pages = e.pages; console = e.console; log = e.log; reservations = e.reservations; shows = e.shows; code = e.code })
+    (record { taken = e.turn; pages = e.pages; console = e.console; log = e.log; reservations = e.reservations; code = e.code })
     (record { closed = c.end_turn.ensures.closed; current = c.end_turn.ensures.current; room = c.end_turn.ensures.room })
     c.loop-i.invariant
 
@@ -56,7 +55,6 @@ returns c =
     record {
       turns = serving_over c.args.phase c.loop-i.i x y c.loop-i.auto.harts c.loop-i-test.false s;
       reservations = s.size;
-      shows = s.shows;
       current = s.current;
       code = s.decoded;
     }

@@ -1,6 +1,6 @@
-use Rattle.std.proofs.Common.{◌≡◌, ℕ, ◌+◌, Bool, true, false, cond, sym, ap, ◌∙◌, subst, arith}
+use Rattle.std.proofs.Common.{◌≡◌, ℕ, ◌+◌, Bool, cond, sym, ap, ◌∙◌, subst}
 use Rattle.hart_step.specs.Room.{HasSpares}
-use Rattle.serial_phase.specs.Phase.{budget_of, is_waiting, turn_of}
+use Rattle.serial_phase.specs.Phase.{budget_of, turn_of}
 use Rattle.serial_phase.specs.Roomed.{HasRoom}
 use Rattle.serial_phase.specs.UnderWay.{At}
 use Rattle.serial_phase.proofs.TurnUnderWay.{ends_over, under_first}
@@ -11,7 +11,7 @@ returns-then-not-waits-clause-turn c =
     let x : At = record { hart = c.args.h.now; state = c.args.state.now } in
     let turn = turn_of c.args.phase c.args.hart in
     let none : turn.budget ≡ 0 = ap (λ (b : Bool). cond b c.args.phase.budget 0) (sym c.waits.ensures ∙ c.if-not-waits.true) in
-    (ends_over turn turn.budget x x none c.requires.began (under_first turn x c.requires.shows)).taken
+    (ends_over turn turn.budget x x none c.requires.began (under_first turn x)).taken
 
 pub returns-clause-pages : goal.returns-clause-pages
 returns-clause-pages c = λ n.

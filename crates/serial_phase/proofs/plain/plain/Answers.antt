@@ -1,8 +1,9 @@
-use Rattle.std.proofs.Common.{◌≡◌, refl, sym, ap, subst, ◌∙◌}
+use Rattle.std.proofs.Common.{refl, sym, ap, subst, ◌∙◌}
 use Rattle.round_schedule.specs.declared.access.Stepped.{Stepped}
 use Rattle.hart_step.specs.Room.{TakesDirectly}
 use Rattle.hart_step.specs.Rounds.{IsStep}
 use Rattle.hart_step.specs.Step.{stepped}
+use Rattle.hart_step.proofs.Shown.{shows_step}
 use Rattle.serial_phase.specs.Plain.{IsPlainAnswer}
 use Rattle.serial_phase.specs.Words.{answered_reservations}
 use Rattle.serial_phase.proofs.PlainSteps.{good_step, all_room, if_ok}
@@ -13,6 +14,13 @@ unwrap-answer-requires c = c.step_decoded.ensures.room (all_room c.args.state.no
 
 pub note_answer-requires : goal.note_answer-requires
 note_answer-requires c = subst IsPlainAnswer (sym (if_ok _ _ _ c.unwrap-answer.ensures c.step_decoded.ensures.did).answer) (good_step c.args.state.now.pages.memory c.args.h.now).plain
+
+pub invariant_of-state : goal.invariant_of-state
+invariant_of-state c =
+    let state = c.args.state.now in
+    let m = state.pages.memory in
+    let s = if_ok (λ (y : Stepped). IsStep (λ ss q. TakesDirectly state.pages ss q) c.step_decoded.new.b.memory (stepped c.args.h.now m) m y c.step_decoded.new.h c.step_decoded.new.b) _ _ c.unwrap-answer.ensures c.step_decoded.ensures.did in
+    record { shows = shows_step m c.step_decoded.new.b.memory c.args.h.now _ _ s.bytes state.shows }
 
 pub returns : goal.returns
 returns c =

@@ -7,9 +7,6 @@ use Rattle.guest_rounds.proofs.GuestRounds.{ends_are}
 use Rattle.guest_rounds.proofs.WholeHistories.{whole_of_guest}
 use Rattle.guest_rounds.proofs.guest.GuestState.do_parallel.Goals as goal
 
-pub parallel-requires-clause-shows : goal.parallel-requires-clause-shows
-parallel-requires-clause-shows g c = λ lifetimes within. c.self.invariant.shows
-
 pub parallel-requires-clause-harts : goal.parallel-requires-clause-harts
 parallel-requires-clause-harts g c = λ lifetimes within. ap length c.deref.ensures.value ∙ ap (λ (x : Guest). length x.harts) c.self.view_is ∙ c.requires.harts
 

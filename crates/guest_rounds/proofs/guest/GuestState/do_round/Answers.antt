@@ -21,9 +21,6 @@ use Rattle.guest_rounds.proofs.guest.GuestState.do_round.Goals as goal
 pub finish-requires-clause-workers : goal.finish-requires-clause-workers
 finish-requires-clause-workers g c = λ lifetimes within. c.requires.workers
 
-pub finish-requires-clause-shows : goal.finish-requires-clause-shows
-finish-requires-clause-shows g c = λ lifetimes within. c.self.invariant.shows
-
 pub finish-requires-clause-rounds : goal.finish-requires-clause-rounds
 finish-requires-clause-rounds g c = λ lifetimes within.
     let i = c.self.inside in
@@ -175,7 +172,6 @@ invariant_of-self-2 g c =
     take_at c.finish.new.ends _ c.args.ends.len (omega (arith, c.finish.auto.ends, c.deref_mut.ensures.len, ap length c.deref_mut.ensures.value)) in
     record {
       size = c.finish.ensures.size ∙ c.self.invariant.size ∙ sym (ap length whole ∙ omega (arith, c.finish.auto.harts, ap length c.deref_mut-2.ensures.value));
-      shows = c.finish.ensures.shows;
       kept = subst (λ (hs : List Hart). StoppedStay hs (harts_of (take c.args.ends.len (c.finish.new.ends ++ drop (length c.finish.new.ends) c.args.ends.items)))) (sym whole) (subst (λ (os : List HartEnd). StoppedStay c.finish.new.harts (harts_of os)) (sym all) c.in_ok-counts.ensures.kept);
     }
 

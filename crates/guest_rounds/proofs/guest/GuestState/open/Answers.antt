@@ -11,7 +11,6 @@ use Rattle.guest_rounds.proofs.guest.GuestState.open.Goals as goal
 pub invariant_of-result : goal.invariant_of-result
 invariant_of-result c = record {
   size = ap length c.new-2.ensures ∙ length-replicate c.args.count _ ∙ sym (ap length c.in_ok-harts.ensures ∙ length-opening c.entry-entry.result c.args.count 0 c.args.count);
-  shows = c.in_ok-code.ensures;
   kept = stay_none _ _ (ap harts_of c.new-5.ensures);
 }
 

@@ -1,7 +1,7 @@
-use Rattle.std.proofs.Common.{◌≡◌, ◌+◌, ◌++◌, ℕ, List, length, take, drop, sym, ap, ◌∙◌, subst, arith}
+use Rattle.std.proofs.Common.{◌≡◌, ◌+◌, ◌++◌, length, take, drop, sym, ap, ◌∙◌, subst, arith}
 use Rattle.std.proofs.lemmas.List.{take_at}
 use Rattle.std.proofs.lemmas.Result.{IfOk-weaker}
-use Rattle.lasting_workers.specs.declared.posted_start.BorrowedStart.{BorrowedStart}
+use Rattle.lasting_workers.specs.declared.borrowed_start.BorrowedStart.{BorrowedStart}
 use Rattle.lasting_workers.specs.Histories.{IsWholeHistory}
 use Rattle.hart_rounds.specs.Starts.{Start, keeps_log}
 use Rattle.guest_rounds.specs.Guests.{Guest}
