@@ -3,6 +3,7 @@ ghost use Rattle.host_io.specs.declared.error.RunError.TheVariants as refusals;
 ghost use Rattle.machine.specs.Machine.{Running, after_rounds};
 ghost use Rattle.machine.specs.Untraced.{IsUntraced};
 ghost use Rattle.event_pcs.specs.Pcs.{IsAfterRounds, pc_before};
+ghost use Rattle.round_schedule.specs.Bounds.{AreWorkers};
 
 use crate::parts::pcs_in_parts;
 use crate::stretches::{count_of_round, events_from};
@@ -30,7 +31,7 @@ pub fn pcs_of_run<R: Threads + Wait + Sync>(
     events: &[Event],
     workers: u32,
 ) -> Result<Vec<Option<u64>>, RunError>
-    requires workers { (1 ≤ workers) × (workers ≤ 16) }
+    requires workers { AreWorkers workers }
     requires run { (m : Running) × IsUntraced (after_rounds start.old.rounds m) start.old }
     requires later { All (IsAfterRounds start.old.rounds) events.now }
     ensures pcs { (m : Running) → IsUntraced (after_rounds start.old.rounds m) start.old →
@@ -91,7 +92,7 @@ fn add_of_round<R: Threads + Wait + Sync>(
     workers: u32,
     pcs: &mut Vec<Option<u64>>,
 ) -> Result<(), RunError>
-    requires workers { (1 ≤ workers) × (workers ≤ 16) }
+    requires workers { AreWorkers workers }
     requires run { (m : Running) × IsUntraced m machine.old }
     requires before { machine.old.rounds ≤ round - 1 }
     requires one { All (λ e. (e.round == round) ≡ true) events.now }

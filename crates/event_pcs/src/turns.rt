@@ -11,10 +11,12 @@ ghost use Rattle.machine.specs.Untraced.{IsUntraced};
 ghost use Rattle.round_planner.specs.Quotas.{quotas_of};
 ghost use Rattle.event_pcs.specs.Parts.{pc_in_parts};
 ghost use Rattle.event_pcs.specs.Pcs.{done_by, pc_in_next};
+ghost use Rattle.round_schedule.specs.Bounds.{AreWorkers};
 
 use hart_step::Hart;
 use host_io::RunError;
 use machine::UntracedMachine;
+use past_harts::{hart_after, harts_in_turns};
 use round_schedule::Event;
 use std::sync::Wait;
 use std::thread::Threads;
@@ -29,7 +31,7 @@ pub(crate) fn add_pcs<R: Threads + Wait + Sync>(
     workers: u32,
     pcs: &mut Vec<Option<u64>>,
 ) -> Result<(), RunError>
-    requires workers { (1 ≤ workers) × (workers ≤ 16) }
+    requires workers { AreWorkers workers }
     requires run { (m : Running) × IsUntraced m machine.old }
     requires rounds { machine.old.rounds + 1 < 2 ^ 32 }
     requires found { found.now ≡ map (pc_in_parts machine.old) events.now }
@@ -42,7 +44,7 @@ pub(crate) fn add_pcs<R: Threads + Wait + Sync>(
         return add_found(found, pcs);
     }
     let copy = machine.share()?;
-    let turns = copy.harts_in_turns(rt, workers)?;
+    let turns = harts_in_turns(rt, copy, workers)?;
     add_each(rt, machine, &turns, events, found, workers, pcs)
 }
 
@@ -56,7 +58,7 @@ fn add_each<R: Threads + Wait + Sync>(
     workers: u32,
     pcs: &mut Vec<Option<u64>>,
 ) -> Result<(), RunError>
-    requires workers { (1 ≤ workers) × (workers ≤ 16) }
+    requires workers { AreWorkers workers }
     requires run { (m : Running) × IsUntraced m machine.old }
     requires rounds { machine.old.rounds + 1 < 2 ^ 32 }
     requires found { found.now ≡ map (pc_in_parts machine.old) events.now }
@@ -102,7 +104,7 @@ fn pc_of_event<R: Threads + Wait + Sync>(
     found: Option<u64>,
     workers: u32,
 ) -> Result<Option<u64>, RunError>
-    requires workers { (1 ≤ workers) × (workers ≤ 16) }
+    requires workers { AreWorkers workers }
     requires run { (m : Running) × IsUntraced m machine.old }
     requires rounds { machine.old.rounds + 1 < 2 ^ 32 }
     requires found { found ≡ pc_in_parts machine.old event.now }
@@ -180,7 +182,7 @@ fn pc_asked<R: Threads + Wait + Sync>(
     event: &Event,
     workers: u32,
 ) -> Result<Option<u64>, RunError>
-    requires workers { (1 ≤ workers) × (workers ≤ 16) }
+    requires workers { AreWorkers workers }
     requires run { (m : Running) × IsUntraced m machine.old }
     requires rounds { machine.old.rounds + 1 < 2 ^ 32 }
     ensures stays { machine.new ≡ machine.old }
@@ -192,7 +194,7 @@ fn pc_asked<R: Threads + Wait + Sync>(
     let done = done_by(machine, hart);
     let count = event.access.place().saturating_sub(done);
     let copy = machine.share()?;
-    let found = copy.hart_after(rt, hart, count, workers)?;
+    let found = hart_after(rt, copy, hart, count, workers)?;
     Ok(pc_of(found))
 }
 

@@ -11,6 +11,7 @@ ghost use Rattle.loop_finder.specs.Finding.{AreSame, asks_within, some_run};
 use crate::comparing::{are_same_harts, are_same_pages};
 use machine::UntracedMachine;
 use pages::OutOfMemory;
+use past_harts::asks_number;
 use std::sync::Wait;
 use std::thread::Threads;
 
@@ -104,7 +105,7 @@ fn asks_in_next<R: Threads + Wait + Sync>(
     ensures stays { machine.new ≡ machine.old }
 {
     let there = shared_copy(machine)?;
-    match there.asks_number(rt) {
+    match asks_number(rt, there) {
         Ok(asks) => Ok(asks),
         Err(_) => Err(OutOfMemory),
     }

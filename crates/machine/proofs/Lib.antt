@@ -2,8 +2,8 @@ pub mod Opened
 pub mod Repeated
 pub mod SizeStays
 pub mod UntracedRounds
-pub mod NextRounds
 pub mod TracedMachine
 pub mod TracedRun
 pub mod NumberedStarts
 pub mod Walked
+pub mod Answered

@@ -1,3 +1,4 @@
+pub mod Answers
 pub mod RoundStarts
 pub mod Machine
 pub mod Held

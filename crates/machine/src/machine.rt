@@ -4,6 +4,7 @@ ghost use Rattle.trace.specs.Traced.{opening_at};
 ghost use Rattle.hart_step.specs.Stops.{has_stop};
 ghost use Rattle.round_schedule.specs.RoundTrace.{IsRoundTrace};
 ghost use Rattle.machine.specs.Machine.{opening};
+ghost use Rattle.machine.specs.Untraced.{IsUntraced};
 
 use crate::untraced::UntracedMachine;
 use elf_loader::Image;
@@ -110,5 +111,13 @@ impl Machine {
     {
         let Machine { trace, .. } = self;
         trace
+    }
+
+    /// The machine of the same run without its trace, which is let go.
+    pub fn into_untraced(self) -> UntracedMachine
+        ensures run { IsUntraced self result }
+    {
+        let Machine { bare, .. } = self;
+        bare
     }
 }

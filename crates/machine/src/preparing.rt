@@ -3,6 +3,7 @@ ghost use Rattle.round_planner.specs.Quotas.{Planned};
 ghost use Rattle.host_io.specs.declared.error.RunError.TheVariants as refusals;
 ghost use Rattle.run_settings.specs.Settings.{IsInRange, IsPlan, IsReason, RefusedInOrder, image_for, settings_fault};
 ghost use Rattle.machine.specs.Machine.{opening};
+ghost use Rattle.round_schedule.specs.Bounds.{AreWorkers};
 
 use crate::machine::Machine;
 use host_io::RunError;
@@ -23,7 +24,7 @@ pub fn prepare(
     ensures machine { IfOk result (λ m. (plan : Planned) × IsPlan settings.now plan ×
         (m ≡ opening (image_for settings.now image.now) input.now plan)) }
     ensures in_order { RefusedInOrder settings.now image.now result }
-    ensures workers { IfOk result (λ _. (1 ≤ settings.now.workers) × (settings.now.workers ≤ 16)) }
+    ensures workers { IfOk result (λ _. AreWorkers settings.now.workers) }
     ensures range { IfOk result (λ _. IsInRange settings.now) }
     ensures errors { settings_fault settings.now ≡ None →
         IfErr result (λ e. IsReason settings.now image.now e) }

@@ -3,6 +3,7 @@ ghost use Rattle.round_planner.specs.Quotas.{Planned};
 ghost use Rattle.run_settings.specs.Settings.{IsInRange, IsPlan, IsReason, RefusedInOrder, image_for, settings_fault};
 ghost use Rattle.machine.specs.Machine.{opening};
 ghost use Rattle.machine.specs.Untraced.{IsUntraced};
+ghost use Rattle.round_schedule.specs.Bounds.{AreWorkers};
 
 use crate::preparing::copied;
 use crate::untraced::UntracedMachine;
@@ -24,7 +25,7 @@ pub fn prepare_untraced(
     ensures machine { IfOk result (λ u. (plan : Planned) × IsPlan settings.now plan ×
         IsUntraced (opening (image_for settings.now image.now) input.now plan) u) }
     ensures in_order { RefusedInOrder settings.now image.now result }
-    ensures workers { IfOk result (λ _. (1 ≤ settings.now.workers) × (settings.now.workers ≤ 16)) }
+    ensures workers { IfOk result (λ _. AreWorkers settings.now.workers) }
     ensures range { IfOk result (λ _. IsInRange settings.now) }
     ensures errors { settings_fault settings.now ≡ None →
         IfErr result (λ e. IsReason settings.now image.now e) }

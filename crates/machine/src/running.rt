@@ -1,10 +1,12 @@
-ghost use Rattle.std.specs.Prelude.{◌≡◌, ◌<◌, ◌≤◌, ◌+◌, ◌-◌, ◌^◌, ◌⊎◌, ◌↔◌, ℕ, length, Err, IfOk, IfErr, OnOk, OnErr};
+ghost use Rattle.std.specs.Prelude.{◌≡◌, ◌<◌, ◌≤◌, ◌+◌, ◌-◌, ◌^◌, ◌⊎◌, ℕ, length, Err, IfOk, IfErr, OnOk, OnErr};
 ghost use Rattle.host_io.specs.declared.error.RunError.TheVariants as refusals;
 ghost use Rattle.round_schedule.specs.Schedule.{hart_rounds};
 ghost use Rattle.round_planner.specs.Quotas.{quotas_of};
 ghost use Rattle.hart_step.specs.Words.{words_of};
+ghost use Rattle.machine.specs.Answers.{AnswersRun};
 ghost use Rattle.machine.specs.Machine.{after_round, after_rounds, count_stopped};
 ghost use Rattle.guest_rounds.specs.Rounds.{count_waiting};
+ghost use Rattle.round_schedule.specs.Bounds.{AreNoWorkers};
 
 use crate::machine::Machine;
 use crate::observing::{Observer, Unobserved};
@@ -13,15 +15,9 @@ use hart_rounds::LogForm;
 use hart_step::Hart;
 use host_io::RunError;
 use parallel_phase::Gate;
+use round_schedule::{MOST_HARTS, MOST_WORKERS};
 use std::sync::Wait;
 use std::thread::Threads;
-
-/// The most workers of a run.
-pub(crate) const MOST_WORKERS: u32 = 16;
-
-/// How many instructions are worth a worker: starting its thread takes about as long as they do.
-// docs/decisions/threads.md
-const WORTH_A_WORKER: u64 = 16_384;
 
 /// What a round was.
 #[derive(Clone, Copy, Debug, PartialEq, Eq)]
@@ -59,10 +55,10 @@ impl Machine {
             (quotas_of self.old.plan self.old.state.rounds) self.old.state.harts)) }
         ensures stopped { IfOk result (λ n. n.stopped ≡ count_stopped self.new.state.harts) }
         ensures err { OnErr result (self.new ≡ self.old) }
-        ensures workers { (workers < 1) ⊎ (16 < workers) → result ≡ Err refusals.WorkersOutOfRange }
-        ensures exhausted { 1 ≤ workers → workers ≤ 16 → self.old.state.rounds + 1 ≡ 2 ^ 32 →
+        ensures workers { AreNoWorkers workers → result ≡ Err refusals.WorkersOutOfRange }
+        ensures exhausted { 1 ≤ workers → workers ≤ MOST_WORKERS → self.old.state.rounds + 1 ≡ 2 ^ 32 →
             result ≡ Err refusals.RoundsExhausted }
-        ensures refused { 1 ≤ workers → workers ≤ 16 → self.old.state.rounds + 1 < 2 ^ 32 →
+        ensures refused { 1 ≤ workers → workers ≤ MOST_WORKERS → self.old.state.rounds + 1 < 2 ^ 32 →
             IfErr result (λ e. e ≡ refusals.OutOfMemory) }
     {
         if workers < 1 || workers > MOST_WORKERS {
@@ -98,20 +94,8 @@ impl Machine {
         rounds: u32,
         workers: u32,
     ) -> Result<(), RunError>
-        ensures ok { OnOk result (self.new ≡ after_rounds rounds self.old) }
-        ensures enough { OnOk result (self.old.state.rounds + rounds < 2 ^ 32) }
-        ensures counted { OnOk result (self.new.state.rounds ≡ self.old.state.rounds + rounds) }
-        ensures fewer { result ≡ Err refusals.OutOfMemory →
-            (k : ℕ) × (k < rounds) × (self.new ≡ after_rounds k self.old) }
-        ensures exhausted { result ≡ Err refusals.RoundsExhausted →
-            (2 ^ 32 ≤ self.old.state.rounds + rounds) ×
-            (self.new ≡ after_rounds (2 ^ 32 - 1 - self.old.state.rounds) self.old) }
-        ensures workers { (workers < 1) ⊎ (16 < workers) →
-            (result ≡ Err refusals.WorkersOutOfRange) × (self.new ≡ self.old) }
-        ensures errors { 1 ≤ workers → workers ≤ 16 →
-            IfErr result (λ e. (e ≡ refusals.OutOfMemory) ⊎ (e ≡ refusals.RoundsExhausted)) }
-        ensures refused { 1 ≤ workers → workers ≤ 16 → self.old.state.rounds + rounds < 2 ^ 32 →
-            IfErr result (λ e. e ≡ refusals.OutOfMemory) }
+        ensures { AnswersRun rounds workers self.old.state.rounds self.new.state.rounds
+            (λ k. self.new ≡ after_rounds k self.old) (self.new ≡ self.old) result }
     {
         self.run_observed(rt, rounds, workers, &mut Unobserved)
     }
@@ -128,20 +112,8 @@ impl Machine {
         workers: u32,
         observer: &mut O,
     ) -> Result<(), RunError>
-        ensures ok { OnOk result (self.new ≡ after_rounds rounds self.old) }
-        ensures enough { OnOk result (self.old.state.rounds + rounds < 2 ^ 32) }
-        ensures counted { OnOk result (self.new.state.rounds ≡ self.old.state.rounds + rounds) }
-        ensures fewer { result ≡ Err refusals.OutOfMemory →
-            (k : ℕ) × (k < rounds) × (self.new ≡ after_rounds k self.old) }
-        ensures exhausted { result ≡ Err refusals.RoundsExhausted →
-            (2 ^ 32 ≤ self.old.state.rounds + rounds) ×
-            (self.new ≡ after_rounds (2 ^ 32 - 1 - self.old.state.rounds) self.old) }
-        ensures workers { (workers < 1) ⊎ (16 < workers) →
-            (result ≡ Err refusals.WorkersOutOfRange) × (self.new ≡ self.old) }
-        ensures errors { 1 ≤ workers → workers ≤ 16 →
-            IfErr result (λ e. (e ≡ refusals.OutOfMemory) ⊎ (e ≡ refusals.RoundsExhausted)) }
-        ensures refused { 1 ≤ workers → workers ≤ 16 → self.old.state.rounds + rounds < 2 ^ 32 →
-            IfErr result (λ e. e ≡ refusals.OutOfMemory) }
+        ensures { AnswersRun rounds workers self.old.state.rounds self.new.state.rounds
+            (λ k. self.new ≡ after_rounds k self.old) (self.new ≡ self.old) result }
     {
         self.bare.check_to_go_on();
         self.bare
@@ -149,25 +121,9 @@ impl Machine {
     }
 }
 
-/// How many workers so much work of so many running harts is worth, of these at most. A hart's round is work for one.
-pub(crate) fn workers_for(work: u64, running: u32, workers: u32) -> u32
-    requires { 1 ≤ workers }
-    ensures some { 1 ≤ result }
-    ensures most { result ≤ workers }
-{
-    let worth = (work / WORTH_A_WORKER).min(u64::from(running));
-    if worth <= 1 {
-        1
-    } else if worth < u64::from(workers) {
-        worth as u32
-    } else {
-        workers
-    }
-}
-
 /// How many harts have stopped.
 pub(crate) fn stopped_count(harts: &[Hart]) -> u32
-    requires { length harts.now ≤ 64 }
+    requires { length harts.now ≤ MOST_HARTS }
     ensures count { result ≡ count_stopped harts.now }
     ensures most { result ≤ length harts.now }
 {

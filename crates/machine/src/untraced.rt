@@ -3,7 +3,7 @@ ghost use Rattle.pages.specs.Memory.{IsBytes};
 ghost use Rattle.host_io.specs.declared.error.RunError.TheVariants as refusals;
 ghost use Rattle.hart_step.specs.Stops.{has_stop};
 ghost use Rattle.machine.specs.Machine.{Running, opening};
-ghost use Rattle.machine.specs.Untraced.{IsUntraced};
+ghost use Rattle.machine.specs.Untraced.{IsUntraced, untraced_of};
 
 use elf_loader::Image;
 use guest_rounds::GuestState;
@@ -12,6 +12,7 @@ use host_io::RunError;
 use pages::Pages;
 use reservations::Reservations;
 use round_planner::Plan;
+use round_work::RoundWork;
 use serial_phase::Console;
 use std::alloc::Global;
 use std::marker::Model;
@@ -25,8 +26,8 @@ pub struct UntracedMachine {
     pub(crate) plan: Plan,
     pub(crate) rounds: u32,
     pub(crate) events: u64,
-    /// How many instructions the last round of `run` did, where there was one: about what the next has to do.
-    pub(crate) work: Option<u64>,
+    /// About how much the next round has to do.
+    pub(crate) work: RoundWork,
 }
 
 impl Model for UntracedMachine {
@@ -38,6 +39,17 @@ impl Model for UntracedMachine {
     ghost view = { λ m. untraced_of m.guest m.plan m.events m.rounds };
 
     ghost invariant = { λ m. HoldsRun m.guest m.plan.harts m.events m.rounds };
+}
+
+/// What a machine without a trace is made of, for whoever does something else with its next round than end it.
+#[derive(Drop)]
+pub struct MachineFields {
+    /// The harts, and what they share.
+    pub guest: GuestState,
+    /// The plan of the run.
+    pub plan: Plan,
+    /// How many rounds were done.
+    pub rounds: u32,
 }
 
 impl UntracedMachine {
@@ -78,7 +90,7 @@ impl UntracedMachine {
             plan,
             rounds: 0,
             events: 0,
-            work: None,
+            work: RoundWork::unknown(),
         })
     }
 
@@ -155,6 +167,24 @@ impl UntracedMachine {
         ensures code { result.now.memory.code ≡ self.now.code }
     {
         self.guest.pages()
+    }
+
+    /// What it is made of. Each hart of the plan is one of the guest's.
+    pub fn into_fields(self) -> MachineFields
+        ensures machine { untraced_of result.guest result.plan self.events result.rounds ≡ self }
+        ensures harts { length result.guest.harts ≡ result.plan.harts }
+    {
+        let UntracedMachine {
+            guest,
+            plan,
+            rounds,
+            ..
+        } = self;
+        MachineFields {
+            guest,
+            plan,
+            rounds,
+        }
     }
 
     /// Where its memory comes from.

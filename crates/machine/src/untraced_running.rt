@@ -8,20 +8,23 @@ ghost use Rattle.hart_rounds.specs.Starts.{keeps_log};
 ghost use Rattle.trace.specs.Traced.{IsTrace};
 ghost use Rattle.machine.specs.Machine.{count_stopped};
 ghost use Rattle.guest_rounds.specs.Rounds.{count_waiting};
+ghost use Rattle.machine.specs.Answers.{AnswersRun};
 ghost use Rattle.machine.specs.RoundStarts.{AreOfNext};
-ghost use Rattle.machine.specs.Untraced.{AreAdded, AreLast, HasRun, IsAfter, MayGoOn, next_events, untraced_round};
+ghost use Rattle.machine.specs.Untraced.{AreLast, HasRun, IsAfter, MayGoOn, next_events, untraced_round};
+ghost use Rattle.round_schedule.specs.Bounds.{AreWorkers};
 
 use crate::observing::{Observer, Observing, Unobserved};
-use crate::running::{MOST_WORKERS, RoundNote, stopped_count, workers_for};
+use crate::running::{RoundNote, stopped_count};
 use crate::untraced::UntracedMachine;
 use guest_rounds::{Crew, EventKeeper, NoTrace};
 use hart_rounds::HartEnd;
 use host_io::RunError;
 use pages::OutOfMemory;
 use parallel_phase::Gate;
+use round_schedule::MOST_WORKERS;
+use round_work::instructions_done;
 use std::sync::Wait;
 use std::thread::Threads;
-use trace::Trace;
 
 impl UntracedMachine {
     /// Does so many rounds, on 1 to 16 workers. It may wait.
@@ -39,19 +42,8 @@ impl UntracedMachine {
         rounds: u32,
         workers: u32,
     ) -> Result<(), RunError>
-        ensures ok { OnOk result (IsAfter rounds self.old self.new) }
-        ensures enough { OnOk result (self.old.rounds + rounds < 2 ^ 32) }
-        ensures counted { OnOk result (self.new.rounds ≡ self.old.rounds + rounds) }
-        ensures fewer { result ≡ Err refusals.OutOfMemory →
-            (k : ℕ) × (k < rounds) × IsAfter k self.old self.new }
-        ensures exhausted { result ≡ Err refusals.RoundsExhausted → (2 ^ 32 ≤
-            self.old.rounds + rounds) × IsAfter (2 ^ 32 - 1 - self.old.rounds) self.old self.new }
-        ensures workers { (workers < 1) ⊎ (16 < workers) →
-            (result ≡ Err refusals.WorkersOutOfRange) × (self.new ≡ self.old) }
-        ensures errors { 1 ≤ workers → workers ≤ 16 →
-            IfErr result (λ e. (e ≡ refusals.OutOfMemory) ⊎ (e ≡ refusals.RoundsExhausted)) }
-        ensures refused { 1 ≤ workers → workers ≤ 16 → self.old.rounds + rounds < 2 ^ 32 →
-            IfErr result (λ e. e ≡ refusals.OutOfMemory) }
+        ensures { AnswersRun rounds workers self.old.rounds self.new.rounds
+            (λ k. IsAfter k self.old self.new) (self.new ≡ self.old) result }
     {
         self.run_observed(rt, rounds, workers, &mut Unobserved)
     }
@@ -68,61 +60,18 @@ impl UntracedMachine {
         workers: u32,
         observer: &mut O,
     ) -> Result<(), RunError>
-        ensures ok { OnOk result (IsAfter rounds self.old self.new) }
-        ensures enough { OnOk result (self.old.rounds + rounds < 2 ^ 32) }
-        ensures counted { OnOk result (self.new.rounds ≡ self.old.rounds + rounds) }
-        ensures fewer { result ≡ Err refusals.OutOfMemory →
-            (k : ℕ) × (k < rounds) × IsAfter k self.old self.new }
-        ensures exhausted { result ≡ Err refusals.RoundsExhausted → (2 ^ 32 ≤
-            self.old.rounds + rounds) × IsAfter (2 ^ 32 - 1 - self.old.rounds) self.old self.new }
-        ensures workers { (workers < 1) ⊎ (16 < workers) →
-            (result ≡ Err refusals.WorkersOutOfRange) × (self.new ≡ self.old) }
-        ensures errors { 1 ≤ workers → workers ≤ 16 →
-            IfErr result (λ e. (e ≡ refusals.OutOfMemory) ⊎ (e ≡ refusals.RoundsExhausted)) }
-        ensures refused { 1 ≤ workers → workers ≤ 16 → self.old.rounds + rounds < 2 ^ 32 →
-            IfErr result (λ e. e ≡ refusals.OutOfMemory) }
+        ensures { AnswersRun rounds workers self.old.rounds self.new.rounds
+            (λ k. IsAfter k self.old self.new) (self.new ≡ self.old) result }
     {
         self.run_keeping(rt, rounds, workers, &mut NoTrace, observer)
     }
 
-    /// Does what `run` does, and adds the events of these rounds to a trace that holds the last events of the run. It may be empty.
+    /// Does what `run_observed` does, and hands the events of these rounds to a keeper, which may keep those of each of the next ones.
     ///
     /// # Errors
     ///
-    /// Those of `run`. The trace has the events of the rounds that are done.
-    pub fn run_noting<R: Threads + Wait + Sync>(
-        &mut self,
-        rt: &R,
-        rounds: u32,
-        workers: u32,
-        trace: &mut Trace,
-    ) -> Result<(), RunError>
-        requires { AreLast self.old trace.old.events }
-        ensures last { AreLast self.new trace.new.events }
-        ensures ok { OnOk result (IsAfter rounds self.old self.new) }
-        ensures events { OnOk result (AreAdded rounds self.old trace.old.events trace.new.events) }
-        ensures opening { trace.new.opening ≡ trace.old.opening }
-        ensures enough { OnOk result (self.old.rounds + rounds < 2 ^ 32) }
-        ensures counted { OnOk result (self.new.rounds ≡ self.old.rounds + rounds) }
-        ensures fewer { result ≡ Err refusals.OutOfMemory → (k : ℕ) × (k < rounds) ×
-            IsAfter k self.old self.new × AreAdded k self.old trace.old.events trace.new.events }
-        ensures exhausted { result ≡ Err refusals.RoundsExhausted → (2 ^ 32 ≤
-            self.old.rounds + rounds) × IsAfter (2 ^ 32 - 1 - self.old.rounds) self.old self.new ×
-            AreAdded (2 ^ 32 - 1 - self.old.rounds) self.old trace.old.events trace.new.events }
-        ensures workers { (workers < 1) ⊎ (16 < workers) →
-            (result ≡ Err refusals.WorkersOutOfRange) × (self.new ≡ self.old) ×
-            (trace.new.events ≡ trace.old.events) }
-        ensures errors { 1 ≤ workers → workers ≤ 16 →
-            IfErr result (λ e. (e ≡ refusals.OutOfMemory) ⊎ (e ≡ refusals.RoundsExhausted)) }
-        ensures refused { 1 ≤ workers → workers ≤ 16 → self.old.rounds + rounds < 2 ^ 32 →
-            IfErr result (λ e. e ≡ refusals.OutOfMemory) }
-    {
-        self.check_to_go_on();
-        self.run_keeping(rt, rounds, workers, trace, &mut Unobserved)
-    }
-
-    /// Does so many rounds, and has their events kept.
-    pub(crate) fn run_keeping<E: EventKeeper, O: Observer, R: Threads + Wait + Sync>(
+    /// Those of `run`. The keeper has the events of the rounds that are done.
+    pub fn run_keeping<E: EventKeeper, O: Observer, R: Threads + Wait + Sync>(
         &mut self,
         rt: &R,
         rounds: u32,
@@ -135,21 +84,10 @@ impl UntracedMachine {
             E.keeps keeper.old es → MayGoOn E.may_keep n es self.old }
         ensures some { (k : ℕ) ×
             HasRun k self.old self.new (E.keeps keeper.old) (E.keeps keeper.new) }
-        ensures ok { OnOk result (HasRun rounds self.old self.new (E.keeps keeper.old)
-            (E.keeps keeper.new)) }
-        ensures enough { OnOk result (self.old.rounds + rounds < 2 ^ 32) }
-        ensures fewer { result ≡ Err refusals.OutOfMemory → (k : ℕ) × (k < rounds) ×
-            HasRun k self.old self.new (E.keeps keeper.old) (E.keeps keeper.new) }
-        ensures exhausted { result ≡ Err refusals.RoundsExhausted →
-            (2 ^ 32 ≤ self.old.rounds + rounds) × HasRun (2 ^ 32 - 1 -
-            self.old.rounds) self.old self.new (E.keeps keeper.old) (E.keeps keeper.new) }
+        ensures answers { AnswersRun rounds workers self.old.rounds self.new.rounds
+            (λ k. HasRun k self.old self.new (E.keeps keeper.old) (E.keeps keeper.new))
+            ((self.new ≡ self.old) × (keeper.new ≡ keeper.old)) result }
         ensures opening { E.opens_with keeper.new ≡ E.opens_with keeper.old }
-        ensures workers { (workers < 1) ⊎ (16 < workers) → (result ≡
-            Err refusals.WorkersOutOfRange) × (self.new ≡ self.old) × (keeper.new ≡ keeper.old) }
-        ensures errors { 1 ≤ workers → workers ≤ 16 →
-            IfErr result (λ e. (e ≡ refusals.OutOfMemory) ⊎ (e ≡ refusals.RoundsExhausted)) }
-        ensures refused { 1 ≤ workers → workers ≤ 16 → self.old.rounds + rounds < 2 ^ 32 →
-            IfErr result (λ e. e ≡ refusals.OutOfMemory) }
     {
         if workers < 1 || workers > MOST_WORKERS {
             return Err(RunError::WorkersOutOfRange);
@@ -184,14 +122,16 @@ impl UntracedMachine {
         ensures some { 1 ≤ result }
         ensures most { result ≤ workers }
     {
-        workers_for(self.expected_work(), self.running_harts(), workers)
+        self.work
+            .workers_for(&self.plan, self.rounds, self.running_harts(), workers)
     }
 
     /// Notes how many instructions the last round did, where so many were done before it.
     fn note_work(&mut self, before: u64)
         ensures { self.new ≡ self.old }
     {
-        self.work = Some(self.instructions_done().wrapping_sub(before));
+        self.work
+            .note(before, instructions_done(self.guest.harts()));
     }
 
     /// Does so many rounds of a machine whose harts have all stopped.
@@ -208,7 +148,7 @@ impl UntracedMachine {
         &mut self,
         crew: &Crew<'_, G, R>,
     ) -> Result<Vec<HartEnd>, OutOfMemory>
-        requires workers { (1 ≤ crew.now.workers) × (crew.now.workers ≤ 16) }
+        requires workers { AreWorkers crew.now.workers }
         requires rounds { self.old.rounds + 1 < 2 ^ 32 }
         ensures stays { self.new ≡ self.old }
         ensures ends { IfOk result (λ os.
@@ -265,13 +205,8 @@ impl UntracedMachine {
         })
     }
 
-    /// How many instructions the harts have done together.
     fn instructions_done(&self) -> u64 {
-        let mut done: u64 = 0;
-        for hart in self.guest.harts() {
-            done = done.wrapping_add(hart.done);
-        }
-        done
+        instructions_done(self.guest.harts())
     }
 
     /// How many harts have not stopped.
@@ -282,25 +217,5 @@ impl UntracedMachine {
         let _harts = self.plan.harts();
         let harts = self.guest.harts();
         harts.len() as u32 - stopped_count(harts)
-    }
-
-    /// About how many instructions the harts do together in the next round: as many as in the last one, or as the plan allows.
-    fn expected_work(&self) -> u64 {
-        match self.work {
-            Some(work) => work,
-            None => self.most_work(),
-        }
-    }
-
-    /// How many instructions the harts may do together in the next round, outside their serial turns.
-    fn most_work(&self) -> u64 {
-        if self.rounds == u32::MAX {
-            return 0;
-        }
-        let mut work: u64 = 0;
-        for hart in 0..self.plan.harts() {
-            work = work.wrapping_add(u64::from(self.plan.quota(self.rounds + 1, hart)));
-        }
-        work
     }
 }

@@ -3,6 +3,7 @@ ghost use Rattle.round_schedule.specs.declared.event.Event.{Event};
 ghost use Rattle.machine.specs.Machine.{after_rounds};
 ghost use Rattle.machine.specs.Untraced.{HasRun, IsUntraced, MayGoOn, Untraced};
 ghost use Rattle.machine.specs.Walks.{HasDone, HasSeenAll, IsCutOff};
+ghost use Rattle.round_schedule.specs.Bounds.{AreWorkers};
 
 use crate::machine::Machine;
 use crate::untraced::UntracedMachine;
@@ -25,7 +26,7 @@ impl Machine {
         workers: u32,
         visitor: &mut V,
     ) -> Result<u32, OutOfMemory>
-        requires workers { (1 ≤ workers) × (workers ≤ 16) }
+        requires workers { AreWorkers workers }
         requires rounds { self.old.state.rounds + rounds < 2 ^ 32 }
         requires known { (u : Untraced) → IsUntraced self.old u →
             V.knows visitor.old visitor.old u rounds 0 }
@@ -55,7 +56,7 @@ impl Machine {
         workers: u32,
         visitor: &mut V,
     ) -> Result<(), OutOfMemory>
-        requires workers { (1 ≤ workers) × (workers ≤ 16) }
+        requires workers { AreWorkers workers }
         requires rounds { self.old.state.rounds + rounds < 2 ^ 32 }
         requires known { (u : Untraced) → IsUntraced self.old u →
             V.knows visitor.old visitor.old u rounds 0 }
@@ -86,7 +87,7 @@ impl UntracedMachine {
         workers: u32,
         visitor: &mut V,
     ) -> Result<(), OutOfMemory>
-        requires workers { (1 ≤ workers) × (workers ≤ 16) }
+        requires workers { AreWorkers workers }
         requires rounds { self.old.rounds + rounds < 2 ^ 32 }
         requires known { V.knows visitor.old visitor.old self.old rounds 0 }
         ensures done { OnOk result (HasDone rounds self.old self.new) }
@@ -106,7 +107,7 @@ impl UntracedMachine {
         keeper: &mut E,
         visitor: &mut V,
     ) -> Result<(), OutOfMemory>
-        requires workers { (1 ≤ workers) × (workers ≤ 16) }
+        requires workers { AreWorkers workers }
         requires rounds { self.old.rounds + rounds < 2 ^ 32 }
         requires sound { (es : List Event) × E.keeps keeper.old es ×
             MayGoOn E.may_keep rounds es self.old }

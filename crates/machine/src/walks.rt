@@ -4,8 +4,9 @@ ghost use denote.Param.Send.{IsSync};
 ghost use Rattle.round_schedule.specs.declared.event.Event.{Event};
 ghost use Rattle.hart_rounds.specs.Starts.{keeps_log};
 ghost use Rattle.machine.specs.RoundStarts.{AreOfNext, next_start_of, start_at};
-ghost use Rattle.machine.specs.Untraced.{AreAdded, AreLast, HasRun, MayGoOn, RanFor, next_events, untraced_round};
+ghost use Rattle.machine.specs.Untraced.{HasRun, MayGoOn, RanFor, next_events, untraced_round};
 ghost use Rattle.machine.specs.Walks.{HasDone, HasEnded, HasLearned, HasStopped, HasWalked, IsCutOff, IsUpToDate, MayWalk};
+ghost use Rattle.round_schedule.specs.Bounds.{AreWorkers};
 
 use crate::untraced::UntracedMachine;
 use crate::visiting::{Next, Visitor};
@@ -16,7 +17,6 @@ use pages::OutOfMemory;
 use std::marker::Brand;
 use std::sync::Wait;
 use std::thread::{self, Threads};
-use trace::Trace;
 
 /// What a part of a walk is to be.
 #[derive(Clone, Copy)]
@@ -53,7 +53,7 @@ impl UntracedMachine {
         workers: u32,
         visitor: &mut V,
     ) -> Result<u32, OutOfMemory>
-        requires workers { (1 ≤ workers) × (workers ≤ 16) }
+        requires workers { AreWorkers workers }
         requires rounds { self.old.rounds + rounds < 2 ^ 32 }
         requires known { V.knows visitor.old visitor.old self.old rounds 0 }
         ensures done { IfOk result (λ k. HasDone k self.old self.new) }
@@ -64,38 +64,6 @@ impl UntracedMachine {
             HasDone k self.old self.new) }
     {
         self.walk_keeping(rt, rounds, workers, &mut NoTrace, visitor)
-    }
-
-    /// Does what `walk` does, and adds the events of these rounds to a trace that holds the last events of the run. It may be
-    /// empty.
-    ///
-    /// # Errors
-    ///
-    /// Those of `walk`. The trace has the events of the rounds that are done.
-    pub fn walk_noting<V: Visitor, R: Threads + Wait + Sync>(
-        &mut self,
-        rt: &R,
-        rounds: u32,
-        workers: u32,
-        trace: &mut Trace,
-        visitor: &mut V,
-    ) -> Result<u32, OutOfMemory>
-        requires workers { (1 ≤ workers) × (workers ≤ 16) }
-        requires rounds { self.old.rounds + rounds < 2 ^ 32 }
-        requires last { AreLast self.old trace.old.events }
-        requires known { V.knows visitor.old visitor.old self.old rounds 0 }
-        ensures done { IfOk result (λ k. HasDone k self.old self.new) }
-        ensures most { IfOk result (λ k. k ≤ rounds) }
-        ensures events { IfOk result (λ k.
-            AreAdded k self.old trace.old.events trace.new.events) }
-        ensures known { IfOk result (λ k. V.knows visitor.old visitor.new self.old rounds k) }
-        ensures ended { IfOk result (λ k. (k ≡ rounds) ⊎ V.has_enough visitor.new self.new) }
-        ensures cut_off { OnErr result ((k : ℕ) × IsCutOff V.may_fail rounds k ×
-            HasDone k self.old self.new × AreAdded k self.old trace.old.events trace.new.events) }
-        ensures opening { trace.new.opening ≡ trace.old.opening }
-    {
-        self.check_to_go_on();
-        self.walk_keeping(rt, rounds, workers, trace, visitor)
     }
 
     /// Does what `walk` does, and hands the events of these rounds to a keeper, which may keep those of each of them.
@@ -111,7 +79,7 @@ impl UntracedMachine {
         keeper: &mut E,
         visitor: &mut V,
     ) -> Result<u32, OutOfMemory>
-        requires workers { (1 ≤ workers) × (workers ≤ 16) }
+        requires workers { AreWorkers workers }
         requires rounds { self.old.rounds + rounds < 2 ^ 32 }
         requires sound { (es : List Event) × E.keeps keeper.old es ×
             MayGoOn E.may_keep rounds es self.old }
@@ -156,7 +124,7 @@ impl UntracedMachine {
         keeper: &mut E,
         visitor: &mut V,
     ) -> Result<Walked, OutOfMemory>
-        requires workers { (1 ≤ workers) × (workers ≤ 16) }
+        requires workers { AreWorkers workers }
         requires starts { (n : ℕ) → S.starts n ≡ start_at E.logs self.old n }
         requires rounds { self.old.rounds + stretch.rounds < 2 ^ 32 }
         requires sound { MayWalk E.may_keep (E.keeps keeper.old) stretch.rounds self.old }

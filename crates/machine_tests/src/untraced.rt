@@ -9,6 +9,7 @@ use crate::long_rounds::TURNS;
 use crate::workers::SHARED_COUNTERS;
 use host_io::RunError;
 use machine::{Machine, Observer, Settings, Trace, UntracedMachine, prepare, prepare_untraced};
+use noted_runs::run_noting;
 use std::alloc::Global;
 use std::sync::Wait;
 use std::thread::Threads;
@@ -111,9 +112,9 @@ fn notes_both_rounds<R: Threads + Wait + Sync>(
 ) -> Result<bool, RunError>
     requires { AreLast machine.old trace.old.events }
 {
-    machine.run_noting(rt, 1, 1, trace)?;
+    run_noting(rt, machine, 1, 1, trace)?;
     let first = trace.len();
-    machine.run_noting(rt, 1, 1, trace)?;
+    run_noting(rt, machine, 1, 1, trace)?;
     Ok(first == 1 && trace.len() == 3 && has_ended(machine))
 }
 

@@ -7,6 +7,7 @@ use crate::recordings::recorded;
 use crate::stage::{Stage, events};
 use host_io::RunError;
 use pages::Range;
+use past_harts::PastHarts;
 use replayer::{Replay, count_at, state_at, state_before, watch};
 use std::alloc::Global;
 use std::sync::Wait;

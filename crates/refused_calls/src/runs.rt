@@ -5,9 +5,9 @@ use crate::ending::Ending;
 use crate::guest::{GUEST, SETTINGS};
 use crate::stage::Stage;
 use elf_loader::Image;
-use emulation::{Unvisited, trace_run};
+use emulation::{Observed, trace_run};
 use host_io::RunError;
-use machine::{Format, Machine, UntracedMachine, load, prepare};
+use machine::{Format, Machine, Unobserved, UntracedMachine, load, prepare};
 use round_planner::Plan;
 use std::alloc::Global;
 use std::sync::Wait;
@@ -24,7 +24,12 @@ pub(crate) fn try_prepare(alloc: Global) -> Ending {
 /// The trace of the guest's run.
 pub(crate) fn try_trace<R: Threads + Wait + Sync>(rt: &R, alloc: Global) -> Ending {
     tried(
-        || trace_run(rt, alloc, &GUEST, &[], &SETTINGS, &mut Unvisited),
+        || {
+            let mut nobody = Observed {
+                observer: &mut Unobserved,
+            };
+            trace_run(rt, alloc, &GUEST, &[], &SETTINGS, &mut nobody)
+        },
         |trace| Stage::Ended.has_events(trace),
     )
 }

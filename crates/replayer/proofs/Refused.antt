@@ -3,7 +3,8 @@ use Rattle.std.proofs.Common.{◌≡◌, ℕ, Result, Ok, Err, refl, inl, inr}
 use Rattle.host_io.specs.declared.error.RunError.{RunError}
 use Rattle.host_io.specs.declared.error.RunError.TheVariants.{OutOfMemory}
 use Rattle.recording.specs.Recorded.{Recorded}
-use Rattle.replayer.specs.Refusals.{AreWorkers, RefusedInOrder}
+use Rattle.round_schedule.specs.Bounds.{AreWorkers}
+use Rattle.replayer.specs.Refusals.{RefusedInOrder}
 
 -- where nothing was refused at first, memory may run out later
 pub out_of_memory : {X Y : Type 0} (n : ℕ) (r : Recorded) (x : X) (result : Result Y RunError) → RefusedInOrder {X = X} n r (Ok x) → AreWorkers n → result ≡ Err OutOfMemory → RefusedInOrder {X = Y} n r result

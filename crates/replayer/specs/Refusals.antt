@@ -8,14 +8,8 @@ use Rattle.host_io.specs.declared.error.RunError.{RunError}
 use Rattle.host_io.specs.declared.error.RunError.TheVariants as refusals
 use Rattle.run_settings.specs.Settings.{RefusedAs, StandsIn}
 use Rattle.recording.specs.Recorded.{Recorded}
+use Rattle.round_schedule.specs.Bounds.{AreNoWorkers, AreWorkers}
 use Rattle.replayer.specs.Replayed.{format_of}
-
--- 1 to 16 workers
-abbrev pub AreWorkers : ℕ → Type 0
-AreWorkers n = (1 ≤ n) × (n ≤ 16)
-
-abbrev pub AreNoWorkers : ℕ → Type 0
-AreNoWorkers n = (n < 1) ⊎ (16 < n)
 
 -- nothing speaks against its image
 abbrev pub HasImage : Recorded → Type 0

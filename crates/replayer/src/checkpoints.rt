@@ -6,7 +6,8 @@ ghost use Rattle.machine.specs.Untraced.{IsUntraced};
 ghost use Rattle.recording.specs.Grammar.{is_due};
 ghost use Rattle.replayer.specs.Checkpoints.{AreCheckpoints, IsOpened, checkpoints_of, checkpoint_machine};
 ghost use Rattle.event_pcs.specs.Pcs.{hart_at};
-ghost use Rattle.replayer.specs.Refusals.{AreNoWorkers, AreWorkers, RefusedInOrder};
+ghost use Rattle.round_schedule.specs.Bounds.{AreNoWorkers, AreWorkers};
+ghost use Rattle.replayer.specs.Refusals.{RefusedInOrder};
 ghost use Rattle.replayer.specs.Replayed.{IsPlanFor, IsVerdict};
 
 use crate::opened::opened;
@@ -176,7 +177,7 @@ fn run_keeping<R: Threads + Wait + Sync>(
     every: u32,
     workers: u32,
 ) -> Result<(Verdict, Vec<Machine>), RunError>
-    requires workers { (1 ≤ workers) × (workers ≤ 16) }
+    requires workers { AreWorkers workers }
     requires opened { machine.old.state.rounds ≡ 0 }
     ensures verdict { IfOk result (λ x. IsVerdict recording.now machine.old x.0) }
     ensures machines { IfOk result (λ x.

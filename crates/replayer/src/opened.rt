@@ -3,7 +3,8 @@ ghost use Rattle.round_planner.specs.Quotas.{Planned};
 ghost use Rattle.host_io.specs.declared.error.RunError.TheVariants as refusals;
 ghost use Rattle.run_settings.specs.Settings.{settings_fault};
 ghost use Rattle.machine.specs.Untraced.{IsUntraced};
-ghost use Rattle.replayer.specs.Refusals.{AreNoWorkers, AreWorkers, RefusedInOrder};
+ghost use Rattle.round_schedule.specs.Bounds.{AreNoWorkers, AreWorkers};
+ghost use Rattle.replayer.specs.Refusals.{RefusedInOrder};
 ghost use Rattle.replayer.specs.Replayed.{IsPlanFor, format_of, start_of};
 
 use host_io::RunError;

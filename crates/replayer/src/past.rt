@@ -10,11 +10,13 @@ ghost use Rattle.event_pcs.specs.Pcs.{hart_at};
 ghost use Rattle.replayer.specs.Past.{sight_at};
 ghost use Rattle.replayer.specs.Refusals.{RefusedInOrder};
 ghost use Rattle.replayer.specs.Replayed.{IsPlanFor, start_of};
+ghost use Rattle.round_schedule.specs.Bounds.{AreWorkers};
 
 use crate::opened::opened_untraced;
 use hart_step::Hart;
 use host_io::RunError;
 use machine::UntracedMachine;
+use past_harts::{hart_after, sight_after};
 use recording::Recording;
 use seeing::Sight;
 use std::alloc::Global;
@@ -90,7 +92,7 @@ fn sight_in_round<R: Threads + Wait + Sync>(
     count: u64,
     workers: u32,
 ) -> Result<Option<Sight>, RunError>
-    requires workers { (1 ≤ workers) × (workers ≤ 16) }
+    requires workers { AreWorkers workers }
     requires rounds { machine.rounds + before + 1 < 2 ^ 32 }
     requires run { (m : Running) × IsUntraced m machine }
     ensures sight { (m : Running) → IsUntraced m machine → IfOk result (λ s. s ≡ sight_after (words_of
@@ -98,7 +100,7 @@ fn sight_in_round<R: Threads + Wait + Sync>(
     ensures refused { IfErr result (λ e. e ≡ refusals.OutOfMemory) }
 {
     machine.run(rt, before, workers)?;
-    machine.sight_after(rt, hart, count, workers)
+    sight_after(rt, machine, hart, count, workers)
 }
 
 /// The hart alone.
@@ -110,7 +112,7 @@ pub(crate) fn hart_in_round<R: Threads + Wait + Sync>(
     count: u64,
     workers: u32,
 ) -> Result<Option<Hart>, RunError>
-    requires workers { (1 ≤ workers) × (workers ≤ 16) }
+    requires workers { AreWorkers workers }
     requires rounds { machine.rounds + before + 1 < 2 ^ 32 }
     requires run { (m : Running) × IsUntraced m machine }
     ensures hart { (m : Running) → IsUntraced m machine → IfOk result (λ h. h ≡ hart_after (words_of
@@ -118,5 +120,5 @@ pub(crate) fn hart_in_round<R: Threads + Wait + Sync>(
     ensures refused { IfErr result (λ e. e ≡ refusals.OutOfMemory) }
 {
     machine.run(rt, before, workers)?;
-    machine.hart_after(rt, hart, count, workers)
+    hart_after(rt, machine, hart, count, workers)
 }

@@ -7,6 +7,7 @@ ghost use Rattle.replayer.specs.Past.{Begins, IsRoundOf, IsStateBefore};
 ghost use Rattle.replayer.specs.Refusals.{RefusedInOrder};
 ghost use Rattle.replayer.specs.Replayed.{IsPlanFor, start_of};
 ghost use Rattle.replayer.specs.Visits.{HasSought, IsBehind};
+ghost use Rattle.round_schedule.specs.Bounds.{AreWorkers};
 
 use crate::counting::done_by;
 use crate::opened::opened_untraced;
@@ -68,7 +69,7 @@ fn seek<R: Threads + Wait + Sync>(
     place: u64,
     workers: u32,
 ) -> Result<Seeking, RunError>
-    requires workers { (1 ≤ workers) × (workers ≤ 16) }
+    requires workers { AreWorkers workers }
     requires opened { machine.old.rounds ≡ 0 }
     ensures round { (m : Running) → IsUntraced m machine.old → Begins m hart →
         IfOk result (λ s. IsRoundOf rounds m hart place s.found) }

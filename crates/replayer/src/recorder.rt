@@ -10,6 +10,7 @@ ghost use Rattle.recording.specs.Views.{checkpoint_view};
 ghost use Rattle.replayer.specs.Replayed.{number_of, recorded_of, recorded_with};
 ghost use Rattle.replayer.specs.Summaries.{checkpoints_of_rounds};
 ghost use Rattle.replayer.specs.Visits.{HasRecorded};
+ghost use Rattle.round_schedule.specs.Bounds.{AreWorkers};
 
 use crate::keeping::{keep, seen_of};
 use host_io::RunError;
@@ -109,7 +110,7 @@ fn keep_rounds<O: Observer, R: Threads + Wait + Sync>(
     workers: u32,
     observer: &mut O,
 ) -> Result<Vec<Checkpoint>, RunError>
-    requires workers { (1 ≤ workers) × (workers ≤ 16) }
+    requires workers { AreWorkers workers }
     requires opened { machine.old.rounds ≡ 0 }
     // The harts of a run have good stops.
     requires run { (m : Running) × IsUntraced m machine.old }

@@ -9,6 +9,7 @@ ghost use Rattle.replayer.specs.Replayed.{IsNextVerdict, IsPlanFor, IsVerdict, I
 ghost use Rattle.replayer.specs.Summaries.{checkpoint_in};
 ghost use Rattle.replayer.specs.Visits.{HasCompared};
 ghost use Rattle.replayer.specs.declared.verdict.Verdict.TheVariants.{Same};
+ghost use Rattle.round_schedule.specs.Bounds.{AreWorkers};
 
 use crate::keeping::{Seen, agrees, seen_of};
 use crate::opened::opened_untraced;
@@ -80,7 +81,7 @@ fn first_difference<O: Observer, R: Threads + Wait + Sync>(
     workers: u32,
     observer: &mut O,
 ) -> Result<Verdict, RunError>
-    requires workers { (1 ≤ workers) × (workers ≤ 16) }
+    requires workers { AreWorkers workers }
     requires opened { machine.old.rounds ≡ 0 }
     requires rounds { length checkpoints.now < 2 ^ 32 }
     ensures verdict { (m : Running) → IsUntraced m machine.old →

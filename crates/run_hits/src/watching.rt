@@ -4,6 +4,8 @@ ghost use Rattle.machine.specs.Machine.{Running, after_rounds, count_stopped};
 ghost use Rattle.machine.specs.Untraced.{IsUntraced};
 ghost use Rattle.machine.specs.Walks.{HasStopped};
 ghost use Rattle.run_hits.specs.Hits.{sought_in};
+ghost use Rattle.round_schedule.specs.Bounds.{AreWorkers};
+ghost use Rattle.run_hits.specs.Watched.{IsAtStart};
 
 use crate::sought::{Search, Sought};
 use crate::watcher::Watcher;
@@ -34,9 +36,8 @@ pub fn hits_of_run<O: Observer, R: Threads + Wait + Sync>(
     workers: u32,
     observer: &mut O,
 ) -> Result<Vec<Event>, RunError>
-    requires workers { (1 ≤ workers) × (workers ≤ 16) }
-    requires opened { machine.old.rounds ≡ 0 }
-    requires run { (m : Running) × IsUntraced m machine.old × (m.state.trace ≡ []) }
+    requires workers { AreWorkers workers }
+    requires start { IsAtStart machine.old }
     ensures hits { (m : Running) → IsUntraced m machine.old → m.state.trace ≡ [] →
         IfOk result (λ v. v.items ≡
         sought_in sought.entry.within sought.entry.ranges.now (after_rounds rounds m).state.trace) }
@@ -55,9 +56,8 @@ fn find<S: Search, O: Observer, R: Threads + Wait + Sync>(
     workers: u32,
     observer: &mut O,
 ) -> Result<Vec<Event>, OutOfMemory>
-    requires workers { (1 ≤ workers) × (workers ≤ 16) }
-    requires opened { machine.old.rounds ≡ 0 }
-    requires run { (m : Running) × IsUntraced m machine.old × (m.state.trace ≡ []) }
+    requires workers { AreWorkers workers }
+    requires start { IsAtStart machine.old }
     requires ranges { sought.ranges.now ≡ S.ranges }
     requires within { sought.within ≡ S.within }
     ensures { (m : Running) → IsUntraced m machine.old → m.state.trace ≡ [] →

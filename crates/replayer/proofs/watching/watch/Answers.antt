@@ -5,10 +5,10 @@ use Rattle.run_hits.specs.Hits.{hits}
 use Rattle.replayer.specs.Replayed.{start_of}
 use Rattle.replayer.proofs.watching.watch.Goals as goal
 
-pub hits_of_run-requires-clause-run : goal.hits_of_run-requires-clause-run
-hits_of_run-requires-clause-run g c = λ lifetimes within.
+pub hits_of_run-requires-clause-start : goal.hits_of_run-requires-clause-start
+hits_of_run-requires-clause-start g c = λ lifetimes within.
     let made = c.in_ok-machine.ensures.machine in
-    (start_of c.args.recording.now made.0, made.2, refl)
+    record { opened = made.2.rounds; run = (start_of c.args.recording.now made.0, made.2, refl) }
 
 pub returns-clause-hits : goal.returns-clause-hits
 returns-clause-hits g c =

@@ -5,7 +5,7 @@ use Rattle.run_hits.proofs.watching.find.Goals as goal
 
 pub walk_keeping-requires-clause-sound : goal.walk_keeping-requires-clause-sound
 walk_keeping-requires-clause-sound g c = λ lifetimes within.
-    ([], c.new-watcher.ensures, c.check_to_go_on.ensures c.args.rounds [] (omega (arith, c.requires.opened)) (c.requires.run.0, c.requires.run.1, ([], c.requires.run.2)))
+    ([], c.new-watcher.ensures, c.check_to_go_on.ensures c.args.rounds [] (omega (arith, c.requires.start.opened)) (c.requires.start.run.0, c.requires.start.run.1, ([], c.requires.start.run.2)))
 
 pub returns : goal.returns
 returns g c = λ m is none.

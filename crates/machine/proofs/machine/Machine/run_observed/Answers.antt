@@ -2,8 +2,10 @@ use Rattle.std.proofs.lemmas.Result.{IfOk-weaker}
 use Rattle.std.proofs.Common.{◌≡◌, ◌+◌, ◌-◌, ◌^◌, ◌≤◌, List, refl, ap, ◌∙◌, subst, arith}
 use Rattle.round_schedule.specs.declared.event.Event.{Event}
 use Rattle.trace.specs.Traced.{Traced}
+use Rattle.machine.specs.Answers.{AnswersRun}
 use Rattle.machine.specs.Machine.{Running, after_rounds}
 use Rattle.machine.specs.Untraced.{AreLast, Untraced, traced}
+use Rattle.machine.proofs.Answered.{answers_weaker}
 use Rattle.machine.proofs.TracedMachine.{all_last, traced_run}
 use Rattle.machine.proofs.machine.Machine.run_observed.Goals as goal
 
@@ -22,38 +24,12 @@ invariant_of-self g c =
     let some = c.run_keeping.ensures.some in
     (traced_run some.0 i.bare o.self i.trace o.keeper c.self.invariant some.1 c.run_keeping.ensures.opening).holds
 
-pub returns-clause-ok : goal.returns-clause-ok
-returns-clause-ok g c =
+pub returns : goal.returns
+returns g c =
     let i = c.self.inside in
     let o = c.run_keeping.new in
-    IfOk-weaker c.run_keeping.result _ _ (λ done x. (traced_run c.args.rounds i.bare o.self i.trace o.keeper c.self.invariant x c.run_keeping.ensures.opening).is ∙ ap (after_rounds c.args.rounds) c.self.view_is) c.run_keeping.ensures.ok
-
-pub returns-clause-enough : goal.returns-clause-enough
-returns-clause-enough g c = IfOk-weaker c.run_keeping.result _ _ (λ done x. omega (arith, x, ap (λ (m : Running). m.state.rounds) c.self.view_is)) c.run_keeping.ensures.enough
-
-pub returns-clause-counted : goal.returns-clause-counted
-returns-clause-counted g c = IfOk-weaker c.run_keeping.result _ _ (λ done x. x.rounds ∙ ap (λ (m : Running). m.state.rounds + c.args.rounds) c.self.view_is) c.run_keeping.ensures.ok
-
-pub returns-clause-fewer : goal.returns-clause-fewer
-returns-clause-fewer g c = λ e.
-    let i = c.self.inside in
-    let o = c.run_keeping.new in
-    let x = c.run_keeping.ensures.fewer e in
-    (x.0, x.1, (traced_run x.0 i.bare o.self i.trace o.keeper c.self.invariant x.2 c.run_keeping.ensures.opening).is ∙ ap (after_rounds x.0) c.self.view_is)
-
-pub returns-clause-exhausted : goal.returns-clause-exhausted
-returns-clause-exhausted g c = λ e.
-    let i = c.self.inside in
-    let o = c.run_keeping.new in
-    let x = c.run_keeping.ensures.exhausted e in
-    subst (λ (m : Running). (2 ^ 32 ≤ m.state.rounds + c.args.rounds) × (traced o.self o.keeper ≡ after_rounds (2 ^ 32 - 1 - m.state.rounds) m)) c.self.view_is
-    (x.0, (traced_run (2 ^ 32 - 1 - i.bare.rounds) i.bare o.self i.trace o.keeper c.self.invariant x.1 c.run_keeping.ensures.opening).is)
-
-pub returns-clause-workers : goal.returns-clause-workers
-returns-clause-workers g c = λ e.
-    let i = c.self.inside in
-    let x = c.run_keeping.ensures.workers e in
-    (x.0, ap (λ (u : Untraced). traced u c.run_keeping.new.keeper) x.1 ∙ ap (λ (t : Traced). traced i.bare t) x.2 ∙ c.self.view_is)
-
-pub returns-clause-refused : goal.returns-clause-refused
-returns-clause-refused g c = λ some most few. c.run_keeping.ensures.refused some most (omega (arith, few, ap (λ (m : Running). m.state.rounds) c.self.view_is))
+    subst (λ (m : Running). AnswersRun c.args.rounds c.args.workers m.state.rounds o.self.rounds (λ k. traced o.self o.keeper ≡ after_rounds k m) (traced o.self o.keeper ≡ m) c.run_keeping.result) c.self.view_is
+    (answers_weaker
+    (λ k x. (traced_run k i.bare o.self i.trace o.keeper c.self.invariant x c.run_keeping.ensures.opening).is)
+    (λ x. ap (λ (u : Untraced). traced u o.keeper) x.0 ∙ ap (λ (t : Traced). traced i.bare t) x.1)
+    c.run_keeping.ensures.answers)
