@@ -1,34 +1,21 @@
--- The rounds of a run in three stages: those before the first one that is drawn, those that are drawn, and the rest.
-use Rattle.std.proofs.Common.{◌≡◌, ℕ, ◌+◌, ◌≤◌, List, map, slice_index, sym, ap, ◌∙◌, subst, arith}
+-- The rounds of a run in three stages: those before the first one that is drawn, those that are drawn, and the rest; and what is drawn of them.
+use Rattle.std.proofs.Common.{◌≡◌, ℕ, ◌≤◌, List, map, slice_index, ap, ◌∙◌, arith}
 use mathlib.Core.Path.{fun_ext}
 use Rattle.round_schedule.specs.declared.event.Event.{Event}
 use Rattle.hart_step.specs.declared.hart.Hart.{Hart}
 use Rattle.machine.specs.Machine.{Running, after_rounds}
-use Rattle.machine.specs.Untraced.{IsUntraced, Untraced}
 use Rattle.run_settings.specs.declared.settings.Settings.{Settings}
-use Rattle.machine.proofs.Repeated.{more_rounds}
 use Rattle.picture.specs.declared.view.View.{View}
 use Rattle.picture.specs.Picture.{Drawn}
 use Rattle.picture.specs.Rows.{events_shown}
 use Rattle.picture.specs.Titles.{Told}
-use Rattle.drawing.specs.Drawn.{IsBeforeDrawn, before_drawn, drawn_by, last_drawn, told_of}
+use Rattle.drawing.specs.Drawn.{before_drawn, drawn_by, last_drawn, told_of}
 
 pub few_before : (rounds : ℕ) (v : View) → before_drawn rounds v ≤ last_drawn rounds v
 few_before rounds v = omega arith
 
 pub few_drawn : (rounds : ℕ) (v : View) → last_drawn rounds v ≤ rounds
 few_drawn rounds v = omega arith
-
--- after j rounds and k more
-pub then_more : (j k n : ℕ) (m x y : Running) → x ≡ after_rounds j m → y ≡ after_rounds k x → j + k ≡ n → y ≡ after_rounds n m
-then_more j k n m x y before after sum = after ∙ ap (after_rounds k) before ∙ more_rounds j k m ∙ ap (λ (i : ℕ). after_rounds i m) sum
-
--- the same machine without its trace is where the run's rounds before the first one drawn are done
-pub is_there : (s : Settings) (v : View) (m x : Running) (u : Untraced) → IsBeforeDrawn s v m x u → IsUntraced (after_rounds u.rounds m) u
-is_there s v m x u b =
-    let e : u.rounds ≡ before_drawn s.rounds v = b.untraced.rounds ∙ b.rounds in
-    let i : IsUntraced (after_rounds (before_drawn s.rounds v) m) u = subst (λ (y : Running). IsUntraced y u) b.there b.untraced in
-    subst (λ (k : ℕ). IsUntraced (after_rounds k m) u) (sym e) i
 
 abbrev pub drawn : List Event → (ℕ → ℕ) → List Hart → List Hart → List Told → Drawn
 drawn t opening starts ends told = record { trace = t; opening = opening; starts = starts; ends = ends; told = told }
@@ -43,12 +30,3 @@ same_drawn s file m v t t' opening starts ends ts trace opens begins ended tells
     ∙ ap (λ (hs : List Hart). drawn t (slice_index m.opening) hs ends (map (told_of s file m) (events_shown v t))) begins
     ∙ ap (λ (hs : List Hart). drawn t (slice_index m.opening) (after_rounds (before_drawn s.rounds v) m).state.harts hs (map (told_of s file m) (events_shown v t))) ended
     ∙ ap (drawn_by s file m v) trace
-
--- a run's machine after its first k rounds
-pub begins : (s : Settings) (v : View) (m x : Running) (u : Untraced) (k : ℕ) → m.state.rounds ≡ 0 → x.state.rounds ≡ m.state.rounds + k → k ≡ before_drawn s.rounds v → x ≡ after_rounds k m →
-    IsUntraced x u → IsBeforeDrawn s v m x u
-begins s v m x u k opened counted first is i = record {
-  rounds = omega (arith, opened, counted, first);
-  there = is ∙ ap (λ (n : ℕ). after_rounds n m) first;
-  untraced = i;
-}

@@ -11,8 +11,7 @@ use Rattle.picture.specs.declared.view.View.{View}
 use Rattle.trace_events.specs.TraceEvents.{trace_events_text}
 use Rattle.machine.specs.Machine.{Running, after_rounds, opening}
 use Rattle.machine.specs.Runs.{after_run}
-use Rattle.run_settings.specs.Settings.{image_for}
-use Rattle.machine.specs.Untraced.{IsUntraced, Untraced}
+use Rattle.run_settings.specs.Settings.{IsPlan, image_for}
 use Rattle.run_settings.specs.declared.settings.Format.{Format}
 use Rattle.run_settings.specs.declared.settings.Format.TheVariants.{Elf, Flat}
 use Rattle.run_settings.specs.declared.settings.Settings.{Settings}
@@ -53,15 +52,15 @@ drawn_by s file m v t = record {
 abbrev pub picture_of : Settings → List ℕ → Running → View → List ℕ
 picture_of s file m v = picture_text (drawn_by s file m v (after_rounds s.rounds m).state.trace) v
 
--- the machine of that run, and the same without its trace, before the first round that is drawn
-pub record IsBeforeDrawn (s : Settings) (v : View) (m x : Running) (u : Untraced) : Type 0 where
-  pub rounds : x.state.rounds ≡ before_drawn s.rounds v
-  pub there : x ≡ after_rounds (before_drawn s.rounds v) m
-  pub untraced : IsUntraced x u
-
 -- that of the run of a guest program
 abbrev pub picture_after : Settings → List ℕ → List ℕ → Planned → View → List ℕ
 picture_after s file input plan v = picture_of s file (opening (image_for s file) input plan) v
+
+-- the text is the picture of the run that the settings name
+pub record IsPictureOfRun (s : Settings) (file input : List ℕ) (v : View) (text : List ℕ) : Type 0 where
+  pub plan : Planned
+  pub planned : IsPlan s plan
+  pub is_text : text ≡ picture_after s file input plan v
 
 -- ---- the trace of a run on so many harts, as JSON in the format of Chrome's trace events
 
@@ -70,3 +69,9 @@ trace_events_of s r = trace_events_text s.harts r.state.trace
 
 abbrev pub trace_events_after : Settings → List ℕ → List ℕ → Planned → List ℕ
 trace_events_after s file input plan = trace_events_of s (after_run s file input plan)
+
+-- the text is that of the trace of the run that the settings name
+pub record IsTraceOfRun (s : Settings) (file input text : List ℕ) : Type 0 where
+  pub plan : Planned
+  pub planned : IsPlan s plan
+  pub is_text : text ≡ trace_events_after s file input plan

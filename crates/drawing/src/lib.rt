@@ -2,6 +2,7 @@
 #![tactic(auto)]
 
 mod drawing;
+mod drawn_rounds;
 mod sites;
 mod tracing;
 

@@ -9,6 +9,7 @@ ghost use Rattle.elf_symbols.specs.Offsets.{as_offset};
 ghost use Rattle.picture.specs.Rows.{events_shown};
 ghost use Rattle.picture.specs.Titles.{told};
 ghost use Rattle.drawing.specs.Drawn.{object_touched, told_by, told_of};
+ghost use Rattle.round_schedule.specs.Bounds.{AreWorkers};
 
 use elf_symbols::{SymbolOffset, find_object_offset};
 use host_io::RunError;
@@ -75,7 +76,7 @@ pub(crate) fn sites_of<'a, R: Threads + Wait + Sync>(
     settings: &Settings<'_>,
     view: &View<'_>,
 ) -> Result<Vec<Site<'a>>, RunError>
-    requires workers { (1 ≤ settings.now.workers) × (settings.now.workers ≤ 16) }
+    requires workers { AreWorkers settings.now.workers }
     requires run { (m : Running) × IsUntraced (after_rounds start.old.rounds m) start.old }
     requires before { start.old.rounds ≤ view.now.from - 1 }
     ensures sites { (m : Running) → IsUntraced (after_rounds start.old.rounds m) start.old →

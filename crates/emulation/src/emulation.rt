@@ -3,10 +3,10 @@ ghost use Rattle.run_settings.specs.Settings.{IsReason, RefusedInOrder, settings
 ghost use Rattle.emulation.specs.Reports.{IsReportAlone};
 ghost use Rattle.text_writes.specs.Writes.{IsFaultOr, WritesAnswer};
 
+use crate::observed::Observed;
 use crate::showing::report_run;
-use crate::unvisited::Unvisited;
 use host_io::{RunError, Sink};
-use machine::{GuestFiles, Settings};
+use machine::{GuestFiles, Settings, Unobserved};
 use std::alloc::Global;
 use std::sync::Wait;
 use std::thread::Threads;
@@ -34,6 +34,9 @@ pub fn emulate<S: Sink, R: Threads + Wait + Sync>(
     ensures in_order { RefusedInOrder settings.now image.now result }
 {
     let files = GuestFiles { image, input };
-    report_run(rt, alloc, &files, settings, &mut Unvisited, out)?;
+    let mut nobody = Observed {
+        observer: &mut Unobserved,
+    };
+    report_run(rt, alloc, &files, settings, &mut nobody, out)?;
     Ok(())
 }

@@ -8,7 +8,6 @@ mod reporting;
 mod run_end;
 mod showing;
 mod tracing;
-mod unvisited;
 
 pub use emulation::emulate;
 pub use observed::Observed;
@@ -17,4 +16,3 @@ pub use reporting::{Report, report_on};
 pub use run_end::RunEnd;
 pub use showing::{ShownState, report_run, show_run};
 pub use tracing::trace_run;
-pub use unvisited::Unvisited;

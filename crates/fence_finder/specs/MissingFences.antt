@@ -2,6 +2,8 @@
 use Rattle.std.specs.Prelude.{◌≡◌, ℕ, ◌<◌, true, List, All, length, get_or, map, Some}
 use Rattle.std.specs.List.{list_all}
 use Rattle.elf_loader.specs.Image.{Loaded}
+use Rattle.fence_finder.specs.declared.finding.FoundFences.{FoundFences}
+use Rattle.fence_table.specs.Text.{fences_text}
 use Rattle.fence_table.specs.declared.failure.Failure.{Failure}
 use Rattle.fence_table.specs.declared.failure.Failure.TheVariants.{Stopped, Otherwise, Stuck}
 use Rattle.fence_table.specs.declared.fence_table.FenceTable.{FenceTable}
@@ -69,3 +71,8 @@ pub record IsSearched (s : HuntSettings) (file input : List ℕ) (t : FenceTable
   pub count : t.count ≡ s.header.count
   pub ranges : t.ranges.items ≡ s.header.ranges.items
   pub shown : ShowsOf s file input t.missing.items
+
+-- what was found has such a table, and this is its text
+pub record IsSearchText (s : HuntSettings) (file input : List ℕ) (found : FoundFences) (text : List ℕ) : Type 0 where
+  pub table : IsSearched s file input found.table
+  pub is_text : text ≡ fences_text found.table

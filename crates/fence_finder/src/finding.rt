@@ -1,15 +1,13 @@
-ghost use Rattle.std.specs.Prelude.{◌≡◌, ◌⊎◌, ◌<◌, ◌≤◌, ◌++◌, Err, IfErr, IfOk, List, ℕ, None, OnErr, Some, false, length};
+ghost use Rattle.std.specs.Prelude.{◌≡◌, ◌⊎◌, ◌≤◌, Err, IfErr, IfOk, List, ℕ, None, Some, false, length, option_map};
 ghost use Rattle.elf_loader.specs.Image.{Loaded};
-ghost use Rattle.fence_finder.specs.MissingFences.{AreShown, IsSearched, ShowsOf};
-ghost use Rattle.fence_table.specs.Text.{fences_text};
-ghost use Rattle.fence_table.specs.declared.fence_table.FenceTable.{FenceTable as ShownTable};
-ghost use Rattle.host_io.specs.Taken.{BeganText};
+ghost use Rattle.fence_finder.specs.MissingFences.{AreShown, IsSearchText, IsSearched, ShowsOf};
 ghost use Rattle.host_io.specs.declared.load_error.LoadError.{LoadError as ImageCause};
 ghost use Rattle.host_io.specs.declared.error.RunError.TheVariants as refusals;
 ghost use Rattle.hunter.specs.Hunts.{IsHunt, IsImageCause, has_bad_range, hunt_fault};
 ghost use Rattle.hunter.specs.declared.error.HuntError.{HuntError as Refusal};
 ghost use Rattle.hunter.specs.declared.settings.HuntSettings.{HuntSettings as AskedFor};
 ghost use Rattle.hunter.specs.declared.error.HuntError.TheVariants as hunting;
+ghost use Rattle.text_writes.specs.Writes.{IsFaultOr, WritesAnswer};
 ghost use Rattle.weak_hunter.specs.WeakHunts.{IsWeakReason};
 ghost use Rattle.weak_hunter.specs.declared.error.WeakHuntError.TheVariants.{Hunt};
 
@@ -56,22 +54,15 @@ pub fn find_fences<S: Sink, O: FenceObserver, R: Threads + Wait + Sync>(
     observer: &mut O,
     out: &mut S,
 ) -> Result<FoundFences, WeakHuntError>
-    // RVWMO allows each execution that the table shows, and the sink took its text.
-    ensures finds { IfOk result (λ f. IsSearched settings.hunt image.now input.now f.table ×
-        (S.took out.new ≡ S.took out.old ++ fences_text f.table)) }
-    // Else it took nothing, or a beginning of such a table.
-    ensures begun { OnErr result ((S.took out.new ≡ S.took out.old) ⊎
-        ((t : ShownTable) × IsSearched settings.hunt image.now input.now t ×
-        BeganText (S.took out.old) (S.took out.new) (fences_text t))) }
-    // Where anything else than the sink refuses, it took nothing.
-    ensures untouched { IfErr result (λ e. (e ≡ Hunt (hunting.Run refusals.SinkFailed)) ⊎
-        (S.took out.new ≡ S.took out.old)) }
+    // RVWMO allows each execution that the table shows, and the sink takes its text.
+    ensures writes { WritesAnswer S.took S.failures (IsSearchText settings.hunt image.now input.now)
+        (IsFaultOr (option_map Hunt (hunt_fault settings.hunt)) (IsWeakReason settings.hunt image.now))
+        (Hunt (hunting.Run refusals.OutOfMemory)) (Hunt (hunting.Run refusals.SinkFailed)) out.old out.new result }
+    // Where memory is refused, it took nothing.
+    ensures memory { result ≡ Err (Hunt (hunting.Run refusals.OutOfMemory)) →
+        S.took out.new ≡ S.took out.old }
     // Settings out of range are refused first, and then an image.
     ensures settings { (e : Refusal) → hunt_fault settings.hunt ≡ Some e → result ≡ Err (Hunt e) }
-    // What is refused then is for a reason that stands, or since an execution isn't confirmed.
-    ensures errors { hunt_fault settings.hunt ≡ None →
-        IfErr result (λ e. IsWeakReason settings.hunt image.now e ⊎
-        ((e ≡ Hunt (hunting.Run refusals.SinkFailed)) × (S.failures out.old < S.failures out.new))) }
     ensures image { (cause : ImageCause) → hunt_fault settings.hunt ≡ None →
         IsImageCause settings.hunt image.now cause →
         (result ≡ Err (Hunt (hunting.Run (refusals.Image cause)))) ⊎

@@ -2,8 +2,8 @@
 
 use crate::devices::{Stride, writes};
 use crate::harness::settings;
-use emulation::{ShownState, Unvisited, show_run};
-use machine::{GuestFiles, Settings};
+use emulation::{Observed, ShownState, show_run};
+use machine::{GuestFiles, Settings, Unobserved};
 use std::alloc::Global;
 use std::sync::Wait;
 use std::thread::Threads;
@@ -31,7 +31,10 @@ fn shows<R: Threads + Wait + Sync>(rt: &R, alloc: Global, shown: ShownState, tex
         text,
         &[Stride::One, Stride::All],
         &|tray| {
-            match show_run(rt, alloc, &guest, &asked, shown, &mut Unvisited, tray) {
+            let mut nobody = Observed {
+                observer: &mut Unobserved,
+            };
+            match show_run(rt, alloc, &guest, &asked, shown, &mut nobody, tray) {
                 Ok(_) => Ok(()),
                 Err(error) => Err(error),
             }

@@ -4,7 +4,7 @@ use Rattle.std.specs.Global.{Vec}
 use Rattle.plan_hunt.specs.Endings.{Ended}
 use Rattle.plan_hunt.specs.Tables.{IsTable}
 use Rattle.plan_hunt.specs.declared.row.Row.{Row}
-use Rattle.hunt_table.specs.Text.{IsTextOf}
+use Rattle.hunt_table.specs.Text.{IsTextOf, table_text}
 use Rattle.hunt_table.specs.Told.{IsTold}
 use Rattle.hunt_table.specs.declared.header.Header.{Header}
 use Rattle.hunt_table.specs.declared.seen_range.SeenRange.{SeenRange}
@@ -77,6 +77,12 @@ pub record IsMerged (t : Table) (ts : List Table) (w : Table) : Type 0 where
 -- the texts are those of tables that are merged to this one
 abbrev pub AreMerged : List (Vec ℕ) → Table → Type 0
 AreMerged texts w = (t : Table) × (ts : List Table) × AreTexts texts (t ∷ ts) × IsMerged t ts w
+
+-- the text is that of the table that the tables of these texts are merged to
+pub record IsMergedText (texts : List (Vec ℕ)) (text : List ℕ) : Type 0 where
+  pub table : Table
+  pub merged : AreMerged texts table
+  pub is_text : text ≡ table_text table.header table.rows.items
 
 -- a table has the plans that follow those of a merged one, in the same hunt of so many harts
 pub record Adjoins (harts : ℕ) (w t : Table) : Type 0 where

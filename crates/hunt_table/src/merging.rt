@@ -1,12 +1,10 @@
 mod appending;
 
-ghost use Rattle.std.specs.Prelude.{◌≡◌, ◌⊎◌, ◌<◌, ◌++◌, Err, IfErr, IfOk, OnErr, OnOk};
-ghost use Rattle.host_io.specs.Taken.{BeganText};
+ghost use Rattle.std.specs.Prelude.{◌≡◌, ◌⊎◌, Err, IfErr, IfOk};
 ghost use Rattle.host_io.specs.declared.error.RunError.TheVariants as refusals;
-ghost use Rattle.hunt_table.specs.Text.{table_text};
-ghost use Rattle.hunt_table.specs.declared.table.Table.{Table as TableOf};
-ghost use Rattle.hunt_table.specs.Merging.{AreApart, AreMerged, IsFirstNoTable};
+ghost use Rattle.hunt_table.specs.Merging.{AreApart, AreMerged, IsFirstNoTable, IsMergedText};
 ghost use Rattle.hunt_table.specs.declared.merge_error.MergeError.TheVariants.{Apart, NotATable, Run};
+ghost use Rattle.text_writes.specs.Writes.{WritesAnswer};
 
 use crate::merge_error::MergeError;
 use crate::merging::appending::{append, are_few, harts_of};
@@ -46,22 +44,15 @@ fn merged(alloc: Global, texts: &[Vec<u8>]) -> Result<Table, MergeError>
 /// Of the texts in their order, the first that is not a table, `NotATable`, or does not adjoin those before it, `Apart`;
 /// `OutOfMemory`; `SinkFailed`. Only where the sink failed is anything out: a beginning of the table.
 pub fn merge<S: Sink>(alloc: Global, texts: &[Vec<u8>], out: &mut S) -> Result<(), MergeError>
-    // The sink took the table that the tables are merged to.
-    ensures merged { OnOk result ((w : TableOf) × AreMerged texts.now w ×
-        (S.took out.new ≡ S.took out.old ++ table_text w.header w.rows.items)) }
-    // Else it took nothing, or a beginning of that table.
-    ensures begun { OnErr result ((S.took out.new ≡ S.took out.old) ⊎
-        ((w : TableOf) × AreMerged texts.now w ×
-        BeganText (S.took out.old) (S.took out.new) (table_text w.header w.rows.items))) }
-    // Where anything else than the sink refuses, it took nothing.
-    ensures untouched { IfErr result (λ e. (e ≡ Run refusals.SinkFailed) ⊎
-        (S.took out.new ≡ S.took out.old)) }
+    // The sink takes the table that the tables are merged to.
+    ensures writes { WritesAnswer S.took S.failures (λ _. IsMergedText texts.now)
+        (λ e. (e ≡ NotATable) ⊎ (e ≡ Apart) ⊎ (e ≡ Run refusals.OutOfMemory))
+        (Run refusals.OutOfMemory) (Run refusals.SinkFailed) out.old out.new result }
+    // Where memory is refused, it took nothing.
+    ensures memory { result ≡ Err (Run refusals.OutOfMemory) → S.took out.new ≡ S.took out.old }
     // Of the texts in their order, the first is refused that is no table's, or not that of the slice which follows.
     ensures not_a_table { result ≡ Err NotATable → IsFirstNoTable texts.now }
     ensures apart { result ≡ Err Apart → AreApart texts.now }
-    ensures errors { IfErr result (λ e. (e ≡ NotATable) ⊎ (e ≡ Apart) ⊎
-        (e ≡ Run refusals.OutOfMemory) ⊎
-        ((e ≡ Run refusals.SinkFailed) × (S.failures out.old < S.failures out.new))) }
 {
     let table = merged(alloc, texts)?;
     write_table(alloc, &table.header, &table.rows, out)?;

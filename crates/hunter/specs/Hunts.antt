@@ -1,5 +1,8 @@
 -- What a hunt is asked for, and what its runs end in.
 use Rattle.std.specs.Prelude.{◌≡◌, ◌⊎◌, ℕ, ◌+◌, ◌*◌, ◌-◌, ◌^◌, ◌<◌, ◌≤◌, ◌==◌, ◌&&◌, ◌||◌, length, nat_lt, if◌then◌else◌, Bool, true, false, List, [], ◌∷◌, ◌++◌, map, take, drop, Option, Some, None}
+use Rattle.pages.specs.declared.pages.TheConstants.{MOST_PAGES}
+use Rattle.round_schedule.specs.declared.bounds.TheConstants.{MOST_HARTS, MOST_WORKERS}
+use Rattle.std.specs.Global.{Vec}
 use Rattle.std.specs.List.{list_all, list_any}
 use Rattle.elf_loader.specs.Causes.{IsLeast as IsLeastOfImage}
 use Rattle.elf_loader.specs.Image.{Loaded}
@@ -18,6 +21,7 @@ use Rattle.plan_hunt.specs.declared.hart_ending.HartEnding.{HartEnding}
 use Rattle.plan_hunt.specs.declared.hart_ending.HartEnding.TheVariants.{Loops, Runs, Stopped}
 use Rattle.plan_hunt.specs.Tables.{IsTable}
 use Rattle.plan_hunt.specs.declared.row.Row.{Row}
+use Rattle.hunt_table.specs.Text.{table_text}
 use Rattle.hunt_table.specs.declared.seen_range.SeenRange.{SeenRange}
 use Rattle.hunter.specs.declared.error.HuntError.{HuntError}
 use Rattle.hunter.specs.declared.error.HuntError.TheVariants.{Run, PlansOutOfRange, SeenOutside}
@@ -28,20 +32,20 @@ use Rattle.hunter.specs.declared.settings.HuntSettings.{HuntSettings}
 -- 1 to 64 harts, 1 to 16,384 pages, and 1 to 16 workers
 pub record IsGuest (s : HuntSettings) : Type 0 where
   pub some_harts : 1 ≤ s.harts
-  pub few_harts : s.harts ≤ 64
+  pub few_harts : s.harts ≤ MOST_HARTS
   pub some_pages : 1 ≤ s.pages
-  pub few_pages : s.pages ≤ 16384
+  pub few_pages : s.pages ≤ MOST_PAGES
   pub some_workers : 1 ≤ s.workers
-  pub few_workers : s.workers ≤ 16
+  pub few_workers : s.workers ≤ MOST_WORKERS
 
 -- the same, and 1 or more plans
 pub record IsHunt (s : HuntSettings) : Type 0 where
   pub some_harts : 1 ≤ s.harts
-  pub few_harts : s.harts ≤ 64
+  pub few_harts : s.harts ≤ MOST_HARTS
   pub some_pages : 1 ≤ s.pages
-  pub few_pages : s.pages ≤ 16384
+  pub few_pages : s.pages ≤ MOST_PAGES
   pub some_workers : 1 ≤ s.workers
-  pub few_workers : s.workers ≤ 16
+  pub few_workers : s.workers ≤ MOST_WORKERS
   pub some_plans : 1 ≤ s.header.count
   pub few_plans : s.header.first + s.header.count < 2 ^ 32
 
@@ -56,18 +60,18 @@ has_bad_range s = list_any (is_bad_range s.pages) s.header.ranges.items
 -- the refusal of what is out of range; of several, the one of the least number
 abbrev pub hunt_fault : HuntSettings → Option HuntError
 hunt_fault s =
-    if nat_lt s.harts 1 || nat_lt 64 s.harts then Some (Run refusals.HartsOutOfRange)
-    else (if nat_lt s.pages 1 || nat_lt 16384 s.pages then Some (Run refusals.PagesOutOfRange)
-    else (if nat_lt s.workers 1 || nat_lt 16 s.workers then Some (Run refusals.WorkersOutOfRange)
+    if nat_lt s.harts 1 || nat_lt MOST_HARTS s.harts then Some (Run refusals.HartsOutOfRange)
+    else (if nat_lt s.pages 1 || nat_lt MOST_PAGES s.pages then Some (Run refusals.PagesOutOfRange)
+    else (if nat_lt s.workers 1 || nat_lt MOST_WORKERS s.workers then Some (Run refusals.WorkersOutOfRange)
     else (if nat_lt s.header.count 1 || nat_lt (2 ^ 32 - 1 - s.header.first) s.header.count then Some PlansOutOfRange
     else None)))
 
 -- the same where the plans are not looked at
 abbrev pub shrink_fault : HuntSettings → Option HuntError
 shrink_fault s =
-    if nat_lt s.harts 1 || nat_lt 64 s.harts then Some (Run refusals.HartsOutOfRange)
-    else (if nat_lt s.pages 1 || nat_lt 16384 s.pages then Some (Run refusals.PagesOutOfRange)
-    else (if nat_lt s.workers 1 || nat_lt 16 s.workers then Some (Run refusals.WorkersOutOfRange)
+    if nat_lt s.harts 1 || nat_lt MOST_HARTS s.harts then Some (Run refusals.HartsOutOfRange)
+    else (if nat_lt s.pages 1 || nat_lt MOST_PAGES s.pages then Some (Run refusals.PagesOutOfRange)
+    else (if nat_lt s.workers 1 || nat_lt MOST_WORKERS s.workers then Some (Run refusals.WorkersOutOfRange)
     else None))
 
 -- ---- endings
@@ -116,6 +120,11 @@ ends_after s file input n = ends_under s file input (family_plan (family_of s) n
 -- the rows are the table of the hunt
 abbrev pub IsHunted : HuntSettings → List ℕ → List ℕ → List Row → Type 0
 IsHunted s file input rows = IsTable (ends_after s file input) s.header.first s.header.count rows
+
+-- the rows are that table, and this is its text
+pub record IsHuntText (s : HuntSettings) (file input : List ℕ) (rows : Vec Row) (text : List ℕ) : Type 0 where
+  pub table : IsHunted s file input rows.items
+  pub is_text : text ≡ table_text s.header rows.items
 
 abbrev pub has_exited : HartEnding → Bool
 has_exited Runs = false

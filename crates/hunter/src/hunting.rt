@@ -1,11 +1,9 @@
-ghost use Rattle.std.specs.Prelude.{◌≡◌, ◌⊎◌, ◌<◌, ◌++◌, Err, IfErr, IfOk, None, OnErr, Some, List, false};
+ghost use Rattle.std.specs.Prelude.{◌≡◌, ◌⊎◌, Err, IfErr, IfOk, None, Some, false};
 ghost use Rattle.std.specs.List.{list_all};
 ghost use Rattle.host_io.specs.declared.load_error.LoadError.{LoadError as ImageCause};
-ghost use Rattle.host_io.specs.Taken.{BeganText};
 ghost use Rattle.host_io.specs.declared.error.RunError.TheVariants as refusals;
-ghost use Rattle.hunt_table.specs.Text.{table_text};
-ghost use Rattle.plan_hunt.specs.declared.row.Row.{Row as TableRow};
-ghost use Rattle.hunter.specs.Hunts.{IsHuntReason, IsHunted, IsImageCause, all_end_well, has_bad_range, has_exited, hunt_fault, is_one_exit};
+ghost use Rattle.text_writes.specs.Writes.{IsFaultOr, WritesAnswer};
+ghost use Rattle.hunter.specs.Hunts.{IsHuntReason, IsHuntText, IsHunted, IsImageCause, all_end_well, has_bad_range, has_exited, hunt_fault, is_one_exit};
 ghost use Rattle.hunter.specs.declared.error.HuntError.{HuntError as Refusal};
 ghost use Rattle.hunter.specs.declared.error.HuntError.TheVariants.{Run};
 
@@ -120,22 +118,14 @@ pub fn hunt<S: Sink, O: HuntObserver, R: Threads + Wait + Sync>(
 ) -> Result<Vec<Row>, HuntError>
     // The text says of no ending that it was checked.
     requires { settings.now.header.is_weak ≡ false }
-    // The rows are the table of the runs that the definitions name, and the sink took its text.
-    ensures hunts { IfOk result (λ rows. IsHunted settings.now image.now input.now rows.items ×
-        (S.took out.new ≡ S.took out.old ++ table_text settings.now.header rows.items)) }
-    // Else it took nothing, or a beginning of that table.
-    ensures begun { OnErr result ((S.took out.new ≡ S.took out.old) ⊎
-        ((rows : List TableRow) × IsHunted settings.now image.now input.now rows ×
-        BeganText (S.took out.old) (S.took out.new) (table_text settings.now.header rows))) }
-    // Where anything else than the sink refuses, it took nothing.
-    ensures untouched { IfErr result (λ e. (e ≡ Run refusals.SinkFailed) ⊎
-        (S.took out.new ≡ S.took out.old)) }
+    // The rows are the table of the runs that the definitions name, and the sink takes its text.
+    ensures writes { WritesAnswer S.took S.failures (IsHuntText settings.now image.now input.now)
+        (IsFaultOr (hunt_fault settings.now) (IsHuntReason settings.now image.now))
+        (Run refusals.OutOfMemory) (Run refusals.SinkFailed) out.old out.new result }
+    // Where memory is refused, it took nothing.
+    ensures memory { result ≡ Err (Run refusals.OutOfMemory) → S.took out.new ≡ S.took out.old }
     // Settings out of range are refused first, and then an image.
     ensures settings { (e : Refusal) → hunt_fault settings.now ≡ Some e → result ≡ Err e }
-    // What is refused then is for a reason that stands.
-    ensures errors { hunt_fault settings.now ≡ None →
-        IfErr result (λ e. IsHuntReason settings.now image.now e ⊎
-        ((e ≡ Run refusals.SinkFailed) × (S.failures out.old < S.failures out.new))) }
     ensures image { (cause : ImageCause) → hunt_fault settings.now ≡ None →
         IsImageCause settings.now image.now cause →
         (result ≡ Err (Run (refusals.Image cause))) ⊎ (result ≡ Err (Run refusals.OutOfMemory)) }

@@ -9,6 +9,7 @@ use crate::failure::DrawFailure;
 use crate::ranges::access_ranges;
 use command_line::Draw;
 use drawing::{View, draw_run};
+use emulation::Observed;
 use machine::{Observer, prepare};
 use named_bytes::{NamedBytes, NamingFault, named_bytes};
 use pages::Range;
@@ -72,13 +73,14 @@ fn draw_ranges<O: Output, P: Observer + ProgressLine, R: Threads + Wait + Sync>(
         given.now.plan.budget given.now.program.image.items) }
 {
     let settings = settings_of(&asked.run.program, &given.plan);
+    let mut observed = Observed { observer: progress };
     let answer = draw_run(
         threads,
         alloc,
         &guest_files(&given.program),
         &settings,
         &view_of(asked, ranges),
-        progress,
+        &mut observed,
         out,
     );
     progress.end();

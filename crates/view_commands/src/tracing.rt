@@ -6,6 +6,7 @@ ghost use Rattle.program_world.specs.declared.exit_status.ExitStatus.TheVariants
 
 use command_line::Run;
 use drawing::trace_run;
+use emulation::Observed;
 use machine::Observer;
 use program_files::{RunFailure, RunFiles, guest_files, read_run, settings_of};
 use program_world::{ExitStatus, Files, Output, ProgressLine};
@@ -62,12 +63,13 @@ fn trace_given<O: Output, P: Observer + ProgressLine, R: Threads + Wait + Sync>(
         given.now.program.image.items) }
 {
     let settings = settings_of(&run.program, &given.plan);
+    let mut observed = Observed { observer: progress };
     let answer = trace_run(
         threads,
         alloc,
         &guest_files(&given.program),
         &settings,
-        progress,
+        &mut observed,
         out,
     );
     progress.end();

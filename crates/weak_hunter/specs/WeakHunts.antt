@@ -1,9 +1,11 @@
 -- The endings of a guest's executions, of which RVWMO allows each.
-use Rattle.std.specs.Prelude.{◌≡◌, ◌⊎◌, ℕ, List, All, map, Option, Some, None}
+use Rattle.std.specs.Prelude.{◌≡◌, ℕ, List, All, map}
+use Rattle.std.specs.Global.{Vec}
 use Rattle.elf_loader.specs.Image.{Loaded}
 use Rattle.hart_step.specs.declared.hart.Hart.{Hart}
 use Rattle.guest_rounds.specs.Opening.{opening_harts}
 use Rattle.run_settings.specs.Settings.{image_of}
+use Rattle.hunt_table.specs.Text.{table_text}
 use Rattle.hunter.specs.Hunts.{IsHuntReason, ending_of_stop}
 use Rattle.hunter.specs.declared.settings.HuntSettings.{HuntSettings}
 use Rattle.plan_hunt.specs.Endings.{Ended}
@@ -34,6 +36,11 @@ abbrev pub IsWeaklyHunted : HuntSettings → List ℕ → List ℕ → List Row 
 IsWeaklyHunted s file input rows =
     let image = image_of s.format file s.pages in
     IsTabled image input (opening_harts image.entry s.harts 0 s.harts) s.header.first s.header.count rows
+
+-- the rows are that table, and this is its text
+pub record IsWeakHuntText (s : HuntSettings) (file input : List ℕ) (rows : Vec Row) (text : List ℕ) : Type 0 where
+  pub table : IsWeaklyHunted s file input rows.items
+  pub is_text : text ≡ table_text s.header rows.items
 
 -- a reason that stands to refuse the hunt, or an execution that isn't confirmed
 abbrev pub IsWeakReason : HuntSettings → List ℕ → WeakHuntError → Type 0

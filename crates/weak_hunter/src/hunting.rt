@@ -1,15 +1,13 @@
-ghost use Rattle.std.specs.Prelude.{◌≡◌, ◌⊎◌, ◌<◌, ◌≤◌, ◌++◌, Err, IfErr, IfOk, ℕ, List, None, OnErr, Some, false, length, true};
+ghost use Rattle.std.specs.Prelude.{◌≡◌, ◌⊎◌, ◌≤◌, Err, IfErr, IfOk, ℕ, List, None, Some, false, length, option_map, true};
 ghost use Rattle.elf_loader.specs.Image.{Loaded};
-ghost use Rattle.host_io.specs.Taken.{BeganText};
 ghost use Rattle.host_io.specs.declared.load_error.LoadError.{LoadError as ImageCause};
 ghost use Rattle.host_io.specs.declared.error.RunError.TheVariants as refusals;
-ghost use Rattle.hunt_table.specs.Text.{table_text};
 ghost use Rattle.hunter.specs.Hunts.{IsHunt, IsImageCause, has_bad_range, hunt_fault};
 ghost use Rattle.hunter.specs.declared.error.HuntError.{HuntError as Refusal};
 ghost use Rattle.hunter.specs.declared.settings.HuntSettings.{HuntSettings as AskedFor};
 ghost use Rattle.hunter.specs.declared.error.HuntError.TheVariants as hunting;
-ghost use Rattle.plan_hunt.specs.declared.row.Row.{Row as TableRow};
-ghost use Rattle.weak_hunter.specs.WeakHunts.{IsTabled, IsWeakReason, IsWeaklyHunted};
+ghost use Rattle.text_writes.specs.Writes.{IsFaultOr, WritesAnswer};
+ghost use Rattle.weak_hunter.specs.WeakHunts.{IsTabled, IsWeakHuntText, IsWeakReason, IsWeaklyHunted};
 ghost use Rattle.weak_hunter.specs.declared.error.WeakHuntError.TheVariants.{Hunt};
 
 use crate::bounds::bounds_of;
@@ -48,22 +46,15 @@ pub fn hunt_weakly<S: Sink, O: HuntObserver, R: Threads + Wait + Sync>(
     out: &mut S,
 ) -> Result<Vec<Row>, WeakHuntError>
     requires weak { settings.now.header.is_weak ≡ true }
-    // The rows are the table of endings each of which RVWMO allows, and the sink took its text.
-    ensures hunts { IfOk result (λ rows. IsWeaklyHunted settings.now image.now input.now rows.items ×
-        (S.took out.new ≡ S.took out.old ++ table_text settings.now.header rows.items)) }
-    // Else it took nothing, or a beginning of that table.
-    ensures begun { OnErr result ((S.took out.new ≡ S.took out.old) ⊎
-        ((rows : List TableRow) × IsWeaklyHunted settings.now image.now input.now rows ×
-        BeganText (S.took out.old) (S.took out.new) (table_text settings.now.header rows))) }
-    // Where anything else than the sink refuses, it took nothing.
-    ensures untouched { IfErr result (λ e. (e ≡ Hunt (hunting.Run refusals.SinkFailed)) ⊎
-        (S.took out.new ≡ S.took out.old)) }
+    // The rows are the table of endings each of which RVWMO allows, and the sink takes its text.
+    ensures writes { WritesAnswer S.took S.failures (IsWeakHuntText settings.now image.now input.now)
+        (IsFaultOr (option_map Hunt (hunt_fault settings.now)) (IsWeakReason settings.now image.now))
+        (Hunt (hunting.Run refusals.OutOfMemory)) (Hunt (hunting.Run refusals.SinkFailed)) out.old out.new result }
+    // Where memory is refused, it took nothing.
+    ensures memory { result ≡ Err (Hunt (hunting.Run refusals.OutOfMemory)) →
+        S.took out.new ≡ S.took out.old }
     // Settings out of range are refused first, and then an image.
     ensures settings { (e : Refusal) → hunt_fault settings.now ≡ Some e → result ≡ Err (Hunt e) }
-    // What is refused then is for a reason that stands, or since an execution isn't confirmed.
-    ensures errors { hunt_fault settings.now ≡ None →
-        IfErr result (λ e. IsWeakReason settings.now image.now e ⊎
-        ((e ≡ Hunt (hunting.Run refusals.SinkFailed)) × (S.failures out.old < S.failures out.new))) }
     ensures image { (cause : ImageCause) → hunt_fault settings.now ≡ None →
         IsImageCause settings.now image.now cause →
         (result ≡ Err (Hunt (hunting.Run (refusals.Image cause)))) ⊎

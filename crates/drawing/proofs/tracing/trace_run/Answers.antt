@@ -1,21 +1,23 @@
-use Rattle.std.proofs.Common.{◌∙◌, ◌++◌, ℕ, List, ap, inr, subst}
-use Rattle.host_io.specs.Taken.{BeganText}
-use Rattle.host_io.proofs.Written.{refused, where_done, where_refused}
-use Rattle.machine.specs.Machine.{Running, after_rounds}
-use Rattle.drawing.specs.Drawn.{trace_events_of}
+use Rattle.std.proofs.Common.{List, ap, inr, refl}
+use Rattle.std.proofs.lemmas.Result.{err_from_is_err_and}
+use Rattle.round_schedule.specs.declared.event.Event.{Event}
+use Rattle.run_settings.specs.Settings.{IsReason, settings_fault}
+use Rattle.text_writes.proofs.Answered.{fault_or, of_text, refused_first}
+use Rattle.trace_events.specs.TraceEvents.{trace_events_text}
 use Rattle.drawing.proofs.tracing.trace_run.Goals as goal
 
-pub returns-clause-errors : goal.returns-clause-errors
-returns-clause-errors g c = λ none. refused c.trace_rounds-traced.result _ _ c.trace_rounds-traced.ensures.sink c.trace_rounds-traced.ensures.errors
+pub returns-in_err-trace-clause-writes : goal.returns-in_err-trace-clause-writes
+returns-in_err-trace-clause-writes g c =
+    let s = c.args.settings.now in
+    let p = err_from_is_err_and c.from_residual.result c.from_residual.ensures.1 in
+    rw (p.1, p.2)
+    (refused_first _ (fault_or (settings_fault s) (IsReason s c.args.files.now.image.now) _ c.in_err-trace.ensures.in_order.settings c.in_err-trace.ensures.errors) refl)
 
-pub returns-clause-traces : goal.returns-clause-traces
-returns-clause-traces g c =
-    let made = c.in_ok-machine.ensures.machine in
-    let same = ap (λ (m : Running). trace_events_of c.args.settings.now (after_rounds c.args.settings.now.rounds m)) made.2 in
-    where_done c.trace_rounds-traced.result _ _ (λ h. (made.0, made.1, h ∙ ap (λ (text : List ℕ). g.S.Sink.took c.args.out.now ++ text) same)) c.trace_rounds-traced.ensures.ok
+pub returns-clause-writes : goal.returns-clause-writes
+returns-clause-writes g c =
+    let run = c.in_ok-trace.ensures.events in
+    let text = ap (λ (t : List Event). trace_events_text c.args.settings.now.harts t) run.2 in
+    of_text _ c.write_trace_events.result (record { plan = run.0; planned = run.1; is_text = text }) c.write_trace_events.ensures
 
-pub returns-clause-begun : goal.returns-clause-begun
-returns-clause-begun g c =
-    let made = c.in_ok-machine.ensures.machine in
-    let same = ap (λ (m : Running). trace_events_of c.args.settings.now (after_rounds c.args.settings.now.rounds m)) made.2 in
-    where_refused c.trace_rounds-traced.result _ _ (λ h. inr (made.0, made.1, subst (λ (text : List ℕ). BeganText (g.S.Sink.took c.args.out.now) (g.S.Sink.took c.trace_rounds-traced.new.out) text) same h)) c.trace_rounds-traced.ensures.begun
+pub returns-clause-waits : goal.returns-clause-waits
+returns-clause-waits g c = inr c.in_ok-trace.ensures.known

@@ -1,27 +1,36 @@
-use Rattle.std.proofs.Common.{List, ◌++◌, inr, ◌∙◌, ap}
+use Rattle.std.proofs.Common.{List, ap, refl}
 use Rattle.std.proofs.lemmas.Result.{err_from_is_err_and}
 use Rattle.hunt_table.specs.Text.{table_text}
+use Rattle.hunt_table.specs.declared.merge_error.MergeError.TheVariants.{Run}
 use Rattle.plan_hunt.specs.declared.row.Row.{Row}
+use Rattle.text_writes.proofs.Answered.{answered, by_writing_as, cut_off, refused_first}
 use Rattle.hunt_table.proofs.merging.merge.Goals as goal
+
+pub returns-in_err-table-clause-writes : goal.returns-in_err-table-clause-writes
+returns-in_err-table-clause-writes g c =
+    let p = err_from_is_err_and c.from_residual.result c.from_residual.ensures.1 in
+    rw (p.1, p.2) (refused_first _ c.in_err-table.ensures.errors refl)
 
 pub returns-in_err-table-clause-apart : goal.returns-in_err-table-clause-apart
 returns-in_err-table-clause-apart g c = λ e.
     let p = err_from_is_err_and c.from_residual.result c.from_residual.ensures.1 in
     c.in_err-table.ensures.apart (cc (p.1, p.2))
 
-pub returns-in_err-write_table-clause-begun : goal.returns-in_err-write_table-clause-begun
-returns-in_err-write_table-clause-begun g c =
-    let p = err_from_is_err_and c.from_residual-in_err-write_table.result c.from_residual-in_err-write_table.ensures.1 in
-    rw p.1 (inr (c.in_ok-table.table, c.in_ok-table.ensures.merged, rw c.deref.ensures.value at c.in_err-write_table.ensures.writes.begun))
-
-pub returns-clause-merged : goal.returns-clause-merged
-returns-clause-merged g c = (
-  c.in_ok-table.table,
-  c.in_ok-table.ensures.merged,
-  c.in_ok-write_table.ensures.writes.ok ∙ ap (λ (v : List Row). g.S.Sink.took c.args.out.now ++ table_text c.in_ok-table.table.header v) c.deref.ensures.value,
-)
-
 pub returns-in_err-table-clause-not_a_table : goal.returns-in_err-table-clause-not_a_table
 returns-in_err-table-clause-not_a_table g c = λ e.
     let p = err_from_is_err_and c.from_residual.result c.from_residual.ensures.1 in
     c.in_err-table.ensures.not_a_table (cc (p.1, p.2))
+
+pub returns-in_err-write_table-clause-writes : goal.returns-in_err-write_table-clause-writes
+returns-in_err-write_table-clause-writes g c =
+    let p = err_from_is_err_and c.from_residual-in_err-write_table.result c.from_residual-in_err-write_table.ensures.1 in
+    let w = c.in_err-write_table.ensures.writes in
+    let t = c.in_ok-table.table in
+    let same = ap (λ (rows : List Row). table_text t.header rows) c.deref.ensures.value in
+    rw (p.1, p.2) (cut_off _ tt _ (by_writing_as Run _ _ _ _ _ _ w) (record { table = t; merged = c.in_ok-table.ensures.merged; is_text = same }) w.begun)
+
+pub returns-clause-writes : goal.returns-clause-writes
+returns-clause-writes g c =
+    let t = c.in_ok-table.table in
+    let same = ap (λ (rows : List Row). table_text t.header rows) c.deref.ensures.value in
+    answered tt _ (record { table = t; merged = c.in_ok-table.ensures.merged; is_text = same }) c.in_ok-write_table.ensures.writes.ok

@@ -1,36 +1,43 @@
-use Rattle.std.proofs.Common.{◌∙◌, inl, inr, ⊎_elim}
-use Rattle.program_files.proofs.Told.{on_error, told_done, told_refusal, told_refused, where_done, where_refused}
+use Rattle.std.proofs.Common.{List, ap, inl, inr, refl, subst, ⊎_elim, ℕ, ◌++◌, ◌∙◌}
+use Rattle.host_io.specs.Taken.{BeganText}
+use Rattle.program_files.proofs.Told.{on_value, told_done, told_refusal, told_refused, where_refused}
+use Rattle.run_settings.specs.Settings.{IsReason, settings_fault}
+use Rattle.text_writes.proofs.Answered.{begun, why_in_range}
 use Rattle.view_commands.proofs.guests.draw_ranges.Goals as goal
 
 pub returns-clause-draws : goal.returns-clause-draws
 returns-clause-draws g c =
     let s = c.settings_of-settings.result in
-    told_done _ c.explain.result _ c.explain.ensures (where_done c.draw_run-answer.result _ _ (λ d. (
+    let old = g.O.Sink.took c.args.out.now in
+    told_done _ c.explain.result _ c.explain.ensures (on_value c.draw_run-answer.result _ _ (λ u w. (
       record {
-        run = record { settings = s; plan = d.0; set = c.settings_of-settings.ensures; planned = d.1 };
+        run = record { settings = s; plan = w.is_text.plan; set = c.settings_of-settings.ensures; planned = w.is_text.planned };
         view = c.view_of.result;
         ranges = c.view_of.ensures.ranges ∙ c.requires;
         rounds = c.view_of.ensures.rounds;
       },
-      d.2,
-    )) (rw (c.guest_files.ensures.image, c.guest_files.ensures.input) at c.draw_run-answer.ensures.draws))
+      w.bytes ∙ ap (λ (t : List ℕ). old ++ t) w.is_text.is_text,
+    )) (rw (c.guest_files.ensures.image, c.guest_files.ensures.input) at c.draw_run-answer.ensures.writes.written))
 
 pub returns-clause-begun : goal.returns-clause-begun
 returns-clause-begun g c =
     let s = c.settings_of-settings.result in
-    told_refused _ c.explain.result _ c.explain.ensures (where_refused c.draw_run-answer.result _ _ (λ h. ⊎_elim (λ same. inl same) (λ d. inr (
+    let old = g.O.Sink.took c.args.out.now in
+    let new = g.O.Sink.took c.draw_run-answer.new.out in
+    told_refused _ c.explain.result _ c.explain.ensures (where_refused c.draw_run-answer.result _ _ (λ h. ⊎_elim (λ same. inl same) (λ b. inr (
       record {
-        run = record { settings = s; plan = d.0; set = c.settings_of-settings.ensures; planned = d.1 };
+        run = record { settings = s; plan = b.is_text.plan; set = c.settings_of-settings.ensures; planned = b.is_text.planned };
         view = c.view_of.result;
         ranges = c.view_of.ensures.ranges ∙ c.requires;
         rounds = c.view_of.ensures.rounds;
       },
-      d.2,
-    )) h) (rw (c.guest_files.ensures.image, c.guest_files.ensures.input) at c.draw_run-answer.ensures.begun))
+      subst (λ (t : List ℕ). BeganText old new t) b.is_text.is_text b.began,
+    )) h) (begun c.draw_run-answer.result (rw (c.guest_files.ensures.image, c.guest_files.ensures.input) at c.draw_run-answer.ensures.writes)))
 
 pub returns-clause-errors : goal.returns-clause-errors
 returns-clause-errors g c =
-    told_refusal _ _ _ _ c.settings_of-settings.result c.draw_run-answer.result c.explain.result c.settings_of-settings.ensures c.explain.ensures
+    let s = c.settings_of-settings.result in
+    told_refusal _ _ _ _ s c.draw_run-answer.result c.explain.result c.settings_of-settings.ensures c.explain.ensures
     (rw c.guest_files.ensures.image at c.draw_run-answer.ensures.in_order)
-    (λ none. on_error c.draw_run-answer.result _ _ (λ e h. ⊎_elim (λ reason. inl reason) (λ sink. inr sink.0) h)
-    (rw c.guest_files.ensures.image at (c.draw_run-answer.ensures.errors none)))
+    (why_in_range (settings_fault s) (IsReason s c.args.given.now.program.image.items) c.draw_run-answer.result
+    (rw c.guest_files.ensures.image at c.draw_run-answer.ensures.writes) (inl refl))
