@@ -83,8 +83,8 @@ fn open_allowed(alloc: Global, file: &ExecutionFile, checked: Checked) -> Result
 fn start(alloc: Global, file: &ExecutionFile) -> Result<Execution, RunError>
     ensures memory { IfOk result (λ e. e.memory ≡ (guest_in (as_recorded file.now)).shared.memory) }
     ensures standing { IfOk result (λ e. e.standing ≡ start_of (guest_in (as_recorded file.now))) }
-    ensures harts { OnOk result (length file.now.harts.items ≤ 64) }
-    ensures pages { OnOk result (file.now.pages ≤ 16384) }
+    ensures harts { OnOk result (length file.now.harts.items ≤ MOST_HARTS) }
+    ensures pages { OnOk result (file.now.pages ≤ MOST_PAGES) }
 {
     let harts = file.harts.len();
     if harts < 1 || harts > MOST_HARTS as usize {
@@ -100,7 +100,7 @@ fn start(alloc: Global, file: &ExecutionFile) -> Result<Execution, RunError>
 /// The image of a file.
 fn load_image(alloc: Global, file: &ExecutionFile) -> Result<Image, RunError>
     requires some_pages { 1 ≤ file.now.pages }
-    requires few_pages { file.now.pages ≤ 16384 }
+    requires few_pages { file.now.pages ≤ MOST_PAGES }
     ensures { IfOk result (λ i. i ≡ image_in (as_recorded file.now)) }
 {
     load(alloc, format_of(file), &file.image, file.pages)

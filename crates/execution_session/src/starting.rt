@@ -1,5 +1,4 @@
 ghost use Rattle.std.specs.Prelude.{◌≡◌, ◌∷◌, [], ◌++◌, ◌≤◌, length, IfOk, OnOk};
-ghost use Rattle.hart_step.specs.DecodedCode.{Shows};
 ghost use Rattle.guest_rounds.specs.Guests.{opening_guest};
 ghost use Rattle.guest_rounds.specs.Opening.{opening_hart, opening_harts};
 ghost use Rattle.execution_scripts.specs.Findings.{start_of};
@@ -9,6 +8,7 @@ use execution_checker::Execution;
 use hart_step::{DecodedCode, Hart};
 use pages::{OutOfMemory, Pages};
 use reservations::Reservations;
+use round_schedule::MOST_HARTS;
 use serial_phase::{Console, SerialLog, SharedState};
 use std::alloc::Global;
 
@@ -64,10 +64,9 @@ fn shared_at_start(
     input: &[u8],
     harts: u32,
 ) -> Result<SharedState, OutOfMemory>
-    requires { harts ≤ 64 }
+    requires { harts ≤ MOST_HARTS }
     ensures memory { IfOk result (λ s. s.pages.memory ≡ (opening_guest image.now input.now harts).shared.memory) }
     ensures console { IfOk result (λ s. s.console.console ≡ (opening_guest image.now input.now harts).shared.console) }
-    ensures shows { IfOk result (λ s. Shows s.pages.memory s.code.first s.code.instructions) }
     ensures reservations { IfOk result (λ s. length s.reservations ≡ harts) }
 {
     let pages = opening_pages(alloc, image)?;
@@ -93,7 +92,7 @@ pub(crate) fn open_execution(
     input: &[u8],
     harts: u32,
 ) -> Result<Execution, OutOfMemory>
-    requires { harts ≤ 64 }
+    requires { harts ≤ MOST_HARTS }
     ensures memory { IfOk result (λ e. e.memory ≡ (opening_guest image.now input.now harts).shared.memory) }
     ensures standing { IfOk result (λ e. e.standing ≡ start_of (opening_guest image.now input.now harts)) }
 {

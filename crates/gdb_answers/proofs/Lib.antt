@@ -1,4 +1,5 @@
 pub mod Texts
 pub mod Rounds
 pub mod Behind
-pub mod Ending
+pub mod OverEachOther
+pub mod Noted

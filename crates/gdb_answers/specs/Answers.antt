@@ -1,5 +1,6 @@
 -- What a debugger is answered about a hart of a run at a point, byte by byte.
 use Rattle.std.specs.Prelude.{ℕ, zero, suc, ◌==◌, if◌then◌else◌, List, [], ◌∷◌, ◌++◌, length, codes, slice_get, Option, Some, None}
+use Rattle.std.specs.Option.{option_map}
 use Rattle.hex.specs.Hex.{encode_lower}
 use Rattle.hart_step.specs.declared.hart.Hart.{Hart}
 use Rattle.machine.specs.Machine.{Running, after_rounds}
@@ -7,11 +8,14 @@ use Rattle.moments.specs.Sights.{Sight}
 use Rattle.seeing.specs.Bytes.{bytes_from}
 use Rattle.round_steps.specs.declared.moment.Moment.{Moment}
 use Rattle.round_steps.specs.declared.point.Point.{Point}
+use Rattle.round_steps.specs.OwnParts.{waits_at}
 use Rattle.round_steps.specs.Shown.{shown_at_point}
 use Rattle.gdb_replies.specs.Replies.{checksum_text, note_text, part_of, stop_text, thread_element, thread_list_begin, thread_list_end}
 use Rattle.gdb_replies.specs.Words.{numbers_of, register_text, registers_text}
+use Rattle.gdb_replies.specs.declared.note.ThreadNote.{ThreadNote}
 use Rattle.gdb_replies.specs.declared.stop_reply.Reason.{Reason}
 use Rattle.gdb_answers.specs.Checksums.{checksum_of}
+use Rattle.gdb_answers.specs.Stores.{bytes_covered, uncommitted}
 use Rattle.gdb_sights.specs.Told.{note_of, registers_of, stop_reply_of}
 
 -- hart i at a point of the run
@@ -47,17 +51,27 @@ bytes_answer (b ∷ bs) = encode_lower (b ∷ bs)
 abbrev pub memory_answer : ℕ → ℕ → Option (Sight Hart) → List ℕ
 memory_answer address count s = or_missing s (λ (x : Sight Hart). bytes_answer (bytes_from x.bytes address count))
 
-abbrev pub note_answer : ℕ → Moment → Option (Sight Hart) → List ℕ
-note_answer i at s = or_missing s (λ (x : Sight Hart). encode_lower (note_text (note_of i x.hart at)))
+-- what is said of hart i where it is seen so: where it is, whether it waits for its turn, and how many bytes its stores cover that are not committed
+abbrev pub note_seen : Running → Point → ℕ → Sight Hart → ThreadNote
+note_seen m at i s =
+    let n = note_of i s.hart at.moment in
+    record n { waits = waits_at (after_rounds at.moment.rounds m) at.moment.place i; uncommitted = bytes_covered (uncommitted m at i) }
+
+abbrev pub note_at : Running → Point → ℕ → Option ThreadNote
+note_at m at i = option_map (note_seen m at i) (seen m at i)
+
+abbrev pub note_answer : Option ThreadNote → List ℕ
+note_answer None = codes "E01"
+note_answer (Some n) = encode_lower (note_text n)
 
 -- the list of threads of the first n harts, and a part of it
-abbrev pub thread_entry : ℕ → Moment → Option (Sight Hart) → List ℕ
-thread_entry i at None = []
-thread_entry i at (Some s) = thread_element (note_of i s.hart at)
+abbrev pub thread_entry : Option ThreadNote → List ℕ
+thread_entry None = []
+thread_entry (Some n) = thread_element n
 
 unfoldable pub thread_entries : Running → Point → ℕ → List ℕ
 thread_entries m at zero = []
-thread_entries m at (suc i) = thread_entries m at i ++ thread_entry i at.moment (seen m at i)
+thread_entries m at (suc i) = thread_entries m at i ++ thread_entry (note_at m at i)
 
 abbrev pub thread_list_answer : Running → Point → ℕ → ℕ → ℕ → List ℕ
 thread_list_answer m at harts offset count = part_of (thread_list_begin ++ thread_entries m at harts ++ thread_list_end) offset count

@@ -1,5 +1,5 @@
 -- What the user's commands are answered, each as the digits of its text.
-use Rattle.std.specs.Prelude.{ℕ, zero, suc, ◌+◌, ◌-◌, List, [], ◌∷◌, ◌++◌, length, drop, codes, Option, Some, None}
+use Rattle.std.specs.Prelude.{ℕ, zero, suc, ◌-◌, List, [], ◌∷◌, ◌++◌, length, drop, codes, Option, Some, None}
 use Rattle.hex.specs.Hex.{encode_lower}
 use Rattle.hart_step.specs.declared.hart.Hart.{Hart}
 use Rattle.machine.specs.Machine.{Running}
@@ -8,21 +8,22 @@ use Rattle.round_planner.specs.Quotas.{Planned, quota_of}
 use Rattle.round_steps.specs.declared.moment.Moment.{Moment}
 use Rattle.round_steps.specs.declared.point.Point.{Point}
 use Rattle.gdb_replies.specs.CommandTexts.{hart_line, plan_head, quota_text, where_line}
+use Rattle.gdb_replies.specs.declared.note.ThreadNote.{ThreadNote}
 use Rattle.gdb_sights.specs.Told.{note_of}
-use Rattle.gdb_answers.specs.Answers.{or_missing, seen}
+use Rattle.gdb_answers.specs.Answers.{note_at, or_missing}
 
 -- the hart of the moment, and its pc
 abbrev pub where_answer : Moment → Option (Sight Hart) → List ℕ
 where_answer at s = or_missing s (λ (x : Sight Hart). encode_lower (where_line (note_of at.place.hart x.hart at) at.place.count x.hart.pc))
 
 -- a line for each of the first n harts
-abbrev pub hart_entry : ℕ → Moment → Option (Sight Hart) → List ℕ
-hart_entry i at None = []
-hart_entry i at (Some s) = hart_line (note_of i s.hart at)
+abbrev pub hart_entry : Option ThreadNote → List ℕ
+hart_entry None = []
+hart_entry (Some n) = hart_line n
 
 unfoldable pub hart_lines : Running → Point → ℕ → List ℕ
 hart_lines m at zero = []
-hart_lines m at (suc i) = hart_lines m at i ++ hart_entry i at.moment (seen m at i)
+hart_lines m at (suc i) = hart_lines m at i ++ hart_entry (note_at m at i)
 
 abbrev pub harts_answer : Running → Point → ℕ → List ℕ
 harts_answer m at harts = encode_lower (hart_lines m at harts)

@@ -1,8 +1,8 @@
 -- What a debugger is answered about files: there is the program's image alone, or, where it isn't told, none.
-use Rattle.std.specs.Prelude.{ℕ, ◌==◌, if◌then◌else◌, min, List, ◌++◌, length, take, drop, codes, Option, Some, None}
+use Rattle.std.specs.Prelude.{ℕ, ◌==◌, if◌then◌else◌, min, List, length, take, drop, Option, Some, None}
 use Rattle.gdb_requests.specs.declared.file_request.FileRequest.{FileRequest}
 use Rattle.gdb_requests.specs.declared.file_request.FileRequest.TheVariants as requests
-use Rattle.gdb_replies.specs.FileReplies.{bytes_text, file_text, result_text, status_text}
+use Rattle.gdb_replies.specs.FileReplies.{bytes_text, file_text}
 use Rattle.gdb_replies.specs.declared.file_reply.FileReply.TheVariants.{Done, Failed, Status}
 
 -- the image is open file 1, whether it was opened or not

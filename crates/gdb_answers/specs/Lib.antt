@@ -1,6 +1,7 @@
 pub mod Checksums
 pub mod Files
 pub mod Rounds
+pub mod Stores
 pub mod Answers
 pub mod Commands
 pub mod Buffers

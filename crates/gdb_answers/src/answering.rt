@@ -1,16 +1,18 @@
-ghost use Rattle.std.specs.Prelude.{◌≡◌, ◌≤◌, ◌+◌, ◌<◌, ◌^◌, ◌++◌, Err, OnOk, slice_get};
+ghost use Rattle.std.specs.Prelude.{◌≡◌, ◌≤◌, ◌+◌, ◌<◌, ◌^◌, ◌++◌, Err, IfErr, IfOk, OnOk, slice_get};
 ghost use Rattle.host_io.specs.declared.error.RunError.TheVariants as refusals;
 ghost use Rattle.machine.specs.Machine.{Running};
 ghost use Rattle.machine.specs.Untraced.{IsUntraced};
 ghost use Rattle.host_io.specs.Taken.{WritesText};
 ghost use Rattle.gdb_packets.specs.Writing.{packet_text};
 ghost use Rattle.gdb_replies.specs.Words.{numbers_of};
-ghost use Rattle.gdb_answers.specs.Answers.{bytes_answer, memory_answer, note_answer, register_answer, registers_answer, seen, stop_answer};
+ghost use Rattle.gdb_answers.specs.Answers.{bytes_answer, memory_answer, note_answer, note_at, register_answer, registers_answer, seen, stop_answer};
+ghost use Rattle.round_schedule.specs.Bounds.{AreWorkers};
 
 use crate::look::Look;
-use gdb_replies::{Reason, Registers, Reply, write_reply};
-use gdb_sights::{note_of, registers_of, stop_reply_of};
-use host_io::{RunError, Sink};
+use crate::noting::note_at;
+use gdb_replies::{Reason, Registers, Reply, reply_text, write_reply};
+use gdb_sights::{registers_of, stop_reply_of};
+use host_io::{RunError, Sink, put_all};
 use round_steps::Timeline;
 use std::alloc::Global;
 use std::sync::Wait;
@@ -29,7 +31,7 @@ pub fn answer_registers<R: Threads + Wait + Sync, K: Sink>(
     out: &mut K,
 ) -> Result<(), RunError>
     requires within { look.point.moment.rounds ≤ timeline.old.rounds }
-    requires workers { (1 ≤ look.workers) × (look.workers ≤ 16) }
+    requires workers { AreWorkers look.workers }
     ensures stays { timeline.new ≡ timeline.old }
     ensures writes { (m : Running) → IsUntraced m timeline.old.start → OnOk result
         (K.took out.new ≡ K.took out.old ++ packet_text (registers_answer look.point.moment (seen m look.point look.hart))) }
@@ -58,7 +60,7 @@ pub fn answer_register<R: Threads + Wait + Sync, K: Sink>(
     out: &mut K,
 ) -> Result<(), RunError>
     requires within { look.point.moment.rounds ≤ timeline.old.rounds }
-    requires workers { (1 ≤ look.workers) × (look.workers ≤ 16) }
+    requires workers { AreWorkers look.workers }
     ensures stays { timeline.new ≡ timeline.old }
     ensures writes { (m : Running) → IsUntraced m timeline.old.start → OnOk result
         (K.took out.new ≡ K.took out.old ++ packet_text (register_answer number look.point.moment (seen m look.point look.hart))) }
@@ -107,7 +109,7 @@ pub fn answer_memory<R: Threads + Wait + Sync, K: Sink>(
     out: &mut K,
 ) -> Result<(), RunError>
     requires within { look.point.moment.rounds ≤ timeline.old.rounds }
-    requires workers { (1 ≤ look.workers) × (look.workers ≤ 16) }
+    requires workers { AreWorkers look.workers }
     ensures stays { timeline.new ≡ timeline.old }
     ensures writes { (m : Running) → IsUntraced m timeline.old.start → OnOk result
         (K.took out.new ≡ K.took out.old ++ packet_text (memory_answer address count (seen m look.point look.hart))) }
@@ -135,18 +137,15 @@ pub fn answer_note<R: Threads + Wait + Sync, K: Sink>(
     out: &mut K,
 ) -> Result<(), RunError>
     requires within { look.point.moment.rounds ≤ timeline.old.rounds }
-    requires workers { (1 ≤ look.workers) × (look.workers ≤ 16) }
+    requires workers { AreWorkers look.workers }
     requires rounds { look.point.moment.rounds + 1 < 2 ^ 32 }
     ensures stays { timeline.new ≡ timeline.old }
     ensures writes { (m : Running) → IsUntraced m timeline.old.start → OnOk result
-        (K.took out.new ≡ K.took out.old ++ packet_text (note_answer look.hart look.point.moment (seen m look.point look.hart))) }
+        (K.took out.new ≡ K.took out.old ++ packet_text (note_answer (note_at m look.point look.hart))) }
     ensures memory { result ≡ Err refusals.OutOfMemory → K.took out.new ≡ K.took out.old }
 {
-    match timeline.shown_at(rt, &look.point, look.hart, look.workers)? {
-        Some(sight) => {
-            let note = note_of(look.hart, &sight.hart(), look.point.moment);
-            write_reply(alloc, &Reply::Note(note), out)
-        }
+    match note_at(rt, alloc, timeline, look)? {
+        Some(note) => write_reply(alloc, &Reply::Note(note), out),
         None => write_reply(alloc, &Reply::Missing, out),
     }
 }
@@ -165,20 +164,41 @@ pub fn answer_stop<R: Threads + Wait + Sync, K: Sink>(
     out: &mut K,
 ) -> Result<(), RunError>
     requires within { look.point.moment.rounds ≤ timeline.old.rounds }
-    requires workers { (1 ≤ look.workers) × (look.workers ≤ 16) }
+    requires workers { AreWorkers look.workers }
     requires hart { look.hart + 1 < 2 ^ 32 }
     ensures stays { timeline.new ≡ timeline.old }
     ensures writes { (m : Running) → IsUntraced m timeline.old.start → OnOk result
         (K.took out.new ≡ K.took out.old ++ packet_text (stop_answer reason look.hart (seen m look.point look.hart))) }
     ensures memory { result ≡ Err refusals.OutOfMemory → K.took out.new ≡ K.took out.old }
 {
-    match timeline.shown_at(rt, &look.point, look.hart, look.workers)? {
+    let packet = stop_packet(rt, alloc, timeline, look, reason)?;
+    put_all(out, packet.as_slice())
+}
+
+/// The packet that says so.
+pub(crate) fn stop_packet<R: Threads + Wait + Sync>(
+    rt: &R,
+    alloc: Global,
+    timeline: &mut Timeline,
+    look: Look,
+    reason: Reason,
+) -> Result<Vec<u8>, RunError>
+    requires within { look.point.moment.rounds ≤ timeline.old.rounds }
+    requires workers { AreWorkers look.workers }
+    requires hart { look.hart + 1 < 2 ^ 32 }
+    ensures stays { timeline.new ≡ timeline.old }
+    ensures packet { (m : Running) → IsUntraced m timeline.old.start → IfOk result (λ text. text.items
+        ≡ packet_text (stop_answer reason look.hart (seen m look.point look.hart))) }
+    ensures refused { IfErr result (λ e. e ≡ refusals.OutOfMemory) }
+{
+    let packet = match timeline.shown_at(rt, &look.point, look.hart, look.workers)? {
         Some(sight) => {
             let stop = stop_reply_of(reason, look.hart, &sight.hart());
-            write_reply(alloc, &Reply::Stopped(stop), out)
+            reply_text(alloc, &Reply::Stopped(stop))?
         }
-        None => write_reply(alloc, &Reply::Missing, out),
-    }
+        None => reply_text(alloc, &Reply::Missing)?,
+    };
+    Ok(packet)
 }
 
 /// Answers with some bytes, or that there are none.

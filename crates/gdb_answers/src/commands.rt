@@ -8,10 +8,12 @@ ghost use Rattle.machine.specs.Untraced.{IsUntraced};
 ghost use Rattle.gdb_packets.specs.Writing.{packet_text};
 ghost use Rattle.gdb_replies.specs.CommandTexts.{plan_head, where_line};
 ghost use Rattle.hex.specs.Hex.{encode_lower};
-ghost use Rattle.gdb_answers.specs.Answers.{seen};
+ghost use Rattle.gdb_answers.specs.Answers.{note_at, seen};
 ghost use Rattle.gdb_answers.specs.Commands.{hart_entry, hart_lines, harts_answer, plan_answer, plan_text, quotas_text, where_answer};
+ghost use Rattle.round_schedule.specs.Bounds.{AreWorkers};
 
 use crate::look::Look;
+use crate::noting::note_at;
 use gdb_replies::{
     Reply, ThreadNote, add_hart_line, add_plan_head, add_quota, add_where_line, write_reply,
 };
@@ -38,7 +40,7 @@ pub fn answer_where<R: Threads + Wait + Sync, K: Sink>(
     out: &mut K,
 ) -> Result<(), RunError>
     requires within { point.moment.rounds ≤ timeline.old.rounds }
-    requires workers { (1 ≤ workers) × (workers ≤ 16) }
+    requires workers { AreWorkers workers }
     requires rounds { point.moment.rounds + 1 < 2 ^ 32 }
     ensures stays { timeline.new ≡ timeline.old }
     ensures writes { (m : Running) → IsUntraced m timeline.old.start → OnOk result (K.took out.new ≡ K.took out.old
@@ -97,7 +99,7 @@ pub fn answer_harts<R: Threads + Wait + Sync, K: Sink>(
     out: &mut K,
 ) -> Result<(), RunError>
     requires within { look.point.moment.rounds ≤ timeline.old.rounds }
-    requires workers { (1 ≤ look.workers) × (look.workers ≤ 16) }
+    requires workers { AreWorkers look.workers }
     requires rounds { look.point.moment.rounds + 1 < 2 ^ 32 }
     ensures stays { timeline.new ≡ timeline.old }
     ensures writes { (m : Running) → IsUntraced m timeline.old.start → OnOk result
@@ -117,7 +119,7 @@ fn hart_lines<R: Threads + Wait + Sync>(
     look: Look,
 ) -> Result<Vec<u8>, RunError>
     requires within { look.point.moment.rounds ≤ timeline.old.rounds }
-    requires workers { (1 ≤ look.workers) × (look.workers ≤ 16) }
+    requires workers { AreWorkers look.workers }
     requires rounds { look.point.moment.rounds + 1 < 2 ^ 32 }
     ensures stays { timeline.new ≡ timeline.old }
     ensures lines { (m : Running) → IsUntraced m timeline.old.start → IfOk result (λ text. text.items ≡
@@ -126,7 +128,7 @@ fn hart_lines<R: Threads + Wait + Sync>(
 {
     let mut text = Vec::new(alloc);
     for hart in 0..look.hart {
-        add_line(rt, timeline, Look { hart, ..look }, &mut text)?;
+        add_line(rt, alloc, timeline, Look { hart, ..look }, &mut text)?;
     }
     Ok(text)
 }
@@ -134,20 +136,20 @@ fn hart_lines<R: Threads + Wait + Sync>(
 /// Adds a hart's line, where there is the hart.
 fn add_line<R: Threads + Wait + Sync>(
     rt: &R,
+    alloc: Global,
     timeline: &mut Timeline,
     look: Look,
     text: &mut Vec<u8>,
 ) -> Result<(), RunError>
     requires within { look.point.moment.rounds ≤ timeline.old.rounds }
-    requires workers { (1 ≤ look.workers) × (look.workers ≤ 16) }
+    requires workers { AreWorkers look.workers }
     requires rounds { look.point.moment.rounds + 1 < 2 ^ 32 }
     ensures stays { timeline.new ≡ timeline.old }
     ensures entry { (m : Running) → IsUntraced m timeline.old.start → OnOk result (text.new.items ≡
-        text.old.items ++ hart_entry look.hart look.point.moment (seen m look.point look.hart)) }
+        text.old.items ++ hart_entry (note_at m look.point look.hart)) }
     ensures refused { IfErr result (λ e. e ≡ refusals.OutOfMemory) }
 {
-    if let Some(sight) = timeline.shown_at(rt, &look.point, look.hart, look.workers)? {
-        let note = note_of(look.hart, &sight.hart(), look.point.moment);
+    if let Some(note) = note_at(rt, alloc, timeline, look)? {
         add_hart_line(text, &note)?;
     }
     Ok(())

@@ -5,6 +5,7 @@ ghost use Rattle.machine.specs.Machine.{Running};
 ghost use Rattle.machine.specs.Untraced.{IsUntraced};
 ghost use Rattle.gdb_packets.specs.Writing.{packet_text};
 ghost use Rattle.gdb_answers.specs.Answers.{checksum_answer, seen, sum_answer};
+ghost use Rattle.round_schedule.specs.Bounds.{AreWorkers};
 
 use crate::checksum::checksum_of;
 use crate::look::Look;
@@ -30,7 +31,7 @@ pub fn answer_checksum<R: Threads + Wait + Sync, K: Sink>(
     out: &mut K,
 ) -> Result<(), RunError>
     requires within { look.point.moment.rounds ≤ timeline.old.rounds }
-    requires workers { (1 ≤ look.workers) × (look.workers ≤ 16) }
+    requires workers { AreWorkers look.workers }
     ensures stays { timeline.new ≡ timeline.old }
     ensures writes { (m : Running) → IsUntraced m timeline.old.start → OnOk result
         (K.took out.new ≡ K.took out.old ++ packet_text (checksum_answer address count (seen m look.point look.hart))) }

@@ -1,21 +1,19 @@
 //! What the step at which a run stands reads or writes.
 
-ghost use Rattle.std.specs.Prelude.{◌≡◌, ℕ, ◌≤◌, ◌<◌, ◌+◌, ◌^◌, ◌++◌, List, Err, IfOk, OnOk};
-ghost use Rattle.hex.specs.Hex.{encode_lower};
-ghost use Rattle.host_io.specs.Taken.{WritesText};
+ghost use Rattle.std.specs.Prelude.{◌≡◌, ◌≤◌, ◌<◌, ◌+◌, ◌^◌, ◌++◌, Err, IfErr, IfOk, OnOk};
+ghost use Rattle.std.specs.Option.{option_map};
 ghost use Rattle.host_io.specs.declared.error.RunError.TheVariants as refusals;
 ghost use Rattle.machine.specs.Machine.{Running};
 ghost use Rattle.machine.specs.Untraced.{IsUntraced};
 ghost use Rattle.round_steps.specs.Shown.{is_behind_move};
 ghost use Rattle.gdb_packets.specs.Writing.{packet_text};
 ghost use Rattle.gdb_answers.specs.Answers.{seen};
-ghost use Rattle.gdb_answers.specs.Events.{event_answer, is_step, step_line, step_lines, step_place, step_text};
+ghost use Rattle.gdb_answers.specs.Events.{event_answer, event_packet, event_words, is_step, step_line, step_lines, step_place, step_text};
+ghost use Rattle.round_schedule.specs.Bounds.{AreWorkers};
 
 use crate::round_events::events_of_round;
-use crate::saying::say_or;
-use gdb_replies::{Reply, write_reply};
+use gdb_replies::{Reply, reply_text, write_reply};
 use host_io::{RunError, Sink};
-use machine::UntracedMachine;
 use pages::OutOfMemory;
 use report_lines::{Line, Tail, event_line};
 use round_schedule::Event;
@@ -30,8 +28,8 @@ const NO_ACCESS: &[u8] = b"no access\n";
 /// What is said behind the last round.
 const ENDS: &[u8] = b"the recording ends here\n";
 
-/// Answers with the access of the step that is next at a point, or that was last where the point is behind a move, of the run which
-/// begins with this machine. It may wait.
+/// Answers with the access of the step that is next at a point of the run, or that was last where the point is behind a move. It may
+/// wait.
 ///
 /// # Errors
 ///
@@ -40,51 +38,107 @@ pub fn answer_event<R: Threads + Wait + Sync, K: Sink>(
     rt: &R,
     alloc: Global,
     timeline: &mut Timeline,
-    start: &mut UntracedMachine,
     point: Point,
     workers: u32,
     out: &mut K,
 ) -> Result<(), RunError>
     requires within { point.moment.rounds ≤ timeline.old.rounds }
-    requires workers { (1 ≤ workers) × (workers ≤ 16) }
-    requires rounds { start.old.rounds + point.moment.rounds + 1 < 2 ^ 32 }
-    requires start { start.old ≡ timeline.old.start }
-    requires run { (m : Running) × IsUntraced m start.old }
-    ensures stays { (timeline.new ≡ timeline.old) × (start.new ≡ start.old) }
+    requires workers { AreWorkers workers }
+    requires rounds { point.moment.rounds + 1 < 2 ^ 32 }
+    requires run { (m : Running) × IsUntraced m timeline.old.start }
+    ensures stays { timeline.new ≡ timeline.old }
     ensures writes { (m : Running) → IsUntraced m timeline.old.start → OnOk result (K.took out.new ≡ K.took out.old
         ++ packet_text (event_answer timeline.old.rounds m point (seen m point point.moment.place.hart))) }
     ensures memory { result ≡ Err refusals.OutOfMemory → K.took out.new ≡ K.took out.old }
 {
-    let rounds = point.moment.rounds;
-    if rounds >= timeline.rounds() {
-        return write_reply(alloc, &Reply::Words(ENDS), out);
-    }
-    match timeline.shown_at(rt, &point, point.moment.place.hart, workers)? {
-        Some(sight) => {
-            let events = events_of_round(rt, alloc, start, rounds, workers)?;
-            say_event(alloc, events.as_slice(), point, sight.hart().done, out)
-        }
+    match event_words(rt, alloc, timeline, point, workers)? {
+        Some(words) => write_reply(alloc, &Reply::Words(words.as_slice()), out),
         None => write_reply(alloc, &Reply::Missing, out),
     }
 }
 
-/// Answers with the access of a point's step, by the events of the round and by how many instructions the hart has done.
-fn say_event<K: Sink>(
+/// What tells the same on the debugger's terminal, beside an answer: a packet, and nothing where there is no such hart. It may wait.
+pub(crate) fn event_packet<R: Threads + Wait + Sync>(
+    rt: &R,
+    alloc: Global,
+    timeline: &mut Timeline,
+    point: Point,
+    workers: u32,
+) -> Result<Vec<u8>, RunError>
+    requires within { point.moment.rounds ≤ timeline.old.rounds }
+    requires workers { AreWorkers workers }
+    requires rounds { point.moment.rounds + 1 < 2 ^ 32 }
+    requires run { (m : Running) × IsUntraced m timeline.old.start }
+    ensures stays { timeline.new ≡ timeline.old }
+    ensures packet { (m : Running) → IsUntraced m timeline.old.start → IfOk result (λ text. text.items
+        ≡ event_packet timeline.old.rounds m point (seen m point point.moment.place.hart)) }
+    ensures refused { IfErr result (λ e. e ≡ refusals.OutOfMemory) }
+{
+    match event_words(rt, alloc, timeline, point, workers)? {
+        Some(words) => {
+            let packet = reply_text(alloc, &Reply::Console(words.as_slice()))?;
+            Ok(packet)
+        }
+        None => Ok(Vec::new(alloc)),
+    }
+}
+
+/// What is said of that access; nothing where there is no such hart.
+fn event_words<R: Threads + Wait + Sync>(
+    rt: &R,
+    alloc: Global,
+    timeline: &mut Timeline,
+    point: Point,
+    workers: u32,
+) -> Result<Option<Vec<u8>>, RunError>
+    requires within { point.moment.rounds ≤ timeline.old.rounds }
+    requires workers { AreWorkers workers }
+    requires rounds { point.moment.rounds + 1 < 2 ^ 32 }
+    requires run { (m : Running) × IsUntraced m timeline.old.start }
+    ensures stays { timeline.new ≡ timeline.old }
+    ensures words { (m : Running) → IsUntraced m timeline.old.start → IfOk result (λ w. option_map (λ v. v.items) w
+        ≡ event_words timeline.old.rounds m point (seen m point point.moment.place.hart)) }
+    ensures refused { IfErr result (λ e. e ≡ refusals.OutOfMemory) }
+{
+    let rounds = point.moment.rounds;
+    if rounds >= timeline.rounds() {
+        let ends = copied(alloc, ENDS)?;
+        return Ok(Some(ends));
+    }
+    match timeline.shown_at(rt, &point, point.moment.place.hart, workers)? {
+        Some(sight) => {
+            let events = events_of_round(rt, alloc, timeline, rounds, workers)?;
+            let words = step_text(alloc, events.as_slice(), point, sight.hart().done)?;
+            Ok(Some(words))
+        }
+        None => Ok(None),
+    }
+}
+
+/// The access of a point's step, by the events of the round and by how many instructions the hart has done.
+fn step_text(
     alloc: Global,
     events: &[Event],
     point: Point,
     done: u64,
-    out: &mut K,
-) -> Result<(), RunError>
-    ensures writes { WritesText (packet_text (encode_lower (step_text point done events.now)))
-        (K.took out.old) (K.failures out.old) result (K.took out.new) (K.failures out.new) }
-    ensures memory { result ≡ Err refusals.OutOfMemory → K.took out.new ≡ K.took out.old }
+) -> Result<Vec<u8>, OutOfMemory>
+    ensures { IfOk result (λ text. text.items ≡ step_text point done events.now) }
 {
     let hart = point.moment.place.hart;
-    match step_lines(alloc, events, hart, step_place(&point, done)) {
-        Ok(line) => say_or(alloc, line.as_bytes(), NO_ACCESS, out),
-        Err(_) => Err(RunError::OutOfMemory),
+    let line = step_lines(alloc, events, hart, step_place(&point, done))?;
+    let text = line.as_bytes();
+    match text {
+        [] => copied(alloc, NO_ACCESS),
+        [_, ..] => copied(alloc, text),
     }
+}
+
+/// The bytes of a text.
+fn copied(alloc: Global, text: &[u8]) -> Result<Vec<u8>, OutOfMemory>
+    ensures { IfOk result (λ copy. copy.items ≡ text.now) }
+{
+    let copy = Vec::from_slice(alloc, text)?;
+    Ok(copy)
 }
 
 /// How many instructions the hart of a point had done before the step, where it has done so many there.

@@ -5,6 +5,7 @@ ghost use Rattle.machine.specs.Machine.{Running, after_rounds};
 ghost use Rattle.machine.specs.Untraced.{IsUntraced};
 ghost use Rattle.gdb_packets.specs.Writing.{packet_text};
 ghost use Rattle.gdb_answers.specs.Commands.{most_put_out, output_answer};
+ghost use Rattle.round_schedule.specs.Bounds.{AreWorkers};
 
 use gdb_replies::{Reply, write_reply};
 use host_io::{RunError, Sink};
@@ -30,7 +31,7 @@ pub fn answer_output<R: Threads + Wait + Sync, K: Sink>(
     out: &mut K,
 ) -> Result<(), RunError>
     requires rounds { start.old.rounds + rounds < 2 ^ 32 }
-    requires workers { (1 ≤ workers) × (workers ≤ 16) }
+    requires workers { AreWorkers workers }
     ensures stays { start.new ≡ start.old }
     ensures writes { (m : Running) → IsUntraced m start.old → OnOk result
         (K.took out.new ≡ K.took out.old ++ packet_text (output_answer (after_rounds rounds m).state.console.output)) }

@@ -12,6 +12,7 @@ ghost use Rattle.gdb_packets.specs.Writing.{packet_text};
 ghost use Rattle.gdb_answers.specs.Answers.{seen};
 ghost use Rattle.gdb_answers.specs.Reserved.{held_lines, is_seen, reservations_answer, reserved_text, seen_events, span_line, trace_at};
 ghost use Rattle.gdb_answers.specs.Rounds.{round_events};
+ghost use Rattle.round_schedule.specs.Bounds.{AreWorkers};
 
 use crate::held::{no_reservations, note};
 use crate::round_events::{is_parallel, next_events};
@@ -46,7 +47,7 @@ pub fn answer_reservations<R: Threads + Wait + Sync, K: Sink>(
     out: &mut K,
 ) -> Result<(), RunError>
     requires within { point.moment.rounds ≤ timeline.old.rounds }
-    requires workers { (1 ≤ workers) × (workers ≤ 16) }
+    requires workers { AreWorkers workers }
     requires fresh { start.old.rounds ≡ 0 }
     requires rounds { point.moment.rounds + 1 < 2 ^ 32 }
     requires start { start.old ≡ timeline.old.start }
@@ -89,7 +90,7 @@ fn reservations_at<R: Threads + Wait + Sync>(
     requires run { (m : Running) × IsUntraced m machine.old }
     requires fresh { machine.old.rounds ≡ 0 }
     requires rounds { moment.rounds + 1 < 2 ^ 32 }
-    requires workers { (1 ≤ workers) × (workers ≤ 16) }
+    requires workers { AreWorkers workers }
     ensures count { IfOk result (λ v. length v.items ≡ harts) }
     ensures tied { (m : Running) → IsUntraced m machine.old → IfOk result (λ v. Tied v.items
         (trace_at moment done (after_rounds moment.rounds m))) }
@@ -112,7 +113,7 @@ fn reservations_after<R: Threads + Wait + Sync>(
     requires run { (m : Running) × IsUntraced m machine.old }
     requires fresh { machine.old.rounds ≡ 0 }
     requires rounds { rounds + 1 < 2 ^ 32 }
-    requires workers { (1 ≤ workers) × (workers ≤ 16) }
+    requires workers { AreWorkers workers }
     ensures runs { OnOk result (IsAfter rounds machine.old machine.new) }
     ensures counted { OnOk result (machine.new.rounds ≡ rounds) }
     ensures count { IfOk result (λ v. length v.items ≡ harts) }
@@ -140,7 +141,7 @@ fn note_seen<R: Threads + Wait + Sync>(
 ) -> Result<(), RunError>
     requires run { (m : Running) × IsUntraced m machine.old }
     requires rounds { machine.old.rounds + 1 < 2 ^ 32 }
-    requires workers { (1 ≤ workers) × (workers ≤ 16) }
+    requires workers { AreWorkers workers }
     requires few { length reservations.old.items < 2 ^ 32 }
     ensures count { OnOk result (length reservations.new.items ≡ length reservations.old.items) }
     ensures tied { (m : Running) → IsUntraced m machine.old → (t : List Event) → Tied reservations.old.items t →

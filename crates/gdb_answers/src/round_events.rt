@@ -5,33 +5,36 @@ ghost use Rattle.host_io.specs.declared.error.RunError.TheVariants as refusals;
 ghost use Rattle.machine.specs.Machine.{Running, after_rounds};
 ghost use Rattle.machine.specs.Untraced.{IsAfter, IsUntraced};
 ghost use Rattle.gdb_answers.specs.Rounds.{is_parallel, round_events};
+ghost use Rattle.round_schedule.specs.Bounds.{AreWorkers};
 
 use host_io::RunError;
 use machine::UntracedMachine;
+use noted_runs::run_noting;
 use round_schedule::{Event, Phase};
+use round_steps::Timeline;
 use std::alloc::Global;
 use std::sync::Wait;
 use std::thread::Threads;
 use trace::Trace;
 
-/// The events of the round after so many.
+/// The events of the round after so many of a run.
 pub(crate) fn events_of_round<R: Threads + Wait + Sync>(
     rt: &R,
     alloc: Global,
-    start: &mut UntracedMachine,
+    timeline: &mut Timeline,
     rounds: u32,
     workers: u32,
 ) -> Result<Vec<Event>, RunError>
-    requires run { (m : Running) × IsUntraced m start.old }
-    requires rounds { start.old.rounds + rounds + 1 < 2 ^ 32 }
-    requires workers { (1 ≤ workers) × (workers ≤ 16) }
-    ensures stays { start.new ≡ start.old }
-    ensures events { (m : Running) → IsUntraced m start.old → IfOk result (λ v. v.items ≡
+    requires within { rounds ≤ timeline.old.rounds }
+    requires rounds { rounds + 1 < 2 ^ 32 }
+    requires workers { AreWorkers workers }
+    requires run { (m : Running) × IsUntraced m timeline.old.start }
+    ensures stays { timeline.new ≡ timeline.old }
+    ensures events { (m : Running) → IsUntraced m timeline.old.start → IfOk result (λ v. v.items ≡
         round_events (after_rounds rounds m)) }
     ensures refused { IfErr result (λ e. e ≡ refusals.OutOfMemory) }
 {
-    let mut machine = start.share()?;
-    machine.run(rt, rounds, workers)?;
+    let mut machine = timeline.machine_at(rt, rounds, workers)?;
     next_events(rt, alloc, &mut machine, workers)
 }
 
@@ -44,7 +47,7 @@ pub(crate) fn next_events<R: Threads + Wait + Sync>(
 ) -> Result<Vec<Event>, RunError>
     requires run { (m : Running) × IsUntraced m machine.old }
     requires rounds { machine.old.rounds + 1 < 2 ^ 32 }
-    requires workers { (1 ≤ workers) × (workers ≤ 16) }
+    requires workers { AreWorkers workers }
     ensures runs { OnOk result (IsAfter 1 machine.old machine.new) }
     ensures counted { OnOk result (machine.new.rounds ≡ machine.old.rounds + 1) }
     ensures events { (m : Running) → IsUntraced m machine.old → IfOk result (λ v. v.items ≡ round_events m) }
@@ -53,7 +56,7 @@ pub(crate) fn next_events<R: Threads + Wait + Sync>(
     ensures refused { IfErr result (λ e. e ≡ refusals.OutOfMemory) }
 {
     let mut trace = Trace::new(alloc, Vec::new(alloc));
-    machine.run_noting(rt, 1, workers, &mut trace)?;
+    run_noting(rt, machine, 1, workers, &mut trace)?;
     let events = trace.to_vec(alloc)?;
     Ok(events)
 }

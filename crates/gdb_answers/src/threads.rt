@@ -3,12 +3,13 @@ ghost use Rattle.host_io.specs.declared.error.RunError.TheVariants as refusals;
 ghost use Rattle.machine.specs.Machine.{Running};
 ghost use Rattle.machine.specs.Untraced.{IsUntraced};
 ghost use Rattle.gdb_packets.specs.Writing.{packet_text};
-ghost use Rattle.gdb_answers.specs.Answers.{seen, thread_entry, thread_entries, thread_list_answer};
+ghost use Rattle.gdb_answers.specs.Answers.{note_at, thread_entry, thread_entries, thread_list_answer};
 ghost use Rattle.gdb_replies.specs.Replies.{thread_list_begin, thread_list_end};
+ghost use Rattle.round_schedule.specs.Bounds.{AreWorkers};
 
 use crate::look::Look;
+use crate::noting::note_at;
 use gdb_replies::{Reply, Window, add_thread, begin_thread_list, end_thread_list, write_reply};
-use gdb_sights::note_of;
 use host_io::{RunError, Sink};
 use round_steps::Timeline;
 use std::alloc::Global;
@@ -30,7 +31,7 @@ pub fn answer_threads<R: Threads + Wait + Sync, K: Sink>(
     out: &mut K,
 ) -> Result<(), RunError>
     requires within { look.point.moment.rounds ≤ timeline.old.rounds }
-    requires workers { (1 ≤ look.workers) × (look.workers ≤ 16) }
+    requires workers { AreWorkers look.workers }
     requires rounds { look.point.moment.rounds + 1 < 2 ^ 32 }
     ensures stays { timeline.new ≡ timeline.old }
     ensures writes { (m : Running) → IsUntraced m timeline.old.start → OnOk result (K.took out.new ≡ K.took out.old
@@ -55,7 +56,7 @@ fn thread_list<R: Threads + Wait + Sync>(
     look: Look,
 ) -> Result<Vec<u8>, RunError>
     requires within { look.point.moment.rounds ≤ timeline.old.rounds }
-    requires workers { (1 ≤ look.workers) × (look.workers ≤ 16) }
+    requires workers { AreWorkers look.workers }
     requires rounds { look.point.moment.rounds + 1 < 2 ^ 32 }
     ensures stays { timeline.new ≡ timeline.old }
     ensures list { (m : Running) → IsUntraced m timeline.old.start → IfOk result (λ text. text.items ≡
@@ -64,7 +65,7 @@ fn thread_list<R: Threads + Wait + Sync>(
 {
     let mut text = begin_thread_list(alloc)?;
     for hart in 0..look.hart {
-        add_entry(rt, timeline, Look { hart, ..look }, &mut text)?;
+        add_entry(rt, alloc, timeline, Look { hart, ..look }, &mut text)?;
     }
     end_thread_list(&mut text)?;
     Ok(text)
@@ -73,21 +74,21 @@ fn thread_list<R: Threads + Wait + Sync>(
 /// Adds a hart's thread, where there is the hart.
 fn add_entry<R: Threads + Wait + Sync>(
     rt: &R,
+    alloc: Global,
     timeline: &mut Timeline,
     look: Look,
     text: &mut Vec<u8>,
 ) -> Result<(), RunError>
     requires within { look.point.moment.rounds ≤ timeline.old.rounds }
-    requires workers { (1 ≤ look.workers) × (look.workers ≤ 16) }
+    requires workers { AreWorkers look.workers }
     requires rounds { look.point.moment.rounds + 1 < 2 ^ 32 }
     requires hart { look.hart + 1 < 2 ^ 32 }
     ensures stays { timeline.new ≡ timeline.old }
     ensures entry { (m : Running) → IsUntraced m timeline.old.start → OnOk result (text.new.items ≡
-        text.old.items ++ thread_entry look.hart look.point.moment (seen m look.point look.hart)) }
+        text.old.items ++ thread_entry (note_at m look.point look.hart)) }
     ensures refused { IfErr result (λ e. e ≡ refusals.OutOfMemory) }
 {
-    if let Some(sight) = timeline.shown_at(rt, &look.point, look.hart, look.workers)? {
-        let note = note_of(look.hart, &sight.hart(), look.point.moment);
+    if let Some(note) = note_at(rt, alloc, timeline, look)? {
         add_thread(text, &note)?;
     }
     Ok(())

@@ -12,4 +12,4 @@ mod writing;
 pub use item::Item;
 pub use laws::{told_in_any_pieces, written_is_read};
 pub use reader::Reader;
-pub use writing::{acknowledge, write_packet};
+pub use writing::{acknowledge, packet_text, write_packet};

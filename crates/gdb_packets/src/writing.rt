@@ -48,8 +48,12 @@ fn sum_of(bytes: &[u8]) -> u8
     sum
 }
 
-/// The text of a packet.
-fn packet_text(alloc: Global, payload: &[u8]) -> Result<Vec<u8>, OutOfMemory>
+/// The text of a packet with this payload.
+///
+/// # Errors
+///
+/// `OutOfMemory` alone.
+pub fn packet_text(alloc: Global, payload: &[u8]) -> Result<Vec<u8>, OutOfMemory>
     ensures { IfOk result (λ text. text.items ≡ packet_text payload.now) }
 {
     let bytes = sent(alloc, payload)?;

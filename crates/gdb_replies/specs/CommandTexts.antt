@@ -1,5 +1,5 @@
 -- What the user's commands say.
-use Rattle.std.specs.Prelude.{ℕ, List, ◌++◌, codes}
+use Rattle.std.specs.Prelude.{ℕ, Bool, if◌then◌else◌, List, ◌++◌, codes}
 use Rattle.std.specs.Fmt.{decimal}
 use Rattle.hex.specs.Hex.{encode_lower}
 use Rattle.gdb_replies.specs.declared.note.ThreadNote.{ThreadNote}
@@ -56,6 +56,10 @@ harts_text harts = (codes "the recording has " ++ decimal harts) ++ codes " hart
 abbrev pub elsewhere_text : List ℕ
 elsewhere_text = codes "the hart is not there in that round\n"
 
+-- whether stops at watchpoints tell the access
+abbrev pub hits_text : Bool → List ℕ
+hits_text on = if on then codes "each stop at a watchpoint tells the access\n" else codes "stops at watchpoints tell no access\n"
+
 unfoldable pub help_text : List ℕ
 help_text =
     codes "where         where the run stands\n"
@@ -68,3 +72,5 @@ help_text =
     ++ codes "goto ROUND    the next continue stops where this round begins, once\n"
     ++ codes "goto ROUND HART PLACE  .. where the hart has done so many instructions\n"
     ++ codes "goto end      .. behind the last round\n"
+    ++ codes "hits on       each stop at a watchpoint tells what the instruction reads or writes\n"
+    ++ codes "hits off      it tells nothing, as at first\n"

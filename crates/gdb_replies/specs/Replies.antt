@@ -47,9 +47,20 @@ abbrev pub phase_word : Phase → List ℕ
 phase_word Parallel = codes "parallel"
 phase_word Serial = codes "serial"
 
+abbrev pub place_text : ThreadNote → List ℕ
+place_text n = codes "round " ++ decimal n.round ++ codes ", " ++ phase_word n.phase ++ codes ", place " ++ decimal n.place
+
+-- whether it waits for its turn
+abbrev pub waits_text : Bool → List ℕ
+waits_text waits = if waits then codes ", waits" else []
+
+-- how many bytes its stores cover that are not committed; nothing where there are none
+abbrev pub uncommitted_text : ℕ → List ℕ
+uncommitted_text n = if n == 0 then [] else codes ", " ++ decimal n ++ codes " bytes not committed"
+
 -- a hart that runs is somewhere in a round; one that has stopped did so by the exit call with a value, or with a code
 abbrev pub state_text : ThreadNote → Option (ℕ × ℕ) → List ℕ
-state_text n None = codes "round " ++ decimal n.round ++ codes ", " ++ phase_word n.phase ++ codes ", place " ++ decimal n.place
+state_text n None = place_text n ++ waits_text n.waits ++ uncommitted_text n.uncommitted
 state_text n (Some s) = if s.0 == 1 then codes "exit " ++ decimal s.1 else codes "stop " ++ decimal s.0
 
 abbrev pub note_text : ThreadNote → List ℕ

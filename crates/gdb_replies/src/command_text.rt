@@ -12,7 +12,7 @@ use pages::OutOfMemory;
 
 /// What the commands are for, in a line each.
 const HELP: &[u8] =
-    b"where         where the run stands\nharts         where each hart is\nbuffer        which stores of the selected hart are not committed\nevent         what the instruction at which the run stands reads or writes\nreservations  which bytes each hart has reserved\nplan          how many instructions each hart may do in this round\noutput        what the program had put out when this round began\ngoto ROUND    the next continue stops where this round begins, once\ngoto ROUND HART PLACE  .. where the hart has done so many instructions\ngoto end      .. behind the last round\n";
+    b"where         where the run stands\nharts         where each hart is\nbuffer        which stores of the selected hart are not committed\nevent         what the instruction at which the run stands reads or writes\nreservations  which bytes each hart has reserved\nplan          how many instructions each hart may do in this round\noutput        what the program had put out when this round began\ngoto ROUND    the next continue stops where this round begins, once\ngoto ROUND HART PLACE  .. where the hart has done so many instructions\ngoto end      .. behind the last round\nhits on       each stop at a watchpoint tells what the instruction reads or writes\nhits off      it tells nothing, as at first\n";
 
 /// What the user's commands are for.
 #[tactic(auto, unfolding(crate::specs::CommandTexts::help_text))]

@@ -27,4 +27,4 @@ pub use reply::Reply;
 pub use stop_reply::{Reason, StopReply};
 pub use thread_list::{add_thread, begin_thread_list, end_thread_list};
 pub use window::Window;
-pub use writing::write_reply;
+pub use writing::{reply_text, write_reply};

@@ -11,6 +11,10 @@ pub struct ThreadNote {
     pub phase: Phase,
     /// How many instructions the hart has done since the run began.
     pub place: u64,
+    /// Whether its part of the parallel phase is over before its quota, and its serial turn has not begun.
+    pub waits: bool,
+    /// How many bytes its stores cover that are not committed.
+    pub uncommitted: u64,
     /// The code with which the hart stopped, and the value that the exit call gave; none while it runs.
     pub stop: Option<(u8, u64)>,
 }

@@ -3,7 +3,7 @@ ghost use Rattle.std.specs.Fmt.{decimal};
 ghost use Rattle.std.specs.List.{flat_map};
 ghost use Rattle.hex.specs.Hex.{encode_lower};
 ghost use Rattle.gdb_replies.specs.declared.reply.Reply.TheVariants as replies;
-ghost use Rattle.gdb_replies.specs.Replies.{checksum_text, features_text, note_text, part_text, payload_of, phase_word, reason_text, state_text, stop_text};
+ghost use Rattle.gdb_replies.specs.Replies.{checksum_text, features_text, note_text, part_text, payload_of, phase_word, place_text, reason_text, state_text, stop_text, uncommitted_text, waits_text};
 ghost use Rattle.gdb_replies.specs.Words.{address_text, register_text, registers_text, thread_text, threads_text};
 
 use crate::file_payload::put_file;
@@ -224,14 +224,43 @@ pub(crate) fn put_state(text: &mut Vec<u8>, note: &ThreadNote) -> Result<(), Out
     ensures { OnOk result (text.new.items ≡ text.old.items ++ state_text note.now note.now.stop) }
 {
     match note.stop {
-        None => put_place(text, note),
+        None => put_running(text, note),
         Some((1, value)) => put_words(text, b"exit ", value),
         Some((code, _)) => put_words(text, b"stop ", u64::from(code)),
     }
 }
 
-fn put_place(text: &mut Vec<u8>, note: &ThreadNote) -> Result<(), OutOfMemory>
+fn put_running(text: &mut Vec<u8>, note: &ThreadNote) -> Result<(), OutOfMemory>
     ensures { OnOk result (text.new.items ≡ text.old.items ++ state_text note.now None) }
+{
+    put_place(text, note)?;
+    put_waits(text, note.waits)?;
+    put_uncommitted(text, note.uncommitted)
+}
+
+/// Adds that a hart waits, where it does.
+fn put_waits(text: &mut Vec<u8>, waits: bool) -> Result<(), OutOfMemory>
+    ensures { OnOk result (text.new.items ≡ text.old.items ++ waits_text waits) }
+{
+    if waits {
+        put(text, b", waits")?;
+    }
+    Ok(())
+}
+
+/// Adds how many bytes are not committed, where there are any.
+fn put_uncommitted(text: &mut Vec<u8>, bytes: u64) -> Result<(), OutOfMemory>
+    ensures { OnOk result (text.new.items ≡ text.old.items ++ uncommitted_text bytes) }
+{
+    if bytes > 0 {
+        put_words(text, b", ", bytes)?;
+        put(text, b" bytes not committed")?;
+    }
+    Ok(())
+}
+
+fn put_place(text: &mut Vec<u8>, note: &ThreadNote) -> Result<(), OutOfMemory>
+    ensures { OnOk result (text.new.items ≡ text.old.items ++ place_text note.now) }
 {
     put_words(text, b"round ", u64::from(note.round))?;
     put(text, b", ")?;

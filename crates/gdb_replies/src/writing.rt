@@ -1,4 +1,4 @@
-ghost use Rattle.std.specs.Prelude.{◌≡◌, Err};
+ghost use Rattle.std.specs.Prelude.{◌≡◌, Err, IfOk};
 ghost use Rattle.host_io.specs.Taken.{WritesText};
 ghost use Rattle.host_io.specs.declared.error.RunError.TheVariants as refusals;
 ghost use Rattle.gdb_packets.specs.Writing.{packet_text};
@@ -6,9 +6,22 @@ ghost use Rattle.gdb_replies.specs.Replies.{payload_of};
 
 use crate::payload::payload_of;
 use crate::reply::Reply;
-use gdb_packets::write_packet;
+use gdb_packets::{packet_text, write_packet};
 use host_io::{RunError, Sink};
+use pages::OutOfMemory;
 use std::alloc::Global;
+
+/// A reply, as the text of a packet.
+///
+/// # Errors
+///
+/// `OutOfMemory` alone.
+pub fn reply_text(alloc: Global, reply: &Reply<'_>) -> Result<Vec<u8>, OutOfMemory>
+    ensures { IfOk result (λ text. text.items ≡ packet_text (payload_of reply.now)) }
+{
+    let payload = payload_of(alloc, reply)?;
+    packet_text(alloc, payload.as_slice())
+}
 
 /// Writes a reply, as a packet.
 ///

@@ -43,4 +43,6 @@ command_of bs =
     else (if is_word (codes "plan") bs then commands.Plan
     else (if is_word (codes "output") bs then commands.Output
     else (if is_word (codes "help") bs then commands.Help
-    else by_rest (behind_spelled (codes "goto ") bs) goto_of)))))))
+    else (if is_word (codes "hits on") bs then commands.HitsOn
+    else (if is_word (codes "hits off") bs then commands.HitsOff
+    else by_rest (behind_spelled (codes "goto ") bs) goto_of)))))))))

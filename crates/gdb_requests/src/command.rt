@@ -21,6 +21,10 @@ pub enum Command {
     Plan,
     /// What the program has put out.
     Output,
+    /// Stops at watchpoints tell the access from now on.
+    HitsOn,
+    /// They tell none from now on.
+    HitsOff,
     /// Which commands there are.
     Help,
     /// None of these.

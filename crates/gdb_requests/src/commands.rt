@@ -33,6 +33,12 @@ pub(crate) fn command_of(text: &[u8]) -> Command
     if is_word(b"help", text) {
         return Command::Help;
     }
+    if is_word(b"hits on", text) {
+        return Command::HitsOn;
+    }
+    if is_word(b"hits off", text) {
+        return Command::HitsOff;
+    }
     match behind_spelled(b"goto ", text) {
         Some(rest) => goto_of(rest),
         None => Command::Unknown,

@@ -1,5 +1,6 @@
 -- A debugger's session with a recorded run.
 use Rattle.std.specs.Prelude.{◌≡◌, ℕ, ◌+◌, ◌<◌, ◌≤◌, ◌^◌, Bool, true, false, if◌then◌else◌, List, ◌++◌, length, slice_get, Option, Some, None, option_map, is_some, IfSome}
+use Rattle.round_schedule.specs.declared.bounds.TheConstants.{MOST_HARTS}
 use Rattle.hart_step.specs.declared.hart.Hart.{Hart}
 use Rattle.machine.specs.Machine.{Running}
 use Rattle.run_settings.specs.declared.settings.Format.{Format}
@@ -22,6 +23,7 @@ use Rattle.gdb_answers.specs.Answers.{seen}
 use Rattle.gdb_resumes.specs.declared.debugged.Debugged.{Debugged}
 use Rattle.gdb_resumes.specs.declared.session.Session.{Session}
 use Rattle.gdb_resumes.specs.declared.session.Standing.{Standing}
+use Rattle.round_schedule.specs.Bounds.{AreWorkers}
 
 -- the image that a debugger is handed: an ELF file, and no flat image
 abbrev pub is_elf : Format → Bool
@@ -63,9 +65,9 @@ stops_of s = s.software ++ s.hardware
 
 -- it stands within the run, and speaks of harts that there are
 pub record IsReady (d : Debugged) (t : Standing) : Type 0 where
-  pub harts : d.harts ≤ 64
+  pub harts : d.harts ≤ MOST_HARTS
   pub all : d.harts ≡ length d.start.harts
-  pub workers : (1 ≤ d.workers) × (d.workers ≤ 16)
+  pub workers : AreWorkers d.workers
   pub start : d.start ≡ d.timeline.start
   pub fresh : d.start.rounds ≡ 0
   pub run : (m : Running) × IsUntraced m d.start

@@ -6,6 +6,7 @@ ghost use Rattle.machine.specs.Untraced.{IsUntraced};
 ghost use Rattle.host_io.specs.declared.error.RunError.TheVariants as refusals;
 ghost use Rattle.gdb_resumes.specs.Searches.{AsksFor, Finds, Wanted, all_told, nearest_of, only_of, watched_of};
 ghost use Rattle.gdb_resumes.specs.Sessions.{IsWithin, OfRun, state_of};
+ghost use Rattle.round_schedule.specs.Bounds.{AreWorkers};
 
 use crate::debugged::Debugged;
 use crate::session::Session;
@@ -74,7 +75,7 @@ pub(crate) fn find<R: Threads + Wait + Sync>(
     from: &Point,
 ) -> Result<Option<Told>, RunError>
     requires within { from.now.moment.rounds ≤ run.old.timeline.rounds }
-    requires workers { (1 ≤ run.old.workers) × (run.old.workers ≤ 16) }
+    requires workers { AreWorkers run.old.workers }
     requires start { run.old.start ≡ run.old.timeline.start }
     requires fresh { run.old.start.rounds ≡ 0 }
     requires run { (m : Running) × IsUntraced m run.old.start }
@@ -95,7 +96,7 @@ fn nearest<R: Threads + Wait + Sync>(
     from: &Point,
 ) -> Result<Option<Told>, RunError>
     requires within { from.now.moment.rounds ≤ run.old.timeline.rounds }
-    requires workers { (1 ≤ run.old.workers) × (run.old.workers ≤ 16) }
+    requires workers { AreWorkers run.old.workers }
     ensures stays { run.new ≡ run.old }
     ensures nearest { OfRun run.old (λ r. IfOk result (λ x. x ≡ nearest_of r way telling.now from.now)) }
     ensures refused { IfErr result (λ e. e ≡ refusals.OutOfMemory) }

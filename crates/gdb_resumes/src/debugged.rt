@@ -4,6 +4,7 @@ ghost use Rattle.machine.specs.Machine.{Running};
 ghost use Rattle.machine.specs.Untraced.{IsUntraced};
 ghost use Rattle.std.specs.Option.{option_map};
 ghost use Rattle.gdb_resumes.specs.Sessions.{OfRun, hart_seen, image_of};
+ghost use Rattle.round_schedule.specs.Bounds.{AreWorkers};
 
 use hart_step::Hart;
 use host_io::RunError;
@@ -91,7 +92,7 @@ impl Debugged {
         number: u32,
     ) -> Result<Option<Hart>, RunError>
         requires within { point.now.moment.rounds ≤ self.old.timeline.rounds }
-        requires workers { (1 ≤ self.old.workers) × (self.old.workers ≤ 16) }
+        requires workers { AreWorkers self.old.workers }
         ensures stays { self.new ≡ self.old }
         ensures hart { OfRun self.old (λ r. IfOk result (λ h. h ≡ hart_seen r.run point.now number)) }
         ensures refused { IfErr result (λ e. e ≡ refusals.OutOfMemory) }

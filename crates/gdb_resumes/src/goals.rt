@@ -4,6 +4,7 @@ ghost use Rattle.std.specs.Prelude.{◌≡◌, ◌<◌, ◌≤◌, IfOk, IfErr};
 ghost use Rattle.host_io.specs.declared.error.RunError.TheVariants as refusals;
 ghost use Rattle.gdb_resumes.specs.Goals.{IsAtCount, IsGoalWithin, IsInRound, IsPlaceOf, goal_at_round, goal_if, is_at, is_there, place_from};
 ghost use Rattle.gdb_resumes.specs.Sessions.{OfRun};
+ghost use Rattle.round_schedule.specs.Bounds.{AreWorkers};
 
 use crate::asking::only_of;
 use crate::debugged::Debugged;
@@ -63,7 +64,7 @@ pub fn goal_at_place<R: Threads + Wait + Sync>(
     hart: u64,
     place: u64,
 ) -> Result<Goal, RunError>
-    requires workers { (1 ≤ run.old.workers) × (run.old.workers ≤ 16) }
+    requires workers { AreWorkers run.old.workers }
     ensures stays { run.new ≡ run.old }
     ensures goal { OfRun run.old (λ r. IfOk result (λ g. IsPlaceOf r round hart place g)) }
     ensures within { IfOk result (λ g. IsGoalWithin run.old g) }
@@ -87,7 +88,7 @@ fn goal_in_round<R: Threads + Wait + Sync>(
     hart: u32,
     place: u64,
 ) -> Result<Goal, RunError>
-    requires workers { (1 ≤ run.old.workers) × (run.old.workers ≤ 16) }
+    requires workers { AreWorkers run.old.workers }
     requires within { rounds < run.old.timeline.rounds }
     requires hart { hart < run.old.harts }
     ensures stays { run.new ≡ run.old }
@@ -114,7 +115,7 @@ fn goal_at_count<R: Threads + Wait + Sync>(
     hart: u32,
     count: u64,
 ) -> Result<Goal, RunError>
-    requires workers { (1 ≤ run.old.workers) × (run.old.workers ≤ 16) }
+    requires workers { AreWorkers run.old.workers }
     requires within { rounds < run.old.timeline.rounds }
     requires hart { hart < run.old.harts }
     ensures stays { run.new ≡ run.old }

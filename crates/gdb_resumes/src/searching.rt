@@ -7,6 +7,7 @@ ghost use Rattle.gdb_resumes.specs.Searches.{IsPassed, begins_at, rounds_at, rou
 ghost use Rattle.gdb_resumes.specs.Resumes.{IsSearched, IsUnderWay, SearchesTo, end_of, interrupted};
 ghost use Rattle.gdb_resumes.specs.declared.searching.Searched.TheVariants.{GoesOn, Stands};
 ghost use Rattle.gdb_resumes.specs.Sessions.{IsReady, OfRun, state_of};
+ghost use Rattle.round_schedule.specs.Bounds.{AreWorkers};
 
 use crate::asking::all_told;
 use crate::debugged::Debugged;
@@ -156,7 +157,7 @@ impl Reach {
         telling: &Telling,
         here: &Point,
     ) -> Result<(Option<Told>, Reach), RunError>
-        requires workers { (1 ≤ run.old.workers) × (run.old.workers ≤ 16) }
+        requires workers { AreWorkers run.old.workers }
         requires few { run.old.timeline.rounds + 1 < 2 ^ 32 }
         requires within { self.rounds ≤ run.old.timeline.rounds }
         ensures stays { run.new ≡ run.old }
@@ -211,7 +212,7 @@ impl Reach {
         here: &Point,
         count: u32,
     ) -> Result<Option<Told>, RunError>
-        requires workers { (1 ≤ run.old.workers) × (run.old.workers ≤ 16) }
+        requires workers { AreWorkers run.old.workers }
         requires within { self.rounds ≤ run.old.timeline.rounds }
         requires left { count ≤ rounds_left self.way run.old.timeline.rounds self.rounds }
         ensures stays { run.new ≡ run.old }
@@ -266,7 +267,7 @@ fn look_on<R: Threads + Wait + Sync>(
     rounds: u32,
     count: u32,
 ) -> Result<Option<Told>, RunError>
-    requires workers { (1 ≤ run.old.workers) × (run.old.workers ≤ 16) }
+    requires workers { AreWorkers run.old.workers }
     requires within { rounds + count ≤ run.old.timeline.rounds }
     ensures stays { run.new ≡ run.old }
     ensures passed { OfRun run.old (λ r. IfOk result (λ x. IsPassed r On rounds (rounds + count) telling.now here.now x)) }
@@ -286,7 +287,7 @@ fn look_back<R: Threads + Wait + Sync>(
     rounds: u32,
     count: u32,
 ) -> Result<Option<Told>, RunError>
-    requires workers { (1 ≤ run.old.workers) × (run.old.workers ≤ 16) }
+    requires workers { AreWorkers run.old.workers }
     requires within { rounds ≤ run.old.timeline.rounds }
     requires left { count ≤ rounds }
     ensures stays { run.new ≡ run.old }

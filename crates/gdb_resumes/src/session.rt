@@ -1,4 +1,4 @@
-ghost use Rattle.std.specs.Prelude.{◌≡◌, [], None};
+ghost use Rattle.std.specs.Prelude.{◌≡◌, [], None, false};
 ghost use Rattle.gdb_replies.specs.declared.stop_reply.Reason.TheVariants.{Step};
 ghost use Rattle.gdb_resumes.specs.Resumes.{at_goal, moved, stays};
 ghost use Rattle.gdb_resumes.specs.Sessions.{start_of};
@@ -26,6 +26,8 @@ pub struct Standing {
     pub moving: Option<u32>,
     /// Where a run is to stop once that goes on or back until something is told.
     pub goal: Option<Point>,
+    /// Whether a stop at a watchpoint tells the access.
+    pub hits: bool,
 }
 
 /// A debugger's session.
@@ -50,6 +52,7 @@ impl Session {
           general = 0;
           moving = None;
           goal = None;
+          hits = false;
         } }
         ensures software { result.software.items ≡ [] }
         ensures hardware { result.hardware.items ≡ [] }
@@ -63,6 +66,7 @@ impl Session {
                 general: 0,
                 moving: None,
                 goal: None,
+                hits: false,
             },
             software: Vec::new(alloc),
             hardware: Vec::new(alloc),
@@ -83,6 +87,7 @@ impl Standing {
             general: hart,
             moving: self.moving,
             goal: self.goal,
+            hits: self.hits,
         }
     }
 

@@ -5,6 +5,7 @@ ghost use Rattle.host_io.specs.declared.error.RunError.TheVariants as refusals;
 ghost use Rattle.watching.specs.declared.watchpoint.Way.TheVariants.{On};
 ghost use Rattle.gdb_resumes.specs.Resumes.{MovesAlone, MovesAloneBy, Passes, PassesOne, StepsAlone, StepsBack, after_one, alone_at, is_rival, is_watch, led_to, only_looks, own_from, own_moment, sooner_of, stands_alone, with_fault};
 ghost use Rattle.gdb_resumes.specs.Sessions.{IsReady, IsWithin, OfRun, is_stopped, state_of};
+ghost use Rattle.round_schedule.specs.Bounds.{AreWorkers};
 
 use crate::asking::{find, only_of, watched_of};
 use crate::debugged::Debugged;
@@ -313,7 +314,7 @@ fn led_to<R: Threads + Wait + Sync>(
     at: Point,
 ) -> Result<Point, RunError>
     requires within { at.moment.rounds ≤ run.old.timeline.rounds }
-    requires workers { (1 ≤ run.old.workers) × (run.old.workers ≤ 16) }
+    requires workers { AreWorkers run.old.workers }
     ensures stays { run.new ≡ run.old }
     ensures leads { OfRun run.old (λ r. IfOk result (λ x. x ≡ led_to r way hart at)) }
     ensures round { IfOk result (λ x. x.moment.rounds ≡ at.moment.rounds) }
@@ -333,7 +334,7 @@ fn behind<R: Threads + Wait + Sync>(
     at: Point,
 ) -> Result<Point, RunError>
     requires within { at.moment.rounds ≤ run.old.timeline.rounds }
-    requires workers { (1 ≤ run.old.workers) × (run.old.workers ≤ 16) }
+    requires workers { AreWorkers run.old.workers }
     ensures stays { run.new ≡ run.old }
     ensures leads { OfRun run.old (λ r. IfOk result (λ x. x ≡ led_to r On hart at)) }
     ensures round { IfOk result (λ x. x.moment.rounds ≡ at.moment.rounds) }

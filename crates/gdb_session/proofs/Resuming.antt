@@ -3,21 +3,21 @@ use Rattle.std.proofs.Common.{◌≡◌, ℕ, List, [], ◌++◌, Option, Some, 
 use Rattle.watching.specs.declared.watchpoint.Way.{Way}
 use Rattle.watching.specs.declared.watchpoint.Way.TheVariants.{On, Back}
 use Rattle.gdb_packets.specs.Stream.{Told, Accepted, Again, Interrupt, Packet, Spoilt}
-use Rattle.gdb_packets.specs.Writing.{answer_to, packet_text}
+use Rattle.gdb_packets.specs.Writing.{answer_to}
 use Rattle.gdb_requests.specs.declared.request.Request.{Request}
 use Rattle.gdb_resumes.specs.declared.searching.Search.{Search}
 use Rattle.gdb_resumes.specs.declared.session.Standing.{Standing}
 use Rattle.gdb_resumes.specs.Resumes.{Continues, interrupted}
 use Rattle.gdb_resumes.specs.Searches.{HasCome}
 use Rattle.gdb_resumes.specs.Sessions.{Recorded, State}
-use Rattle.gdb_session.specs.Answers.{stands_text}
+use Rattle.gdb_session.specs.Answers.{stands_packets}
 use Rattle.gdb_session.specs.Serving.{GoesOn, HearsBy, HearsWhile, IsInterrupted, RepliesOrGoesOn, RepliesTo, StandsOrLost, TakesUp, Talking, asked_by, asks_text, refused_text, request_for, way_of}
 
 module _ (r : Recorded) (s : State) where
   -- the search has ended
-  resumed : (way : Way) (t : Standing) → Continues r s way t → (u : State) → u ≡ record s { standing = t } → RepliesTo r s (request_for way) (packet_text (stands_text r t)) u
-  resumed On t goes u is = inl (record { text = stands_text r t; answers = record { to = Some t; moves = goes; stands = (refl, is) }; is = refl })
-  resumed Back t goes u is = inl (record { text = stands_text r t; answers = record { to = Some t; moves = goes; stands = (refl, is) }; is = refl })
+  resumed : (way : Way) (t : Standing) → Continues r s way t → (u : State) → u ≡ record s { standing = t } → RepliesTo r s (request_for way) (stands_packets r t) u
+  resumed On t goes u is = inl (record { to = Some t; moves = goes; stands = (refl, is) })
+  resumed Back t goes u is = inl (record { to = Some t; moves = goes; stands = (refl, is) })
 
   lost : (way : Way) (u : State) → u ≡ s → RepliesTo r s (request_for way) refused_text u
   lost On u is = inr (refl, is)
@@ -25,7 +25,7 @@ module _ (r : Recorded) (s : State) where
 
   pub ended : (way : Way) (t : Standing) (took took_then : List ℕ) (u : State) → Continues r s way t → StandsOrLost r s t took took_then u →
       (written : List ℕ) × RepliesOrGoesOn r s (request_for way) written u None × (took_then ≡ took ++ written)
-  ended way t took took_then u goes (inl x) = (packet_text (stands_text r t), resumed way t goes u x.1, x.0)
+  ended way t took took_then u goes (inl x) = (stands_packets r t, resumed way t goes u x.1, x.0)
   ended way t took took_then u goes (inr x) = (refused_text, lost way u x.1, x.0)
 
   pub lost_on : (way : Way) (took took_then : List ℕ) → took_then ≡ took ++ refused_text →
@@ -81,5 +81,5 @@ module _ (r : Recorded) (s : Talking) where
       StandsOrLost r s.state (interrupted s.state.standing y.reach.rounds) took took_then t.state → t.searching ≡ None → t.last ≡ s.last →
       (written : List ℕ) × IsInterrupted r s y written t × (took_then ≡ took ++ written)
   interrupted_there y took took_then t (inl x) none last =
-      (packet_text (stands_text r (interrupted s.state.standing y.reach.rounds)), record { stands = inl (refl, x.1); ended = none; last = last }, x.0)
+      (stands_packets r (interrupted s.state.standing y.reach.rounds), record { stands = inl (refl, x.1); ended = none; last = last }, x.0)
   interrupted_there y took took_then t (inr x) none last = (refused_text, record { stands = inr (refl, x.1); ended = none; last = last }, x.0)

@@ -1,9 +1,10 @@
 -- Where the next run is to stop, when the user has said so.
 use Rattle.std.proofs.Common.{◌≡◌, ℕ, ◌<◌, List, ◌++◌, Bool, true, false, Option, Some, None, refl, sym, ap, subst}
-use Rattle.std.specs.Prelude.{IfSome, if◌then◌else◌}
+use Rattle.std.specs.Prelude.{IfSome, ◌||◌, if◌then◌else◌}
 use Rattle.hex.specs.Hex.{encode_lower}
 use Rattle.gdb_packets.specs.Writing.{packet_text}
 use Rattle.gdb_requests.specs.declared.command.Command.{Command}
+use Rattle.gdb_requests.specs.declared.command.Command.TheVariants as commands
 use Rattle.gdb_requests.specs.declared.request.Request.TheVariants as requests
 use Rattle.round_steps.specs.declared.point.Point.{Point}
 use Rattle.round_steps.specs.Points.{same_moment}
@@ -13,7 +14,7 @@ use Rattle.gdb_resumes.specs.declared.goals.Goal.TheVariants as goals
 use Rattle.gdb_resumes.specs.declared.session.Standing.{Standing}
 use Rattle.gdb_resumes.specs.Goals.{IsGoalWithin}
 use Rattle.gdb_resumes.specs.Sessions.{IsReady, Recorded, State}
-use Rattle.gdb_session.specs.Answers.{Answered, AnswersBy, GoesTo, IsGoal, command_text, goal_text, goal_then, is_goto, or_else, with_goal}
+use Rattle.gdb_session.specs.Answers.{Answered, AnswersBy, GoesTo, IsGoal, Sets, command_text, goal_text, goal_then, is_goto, is_hits, or_else, with_goal}
 
 abbrev pub IsThere : Debugged → Point → Type 0
 IsThere d at = (at.moment.rounds < d.timeline.rounds) × (at.moment.place.hart < d.harts)
@@ -46,16 +47,32 @@ ready_with d t goal then' ready within is = record {
   goal = subst (λ (o : Option Point). IfSome o (IsThere d)) (sym is) (still_there d t goal within ready.goal);
 }
 
+goal_set : (r : Recorded) (s : State) (command : Command) (written : List ℕ) (t : State) → is_goto command ≡ true → GoesTo r s command written t → Sets r s command written t
+goal_set r s commands.Where written t e x = x
+goal_set r s commands.Harts written t e x = x
+goal_set r s commands.Buffer written t e x = x
+goal_set r s commands.Event written t e x = x
+goal_set r s commands.Reservations written t e x = x
+goal_set r s (commands.GotoRound n) written t e x = x
+goal_set r s (commands.GotoPlace n i p) written t e x = x
+goal_set r s commands.GotoEnd written t e x = x
+goal_set r s commands.Plan written t e x = x
+goal_set r s commands.Output written t e x = x
+goal_set r s commands.HitsOn written t e x = let none : false ≡ true = e in absurd cc
+goal_set r s commands.HitsOff written t e x = let none : false ≡ true = e in absurd cc
+goal_set r s commands.Help written t e x = x
+goal_set r s commands.Unknown written t e x = x
+
 -- and that is what the user is answered
 pub goes_to : (r : Recorded) (s : State) (command : Command) (goal : Goal) (then' : Option Point) (took took_then : List ℕ) → is_goto command ≡ true → IsGoal r command goal →
     then' ≡ goal_then s.standing goal → took_then ≡ took ++ packet_text (encode_lower (goal_text r s.standing goal)) →
     Answered r s (requests.Command command) took took_then (with_goal s then')
 goes_to r s command goal then' took took_then goes is so wrote =
-    let text = encode_lower (goal_text r s.standing goal) in
-    let there : GoesTo r s command text (with_goal s then') = record {
+    let written = packet_text (encode_lower (goal_text r s.standing goal)) in
+    let there : GoesTo r s command written (with_goal s then') = record {
       goal = goal;
       is = is;
       says = (refl, ap (with_goal s) so);
     } in
-    let A : Bool → Type 0 = λ b. AnswersBy (or_else None (if b then None else Some (command_text r s.standing command))) r s (requests.Command command) text (with_goal s then') in
-    record { text = text; answers = subst A (sym goes) there; wrote = wrote }
+    let A : Bool → Type 0 = λ b. AnswersBy (or_else None (if b || is_hits command then None else Some (command_text r s.standing command))) r s (requests.Command command) written (with_goal s then') in
+    record { written = written; answers = subst A (sym goes) (goal_set r s command written (with_goal s then') goes there); wrote = wrote }

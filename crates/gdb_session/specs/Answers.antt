@@ -17,14 +17,16 @@ use Rattle.gdb_requests.specs.declared.request.Request.TheVariants as requests
 use Rattle.gdb_requests.specs.declared.request.Watch.{Watch}
 use Rattle.gdb_requests.specs.declared.request.Watch.TheVariants as asked
 use Rattle.gdb_replies.specs.Description.{target_text}
-use Rattle.gdb_replies.specs.CommandTexts.{ahead_text, behind_text, elsewhere_text, harts_text, help_text, here_text, rounds_text}
+use Rattle.gdb_replies.specs.CommandTexts.{ahead_text, behind_text, elsewhere_text, harts_text, help_text, here_text, hits_text, rounds_text}
 use Rattle.gdb_replies.specs.Replies.{features_text, part_of, payload_of}
 use Rattle.gdb_replies.specs.Words.{thread_text, threads_text}
 use Rattle.gdb_replies.specs.declared.reply.Reply.TheVariants as replies
-use Rattle.gdb_answers.specs.Answers.{checksum_answer, memory_answer, note_answer, register_answer, registers_answer, seen, stop_answer, thread_list_answer}
+use Rattle.gdb_replies.specs.declared.stop_reply.Reason.{Reason}
+use Rattle.gdb_replies.specs.declared.stop_reply.Reason.TheVariants as reasons
+use Rattle.gdb_answers.specs.Answers.{checksum_answer, memory_answer, note_answer, note_at, register_answer, registers_answer, seen, stop_answer, thread_list_answer}
 use Rattle.gdb_answers.specs.Buffers.{buffer_answer}
 use Rattle.gdb_answers.specs.Commands.{harts_answer, output_answer, plan_answer, where_answer}
-use Rattle.gdb_answers.specs.Events.{event_answer}
+use Rattle.gdb_answers.specs.Events.{event_answer, event_packet}
 use Rattle.gdb_answers.specs.Files.{file_answer}
 use Rattle.gdb_answers.specs.Reserved.{reservations_answer}
 use Rattle.round_steps.specs.declared.point.Point.{Point}
@@ -52,7 +54,7 @@ stands_text r t = stop_answer t.reason t.told (seen r.run t.point t.told)
 
 abbrev pub note_text_of : Recorded → Standing → Option ℕ → List ℕ
 note_text_of r t None = codes "E01"
-note_text_of r t (Some hart) = note_answer hart t.point.moment (seen r.run t.point hart)
+note_text_of r t (Some hart) = note_answer (note_at r.run t.point hart)
 
 -- the name of the image, where it is handed
 abbrev pub name_answer : Option (List ℕ) → ℕ → ℕ → List ℕ
@@ -87,12 +89,21 @@ command_text r t commands.Output = output_answer (after_rounds t.point.moment.ro
 command_text r t commands.Help = encode_lower help_text
 command_text r t command = encode_lower (codes "no such command: monitor help\n")
 
--- the others say where the next run is to stop
+-- the others change the session: they say where the next run is to stop
 abbrev pub is_goto : Command → Bool
 is_goto (commands.GotoRound round) = true
 is_goto (commands.GotoPlace round hart place) = true
 is_goto commands.GotoEnd = true
 is_goto command = false
+
+-- or whether stops at watchpoints tell the access
+abbrev pub is_hits : Command → Bool
+is_hits commands.HitsOn = true
+is_hits commands.HitsOff = true
+is_hits command = false
+
+abbrev pub is_setting : Command → Bool
+is_setting command = is_goto command || is_hits command
 
 -- what is
 abbrev pub text_at : Recorded → Standing → Request → Option (List ℕ)
@@ -104,7 +115,7 @@ text_at r t requests.ReadRegisters = Some (registers_answer t.point.moment (seen
 text_at r t (requests.ReadRegister number) = Some (register_answer number t.point.moment (seen r.run t.point t.general))
 text_at r t (requests.ReadMemory address count) = Some (memory_answer address count (seen r.run t.point t.general))
 text_at r t (requests.Checksum address count) = Some (checksum_answer address count (seen r.run t.point t.general))
-text_at r t (requests.Command command) = if is_goto command then None else Some (command_text r t command)
+text_at r t (requests.Command command) = if is_setting command then None else Some (command_text r t command)
 text_at r t request = None
 
 abbrev pub or_else : Option (List ℕ) → Option (List ℕ) → Option (List ℕ)
@@ -122,8 +133,9 @@ pub record Replied (r : Recorded) (t : Standing) (request : Request) (took took_
 
 -- ---- requests that change the session
 
+-- this is said, in one packet, and so the session is then
 abbrev pub Says : List ℕ → State → List ℕ → State → Type 0
-Says said s text t = (text ≡ said) × (t ≡ s)
+Says said s written t = (written ≡ packet_text said) × (t ≡ s)
 
 -- it is selected of which hart registers and memory are asked
 abbrev pub selects_general : State → Option ℕ → State
@@ -131,22 +143,22 @@ selects_general s None = s
 selects_general s (Some hart) = record s { standing = record s.standing { general = hart } }
 
 abbrev pub SelectsGeneral : Recorded → State → Option ℕ → List ℕ → State → Type 0
-SelectsGeneral r s None text t = Says (codes "OK") s text t
-SelectsGeneral r s (Some thread) text t =
+SelectsGeneral r s None written t = Says (codes "OK") s written t
+SelectsGeneral r s (Some thread) written t =
     let hart = hart_of_thread r.harts thread in
-    Says (done_or_missing hart) (selects_general s hart) text t
+    Says (done_or_missing hart) (selects_general s hart) written t
 
 -- and which hart is to step back alone
 abbrev pub moves_alone : State → Option ℕ → State
 moves_alone s hart = record s { standing = record s.standing { moving = hart } }
 
 abbrev pub SelectsMoving : State → Option ℕ → List ℕ → State → Type 0
-SelectsMoving s None text t = Says (codes "E01") s text t
-SelectsMoving s (Some hart) text t = Says (codes "OK") (moves_alone s (Some hart)) text t
+SelectsMoving s None written t = Says (codes "E01") s written t
+SelectsMoving s (Some hart) written t = Says (codes "OK") (moves_alone s (Some hart)) written t
 
 abbrev pub SelectsMovingBy : Recorded → State → Option ℕ → List ℕ → State → Type 0
-SelectsMovingBy r s None text t = Says (codes "OK") (moves_alone s None) text t
-SelectsMovingBy r s (Some thread) text t = SelectsMoving s (hart_of_thread r.harts thread) text t
+SelectsMovingBy r s None written t = Says (codes "OK") (moves_alone s None) written t
+SelectsMovingBy r s (Some thread) written t = SelectsMoving s (hart_of_thread r.harts thread) written t
 
 -- breakpoints come and go
 abbrev pub with_one : List ℕ → ℕ → List ℕ
@@ -209,10 +221,18 @@ goal_then t goals.NoPlace = t.goal
 abbrev pub with_goal : State → Option Point → State
 with_goal s goal = record s { standing = record s.standing { goal = goal } }
 
-pub record GoesTo (r : Recorded) (s : State) (command : Command) (text : List ℕ) (t : State) : Type 0 where
+pub record GoesTo (r : Recorded) (s : State) (command : Command) (written : List ℕ) (t : State) : Type 0 where
   pub goal : Goal
   pub is : IsGoal r command goal
-  pub says : Says (encode_lower (goal_text r s.standing goal)) (with_goal s (goal_then s.standing goal)) text t
+  pub says : Says (encode_lower (goal_text r s.standing goal)) (with_goal s (goal_then s.standing goal)) written t
+
+abbrev pub with_hits : State → Bool → State
+with_hits s on = record s { standing = record s.standing { hits = on } }
+
+abbrev pub Sets : Recorded → State → Command → List ℕ → State → Type 0
+Sets r s commands.HitsOn written t = Says (encode_lower (hits_text true)) (with_hits s true) written t
+Sets r s commands.HitsOff written t = Says (encode_lower (hits_text false)) (with_hits s false) written t
+Sets r s command written t = GoesTo r s command written t
 
 -- the run is resumed: where it stands then; none where there is no such thread
 abbrev pub MovesTo : (Standing → Type 0) → Option Standing → Type 0
@@ -232,38 +252,51 @@ Moves r s requests.StepBack x = MovesTo (StepsBack r s) x
 Moves r s requests.ContinueBack x = MovesTo (Continues r s Back) x
 Moves r s request x = ⊥
 
--- it is told where it stands
-abbrev pub Stands : Recorded → State → Option Standing → List ℕ → State → Type 0
-Stands r s None text t = Says (codes "E01") s text t
-Stands r s (Some standing) text t = Says (stands_text r standing) (record s { standing = standing }) text t
+-- at a watchpoint the access is told on the debugger's terminal, if that was asked for
+abbrev pub is_hit : Reason → Bool
+is_hit (reasons.Watch address) = true
+is_hit (reasons.ReadWatch address) = true
+is_hit (reasons.AccessWatch address) = true
+is_hit reason = false
 
-pub record Resumes (r : Recorded) (s : State) (request : Request) (text : List ℕ) (t : State) : Type 0 where
+abbrev pub hit_packet : Recorded → Standing → List ℕ
+hit_packet r t = if t.hits && is_hit t.reason then event_packet r.rounds r.run t.point (seen r.run t.point t.point.moment.place.hart) else []
+
+-- and then it is told where it stands
+abbrev pub stands_packets : Recorded → Standing → List ℕ
+stands_packets r t = hit_packet r t ++ packet_text (stands_text r t)
+
+abbrev pub Stands : Recorded → State → Option Standing → List ℕ → State → Type 0
+Stands r s None written t = Says (codes "E01") s written t
+Stands r s (Some standing) written t = (written ≡ stands_packets r standing) × (t ≡ record s { standing = standing })
+
+pub record Resumes (r : Recorded) (s : State) (request : Request) (written : List ℕ) (t : State) : Type 0 where
   pub to : Option Standing
   pub moves : Moves r s request to
-  pub stands : Stands r s to text t
+  pub stands : Stands r s to written t
 
 abbrev pub Changes : Recorded → State → Request → List ℕ → State → Type 0
-Changes r s (requests.SelectGeneral thread) text t = SelectsGeneral r s thread text t
-Changes r s (requests.SelectMoving thread) text t = SelectsMovingBy r s thread text t
-Changes r s (requests.AddStop address) text t = Says (codes "OK") (record s { software = with_one s.software address }) text t
-Changes r s (requests.RemoveStop address) text t = Says (codes "OK") (record s { software = without_one s.software address }) text t
-Changes r s (requests.AddHardwareStop address) text t = Says (codes "OK") (record s { hardware = with_one s.hardware address }) text t
-Changes r s (requests.RemoveHardwareStop address) text t = Says (codes "OK") (record s { hardware = without_one s.hardware address }) text t
-Changes r s (requests.AddWatch kind address count) text t = Says (codes "OK") (record s { watches = with_watch s.watches (watch_of kind address count) }) text t
-Changes r s (requests.RemoveWatch kind address count) text t = Says (codes "OK") (record s { watches = without_watch s.watches (watch_of kind address count) }) text t
-Changes r s (requests.Command command) text t = GoesTo r s command text t
-Changes r s request text t = Resumes r s request text t
+Changes r s (requests.SelectGeneral thread) written t = SelectsGeneral r s thread written t
+Changes r s (requests.SelectMoving thread) written t = SelectsMovingBy r s thread written t
+Changes r s (requests.AddStop address) written t = Says (codes "OK") (record s { software = with_one s.software address }) written t
+Changes r s (requests.RemoveStop address) written t = Says (codes "OK") (record s { software = without_one s.software address }) written t
+Changes r s (requests.AddHardwareStop address) written t = Says (codes "OK") (record s { hardware = with_one s.hardware address }) written t
+Changes r s (requests.RemoveHardwareStop address) written t = Says (codes "OK") (record s { hardware = without_one s.hardware address }) written t
+Changes r s (requests.AddWatch kind address count) written t = Says (codes "OK") (record s { watches = with_watch s.watches (watch_of kind address count) }) written t
+Changes r s (requests.RemoveWatch kind address count) written t = Says (codes "OK") (record s { watches = without_watch s.watches (watch_of kind address count) }) written t
+Changes r s (requests.Command command) written t = Sets r s command written t
+Changes r s request written t = Resumes r s request written t
 
 abbrev pub AnswersBy : Option (List ℕ) → Recorded → State → Request → List ℕ → State → Type 0
-AnswersBy None r s request text t = Changes r s request text t
-AnswersBy (Some said) r s request text t = Says said s text t
+AnswersBy None r s request written t = Changes r s request written t
+AnswersBy (Some said) r s request written t = Says said s written t
 
--- the payload of the reply, and the session then
+-- what is written, and the session then
 abbrev pub Answers : Recorded → State → Request → List ℕ → State → Type 0
-Answers r s request text t = AnswersBy (reply_at r s.standing request) r s request text t
+Answers r s request written t = AnswersBy (reply_at r s.standing request) r s request written t
 
--- it is written as one packet
+-- it is behind what was written before
 pub record Answered (r : Recorded) (s : State) (request : Request) (took took_then : List ℕ) (t : State) : Type 0 where
-  pub text : List ℕ
-  pub answers : Answers r s request text t
-  pub wrote : took_then ≡ took ++ packet_text text
+  pub written : List ℕ
+  pub answers : Answers r s request written t
+  pub wrote : took_then ≡ took ++ written

@@ -10,7 +10,7 @@ use Rattle.gdb_requests.specs.declared.request.Request.TheVariants as requests
 use Rattle.gdb_replies.specs.declared.stop_reply.Reason.TheVariants.{Step}
 use Rattle.watching.specs.declared.watchpoint.Way.{Way}
 use Rattle.watching.specs.declared.watchpoint.Way.TheVariants.{On, Back}
-use Rattle.gdb_session.specs.Answers.{Answers, stands_text}
+use Rattle.gdb_session.specs.Answers.{Answers, stands_packets}
 use Rattle.gdb_resumes.specs.declared.searching.Search.{Search}
 use Rattle.gdb_resumes.specs.declared.session.Standing.{Standing}
 use Rattle.gdb_resumes.specs.Resumes.{interrupted}
@@ -31,7 +31,7 @@ talking t = record { state = state_of t.session; last = t.last; searching = t.se
 abbrev pub begun : Talking
 begun = record {
   state = record {
-    standing = record { point = start_of 0; reason = Step; told = 0; general = 0; moving = None; goal = None };
+    standing = record { point = start_of 0; reason = Step; told = 0; general = 0; moving = None; goal = None; hits = false };
     software = [];
     hardware = [];
     watches = [];
@@ -67,14 +67,9 @@ asked_by Spoilt last = None
 abbrev pub refused_text : List ℕ
 refused_text = packet_text (codes "E.error 20")
 
--- one packet answers a request; or it says that the request found no memory, and the session stays as it was
-pub record IsAnswered (r : Recorded) (s : State) (request : Request) (written : List ℕ) (t : State) : Type 0 where
-  pub text : List ℕ
-  pub answers : Answers r s request text t
-  pub is : written ≡ packet_text text
-
+-- a request is answered; or it is said that it found no memory, and the session stays as it was
 abbrev pub Replies : Recorded → State → Request → List ℕ → State → Type 0
-Replies r s request written t = IsAnswered r s request written t ⊎ ((written ≡ refused_text) × (t ≡ s))
+Replies r s request written t = Answers r s request written t ⊎ ((written ≡ refused_text) × (t ≡ s))
 
 -- a run that is to end is not answered
 abbrev pub RepliesTo : Recorded → State → Request → List ℕ → State → Type 0
@@ -124,7 +119,7 @@ HearsBy r s x (Some request) written t = HearsRequest r s x request written t
 -- it is told where the run stands now; or that this found no memory, and the run stays where it stood
 abbrev pub StandsOrLost : Recorded → State → Standing → List ℕ → List ℕ → State → Type 0
 StandsOrLost r s standing took took_then t =
-    ((took_then ≡ took ++ packet_text (stands_text r standing)) × (t ≡ record s { standing = standing }))
+    ((took_then ≡ took ++ stands_packets r standing) × (t ≡ record s { standing = standing }))
     ⊎ ((took_then ≡ took ++ refused_text) × (t ≡ s))
 
 -- a search that is interrupted ends where it has come to

@@ -3,13 +3,13 @@
 ghost use Rattle.std.specs.Prelude.{◌≡◌, ◌++◌, ℕ, List, Err, IfErr, IfOk, IfSome, OnOk};
 ghost use Rattle.host_io.specs.declared.error.RunError.TheVariants as refusals;
 ghost use Rattle.gdb_requests.specs.declared.request.Request.TheVariants as requests;
-ghost use Rattle.gdb_packets.specs.Writing.{packet_text};
 ghost use Rattle.gdb_session.specs.Answers.{Answered, Moves, Resumes};
 ghost use Rattle.gdb_resumes.specs.Sessions.{IsReady, OfRun, state_of};
 
 use crate::breakpoints::{add_stop, remove_stop};
 use crate::goto::go_to;
-use crate::reading::{is_goto, reply_to, say_where};
+use crate::hits::set_hits;
+use crate::reading::{is_goto, reply_to, say_stop};
 use crate::selecting::{hart_of_thread, say_done};
 use crate::watchpoints::{add_watch, remove_watch, watch_of};
 use gdb_replies::{Reply, write_reply};
@@ -81,6 +81,30 @@ fn answer_command<R: Threads + Wait + Sync, K: Sink>(
     ensures refused { result ≡ Err refusals.OutOfMemory →
         (K.took out.new ≡ K.took out.old) × (state_of session.new ≡ state_of session.old) }
 {
+    match command {
+        Command::HitsOn => set_hits(alloc, run, session, true, out),
+        Command::HitsOff => set_hits(alloc, run, session, false, out),
+        _ => go_or_reply(rt, alloc, run, session, command, out),
+    }
+}
+
+/// Answers another one.
+fn go_or_reply<R: Threads + Wait + Sync, K: Sink>(
+    rt: &R,
+    alloc: Global,
+    run: &mut Debugged,
+    session: &mut Session,
+    command: Command,
+    out: &mut K,
+) -> Result<(), RunError>
+    requires ready { IsReady run.old session.old.standing }
+    ensures stays { run.new ≡ run.old }
+    ensures ready { IsReady run.old session.new.standing }
+    ensures answers { OfRun run.old (λ r. OnOk result (Answered r (state_of session.old) (requests.Command command)
+        (K.took out.old) (K.took out.new) (state_of session.new))) }
+    ensures refused { result ≡ Err refusals.OutOfMemory →
+        (K.took out.new ≡ K.took out.old) × (state_of session.new ≡ state_of session.old) }
+{
     if is_goto(command) {
         go_to(rt, alloc, run, session, command, out)
     } else {
@@ -107,14 +131,14 @@ fn resume<R: Threads + Wait + Sync, K: Sink>(
     requires ready { IsReady run.old session.old.standing }
     ensures stays { run.new ≡ run.old }
     ensures ready { IsReady run.old session.new.standing }
-    ensures resumes { OfRun run.old (λ r. OnOk result ((text : List ℕ) × Resumes r (state_of session.old) request text (state_of session.new)
-        × (K.took out.new ≡ K.took out.old ++ packet_text text))) }
+    ensures resumes { OfRun run.old (λ r. OnOk result ((written : List ℕ) × Resumes r (state_of session.old) request written (state_of session.new)
+        × (K.took out.new ≡ K.took out.old ++ written))) }
     ensures refused { result ≡ Err refusals.OutOfMemory →
         (K.took out.new ≡ K.took out.old) × (state_of session.new ≡ state_of session.old) }
 {
     match standing_after(rt, alloc, run, session, request)? {
         Some(standing) => {
-            say_where(rt, alloc, run, standing, out)?;
+            say_stop(rt, alloc, run, standing, out)?;
             session.standing = standing;
             Ok(())
         }

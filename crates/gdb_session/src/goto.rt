@@ -10,6 +10,7 @@ ghost use Rattle.gdb_requests.specs.declared.request.Request.TheVariants as requ
 ghost use Rattle.gdb_resumes.specs.Goals.{IsGoalWithin};
 ghost use Rattle.gdb_resumes.specs.Sessions.{IsReady, OfRun, state_of};
 ghost use Rattle.gdb_session.specs.Answers.{Answered, IsGoal, goal_text, goal_then, is_goto, side_text};
+ghost use Rattle.round_schedule.specs.Bounds.{AreWorkers};
 
 use gdb_replies::{Reply, add_harts_line, add_rounds_line, write_reply};
 use gdb_requests::Command;
@@ -64,7 +65,7 @@ fn goal_of<R: Threads + Wait + Sync>(
     run: &mut Debugged,
     command: Command,
 ) -> Result<Goal, RunError>
-    requires workers { (1 ≤ run.old.workers) × (run.old.workers ≤ 16) }
+    requires workers { AreWorkers run.old.workers }
     requires harts { 1 ≤ run.old.harts }
     ensures stays { run.new ≡ run.old }
     ensures goal { OfRun run.old (λ r. IfOk result (λ goal. IsGoal r command goal)) }

@@ -4,6 +4,7 @@
 mod answering;
 mod breakpoints;
 mod goto;
+mod hits;
 mod opening;
 mod reading;
 mod refusing;

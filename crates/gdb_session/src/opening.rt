@@ -11,7 +11,7 @@ ghost use Rattle.gdb_resumes.specs.Sessions.{IsReady, handed, image_of, is_elf};
 use gdb_resumes::Debugged;
 use host_io::RunError;
 use machine::{Format, Settings, load, prepare_untraced};
-use pages::Range;
+use pages::{MOST_PAGES, Range};
 use std::alloc::Global;
 
 /// The run that the settings ask for, before its first round.
@@ -56,7 +56,7 @@ pub fn open(
 
 /// The ranges of an image's code.
 fn code_of(alloc: Global, image: &[u8], settings: &Settings<'_>) -> Result<Vec<Range>, RunError>
-    requires pages { (1 ≤ settings.now.pages) × (settings.now.pages ≤ 16384) }
+    requires pages { (1 ≤ settings.now.pages) × (settings.now.pages ≤ MOST_PAGES) }
     ensures code { IfOk result (λ v. v.items ≡ (image_for settings.now image.now).code) }
     ensures errors { IfErr result (λ e. (e ≡ refusals.OutOfMemory) ⊎ ((cause : ImageCause) ×
         IsImageCause settings.now image.now cause × (e ≡ refusals.Image cause))) }

@@ -5,16 +5,16 @@ ghost use Rattle.std.specs.Option.{option_map};
 ghost use Rattle.host_io.specs.declared.error.RunError.TheVariants as refusals;
 ghost use Rattle.gdb_packets.specs.Writing.{packet_text};
 ghost use Rattle.gdb_replies.specs.Replies.{payload_of};
-ghost use Rattle.gdb_session.specs.Answers.{Replied, command_text, fixed_text, hart_of_thread, is_goto, name_answer, note_text_of, stands_text};
+ghost use Rattle.gdb_session.specs.Answers.{Replied, command_text, fixed_text, hart_of_thread, is_goto, is_hit, is_hits, is_setting, name_answer, note_text_of, stands_packets, stands_text};
 ghost use Rattle.gdb_resumes.specs.Sessions.{IsReady, OfRun};
 
 use crate::selecting::{hart_of_thread, say_done};
 use gdb_answers::{
-    Look, answer_buffer, answer_checksum, answer_event, answer_harts, answer_memory, answer_note,
-    answer_output, answer_plan, answer_register, answer_registers, answer_reservations,
-    answer_stop, answer_threads, answer_where, file_reply,
+    Look, answer_buffer, answer_checksum, answer_event, answer_harts, answer_hit, answer_memory,
+    answer_note, answer_output, answer_plan, answer_register, answer_registers,
+    answer_reservations, answer_stop, answer_threads, answer_where, file_reply,
 };
-use gdb_replies::{Reply, Window, command_help, target_description, write_reply};
+use gdb_replies::{Reason, Reply, Window, command_help, target_description, write_reply};
 use gdb_requests::{Command, IMAGE_NAME, Request};
 use gdb_resumes::{Debugged, Standing};
 use host_io::{RunError, Sink};
@@ -78,7 +78,7 @@ fn reply_at<R: Threads + Wait + Sync, K: Sink>(
             answer_checksum(rt, alloc, &mut run.timeline, look, address, count, out)
         }
         Request::Command(command) => {
-            if is_goto(command) {
+            if is_setting(command) {
                 // It changes the session, and isn't asked here.
                 return Err(RunError::OutOfMemory);
             }
@@ -156,6 +156,20 @@ pub(crate) fn is_goto(command: Command) -> bool
     }
 }
 
+/// Whether a command says if stops at watchpoints tell the access.
+pub(crate) fn is_hits(command: Command) -> bool
+    ensures { result ≡ is_hits command }
+{
+    matches!(command, Command::HitsOn | Command::HitsOff)
+}
+
+/// Whether a command changes the session.
+fn is_setting(command: Command) -> bool
+    ensures { result ≡ is_setting command }
+{
+    is_goto(command) || is_hits(command)
+}
+
 /// Answers a command of the user's that changes nothing.
 fn say_command<R: Threads + Wait + Sync, K: Sink>(
     rt: &R,
@@ -182,18 +196,8 @@ fn say_command<R: Threads + Wait + Sync, K: Sink>(
             };
             answer_harts(rt, alloc, &mut run.timeline, all, out)
         }
-        Command::Buffer => {
-            answer_buffer(rt, alloc, &mut run.timeline, &mut run.start, look, out)
-        }
-        Command::Event => answer_event(
-            rt,
-            alloc,
-            &mut run.timeline,
-            &mut run.start,
-            look.point,
-            workers,
-            out,
-        ),
+        Command::Buffer => answer_buffer(rt, alloc, &mut run.timeline, look, out),
+        Command::Event => answer_event(rt, alloc, &mut run.timeline, look.point, workers, out),
         Command::Reservations => answer_reservations(
             rt,
             alloc,
@@ -234,6 +238,40 @@ pub(crate) fn say_where<R: Threads + Wait + Sync, K: Sink>(
         workers: run.workers,
     };
     answer_stop(rt, alloc, &mut run.timeline, look, standing.reason, out)
+}
+
+/// Says where a run that was resumed stands, and why: at a watchpoint behind the access, if that was asked for. It may wait.
+pub(crate) fn say_stop<R: Threads + Wait + Sync, K: Sink>(
+    rt: &R,
+    alloc: Global,
+    run: &mut Debugged,
+    standing: Standing,
+    out: &mut K,
+) -> Result<(), RunError>
+    requires ready { IsReady run.old standing }
+    ensures stays { run.new ≡ run.old }
+    ensures writes { OfRun run.old (λ r. OnOk result (K.took out.new ≡ K.took out.old ++ stands_packets r standing)) }
+    ensures memory { result ≡ Err refusals.OutOfMemory → K.took out.new ≡ K.took out.old }
+{
+    if !(standing.hits && is_hit(standing.reason)) {
+        return say_where(rt, alloc, run, standing, out);
+    }
+    let look = Look {
+        point: standing.point,
+        hart: standing.told,
+        workers: run.workers,
+    };
+    answer_hit(rt, alloc, &mut run.timeline, look, standing.reason, out)
+}
+
+/// Whether a watchpoint is why the run stands.
+fn is_hit(reason: Reason) -> bool
+    ensures { result ≡ is_hit reason }
+{
+    match reason {
+        Reason::Watch(_) | Reason::ReadWatch(_) | Reason::AccessWatch(_) => true,
+        _ => false,
+    }
 }
 
 /// Says where a thread's hart is.

@@ -5,7 +5,7 @@ ghost use Rattle.gdb_resumes.specs.Resumes.{IsUnderWay, interrupted};
 ghost use Rattle.gdb_resumes.specs.Sessions.{IsReady, OfRun, state_of};
 ghost use Rattle.gdb_session.specs.Serving.{RepliesOrGoesOn, StandsOrLost, asks_text, refused_text, request_for};
 
-use crate::reading::say_where;
+use crate::reading::say_stop;
 use gdb_resumes::{Debugged, Search, Searched, Session, Standing};
 use host_io::{RunError, Sink, put_all};
 use std::alloc::Global;
@@ -117,7 +117,7 @@ fn stand<R: Threads + Wait + Sync, K: Sink>(
     ensures stands { OfRun run.old (λ r. OnOk result (StandsOrLost r (state_of session.old) standing
         (K.took out.old) (K.took out.new) (state_of session.new))) }
 {
-    match say_where(rt, alloc, run, standing, out) {
+    match say_stop(rt, alloc, run, standing, out) {
         Ok(()) => {
             session.standing = standing;
             Ok(())

@@ -1,5 +1,5 @@
 -- What a debugger is told of a hart at a moment.
-use Rattle.std.specs.Prelude.{ℕ, ◌+◌, ◌==◌, ◌||◌, if◌then◌else◌, List, slice_set, slice_index, Option, Some, None}
+use Rattle.std.specs.Prelude.{ℕ, ◌+◌, ◌==◌, ◌||◌, false, if◌then◌else◌, List, slice_set, slice_index, Option, Some, None}
 use Rattle.hart_step.specs.declared.hart.Hart.{Hart}
 use Rattle.hart_step.specs.declared.hart.Stop.{Stop}
 use Rattle.walking.specs.Stops.{is_one_of}
@@ -19,8 +19,9 @@ abbrev pub told_stop : Option Stop → Option (ℕ × ℕ)
 told_stop None = None
 told_stop (Some s) = Some (s.code, s.value)
 
+-- what is said of hart i by the hart alone: not whether it waits, and nothing of its stores
 abbrev pub note_of : ℕ → Hart → Moment → ThreadNote
-note_of i h at = record { hart = i; round = at.rounds + 1; phase = at.place.phase; place = h.done; stop = told_stop h.stop }
+note_of i h at = record { hart = i; round = at.rounds + 1; phase = at.place.phase; place = h.done; waits = false; uncommitted = 0; stop = told_stop h.stop }
 
 -- gdb's number of the signal that a fault is: 4 for an illegal word, 10 for an address that is no multiple of what it has to be, 5 for EBREAK, and
 -- 11 for what lies outside memory or code, or is a store to code

@@ -32,7 +32,8 @@ fn phase_number(phase: Phase) -> u64
     }
 }
 
-/// What is said of hart `number` at a moment, before the last round that there can be.
+/// What is said of hart `number` at a moment, before the last round that there can be, by the hart alone: not whether it waits, and
+/// nothing of its stores.
 pub fn note_of(number: u32, hart: &Hart, moment: Moment) -> ThreadNote
     requires { moment.rounds + 1 < 2 ^ 32 }
     ensures { result ≡ note_of number hart.now moment }
@@ -42,6 +43,8 @@ pub fn note_of(number: u32, hart: &Hart, moment: Moment) -> ThreadNote
         round: moment.rounds + 1,
         phase: moment.place.phase,
         place: hart.done,
+        waits: false,
+        uncommitted: 0,
         stop: told_stop(hart.stop),
     }
 }

@@ -26,14 +26,21 @@ fn replies_are_written(rt: HostRuntime) -> Result<(), Fail> {
         round: 3,
         phase: Phase::Parallel,
         place: 45,
+        waits: false,
+        uncommitted: 0,
         stop: None,
+    };
+    let waiting = ThreadNote {
+        waits: true,
+        uncommitted: 8,
+        ..running
     };
     let ended = ThreadNote {
         hart: 0,
         stop: Some((1, 10)),
         ..running
     };
-    let rows: [(Reply<'_>, &[u8]); 14] = [
+    let rows: [(Reply<'_>, &[u8]); 15] = [
         (Reply::Unknown, b"$#00"),
         (Reply::Done, b"$OK#9a"),
         (Reply::Refused(20), b"$E.error 20#1f"),
@@ -50,6 +57,10 @@ fn replies_are_written(rt: HostRuntime) -> Result<(), Fail> {
         (
             Reply::Note(running),
             b"$6861727420312c20726f756e6420332c20706172616c6c656c2c20706c616365203435#d2",
+        ),
+        (
+            Reply::Note(waiting),
+            b"$6861727420312c20726f756e6420332c20706172616c6c656c2c20706c6163652034352c2077616974732c2038206279746573206e6f7420636f6d6d6974746564#77",
         ),
         (Reply::Note(ended), b"$6861727420302c2065786974203130#42"),
         (

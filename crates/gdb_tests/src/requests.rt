@@ -72,8 +72,11 @@ fn questions_are_read(rt: HostRuntime) -> Result<(), Fail> {
 }
 
 #[test]
-fn places_to_go_to_are_read(rt: HostRuntime) -> Result<(), Fail> {
-    let rows: [(&[u8], Command); 8] = [
+fn settings_are_read(rt: HostRuntime) -> Result<(), Fail> {
+    let rows: [(&[u8], Command); 11] = [
+        (b"qRcmd,68697473206f6e", Command::HitsOn),
+        (b"qRcmd,68697473206f6666", Command::HitsOff),
+        (b"qRcmd,68697473", Command::Unknown),
         (b"qRcmd,676f746f203132", Command::GotoRound(12)),
         (
             b"qRcmd,676f746f20312031203135",

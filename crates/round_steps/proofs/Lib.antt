@@ -3,6 +3,7 @@ pub mod TurnsAlong
 pub mod Searching
 pub mod RoundParts
 pub mod ShownThere
+pub mod OwnPartsDone
 pub mod Stretches
 pub mod PointsFound
 pub mod Silent

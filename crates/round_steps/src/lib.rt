@@ -2,6 +2,7 @@
 #![tactic(auto)]
 
 mod moment;
+mod own_part;
 mod part;
 mod place;
 mod point;
@@ -14,6 +15,7 @@ mod timeline;
 mod turn;
 
 pub use moment::Moment;
+pub use own_part::OwnPart;
 pub use place::Place;
 pub use point::{Point, Side, Told};
 pub use point_search::{next_point, previous_point};

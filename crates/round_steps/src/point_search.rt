@@ -4,6 +4,7 @@ ghost use Rattle.machine.specs.Machine.{Running};
 ghost use Rattle.machine.specs.Untraced.{IsUntraced};
 ghost use Rattle.round_steps.specs.Points.{or_else};
 ghost use Rattle.round_steps.specs.Searching.{FindsFirst, FindsLast};
+ghost use Rattle.round_schedule.specs.Bounds.{AreWorkers};
 
 use crate::point::{Point, Told, earliest_behind, latest_before};
 use crate::points::{Telling, points_in_round};
@@ -34,7 +35,7 @@ pub fn next_point<R: Threads + Wait + Sync>(
 ) -> Result<Option<Told>, RunError>
     requires run { (m : Running) × IsUntraced m machine.old }
     requires rounds { machine.old.rounds + rounds < 2 ^ 32 }
-    requires workers { (1 ≤ workers) × (workers ≤ 16) }
+    requires workers { AreWorkers workers }
     ensures first { (m : Running) → IsUntraced m machine.old → m.code ≡ code.now → IfOk result (FindsFirst
         telling.now.asked telling.now.watches.items m rounds here.now machine.old machine.new) }
     ensures refused { IfErr result (λ e. e ≡ refusals.OutOfMemory) }
@@ -72,7 +73,7 @@ fn first_in<R: Threads + Wait + Sync>(
 ) -> Result<Option<Told>, RunError>
     requires run { (m : Running) × IsUntraced m machine.old }
     requires rounds { machine.old.rounds + rounds < 2 ^ 32 }
-    requires workers { (1 ≤ workers) × (workers ≤ 16) }
+    requires workers { AreWorkers workers }
     ensures first { (m : Running) → IsUntraced m machine.old → m.code ≡ code.now → IfOk result (FindsFirst
         asked.now watches.now m rounds here.now machine.old machine.new) }
     ensures refused { IfErr result (λ e. e ≡ refusals.OutOfMemory) }
@@ -103,7 +104,7 @@ pub fn previous_point<R: Threads + Wait + Sync>(
 ) -> Result<Option<Told>, RunError>
     requires run { (m : Running) × IsUntraced m machine.old }
     requires rounds { machine.old.rounds + rounds < 2 ^ 32 }
-    requires workers { (1 ≤ workers) × (workers ≤ 16) }
+    requires workers { AreWorkers workers }
     ensures last { (m : Running) → IsUntraced m machine.old → m.code ≡ code.now → IfOk result (FindsLast
         telling.now.asked telling.now.watches.items m rounds here.now machine.old machine.new) }
     ensures refused { IfErr result (λ e. e ≡ refusals.OutOfMemory) }
@@ -140,7 +141,7 @@ fn last_in<R: Threads + Wait + Sync>(
 ) -> Result<Option<Told>, RunError>
     requires run { (m : Running) × IsUntraced m machine.old }
     requires rounds { machine.old.rounds + rounds < 2 ^ 32 }
-    requires workers { (1 ≤ workers) × (workers ≤ 16) }
+    requires workers { AreWorkers workers }
     ensures last { (m : Running) → IsUntraced m machine.old → m.code ≡ code.now → IfOk result (FindsLast
         asked.now watches.now m rounds here.now machine.old machine.new) }
     ensures refused { IfErr result (λ e. e ≡ refusals.OutOfMemory) }

@@ -12,6 +12,7 @@ ghost use Rattle.round_steps.specs.Places.{round_places};
 ghost use Rattle.moments.specs.Moves.{moves_of};
 ghost use Rattle.watching.specs.Watches.{hits_of};
 ghost use Rattle.round_steps.specs.Points.{break_point, done_by, hit_place, hit_point, hit_side, points_of};
+ghost use Rattle.round_schedule.specs.Bounds.{AreWorkers};
 
 use crate::moment::Moment;
 use crate::place::Place;
@@ -20,6 +21,7 @@ use crate::round::places_in_round;
 use hart_step::Hart;
 use host_io::RunError;
 use machine::UntracedMachine;
+use noted_runs::run_noting;
 use pages::{OutOfMemory, Range};
 use std::alloc::Global;
 use std::sync::Wait;
@@ -49,7 +51,7 @@ pub(crate) fn points_in_round<R: Threads + Wait + Sync>(
 ) -> Result<Vec<Told>, RunError>
     requires run { (m : Running) × IsUntraced m machine.old }
     requires rounds { machine.old.rounds + 1 < 2 ^ 32 }
-    requires workers { (1 ≤ workers) × (workers ≤ 16) }
+    requires workers { AreWorkers workers }
     ensures runs { OnOk result (IsAfter 1 machine.old machine.new) }
     ensures counted { OnOk result (machine.new.rounds ≡ machine.old.rounds + 1) }
     ensures told { (m : Running) → IsUntraced m machine.old → m.code ≡ code.now →
@@ -108,7 +110,7 @@ fn hits_in_next<R: Threads + Wait + Sync>(
 ) -> Result<Vec<Hit>, RunError>
     requires run { (m : Running) × IsUntraced m machine.old }
     requires rounds { machine.old.rounds + 1 < 2 ^ 32 }
-    requires workers { (1 ≤ workers) × (workers ≤ 16) }
+    requires workers { AreWorkers workers }
     ensures runs { OnOk result (IsAfter 1 machine.old machine.new) }
     ensures counted { OnOk result (machine.new.rounds ≡ machine.old.rounds + 1) }
     ensures hits { (m : Running) → IsUntraced m machine.old →
@@ -135,7 +137,7 @@ fn hits_noted<R: Threads + Wait + Sync>(
 ) -> Result<Vec<Hit>, RunError>
     requires run { (m : Running) × IsUntraced m machine.old }
     requires rounds { machine.old.rounds + 1 < 2 ^ 32 }
-    requires workers { (1 ≤ workers) × (workers ≤ 16) }
+    requires workers { AreWorkers workers }
     ensures runs { OnOk result (IsAfter 1 machine.old machine.new) }
     ensures counted { OnOk result (machine.new.rounds ≡ machine.old.rounds + 1) }
     ensures hits { (m : Running) → IsUntraced m machine.old →
@@ -148,7 +150,7 @@ fn hits_noted<R: Threads + Wait + Sync>(
     let alloc = pages.allocator();
     let saved = save(alloc, pages, watches)?;
     let mut trace = Trace::new(alloc, Vec::new(alloc));
-    machine.run_noting(rt, 1, workers, &mut trace)?;
+    run_noting(rt, machine, 1, workers, &mut trace)?;
     let hits = hits_in_round(alloc, &saved, &trace, watches, way)?;
     Ok(hits)
 }

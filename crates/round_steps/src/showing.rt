@@ -17,6 +17,7 @@ use hart_step::Hart;
 use host_io::RunError;
 use machine::UntracedMachine;
 use pages::{OutOfMemory, Range};
+use past_harts::sight_after;
 use round_schedule::Phase;
 use seeing::Sight;
 use std::sync::Wait;
@@ -212,7 +213,7 @@ fn mover<R: Threads + Wait + Sync>(
     ensures refused { IfErr result (λ e. e ≡ refusals.OutOfMemory) }
 {
     let copy = machine.share()?;
-    copy.sight_after(rt, place.hart, place.count, 1)
+    sight_after(rt, copy, place.hart, place.count, 1)
 }
 
 /// A hart before the round.

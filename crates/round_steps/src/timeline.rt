@@ -2,10 +2,13 @@ ghost use Rattle.std.specs.Prelude.{◌≡◌, ◌≤◌, ◌+◌, ◌-◌, ◌<
 ghost use Rattle.host_io.specs.declared.error.RunError.TheVariants as refusals;
 ghost use Rattle.machine.specs.Machine.{Running, after_rounds};
 ghost use Rattle.machine.specs.Untraced.{IsUntraced};
+ghost use Rattle.round_steps.specs.OwnParts.{own_stores, waits_at};
 ghost use Rattle.round_steps.specs.Points.{next_point_of, previous_point_of};
 ghost use Rattle.round_steps.specs.Shown.{shown_at_point};
 ghost use Rattle.round_steps.specs.Timelines.{IsThere};
+ghost use Rattle.round_schedule.specs.Bounds.{AreWorkers};
 
+use crate::own_part::{OwnPart, own_part};
 use crate::point::{Point, Told};
 use crate::point_search::{next_point, previous_point};
 use crate::points::Telling;
@@ -105,7 +108,7 @@ impl Timeline {
         workers: u32,
     ) -> Result<Option<Told>, RunError>
         requires within { here.now.moment.rounds ≤ self.old.rounds }
-        requires workers { (1 ≤ workers) × (workers ≤ 16) }
+        requires workers { AreWorkers workers }
         ensures stays { self.new ≡ self.old }
         ensures next { (m : Running) → IsUntraced m self.old.start → IfOk result (λ x. x ≡
             next_point_of telling.now.asked telling.now.watches.items
@@ -131,7 +134,7 @@ impl Timeline {
         workers: u32,
     ) -> Result<Option<Told>, RunError>
         requires within { begin + count ≤ self.old.rounds }
-        requires workers { (1 ≤ workers) × (workers ≤ 16) }
+        requires workers { AreWorkers workers }
         ensures stays { self.new ≡ self.old }
         ensures next { (m : Running) → IsUntraced m self.old.start → IfOk result (λ x. x ≡
             next_point_of telling.now.asked telling.now.watches.items (after_rounds begin m) count here.now) }
@@ -158,7 +161,7 @@ impl Timeline {
         workers: u32,
     ) -> Result<Option<Told>, RunError>
         requires within { here.now.moment.rounds ≤ self.old.rounds }
-        requires workers { (1 ≤ workers) × (workers ≤ 16) }
+        requires workers { AreWorkers workers }
         ensures stays { self.new ≡ self.old }
         ensures previous { (m : Running) → IsUntraced m self.old.start → IfOk result (λ x. x ≡
             previous_point_of telling.now.asked telling.now.watches.items m
@@ -194,7 +197,7 @@ impl Timeline {
     ) -> Result<Option<Told>, RunError>
         requires order { begin ≤ end }
         requires within { end ≤ self.old.rounds }
-        requires workers { (1 ≤ workers) × (workers ≤ 16) }
+        requires workers { AreWorkers workers }
         ensures stays { self.new ≡ self.old }
         ensures previous { (m : Running) → IsUntraced m self.old.start → IfOk result (λ x. x ≡
             previous_point_of telling.now.asked telling.now.watches.items
@@ -221,7 +224,7 @@ impl Timeline {
         workers: u32,
     ) -> Result<Option<Sight>, RunError>
         requires within { point.now.moment.rounds ≤ self.old.rounds }
-        requires workers { (1 ≤ workers) × (workers ≤ 16) }
+        requires workers { AreWorkers workers }
         ensures stays { self.new ≡ self.old }
         ensures sight { (m : Running) → IsUntraced m self.old.start → IfOk result (λ s. s ≡ shown_at_point
             (after_rounds point.now.moment.rounds m) point.now.side point.now.moment.place number) }
@@ -237,6 +240,34 @@ impl Timeline {
             &moment.place,
             number,
         )
+    }
+
+    /// What hart `number` has done of its part of the parallel phase at a point: its stores that are not committed, and whether it waits
+    /// for its serial turn. It may wait.
+    ///
+    /// # Errors
+    ///
+    /// `OutOfMemory` alone.
+    pub fn own_part_at<R: Threads + Wait + Sync>(
+        &mut self,
+        rt: &R,
+        point: &Point,
+        number: u32,
+        workers: u32,
+    ) -> Result<OwnPart, RunError>
+        requires within { point.now.moment.rounds ≤ self.old.rounds }
+        requires workers { AreWorkers workers }
+        ensures stays { self.new ≡ self.old }
+        ensures stores { (m : Running) → IsUntraced m self.old.start → IfOk result (λ p. p.stores.items ≡ own_stores
+            (after_rounds point.now.moment.rounds m) point.now.moment.place number) }
+        ensures waits { (m : Running) → IsUntraced m self.old.start → IfOk result (λ p. p.waits ≡ waits_at
+            (after_rounds point.now.moment.rounds m) point.now.moment.place number) }
+        ensures refused { IfErr result (λ e. e ≡ refusals.OutOfMemory) }
+    {
+        let moment = point.moment;
+        let machine = self.machine_at(rt, moment.rounds, workers)?;
+        let part = own_part(&machine, &self.code, &moment.place, number)?;
+        Ok(part)
     }
 
     /// The machine that did the most rounds, of those that did so many at most.
@@ -256,21 +287,26 @@ impl Timeline {
         nearest
     }
 
-    /// The machine after so many rounds. It goes on from the nearest one, and machines are kept on the way.
-    fn machine_at<R: Threads + Wait + Sync>(
+    /// The machine after so many rounds, to look further. It may wait.
+    ///
+    /// # Errors
+    ///
+    /// `OutOfMemory` alone.
+    pub fn machine_at<R: Threads + Wait + Sync>(
         &mut self,
         rt: &R,
         rounds: u32,
         workers: u32,
     ) -> Result<UntracedMachine, RunError>
         requires within { rounds ≤ self.old.rounds }
-        requires workers { (1 ≤ workers) × (workers ≤ 16) }
+        requires workers { AreWorkers workers }
         ensures stays { self.new ≡ self.old }
         ensures machine { (m : Running) → IsUntraced m self.old.start →
             IfOk result (λ u. IsUntraced (after_rounds rounds m) u) }
         ensures rounds { IfOk result (λ u. u.rounds ≡ rounds) }
         ensures refused { IfErr result (λ e. e ≡ refusals.OutOfMemory) }
     {
+        // It goes on from the nearest one, and machines are kept on the way.
         let mut machine = self.nearest(rounds).copy()?;
         while machine.rounds() < rounds {
             let more = self.apart.min(rounds - machine.rounds());

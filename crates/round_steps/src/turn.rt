@@ -13,6 +13,7 @@ use hart_step::Hart;
 use host_io::RunError;
 use machine::UntracedMachine;
 use pages::OutOfMemory;
+use past_harts::harts_in_turns;
 use round_schedule::Phase;
 use std::sync::Wait;
 use std::thread::Threads;
@@ -43,7 +44,7 @@ pub(crate) fn add_turns<R: Threads + Wait + Sync>(
     let _harts = machine.plan().harts();
     let _count = machine.harts();
     let copy = machine.share()?;
-    let along = copy.harts_in_turns(rt, 1)?;
+    let along = harts_in_turns(rt, copy, 1)?;
     for number in 0..turns.len() {
         add_turn(number as u32, turns[number], &along[number], asked, found)?;
     }

@@ -1,4 +1,4 @@
-use Rattle.std.proofs.Common.{◌≡◌, ◌++◌, ℕ, ap, subst, sym, ◌∙◌, Option, Some, OnOk}
+use Rattle.std.proofs.Common.{◌≡◌, ◌++◌, subst, sym, ◌∙◌, Option, OnOk}
 use Rattle.hart_step.specs.declared.hart.Hart.{Hart}
 use Rattle.moments.specs.Sights.{Sight}
 use Rattle.hex.specs.Hex.{encode_lower}

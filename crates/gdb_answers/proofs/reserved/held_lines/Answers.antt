@@ -1,4 +1,4 @@
-use Rattle.std.proofs.Common.{ℕ, ◌+◌, ◌++◌, List, Option, ap, sym, ◌∙◌, add-one}
+use Rattle.std.proofs.Common.{ℕ, ◌++◌, List, Option, ap, sym, ◌∙◌, add-one}
 use Rattle.round_schedule.specs.declared.span.Span.{Span}
 use Rattle.round_schedule.specs.Reservations.{entry}
 use Rattle.gdb_answers.specs.Reserved.{held_lines, span_line}

@@ -4,15 +4,15 @@ use Rattle.machine.specs.Untraced.{IsUntraced}
 use Rattle.round_steps.specs.declared.point.Point.{Point}
 use Rattle.round_steps.specs.Timelines.{Line}
 use Rattle.gdb_replies.specs.Replies.{thread_list_begin}
-use Rattle.gdb_answers.specs.Answers.{seen, thread_entries, thread_entry}
+use Rattle.gdb_answers.specs.Answers.{note_at, thread_entries, thread_entry}
 use Rattle.gdb_answers.proofs.threads.thread_list.Goals as goal
 
 one_more : (m : Running) (at : Point) (i : ℕ) (before text : List ℕ) → before ≡ thread_list_begin ++ thread_entries m at i →
-    text ≡ before ++ thread_entry i at.moment (seen m at i) → text ≡ thread_list_begin ++ thread_entries m at (i + 1)
+    text ≡ before ++ thread_entry (note_at m at i) → text ≡ thread_list_begin ++ thread_entries m at (i + 1)
 unfolding thread_entries
 one_more m at i before text e f =
-    f ∙ ap (λ (xs : List ℕ). xs ++ thread_entry i at.moment (seen m at i)) e
-    ∙ append_assoc thread_list_begin (thread_entries m at i) (thread_entry i at.moment (seen m at i))
+    f ∙ ap (λ (xs : List ℕ). xs ++ thread_entry (note_at m at i)) e
+    ∙ append_assoc thread_list_begin (thread_entries m at i) (thread_entry (note_at m at i))
     ∙ ap (λ (k : ℕ). thread_list_begin ++ thread_entries m at k) (sym (add-one i))
 
 pub loop-hart-preserved : goal.loop-hart-preserved

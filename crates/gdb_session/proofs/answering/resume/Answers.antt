@@ -5,32 +5,32 @@ use Rattle.gdb_resumes.specs.declared.session.Session.{Session}
 use Rattle.gdb_resumes.specs.declared.session.Standing.{Standing}
 use Rattle.gdb_resumes.specs.Sessions.{Recorded, recorded_of, state_of}
 use Rattle.gdb_resumes.proofs.Runs.{of_same}
-use Rattle.gdb_session.specs.Answers.{Moves, Resumes, stands_text}
+use Rattle.gdb_session.specs.Answers.{Moves, Resumes, stands_packets}
 use Rattle.gdb_session.proofs.answering.resume.Goals as goal
 
-pub returns-in_ok-say_where-in-Some-clause-resumes : goal.returns-in_ok-say_where-in-Some-clause-resumes
-returns-in_ok-say_where-in-Some-clause-resumes g c = λ m is.
+pub returns-in_ok-say_stop-in-Some-clause-resumes : goal.returns-in_ok-say_stop-in-Some-clause-resumes
+returns-in_ok-say_stop-in-Some-clause-resumes g c = λ m is.
     let d = c.args.run.now in
     let s = state_of c.args.session.now in
     let r = recorded_of m d in
     let t = c.in-Some.standing in
     let P : Option Standing → Type 0 = λ x. Moves r s c.args.request x in
-    let W : Recorded → Type 0 = λ q. g.K.Sink.took c.say_where.new.out ≡ g.K.Sink.took c.args.out.now ++ packet_text (stands_text q t) in
-    let there : Resumes r s c.args.request (stands_text r t) (state_of (record c.standing_after.new.session { standing = t })) = record {
+    let W : Recorded → Type 0 = λ q. g.K.Sink.took c.say_stop.new.out ≡ g.K.Sink.took c.args.out.now ++ stands_packets q t in
+    let there : Resumes r s c.args.request (stands_packets r t) (state_of (record c.standing_after.new.session { standing = t })) = record {
       to = Some t;
       moves = subst P c.in-Some.is (c.in_ok-standing.ensures.standing m is);
       stands = (refl, ap (λ (x : Session). state_of (record x { standing = t })) c.in_ok-standing.ensures.session);
     } in
-    (stands_text r t, there, of_same d c.standing_after.new.run W c.in_ok-standing.ensures.stays c.in_ok-say_where-in-Some.ensures.writes m is)
+    (stands_packets r t, there, of_same d c.standing_after.new.run W c.in_ok-standing.ensures.stays c.in_ok-say_stop-in-Some.ensures.writes m is)
 
 pub returns-in-None-clause-resumes : goal.returns-in-None-clause-resumes
 returns-in-None-clause-resumes g c = λ m is.
     let s = state_of c.args.session.now in
     let r = recorded_of m c.args.run.now in
     let P : Option Standing → Type 0 = λ x. Moves r s c.args.request x in
-    let none : Resumes r s c.args.request (codes "E01") (state_of c.standing_after.new.session) = record {
+    let none : Resumes r s c.args.request (packet_text (codes "E01")) (state_of c.standing_after.new.session) = record {
       to = None;
       moves = subst P c.in-None.is (c.in_ok-standing.ensures.standing m is);
       stands = (refl, ap state_of c.in_ok-standing.ensures.session);
     } in
-    on_ok_weaker c.write_reply.result (λ e. (codes "E01", none, e)) c.write_reply.ensures.writes.ok
+    on_ok_weaker c.write_reply.result (λ e. (packet_text (codes "E01"), none, e)) c.write_reply.ensures.writes.ok

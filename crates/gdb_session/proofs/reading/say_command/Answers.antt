@@ -1,8 +1,14 @@
 use Rattle.std.proofs.Common.{◌≡◌, ◌++◌, ℕ, List, OnOk, subst, sym}
+use Rattle.machine.specs.Untraced.{IsUntraced, Untraced}
 use Rattle.gdb_packets.specs.Writing.{packet_text}
 use Rattle.gdb_resumes.specs.Sessions.{recorded_of}
 use Rattle.gdb_session.proofs.Arriving.{no_command}
 use Rattle.gdb_session.proofs.reading.say_command.Goals as goal
+
+pub answer_event-requires-clause-run : goal.answer_event-requires-clause-run
+answer_event-requires-clause-run g c κs within =
+    let ready = c.requires.ready in
+    (ready.run.0, subst (λ (u : Untraced). IsUntraced ready.run.0 u) ready.start ready.run.1)
 
 pub returns-in_default-clause-writes : goal.returns-in_default-clause-writes
 returns-in_default-clause-writes g c = λ m is.

@@ -18,4 +18,4 @@ returns-clause-hits g c = λ m is.
     c.in_ok-hits.ensures m.code m.plan.budget (quotas_of m.plan) m.state
     (subst IsBytes bytes c.bytes_fit.ensures)
     (c.deref.ensures.value ∙ c.in_ok-saved.ensures ∙ ap (saved_of c.args.watches.now) bytes)
-    (events_are m c.args.machine.now c.new-trace.result.events c.run_noting.new.trace.events is c.new-trace.ensures.events c.in_ok-run_noting.ensures.events)
+    (events_are m c.args.machine.now c.new-trace.result.events c.run_noting.new.trace.events is c.new-trace.ensures.events c.in_ok-run_noting.ensures.answers.ok.1)

@@ -15,7 +15,7 @@ invariant_of-self-in_err-map_err c =
       fresh = inv.fresh;
       has_code = inv.has_code;
       later = subst (IsThere start) (sym c.in_ok-self-inside.ensures.same) there;
-      there = one_more_there start c.args.machine.now c.in_ok-copy.copy c.self.inside.machines.items c.push.new.self.items (is_ok c.push.result) inv.there there (c.in_ok-machines.ensures.same ∙ c.in_ok-self-inside.ensures.stays) c.push.ensures.items;
+      there = one_more_there start c.args.machine.now c.in_ok-copy.copy c.self.inside.machines.items c.push.new.self.items (is_ok c.push.result) inv.there there (c.in_ok-copy.ensures.same ∙ c.in_ok-self-inside.ensures.stays) c.push.ensures.items;
       some = inv.some;
       few = inv.few;
     }
@@ -30,7 +30,7 @@ invariant_of-self-2 c =
       fresh = inv.fresh;
       has_code = inv.has_code;
       later = subst (IsThere start) (sym c.in_ok-self-inside.ensures.same) there;
-      there = one_more_there start c.args.machine.now c.in_ok-copy.copy c.self.inside.machines.items c.push.new.self.items (is_ok c.push.result) inv.there there (c.in_ok-machines.ensures.same ∙ c.in_ok-self-inside.ensures.stays) c.push.ensures.items;
+      there = one_more_there start c.args.machine.now c.in_ok-copy.copy c.self.inside.machines.items c.push.new.self.items (is_ok c.push.result) inv.there there (c.in_ok-copy.ensures.same ∙ c.in_ok-self-inside.ensures.stays) c.push.ensures.items;
       some = inv.some;
       few = inv.few;
     }
