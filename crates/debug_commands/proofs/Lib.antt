@@ -1,0 +1,2 @@
+pub mod OpenedRun
+pub mod Told

@@ -1,0 +1,15 @@
+use Rattle.std.proofs.Common.{inr}
+use Rattle.program_files.proofs.Told.{on_error, on_value}
+use Rattle.debug_commands.proofs.debuggee.opened.Goals as goal
+
+pub returns-clause-opens : goal.returns-clause-opens
+returns-clause-opens g c =
+    on_value c.opened_past.result _ _ (λ d h. record {
+      past = c.in_ok-past.past;
+      holds = c.in_ok-past.ensures.holds;
+      is = h;
+    }) c.opened_past.ensures.opens
+
+pub returns-clause-errors : goal.returns-clause-errors
+returns-clause-errors g c =
+    on_error c.opened_past.result _ _ (λ f h. inr (c.in_ok-past.past, c.in_ok-past.ensures.holds, h)) c.opened_past.ensures.errors

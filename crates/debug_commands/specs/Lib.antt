@@ -1,0 +1,2 @@
+pub mod Debuggees
+pub mod Debugged

@@ -1,0 +1,96 @@
+//! What a debugger looks at.
+ghost use Rattle.std.specs.Prelude.{◌≡◌, IfErr, IfOk, None};
+ghost use Rattle.debug_commands.specs.Debuggees.{HasSettings, IsDebuggee, IsDebuggeeOf, IsRefusal, IsRefusedPast, IsRefusedText, IsRunOf, IsTextDebuggee, IsUnopened};
+ghost use Rattle.run_settings.specs.Settings.{settings_fault};
+
+use execution_scripts::Checked;
+use execution_session::Opened;
+use gdb_resumes::Debugged;
+use host_io::RunError;
+use machine::{Format, Settings};
+use past_commands::{Past, PastFailure, PastFiles, execution_of, read_past};
+use recording::Recording;
+use std::alloc::Global;
+
+/// What a debugger looks at.
+#[derive(Drop)]
+pub(crate) enum Debuggee {
+    /// The run of a recording, before its first round.
+    Run(Debugged),
+    /// An execution that RVWMO allows.
+    Execution(execution_session::Past),
+    /// What was found against an execution.
+    Refused(Checked),
+}
+
+/// What a debugger looks at: the run of the recording that the file of a path holds, or the execution.
+///
+/// # Errors
+///
+/// `Run` where the file can't be read; `Unread` where it begins as neither, or is no recording; `NoExecution` where it is no execution. Then
+/// `Run` for what refuses the run: its image, its plan, and more rounds than can be looked at; or for what refuses the execution's guest. And
+/// `Run` for want of memory.
+pub(crate) fn opened<F: PastFiles>(
+    files: &F,
+    alloc: Global,
+    path: &str,
+) -> Result<Debuggee, PastFailure>
+    ensures opens { IfOk result (IsDebuggee (F.either files.now) path.now) }
+    ensures errors { IfErr result (IsUnopened (F.either files.now) path.now) }
+{
+    let past = read_past(files, alloc, path)?;
+    opened_past(alloc, &past)
+}
+
+/// The run of a recording, or the execution that a text says.
+fn opened_past(alloc: Global, past: &Past) -> Result<Debuggee, PastFailure>
+    ensures opens { IfOk result (IsDebuggeeOf past.now) }
+    ensures errors { IfErr result (IsRefusedPast past.now) }
+{
+    match past {
+        Past::Recording(recording) => Ok(Debuggee::Run(opened_run(alloc, recording)?)),
+        Past::Execution(text) => opened_execution(alloc, text),
+    }
+}
+
+/// The run of a recording, on one worker.
+fn opened_run(alloc: Global, recording: &Recording) -> Result<Debugged, RunError>
+    ensures opens { IfOk result (IsRunOf recording.now) }
+    ensures errors { IfErr result (IsRefusal recording.now) }
+{
+    let settings = settings_of(recording);
+    gdb_session::open(alloc, recording.image(), recording.input(), &settings)
+}
+
+/// What a recording says of its run, on one worker.
+#[tactic(auto, using(replayer::proofs::Faults::no_fault))]
+fn settings_of(recording: &Recording) -> Settings<'_>
+    ensures settings { HasSettings recording.now result }
+    ensures in_range { settings_fault result ≡ None }
+{
+    Settings {
+        format: if recording.is_flat() {
+            Format::Flat
+        } else {
+            Format::Elf
+        },
+        harts: recording.harts(),
+        pages: recording.pages(),
+        rounds: recording.rounds(),
+        workers: 1,
+        budget: recording.budget(),
+        plan: recording.plan(),
+    }
+}
+
+/// The execution that a text says, or what was found against it.
+fn opened_execution(alloc: Global, text: &[u8]) -> Result<Debuggee, PastFailure>
+    ensures opens { IfOk result (IsTextDebuggee text.now) }
+    ensures errors { IfErr result (IsRefusedText text.now) }
+{
+    let file = execution_of(alloc, text)?;
+    match execution_session::open(alloc, &file)? {
+        Opened::Past(past) => Ok(Debuggee::Execution(past)),
+        Opened::Refused(checked) => Ok(Debuggee::Refused(checked)),
+    }
+}
