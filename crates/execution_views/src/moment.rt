@@ -36,7 +36,7 @@ pub(crate) fn event_of(events: &[Event], index: usize) -> Event
 
 /// Whether the event at an index is a memory operation of the hart of that at another.
 fn is_next_of(events: &[Event], index: usize, later: usize) -> bool
-    ensures { result ≡ is_next_of events.now order_position later }
+    ensures { result ≡ is_next_of events.now index later }
 {
     let next = event_of(events, later);
     next.hart == event_of(events, index).hart && is_operation(&next)

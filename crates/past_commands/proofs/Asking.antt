@@ -1,6 +1,6 @@
 -- What an execution was asked, once it wasn't refused.
 use Rattle.std.proofs.Common.{◌≡◌, ◌⊎◌, ◌||◌, Bool, None, Option, Some, arith, false, inl, inr, is_some, refl, true, ℕ}
-use Rattle.replayer.specs.Refusals.{AreNoWorkers, AreWorkers}
+use Rattle.round_schedule.specs.Bounds.{AreNoWorkers, AreWorkers}
 
 pub none_of : {X : Type 0} (o : Option X) → is_some o ≡ false → o ≡ None
 none_of None e = refl

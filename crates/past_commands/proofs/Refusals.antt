@@ -8,7 +8,8 @@ use Rattle.past_commands.specs.declared.failure.PastFailure.{PastFailure}
 use Rattle.past_commands.specs.declared.failure.PastFailure.TheVariants.{Run}
 use Rattle.program_files.specs.declared.failure.RunFailure.TheVariants as runs
 use Rattle.recording.specs.Recorded.{Recorded}
-use Rattle.replayer.specs.Refusals.{AreNoWorkers, AreWorkers, RefusedInOrder}
+use Rattle.round_schedule.specs.Bounds.{AreNoWorkers, AreWorkers}
+use Rattle.replayer.specs.Refusals.{RefusedInOrder}
 
 err_at : {X Y : Type 0} (a b : RunError) → ◌≡◌ {A = Result X RunError} (Err a) (Err b) → ◌≡◌ {A = Result Y RunError} (Err a) (Err b)
 err_at {X} a b q = ap Err (same a b q)

@@ -19,7 +19,8 @@ use Rattle.past_commands.specs.declared.past.Past.TheVariants.{Execution, Record
 use Rattle.program_files.specs.declared.failure.RunFailure.{RunFailure}
 use Rattle.program_files.specs.declared.failure.RunFailure.TheVariants as runs
 use Rattle.recording.specs.Recorded.{Recorded}
-use Rattle.replayer.specs.Refusals.{AreNoWorkers, AreWorkers, RefusedInOrder}
+use Rattle.round_schedule.specs.Bounds.{AreNoWorkers, AreWorkers}
+use Rattle.replayer.specs.Refusals.{RefusedInOrder}
 
 -- ---- recordings
 

@@ -12,7 +12,7 @@ use Rattle.past_commands.specs.declared.question.Question.{Question}
 use Rattle.past_commands.specs.declared.telling.Told.{Told}
 use Rattle.program_world.specs.declared.exit_status.ExitStatus.TheVariants.{Done}
 use Rattle.recording.specs.Recorded.{Recorded}
-use Rattle.replayer.specs.Refusals.{AreWorkers}
+use Rattle.round_schedule.specs.Bounds.{AreWorkers}
 use Rattle.replayer.specs.Replayed.{IsPlanFor, IsVerdict, start_of}
 use Rattle.replayer.specs.declared.verdict.Verdict.{Verdict}
 use Rattle.round_planner.specs.Quotas.{Planned}

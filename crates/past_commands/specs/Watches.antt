@@ -21,7 +21,7 @@ use Rattle.past_commands.specs.declared.watched.Watched.{Watched}
 use Rattle.past_commands.specs.declared.watched.Watched.TheVariants.{Hits, Refused}
 use Rattle.recording.specs.Recorded.{Recorded}
 use Rattle.run_hits.specs.Hits.{is_chosen, of_rounds}
-use Rattle.replayer.specs.Refusals.{AreWorkers}
+use Rattle.round_schedule.specs.Bounds.{AreWorkers}
 use Rattle.replayer.specs.Replayed.{IsPlanFor, hits_of, start_of}
 use Rattle.round_planner.specs.Quotas.{Planned}
 use Rattle.round_schedule.specs.Positions.{event}

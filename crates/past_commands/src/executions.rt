@@ -6,7 +6,7 @@ ghost use Rattle.host_io.specs.declared.error.RunError.TheVariants as refusals;
 ghost use Rattle.past_commands.specs.Failures.{IsNoExecution};
 ghost use Rattle.past_commands.specs.declared.failure.PastFailure.TheVariants as failures;
 ghost use Rattle.program_files.specs.declared.failure.RunFailure.TheVariants as runs;
-ghost use Rattle.replayer.specs.Refusals.{AreNoWorkers, AreWorkers};
+ghost use Rattle.round_schedule.specs.Bounds.{AreNoWorkers, AreWorkers};
 
 use crate::failure::PastFailure;
 use execution_commands::read_execution_text;

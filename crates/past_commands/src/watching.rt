@@ -5,7 +5,7 @@ ghost use Rattle.past_commands.specs.Refused.{EndsWatch, EndsWatchOf, EndsWatchi
 ghost use Rattle.past_commands.specs.Watched.{watched_status, watched_text};
 ghost use Rattle.past_commands.specs.Watches.{AreRunHits, AskedWatch, IsRecordingWatch, IsWatch, pcs_told};
 ghost use Rattle.round_planner.specs.Quotas.{Planned};
-ghost use Rattle.replayer.specs.Refusals.{AreWorkers};
+ghost use Rattle.round_schedule.specs.Bounds.{AreWorkers};
 ghost use Rattle.replayer.specs.Replayed.{IsPlanFor, start_of};
 
 use crate::failure::PastFailure;

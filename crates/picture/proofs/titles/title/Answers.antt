@@ -15,7 +15,7 @@ returns c =
     let t2 = decimal e.round in
     let t3 = codes " hart " in
     let t4 = decimal e.hart in
-    let t5 = codes " index " in
+    let t5 = codes " place " in
     let t6 = decimal (place_of e.access) in
     let t7 = pc_text s.pc in
     let t8 = object_text s.object in
@@ -24,7 +24,7 @@ returns c =
     let e3 = more t0 (t1 ++ t2) _ _ t3 _ e2 c.in_ok-text-2.ensures refl in
     let e4 = more t0 (t1 ++ t2 ++ t3) _ _ t4 _ e3 c.in_ok-decimal-2.ensures refl in
     let e5 = more t0 (t1 ++ t2 ++ t3 ++ t4) _ _ t5 _ e4 c.in_ok-text-3.ensures refl in
-    let e6 = more t0 (t1 ++ t2 ++ t3 ++ t4 ++ t5) _ _ t6 _ e5 c.in_ok-decimal-3.ensures (ap decimal c.index.ensures) in
+    let e6 = more t0 (t1 ++ t2 ++ t3 ++ t4 ++ t5) _ _ t6 _ e5 c.in_ok-decimal-3.ensures (ap decimal c.place.ensures) in
     let e7 = more t0 (t1 ++ t2 ++ t3 ++ t4 ++ t5 ++ t6) _ _ t7 _ e6 c.in_ok-pc.ensures refl in
     let e8 = more t0 (t1 ++ t2 ++ t3 ++ t4 ++ t5 ++ t6 ++ t7) _ _ t8 _ e7 c.in_ok-object.ensures refl in
     last t0 (t1 ++ t2 ++ t3 ++ t4 ++ t5 ++ t6 ++ t7 ++ t8) _ _ t9 _ _ e8 c.text-4.ensures refl

@@ -2,7 +2,7 @@ use Rattle.order_checker.proofs.Composing.{at_none, at_some}
 use Rattle.refusal_reasons.proofs.pairs.find_broken.Goals as goal
 
 pub first_broken_at-pair-requires-clause-second : goal.first_broken_at-pair-requires-clause-second
-first_broken_at-pair-requires-clause-second c = at_some c.in_ok-violation.violated c.in-Some.second _ _ c.in-Some.is c.in_ok-violation.ensures
+first_broken_at-pair-requires-clause-second c = at_some c.in_ok-violation.violation c.in-Some.second _ _ c.in-Some.is c.in_ok-violation.ensures
 
 pub returns-in-None : goal.returns-in-None
-returns-in-None c = at_none c.in_ok-violation.violated _ _ c.in-None.is c.in_ok-violation.ensures
+returns-in-None c = at_none c.in_ok-violation.violation _ _ c.in-None.is c.in_ok-violation.ensures
