@@ -1,6 +1,6 @@
 -- The objects that an ELF64 file's symbol table names (System V gABI, chapters "ELF Header", "Sections", "String Table" and
 -- "Symbol Table"), in a file that is little-endian.
-use Rattle.std.specs.Prelude.{ℕ, zero, suc, ◌+◌, ◌*◌, ◌/◌, ◌==◌, ◌&&◌, Bool, not, nat_le, nat_lt, if◌then◌else◌, bit_and, List, length, take, drop, slice_index, Option, Some, None, is_some, option_and_then}
+use Rattle.std.specs.Prelude.{ℕ, zero, suc, ◌+◌, ◌*◌, ◌/◌, ◌==◌, ◌&&◌, ◌||◌, Bool, false, not, nat_le, nat_lt, if◌then◌else◌, bit_and, List, length, take, drop, slice_index, Option, Some, None, is_some, option_and_then, unwrap_or}
 use Rattle.std.specs.Str.{bytes_eq}
 use Rattle.elf_loader.specs.ElfCauses.{has_magic, is_little_64, passes}
 use Rattle.elf_loader.specs.Segments.{field}
@@ -118,3 +118,40 @@ object_of file name = named_of 1 file name
 -- the function of a name
 abbrev pub function_of : List ℕ → List ℕ → Option Object
 function_of file name = named_of 2 file name
+
+-- ---- other symbols of a name
+
+-- a symbol of a type and a name that is at another address than this one
+abbrev pub is_other : ℕ → List ℕ → List ℕ → ℕ → Symbol → Bool
+is_other kind strings name address s = is_named kind strings name s && not (s.value == address)
+
+-- one of n entries of 24 bytes from an offset on is such
+abbrev pub other_from : ℕ → List ℕ → List ℕ → List ℕ → ℕ → ℕ → ℕ → Bool
+other_from kind entries strings name address at zero = false
+other_from kind entries strings name address at (suc n) =
+    is_other kind strings name address (symbol_at entries at) || other_from kind entries strings name address (at + 24) n
+
+unfoldable pub other_among : ℕ → List ℕ → List ℕ → List ℕ → ℕ → Bool
+other_among kind entries strings name address = other_from kind entries strings name address 0 (length entries / 24)
+
+-- the same in the symbol table, if it and the names are there
+abbrev pub other_in : ℕ → List ℕ → List ℕ → ℕ → Option Bool
+other_in kind file name address = do
+  symbols ← symbols_of file
+  strings ← strings_of file symbols.link
+  entries ← bytes_of file symbols
+  names ← bytes_of file strings
+  Some (other_among kind entries names name address)
+
+-- a type and a name stand for another address than this one, too: false in what is no such file, and where a table that is read passes
+-- the file's end
+unfoldable pub has_other : ℕ → List ℕ → List ℕ → ℕ → Bool
+has_other kind file name address = has_sections file && unwrap_or (other_in kind file name address) false
+
+-- there is an object of the name at another address
+abbrev pub has_other_object : List ℕ → List ℕ → ℕ → Bool
+has_other_object file name address = has_other 1 file name address
+
+-- there is a function of the name at another address
+abbrev pub has_other_function : List ℕ → List ℕ → ℕ → Bool
+has_other_function file name address = has_other 2 file name address

@@ -8,6 +8,8 @@ mod offset;
 mod section;
 mod symbol;
 
-pub use finding::{find_function, find_object, has_symbol_table};
+pub use finding::{
+    find_function, find_object, has_other_function, has_other_object, has_symbol_table,
+};
 pub use object::Object;
 pub use offset::{SymbolOffset, find_object_offset, function_at};

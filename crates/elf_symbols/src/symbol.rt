@@ -1,6 +1,6 @@
 ghost use Rattle.std.specs.Prelude.{◌≡◌, ◌+◌, ◌≤◌, length};
 ghost use Rattle.elf_symbols.specs.Offsets.{has_address, holder_among};
-ghost use Rattle.elf_symbols.specs.Symbols.{is_name, is_named, is_of, object_at, object_among, symbol_at};
+ghost use Rattle.elf_symbols.specs.Symbols.{is_name, is_named, is_of, is_other, object_at, object_among, other_among, symbol_at};
 
 use crate::field::{double_at, word_at};
 use crate::object::Object;
@@ -64,6 +64,13 @@ impl Symbol {
         self.is_of(kind) && is_name(strings, self.name as usize, name)
     }
 
+    /// Whether it is of a type and a name, and at another address than this one.
+    fn is_other(&self, kind: u8, strings: &[u8], name: &[u8], address: u64) -> bool
+        ensures { result ≡ is_other kind strings.now name.now address self.now }
+    {
+        self.is_named(kind, strings, name) && self.value != address
+    }
+
     /// Whether it is of a type and has an address.
     fn has_address(&self, kind: u8, address: u64) -> bool
         ensures { result ≡ has_address kind address self.now }
@@ -95,6 +102,28 @@ pub(crate) fn object_among(kind: u8, entries: &[u8], strings: &[u8], name: &[u8]
         offset += ENTRY;
     }
     None
+}
+
+/// Whether a symbol of a type and a name among the entries of a symbol table is at another address than this one.
+#[tactic(auto, unfolding(crate::specs::Symbols::other_among))]
+pub(crate) fn other_among(
+    kind: u8,
+    entries: &[u8],
+    strings: &[u8],
+    name: &[u8],
+    address: u64,
+) -> bool
+    ensures { result ≡ other_among kind entries.now strings.now name.now address }
+{
+    let mut offset = 0;
+    'entries: for _ in 0..entries.len() / ENTRY {
+        let symbol = Symbol::at(entries, offset);
+        if symbol.is_other(kind, strings, name, address) {
+            return true;
+        }
+        offset += ENTRY;
+    }
+    false
 }
 
 /// The first symbol of a type that has an address among the entries of a symbol table.

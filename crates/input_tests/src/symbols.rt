@@ -1,6 +1,6 @@
 //! The objects that a file names, through the public call of the crate `elf_symbols`.
 
-use elf_symbols::{Object, find_object};
+use elf_symbols::{Object, find_object, has_other_function, has_other_object};
 
 /// Where the symbol table stands in the file, and where the strings.
 const ENTRIES: usize = 256;
@@ -65,6 +65,18 @@ fn objects_by_name(rt: HostRuntime) {
     assert_eq!(rt; find_object(&file, b"see"), None);
     assert_eq!(rt; find_object(&file, b"empty"), None);
     assert_eq!(rt; find_object(b"\x93\x08\x00\x00", b"seen"), None);
+}
+
+#[test]
+fn another_address_of_a_name(rt: HostRuntime) {
+    let file = program();
+    // The only object of the name is at 0x300, and the only function at 0x100.
+    assert!(rt; !has_other_object(&file, b"seen", 0x300));
+    assert!(rt; has_other_object(&file, b"seen", 0x100));
+    assert!(rt; !has_other_function(&file, b"seen", 0x100));
+    assert!(rt; has_other_function(&file, b"seen", 0x300));
+    assert!(rt; !has_other_object(&file, b"empty", 0x300));
+    assert!(rt; !has_other_object(b"\x93\x08\x00\x00", b"seen", 0x100));
 }
 
 #[test]
