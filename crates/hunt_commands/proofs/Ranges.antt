@@ -9,12 +9,11 @@ use Rattle.std.specs.List.{list_any}
 use Rattle.command_line.specs.declared.settings.Bytes.{Bytes}
 use Rattle.command_line.specs.declared.settings.Search.{Search}
 use Rattle.elf_symbols.specs.declared.object.Object.{Object}
-use Rattle.elf_symbols.specs.Symbols.{object_of}
 use Rattle.hunt_commands.specs.Settings.{HasRanges, IsNamed, names_of}
 use Rattle.hunter.specs.Hunts.{has_bad_range, is_bad_range}
 use Rattle.hunter.specs.declared.settings.HuntSettings.{HuntSettings}
 use Rattle.hunt_table.specs.Names.{name_of}
-use Rattle.named_bytes.specs.Naming.{IsFaultOf, by_address, by_name, first_missing, is_outside, named_in, names_outside, objects_in, seen_range, seen_ranges, with_object}
+use Rattle.named_bytes.specs.Naming.{IsFaultOf, by_address, by_name, first_missing, is_outside, named_in, names_outside, objects_in, one_object, seen_range, seen_ranges, with_object}
 
 -- what a fault that isn't there says
 no_fault : (b : Bool) (image : List ℕ) (m : Option (List ℕ)) → IsFaultOf b image m None → (b ≡ false) × (m ≡ None)
@@ -22,10 +21,10 @@ no_fault true image m h = cc
 no_fault false image None h = (refl, refl)
 no_fault false image (Some n) h = absurd h
 
--- the image has as many objects as names
+-- there are as many objects as names
 as_many : (image : List ℕ) (names : List (List ℕ)) → first_missing image names ≡ None → length (objects_in image names) ≡ length names
 as_many image [] h = refl
-as_many image (n ∷ ns) h = by_object (object_of image n) h (λ e. as_many image ns e)
+as_many image (n ∷ ns) h = by_object (one_object image n) h (λ e. as_many image ns e)
   where
     by_object : (o : Option Object) → (if is_some o then first_missing image ns else Some n) ≡ None →
         (first_missing image ns ≡ None → length (objects_in image ns) ≡ length ns) → length (with_object o (objects_in image ns)) ≡ length (n ∷ ns)

@@ -2,12 +2,23 @@
 use Rattle.std.specs.Prelude.{◌≡◌, ℕ, ◌+◌, ◌-◌, ◌*◌, ◌^◌, ◌||◌, min, nat_lt, Bool, true, false, List, [], ◌∷◌, ◌++◌, drop, length, map, take, Option, Some, None, is_some, if◌then◌else◌, string_bytes}
 use Rattle.std.specs.List.{list_any}
 use Rattle.command_line.specs.declared.settings.Bytes.{Bytes}
-use Rattle.elf_symbols.specs.Symbols.{has_symbol_table, object_of}
+use Rattle.elf_symbols.specs.Symbols.{has_other_object, has_symbol_table, object_of}
 use Rattle.elf_symbols.specs.declared.object.Object.{Object}
 use Rattle.hunt_table.specs.Names.{name_of}
 use Rattle.hunt_table.specs.declared.seen_range.SeenRange.{SeenRange}
 use Rattle.named_bytes.specs.declared.fault.NamingFault.{NamingFault}
-use Rattle.named_bytes.specs.declared.fault.NamingFault.TheVariants.{NoObject, NoSymbols, Outside}
+use Rattle.named_bytes.specs.declared.fault.NamingFault.TheVariants.{NoObject, NoSymbols, Outside, Several}
+
+-- ---- objects
+
+-- an object, where the image has no other one of this name at another address
+abbrev pub without_other : List ℕ → List ℕ → Option Object → Option Object
+without_other image name None = None
+without_other image name (Some o) = if has_other_object image name o.address then None else Some o
+
+-- the object that a name stands for: none where the image has none, and where it has several, at different addresses
+unfoldable pub one_object : List ℕ → List ℕ → Option Object
+one_object image name = without_other image name (object_of image name)
 
 -- ---- bytes
 
@@ -16,15 +27,15 @@ abbrev pub with_object : Option Object → List Bytes → List Bytes
 with_object None bytes = bytes
 with_object (Some o) bytes = record { address = o.address; length = o.length } ∷ bytes
 
--- the bytes of the image's objects of these names, as far as it has them
+-- the bytes of the image's objects of these names, as far as each stands for one
 abbrev pub objects_in : List ℕ → List (List ℕ) → List Bytes
 objects_in image [] = []
-objects_in image (name ∷ names) = with_object (object_of image name) (objects_in image names)
+objects_in image (name ∷ names) = with_object (one_object image name) (objects_in image names)
 
--- the first of the names that the image has no object of
+-- the first of the names that the image has no object of, or several
 abbrev pub first_missing : List ℕ → List (List ℕ) → Option (List ℕ)
 first_missing image [] = None
-first_missing image (name ∷ names) = if is_some (object_of image name) then first_missing image names else Some name
+first_missing image (name ∷ names) = if is_some (one_object image name) then first_missing image names else Some name
 
 -- the bytes that are named: by their addresses, and then by the names of objects
 abbrev pub named_in : List ℕ → List Bytes → List (List ℕ) → List Bytes
@@ -40,20 +51,21 @@ is_outside pages b = nat_lt b.length 1 || nat_lt (4096 * pages) (b.address + b.l
 abbrev pub names_outside : List ℕ → ℕ → List Bytes → List (List ℕ) → Bool
 names_outside image pages seen names = list_any (is_outside pages) (named_in image seen names)
 
--- the image has no object of the name: its symbol table has none, or it has no symbol table
+-- why a name stands for no one object: the symbol table has none, or some and so several, or there is no symbol table
 abbrev pub IsNoObject : List ℕ → List ℕ → NamingFault → Type 0
 IsNoObject image name Outside = ⊥
-IsNoObject image name (NoObject text others) = (has_symbol_table image ≡ true) × (string_bytes text ≡ name)
+IsNoObject image name (NoObject text others) = (has_symbol_table image ≡ true) × (object_of image name ≡ None) × (string_bytes text ≡ name)
+IsNoObject image name (Several text) = (is_some (object_of image name) ≡ true) × (string_bytes text ≡ name)
 IsNoObject image name (NoSymbols text) = (has_symbol_table image ≡ false) × (string_bytes text ≡ name)
 
--- the fault of a first name of no object, if there is one
+-- the fault of a first name of no one object, if there is such a name
 abbrev pub IsMissing : List ℕ → Option (List ℕ) → Option NamingFault → Type 0
 IsMissing image None None = Unit {0}
 IsMissing image None (Some fault) = ⊥
 IsMissing image (Some name) None = ⊥
 IsMissing image (Some name) (Some fault) = IsNoObject image name fault
 
--- why the bytes can't be looked at, if they can't be: some are outside, or else a name is that of no object
+-- why the bytes can't be looked at, if they can't be: some are outside, or else a name is that of no one object
 abbrev pub IsFaultOf : Bool → List ℕ → Option (List ℕ) → Option NamingFault → Type 0
 IsFaultOf true image missing fault = fault ≡ Some Outside
 IsFaultOf false image missing fault = IsMissing image missing fault
@@ -65,6 +77,7 @@ IsNaming image pages seen names fault = IsFaultOf (names_outside image pages see
 abbrev pub naming_number : NamingFault → ℕ
 naming_number Outside = 74
 naming_number (NoObject name others) = 75
+naming_number (Several name) = 75
 naming_number (NoSymbols name) = 75
 
 -- ---- ranges

@@ -10,6 +10,8 @@ pub enum NamingFault {
     Outside,
     /// The image's symbol table has no object of this name; the second text names those that it has of a like name.
     NoObject(String, String),
+    /// The image's symbol table has several objects of this name, at different addresses.
+    Several(String),
     /// The image has no symbol table, and so no object of this name.
     NoSymbols(String),
 }
@@ -21,7 +23,7 @@ impl NamingFault {
     {
         match self {
             NamingFault::Outside => 74,
-            NamingFault::NoObject(_, _) | NamingFault::NoSymbols(_) => 75,
+            NamingFault::NoObject(_, _) | NamingFault::Several(_) | NamingFault::NoSymbols(_) => 75,
         }
     }
 }
@@ -42,6 +44,12 @@ impl Display for NamingFault {
                 write!(
                     f,
                     "the image's symbol table has no object {name}, but {others}"
+                )
+            }
+            NamingFault::Several(name) => {
+                write!(
+                    f,
+                    "the image's symbol table has several objects {name}: give the address and length of one by --see"
                 )
             }
             NamingFault::NoSymbols(name) => {

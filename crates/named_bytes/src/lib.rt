@@ -8,5 +8,5 @@ mod ranges;
 
 pub use fault::NamingFault;
 pub use naming::{NamedBytes, is_in_memory, named_bytes};
-pub use objects::no_object;
+pub use objects::{no_object, one_object};
 pub use ranges::seen_ranges;

@@ -10,10 +10,10 @@ use std::alloc::{AllocError, Global};
 /// The bytes that a command line names, and why they can't be looked at, if that is so.
 #[derive(Drop)]
 pub struct NamedBytes {
-    /// Those that are named by addresses, and then those of objects, as far as the image has them.
+    /// Those that are named by addresses, and then those of objects, as far as each name stands for one.
     pub bytes: Vec<Bytes>,
-    /// `Outside` for a range that is empty or not all in guest memory, else what is wrong with the first name of no object. What
-    /// refuses the settings, the image or the plan comes before.
+    /// `Outside` for a range that is empty or not all in guest memory, else what is wrong with the first name of no object, or of
+    /// several. What refuses the settings, the image or the plan comes before.
     pub fault: Option<NamingFault>,
 }
 

@@ -1,13 +1,26 @@
 //! Objects of the image by their names.
 ghost use Rattle.std.specs.Prelude.{◌≡◌, ◌++◌, IfOk, OnOk, map, option_map};
-ghost use Rattle.named_bytes.specs.Naming.{IsNoObject, first_missing, objects_in};
+ghost use Rattle.named_bytes.specs.Naming.{IsNoObject, first_missing, objects_in, one_object};
 
 use crate::fault::NamingFault;
 use command_line::Bytes;
-use elf_symbols::{find_object, has_symbol_table};
+use elf_symbols::{Object, find_object, has_other_object, has_symbol_table};
 use std::alloc::{AllocError, Global};
 
-/// Adds the bytes of the objects of these names, as far as the image has them.
+/// The object that a name stands for: none where the image has none of this name, or has several, at different addresses.
+#[tactic(auto, unfolding(crate::specs::Naming::one_object))]
+pub fn one_object(image: &[u8], name: &str) -> Option<Object>
+    ensures { result ≡ one_object image.now name.now }
+{
+    let object = find_object(image, name.as_bytes())?;
+    if has_other_object(image, name.as_bytes(), object.address) {
+        None
+    } else {
+        Some(object)
+    }
+}
+
+/// Adds the bytes of the objects of these names, as far as each stands for one.
 pub(crate) fn add_objects(
     image: &[u8],
     names: &[&str],
@@ -17,7 +30,7 @@ pub(crate) fn add_objects(
         bytes.old.items ++ objects_in image.now (map (λ s. s.now) names.now)) }
 {
     for name in names {
-        if let Some(object) = find_object(image, name.as_bytes()) {
+        if let Some(object) = one_object(image, name) {
             bytes.push(Bytes {
                 address: object.address,
                 length: object.length,
@@ -27,19 +40,19 @@ pub(crate) fn add_objects(
     Ok(())
 }
 
-/// The first of the names that the image has no object of.
+/// The first of the names that the image has no object of, or several.
 pub(crate) fn first_missing<'a>(image: &[u8], names: &[&'a str]) -> Option<&'a str>
     ensures { option_map (λ s. s.now) result ≡ first_missing image.now (map (λ s. s.now) names.now) }
 {
     for name in names {
-        if find_object(image, name.as_bytes()).is_none() {
+        if one_object(image, name).is_none() {
             return Some(*name);
         }
     }
     None
 }
 
-/// The fault of a name of no object.
+/// The fault of a name of no object, or of several: it is `Several` where there are some.
 ///
 /// # Errors
 ///
@@ -50,6 +63,9 @@ pub fn no_object(alloc: Global, image: &[u8], name: &str) -> Result<NamingFault,
     let text = String::from_str(alloc, name)?;
     if !has_symbol_table(image) {
         return Ok(NamingFault::NoSymbols(text));
+    }
+    if find_object(image, name.as_bytes()).is_some() {
+        return Ok(NamingFault::Several(text));
     }
     Ok(NamingFault::NoObject(text, numbered_names(alloc, image, name)?))
 }

@@ -37,7 +37,7 @@ IsNoExecution text (NoExecution cause line) = IsRefusedIn text cause line
 IsNoExecution text NoRounds = ⊥
 IsNoExecution text (Naming fault) = ⊥
 
--- the image has no object of a name, or memory was refused
+-- the image has no object of a name, or several, or memory was refused
 abbrev pub IsNotNamed : List ℕ → List ℕ → PastFailure → Type 0
 IsNotNamed image name (Run failure) = failure ≡ runs.Refused refusals.OutOfMemory
 IsNotNamed image name (Unread error) = ⊥
@@ -45,7 +45,7 @@ IsNotNamed image name (NoExecution cause line) = ⊥
 IsNotNamed image name NoRounds = ⊥
 IsNotNamed image name (Naming fault) = IsNoObject image name fault
 
--- it has none of the first of these names of which it has none, or memory was refused
+-- it has none, or several, of the first of these names of which it has none or several, or memory was refused
 abbrev pub IsUnnamed : List ℕ → List (List ℕ) → PastFailure → Type 0
 IsUnnamed image names (Run failure) = failure ≡ runs.Refused refusals.OutOfMemory
 IsUnnamed image names (Unread error) = ⊥

@@ -65,7 +65,7 @@ pub record AreRunHits (asked : Watch) (named : List Bytes) (r : Recorded) (m : R
   pub events : hits.events.items ≡ hits_in asked r m (map as_range named)
   pub pcs : hits.pcs.items ≡ pcs_told asked.pc r m hits.events.items
 
--- and these the hits of a recording's run in all that is watched, where the image has all objects
+-- and these the hits of a recording's run in all that is watched, where each name is that of one object of the image
 pub record IsRunWatch (r : Recorded) (asked : Watch) (hits : Found) : Type 0 where
   pub are_workers : AreWorkers asked.workers
   pub named : first_missing r.image (names_watched asked) ≡ None
@@ -96,7 +96,8 @@ pub record AreExecutionHits (with_pcs : Bool) (c : Checked) (positions : List �
   pub events : hits.events.items ≡ map (event_there c.execution.standing.events c.order.0.items) positions
   pub pcs : hits.pcs.items ≡ pcs_there with_pcs c.order.0.items c.sights.pcs.items positions
 
--- and these the operations that touch what is watched, of the hart and of the kind that the line says, where the image has all objects
+-- and these the operations that touch what is watched, of the hart and of the kind that the line says, where each name is that of one
+-- object of the image
 pub record IsFoundWatch (file : Executed) (asked : Watch) (c : Checked) (hits : Found) : Type 0 where
   pub named : first_missing file.image (names_watched asked) ≡ None
   pub found : AreExecutionHits asked.pc c

@@ -6,8 +6,7 @@ ghost use Rattle.past_commands.specs.Watches.{as_range, at_address, names_watche
 
 use crate::failure::PastFailure;
 use command_line::{Bytes, Watch};
-use elf_symbols::find_object;
-use named_bytes::{is_in_memory, no_object};
+use named_bytes::{is_in_memory, no_object, one_object};
 use pages::{OutOfMemory, Range};
 use program_world::Messages;
 use std::alloc::{AllocError, Global};
@@ -16,7 +15,7 @@ use std::alloc::{AllocError, Global};
 ///
 /// # Errors
 ///
-/// `Naming` for the first name of no object, and `Run` for want of memory.
+/// `Naming` for the first name of no object, or of several, and `Run` for want of memory.
 pub(crate) fn watched_bytes(
     alloc: Global,
     image: &[u8],
@@ -54,7 +53,7 @@ fn object_bytes(alloc: Global, image: &[u8], names: &[&str]) -> Result<Vec<Bytes
 {
     let mut bytes = Vec::new(alloc);
     for name in names {
-        match find_object(image, name.as_bytes()) {
+        match one_object(image, name) {
             Some(object) => bytes.push(Bytes {
                 address: object.address,
                 length: object.length,
@@ -65,7 +64,7 @@ fn object_bytes(alloc: Global, image: &[u8], names: &[&str]) -> Result<Vec<Bytes
     Ok(bytes)
 }
 
-/// The failure of a name of no object.
+/// The failure of a name of no object, or of several.
 fn unnamed(alloc: Global, image: &[u8], name: &str) -> PastFailure
     ensures { IsNotNamed image.now name.now result }
 {
