@@ -3,12 +3,12 @@ use Rattle.std.specs.Prelude.{◌≡◌, ◌≢◌, ◌⊎◌, ℕ, ◌+◌, ◌
 use Rattle.std.specs.Char.{is_ascii_hexdigit}
 use Rattle.std.specs.List.{list_all, list_any}
 use Rattle.command_line.specs.Reading.{address_in, number_in}
-use Rattle.elf_symbols.specs.Symbols.{function_of, has_symbol_table}
+use Rattle.elf_symbols.specs.Symbols.{function_of, has_other_function, has_symbol_table}
 use Rattle.elf_symbols.specs.declared.object.Object.{Object}
 use Rattle.fence_commands.specs.declared.failure.FencesFailure.{FencesFailure}
 use Rattle.fence_commands.specs.declared.failure.FencesFailure.TheVariants as failures
 use Rattle.fence_commands.specs.declared.places.Misplaced.{Misplaced}
-use Rattle.fence_commands.specs.declared.places.Misplaced.TheVariants.{Beyond, NoFunction, NoSymbols, NotCode, Unreadable}
+use Rattle.fence_commands.specs.declared.places.Misplaced.TheVariants.{Beyond, NoFunction, NoSymbols, NotCode, Several, Unreadable}
 use Rattle.host_io.specs.declared.error.RunError.TheVariants as refusals
 use Rattle.host_io.specs.declared.load_error.LoadError.{LoadError as ImageCause}
 use Rattle.hunt_commands.specs.declared.failure.HuntFailure.TheVariants as hunts
@@ -38,18 +38,24 @@ address_of word = readable (first_or (printed_pc word) (address_in word))
 
 -- ---- places in functions
 
-abbrev pub behind : ℕ → Option Object → Result ℕ Misplaced
-behind offset None = Err NoFunction
-behind offset (Some function) = if nat_lt offset function.length then Ok (min (function.address + offset) (2 ^ 64 - 1)) else Err Beyond
+-- the address that is so many bytes behind the first one of a function; whether there are several of its name, at different addresses
+abbrev pub behind : ℕ → Object → Bool → Result ℕ Misplaced
+behind offset function true = Err Several
+behind offset function false = if nat_lt offset function.length then Ok (min (function.address + offset) (2 ^ 64 - 1)) else Err Beyond
 
-abbrev pub place_by : Option ℕ → Bool → Option Object → Result ℕ Misplaced
-place_by None symbols function = Err Unreadable
-place_by (Some offset) false function = Err NoSymbols
-place_by (Some offset) true function = behind offset function
+-- the same of the function that a file has of a name, if it has one
+abbrev pub behind_named : List ℕ → List ℕ → ℕ → Option Object → Result ℕ Misplaced
+behind_named file name offset None = Err NoFunction
+behind_named file name offset (Some function) = behind offset function (has_other_function file name function.address)
 
--- the address that is as many bytes as the digits say behind the first one of a function
+abbrev pub place_by : List ℕ → List ℕ → Option ℕ → Bool → Result ℕ Misplaced
+place_by file name None symbols = Err Unreadable
+place_by file name (Some offset) false = Err NoSymbols
+place_by file name (Some offset) true = behind_named file name offset (function_of file name)
+
+-- the address that is as many bytes as the digits say behind the first one of the function of a name
 abbrev pub place_in : List ℕ → List ℕ → List ℕ → Result ℕ Misplaced
-place_in file function digits = place_by (number_in 64 16 digits) (has_symbol_table file) (function_of file function)
+place_in file name digits = place_by file name (number_in 64 16 digits) (has_symbol_table file)
 
 -- ---- words
 

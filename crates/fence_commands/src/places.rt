@@ -7,7 +7,7 @@ ghost use Rattle.fence_commands.specs.Places.{AreInstructions, IsAssumed, IsInst
 
 use crate::failure::FencesFailure;
 use command_line::address_in;
-use elf_symbols::{find_function, has_symbol_table};
+use elf_symbols::{find_function, has_other_function, has_symbol_table};
 use host_io::RunError;
 use hunter::{HuntSettings, check_hunt};
 use machine::load;
@@ -24,6 +24,8 @@ pub enum Misplaced {
     NoSymbols,
     /// The symbol table has no function of this name.
     NoFunction,
+    /// The symbol table has several functions of this name, at different addresses.
+    Several,
     /// The function ends before this place.
     Beyond,
     /// There is no instruction at this address.
@@ -41,6 +43,9 @@ impl Misplaced {
                 "the image has no symbol table, which would say where the function is"
             }
             Misplaced::NoFunction => "the image's symbol table has no such function",
+            Misplaced::Several => {
+                "the image's symbol table has several functions of this name: name the instruction by its address"
+            }
             Misplaced::Beyond => "the function ends before it",
             Misplaced::NotCode => "the image has no instruction there",
         }
@@ -226,6 +231,9 @@ fn place_in(file: &[u8], function: &str, digits: &str) -> Result<u64, Misplaced>
     let Some(found) = find_function(file, function.as_bytes()) else {
         return Err(Misplaced::NoFunction);
     };
+    if has_other_function(file, function.as_bytes(), found.address) {
+        return Err(Misplaced::Several);
+    }
     if offset < found.length {
         Ok(found.address.saturating_add(offset))
     } else {
