@@ -13,7 +13,8 @@ use Rattle.execution_session.specs.declared.past.Past.{Past}
 use Rattle.gdb_packets.specs.Stream.{next_of}
 use Rattle.gdb_resumes.specs.Sessions.{OfRun}
 use Rattle.gdb_resumes.specs.declared.debugged.Debugged.{Debugged}
-use Rattle.gdb_session.specs.Serving.{HasEnded, Refused, Served, Talking}
+use Rattle.gdb_session.specs.Serving.{HasEnded, Served, Talking}
+use Rattle.gdb_talk.specs.Serving.{Refused}
 use Rattle.host_io.specs.Taken.{BeganText}
 use Rattle.past_commands.specs.Failures.{failure_number}
 use Rattle.past_commands.specs.declared.failure.PastFailure.{PastFailure}

@@ -2,12 +2,12 @@
 use Rattle.std.specs.Prelude.{◌≡◌, ℕ, ◌+◌, ◌-◌, ◌==◌, Bool, not, min, nat_le, false, if◌then◌else◌, List, [], ◌∷◌, ◌++◌, codes, filter, slice_get, slice_set, Option, Some, None}
 use Rattle.hex.specs.Hex.{encode_lower}
 use Rattle.hart_step.specs.declared.hart.Hart.{Hart}
-use Rattle.walking.specs.Stops.{is_one_of}
 use Rattle.execution_moments.specs.Shown.{hart_at, view_at}
 use Rattle.execution_views.specs.Moments.{bytes_at}
 use Rattle.gdb_packets.specs.Writing.{packet_text}
 use Rattle.gdb_requests.specs.declared.request.Request.{Request}
 use Rattle.gdb_requests.specs.declared.request.Request.TheVariants as requests
+use Rattle.gdb_talk.specs.Stops.{with_one, without_one}
 use Rattle.gdb_replies.specs.Description.{target_text}
 use Rattle.gdb_replies.specs.Replies.{features_text, part_of, stop_text}
 use Rattle.gdb_replies.specs.Words.{numbers_of, register_text, registers_text, thread_text, threads_text}
@@ -17,17 +17,6 @@ use Rattle.execution_session.specs.declared.session.Standing.{Standing}
 use Rattle.execution_session.specs.Sessions.{Looked, State, hart_of_thread, position_at}
 use Rattle.execution_session.specs.Moving.{goes_back, goes_on, steps, steps_alone, steps_back}
 use Rattle.execution_session.specs.Threads.{thread_list}
-
--- ---- breakpoints that come and go
-
-abbrev pub with_one : List ℕ → ℕ → List ℕ
-with_one stops address = if is_one_of stops address then stops else stops ++ address ∷ []
-
-abbrev pub differs_from : ℕ → ℕ → Bool
-differs_from address stop = not (stop == address)
-
-abbrev pub without_one : List ℕ → ℕ → List ℕ
-without_one stops address = filter (differs_from address) stops
 
 -- ---- texts
 

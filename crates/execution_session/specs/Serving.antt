@@ -1,10 +1,12 @@
 -- A debugger is served: what it says, and what is written for it.
 use Rattle.std.specs.Prelude.{◌≡◌, ◌⊎◌, ℕ, Bool, true, false, List, [], ◌∷◌, ◌++◌, codes, Option, Some, None}
-use Rattle.gdb_packets.specs.Stream.{Told, Accepted, Again, Interrupt, Packet, Spoilt, Tells, next_of}
+use Rattle.gdb_packets.specs.Stream.{Told, Accepted, Again, Interrupt, Packet, Spoilt, next_of}
 use Rattle.gdb_packets.specs.Writing.{answer_to, packet_text}
-use Rattle.gdb_requests.specs.Grammar.{request_of}
 use Rattle.gdb_requests.specs.declared.request.Request.{Request}
 use Rattle.gdb_requests.specs.declared.request.Request.TheVariants as requests
+use Rattle.gdb_talk.specs.Asking.{asked_by, ends}
+use Rattle.gdb_talk.specs.Saying.{refused_text}
+use Rattle.gdb_talk.specs.Serving.{Served as ServedBy}
 use Rattle.execution_session.specs.Answers.{Answers}
 use Rattle.execution_session.specs.Sessions.{Looked, State, opening_standing, state_of}
 use Rattle.execution_session.specs.declared.talk.Talk.{Talk}
@@ -21,32 +23,7 @@ talking t = record { state = state_of t.session; last = t.last }
 abbrev pub begun : Talking
 begun = record { state = record { standing = opening_standing; software = []; hardware = [] }; last = None }
 
--- ---- what is asked for: by a packet, or by the wish to be told the last reply again. An execution that was resumed stands where it stands
-
-abbrev pub again_of : Request → Request
-again_of requests.Continue = requests.WhyStopped
-again_of (requests.Step thread) = requests.WhyStopped
-again_of (requests.StepIn thread low high) = requests.WhyStopped
-again_of (requests.StepAlone thread) = requests.WhyStopped
-again_of requests.StepBack = requests.WhyStopped
-again_of requests.ContinueBack = requests.WhyStopped
-again_of request = request
-
-abbrev pub again_after : Option Request → Option Request
-again_after None = None
-again_after (Some request) = Some (again_of request)
-
-abbrev pub asked_by : Told → Option Request → Option Request
-asked_by (Packet payload) last = Some (request_of payload)
-asked_by Again last = again_after last
-asked_by Accepted last = None
-asked_by Interrupt last = None
-asked_by Spoilt last = None
-
 -- ---- what is written for it
-
-abbrev pub refused_text : List ℕ
-refused_text = packet_text (codes "E.error 20")
 
 -- one packet answers a request; or it says that the request found no memory, and the session stays as it was
 pub record IsAnswered (r : Looked) (s : State) (request : Request) (written : List ℕ) (t : State) : Type 0 where
@@ -80,37 +57,11 @@ IsLost s written t = (written ≡ 43 ∷ refused_text) × (t ≡ s)
 abbrev pub Hears : Looked → Talking → Told → List ℕ → Talking → Type 0
 Hears r s x written t = HearsBy r s x (asked_by x s.last) written t ⊎ IsLost s written t
 
--- what is heard one after another, and all that is written for it
-pub data Hear (r : Looked) : List Told → List ℕ → Talking → Type 0 where
-  Begins : Hear r [] [] begun
-  Goes : (xs : List Told) (w : List ℕ) (s : Talking) (x : Told) (v : List ℕ) (t : Talking) → Hear r xs w s → Hears r s x v t → Hear r (xs ++ x ∷ []) (w ++ v) t
-
--- some bytes say these things one after another
-pub data Says : List ℕ → List Told → Type 0 where
-  Nothing : Says [] []
-  Goes_on : (text : List ℕ) (xs : List Told) (more : List ℕ) (x : Told) → Says text xs → Tells more x → Says (text ++ more) (xs ++ x ∷ [])
-
 -- ---- the whole
 
 -- what was read says this, and that was written
-pub record Served (r : Looked) (gave gave_then took took_then rest : List ℕ) (t : Talking) : Type 0 where
-  pub text : List ℕ
-  pub heard : List Told
-  pub written : List ℕ
-  pub says : Says text heard
-  pub hears : Hear r heard written t
-  pub gave_is : gave_then ≡ gave ++ text ++ rest
-  pub took_is : took_then ≡ took ++ written
-
--- the debugger has left: the run was to end, or the reply to its leave was acknowledged
-abbrev pub is_accepted : Told → Bool
-is_accepted Accepted = true
-is_accepted x = false
-
-abbrev pub ends : Told → Option Request → Bool
-ends x (Some requests.Kill) = true
-ends x (Some requests.Detach) = is_accepted x
-ends x last = false
+abbrev pub Served : Looked → List ℕ → List ℕ → List ℕ → List ℕ → List ℕ → Talking → Type 0
+Served r gave gave_then took took_then rest t = ServedBy begun (Hears r) gave gave_then took took_then rest t
 
 -- it has left, or its input ends with bytes that say nothing
 abbrev pub HasEnded : Talking → List ℕ → Type 0

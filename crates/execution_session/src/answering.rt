@@ -9,7 +9,6 @@ ghost use Rattle.execution_session.specs.Answers.{Answered, Wrote, done_or_missi
 ghost use Rattle.execution_session.specs.Sessions.{looked_at, state_of};
 ghost use Rattle.execution_session.specs.Threads.{thread_list};
 
-use crate::breakpoints::{add_stop, remove_stop};
 use crate::moving::{go_back, go_on, step, step_alone, step_back};
 use crate::past::Past;
 use crate::session::{Session, Standing};
@@ -17,6 +16,7 @@ use crate::threads::thread_list;
 use gdb_replies::{Registers, Reply, Window, target_description, write_reply};
 use gdb_requests::Request;
 use gdb_sights::stop_reply_of;
+use gdb_talk::{add_stop, remove_stop};
 use hart_step::Hart;
 use host_io::{RunError, Sink};
 use std::alloc::Global;

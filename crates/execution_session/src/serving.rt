@@ -1,11 +1,12 @@
 ghost use Rattle.std.specs.Prelude.{◌≡◌, ◌∷◌, ◌++◌, ℕ, List, IfOk, OnOk};
 ghost use Rattle.execution_session.specs.Sessions.{looked_at};
-ghost use Rattle.execution_session.specs.Serving.{HasEnded, Served, ServesOn, Talking, refused_text, talking};
+ghost use Rattle.execution_session.specs.Serving.{HasEnded, Served, ServesOn, Talking, talking};
 
 use crate::past::Past;
-use crate::talk::{Talk, refuse};
+use crate::talk::Talk;
 use gdb_packets::Reader;
-use host_io::{RunError, Sink, Source, put_all};
+use gdb_talk::refuse_lost;
+use host_io::{RunError, Sink, Source};
 use std::alloc::Global;
 
 /// Serves a debugger: reads what it says from a source, and answers it by a sink, until it leaves or the source ends.
@@ -61,12 +62,4 @@ fn hear_next<S: Source, K: Sink>(
         return Ok(false);
     }
     Ok(true)
-}
-
-/// Acknowledges something that found no memory, and says so.
-fn refuse_lost<K: Sink>(out: &mut K) -> Result<(), RunError>
-    ensures { OnOk result (K.took out.new ≡ K.took out.old ++ 43 ∷ refused_text) }
-{
-    put_all(out, b"+")?;
-    refuse(out)
 }

@@ -3,18 +3,17 @@
 ghost use Rattle.std.specs.Prelude.{◌≡◌, ◌++◌, ℕ, List, OnOk};
 ghost use Rattle.gdb_packets.specs.Views.{told_in};
 ghost use Rattle.execution_session.specs.Sessions.{looked_at, state_of};
-ghost use Rattle.execution_session.specs.Serving.{Hears, Replies, RepliesTo, again_of, asked_by, begun, ends, refused_text, talking};
+ghost use Rattle.execution_session.specs.Serving.{Hears, Replies, RepliesTo, begun, talking};
+ghost use Rattle.gdb_talk.specs.Asking.{asked_by, ends};
 
 use crate::answering::answer;
 use crate::past::Past;
 use crate::session::Session;
 use gdb_packets::{Item, acknowledge};
-use gdb_requests::{Request, request_of};
-use host_io::{RunError, Sink, put_all};
+use gdb_requests::Request;
+use gdb_talk::{asked_by, has_left, refuse};
+use host_io::{RunError, Sink};
 use std::alloc::Global;
-
-/// What says that a request found no memory: the packet of `E.error 20`.
-const REFUSED: &[u8] = b"$E.error 20#1f";
 
 /// A debugger's session, and what it asked for last.
 #[derive(Drop)]
@@ -57,40 +56,7 @@ impl Talk {
     pub(crate) fn has_ended(&self, item: &Item) -> bool
         ensures { result ≡ ends (told_in item.now) (talking self.now).last }
     {
-        match self.last {
-            Some(Request::Kill) => true,
-            Some(Request::Detach) => matches!(item, Item::Accepted),
-            _ => false,
-        }
-    }
-}
-
-/// What is asked for: by a packet, or by the wish to be told the last reply again.
-fn asked_by(item: &Item, last: Option<Request>) -> Option<Request>
-    ensures { result ≡ asked_by (told_in item.now) last }
-{
-    match item {
-        Item::Packet(payload) => Some(request_of(payload.as_slice())),
-        Item::Again => match last {
-            Some(request) => Some(again_of(request)),
-            None => None,
-        },
-        Item::Accepted | Item::Interrupt | Item::Spoilt => None,
-    }
-}
-
-/// What is asked for where the reply to a request is to be told again: an execution that was resumed stands where it stands.
-fn again_of(request: Request) -> Request
-    ensures { result ≡ again_of request }
-{
-    match request {
-        Request::Continue
-        | Request::Step(_)
-        | Request::StepIn(_, _, _)
-        | Request::StepAlone(_)
-        | Request::StepBack
-        | Request::ContinueBack => Request::WhyStopped,
-        other => other,
+        has_left(item, self.last)
     }
 }
 
@@ -125,11 +91,4 @@ fn answer_or_refuse<K: Sink>(
         Err(RunError::OutOfMemory) => refuse(out),
         Err(error) => Err(error),
     }
-}
-
-/// Says that a request found no memory.
-pub(crate) fn refuse<K: Sink>(out: &mut K) -> Result<(), RunError>
-    ensures { OnOk result (K.took out.new ≡ K.took out.old ++ refused_text) }
-{
-    put_all(out, REFUSED)
 }

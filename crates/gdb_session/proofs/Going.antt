@@ -1,99 +1,20 @@
 -- What is heard and written so far, and one thing more.
-use Rattle.std.proofs.Common.{◌≡◌, inr, ℕ, List, [], ◌∷◌, ◌++◌, refl, sym, ap, ◌∙◌, append_assoc, append-nil}
-use Rattle.std.specs.List.{flat_map}
-use Rattle.std.proofs.lemmas.Grind.{flat_map-append}
-use Rattle.gdb_packets.specs.Reads.{EndsBy, GoesOn, TellsBy}
+use Rattle.std.proofs.Common.{◌≡◌, inr, ℕ, List, ◌∷◌, ◌++◌, refl}
+use Rattle.gdb_packets.specs.Reads.{TellsBy}
 use Rattle.gdb_packets.specs.Stream.{Told, next_of}
 use Rattle.gdb_requests.specs.declared.request.Request.{Request}
 use Rattle.gdb_requests.specs.declared.request.Request.TheVariants as requests
 use Rattle.gdb_resumes.specs.declared.debugged.Debugged.{Debugged}
 use Rattle.gdb_resumes.specs.Sessions.{OfRun, Recorded, State, recorded_of}
 use Rattle.gdb_resumes.proofs.Runs.{of_same}
-use Rattle.gdb_session.specs.Serving.{Goes, Goes_on, Hears, Begins, Nothing, Refused, Served, Talking, begun, Replies, RepliesTo, refusal_of, refused_text}
+use Rattle.gdb_talk.proofs.Going.{serves_more}
+use Rattle.gdb_talk.specs.Saying.{refused_text}
+use Rattle.gdb_session.specs.Serving.{Hears, Served, Talking, begun, Replies, RepliesTo}
 
--- bytes behind those that were given, and what is held behind them
-pub goes_behind : (g text g1 held g2 held2 y : List ℕ) → g1 ≡ g ++ text ++ held → GoesOn g1 held g2 held2 y → g2 ≡ g ++ (text ++ y) ++ held2
-goes_behind g text g1 held g2 held2 y e on =
-    on.on (g ++ text) e ∙ sym (append_assoc (g ++ text) y held2) ∙ ap (λ (xs : List ℕ). xs ++ held2) (append_assoc g text y)
-
-pub took_behind : (t w t1 v t2 : List ℕ) → t1 ≡ t ++ w → t2 ≡ t1 ++ v → t2 ≡ t ++ (w ++ v)
-took_behind t w t1 v t2 e f = f ∙ ap (λ (xs : List ℕ). xs ++ v) e ∙ append_assoc t w v
-
-pub ends_behind : (g text g1 held g2 held2 y : List ℕ) → held2 ≡ [] → g1 ≡ g ++ text ++ held → GoesOn g1 held g2 held2 y → g2 ≡ g ++ text ++ y
-ends_behind g text g1 held g2 held2 y none e on =
-    on.on (g ++ text) e ∙ ap (λ (xs : List ℕ). (g ++ text) ++ (y ++ xs)) none ∙ ap (λ (xs : List ℕ). (g ++ text) ++ xs) (append-nil y)
-
-module _ (r : Recorded) (g t : List ℕ) where
-  pub serves_none : Served r g g t t [] begun
-  serves_none = record {
-    text = [];
-    heard = [];
-    written = [];
-    says = Nothing;
-    hears = Begins;
-    gave_is = sym (append-nil (g ++ []) ∙ append-nil g);
-    took_is = sym (append-nil t);
-  }
-
-  pub serves_more : (g1 t1 held : List ℕ) (s : Talking) (g2 t2 held2 : List ℕ) (x : Told) (v : List ℕ) (s2 : Talking) → Served r g g1 t t1 held s →
-      TellsBy next_of g1 held g2 held2 x → Hears r s x v s2 → t2 ≡ t1 ++ v → Served r g g2 t t2 held2 s2
-  serves_more g1 t1 held s g2 t2 held2 x v s2 so y hears took = record {
-    text = so.text ++ y.text;
-    heard = so.heard ++ x ∷ [];
-    written = so.written ++ v;
-    says = Goes_on so.text so.heard y.text x so.says y.tells;
-    hears = Goes so.heard so.written s x v s2 so.hears hears;
-    gave_is = goes_behind g so.text g1 held g2 held2 y.text so.gave_is y.on;
-    took_is = took_behind t so.written t1 v t2 so.took_is took;
-  }
-
-  pub serves_lost : (g1 t1 held : List ℕ) (s : Talking) (g2 t2 held2 : List ℕ) (x : Told) → Served r g g1 t t1 held s →
-      TellsBy next_of g1 held g2 held2 x → t2 ≡ t1 ++ 43 ∷ refused_text → Served r g g2 t t2 held2 s
-  serves_lost g1 t1 held s g2 t2 held2 x so y took = serves_more g1 t1 held s g2 t2 held2 x (43 ∷ refused_text) s so y (inr (refl, refl)) took
-
-  pub serves_end : (g1 t1 held : List ℕ) (s : Talking) (g2 held2 : List ℕ) → Served r g g1 t t1 held s → (y : EndsBy next_of g1 held g2 held2) → Served r g g2 t t1 y.text s
-  serves_end g1 t1 held s g2 held2 so y = record {
-    text = so.text;
-    heard = so.heard;
-    written = so.written;
-    says = so.says;
-    hears = so.hears;
-    gave_is = ends_behind g so.text g1 held g2 held2 y.text y.all so.gave_is y.on;
-    took_is = so.took_is;
-  }
-
-module _ (number : ℕ) (g t : List ℕ) where
-  pub refuses_none : Refused number g g t t []
-  refuses_none = record {
-    text = [];
-    heard = [];
-    says = Nothing;
-    gave_is = sym (append-nil (g ++ []) ∙ append-nil g);
-    took_is = sym (append-nil t);
-  }
-
-  pub refuses_more : (g1 t1 held g2 t2 held2 : List ℕ) (x : Told) → Refused number g g1 t t1 held → TellsBy next_of g1 held g2 held2 x →
-      t2 ≡ t1 ++ refusal_of number x → Refused number g g2 t t2 held2
-  refuses_more g1 t1 held g2 t2 held2 x so y took = record {
-    text = so.text ++ y.text;
-    heard = so.heard ++ x ∷ [];
-    says = Goes_on so.text so.heard y.text x so.says y.tells;
-    gave_is = goes_behind g so.text g1 held g2 held2 y.text so.gave_is y.on;
-    took_is =
-        took ∙ ap (λ (xs : List ℕ). xs ++ refusal_of number x) so.took_is
-        ∙ append_assoc t (flat_map (refusal_of number) so.heard) (refusal_of number x)
-        ∙ ap (λ (xs : List ℕ). t ++ (flat_map (refusal_of number) so.heard ++ xs)) (sym (append-nil (refusal_of number x)))
-        ∙ ap (λ (xs : List ℕ). t ++ xs) (sym (flat_map-append (refusal_of number) so.heard (x ∷ [])));
-  }
-
-  pub refuses_end : (g1 t1 held g2 held2 : List ℕ) → Refused number g g1 t t1 held → (y : EndsBy next_of g1 held g2 held2) → Refused number g g2 t t1 y.text
-  refuses_end g1 t1 held g2 held2 so y = record {
-    text = so.text;
-    heard = so.heard;
-    says = so.says;
-    gave_is = ends_behind g so.text g1 held g2 held2 y.text y.all so.gave_is y.on;
-    took_is = so.took_is;
-  }
+-- something that found no memory itself
+pub serves_lost : (r : Recorded) (g t g1 t1 held : List ℕ) (s : Talking) (g2 t2 held2 : List ℕ) (x : Told) → Served r g g1 t t1 held s →
+    TellsBy next_of g1 held g2 held2 x → t2 ≡ t1 ++ 43 ∷ refused_text → Served r g g2 t t2 held2 s
+serves_lost r g t g1 t1 held s g2 t2 held2 x so y took = serves_more begun (Hears r) g t g1 t1 held s g2 t2 held2 x (43 ∷ refused_text) s so y (inr (refl, refl)) took
 
 -- what is said further
 
@@ -103,7 +24,7 @@ pub hears_more : (d0 d : Debugged) → d ≡ d0 → (g k g1 k1 held : List ℕ) 
 hears_more d0 d e g k g1 k1 held s g2 k2 held2 x s2 so tells hears = λ m is.
     let P : Recorded → Type 0 = λ r. (v : List ℕ) × Hears r s x v s2 × (k2 ≡ k1 ++ v) in
     let h = of_same d0 d P e hears m is in
-    serves_more (recorded_of m d0) g k g1 k1 held s g2 k2 held2 x h.0 s2 (so m is) tells h.1 h.2
+    serves_more begun (Hears (recorded_of m d0)) g k g1 k1 held s g2 k2 held2 x h.0 s2 (so m is) tells h.1 h.2
 
 -- a request that isn't to end the run
 pub replies_to : (r : Recorded) (s : State) (request : Request) (written : List ℕ) (t : State) → (request ≡ requests.Kill → ⊥) →

@@ -11,7 +11,9 @@ use Rattle.gdb_resumes.specs.Resumes.{Continues, interrupted}
 use Rattle.gdb_resumes.specs.Searches.{HasCome}
 use Rattle.gdb_resumes.specs.Sessions.{Recorded, State}
 use Rattle.gdb_session.specs.Answers.{stands_packets}
-use Rattle.gdb_session.specs.Serving.{GoesOn, HearsBy, HearsWhile, IsInterrupted, RepliesOrGoesOn, RepliesTo, StandsOrLost, TakesUp, Talking, asked_by, asks_text, refused_text, request_for, way_of}
+use Rattle.gdb_talk.specs.Asking.{asked_by}
+use Rattle.gdb_talk.specs.Saying.{asks_text, refused_text}
+use Rattle.gdb_session.specs.Serving.{GoesOn, HearsBy, HearsWhile, IsInterrupted, RepliesOrGoesOn, RepliesTo, StandsOrLost, TakesUp, Talking, request_for, way_of}
 
 module _ (r : Recorded) (s : State) where
   -- the search has ended

@@ -1,7 +1,6 @@
 -- What a debugger is answered, and what its session is then.
 use Rattle.std.specs.Prelude.{◌≡◌, ℕ, ◌+◌, ◌-◌, ◌==◌, ◌&&◌, ◌||◌, not, nat_le, nat_lt, if◌then◌else◌, Bool, true, false, List, [], ◌∷◌, ◌++◌, filter, codes, is_some, Option, Some, None}
 use Rattle.std.specs.List.{list_any}
-use Rattle.walking.specs.Stops.{is_one_of}
 use Rattle.watching.specs.declared.watchpoint.WatchKind.{WatchKind}
 use Rattle.watching.specs.declared.watchpoint.WatchKind.TheVariants as kinds
 use Rattle.watching.specs.declared.watchpoint.Watchpoint.{Watchpoint}
@@ -16,6 +15,7 @@ use Rattle.gdb_requests.specs.declared.request.Request.{Request}
 use Rattle.gdb_requests.specs.declared.request.Request.TheVariants as requests
 use Rattle.gdb_requests.specs.declared.request.Watch.{Watch}
 use Rattle.gdb_requests.specs.declared.request.Watch.TheVariants as asked
+use Rattle.gdb_talk.specs.Stops.{with_one, without_one}
 use Rattle.gdb_replies.specs.Description.{target_text}
 use Rattle.gdb_replies.specs.CommandTexts.{ahead_text, behind_text, elsewhere_text, harts_text, help_text, here_text, hits_text, rounds_text}
 use Rattle.gdb_replies.specs.Replies.{features_text, part_of, payload_of}
@@ -160,17 +160,7 @@ abbrev pub SelectsMovingBy : Recorded → State → Option ℕ → List ℕ → 
 SelectsMovingBy r s None written t = Says (codes "OK") (moves_alone s None) written t
 SelectsMovingBy r s (Some thread) written t = SelectsMoving s (hart_of_thread r.harts thread) written t
 
--- breakpoints come and go
-abbrev pub with_one : List ℕ → ℕ → List ℕ
-with_one stops address = if is_one_of stops address then stops else stops ++ address ∷ []
-
-abbrev pub differs_from : ℕ → ℕ → Bool
-differs_from address stop = not (stop == address)
-
-abbrev pub without_one : List ℕ → ℕ → List ℕ
-without_one stops address = filter (differs_from address) stops
-
--- watchpoints too
+-- watchpoints come and go
 abbrev pub kind_of : Watch → WatchKind
 kind_of asked.Write = kinds.Changes
 kind_of asked.Read = kinds.Reads

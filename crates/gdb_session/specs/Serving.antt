@@ -1,12 +1,12 @@
 -- A debugger is served: what it says, and what is written for it.
 use Rattle.std.specs.Prelude.{◌≡◌, ◌⊎◌, ℕ, Bool, true, false, List, [], ◌∷◌, ◌++◌, codes, Option, Some, None}
-use Rattle.std.specs.Fmt.{decimal}
-use Rattle.std.specs.List.{flat_map}
-use Rattle.gdb_packets.specs.Stream.{Told, Accepted, Again, Interrupt, Packet, Spoilt, Tells, next_of}
+use Rattle.gdb_packets.specs.Stream.{Told, Accepted, Again, Interrupt, Packet, Spoilt, next_of}
 use Rattle.gdb_packets.specs.Writing.{answer_to, packet_text}
-use Rattle.gdb_requests.specs.Grammar.{request_of}
 use Rattle.gdb_requests.specs.declared.request.Request.{Request}
 use Rattle.gdb_requests.specs.declared.request.Request.TheVariants as requests
+use Rattle.gdb_talk.specs.Asking.{asked_by, ends}
+use Rattle.gdb_talk.specs.Saying.{asks_text, refused_text}
+use Rattle.gdb_talk.specs.Serving.{Served as ServedBy}
 use Rattle.gdb_replies.specs.declared.stop_reply.Reason.TheVariants.{Step}
 use Rattle.watching.specs.declared.watchpoint.Way.{Way}
 use Rattle.watching.specs.declared.watchpoint.Way.TheVariants.{On, Back}
@@ -40,32 +40,7 @@ begun = record {
   searching = None;
 }
 
--- ---- what is asked for: by a packet, or by the wish to be told the last reply again. A run that was resumed stands where it stands
-
-abbrev pub again_of : Request → Request
-again_of requests.Continue = requests.WhyStopped
-again_of (requests.Step thread) = requests.WhyStopped
-again_of (requests.StepIn low high thread) = requests.WhyStopped
-again_of (requests.StepAlone thread) = requests.WhyStopped
-again_of requests.StepBack = requests.WhyStopped
-again_of requests.ContinueBack = requests.WhyStopped
-again_of request = request
-
-abbrev pub again_after : Option Request → Option Request
-again_after None = None
-again_after (Some request) = Some (again_of request)
-
-abbrev pub asked_by : Told → Option Request → Option Request
-asked_by (Packet payload) last = Some (request_of payload)
-asked_by Again last = again_after last
-asked_by Accepted last = None
-asked_by Interrupt last = None
-asked_by Spoilt last = None
-
 -- ---- what is written for it
-
-abbrev pub refused_text : List ℕ
-refused_text = packet_text (codes "E.error 20")
 
 -- a request is answered; or it is said that it found no memory, and the session stays as it was
 abbrev pub Replies : Recorded → State → Request → List ℕ → State → Type 0
@@ -85,10 +60,6 @@ way_of request = None
 abbrev pub request_for : Way → Request
 request_for On = requests.Continue
 request_for Back = requests.ContinueBack
-
--- what asks the debugger for an acknowledgement, so that what it said before is heard: a packet with nothing for its terminal
-abbrev pub asks_text : List ℕ
-asks_text = packet_text (codes "O")
 
 -- the search for the answer has come so far, and nothing was told; the run stands where it stood
 pub record GoesOn (r : Recorded) (s : State) (request : Request) (x : Search) (written : List ℕ) (t : State) : Type 0 where
@@ -142,37 +113,11 @@ IsLost s written t = (written ≡ 43 ∷ refused_text) × (t ≡ s)
 abbrev pub Hears : Recorded → Talking → Told → List ℕ → Talking → Type 0
 Hears r s x written t = HearsWhile r s x s.searching written t ⊎ IsLost s written t
 
--- what is heard one after another, and all that is written for it
-pub data Hear (r : Recorded) : List Told → List ℕ → Talking → Type 0 where
-  Begins : Hear r [] [] begun
-  Goes : (xs : List Told) (w : List ℕ) (s : Talking) (x : Told) (v : List ℕ) (t : Talking) → Hear r xs w s → Hears r s x v t → Hear r (xs ++ x ∷ []) (w ++ v) t
-
--- some bytes say these things one after another
-pub data Says : List ℕ → List Told → Type 0 where
-  Nothing : Says [] []
-  Goes_on : (text : List ℕ) (xs : List Told) (more : List ℕ) (x : Told) → Says text xs → Tells more x → Says (text ++ more) (xs ++ x ∷ [])
-
 -- ---- the whole
 
 -- what was read says this, and that was written
-pub record Served (r : Recorded) (gave gave_then took took_then rest : List ℕ) (t : Talking) : Type 0 where
-  pub text : List ℕ
-  pub heard : List Told
-  pub written : List ℕ
-  pub says : Says text heard
-  pub hears : Hear r heard written t
-  pub gave_is : gave_then ≡ gave ++ text ++ rest
-  pub took_is : took_then ≡ took ++ written
-
--- the debugger has left: the run was to end, or the reply to its leave was acknowledged
-abbrev pub is_accepted : Told → Bool
-is_accepted Accepted = true
-is_accepted x = false
-
-abbrev pub ends : Told → Option Request → Bool
-ends x (Some requests.Kill) = true
-ends x (Some requests.Detach) = is_accepted x
-ends x last = false
+abbrev pub Served : Recorded → List ℕ → List ℕ → List ℕ → List ℕ → List ℕ → Talking → Type 0
+Served r gave gave_then took took_then rest t = ServedBy begun (Hears r) gave gave_then took took_then rest t
 
 -- it has left, or its input ends with bytes that say nothing
 abbrev pub HasEnded : Talking → List ℕ → Type 0
@@ -182,19 +127,3 @@ HasEnded t rest = ((x : Told) × (ends x t.last ≡ true)) ⊎ (next_of rest ≡
 abbrev pub ServesOn : Recorded → List ℕ → List ℕ → List ℕ → List ℕ → List ℕ → Talking → Bool → Type 0
 ServesOn r gave gave_then took took_then held t true = Served r gave gave_then took took_then held t
 ServesOn r gave gave_then took took_then held t false = (rest : List ℕ) × Served r gave gave_then took took_then rest t × HasEnded t rest
-
--- ---- a run that is refused: each request is answered by the refusal's number
-
-abbrev pub refusal_of : ℕ → Told → List ℕ
-refusal_of number (Packet payload) = 43 ∷ packet_text (codes "E.error " ++ decimal number)
-refusal_of number Spoilt = 45 ∷ []
-refusal_of number Accepted = []
-refusal_of number Again = []
-refusal_of number Interrupt = []
-
-pub record Refused (number : ℕ) (gave gave_then took took_then rest : List ℕ) : Type 0 where
-  pub text : List ℕ
-  pub heard : List Told
-  pub says : Says text heard
-  pub gave_is : gave_then ≡ gave ++ text ++ rest
-  pub took_is : took_then ≡ took ++ flat_map (refusal_of number) heard

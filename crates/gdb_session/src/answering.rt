@@ -6,7 +6,6 @@ ghost use Rattle.gdb_requests.specs.declared.request.Request.TheVariants as requ
 ghost use Rattle.gdb_session.specs.Answers.{Answered, Moves, Resumes};
 ghost use Rattle.gdb_resumes.specs.Sessions.{IsReady, OfRun, state_of};
 
-use crate::breakpoints::{add_stop, remove_stop};
 use crate::goto::go_to;
 use crate::hits::set_hits;
 use crate::reading::{is_goto, reply_to, say_stop};
@@ -15,6 +14,7 @@ use crate::watchpoints::{add_watch, remove_watch, watch_of};
 use gdb_replies::{Reply, write_reply};
 use gdb_requests::{Command, Request};
 use gdb_resumes::{Debugged, Session, Standing, step, step_alone, step_back, step_in};
+use gdb_talk::{add_stop, remove_stop};
 use host_io::{RunError, Sink};
 use std::alloc::Global;
 use std::sync::Wait;

@@ -2,12 +2,10 @@
 #![tactic(auto)]
 
 mod answering;
-mod breakpoints;
 mod goto;
 mod hits;
 mod opening;
 mod reading;
-mod refusing;
 mod searching;
 mod selecting;
 mod serving;
@@ -16,5 +14,4 @@ mod watchpoints;
 
 pub use answering::answer;
 pub use opening::open;
-pub use refusing::refuse_each;
 pub use serving::serve;

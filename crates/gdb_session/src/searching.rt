@@ -3,21 +3,16 @@
 ghost use Rattle.std.specs.Prelude.{◌≡◌, ◌++◌, ℕ, List, IfOk, IfSome, OnOk};
 ghost use Rattle.gdb_resumes.specs.Resumes.{IsUnderWay, interrupted};
 ghost use Rattle.gdb_resumes.specs.Sessions.{IsReady, OfRun, state_of};
-ghost use Rattle.gdb_session.specs.Serving.{RepliesOrGoesOn, StandsOrLost, asks_text, refused_text, request_for};
+ghost use Rattle.gdb_session.specs.Serving.{RepliesOrGoesOn, StandsOrLost, request_for};
 
 use crate::reading::say_stop;
 use gdb_resumes::{Debugged, Search, Searched, Session, Standing};
-use host_io::{RunError, Sink, put_all};
+use gdb_talk::{ask, refuse};
+use host_io::{RunError, Sink};
 use std::alloc::Global;
 use std::sync::Wait;
 use std::thread::Threads;
 use watching::Way;
-
-/// What says that a request found no memory: the packet of `E.error 20`.
-const REFUSED: &[u8] = b"$E.error 20#1f";
-
-/// What asks for an acknowledgement: a packet with nothing for the debugger's terminal.
-const ASKS: &[u8] = b"$O#4f";
 
 /// Begins a search, and lets it go on for some rounds; or says that it found no memory. It may wait.
 pub(crate) fn begin_search<R: Threads + Wait + Sync, K: Sink>(
@@ -125,18 +120,4 @@ fn stand<R: Threads + Wait + Sync, K: Sink>(
         Err(RunError::OutOfMemory) => refuse(out),
         Err(error) => Err(error),
     }
-}
-
-/// Asks for an acknowledgement.
-pub(crate) fn ask<K: Sink>(out: &mut K) -> Result<(), RunError>
-    ensures { OnOk result (K.took out.new ≡ K.took out.old ++ asks_text) }
-{
-    put_all(out, ASKS)
-}
-
-/// Says that a request found no memory.
-pub(crate) fn refuse<K: Sink>(out: &mut K) -> Result<(), RunError>
-    ensures { OnOk result (K.took out.new ≡ K.took out.old ++ refused_text) }
-{
-    put_all(out, REFUSED)
 }

@@ -1,13 +1,13 @@
 ghost use Rattle.std.specs.Prelude.{◌≡◌, ◌∷◌, ◌++◌, ℕ, List, IfOk, IfSome, OnOk};
 ghost use Rattle.gdb_resumes.specs.Resumes.{IsUnderWay};
 ghost use Rattle.gdb_resumes.specs.Sessions.{IsReady, OfRun, state_of};
-ghost use Rattle.gdb_session.specs.Serving.{HasEnded, Served, ServesOn, Talking, begun, refused_text, talking};
+ghost use Rattle.gdb_session.specs.Serving.{HasEnded, Served, ServesOn, Talking, begun, talking};
 
-use crate::searching::refuse;
 use crate::talk::Talk;
 use gdb_packets::Reader;
 use gdb_resumes::Debugged;
-use host_io::{RunError, Sink, Source, put_all};
+use gdb_talk::refuse_lost;
+use host_io::{RunError, Sink, Source};
 use std::alloc::Global;
 use std::sync::Wait;
 use std::thread::Threads;
@@ -73,12 +73,4 @@ fn hear_next<R: Threads + Wait + Sync, S: Source, K: Sink>(
         return Ok(false);
     }
     Ok(true)
-}
-
-/// Acknowledges something that found no memory, and says so.
-fn refuse_lost<K: Sink>(out: &mut K) -> Result<(), RunError>
-    ensures { OnOk result (K.took out.new ≡ K.took out.old ++ 43 ∷ refused_text) }
-{
-    put_all(out, b"+")?;
-    refuse(out)
 }

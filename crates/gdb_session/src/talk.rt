@@ -5,13 +5,15 @@ ghost use Rattle.host_io.specs.declared.error.RunError.TheVariants as refusals;
 ghost use Rattle.gdb_packets.specs.Views.{told_in};
 ghost use Rattle.gdb_resumes.specs.Resumes.{IsUnderWay, interrupted};
 ghost use Rattle.gdb_resumes.specs.Sessions.{IsReady, OfRun, state_of};
-ghost use Rattle.gdb_session.specs.Serving.{HearsBy, HearsWhile, Replies, RepliesTo, StandsOrLost, TakesUp, again_of, asked_by, begun, ends, request_for, talking};
+ghost use Rattle.gdb_session.specs.Serving.{HearsBy, HearsWhile, Replies, RepliesTo, StandsOrLost, TakesUp, begun, request_for, talking};
+ghost use Rattle.gdb_talk.specs.Asking.{asked_by, ends};
 
 use crate::answering::answer;
-use crate::searching::{ask, begin_search, interrupt, refuse, search_on};
+use crate::searching::{begin_search, interrupt, search_on};
 use gdb_packets::{Item, acknowledge};
-use gdb_requests::{Request, request_of};
+use gdb_requests::Request;
 use gdb_resumes::{Debugged, Search, Session};
+use gdb_talk::{ask, asked_by, has_left, refuse};
 use host_io::{RunError, Sink};
 use std::alloc::Global;
 use std::sync::Wait;
@@ -193,40 +195,7 @@ impl Talk {
     pub(crate) fn has_ended(&self, item: &Item) -> bool
         ensures { result ≡ ends (told_in item.now) (talking self.now).last }
     {
-        match self.last {
-            Some(Request::Kill) => true,
-            Some(Request::Detach) => matches!(item, Item::Accepted),
-            _ => false,
-        }
-    }
-}
-
-/// What is asked for: by a packet, or by the wish to be told the last reply again.
-fn asked_by(item: &Item, last: Option<Request>) -> Option<Request>
-    ensures { result ≡ asked_by (told_in item.now) last }
-{
-    match item {
-        Item::Packet(payload) => Some(request_of(payload.as_slice())),
-        Item::Again => match last {
-            Some(request) => Some(again_of(request)),
-            None => None,
-        },
-        Item::Accepted | Item::Interrupt | Item::Spoilt => None,
-    }
-}
-
-/// What is asked for where the reply to a request is to be told again: a run that was resumed stands where it stands.
-fn again_of(request: Request) -> Request
-    ensures { result ≡ again_of request }
-{
-    match request {
-        Request::Continue
-        | Request::Step(_)
-        | Request::StepIn(..)
-        | Request::StepAlone(_)
-        | Request::StepBack
-        | Request::ContinueBack => Request::WhyStopped,
-        other => other,
+        has_left(item, self.last)
     }
 }
 

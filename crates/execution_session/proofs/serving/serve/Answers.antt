@@ -1,7 +1,7 @@
 use Rattle.std.proofs.Common.{ℕ, Bool, List, [], sym, subst}
-use Rattle.execution_session.specs.Serving.{Served, ServesOn, Talking, talking}
+use Rattle.execution_session.specs.Serving.{Hears, Served, ServesOn, Talking, begun, talking}
 use Rattle.execution_session.specs.Sessions.{looked_at}
-use Rattle.execution_session.proofs.Going.{serves_none}
+use Rattle.gdb_talk.proofs.Going.{serves_none}
 use Rattle.execution_session.proofs.serving.serve.Goals as goal
 
 pub loop-i-init : goal.loop-i-init
@@ -11,7 +11,7 @@ loop-i-init g c =
     let took = g.K.Sink.took c.args.out.now in
     let P : Talking → Type 0 = λ t. Served r gave gave took took [] t in
     let H : List ℕ → Type 0 = λ held. Served r gave gave took took held (talking c.new-talk.result) in
-    subst H (sym c.new-reader.ensures) (subst P (sym c.new-talk.ensures) (serves_none r gave took))
+    subst H (sym c.new-reader.ensures) (subst P (sym c.new-talk.ensures) (serves_none begun (Hears r) gave took))
 
 pub returns-then-not-branch : goal.returns-then-not-branch
 returns-then-not-branch g c =

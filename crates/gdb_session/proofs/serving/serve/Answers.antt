@@ -1,11 +1,11 @@
 use Rattle.std.proofs.Common.{◌≡◌, rules, ℕ, Bool, false, List, [], Option, refl, sym, ap, subst}
-use Rattle.gdb_session.specs.Serving.{Served, ServesOn, Talking, talking}
+use Rattle.gdb_session.specs.Serving.{Hears, Served, ServesOn, Talking, begun, talking}
 use Rattle.std.specs.Prelude.{IfSome}
 use Rattle.gdb_resumes.specs.declared.searching.Search.{Search}
 use Rattle.gdb_resumes.specs.Resumes.{IsUnderWay}
 use Rattle.gdb_resumes.specs.Sessions.{IsReady, Recorded, recorded_of, state_of}
 use Rattle.gdb_resumes.proofs.Runs.{of_same}
-use Rattle.gdb_session.proofs.Going.{serves_none}
+use Rattle.gdb_talk.proofs.Going.{serves_none}
 use Rattle.gdb_session.proofs.serving.serve.Goals as goal
 
 pub loop-i-init : goal.loop-i-init
@@ -21,7 +21,7 @@ loop-i-init g c =
           let r = recorded_of m c.args.run.now in
           let P : Talking → Type 0 = λ t. Served r gave gave took took [] t in
           let H : List ℕ → Type 0 = λ held. Served r gave gave took took held (talking c.new-talk.result) in
-          subst H (sym c.new-reader.ensures) (subst P (sym c.new-talk.ensures) (serves_none r gave took)),
+          subst H (sym c.new-reader.ensures) (subst P (sym c.new-talk.ensures) (serves_none begun (Hears r) gave took)),
     )
 
 pub returns-then-not-branch-clause-serves : goal.returns-then-not-branch-clause-serves

@@ -5,7 +5,8 @@ use Rattle.gdb_packets.specs.Views.{told_in}
 use Rattle.gdb_packets.specs.declared.item.Item.{Item}
 use Rattle.gdb_resumes.specs.declared.searching.Search.{Search}
 use Rattle.gdb_resumes.specs.Sessions.{recorded_of}
-use Rattle.gdb_session.specs.Serving.{HearsBy, HearsWhile, asked_by, request_for, talking}
+use Rattle.gdb_talk.specs.Asking.{asked_by}
+use Rattle.gdb_session.specs.Serving.{HearsBy, HearsWhile, request_for, talking}
 use Rattle.gdb_session.proofs.Arriving.{both}
 use Rattle.gdb_session.proofs.Resuming.{heard_alone, heard_packet, heard_spoilt, interrupted_there, taken_up}
 use Rattle.gdb_session.proofs.talk.Talk.hear.Goals as goal

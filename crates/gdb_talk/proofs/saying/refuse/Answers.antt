@@ -1,5 +1,5 @@
 use Rattle.hex.specs.Hex.{encode_with}
-use Rattle.gdb_session.proofs.searching.ask.Goals as goal
+use Rattle.gdb_talk.proofs.saying.refuse.Goals as goal
 
 pub returns : goal.returns
 unfolding encode_with

@@ -3,9 +3,9 @@ use Rattle.gdb_packets.specs.Reads.{Reads}
 use Rattle.gdb_packets.specs.Stream.{next_of}
 use Rattle.gdb_packets.specs.Views.{told_in}
 use Rattle.gdb_packets.specs.declared.item.Item.{Item}
-use Rattle.gdb_session.specs.Serving.{Refused}
-use Rattle.gdb_session.proofs.Going.{refuses_more, refuses_none}
-use Rattle.gdb_session.proofs.refusing.refuse_each.Goals as goal
+use Rattle.gdb_talk.specs.Serving.{Refused}
+use Rattle.gdb_talk.proofs.Going.{refuses_more, refuses_none}
+use Rattle.gdb_talk.proofs.saying.refuse_each.Goals as goal
 
 pub loop-i-init : goal.loop-i-init
 loop-i-init g c =

@@ -1,5 +1,5 @@
 use Rattle.hex.specs.Hex.{encode_with}
-use Rattle.gdb_session.proofs.searching.refuse.Goals as goal
+use Rattle.gdb_talk.proofs.saying.ask.Goals as goal
 
 pub returns : goal.returns
 unfolding encode_with

@@ -1,12 +1,55 @@
-ghost use Rattle.std.specs.Prelude.{◌≡◌, ◌++◌, ℕ, List, OnOk, None};
+//! What is said to a debugger beside replies.
+
+ghost use Rattle.std.specs.Prelude.{◌≡◌, ◌∷◌, ◌++◌, ℕ, List, OnOk, None};
 ghost use Rattle.gdb_packets.specs.Stream.{next_of};
 ghost use Rattle.gdb_packets.specs.Views.{told_in};
-ghost use Rattle.gdb_session.specs.Serving.{Refused, refusal_of};
+ghost use Rattle.gdb_talk.specs.Saying.{asks_text, refused_text};
+ghost use Rattle.gdb_talk.specs.Serving.{Refused, refusal_of};
 
 use gdb_packets::{Item, Reader, acknowledge};
 use gdb_replies::{Reply, write_reply};
-use host_io::{RunError, Sink, Source};
+use host_io::{RunError, Sink, Source, put_all};
 use std::alloc::Global;
+
+/// What says that a request found no memory: the packet of `E.error 20`.
+const REFUSED: &[u8] = b"$E.error 20#1f";
+
+/// What asks for an acknowledgement: a packet with nothing for the debugger's terminal.
+const ASKS: &[u8] = b"$O#4f";
+
+/// Asks for an acknowledgement.
+///
+/// # Errors
+///
+/// `SinkFailed` alone.
+pub fn ask<K: Sink>(out: &mut K) -> Result<(), RunError>
+    ensures { OnOk result (K.took out.new ≡ K.took out.old ++ asks_text) }
+{
+    put_all(out, ASKS)
+}
+
+/// Says that a request found no memory.
+///
+/// # Errors
+///
+/// `SinkFailed` alone.
+pub fn refuse<K: Sink>(out: &mut K) -> Result<(), RunError>
+    ensures { OnOk result (K.took out.new ≡ K.took out.old ++ refused_text) }
+{
+    put_all(out, REFUSED)
+}
+
+/// Acknowledges something that found no memory, and says so.
+///
+/// # Errors
+///
+/// `SinkFailed` alone.
+pub fn refuse_lost<K: Sink>(out: &mut K) -> Result<(), RunError>
+    ensures { OnOk result (K.took out.new ≡ K.took out.old ++ 43 ∷ refused_text) }
+{
+    put_all(out, b"+")?;
+    refuse(out)
+}
 
 /// Answers each request by the number of a refusal, until the source ends: a debugger shows what it is told, and not why a program ended.
 ///

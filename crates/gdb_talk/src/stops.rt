@@ -3,7 +3,7 @@
 ghost use Rattle.std.specs.Prelude.{◌≡◌, ◌++◌, Err, IfOk, OnOk, codes};
 ghost use Rattle.host_io.specs.declared.error.RunError.TheVariants as refusals;
 ghost use Rattle.gdb_packets.specs.Writing.{packet_text};
-ghost use Rattle.gdb_session.specs.Answers.{with_one, without_one};
+ghost use Rattle.gdb_talk.specs.Stops.{with_one, without_one};
 
 use gdb_replies::{Reply, write_reply};
 use host_io::{RunError, Sink};
@@ -35,7 +35,11 @@ fn without_one(alloc: Global, stops: &[u64], address: u64) -> Result<Vec<u64>, O
 }
 
 /// Adds a breakpoint, and says that this is done.
-pub(crate) fn add_stop<K: Sink>(
+///
+/// # Errors
+///
+/// `OutOfMemory`: nothing is said, and nothing is added. `SinkFailed`.
+pub fn add_stop<K: Sink>(
     alloc: Global,
     stops: &mut Vec<u64>,
     address: u64,
@@ -53,7 +57,11 @@ pub(crate) fn add_stop<K: Sink>(
 }
 
 /// Removes a breakpoint, and says that this is done.
-pub(crate) fn remove_stop<K: Sink>(
+///
+/// # Errors
+///
+/// `OutOfMemory`: nothing is said, and nothing is removed. `SinkFailed`.
+pub fn remove_stop<K: Sink>(
     alloc: Global,
     stops: &mut Vec<u64>,
     address: u64,

@@ -1,6 +1,0 @@
-use Rattle.hex.specs.Hex.{encode_with}
-use Rattle.execution_session.proofs.talk.refuse.Goals as goal
-
-pub returns : goal.returns
-unfolding encode_with
-returns g c = c.put_all.ensures.ok

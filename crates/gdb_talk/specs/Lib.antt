@@ -1,0 +1,4 @@
+pub mod Asking
+pub mod Saying
+pub mod Serving
+pub mod Stops
