@@ -21,5 +21,6 @@ pub use execution_views::{
     Before, HartStep, Moment, Sights, bytes_at, moment_of, positions_sought,
 };
 pub use fault::{Fault, Misfit};
+pub use opening::{open_execution, opening_harts};
 pub use running::execution_of_run;
 pub use scripted::{ScriptedGuest, execution_of_script};

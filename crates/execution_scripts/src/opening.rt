@@ -27,8 +27,12 @@ fn opening_hart(entry: u64, harts: u32, number: u32) -> Hart
     }
 }
 
-/// The harts of an image before their first instructions.
-fn opening_harts(alloc: Global, entry: u64, harts: u32) -> Result<Vec<Hart>, OutOfMemory>
+/// The harts of an image before their first instructions, in hart order.
+///
+/// # Errors
+///
+/// `OutOfMemory` alone.
+pub fn opening_harts(alloc: Global, entry: u64, harts: u32) -> Result<Vec<Hart>, OutOfMemory>
     ensures harts { IfOk result (λ hs. hs.items ≡ opening_harts entry harts 0 harts) }
     ensures count { IfOk result (λ hs. length hs.items ≡ harts) }
 {
@@ -86,7 +90,7 @@ fn shared_at_start(
 /// # Errors
 ///
 /// `OutOfMemory` alone.
-pub(crate) fn open_execution(
+pub fn open_execution(
     alloc: Global,
     image: &Image,
     input: &[u8],

@@ -2,14 +2,12 @@
 #![tactic(auto)]
 
 mod answering;
-mod breakpoints;
 mod knowing;
 mod moving;
 mod opening;
 mod past;
 mod serving;
 mod session;
-mod starting;
 mod talk;
 mod threads;
 

@@ -5,12 +5,11 @@ ghost use Rattle.execution_session.specs.Opening.{IsOpened};
 ghost use Rattle.trace.specs.Traced.{opening_at};
 
 use crate::past::Past;
-use crate::starting::open_execution;
 use elf_loader::Image;
 use execution_checker::{Execution, Verdict};
 use execution_file::ExecutionFile;
 use execution_moments::check_moments;
-use execution_scripts::{Checked, Finding, Sights, check_file};
+use execution_scripts::{Checked, Finding, Sights, check_file, open_execution};
 use host_io::RunError;
 use machine::{Format, load};
 use pages::MOST_PAGES;

@@ -14,7 +14,7 @@ ghost use Rattle.weak_hunter.specs.declared.error.WeakHuntError.TheVariants.{Hun
 use crate::findings::Findings;
 use crate::guest::Guest;
 use crate::settings::FenceSettings;
-use execution_scripts::ExecutionFile;
+use execution_scripts::{ExecutionFile, opening_harts};
 use fence_search::{FenceGuest, FenceObserver, Reach, search_fences};
 use fence_table::{FenceTable, write_fences};
 use host_io::Sink;
@@ -24,7 +24,7 @@ use std::alloc::Global;
 use std::sync::Wait;
 use std::thread::Threads;
 use weak_executions::Opening;
-use weak_hunter::{WeakHuntError, opening_harts};
+use weak_hunter::WeakHuntError;
 
 /// What a search for missing fences found.
 #[derive(Drop)]
@@ -119,7 +119,7 @@ fn searched<O: FenceObserver, R: Threads + Wait + Sync>(
     check_hunt(&settings.hunt)?;
     let loaded = load(alloc, settings.hunt.format, image, settings.hunt.pages)?;
     check_ranges(&settings.hunt)?;
-    let harts = opening_harts(alloc, &loaded, settings.hunt.harts)?;
+    let harts = opening_harts(alloc, loaded.entry(), settings.hunt.harts)?;
     let opening = Opening {
         image: &loaded,
         input,

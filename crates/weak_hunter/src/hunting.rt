@@ -14,8 +14,8 @@ use crate::bounds::bounds_of;
 use crate::confirming::confirm;
 use crate::error::WeakHuntError;
 use crate::guest::Guest;
-use crate::opening::opening_harts;
 use crate::tabulating::tabulate;
+use execution_scripts::opening_harts;
 use host_io::Sink;
 use hunt_table::write_table;
 use hunter::{HuntSettings, check_hunt, check_ranges};
@@ -90,7 +90,7 @@ fn tabulate_weakly<O: HuntObserver, R: Threads + Wait + Sync>(
     check_hunt(settings)?;
     let image = load(alloc, settings.format, image, settings.pages)?;
     check_ranges(settings)?;
-    let harts = opening_harts(alloc, &image, settings.harts)?;
+    let harts = opening_harts(alloc, image.entry(), settings.harts)?;
     let opening = Opening {
         image: &image,
         input,

@@ -9,12 +9,10 @@ mod executing;
 mod guest;
 mod hunting;
 mod looking;
-mod opening;
 mod tabulating;
 mod writing;
 
 pub use error::WeakHuntError;
 pub use hunting::hunt_weakly;
 pub use looking::seen_of;
-pub use opening::opening_harts;
 pub use writing::weak_execution;

@@ -15,10 +15,9 @@ ghost use Rattle.weak_hunter.specs.declared.error.WeakHuntError.TheVariants.{Hun
 
 use crate::bounds::bounds_of;
 use crate::error::WeakHuntError;
-use crate::opening::opening_harts;
 use elf_loader::Image;
 use execution_scripts::{
-    ExecutionFile, Finding, ScriptedGuest, Verdict, check_file, execution_of_script,
+    ExecutionFile, Finding, ScriptedGuest, Verdict, check_file, execution_of_script, opening_harts,
 };
 use hunter::{HuntSettings, check_guest};
 use machine::load;
@@ -83,7 +82,7 @@ fn executed(
     requires some_harts { 1 ≤ settings.now.harts }
     requires few_harts { settings.now.harts ≤ 64 }
 {
-    let harts = opening_harts(alloc, image, settings.harts)?;
+    let harts = opening_harts(alloc, image.entry(), settings.harts)?;
     let opening = Opening {
         image,
         input,
