@@ -222,6 +222,8 @@ class Execution:
     def finish(self, hart):
         """A hart's other steps, and its stop."""
         part, state = self.file.harts[hart], self.harts[hart]
+        if part.code == 0 and part.value is not None:
+            self.misfit(hart, "the hart is to run on, and its line has the value of an exit call")
         while state.done < part.steps:
             try:
                 self.step(hart)

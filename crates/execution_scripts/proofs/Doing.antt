@@ -7,7 +7,7 @@ use Rattle.hart_step.specs.declared.hart.Hart.{Hart}
 use Rattle.execution_file.specs.Recorded.{HartDeeds}
 use Rattle.execution_file.specs.declared.file.HartDeeds.{HartDeeds as HartHeld}
 use Rattle.execution_file.specs.Views.{hart_view}
-use Rattle.execution_scripts.specs.Deeds.{number_shown, numbers_of, one_more, part_of, parts_from, said, with_event}
+use Rattle.execution_scripts.specs.Deeds.{number_shown, numbers_of, one_more, part_of, parts_from, with_event}
 
 one_more_joined : (b : Bool) (o : Option ℕ) (xs ys : List ℕ) → one_more b o (xs ++ ys) ≡ one_more b o xs ++ ys
 one_more_joined true (Some n) xs ys = refl
@@ -104,13 +104,11 @@ parts_next k gs t d old new p l more view was =
     ∙ ap (λ (n : ℕ). parts_from 0 (take k gs) t ++ part_of n (get_or gs k d) t ∷ []) (let e : k ≡ 0 + length (take k gs) = omega (arith, length-take-le k gs (omega (arith, l))) in e)
     ∙ sym (parts_more 0 (take k gs) (get_or gs k d) t) ∙ ap (λ (hs : List Hart). parts_from 0 hs t) (sym (take_more gs k d l))
 
-pub said_next : (ps qs : List HartHeld) (i : ℕ) (p q : HartHeld) → i < length ps → length ps ≡ length qs → p ≡ get_or ps i p → q ≡ get_or qs i q → said (hart_view p) ≡ hart_view q →
-    take i (map said (map hart_view ps)) ≡ take i (map hart_view qs) → take (i + 1) (map said (map hart_view ps)) ≡ take (i + 1) (map hart_view qs)
+pub said_next : (ps qs : List HartHeld) (i : ℕ) (p q : HartHeld) → i < length ps → length ps ≡ length qs → p ≡ get_or ps i p → q ≡ get_or qs i q → hart_view p ≡ hart_view q →
+    take i (map hart_view ps) ≡ take i (map hart_view qs) → take (i + 1) (map hart_view ps) ≡ take (i + 1) (map hart_view qs)
 said_next ps qs i p q l same at_p at_q e was =
     let lv : i < length (map hart_view ps) = omega (arith, l, length-map ps hart_view) in
-    let lp : i < length (map said (map hart_view ps)) = omega (arith, lv, length-map (map hart_view ps) said) in
     let lw : i < length qs = omega (arith, l, same) in
     let lq : i < length (map hart_view qs) = omega (arith, lw, length-map qs hart_view) in
-    take_more_same (map said (map hart_view ps)) (map hart_view qs) i (hart_view q) lp lq was
-    (get_or-map said (map hart_view ps) i (hart_view p) (hart_view q) lv ∙ ap said (get_or-map hart_view ps i p (hart_view p) l ∙ ap hart_view (sym at_p)) ∙ e
-    ∙ sym (get_or-map hart_view qs i q (hart_view q) lw ∙ ap hart_view (sym at_q)))
+    take_more_same (map hart_view ps) (map hart_view qs) i (hart_view q) lv lq was
+    (get_or-map hart_view ps i p (hart_view q) l ∙ ap hart_view (sym at_p) ∙ e ∙ sym (get_or-map hart_view qs i q (hart_view q) lw ∙ ap hart_view (sym at_q)))

@@ -52,7 +52,3 @@ deeds gs t = parts_from 0 gs t
 abbrev pub with_event : ℕ → List HartDeeds → Event → List HartDeeds
 with_event h [] e = []
 with_event h (p ∷ ps) e = record p { reads = p.reads ++ numbers_of h (e ∷ []) } ∷ with_event (h + 1) ps e
-
--- what a file says of a hart: of one that runs on it says no value
-abbrev pub said : HartDeeds → HartDeeds
-said p = if p.code == 0 then record p { value = None } else p

@@ -14,7 +14,7 @@ use Rattle.execution_views.specs.declared.sights.HartStep.{HartStep}
 use Rattle.execution_views.specs.Walks.{AreSights}
 use Rattle.trace.specs.Traced.{opening_at}
 use Rattle.execution_file.specs.Recorded.{HartDeeds, Recorded, Turn}
-use Rattle.execution_scripts.specs.Deeds.{deeds, said}
+use Rattle.execution_scripts.specs.Deeds.{deeds}
 use Rattle.execution_scripts.specs.Turns.{AreNames}
 use Rattle.execution_scripts.specs.declared.checking.Checked.{Checked}
 use Rattle.execution_scripts.specs.declared.checking.Finding.{Finding}
@@ -35,7 +35,7 @@ start_of g = at_start g.harts g.shared.console
 -- the harts do what is said of them: so many steps, these numbers read, and these ends. Where the order g has each memory operation
 -- once, the turns name it
 abbrev pub IsAsSaid : List HartDeeds → List Turn → Standing → List ℕ → Type 0
-IsAsSaid parts turns q g = (map said parts ≡ deeds q.harts q.events) × (ListsOperations q.events g → AreNames turns q.events g)
+IsAsSaid parts turns q g = (parts ≡ deeds q.harts q.events) × (ListsOperations q.events g → AreNames turns q.events g)
 
 -- a verdict is on the execution of a guest that a script leads to, in an order of its memory operations; both are as is said; and what is
 -- seen is seen on the way of this execution

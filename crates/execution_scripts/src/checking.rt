@@ -95,7 +95,7 @@ fn format_of(file: &ExecutionFile) -> Format
 fn count_harts(file: &ExecutionFile) -> u32
     requires { length file.now.harts.items ≤ MOST_HARTS }
     ensures count { result ≡ length (as_recorded file.now).harts }
-    ensures few { result ≤ 64 }
+    ensures few { result ≤ MOST_HARTS }
 {
     file.harts.len() as u32
 }

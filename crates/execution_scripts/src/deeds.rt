@@ -2,7 +2,7 @@
 
 ghost use Rattle.std.specs.Prelude.{◌≡◌, ℕ, [], IfOk, OnOk, map, true};
 ghost use Rattle.execution_file.specs.Views.{hart_view};
-ghost use Rattle.execution_scripts.specs.Deeds.{code_of, deeds, number_shown, part_of, said, value_of, with_event};
+ghost use Rattle.execution_scripts.specs.Deeds.{code_of, deeds, number_shown, part_of, value_of, with_event};
 
 use execution_file::HartDeeds;
 use hart_step::{Hart, Stop};
@@ -103,7 +103,7 @@ fn value_of(stop: &Option<Stop>) -> Option<u64>
 
 /// Whether harts did what is said of them.
 pub(crate) fn are_said(parts: &[HartDeeds], did: &[HartDeeds]) -> bool
-    ensures { result ≡ true → map said (map hart_view parts.now) ≡ map hart_view did.now }
+    ensures { result ≡ true → map hart_view parts.now ≡ map hart_view did.now }
 {
     if parts.len() != did.len() {
         return false;
@@ -118,12 +118,11 @@ pub(crate) fn are_said(parts: &[HartDeeds], did: &[HartDeeds]) -> bool
 
 /// Whether a hart did what is said of it.
 fn is_said(part: &HartDeeds, did: &HartDeeds) -> bool
-    ensures { result ≡ true → said (hart_view part.now) ≡ hart_view did.now }
+    ensures { result ≡ true → hart_view part.now ≡ hart_view did.now }
 {
-    let value = if part.code == 0 { None } else { part.value };
     part.steps == did.steps
         && part.code == did.code
-        && value == did.value
+        && part.value == did.value
         && are_equal(&part.reads, &did.reads)
 }
 

@@ -33,6 +33,9 @@ pub enum Misfit {
         /// The value of the exit call.
         value: u64,
     },
+    /// A hart that runs on is said to stop with a value.
+    #[error("the hart is to run on, and its line has the value of an exit call")]
+    RunsOnWithValue,
     /// Numbers are left after the last step.
     #[error("the hart is done, and its line has more numbers")]
     NumbersLeft,

@@ -182,6 +182,9 @@ impl<'a> Follower<'a> {
 
     /// A hart's other steps, and its stop.
     fn finish(&mut self, hart: u8, part: &HartDeeds) -> Result<(), Halt> {
+        if part.code == 0 && part.value.is_some() {
+            return Err(self.fault(hart, Misfit::RunsOnWithValue));
+        }
         for _ in 0..self.left(hart) {
             if self.step(hart)? == Taken::Stopped {
                 return Err(self.fault(hart, Misfit::Stops));
