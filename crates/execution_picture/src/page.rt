@@ -12,6 +12,7 @@ use picture::{
     Point, add_line_down, add_page, add_start, left_of, picture_style, start_label, width_for,
 };
 use report_lines::{Line, add_stop};
+use round_schedule::MOST_HARTS;
 use std::alloc::Global;
 
 /// Adds the column of a hart, as it ends.
@@ -53,7 +54,7 @@ fn rest(line: &mut Line, bottom: u64, left_out: usize) -> Result<(), OutOfMemory
 
 /// Adds what stands under the boxes: the page, what its marks mean, and the columns.
 fn ground(line: &mut Line, scene: &ExecutionScene<'_>, bottom: u64) -> Result<(), OutOfMemory>
-    requires { length scene.now.harts.now ≤ 64 }
+    requires { length scene.now.harts.now ≤ MOST_HARTS }
 {
     let width = width_for(scene.harts.len());
     let height = bottom.saturating_add(74);
@@ -89,7 +90,7 @@ fn operations(
 
 /// The picture as text.
 fn picture(alloc: Global, scene: &ExecutionScene<'_>) -> Result<Line, OutOfMemory>
-    requires { length scene.now.harts.now ≤ 64 }
+    requires { length scene.now.harts.now ≤ MOST_HARTS }
 {
     let mut line = Line::new(alloc);
     let boxes = boxes_of(alloc, scene)?;
@@ -122,7 +123,7 @@ pub fn write_execution_picture<S: Sink>(
     scene: &ExecutionScene<'_>,
     out: &mut S,
 ) -> Result<(), RunError>
-    requires { length scene.now.harts.now ≤ 64 }
+    requires { length scene.now.harts.now ≤ MOST_HARTS }
     ensures errors { IfErr result (λ e. (e ≡ refusals.OutOfMemory) ⊎ (e ≡ refusals.SinkFailed)) }
     ensures memory { result ≡ Err refusals.OutOfMemory → S.took out.new ≡ S.took out.old }
 {

@@ -12,6 +12,7 @@ use crate::failure::HuntFailure;
 use hunter::{HuntError, HuntSettings, check_guest, check_hunt};
 use machine::load;
 use named_bytes::NamingFault;
+use pages::MOST_PAGES;
 use std::alloc::Global;
 use weak_hunter::WeakHuntError;
 
@@ -67,7 +68,7 @@ fn refused_for_image(
     fault: NamingFault,
 ) -> HuntFailure
     requires some_pages { 1 ≤ settings.now.pages }
-    requires few_pages { settings.now.pages ≤ 16384 }
+    requires few_pages { settings.now.pages ≤ MOST_PAGES }
     ensures image { (cause : ImageCause) → IsImageCause settings.now image.now cause →
         (result ≡ failures.Refused (Hunt (hunting.Run (refusals.Image cause)))) ⊎
         (result ≡ failures.Refused (Hunt (hunting.Run refusals.OutOfMemory))) }

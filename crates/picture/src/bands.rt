@@ -7,7 +7,7 @@ use crate::layout::{last_top_of_phase, left_of, opens_phase};
 use hart_step::{Hart, Stop};
 use pages::OutOfMemory;
 use report_lines::{Line, add_stop};
-use round_schedule::Phase;
+use round_schedule::{MOST_HARTS, Phase};
 
 fn phase_name(phase: Phase) -> &'static str
     ensures { result.now ≡ phase_text phase }
@@ -127,7 +127,7 @@ pub(crate) fn columns(
     ends: &[Hart],
 ) -> Result<(), OutOfMemory>
     requires low { bottom < 2 ^ 33 }
-    requires few { number + length starts.now ≤ 64 }
+    requires few { number + length starts.now ≤ MOST_HARTS }
     ensures { OnOk result (line.new ≡
         line.old ++ columns_text bottom from number starts.now ends.now) }
 {

@@ -7,7 +7,7 @@ use crate::event_box::EventBox;
 use crate::rows::Row;
 use byte_sources::{event_at, is_same_phase, is_same_turn, is_serial};
 use pages::OutOfMemory;
-use round_schedule::Event;
+use round_schedule::{Event, MOST_HARTS};
 use std::alloc::Global;
 use trace::Trace;
 
@@ -21,7 +21,7 @@ pub fn left_of(hart: u64) -> u64
 
 /// How wide the picture of so many harts is.
 pub fn width_for(harts: usize) -> u64
-    requires { harts ≤ 64 }
+    requires { harts ≤ MOST_HARTS }
     ensures { result ≡ width_for harts }
 {
     left_of(harts.max(2) as u64)

@@ -22,6 +22,7 @@ use crate::view::View;
 use host_io::{RunError, Sink, put_all};
 use pages::OutOfMemory;
 use report_lines::Line;
+use round_schedule::MOST_HARTS;
 use std::alloc::Global;
 use trace::Trace;
 
@@ -126,7 +127,7 @@ fn drawing(
     boxes: &[EventBox],
     left_out: usize,
 ) -> Result<(), OutOfMemory>
-    requires { length scene.now.starts.now ≤ 64 }
+    requires { length scene.now.starts.now ≤ MOST_HARTS }
     ensures { OnOk result (line.new ≡
         line.old ++ drawing_text (drawn_of scene.now) from boxes.now left_out) }
 {
@@ -150,7 +151,7 @@ fn picture(
     scene: &Scene<'_>,
     view: &View<'_>,
 ) -> Result<(), OutOfMemory>
-    requires { length scene.now.starts.now ≤ 64 }
+    requires { length scene.now.starts.now ≤ MOST_HARTS }
     ensures { OnOk result (line.new ≡ line.old ++ picture_text (drawn_of scene.now) view.now) }
 {
     let mut rows = rows_seen(alloc, view, scene.trace)?;
@@ -180,7 +181,7 @@ pub fn write_picture<S: Sink>(
     view: &View<'_>,
     out: &mut S,
 ) -> Result<(), RunError>
-    requires { length scene.now.starts.now ≤ 64 }
+    requires { length scene.now.starts.now ≤ MOST_HARTS }
     ensures writes { WritesText (picture_text (drawn_of scene.now) view.now) (S.took out.old) (S.failures out.old) result (S.took out.new) (S.failures out.new) }
     ensures memory { result ≡ Err RunError.OutOfMemory → S.took out.new ≡ S.took out.old }
 {

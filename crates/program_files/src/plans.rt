@@ -84,7 +84,7 @@ impl AskedPlan {
 /// A plan of a family.
 pub fn family_plan(alloc: Global, family: Family, number: u32) -> Result<AskedPlan, OutOfMemory>
     requires some_harts { 1 ≤ family.harts }
-    requires few_harts { family.harts ≤ 64 }
+    requires few_harts { family.harts ≤ MOST_HARTS }
     ensures { IfOk result (λ p. IsFamilyPlan family.seed family.harts number p.text.items p.budget) }
 {
     let plan = family.plan(alloc, number)?;
