@@ -21,15 +21,17 @@ printed is the table of the endings:
 
   plans FIRST COUNT seed S
   endings E
-  ending K plans COUNT first PLAN
+  ending K [bad] plans COUNT first PLAN
   hart H exit VALUE, hart H stop CODE, hart H running, or hart H loops
-  see ADDRESS LENGTH BYTES
+  see ADDRESS LENGTH BYTES [NAME]
   output LENGTH \"TEXT\"
   end
 
 The lines from 'ending' to 'output' are there for each ending, with a line for
 each hart and for each --see: COUNT of the plans lead to it, and PLAN is the
-first of these. dethart run --help lists each CODE. 'loops' says that the hart
+first of these. 'bad' says that a hart runs on, was stopped by a fault or exited
+with another value than 0. NAME is the object's, where --see-object named it.
+dethart run --help lists each CODE. 'loops' says that the hart
 runs for ever under these plans; 'running' says only that the limit of rounds
 was reached. No plan of these ends otherwise, within this limit of rounds.
 

@@ -47,8 +47,8 @@ operation that is early (before) or late (behind), and one of another hart that
 it moved past. After 'ends otherwise' there are the lines 'see' and 'output' of
 dethart hunt. 'stuck' says no more than that harts still run after ten times the
 steps of any ordinary run. RVWMO allows each execution that is told: the checker
-of dethart check accepted it. Standard error has for each the line that prints
-all that its number does:
+of dethart check accepted it. Standard error has for each, but with
+--as-if-fence, the line that prints all that its number does:
   missing K: dethart execution IMAGE .. --weak --plan-number NUMBER --seed S
 
 --keep DIR writes execution K to DIR/K.execution, for dethart check, replay,

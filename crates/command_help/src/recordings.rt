@@ -98,8 +98,7 @@ dethart run --help lists what each N means.
 Exit status: 0 the recording was written, 1 a refusal, 2 a bad command line.";
 
 /// What `gdb` does.
-pub const GDB_ABOUT: &str =
-    "Serves gdb, which looks at the run in RECORDING, forwards and backwards.";
+pub const GDB_ABOUT: &str = "Serves gdb, which looks at the run or the execution in RECORDING.";
 
 /// What `gdb --help` says after the options.
 pub const GDB_AFTER_HELP: &str = "\

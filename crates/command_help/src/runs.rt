@@ -73,15 +73,16 @@ A refusal is the line 'error N' on standard error, with the exit status 1:
   72  the tables don't adjoin, or aren't of one hunt
   73  a hunt has no plan, or one with a number over 4294967294
   74  a byte that is to be seen isn't in guest memory
-  75  the image has no symbol of an object of that name
+  75  the image has no symbol of an object of that name, or has several
   76  a line of the file of --accept isn't two places
-  77  --as-if-fence names no instruction
+  77  --as-if-fence names no instruction, or has the name of several functions
   81  execution: the file doesn't begin as one
   82  execution: another version than 1
   83  execution: it ends before its parts do
   84  execution: a part isn't written as it has to be
   85  execution: a number is too large
   86  execution: text is left after its parts
+  87  an execution that dethart made of its number is refused: a fault of dethart
   88  execution: it is asked about rounds, and has none
 
 Exit status: 0 what was asked for was printed, 1 a refusal, 2 a bad command

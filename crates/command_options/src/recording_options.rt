@@ -75,7 +75,7 @@ static MIGRATE: [Argument<'static>; 2] = [
 ];
 
 /// A recording alone.
-static GDB: [Argument<'static>; 1] = [RECORDING];
+static GDB: [Argument<'static>; 1] = [PAST];
 
 /// The subcommand `replay`: a recording, and the hart to print.
 pub(crate) fn replay_command<'a>(alloc: Global) -> Result<Command<'a>, AllocError>

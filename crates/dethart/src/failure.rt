@@ -221,9 +221,7 @@ impl Failure {
             Failure::Unread(error) => eprintln!(rt; "{error}"),
             Failure::Execution(failure) => eprintln!(rt; "{failure}"),
             Failure::NoRounds => {
-                eprintln!(rt;
-                    "an execution has no rounds: ask for a step of a hart by --hart and --place"
-                )
+                eprintln!(rt; "an execution has no rounds: leave out --round, --from and --to")
             }
             Failure::Hunt(error) => eprintln!(rt; "{error}"),
             Failure::WeakHunt(error) => eprintln!(rt; "{error}"),

@@ -1,4 +1,4 @@
-ghost use Rattle.std.specs.Prelude.{◌≡◌, ◌≢◌, Err, IfErr, IfOk, map};
+ghost use Rattle.std.specs.Prelude.{◌≡◌, ◌≢◌, ◌⊎◌, Err, IfErr, IfOk, map};
 ghost use Rattle.clap.specs.Words.{kind_of};
 ghost use Rattle.dethart.specs.declared.failure.Failure.TheVariants as failures;
 
@@ -32,9 +32,9 @@ pub(crate) fn answer_line(rt: &HostRuntime, error: clap::Error) -> Result<(), Fa
     ensures memory { kind_of error ≡ ErrorKind.OutOfMemory →
         result ≡ Err (failures.Refused RunError.OutOfMemory) }
     ensures help { kind_of error ≡ ErrorKind.DisplayHelp →
-        IfErr result (λ failure. failure ≡ failures.Refused RunError.SinkFailed) }
+        IfErr result (λ failure. (failure ≡ failures.Refused RunError.SinkFailed) ⊎ (failure ≡ failures.ReaderGone)) }
     ensures version { kind_of error ≡ ErrorKind.DisplayVersion →
-        IfErr result (λ failure. failure ≡ failures.Refused RunError.SinkFailed) }
+        IfErr result (λ failure. (failure ≡ failures.Refused RunError.SinkFailed) ⊎ (failure ≡ failures.ReaderGone)) }
     ensures bad { kind_of error ≢ ErrorKind.OutOfMemory → kind_of error ≢ ErrorKind.DisplayHelp →
         kind_of error ≢ ErrorKind.DisplayVersion → result ≡ Err (failures.Line error) }
 {
@@ -42,8 +42,18 @@ pub(crate) fn answer_line(rt: &HostRuntime, error: clap::Error) -> Result<(), Fa
         ErrorKind::OutOfMemory => Err(Failure::Refused(RunError::OutOfMemory)),
         ErrorKind::DisplayHelp | ErrorKind::DisplayVersion => match error.print(rt) {
             Ok(()) => Ok(()),
-            Err(_) => Err(Failure::Refused(RunError::SinkFailed)),
+            Err(error) => Err(unprinted(error.kind())),
         },
         _ => Err(Failure::Line(error)),
+    }
+}
+
+/// The failure of a text that couldn't be printed, for an error of the system.
+fn unprinted(kind: io::ErrorKind) -> Failure
+    ensures { (result ≡ failures.Refused RunError.SinkFailed) ⊎ (result ≡ failures.ReaderGone) }
+{
+    match kind {
+        io::ErrorKind::BrokenPipe => Failure::ReaderGone,
+        _ => Failure::Refused(RunError::SinkFailed),
     }
 }

@@ -20,14 +20,15 @@ pub(crate) fn save<T: FileText>(rt: &HostRuntime, text: &T, path: &str) -> Resul
     let Ok(part) = format!(in rt.alloc(); "{path}.part") else {
         return Err(RunError::OutOfMemory);
     };
-    match write_to(rt, text, part.as_str()) {
+    let saved = match write_to(rt, text, part.as_str()) {
         Ok(()) => rename(rt, part.as_str(), path),
-        Err(error) => {
-            // What is left of it doesn't matter: it hasn't the name of the file.
-            let _left = fs::remove_file(rt, part.as_str());
-            Err(error)
-        }
+        Err(error) => Err(error),
+    };
+    if saved.is_err() {
+        // What is left of it doesn't matter: it hasn't the name of the file.
+        let _left = fs::remove_file(rt, part.as_str());
     }
+    saved
 }
 
 /// Whether there is something at the path that is no plain file.

@@ -1,5 +1,5 @@
 //! What is found of an execution.
-ghost use Rattle.std.specs.Prelude.{◌≡◌, ◌⊎◌, ◌++◌, ℕ, IfErr, IfOk, List, OnErr, codes, false, true};
+ghost use Rattle.std.specs.Prelude.{◌≡◌, ◌⊎◌, ◌<◌, ◌++◌, ℕ, Err, IfErr, IfOk, List, OnErr, codes, false, true};
 ghost use Rattle.execution_commands.specs.Verdicts.{IsVerdictText, is_allowed, verdict_status};
 ghost use Rattle.host_io.specs.Taken.{BeganText};
 ghost use Rattle.host_io.specs.declared.error.RunError.TheVariants as refusals;
@@ -34,6 +34,8 @@ pub fn put_verdict<S: Sink>(
         (S.took out.new ≡ S.took out.old ++ text) × (status ≡ verdict_status checked.now.finding)) }
     ensures begun { OnErr result ((S.took out.new ≡ S.took out.old) ⊎
         ((text : List ℕ) × IsVerdictText checked.now text × BeganText (S.took out.old) (S.took out.new) text)) }
+    ensures memory { result ≡ Err refusals.OutOfMemory → out.new ≡ out.old }
+    ensures sink { result ≡ Err refusals.SinkFailed → S.failures out.old < S.failures out.new }
     ensures errors { IfErr result (λ e. (e ≡ refusals.OutOfMemory) ⊎ (e ≡ refusals.SinkFailed)) }
 {
     let text = verdict_text(alloc, checked)?;

@@ -91,6 +91,10 @@ fn put<F: Files>(
     ensures errors { IfErr result (IsUnsaved folder.now) }
 {
     let path = path_of(alloc, folder, number)?;
+    if folder.is_empty() {
+        // The path is one in the root folder, which nobody asked for.
+        return Err(FencesFailure::Unwritten(path));
+    }
     match files.overwrite(&path, &ExecutionText { file }) {
         Ok(()) => Ok(()),
         Err(RunError::OutOfMemory) => Err(FencesFailure::from(RunError::OutOfMemory)),

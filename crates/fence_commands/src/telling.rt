@@ -7,13 +7,22 @@ use hunt_commands::{tell_bounds, weak_line_of};
 use program_world::Messages;
 use std::alloc::{AllocError, Global};
 
-/// Says on standard error, for each missing fence, the line that writes the execution of the number that shows it.
+/// Says on standard error, for each missing fence, the line that writes the execution of the number that shows it. With fences that the
+/// image hasn't there is no such line.
 pub(crate) fn tell_missing<M: Messages>(
     alloc: Global,
     asked: &Fences<'_>,
     missing: &[Missing],
     messages: &M,
 ) -> Result<(), AllocError> {
+    if !asked.as_if_fence.is_empty() {
+        if !missing.is_empty() && asked.keep.is_none() {
+            messages.tell(format_args!(
+                "--keep FOLDER writes the executions: no other command takes --as-if-fence"
+            ));
+        }
+        return Ok(());
+    }
     let program = weak_line_of(alloc, &asked.search.program, asked.steps)?;
     let seed = asked.search.seed;
     for (index, missing) in missing.iter().enumerate() {

@@ -80,18 +80,27 @@ pub fn weak_line_of(
 
 /// The line of a command on a program, but for its plan: each option that the outcome depends on.
 fn line_of(alloc: Global, command: &str, program: &Program<'_>) -> Result<String, AllocError> {
-    let image = quoted(alloc, program.image)?;
+    let image = quoted_path(alloc, program.image)?;
     let flat = if program.flat { " --flat" } else { "" };
     let (harts, pages, rounds) = (program.harts, program.pages, program.rounds);
     let mut line = format!(in alloc;
         "dethart {command} {image}{flat} --harts {harts} --pages {pages} --rounds {rounds}"
     )?;
     if let Some(path) = program.input {
-        let input = quoted(alloc, path)?;
+        let input = quoted_path(alloc, path)?;
         line.push_str(" --input ")?;
         line.push_str(input.as_str())?;
     }
     Ok(line)
+}
+
+/// A path as a shell takes it. One that begins as an option does is told with its folder.
+fn quoted_path(alloc: Global, path: &str) -> Result<String, AllocError> {
+    if path.as_bytes().starts_with(b"-") {
+        let path = format!(in alloc; "./{path}")?;
+        return quoted(alloc, path.as_str());
+    }
+    quoted(alloc, path)
 }
 
 /// A word as a shell takes it: as it is, where it has letters, digits and the like alone, and else between quotes.

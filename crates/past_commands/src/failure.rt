@@ -53,7 +53,7 @@ impl Display for PastFailure {
             PastFailure::NoRounds => {
                 write!(
                     f,
-                    "an execution has no rounds: ask for a step of a hart by --hart and --place"
+                    "an execution has no rounds: leave out --round, --from and --to"
                 )
             }
             PastFailure::Naming(fault) => write!(f, "{fault}"),

@@ -47,7 +47,7 @@ impl Display for DrawFailure {
             DrawFailure::NoRounds => {
                 write!(
                     f,
-                    "an execution has no rounds: ask for a step of a hart by --hart and --place"
+                    "an execution has no rounds: leave out --round, --from and --to"
                 )
             }
             DrawFailure::Naming(fault) => write!(f, "{fault}"),
