@@ -6,7 +6,7 @@ complete -c dethart -n __fish_use_subcommand -f -a record -d 'Runs the program i
 complete -c dethart -n __fish_use_subcommand -f -a replay -d 'Does the run in RECORDING again, and says whether it is the same'
 complete -c dethart -n __fish_use_subcommand -f -a watch -d 'Does the run in RECORDING again, and prints accesses to some bytes'
 complete -c dethart -n __fish_use_subcommand -f -a migrate -d 'Writes the recording in RECORDING anew, in version 2, to OUT'
-complete -c dethart -n __fish_use_subcommand -f -a gdb -d 'Serves gdb, which looks at the run in RECORDING, forwards and backwards'
+complete -c dethart -n __fish_use_subcommand -f -a gdb -d 'Serves gdb, which looks at the run or the execution in RECORDING'
 complete -c dethart -n __fish_use_subcommand -f -a hunt -d 'Runs the program in IMAGE by many plans, and prints how it ends'
 complete -c dethart -n __fish_use_subcommand -f -a shrink -d 'Looks for a smaller plan by which the program in IMAGE ends the same'
 complete -c dethart -n __fish_use_subcommand -f -a merge -d 'Makes one table of endings of those in the files'
