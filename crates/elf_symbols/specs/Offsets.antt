@@ -1,7 +1,7 @@
 -- What has an address, by an ELF64 file's symbol table: the object of a byte, and the function of an instruction.
 use Rattle.std.specs.Prelude.{ℕ, zero, suc, ◌+◌, ◌-◌, ◌/◌, ◌==◌, ◌&&◌, Bool, nat_le, nat_lt, if◌then◌else◌, List, [], ◌∷◌, length, drop, Option, Some, None, option_and_then, option_map}
 use Rattle.std.specs.List.{list_all}
-use Rattle.elf_symbols.specs.Symbols.{◌>>=◌, bytes_of, has_sections, is_of, strings_of, symbol_at, symbols_of}
+use Rattle.elf_symbols.specs.Symbols.{◌>>=◌, is_of, symbol_at, table_of}
 use Rattle.elf_symbols.specs.declared.offset.SymbolOffset.{SymbolOffset}
 use Rattle.elf_symbols.specs.declared.symbol.Symbol.{Symbol}
 
@@ -34,18 +34,11 @@ before_zero (b ∷ bs) = if b == 0 then [] else b ∷ before_zero bs
 abbrev pub offset_in : List ℕ → ℕ → Symbol → NamedOffset
 offset_in strings a s = record { name = before_zero (drop s.name strings); offset = a - s.value }
 
-abbrev pub offset_at : ℕ → List ℕ → ℕ → Option NamedOffset
-offset_at kind file a = do
-  symbols ← symbols_of file
-  strings ← strings_of file symbols.link
-  entries ← bytes_of file symbols
-  names ← bytes_of file strings
-  option_map (offset_in names a) (holder_among kind entries a)
-
--- the offset of the first symbol of a type that has an address: none in what is no such file, nor where a table that is read passes the
--- file's end
+-- the offset of the first symbol of a type that has an address
 unfoldable pub offset_of : ℕ → List ℕ → ℕ → Option NamedOffset
-offset_of kind file a = if has_sections file then offset_at kind file a else None
+offset_of kind file a = do
+  table ← table_of file
+  option_map (offset_in table.names a) (holder_among kind table.entries a)
 
 -- the object that has the byte at an address
 abbrev pub object_offset : List ℕ → ℕ → Option NamedOffset

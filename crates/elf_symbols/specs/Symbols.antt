@@ -1,12 +1,13 @@
 -- The objects that an ELF64 file's symbol table names (System V gABI, chapters "ELF Header", "Sections", "String Table" and
 -- "Symbol Table"), in a file that is little-endian.
-use Rattle.std.specs.Prelude.{ℕ, zero, suc, ◌+◌, ◌*◌, ◌/◌, ◌==◌, ◌&&◌, ◌||◌, Bool, false, not, nat_le, nat_lt, if◌then◌else◌, bit_and, List, length, take, drop, slice_index, Option, Some, None, is_some, option_and_then, unwrap_or}
+use Rattle.std.specs.Prelude.{ℕ, zero, suc, ◌+◌, ◌*◌, ◌/◌, ◌==◌, ◌&&◌, ◌||◌, Bool, false, not, nat_le, nat_lt, if◌then◌else◌, bit_and, List, length, take, drop, slice_index, Option, Some, None, is_some, option_and_then, option_map, unwrap_or}
 use Rattle.std.specs.Str.{bytes_eq}
 use Rattle.elf_loader.specs.ElfCauses.{has_magic, is_little_64, passes}
 use Rattle.elf_loader.specs.Segments.{field}
 use Rattle.elf_symbols.specs.declared.object.Object.{Object}
 use Rattle.elf_symbols.specs.declared.section.Section.{Section}
 use Rattle.elf_symbols.specs.declared.symbol.Symbol.{Symbol}
+use Rattle.elf_symbols.specs.declared.table.SymbolTable.{SymbolTable}
 
 infixl 10 ◌>>=◌
 abbrev pub ◌>>=◌ : {A B : Type 0} → Option A → (A → Option B) → Option B
@@ -61,6 +62,27 @@ strings_of file k =
 abbrev pub bytes_of : List ℕ → Section → Option (List ℕ)
 bytes_of file s = if passes (length file) s.offset s.size then None else Some (take s.size (drop s.offset file))
 
+-- the entries of a symbol table, and the strings that their names are among
+pub record NamedEntries : Type 0 where
+  pub entries : List ℕ
+  pub names : List ℕ
+
+abbrev pub as_entries : SymbolTable → NamedEntries
+as_entries t = record { entries = t.entries.now; names = t.names.now }
+
+-- the first symbol table, whose section is linked to that of the names
+abbrev pub table_in : List ℕ → Option NamedEntries
+table_in file = do
+  symbols ← symbols_of file
+  strings ← strings_of file symbols.link
+  entries ← bytes_of file symbols
+  names ← bytes_of file strings
+  Some (record { entries = entries; names = names })
+
+-- the same: none in what is no such file, nor where a table that is read passes the file's end
+unfoldable pub table_of : List ℕ → Option NamedEntries
+table_of file = if has_sections file then table_in file else None
+
 -- ---- symbols
 
 -- the symbol of the entry at an offset: where its name is among the strings, its type and binding, its value, and its size
@@ -98,18 +120,11 @@ object_from kind entries strings name at (suc n) =
 unfoldable pub object_among : ℕ → List ℕ → List ℕ → List ℕ → Option Object
 object_among kind entries strings name = object_from kind entries strings name 0 (length entries / 24)
 
--- what a type and a name stand for in the symbol table, whose section is linked to that of the names
-abbrev pub object_in : ℕ → List ℕ → List ℕ → Option Object
-object_in kind file name = do
-  symbols ← symbols_of file
-  strings ← strings_of file symbols.link
-  entries ← bytes_of file symbols
-  names ← bytes_of file strings
-  object_among kind entries names name
-
--- the same: none in what is no such file, nor where a table that is read passes the file's end
+-- what a type and a name stand for
 unfoldable pub named_of : ℕ → List ℕ → List ℕ → Option Object
-named_of kind file name = if has_sections file then object_in kind file name else None
+named_of kind file name = do
+  table ← table_of file
+  object_among kind table.entries table.names name
 
 -- the object of a name
 abbrev pub object_of : List ℕ → List ℕ → Option Object
@@ -134,19 +149,9 @@ other_from kind entries strings name address at (suc n) =
 unfoldable pub other_among : ℕ → List ℕ → List ℕ → List ℕ → ℕ → Bool
 other_among kind entries strings name address = other_from kind entries strings name address 0 (length entries / 24)
 
--- the same in the symbol table, if it and the names are there
-abbrev pub other_in : ℕ → List ℕ → List ℕ → ℕ → Option Bool
-other_in kind file name address = do
-  symbols ← symbols_of file
-  strings ← strings_of file symbols.link
-  entries ← bytes_of file symbols
-  names ← bytes_of file strings
-  Some (other_among kind entries names name address)
-
--- a type and a name stand for another address than this one, too: false in what is no such file, and where a table that is read passes
--- the file's end
+-- a type and a name stand for another address than this one, too: false where there is no table
 unfoldable pub has_other : ℕ → List ℕ → List ℕ → ℕ → Bool
-has_other kind file name address = has_sections file && unwrap_or (other_in kind file name address) false
+has_other kind file name address = unwrap_or (option_map (λ table. other_among kind table.entries table.names name address) (table_of file)) false
 
 -- there is an object of the name at another address
 abbrev pub has_other_object : List ℕ → List ℕ → ℕ → Bool

@@ -7,9 +7,9 @@ mod object;
 mod offset;
 mod section;
 mod symbol;
+mod table;
 
-pub use finding::{
-    find_function, find_object, has_other_function, has_other_object, has_symbol_table,
-};
+pub use finding::{find_function, find_object, has_other_function, has_other_object};
 pub use object::Object;
 pub use offset::{SymbolOffset, find_object_offset, function_at};
+pub use table::has_symbol_table;

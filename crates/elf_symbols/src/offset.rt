@@ -2,8 +2,8 @@ ghost use Rattle.std.specs.Prelude.{◌≡◌, option_map};
 ghost use Rattle.elf_symbols.specs.Offsets.{as_offset, before_zero, function_at, is_mark, is_word, object_offset, offset_in, offset_of};
 ghost use Rattle.std.specs.List.{list_all};
 
-use crate::section::{bytes_of, has_sections, strings_of, symbols_of};
 use crate::symbol::{FUNCTION, OBJECT, Symbol, holder_among};
+use crate::table::table_of;
 
 /// A byte of what a symbol names.
 #[derive(Clone, Copy, Debug, PartialEq, Eq)]
@@ -43,15 +43,9 @@ fn offset_in<'a>(strings: &'a [u8], address: u64, symbol: Symbol) -> SymbolOffse
 fn find_offset(kind: u8, file: &[u8], address: u64) -> Option<SymbolOffset<'_>>
     ensures { option_map as_offset result ≡ offset_of kind file.now address }
 {
-    if !has_sections(file) {
-        return None;
-    }
-    let symbols = symbols_of(file)?;
-    let strings = strings_of(file, symbols.link)?;
-    let entries = bytes_of(file, symbols)?;
-    let names = bytes_of(file, strings)?;
-    let symbol = holder_among(kind, entries, address)?;
-    Some(offset_in(names, address, symbol))
+    let table = table_of(file)?;
+    let symbol = holder_among(kind, table.entries, address)?;
+    Some(offset_in(table.names, address, symbol))
 }
 
 /// The object of the symbol table of an ELF64 file that has the byte at an address: the first of type STT_OBJECT whose bytes have it.
