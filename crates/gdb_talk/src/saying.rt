@@ -1,6 +1,7 @@
 //! What is said to a debugger beside replies.
 
-ghost use Rattle.std.specs.Prelude.{◌≡◌, ◌∷◌, ◌++◌, ℕ, List, OnOk, None};
+ghost use Rattle.std.specs.Prelude.{◌≡◌, ◌∷◌, ◌++◌, ℕ, List, Err, OnErr, OnOk, None};
+ghost use Rattle.host_io.specs.declared.error.RunError.TheVariants as refusals;
 ghost use Rattle.gdb_packets.specs.Stream.{next_of};
 ghost use Rattle.gdb_packets.specs.Views.{told_in};
 ghost use Rattle.gdb_talk.specs.Saying.{asks_text, refused_text};
@@ -23,7 +24,8 @@ const ASKS: &[u8] = b"$O#4f";
 ///
 /// `SinkFailed` alone.
 pub fn ask<K: Sink>(out: &mut K) -> Result<(), RunError>
-    ensures { OnOk result (K.took out.new ≡ K.took out.old ++ asks_text) }
+    ensures writes { OnOk result (K.took out.new ≡ K.took out.old ++ asks_text) }
+    ensures errors { OnErr result (result ≡ Err refusals.SinkFailed) }
 {
     put_all(out, ASKS)
 }
@@ -34,7 +36,8 @@ pub fn ask<K: Sink>(out: &mut K) -> Result<(), RunError>
 ///
 /// `SinkFailed` alone.
 pub fn refuse<K: Sink>(out: &mut K) -> Result<(), RunError>
-    ensures { OnOk result (K.took out.new ≡ K.took out.old ++ refused_text) }
+    ensures writes { OnOk result (K.took out.new ≡ K.took out.old ++ refused_text) }
+    ensures errors { OnErr result (result ≡ Err refusals.SinkFailed) }
 {
     put_all(out, REFUSED)
 }
@@ -45,7 +48,8 @@ pub fn refuse<K: Sink>(out: &mut K) -> Result<(), RunError>
 ///
 /// `SinkFailed` alone.
 pub fn refuse_lost<K: Sink>(out: &mut K) -> Result<(), RunError>
-    ensures { OnOk result (K.took out.new ≡ K.took out.old ++ 43 ∷ refused_text) }
+    ensures writes { OnOk result (K.took out.new ≡ K.took out.old ++ 43 ∷ refused_text) }
+    ensures errors { OnErr result (result ≡ Err refusals.SinkFailed) }
 {
     put_all(out, b"+")?;
     refuse(out)

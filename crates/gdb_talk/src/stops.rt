@@ -1,6 +1,6 @@
 //! Breakpoints that come and go.
 
-ghost use Rattle.std.specs.Prelude.{◌≡◌, ◌++◌, Err, IfOk, OnOk, codes};
+ghost use Rattle.std.specs.Prelude.{◌≡◌, ◌++◌, ◌⊎◌, Err, IfErr, IfOk, OnErr, OnOk, codes};
 ghost use Rattle.host_io.specs.declared.error.RunError.TheVariants as refusals;
 ghost use Rattle.gdb_packets.specs.Writing.{packet_text};
 ghost use Rattle.gdb_talk.specs.Stops.{with_one, without_one};
@@ -38,7 +38,7 @@ fn without_one(alloc: Global, stops: &[u64], address: u64) -> Result<Vec<u64>, O
 ///
 /// # Errors
 ///
-/// `OutOfMemory`: nothing is said, and nothing is added. `SinkFailed`.
+/// `OutOfMemory`: nothing is said, and nothing is added. `SinkFailed`: a beginning is said, and nothing is added.
 pub fn add_stop<K: Sink>(
     alloc: Global,
     stops: &mut Vec<u64>,
@@ -49,6 +49,8 @@ pub fn add_stop<K: Sink>(
     ensures writes { OnOk result (K.took out.new ≡ K.took out.old ++ packet_text (codes "OK")) }
     ensures memory { result ≡ Err refusals.OutOfMemory →
         (K.took out.new ≡ K.took out.old) × (stops.new ≡ stops.old) }
+    ensures failed { OnErr result (stops.new ≡ stops.old) }
+    ensures errors { IfErr result (λ e. (e ≡ refusals.OutOfMemory) ⊎ (e ≡ refusals.SinkFailed)) }
 {
     let changed = with_one(alloc, stops.as_slice(), address)?;
     write_reply(alloc, &Reply::Done, out)?;
@@ -60,7 +62,7 @@ pub fn add_stop<K: Sink>(
 ///
 /// # Errors
 ///
-/// `OutOfMemory`: nothing is said, and nothing is removed. `SinkFailed`.
+/// `OutOfMemory`: nothing is said, and nothing is removed. `SinkFailed`: a beginning is said, and nothing is removed.
 pub fn remove_stop<K: Sink>(
     alloc: Global,
     stops: &mut Vec<u64>,
@@ -71,6 +73,8 @@ pub fn remove_stop<K: Sink>(
     ensures writes { OnOk result (K.took out.new ≡ K.took out.old ++ packet_text (codes "OK")) }
     ensures memory { result ≡ Err refusals.OutOfMemory →
         (K.took out.new ≡ K.took out.old) × (stops.new ≡ stops.old) }
+    ensures failed { OnErr result (stops.new ≡ stops.old) }
+    ensures errors { IfErr result (λ e. (e ≡ refusals.OutOfMemory) ⊎ (e ≡ refusals.SinkFailed)) }
 {
     let changed = without_one(alloc, stops.as_slice(), address)?;
     write_reply(alloc, &Reply::Done, out)?;

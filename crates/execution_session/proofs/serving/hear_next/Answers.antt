@@ -12,7 +12,7 @@ use Rattle.execution_session.proofs.serving.hear_next.Goals as goal
 pub returns-in-Err-OutOfMemory : goal.returns-in-Err-OutOfMemory
 returns-in-Err-OutOfMemory g c = λ gave k so.
     let lost = c.next.ensures.lost (c.in-Err-OutOfMemory.is ∙ ap Err c.in-Err-OutOfMemory.field-0-is) in
-    serves_lost (looked_at c.args.past.now) gave k _ _ _ (talking c.args.talk.now) _ _ _ lost.0 so lost.1 c.in_ok-refuse_lost-in-Err-OutOfMemory.ensures
+    serves_lost (looked_at c.args.past.now) gave k _ _ _ (talking c.args.talk.now) _ _ _ lost.0 so lost.1 c.in_ok-refuse_lost-in-Err-OutOfMemory.ensures.writes
 
 pub returns-then-has_ended : goal.returns-then-has_ended
 returns-then-has_ended g c = λ gave k so.

@@ -12,7 +12,7 @@ use Rattle.gdb_session.proofs.serving.hear_next.Goals as goal
 pub returns-in-Err-OutOfMemory-clause-serves : goal.returns-in-Err-OutOfMemory-clause-serves
 returns-in-Err-OutOfMemory-clause-serves g c = λ m is gave k so.
     let lost = c.next.ensures.lost (c.in-Err-OutOfMemory.is ∙ ap Err c.in-Err-OutOfMemory.field-0-is) in
-    serves_lost (recorded_of m c.args.run.now) gave k _ _ _ (talking c.args.talk.now) _ _ _ lost.0 so lost.1 c.in_ok-refuse_lost-in-Err-OutOfMemory.ensures
+    serves_lost (recorded_of m c.args.run.now) gave k _ _ _ (talking c.args.talk.now) _ _ _ lost.0 so lost.1 c.in_ok-refuse_lost-in-Err-OutOfMemory.ensures.writes
 
 pub returns-then-has_ended-clause-serves : goal.returns-then-has_ended-clause-serves
 returns-then-has_ended-clause-serves g c = λ m is gave k so.

@@ -1,6 +1,6 @@
 use Rattle.hex.specs.Hex.{encode_with}
 use Rattle.gdb_talk.proofs.saying.refuse.Goals as goal
 
-pub returns : goal.returns
+pub returns-clause-writes : goal.returns-clause-writes
 unfolding encode_with
-returns g c = c.put_all.ensures.ok
+returns-clause-writes g c = c.put_all.ensures.ok
