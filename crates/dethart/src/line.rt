@@ -1,5 +1,6 @@
 ghost use Rattle.std.specs.Prelude.{◌≡◌, ◌≢◌, ◌⊎◌, Err, IfErr, IfOk, map};
 ghost use Rattle.clap.specs.Words.{kind_of};
+ghost use Rattle.std.specs.declared.io.ErrorKind.TheVariants as kinds;
 ghost use Rattle.dethart.specs.declared.failure.Failure.TheVariants as failures;
 
 use crate::failure::Failure;
@@ -48,9 +49,11 @@ pub(crate) fn answer_line(rt: &HostRuntime, error: clap::Error) -> Result<(), Fa
     }
 }
 
-/// The failure of a text that couldn't be printed, for an error of the system.
+/// The failure of a text that couldn't be printed, for an error of the system: what read it has gone, or else the output failed.
 fn unprinted(kind: io::ErrorKind) -> Failure
-    ensures { (result ≡ failures.Refused RunError.SinkFailed) ⊎ (result ≡ failures.ReaderGone) }
+    ensures gone { kind ≡ kinds.BrokenPipe → result ≡ failures.ReaderGone }
+    ensures failed { kind ≢ kinds.BrokenPipe → result ≡ failures.Refused RunError.SinkFailed }
+    ensures either { (result ≡ failures.Refused RunError.SinkFailed) ⊎ (result ≡ failures.ReaderGone) }
 {
     match kind {
         io::ErrorKind::BrokenPipe => Failure::ReaderGone,
