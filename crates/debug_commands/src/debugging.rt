@@ -46,7 +46,11 @@ pub fn debug_command<F: PastFiles, S: Source, K: Sink, E: Sink, R: Threads + Wai
         })) }
 {
     match opened(files, alloc, asked.recording) {
-        Ok(debuggee) => served(threads, alloc, debuggee, requests, replies, errors),
+        Ok(mut debuggee) => {
+            let served = serve_debuggee(threads, alloc, &mut debuggee, requests, replies, errors);
+            drop(debuggee);
+            served
+        }
         Err(failure) => {
             tell(alloc, &failure, errors);
             refuse_each(alloc, failure.number(), requests, replies)?;
@@ -56,16 +60,16 @@ pub fn debug_command<F: PastFiles, S: Source, K: Sink, E: Sink, R: Threads + Wai
 }
 
 /// Serves the debugger what it looks at.
-fn served<S: Source, K: Sink, E: Sink, R: Threads + Wait + Sync>(
+fn serve_debuggee<S: Source, K: Sink, E: Sink, R: Threads + Wait + Sync>(
     threads: &R,
     alloc: Global,
-    debuggee: Debuggee,
+    debuggee: &mut Debuggee,
     requests: &mut S,
     replies: &mut K,
     errors: &mut E,
 ) -> Result<ExitStatus, RunError>
-    requires good { IsGood debuggee }
-    ensures serves { IfOk result (λ status. IsServedBy debuggee status
+    requires good { IsGood debuggee.old }
+    ensures serves { IfOk result (λ status. IsServedBy debuggee.old status
         (record {
           gave = S.gave requests.old;
           gave_then = S.gave requests.new;
@@ -76,16 +80,16 @@ fn served<S: Source, K: Sink, E: Sink, R: Threads + Wait + Sync>(
         })) }
 {
     match debuggee {
-        Debuggee::Run(mut run) => {
-            serve(threads, alloc, &mut run, requests, replies)?;
+        Debuggee::Run(run) => {
+            serve(threads, alloc, run, requests, replies)?;
             Ok(ExitStatus::Done)
         }
         Debuggee::Execution(past) => {
-            execution_session::serve(alloc, &past, requests, replies)?;
+            execution_session::serve(alloc, past, requests, replies)?;
             Ok(ExitStatus::Done)
         }
         Debuggee::Refused(checked) => {
-            let status = put_verdict(alloc, &checked, errors)?;
+            let status = put_verdict(alloc, checked, errors)?;
             refuse_each(alloc, 0, requests, replies)?;
             Ok(status)
         }

@@ -6,6 +6,7 @@ use crate::shortening::shortened;
 use departures::{Departure, Placing, Record};
 use fence_places::{Moves, is_sequential, moves_of};
 use pages::OutOfMemory;
+use timed_machine::TimedMachine;
 use weak_executions::is_allowed;
 
 /// The orders of an execution's memory operations that are tried, one after another: in the first just what departs is out of its
@@ -129,17 +130,29 @@ fn explain(
     departures: Vec<Departure>,
 ) -> Result<Trial, OutOfMemory> {
     let machine = guest.execute(number, Departing::Listed(&departures), true, ordinary.steps)?;
-    let Some(record) = machine.record() else {
-        return Ok(Trial::Unconfirmed);
+    let trial = match machine.record() {
+        Some(record) => explain_record(guest, &machine, record, number, failing, departures),
+        None => Ok(Trial::Unconfirmed),
     };
+    drop(machine);
+    trial
+}
+
+/// What the execution of a machine that has this record fails by.
+fn explain_record(
+    guest: &FenceGuest<'_>,
+    machine: &TimedMachine,
+    record: &Record,
+    number: u32,
+    failing: Failing,
+    departures: Vec<Departure>,
+) -> Result<Trial, OutOfMemory> {
     let Some(placing) = placing_of(guest, record)? else {
         return Ok(Trial::Unconfirmed);
     };
-    let order = record.placed(guest.alloc, placing)?;
-    let moves = moves_of(guest.alloc, record, &order)?;
-    if moves.gaps.is_empty() || is_sequential(guest.alloc, record.deeds(), &order)? {
+    let Some(moves) = telling_moves(guest, record, placing)? else {
         return Ok(Trial::Unnamed);
-    }
+    };
     Ok(Trial::Fails(Found {
         number,
         failing,
@@ -149,4 +162,19 @@ fn explain(
         operations: machine.operations(),
         moves,
     }))
+}
+
+/// What the departures of a record moved, where they moved something and the execution is not sequentially consistent.
+fn telling_moves(
+    guest: &FenceGuest<'_>,
+    record: &Record,
+    placing: Placing,
+) -> Result<Option<Moves>, OutOfMemory> {
+    let order = record.placed(guest.alloc, placing)?;
+    let moves = moves_of(guest.alloc, record, &order)?;
+    if moves.gaps.is_empty() || is_sequential(guest.alloc, record.deeds(), &order)? {
+        Ok(None)
+    } else {
+        Ok(Some(moves))
+    }
 }

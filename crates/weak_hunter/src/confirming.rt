@@ -9,6 +9,7 @@ ghost use Rattle.weak_hunter.specs.declared.error.WeakHuntError.TheVariants.{Hun
 
 use crate::error::WeakHuntError;
 use crate::guest::Guest;
+use departures::Record;
 use hunter::stops_of;
 use pages::OutOfMemory;
 use plan_hunt::{Ending, Row};
@@ -40,9 +41,23 @@ fn is_allowed(guest: &Guest<'_>, number: u32, ending: &Ending) -> Result<bool, O
         guest.now.opening.input.now guest.now.opening.harts.now ending.now)) }
 {
     let machine = guest.maker.execute(number, true)?;
-    let Some(record) = machine.record() else {
-        return Ok(false);
+    let allowed = match machine.record() {
+        Some(record) => is_record_allowed(guest, record, ending),
+        None => Ok(false),
     };
+    drop(machine);
+    allowed
+}
+
+/// Whether the checker allows the execution of a record, and finds that it ends so.
+fn is_record_allowed(
+    guest: &Guest<'_>,
+    record: &Record,
+    ending: &Ending,
+) -> Result<bool, OutOfMemory>
+    ensures { IfOk result (λ yes. OnTrue yes (IsAllowedEnding guest.now.opening.image.now
+        guest.now.opening.input.now guest.now.opening.harts.now ending.now)) }
+{
     let finding = check(guest.alloc, &guest.opening, record)?;
     match finding.verdict {
         Verdict::Allowed => {

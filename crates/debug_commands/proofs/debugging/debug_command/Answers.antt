@@ -5,7 +5,7 @@ use Rattle.debug_commands.proofs.debugging.debug_command.Goals as goal
 
 pub returns-in-Ok : goal.returns-in-Ok
 returns-in-Ok g c = record {
-  serves = on_value c.served.result _ _ (λ status h. Looks c.in-Ok.debuggee c.in-Ok.ensures.opens h) c.served.ensures.serves;
+  serves = on_value c.serve_debuggee-served.result _ _ (λ status h. Looks c.in-Ok.debuggee c.in-Ok.ensures.opens h) c.serve_debuggee-served.ensures.serves;
 }
 
 pub returns-in_ok-refuse_each-in-Err : goal.returns-in_ok-refuse_each-in-Err
