@@ -37,13 +37,12 @@ pub fn answer_registers<R: Threads + Wait + Sync, K: Sink>(
         (K.took out.new ≡ K.took out.old ++ packet_text (registers_answer look.point.moment (seen m look.point look.hart))) }
     ensures memory { result ≡ Err refusals.OutOfMemory → K.took out.new ≡ K.took out.old }
 {
-    match timeline.shown_at(rt, &look.point, look.hart, look.workers)? {
-        Some(sight) => {
-            let registers = registers_of(&sight.hart(), look.point.moment);
-            write_reply(alloc, &Reply::Registers(&registers), out)
-        }
-        None => write_reply(alloc, &Reply::Missing, out),
-    }
+    let Some(sight) = timeline.shown_at(rt, &look.point, look.hart, look.workers)? else {
+        return write_reply(alloc, &Reply::Missing, out);
+    };
+    let registers = registers_of(&sight.hart(), look.point.moment);
+    drop(sight);
+    write_reply(alloc, &Reply::Registers(&registers), out)
 }
 
 /// Answers with one register of a hart at a point, by its number. It may wait.
@@ -66,14 +65,13 @@ pub fn answer_register<R: Threads + Wait + Sync, K: Sink>(
         (K.took out.new ≡ K.took out.old ++ packet_text (register_answer number look.point.moment (seen m look.point look.hart))) }
     ensures memory { result ≡ Err refusals.OutOfMemory → K.took out.new ≡ K.took out.old }
 {
-    match timeline.shown_at(rt, &look.point, look.hart, look.workers)? {
-        Some(sight) => {
-            let registers = registers_of(&sight.hart(), look.point.moment);
-            match register_of(&registers, number) {
-                Some(value) => write_reply(alloc, &Reply::Register(value), out),
-                None => write_reply(alloc, &Reply::Missing, out),
-            }
-        }
+    let Some(sight) = timeline.shown_at(rt, &look.point, look.hart, look.workers)? else {
+        return write_reply(alloc, &Reply::Missing, out);
+    };
+    let registers = registers_of(&sight.hart(), look.point.moment);
+    drop(sight);
+    match register_of(&registers, number) {
+        Some(value) => write_reply(alloc, &Reply::Register(value), out),
         None => write_reply(alloc, &Reply::Missing, out),
     }
 }
@@ -115,13 +113,13 @@ pub fn answer_memory<R: Threads + Wait + Sync, K: Sink>(
         (K.took out.new ≡ K.took out.old ++ packet_text (memory_answer address count (seen m look.point look.hart))) }
     ensures memory { result ≡ Err refusals.OutOfMemory → K.took out.new ≡ K.took out.old }
 {
-    match timeline.shown_at(rt, &look.point, look.hart, look.workers)? {
-        Some(sight) => {
-            let bytes = sight.bytes(alloc, address, count)?;
-            answer_bytes(alloc, bytes.as_slice(), out)
-        }
-        None => write_reply(alloc, &Reply::Missing, out),
-    }
+    let Some(sight) = timeline.shown_at(rt, &look.point, look.hart, look.workers)? else {
+        return write_reply(alloc, &Reply::Missing, out);
+    };
+    let seen = sight.bytes(alloc, address, count);
+    drop(sight);
+    let bytes = seen?;
+    answer_bytes(alloc, bytes.as_slice(), out)
 }
 
 /// Answers with what is said of a hart at a point. It may wait.
@@ -191,13 +189,13 @@ pub(crate) fn stop_packet<R: Threads + Wait + Sync>(
         ≡ packet_text (stop_answer reason look.hart (seen m look.point look.hart))) }
     ensures refused { IfErr result (λ e. e ≡ refusals.OutOfMemory) }
 {
-    let packet = match timeline.shown_at(rt, &look.point, look.hart, look.workers)? {
-        Some(sight) => {
-            let stop = stop_reply_of(reason, look.hart, &sight.hart());
-            reply_text(alloc, &Reply::Stopped(stop))?
-        }
-        None => reply_text(alloc, &Reply::Missing)?,
+    let Some(sight) = timeline.shown_at(rt, &look.point, look.hart, look.workers)? else {
+        let missing = reply_text(alloc, &Reply::Missing)?;
+        return Ok(missing);
     };
+    let stop = stop_reply_of(reason, look.hart, &sight.hart());
+    drop(sight);
+    let packet = reply_text(alloc, &Reply::Stopped(stop))?;
     Ok(packet)
 }
 

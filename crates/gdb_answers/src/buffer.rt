@@ -44,13 +44,12 @@ pub fn answer_buffer<R: Threads + Wait + Sync, K: Sink>(
         (buffer_answer m look.point look.hart (seen m look.point look.hart))) }
     ensures memory { result ≡ Err refusals.OutOfMemory → K.took out.new ≡ K.took out.old }
 {
-    match timeline.shown_at(rt, &look.point, look.hart, look.workers)? {
-        Some(_) => {
-            let part = timeline.own_part_at(rt, &look.point, look.hart, look.workers)?;
-            say_buffer(alloc, part.stores.as_slice(), out)
-        }
-        None => write_reply(alloc, &Reply::Missing, out),
-    }
+    let Some(sight) = timeline.shown_at(rt, &look.point, look.hart, look.workers)? else {
+        return write_reply(alloc, &Reply::Missing, out);
+    };
+    drop(sight);
+    let part = timeline.own_part_at(rt, &look.point, look.hart, look.workers)?;
+    say_buffer(alloc, part.stores.as_slice(), out)
 }
 
 /// Answers with these stores.

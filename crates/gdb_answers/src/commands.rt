@@ -49,14 +49,13 @@ pub fn answer_where<R: Threads + Wait + Sync, K: Sink>(
 {
     let moment = point.moment;
     let place = moment.place;
-    match timeline.shown_at(rt, &point, place.hart, workers)? {
-        Some(sight) => {
-            let hart = sight.hart();
-            let note = note_of(place.hart, &hart, moment);
-            say_where(alloc, &note, place.count, hart.pc, out)
-        }
-        None => write_reply(alloc, &Reply::Missing, out),
-    }
+    let Some(sight) = timeline.shown_at(rt, &point, place.hart, workers)? else {
+        return write_reply(alloc, &Reply::Missing, out);
+    };
+    let hart = sight.hart();
+    drop(sight);
+    let note = note_of(place.hart, &hart, moment);
+    say_where(alloc, &note, place.count, hart.pc, out)
 }
 
 /// Answers with the line of a hart's note, behind so many instructions of the round and with this pc.

@@ -37,13 +37,13 @@ pub fn answer_checksum<R: Threads + Wait + Sync, K: Sink>(
         (K.took out.new ≡ K.took out.old ++ packet_text (checksum_answer address count (seen m look.point look.hart))) }
     ensures memory { result ≡ Err refusals.OutOfMemory → K.took out.new ≡ K.took out.old }
 {
-    match timeline.shown_at(rt, &look.point, look.hart, look.workers)? {
-        Some(sight) => {
-            let bytes = sight.bytes(alloc, address, count)?;
-            answer_sum(alloc, bytes.as_slice(), count, out)
-        }
-        None => write_reply(alloc, &Reply::Missing, out),
-    }
+    let Some(sight) = timeline.shown_at(rt, &look.point, look.hart, look.workers)? else {
+        return write_reply(alloc, &Reply::Missing, out);
+    };
+    let seen = sight.bytes(alloc, address, count);
+    drop(sight);
+    let bytes = seen?;
+    answer_sum(alloc, bytes.as_slice(), count, out)
 }
 
 /// Answers with the checksum of some bytes, or that there are fewer than asked for.

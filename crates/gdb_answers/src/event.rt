@@ -105,14 +105,14 @@ fn event_words<R: Threads + Wait + Sync>(
         let ends = copied(alloc, ENDS)?;
         return Ok(Some(ends));
     }
-    match timeline.shown_at(rt, &point, point.moment.place.hart, workers)? {
-        Some(sight) => {
-            let events = events_of_round(rt, alloc, timeline, rounds, workers)?;
-            let words = step_text(alloc, events.as_slice(), point, sight.hart().done)?;
-            Ok(Some(words))
-        }
-        None => Ok(None),
-    }
+    let Some(sight) = timeline.shown_at(rt, &point, point.moment.place.hart, workers)? else {
+        return Ok(None);
+    };
+    let done = sight.hart().done;
+    drop(sight);
+    let events = events_of_round(rt, alloc, timeline, rounds, workers)?;
+    let words = step_text(alloc, events.as_slice(), point, done)?;
+    Ok(Some(words))
 }
 
 /// The access of a point's step, by the events of the round and by how many instructions the hart has done.

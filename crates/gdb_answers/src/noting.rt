@@ -38,11 +38,13 @@ pub(crate) fn note_at<R: Threads + Wait + Sync>(
     let Some(sight) = timeline.shown_at(rt, &look.point, look.hart, look.workers)? else {
         return Ok(None);
     };
+    let note = note_of(look.hart, &sight.hart(), look.point.moment);
+    drop(sight);
     let part = timeline.own_part_at(rt, &look.point, look.hart, look.workers)?;
     let uncommitted = bytes_covered(alloc, part.stores.as_slice())?;
     Ok(Some(ThreadNote {
         waits: part.waits,
         uncommitted,
-        ..note_of(look.hart, &sight.hart(), look.point.moment)
+        ..note
     }))
 }

@@ -38,6 +38,26 @@ pub fn answer_output<R: Threads + Wait + Sync, K: Sink>(
     ensures memory { result ≡ Err refusals.OutOfMemory → K.took out.new ≡ K.took out.old }
 {
     let mut machine = start.share()?;
+    let said = say_after(rt, alloc, &mut machine, rounds, workers, out);
+    drop(machine);
+    said
+}
+
+/// The same of a machine that does these rounds.
+fn say_after<R: Threads + Wait + Sync, K: Sink>(
+    rt: &R,
+    alloc: Global,
+    machine: &mut UntracedMachine,
+    rounds: u32,
+    workers: u32,
+    out: &mut K,
+) -> Result<(), RunError>
+    requires rounds { machine.old.rounds + rounds < 2 ^ 32 }
+    requires workers { AreWorkers workers }
+    ensures writes { (m : Running) → IsUntraced m machine.old → OnOk result
+        (K.took out.new ≡ K.took out.old ++ packet_text (output_answer (after_rounds rounds m).state.console.output)) }
+    ensures memory { result ≡ Err refusals.OutOfMemory → K.took out.new ≡ K.took out.old }
+{
     machine.run(rt, rounds, workers)?;
     say_output(alloc, machine.output(), out)
 }

@@ -57,23 +57,17 @@ pub fn answer_reservations<R: Threads + Wait + Sync, K: Sink>(
         ++ packet_text (reservations_answer m point harts (seen m point point.moment.place.hart))) }
     ensures memory { result ≡ Err refusals.OutOfMemory → K.took out.new ≡ K.took out.old }
 {
-    match timeline.shown_at(rt, &point, point.moment.place.hart, workers)? {
-        Some(sight) => {
-            let mut machine = start.share()?;
-            let done = sight.hart().done;
-            let reservations = reservations_at(
-                rt,
-                alloc,
-                &mut machine,
-                point.moment,
-                done,
-                harts,
-                workers,
-            )?;
-            say_reservations(alloc, reservations.as_slice(), out)
-        }
-        None => write_reply(alloc, &Reply::Missing, out),
-    }
+    let moment = point.moment;
+    let Some(sight) = timeline.shown_at(rt, &point, moment.place.hart, workers)? else {
+        return write_reply(alloc, &Reply::Missing, out);
+    };
+    let done = sight.hart().done;
+    drop(sight);
+    let mut machine = start.share()?;
+    let held = reservations_at(rt, alloc, &mut machine, moment, done, harts, workers);
+    drop(machine);
+    let reservations = held?;
+    say_reservations(alloc, reservations.as_slice(), out)
 }
 
 /// The reservations at a moment of a hart that has done so many instructions, of a run that begins with this machine, which does the

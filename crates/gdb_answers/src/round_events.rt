@@ -35,7 +35,9 @@ pub(crate) fn events_of_round<R: Threads + Wait + Sync>(
     ensures refused { IfErr result (λ e. e ≡ refusals.OutOfMemory) }
 {
     let mut machine = timeline.machine_at(rt, rounds, workers)?;
-    next_events(rt, alloc, &mut machine, workers)
+    let events = next_events(rt, alloc, &mut machine, workers);
+    drop(machine);
+    events
 }
 
 /// The events of the next round of a machine, which does that round.

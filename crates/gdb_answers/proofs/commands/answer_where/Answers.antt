@@ -8,8 +8,8 @@ use Rattle.gdb_sights.specs.Told.{note_of}
 use Rattle.gdb_answers.specs.Commands.{where_answer}
 use Rattle.gdb_answers.proofs.commands.answer_where.Goals as goal
 
-pub returns-in-Some-clause-writes : goal.returns-in-Some-clause-writes
-returns-in-Some-clause-writes g c = λ m is.
+pub returns-clause-writes : goal.returns-clause-writes
+returns-clause-writes g c = λ m is.
     let at = c.args.point.moment in
     let took = g.K.Sink.took c.args.out.now in
     let after = g.K.Sink.took c.say_where.new.out in
