@@ -62,3 +62,21 @@ where
         Err(_) => Ending::Other,
     }
 }
+
+/// Makes a call that takes what it is made on, and once more where it was refused memory: so there are two of that. The call
+/// answers whether its outcome is the whole one.
+pub(crate) fn tried_on<P, M, C>(make: M, call: C) -> Result<Ending, RunError>
+where
+    P: Drop,
+    M: Fn() -> Result<P, RunError> + Drop,
+    C: Fn(P) -> Result<bool, RunError> + Drop,
+    requires make { M.IsAlwaysCallable make }
+    requires call { C.IsAlwaysCallable call }
+{
+    let (first, second) = (make()?, make()?);
+    Ok(match call(first) {
+        Ok(is_whole) => Ending::first(is_whole),
+        Err(error) if !error.is_of_memory() => Ending::Other,
+        Err(_) => Ending::second(call(second) == Ok(true)),
+    })
+}

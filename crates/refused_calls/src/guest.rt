@@ -1,7 +1,8 @@
 //! The guest of the trials: each of two harts stores to the doubleword that the other loads behind a fence.
 
+use crate::ending::Ending;
 use host_io::RunError;
-use machine::{Format, Machine, Settings, prepare};
+use machine::{Format, Machine, Settings, Trace, prepare};
 use std::alloc::Global;
 use std::sync::Wait;
 use std::thread::Threads;
@@ -55,9 +56,37 @@ pub(crate) fn opened(alloc: Global) -> Result<Machine, RunError> {
     prepare(alloc, &GUEST, &[], &SETTINGS)
 }
 
-/// The machine after both rounds.
-pub(crate) fn ended<R: Threads + Wait + Sync>(rt: &R, alloc: Global) -> Result<Machine, RunError> {
+/// Makes a trial on the machine before the first round, or says what was refused before the call.
+pub(crate) fn on_opened<T>(alloc: Global, trial: T) -> Result<Ending, RunError>
+where
+    T: FnOnce(&mut Machine) -> Result<Ending, RunError> + Drop,
+    requires { T.IsAlwaysCallable trial }
+{
+    let mut machine = opened(alloc)?;
+    trial(&mut machine)
+}
+
+/// Makes a trial on the machine after both rounds.
+pub(crate) fn on_ended<R, T>(rt: &R, alloc: Global, trial: T) -> Result<Ending, RunError>
+where
+    R: Threads + Wait + Sync,
+    T: FnOnce(&mut Machine) -> Ending + Drop,
+    requires { T.IsAlwaysCallable trial }
+{
+    on_opened(alloc, |machine| {
+        machine.run(rt, 2, 1)?;
+        Ok(trial(machine))
+    })
+}
+
+/// Makes a trial on the trace of both rounds, or says what was refused before the call.
+pub(crate) fn on_trace<R, T>(rt: &R, alloc: Global, trial: T) -> Result<Ending, RunError>
+where
+    R: Threads + Wait + Sync,
+    T: FnOnce(&Trace) -> Result<Ending, RunError> + Drop,
+    requires { T.IsAlwaysCallable trial }
+{
     let mut machine = opened(alloc)?;
     machine.run(rt, 2, 1)?;
-    Ok(machine)
+    trial(&machine.into_trace())
 }

@@ -29,13 +29,18 @@ pub(crate) fn try_loops<R: Threads + Wait + Sync>(
     alloc: Global,
 ) -> Result<Ending, RunError> {
     let mut machine = prepare(alloc, &LOOP, &[], &SETTINGS)?;
-    Ok(match machine.run(rt, 2, 4) {
-        Ok(()) => Ending::first(has_looped(&machine, 2)),
+    Ok(loop_twice(rt, &mut machine))
+}
+
+/// The same with this machine.
+fn loop_twice<R: Threads + Wait + Sync>(rt: &R, machine: &mut Machine) -> Ending {
+    match machine.run(rt, 2, 4) {
+        Ok(()) => Ending::first(has_looped(machine, 2)),
         Err(error) if !error.is_of_memory() => Ending::Other,
-        Err(_) if has_looped(&machine, 0) => Ending::second(loops(rt, &mut machine, 2)),
-        Err(_) if has_looped(&machine, 1) => Ending::second(loops(rt, &mut machine, 1)),
+        Err(_) if has_looped(machine, 0) => Ending::second(loops(rt, machine, 2)),
+        Err(_) if has_looped(machine, 1) => Ending::second(loops(rt, machine, 1)),
         Err(_) => Ending::Changed,
-    })
+    }
 }
 
 /// Whether so many rounds lead to the end of the second.

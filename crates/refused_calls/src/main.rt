@@ -40,18 +40,16 @@ fn main(rt: HostRuntime) -> ExitCode {
 fn start<R: Threads + Wait + Sync>(rt: &HostRuntime, threads: &R) -> io::Result<bool> {
     match asked_by(rt) {
         Ok(Asked::All) => try_all(rt, threads),
-        Ok(Asked::One(trial)) => {
-            let ending = trial.ending(threads, rt.alloc());
-            println!(rt; "{ending}")?;
-            Ok(ending.is_well())
-        }
+        Ok(Asked::One(trial)) => tell(rt, trial.ending(threads, rt.alloc())),
         Ok(Asked::Unknown) => Ok(false),
-        Err(error) => {
-            let ending = Ending::before(error);
-            println!(rt; "{ending}")?;
-            Ok(ending.is_well())
-        }
+        Err(error) => tell(rt, Ending::before(error)),
     }
+}
+
+/// Prints what a trial came to, and answers whether it ended well.
+fn tell(rt: &HostRuntime, ending: Ending) -> io::Result<bool> {
+    println!(rt; "{ending}")?;
+    Ok(ending.is_well())
 }
 
 /// What the program is asked to do.
@@ -71,12 +69,17 @@ fn asked_by(rt: &HostRuntime) -> Result<Asked, RunError> {
         return Err(RunError::OutOfMemory);
     };
     let _name = arguments.next();
-    match arguments.next() {
-        Some(word) => Ok(match Trial::named(word.as_str()) {
-            Some(trial) => Asked::One(trial),
-            None => Asked::Unknown,
-        }),
-        None => Ok(Asked::All),
+    Ok(match arguments.next() {
+        Some(word) => asked_in(word.as_str()),
+        None => Asked::All,
+    })
+}
+
+/// What a word asks for.
+fn asked_in(word: &str) -> Asked {
+    match Trial::named(word) {
+        Some(trial) => Asked::One(trial),
+        None => Asked::Unknown,
     }
 }
 

@@ -60,7 +60,7 @@ fn has_put(buffer: &StoreBuffer, lines: u64) -> bool {
 }
 
 /// Four pages, of which page 1 is ready, since a byte lies in it.
-pub(crate) fn pages(alloc: Global) -> Result<Pages, OutOfMemory> {
+fn pages(alloc: Global) -> Result<Pages, OutOfMemory> {
     let mut pieces = Vec::new(alloc);
     pieces.push(Piece {
         start: 4096,
@@ -71,6 +71,16 @@ pub(crate) fn pages(alloc: Global) -> Result<Pages, OutOfMemory> {
         len: 4,
     }];
     Pages::new(alloc, 4, &pieces, &code)
+}
+
+/// Makes a trial on these pages.
+pub(crate) fn on_pages<T>(alloc: Global, trial: T) -> Result<Ending, RunError>
+where
+    T: FnOnce(&mut Pages) -> Ending + Drop,
+    requires { T.IsAlwaysCallable trial }
+{
+    let mut pages = pages(alloc)?;
+    Ok(trial(&mut pages))
 }
 
 /// Whether pages have that byte and no other, and page 1 is ready.
@@ -92,18 +102,22 @@ pub(crate) fn has_bytes(pages: &Pages) -> bool {
 
 /// Makes one more page ready, and a spare. A refused call changes no byte, and the page that was ready stays ready.
 pub(crate) fn try_prepare(alloc: Global) -> Result<Ending, RunError> {
-    let mut pages = pages(alloc)?;
-    if !is_opened(&pages) || pages.count() != 4 {
-        return Ok(Ending::Wrong);
+    on_pages(alloc, |pages| prepare_one(alloc, pages))
+}
+
+/// The same with these pages.
+fn prepare_one(alloc: Global, pages: &mut Pages) -> Ending {
+    if !is_opened(pages) || pages.count() != 4 {
+        return Ending::Wrong;
     }
-    Ok(match pages.prepare(alloc, &[2], 1) {
-        Ok(()) => Ending::first(is_prepared(&pages)),
-        Err(OutOfMemory) if !is_opened(&pages) => Ending::Changed,
+    match pages.prepare(alloc, &[2], 1) {
+        Ok(()) => Ending::first(is_prepared(pages)),
+        Err(OutOfMemory) if !is_opened(pages) => Ending::Changed,
         Err(OutOfMemory) => {
             let answer = pages.prepare(alloc, &[2], 1);
-            Ending::second(answer == Ok(()) && is_prepared(&pages))
+            Ending::second(answer == Ok(()) && is_prepared(pages))
         }
-    })
+    }
 }
 
 /// Whether one more page is ready, and there is a spare for the others.

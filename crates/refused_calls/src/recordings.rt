@@ -22,11 +22,19 @@ pub(crate) static EXITS: [u8; 125] = [
 ];
 
 /// The recording of the guest's run, with registers after each round.
-pub(crate) fn recorded<R: Threads + Wait + Sync>(
-    rt: &R,
-    alloc: Global,
-) -> Result<Recording, RunError> {
+fn recorded<R: Threads + Wait + Sync>(rt: &R, alloc: Global) -> Result<Recording, RunError> {
     record_with(rt, alloc, &GUEST, &[], &SETTINGS, 1)
+}
+
+/// Makes a trial on that recording, or says what was refused before the call.
+pub(crate) fn on_recording<R, T>(rt: &R, alloc: Global, trial: T) -> Result<Ending, RunError>
+where
+    R: Threads + Wait + Sync,
+    T: FnOnce(&Recording) -> Result<Ending, RunError> + Drop,
+    requires { T.IsAlwaysCallable trial }
+{
+    let recording = recorded(rt, alloc)?;
+    trial(&recording)
 }
 
 /// Records the guest's run, without registers and with them.
@@ -133,11 +141,12 @@ pub(crate) fn try_replay<R: Threads + Wait + Sync>(
     rt: &R,
     alloc: Global,
 ) -> Result<Ending, RunError> {
-    let recording = recorded(rt, alloc)?;
-    Ok(tried(
-        || replay(rt, alloc, &recording, 1),
-        |verdict| *verdict == Verdict::Same && is_recorded(&recording, 1),
-    ))
+    on_recording(rt, alloc, |recording| {
+        Ok(tried(
+            || replay(rt, alloc, recording, 1),
+            |verdict| *verdict == Verdict::Same && is_recorded(recording, 1),
+        ))
+    })
 }
 
 /// Opens a recording, which keeps the machine after each round.
@@ -145,11 +154,12 @@ pub(crate) fn try_replay_open<R: Threads + Wait + Sync>(
     rt: &R,
     alloc: Global,
 ) -> Result<Ending, RunError> {
-    let recording = recorded(rt, alloc)?;
-    Ok(tried(
-        || Replay::open(rt, alloc, &recording, 1, 1),
-        |replay| is_opened(replay) && is_recorded(&recording, 1),
-    ))
+    on_recording(rt, alloc, |recording| {
+        Ok(tried(
+            || Replay::open(rt, alloc, recording, 1, 1),
+            |replay| is_opened(replay) && is_recorded(recording, 1),
+        ))
+    })
 }
 
 /// Whether a recording was opened with the machine of each round.

@@ -2,7 +2,7 @@
 
 use crate::calls::Refusal;
 use crate::ending::Ending;
-use crate::guest::opened;
+use crate::guest::on_opened;
 use crate::stage::Stage;
 use host_io::RunError;
 use machine::{Machine, Open, RoundNote};
@@ -16,10 +16,11 @@ pub(crate) fn try_round<R: Threads + Wait + Sync>(
     alloc: Global,
     workers: u32,
 ) -> Result<Ending, RunError> {
-    let mut machine = opened(alloc)?;
-    let first = do_round(rt, &mut machine, workers, Stage::Opening, Stage::Fenced);
-    let second = do_round(rt, &mut machine, workers, Stage::Fenced, Stage::Ended);
-    Ok(first.and(second))
+    on_opened(alloc, |machine| {
+        let first = do_round(rt, machine, workers, Stage::Opening, Stage::Fenced);
+        let second = do_round(rt, machine, workers, Stage::Fenced, Stage::Ended);
+        Ok(first.and(second))
+    })
 }
 
 /// Does a round that goes from one stage to the next. A refused one leaves the machine where it was.
@@ -57,16 +58,20 @@ pub(crate) fn try_run<R: Threads + Wait + Sync>(
     alloc: Global,
     workers: u32,
 ) -> Result<Ending, RunError> {
-    let mut machine = opened(alloc)?;
-    Ok(match machine.run(rt, 2, workers) {
-        Ok(()) => Ending::first(Stage::Ended.is_of(&machine)),
+    on_opened(alloc, |machine| Ok(run_all(rt, machine, workers)))
+}
+
+/// The same with this machine.
+fn run_all<R: Threads + Wait + Sync>(rt: &R, machine: &mut Machine, workers: u32) -> Ending {
+    match machine.run(rt, 2, workers) {
+        Ok(()) => Ending::first(Stage::Ended.is_of(machine)),
         Err(error) if !error.is_of_memory() => Ending::Other,
-        Err(_) => match Stage::of(&machine) {
-            Some(Stage::Opening) => Ending::second(ends(rt, &mut machine, 2, workers)),
-            Some(Stage::Fenced) => Ending::second(ends(rt, &mut machine, 1, workers)),
+        Err(_) => match Stage::of(machine) {
+            Some(Stage::Opening) => Ending::second(ends(rt, machine, 2, workers)),
+            Some(Stage::Fenced) => Ending::second(ends(rt, machine, 1, workers)),
             _ => Ending::Changed,
         },
-    })
+    }
 }
 
 /// Whether so many rounds end the guest.

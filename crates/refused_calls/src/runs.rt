@@ -1,6 +1,6 @@
 //! What a run begins with, and its trace.
 
-use crate::calls::{Refusal, tried};
+use crate::calls::{Refusal, tried, tried_on};
 use crate::ending::Ending;
 use crate::guest::{GUEST, SETTINGS};
 use crate::stage::Stage;
@@ -44,30 +44,29 @@ fn parts(alloc: Global) -> Result<(Image, Plan), RunError> {
     }
 }
 
-/// The machine of an image and a plan, which it takes: so there are two of each.
+/// The machine of an image and a plan, which it takes.
 pub(crate) fn try_open(alloc: Global) -> Result<Ending, RunError> {
-    let ((image, plan), (second_image, second_plan)) = (parts(alloc)?, parts(alloc)?);
-    Ok(match Machine::new(alloc, image, Vec::new(alloc), plan) {
-        Ok(machine) => Ending::first(Stage::Opening.is_of(&machine)),
+    tried_on(|| parts(alloc), |(image, plan)| opens(alloc, image, plan))
+}
+
+/// Whether the machine of these is as before the first round.
+fn opens(alloc: Global, image: Image, plan: Plan) -> Result<bool, RunError> {
+    let machine = Machine::new(alloc, image, Vec::new(alloc), plan)?;
+    Ok(Stage::Opening.is_of(&machine))
+}
+
+/// The machine without a trace of an image, which is lent, and a plan, which it takes: so there are two plans.
+pub(crate) fn try_open_untraced(alloc: Global) -> Result<Ending, RunError> {
+    let ((image, plan), (_, second_plan)) = (parts(alloc)?, parts(alloc)?);
+    Ok(match opens_untraced(alloc, &image, plan) {
+        Ok(is_whole) => Ending::first(is_whole),
         Err(error) if !error.is_of_memory() => Ending::Other,
-        Err(_) => match Machine::new(alloc, second_image, Vec::new(alloc), second_plan) {
-            Ok(machine) => Ending::second(Stage::Opening.is_of(&machine)),
-            Err(_) => Ending::Wrong,
-        },
+        Err(_) => Ending::second(opens_untraced(alloc, &image, second_plan) == Ok(true)),
     })
 }
 
-/// The machine without a trace of an image, which is lent, and a plan, which it takes.
-pub(crate) fn try_open_untraced(alloc: Global) -> Result<Ending, RunError> {
-    let ((image, plan), (_, second_plan)) = (parts(alloc)?, parts(alloc)?);
-    Ok(
-        match UntracedMachine::open(alloc, &image, Vec::new(alloc), plan) {
-            Ok(machine) => Ending::first(Stage::Opening.is_of_untraced(&machine)),
-            Err(error) if !error.is_of_memory() => Ending::Other,
-            Err(_) => match UntracedMachine::open(alloc, &image, Vec::new(alloc), second_plan) {
-                Ok(machine) => Ending::second(Stage::Opening.is_of_untraced(&machine)),
-                Err(_) => Ending::Wrong,
-            },
-        },
-    )
+/// Whether the machine without a trace of these is as before the first round.
+fn opens_untraced(alloc: Global, image: &Image, plan: Plan) -> Result<bool, RunError> {
+    let machine = UntracedMachine::open(alloc, image, Vec::new(alloc), plan)?;
+    Ok(Stage::Opening.is_of_untraced(&machine))
 }

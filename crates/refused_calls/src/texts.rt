@@ -2,10 +2,11 @@
 
 use crate::calls::Refusal;
 use crate::ending::Ending;
-use crate::guest::{REPORT, ended};
+use crate::guest::{REPORT, on_ended};
 use crate::recordings::EXITS;
 use emulation::Report;
 use host_io::{RunError, WriteSink};
+use machine::Machine;
 use recording::{read_recording, write_recording};
 use std::alloc::Global;
 use std::io::{self, Write};
@@ -99,11 +100,15 @@ fn written<C: Fn(&mut Page) -> Result<(), RunError>>(call: &C, wanted: &[u8]) ->
 
 /// Writes the report of a machine.
 fn try_report<R: Threads + Wait + Sync>(rt: &R, alloc: Global) -> Result<Ending, RunError> {
-    let machine = ended(rt, alloc)?;
-    Ok(written(
+    on_ended(rt, alloc, |machine| report_of(alloc, machine))
+}
+
+/// Writes the report of this machine.
+fn report_of(alloc: Global, machine: &Machine) -> Ending {
+    written(
         &|page| machine.report(alloc, &mut WriteSink::new(page)),
         REPORT.as_bytes(),
-    ))
+    )
 }
 
 /// Writes a recording that was read.
