@@ -225,6 +225,50 @@ fn two_meet<B: BookStart, R: Abort + Wait>(rt: &R, alloc: Global, start: &RoundS
     assert!(rt; are_put(&mut gathered));
 }
 
+/// Two seats meet, after which each has seen all of so many harts, and they have put all between them.
+fn meet_after_all<B: BookStart>(
+    book: &RoundBook<HartRound<B>>,
+    first: &mut Seat<HartRound<B>>,
+    second: &mut Seat<HartRound<B>>,
+    count: usize,
+) -> bool
+    requires tables { (first.old.table ≡ book.now.table) × (second.old.table ≡ book.now.table) }
+    ensures tables { (first.new.table ≡ book.now.table) × (second.new.table ≡ book.now.table) }
+{
+    book.meet(first, second);
+    let own = first.own().checked_add(second.own());
+    first.seen() == count && second.seen() == count && own == Some(count)
+}
+
+/// Two threads claim and put, with a seat each, until every hart is claimed.
+fn join_two<B: BookStart + Send + Sync, R: Threads + Wait + Sync>(
+    rt: &R,
+    alloc: Global,
+    start: &RoundStart<'_>,
+    book: &RoundBook<HartRound<B>>,
+    first: Seat<HartRound<B>>,
+    second: Seat<HartRound<B>>,
+) -> (Seat<HartRound<B>>, Seat<HartRound<B>>)
+    requires start { start.now ≡ B.start }
+    requires first { (first.table ≡ book.now.table) × (harts_put first ≡ first.claims) }
+    requires second { (second.table ≡ book.now.table) × (harts_put second ≡ second.claims) }
+    ensures tables { (result.0.table ≡ book.now.table) × (result.1.table ≡ book.now.table) }
+{
+    join(
+        rt,
+        || -> Seat<HartRound<B>>
+            requires { (start.now ≡ B.start) × (first.table ≡ book.now.table) ×
+                (harts_put first ≡ first.claims) }
+            ensures { result.table ≡ first.table }
+        { take_part(rt, alloc, start, book, first) },
+        || -> Seat<HartRound<B>>
+            requires { (start.now ≡ B.start) × (second.table ≡ book.now.table) ×
+                (harts_put second ≡ second.claims) }
+            ensures { result.table ≡ second.table }
+        { take_part(rt, alloc, start, book, second) },
+    )
+}
+
 /// Two threads put all harts between them.
 fn two_threads<B: BookStart + Send + Sync, R: Abort + Threads + Wait + Sync>(
     rt: &R,
@@ -234,25 +278,15 @@ fn two_threads<B: BookStart + Send + Sync, R: Abort + Threads + Wait + Sync>(
     requires { start.now ≡ B.start }
 {
     let (book, first, second) = open_two::<B, R>(rt, alloc, start);
-    let (mut first, mut second) = join(
-        rt,
-        || -> Seat<HartRound<B>>
-            requires { (start.now ≡ B.start) × (first.table ≡ book.table) ×
-                (harts_put first ≡ first.claims) }
-            ensures { result.table ≡ first.table }
-        { take_part(rt, alloc, start, &book, first) },
-        || -> Seat<HartRound<B>>
-            requires { (start.now ≡ B.start) × (second.table ≡ book.table) ×
-                (harts_put second ≡ second.claims) }
-            ensures { result.table ≡ second.table }
-        { take_part(rt, alloc, start, &book, second) },
-    );
-    book.meet(&mut first, &mut second);
-    assert!(rt; first.seen() == start.harts().len() && second.seen() == start.harts().len());
-    let own = first.own().checked_add(second.own());
-    assert!(rt; own == Some(start.harts().len()));
+    let (mut first, mut second) = join_two(rt, alloc, start, &book, first, second);
+    assert!(rt; meet_after_all(&book, &mut first, &mut second, start.harts().len()));
     let gathered = close_two(rt, alloc, book, first, second);
     assert!(rt; gathered.is_complete());
+}
+
+/// Whether the round of hart 1 is there, and that of hart 0 isn't.
+fn has_hart_1_alone<B: BookStart>(gathered: &Gathered<HartRound<B>>) -> bool {
+    !gathered.is_complete() && gathered.get(0).is_none() && gathered.get(1).is_some()
 }
 
 /// A ticket that is dropped leaves its hart out.
@@ -264,8 +298,7 @@ fn one_left_out<B: BookStart, R: Abort>(rt: &R, alloc: Global, start: &RoundStar
     let put = put_at_once(alloc, start, &book, &mut second).is_some();
     let left = (put, second.seen(), second.own());
     let gathered = close_two(rt, alloc, book, first, second);
-    assert!(rt; left == (true, 1, 1) && !gathered.is_complete());
-    assert!(rt; gathered.get(0).is_none() && gathered.get(1).is_some());
+    assert!(rt; left == (true, 1, 1) && has_hart_1_alone(&gathered));
 }
 
 /// A seat that is alone with its book gets the lock at its first try.

@@ -61,14 +61,21 @@ fn earlier(start: &RoundStart<'_>) -> Result<HartEnd, OutOfMemory>
     Ok(end)
 }
 
+/// Does the round of a hart where an earlier one left its end, and these accesses in the room for accesses.
+fn round_after_earlier(start: &RoundStart<'_>, kept: &[Access]) -> Result<HartEnd, OutOfMemory>
+    requires { 0 < length start.now.harts }
+{
+    let mut end = earlier(start)?;
+    let mut room = Vec::from_slice(start.pages().allocator(), kept)?;
+    round_in_place(0, start, &mut end, &mut room)?;
+    Ok(end)
+}
+
 /// Whether the round of a hart takes the place of what an earlier one left.
 fn takes_its_place(start: &RoundStart<'_>, logged: usize) -> Result<bool, OutOfMemory>
     requires { 0 < length start.now.harts }
 {
-    let mut end = earlier(start)?;
-    let mut room = Vec::from_slice(start.pages().allocator(), &[OTHER_ACCESS])?;
-    round_in_place(0, start, &mut end, &mut room)?;
-    Ok(has_counted(&end, logged))
+    Ok(has_counted(&round_after_earlier(start, &[OTHER_ACCESS])?, logged))
 }
 
 /// Whether the same round leaves the same where there is none before it.
@@ -83,9 +90,7 @@ fn leaves(start: &RoundStart<'_>, logged: usize) -> Result<bool, OutOfMemory>
 fn rests(start: &RoundStart<'_>) -> Result<bool, OutOfMemory>
     requires { 0 < length start.now.harts }
 {
-    let mut end = earlier(start)?;
-    let mut room = Vec::new(start.pages().allocator());
-    round_in_place(0, start, &mut end, &mut room)?;
+    let end = round_after_earlier(start, &[])?;
     let nothing = (end.accesses, end.waits, end.log.len()) == (0, false, 0);
     Ok(nothing && end.buffer.is_empty() && end.hart == start.harts()[0])
 }

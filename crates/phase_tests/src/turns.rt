@@ -15,8 +15,7 @@ use round_schedule::MOST_HARTS;
 use serial_phase::{Console, SerialLog, SerialRound, SharedState, serial};
 use std::alloc::Global;
 
-/// One page with these words as its code from address 0 on, no reservation of so many harts, and this input. Who has it
-/// lends it at once to a function that runs the turns: there no `?` drops it, which keeps the check short.
+/// One page with these words as its code from address 0 on, no reservation of so many harts, and this input.
 fn begin(
     alloc: Global,
     words: [u32; 4],
@@ -35,6 +34,24 @@ fn begin(
         console: Console::new(alloc, input),
         log: SerialLog::new(alloc),
     })
+}
+
+/// What a trial comes to on such a state. It alone has the state, and the trial borrows it: what drops it is checked once.
+fn on_shared<T, F>(
+    alloc: Global,
+    words: [u32; 4],
+    harts: u32,
+    input: &[u8],
+    trial: F,
+) -> Result<T, OutOfMemory>
+where
+    T: Drop,
+    F: FnOnce(&mut SharedState) -> Result<T, OutOfMemory> + Drop,
+    requires harts { harts ≤ MOST_HARTS }
+    requires trial { (shared : _) → length shared.now.reservations ≡ harts → F.pre trial shared }
+{
+    let mut shared = begin(alloc, words, harts, input)?;
+    trial(&mut shared)
 }
 
 /// A hart before its first instruction, at this pc, with these values in x5 and x6.

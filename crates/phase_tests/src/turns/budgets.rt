@@ -1,6 +1,6 @@
 ghost use Rattle.std.specs.Prelude.{◌≡◌, ◌≤◌, length};
 
-use super::{begin, hart, turns};
+use super::{hart, on_shared, turns};
 use hart_step::{Hart, Stop};
 use pages::OutOfMemory;
 use serial_phase::SharedState;
@@ -33,8 +33,15 @@ fn turn(alloc: Global, shared: &mut SharedState, budget: u32) -> Result<Left, Ou
 fn left_by_turn(alloc: Global, budget: u32) -> Result<Left, OutOfMemory>
     requires { budget ≤ 1000 }
 {
-    let mut shared = begin(alloc, [CALL, ADD, ADD, CALL], 1, &[])?;
-    turn(alloc, &mut shared, budget)
+    on_shared(
+        alloc,
+        [CALL, ADD, ADD, CALL],
+        1,
+        &[],
+        |shared: &mut SharedState| -> Result<Left, OutOfMemory>
+            requires { (length shared.old.reservations ≡ 1) × (budget ≤ 1000) }
+        { turn(alloc, shared, budget) },
+    )
 }
 
 // Words that only compute are done many at a time: a budget ends them as it ends one after another. The round is 7.

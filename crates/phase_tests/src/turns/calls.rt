@@ -1,6 +1,6 @@
 ghost use Rattle.std.specs.Prelude.{◌≡◌, ◌≤◌, length};
 
-use super::{begin, hart, turns};
+use super::{hart, on_shared, turns};
 use hart_step::{Hart, Stop};
 use pages::OutOfMemory;
 use serial_phase::{Console, SharedState};
@@ -51,8 +51,15 @@ fn left_by_call(
 ) -> Result<Left, OutOfMemory>
     requires { budget ≤ 1000 }
 {
-    let mut shared = begin(alloc, [CALL, 0, 0, 0], 1, &[])?;
-    call(alloc, &mut shared, of, budget, output)
+    on_shared(
+        alloc,
+        [CALL, 0, 0, 0],
+        1,
+        &[],
+        |shared: &mut SharedState| -> Result<Left, OutOfMemory>
+            requires { (length shared.old.reservations ≡ 1) × (budget ≤ 1000) }
+        { call(alloc, shared, of, budget, output) },
+    )
 }
 
 #[test]
@@ -113,8 +120,15 @@ fn answers_of(
     input: &[u8],
     output: &[u8],
 ) -> Result<([[u64; 3]; 3], bool), OutOfMemory> {
-    let mut shared = begin(alloc, [CALL, 0, 0, 0], 3, input)?;
-    three_answers(alloc, &mut shared, output)
+    on_shared(
+        alloc,
+        [CALL, 0, 0, 0],
+        3,
+        input,
+        |shared: &mut SharedState| -> Result<([[u64; 3]; 3], bool), OutOfMemory>
+            requires { length shared.old.reservations ≡ 3 }
+        { three_answers(alloc, shared, output) },
+    )
 }
 
 #[test]
@@ -142,8 +156,15 @@ fn two_puts(
 
 /// The same in a memory of its own.
 fn puts_at_the_end(alloc: Global) -> Result<([u64; 2], usize, Option<u8>), OutOfMemory> {
-    let mut shared = begin(alloc, [CALL, 0, 0, 0], 2, &[])?;
-    two_puts(alloc, &mut shared)
+    on_shared(
+        alloc,
+        [CALL, 0, 0, 0],
+        2,
+        &[],
+        |shared: &mut SharedState| -> Result<([u64; 2], usize, Option<u8>), OutOfMemory>
+            requires { length shared.old.reservations ≡ 2 }
+        { two_puts(alloc, shared) },
+    )
 }
 
 #[test]

@@ -1,6 +1,6 @@
 ghost use Rattle.std.specs.Prelude.{◌≡◌, ◌<◌, ◌≤◌, length};
 
-use super::{begin, hart, turns};
+use super::{hart, on_shared, turns};
 use hart_step::{Hart, Stop};
 use pages::{Fault, OutOfMemory, Width};
 use round_schedule::{Access, MOST_HARTS};
@@ -80,8 +80,15 @@ fn store(
 fn left_by_store(alloc: Global, budget: u32, events: &[Access]) -> Result<Broken, OutOfMemory>
     requires { budget ≤ 1000 }
 {
-    let mut shared = begin(alloc, [FENCE, STORE, 0, 0], 2, &[])?;
-    store(alloc, &mut shared, budget, events)
+    on_shared(
+        alloc,
+        [FENCE, STORE, 0, 0],
+        2,
+        &[],
+        |shared: &mut SharedState| -> Result<Broken, OutOfMemory>
+            requires { (length shared.old.reservations ≡ 2) × (budget ≤ 1000) }
+        { store(alloc, shared, budget, events) },
+    )
 }
 
 #[test]
@@ -148,8 +155,15 @@ fn three_steps(alloc: Global, shared: &mut SharedState) -> Result<([Step; 3], bo
 
 /// The same in a memory of its own.
 fn pair_and_one_more(alloc: Global) -> Result<([Step; 3], bool), OutOfMemory> {
-    let mut shared = begin(alloc, [RESERVE, CONDITIONAL, CONDITIONAL, 0], 1, &[])?;
-    three_steps(alloc, &mut shared)
+    on_shared(
+        alloc,
+        [RESERVE, CONDITIONAL, CONDITIONAL, 0],
+        1,
+        &[],
+        |shared: &mut SharedState| -> Result<([Step; 3], bool), OutOfMemory>
+            requires { length shared.old.reservations ≡ 1 }
+        { three_steps(alloc, shared) },
+    )
 }
 
 #[test]
@@ -192,8 +206,15 @@ fn pair(
 
 /// The same in a memory of its own.
 fn pair_around_a_byte(alloc: Global, writer: u32, address: u64) -> Result<Step, OutOfMemory> {
-    let mut shared = begin(alloc, [RESERVE, CONDITIONAL, 0, 0], 2, &[])?;
-    pair(alloc, &mut shared, writer, address)
+    on_shared(
+        alloc,
+        [RESERVE, CONDITIONAL, 0, 0],
+        2,
+        &[],
+        |shared: &mut SharedState| -> Result<Step, OutOfMemory>
+            requires { length shared.old.reservations ≡ 2 }
+        { pair(alloc, shared, writer, address) },
+    )
 }
 
 #[test]
@@ -228,8 +249,15 @@ fn store_conditional(
 
 /// The same in a memory of its own, of this word.
 fn left_by_conditional(alloc: Global, word: u32, address: u64) -> Result<Conditional, OutOfMemory> {
-    let mut shared = begin(alloc, [word, 0, 0, 0], 1, &[])?;
-    store_conditional(alloc, &mut shared, address)
+    on_shared(
+        alloc,
+        [word, 0, 0, 0],
+        1,
+        &[],
+        |shared: &mut SharedState| -> Result<Conditional, OutOfMemory>
+            requires { length shared.old.reservations ≡ 1 }
+        { store_conditional(alloc, shared, address) },
+    )
 }
 
 #[test]
@@ -282,8 +310,15 @@ fn add(alloc: Global, shared: &mut SharedState) -> Result<Added, OutOfMemory>
 
 /// The same in a memory of its own.
 fn three_adds(alloc: Global) -> Result<Added, OutOfMemory> {
-    let mut shared = begin(alloc, [STORE, ADD_WORD, 0, 0], 3, &[])?;
-    add(alloc, &mut shared)
+    on_shared(
+        alloc,
+        [STORE, ADD_WORD, 0, 0],
+        3,
+        &[],
+        |shared: &mut SharedState| -> Result<Added, OutOfMemory>
+            requires { length shared.old.reservations ≡ 3 }
+        { add(alloc, shared) },
+    )
 }
 
 #[test]

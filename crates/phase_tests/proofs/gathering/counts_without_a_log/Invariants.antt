@@ -1,4 +1,4 @@
-use Rattle.phase_tests.proofs.gathering.gates.a_hart_is_done_while_another_waits.Given as goal
+use Rattle.phase_tests.proofs.gathering.counts_without_a_log.Given as goal
 
 abbrev pub ghosts-gathers : goal.ghosts-gathers
 ghosts-gathers g a = record { start = a.start.now }

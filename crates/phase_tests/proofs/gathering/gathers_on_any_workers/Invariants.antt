@@ -1,4 +1,4 @@
-use Rattle.phase_tests.proofs.gathering.gates.two_workers_meet.Given as goal
+use Rattle.phase_tests.proofs.gathering.gathers_on_any_workers.Given as goal
 
 abbrev pub ghosts-gathers : goal.ghosts-gathers
 ghosts-gathers g a = record { start = a.start.now }
