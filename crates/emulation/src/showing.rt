@@ -1,18 +1,21 @@
 ghost use Rattle.std.specs.Prelude.{◌≡◌, ◌⊎◌};
 ghost use Rattle.host_io.specs.Taken.{WritesText};
 ghost use Rattle.host_io.specs.declared.error.RunError.TheVariants as refusals;
-ghost use Rattle.machine.specs.Machine.{Running};
+ghost use Rattle.machine.specs.Machine.{Running, after_rounds};
 ghost use Rattle.run_settings.specs.Settings.{IsReason, RefusedInOrder, settings_fault};
 ghost use Rattle.emulation.specs.Reports.{IsReport};
-ghost use Rattle.emulation.specs.Showing.{IsShown, shown_text};
+ghost use Rattle.emulation.specs.Showing.{IsShown, end_of, shown_text};
 ghost use Rattle.emulation.specs.Visited.{HasSeenRun};
 ghost use Rattle.machine.specs.Untraced.{IsUntraced, Untraced};
+ghost use Rattle.machine.specs.Walks.{HasSeenAll};
+ghost use Rattle.report.specs.Report.{report_of};
+ghost use Rattle.round_schedule.specs.Bounds.{AreWorkers};
 ghost use Rattle.text_writes.specs.Writes.{IsFaultOr, WritesAnswer};
 
 use crate::reporting::{report_on, untraced_state_of};
 use crate::run_end::{RunEnd, end_of};
 use host_io::{RunError, Sink, put_all};
-use machine::{GuestFiles, Settings, UntracedMachine, Visitor, prepare, prepare_untraced};
+use machine::{GuestFiles, Machine, Settings, UntracedMachine, Visitor, prepare, prepare_untraced};
 use report::{write_summary, write_untraced};
 use std::alloc::Global;
 use std::sync::Wait;
@@ -58,8 +61,34 @@ pub fn show_run<S: Sink, V: Visitor, R: Threads + Wait + Sync>(
     ensures in_order { RefusedInOrder settings.now files.now.image.now result }
 {
     let mut machine = prepare_untraced(alloc, files.image, files.input, settings)?;
+    let answer = show_rounds(rt, alloc, &mut machine, settings, shown, visitor, out);
+    drop(machine);
+    answer
+}
+
+/// Runs a machine on for the rounds of the settings, and writes what is shown of the state after them. It answers how its harts have
+/// ended.
+fn show_rounds<S: Sink, V: Visitor, R: Threads + Wait + Sync>(
+    rt: &R,
+    alloc: Global,
+    machine: &mut UntracedMachine,
+    settings: &Settings<'_>,
+    shown: ShownState,
+    visitor: &mut V,
+    out: &mut S,
+) -> Result<RunEnd, RunError>
+    requires workers { AreWorkers settings.now.workers }
+    requires opened { machine.old.rounds ≡ 0 }
+    requires known { (start : Untraced) → V.knows visitor.old visitor.old start settings.now.rounds 0 }
+    ensures writes { (m : Running) → IsUntraced m machine.old → WritesAnswer S.took S.failures
+        (λ end text. (text ≡ shown_text shown (after_rounds settings.now.rounds m).state) ×
+        (end ≡ end_of (after_rounds settings.now.rounds m).state.harts))
+        (λ e. e ≡ refusals.OutOfMemory) refusals.OutOfMemory refusals.SinkFailed out.old out.new result }
+    ensures waits { (out.new ≡ out.old) ⊎
+        HasSeenAll V.knows visitor.old visitor.new machine.old settings.now.rounds }
+{
     machine.run_visited(rt, settings.rounds, settings.workers, visitor)?;
-    write_shown(alloc, &machine, shown, out)?;
+    write_shown(alloc, machine, shown, out)?;
     Ok(end_of(machine.harts()))
 }
 
@@ -90,8 +119,33 @@ pub fn report_run<S: Sink, V: Visitor, R: Threads + Wait + Sync>(
     ensures in_order { RefusedInOrder settings.now files.now.image.now result }
 {
     let mut machine = prepare(alloc, files.image, files.input, settings)?;
+    let answer = report_rounds(rt, alloc, &mut machine, settings, visitor, out);
+    drop(machine);
+    answer
+}
+
+/// Runs a machine on for the rounds of the settings, and writes the report of the state after them. It answers how its harts have
+/// ended.
+fn report_rounds<S: Sink, V: Visitor, R: Threads + Wait + Sync>(
+    rt: &R,
+    alloc: Global,
+    machine: &mut Machine,
+    settings: &Settings<'_>,
+    visitor: &mut V,
+    out: &mut S,
+) -> Result<RunEnd, RunError>
+    requires workers { AreWorkers settings.now.workers }
+    requires opened { machine.old.state.rounds ≡ 0 }
+    requires known { (start : Untraced) → V.knows visitor.old visitor.old start settings.now.rounds 0 }
+    ensures writes { WritesAnswer S.took S.failures
+        (λ end text. (text ≡ report_of (after_rounds settings.now.rounds machine.old).state) ×
+        (end ≡ end_of (after_rounds settings.now.rounds machine.old).state.harts))
+        (λ e. e ≡ refusals.OutOfMemory) refusals.OutOfMemory refusals.SinkFailed out.old out.new result }
+    ensures waits { (out.new ≡ out.old) ⊎ ((u : Untraced) × IsUntraced machine.old u ×
+        HasSeenAll V.knows visitor.old visitor.new u settings.now.rounds) }
+{
     machine.run_visited(rt, settings.rounds, settings.workers, visitor)?;
-    report_on(rt, settings.workers, alloc, &machine, out)?;
+    report_on(rt, settings.workers, alloc, machine, out)?;
     Ok(end_of(machine.harts()))
 }
 
