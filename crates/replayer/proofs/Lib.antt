@@ -1,4 +1,5 @@
 pub mod Faults
+pub mod Formats
 pub mod First
 pub mod SeenOf
 pub mod Untraced

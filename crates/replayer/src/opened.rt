@@ -55,16 +55,23 @@ fn settings_of(recording: &Recording, workers: u32) -> Settings<'_>
     ensures good { AreWorkers workers → settings_fault result ≡ None }
 {
     Settings {
-        format: if recording.is_flat() {
-            Format::Flat
-        } else {
-            Format::Elf
-        },
+        format: format_of(recording),
         harts: recording.harts(),
         pages: recording.pages(),
         rounds: recording.rounds(),
         workers,
         budget: recording.budget(),
         plan: recording.plan(),
+    }
+}
+
+/// How a recording's image is read.
+fn format_of(recording: &Recording) -> Format
+    ensures { result ≡ format_of recording.now.format }
+{
+    if recording.is_flat() {
+        Format::Flat
+    } else {
+        Format::Elf
     }
 }

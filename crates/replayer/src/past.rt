@@ -1,4 +1,4 @@
-ghost use Rattle.std.specs.Prelude.{◌≡◌, ◌≤◌, ◌<◌, ◌+◌, ◌^◌, IfOk, IfErr};
+ghost use Rattle.std.specs.Prelude.{◌≡◌, ◌≤◌, ◌<◌, ◌+◌, ◌^◌, ◌⊎◌, IfOk, IfErr, MatchOption};
 ghost use Rattle.round_planner.specs.Quotas.{Planned, quotas_of};
 ghost use Rattle.host_io.specs.declared.error.RunError.TheVariants as refusals;
 ghost use Rattle.round_schedule.specs.Past.{hart_after};
@@ -45,13 +45,10 @@ pub fn sight_at<R: Threads + Wait + Sync>(
     ensures in_order { RefusedInOrder workers recording.now result }
 {
     let machine = opened_untraced(alloc, recording, workers)?;
-    if round == 0 {
-        return Ok(None);
+    match rounds_before(recording, round) {
+        Some(before) => sight_in_round(rt, machine, before, hart, count, workers),
+        None => Ok(None),
     }
-    if round > recording.rounds() {
-        return Ok(None);
-    }
-    sight_in_round(rt, machine, round - 1, hart, count, workers)
 }
 
 /// The hart alone.
@@ -73,13 +70,21 @@ pub fn state_at<R: Threads + Wait + Sync>(
     ensures in_order { RefusedInOrder workers recording.now result }
 {
     let machine = opened_untraced(alloc, recording, workers)?;
-    if round == 0 {
-        return Ok(None);
+    match rounds_before(recording, round) {
+        Some(before) => hart_in_round(rt, machine, before, hart, count, workers),
+        None => Ok(None),
     }
-    if round > recording.rounds() {
-        return Ok(None);
+}
+
+/// How many rounds of a recording's run come before this one. `None` where it has no such round.
+fn rounds_before(recording: &Recording, round: u32) -> Option<u32>
+    ensures { MatchOption result ((round ≡ 0) ⊎ (recording.now.rounds < round)) (λ before.
+        (before + 1 ≡ round) × (round ≤ recording.now.rounds)) }
+{
+    if round == 0 || round > recording.rounds() {
+        return None;
     }
-    hart_in_round(rt, machine, round - 1, hart, count, workers)
+    Some(round - 1)
 }
 
 /// What the hart is and sees within the round that comes after so many more rounds of a run, of which this is the machine without its

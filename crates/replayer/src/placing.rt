@@ -1,7 +1,8 @@
-ghost use Rattle.std.specs.Prelude.{◌≡◌, ◌≤◌, ◌⊎◌, None, IfOk, IfErr};
+ghost use Rattle.std.specs.Prelude.{◌≡◌, ℕ, ◌≤◌, ◌<◌, ◌⊎◌, None, IfOk, IfErr};
 ghost use Rattle.round_planner.specs.Quotas.{Planned};
 ghost use Rattle.host_io.specs.declared.error.RunError.TheVariants as refusals;
-ghost use Rattle.machine.specs.Machine.{Running};
+ghost use Rattle.event_pcs.specs.Pcs.{hart_at};
+ghost use Rattle.machine.specs.Machine.{Running, after_rounds};
 ghost use Rattle.machine.specs.Untraced.{IsUntraced};
 ghost use Rattle.replayer.specs.Past.{Begins, IsRoundOf, IsStateBefore};
 ghost use Rattle.replayer.specs.Refusals.{RefusedInOrder};
@@ -43,21 +44,58 @@ pub fn state_before<R: Threads + Wait + Sync>(
     let mut machine = opened_untraced(alloc, recording, workers)?;
     // At most 1,000, so that no count of instructions wraps.
     let _budget = recording.budget();
-    if hart >= recording.harts() {
-        return Ok(None);
-    }
-    let rounds = recording.rounds();
-    let Seeking { found, last, .. } = seek(rt, &mut machine, rounds, hart, place, workers)?;
-    match found {
+    let before = if hart < recording.harts() {
+        state_sought(rt, &mut machine, recording.rounds(), hart, place, workers)
+    } else {
+        Ok(None)
+    };
+    drop(machine);
+    before
+}
+
+/// What `state_before` gives of the next rounds of a machine that was just opened and has this hart.
+fn state_sought<R: Threads + Wait + Sync>(
+    rt: &R,
+    machine: &mut UntracedMachine,
+    rounds: u32,
+    hart: u32,
+    place: u64,
+    workers: u32,
+) -> Result<Option<(u32, Hart)>, RunError>
+    requires workers { AreWorkers workers }
+    requires run { (m : Running) × IsUntraced m machine.old × Begins m hart }
+    ensures before { (m : Running) → IsUntraced m machine.old → Begins m hart →
+        IfOk result (λ x. IsStateBefore rounds m hart place x) }
+    ensures refused { IfErr result (λ e. e ≡ refusals.OutOfMemory) }
+{
+    let sought = seek(rt, machine, rounds, hart, place, workers)?;
+    match sought.found {
         None => Ok(None),
-        Some((round, count)) => {
-            let between = round - 1 - last.rounds();
-            match hart_in_round(rt, last, between, hart, count, workers)? {
-                Some(before) => Ok(Some((round, before))),
-                None => unreachable!(),
-            }
-        }
+        Some((round, count)) => match hart_from(rt, sought.last, round, hart, count, workers)? {
+            Some(before) => Ok(Some((round, before))),
+            None => unreachable!(),
+        },
     }
+}
+
+/// The hart after its first `count` instructions of a round, by a machine of the run from before that round.
+fn hart_from<R: Threads + Wait + Sync>(
+    rt: &R,
+    last: UntracedMachine,
+    round: u32,
+    hart: u32,
+    count: u64,
+    workers: u32,
+) -> Result<Option<Hart>, RunError>
+    requires workers { AreWorkers workers }
+    requires behind { last.rounds < round }
+    requires run { (m : Running) × IsUntraced m last }
+    ensures hart { (m : Running) (rounds : ℕ) → IsUntraced (after_rounds last.rounds m) last →
+        round ≤ rounds → IfOk result (λ h. h ≡ hart_at rounds m round hart count) }
+    ensures refused { IfErr result (λ e. e ≡ refusals.OutOfMemory) }
+{
+    let between = round - 1 - last.rounds();
+    hart_in_round(rt, last, between, hart, count, workers)
 }
 
 /// Seeks the round in which a hart does its instruction of a place, among the next rounds of a machine that was just opened.
