@@ -4,7 +4,7 @@ use Rattle.pages.specs.declared.access.Range.{Range}
 use Rattle.pages.specs.declared.access.Store.{Store}
 use Rattle.pages.specs.Memory.{Memory}
 use Rattle.round_schedule.specs.declared.access.Access.{Access}
-use Rattle.round_schedule.specs.Schedule.{HartRound, hart_round_of, round_from}
+use Rattle.round_schedule.specs.Schedule.{hart_round_of, round_from}
 use Rattle.hart_step.specs.declared.hart.Hart.{Hart}
 use Rattle.hart_step.specs.Buffered.{Overlay, Puts, seen_through}
 use Rattle.hart_step.specs.Rounds.{Leaves}

@@ -24,7 +24,8 @@ use Rattle.watching.specs.declared.watchpoint.Way.TheVariants.{On, Back}
 use Rattle.watching.specs.Watches.{hits_of}
 use Rattle.round_steps.specs.declared.place.Place.{Place}
 use Rattle.round_steps.specs.Places.{round_places}
-use Rattle.round_steps.specs.Points.{break_point, earliest, first_in, hit_point, last_in, later, latest, next_point_of, or_else, point_before, points_of, previous_point_of, sooner}
+use Rattle.round_steps.specs.Searching.{FindsNearest}
+use Rattle.round_steps.specs.Points.{break_point, earliest, first_in, hit_point, ends, last_in, later, latest, nearest_in, nearest_point_of, nearest_told, next_point_of, or_else, point_before, points_of, previous_point_of, sooner}
 
 -- ---- on the way on
 
@@ -167,3 +168,38 @@ last_of_points a ws m here told x e f = f ∙ ap (λ (ts : List Told). latest No
 pub found_in_all : (a : Asked) (ws : List Watchpoint) (m : Running) (k n : ℕ) (here : Point) (x : Option Told) → k ≤ n → (x ≡ None → k ≡ n) → x ≡ next_point_of a ws m k here → x ≡ next_point_of a ws m n here
 found_in_all a ws m k n here None le all e = e ∙ ap (λ (j : ℕ). next_point_of a ws m j here) (all refl)
 found_in_all a ws m k n here (Some t) le all e = sym (still_found a ws m k n here t le (sym e))
+
+pub found_one_way : (way : Way) (a : Asked) (ws : List Watchpoint) (m : Running) (n : ℕ) (here : Point) (u v : Untraced) (x : Option Told) → FindsNearest way a ws m n here u v x → x ≡ nearest_point_of way a ws m n here
+found_one_way On a ws m n here u v x f = found_in_all a ws m f.done n here x f.most f.all f.told
+found_one_way Back a ws m n here u v x f = f.told
+
+-- ---- round by round, one way
+
+pub nearest_of_points : (way : Way) (a : Asked) (ws : List Watchpoint) (m : Running) (here : Point) (told : List Told) (x : Option Told) → told ≡ points_of way a ws m → x ≡ nearest_told way here told → x ≡ nearest_in way a ws m here
+nearest_of_points On = first_of_points
+nearest_of_points Back = last_of_points
+
+pub nearest_at_first : (way : Way) (a : Asked) (ws : List Watchpoint) (m : Running) (here : Point) → None ≡ nearest_point_of way a ws m 0 here
+nearest_at_first On a ws m here = sym (none_at_first a ws m here)
+nearest_at_first Back a ws m here = last_at_first a ws m here
+
+or_none : (x : Option Told) → or_else x None ≡ x
+or_none None = refl
+or_none (Some t) = refl
+
+pub nearest_now : (way : Way) (a : Asked) (ws : List Watchpoint) (m : Running) (d : ℕ) (here : Point) (x y z : Option Told) → ends way y ≡ false → y ≡ nearest_point_of way a ws m d here →
+    x ≡ nearest_in way a ws (after_rounds d m) here → z ≡ or_else x y → z ≡ nearest_point_of way a ws m (d + 1) here
+nearest_now On a ws m d here x None z goes ey ex ez = ez ∙ or_none x ∙ sym (first_now a ws m d here x (sym ey) ex)
+nearest_now On a ws m d here x (Some t) z goes ey ex ez = absurd cc
+nearest_now Back a ws m d here x y z goes ey ex ez = last_now a ws m d here x y z ey ex ez
+
+pub finds_all : (way : Way) (a : Asked) (ws : List Watchpoint) (m : Running) (n : ℕ) (here : Point) (u v : Untraced) (x : Option Told) → IsUntraced (after_rounds n m) v → v.rounds ≡ u.rounds + n →
+    x ≡ nearest_point_of way a ws m n here → FindsNearest way a ws m n here u v x
+finds_all On a ws m n here u v x run rounds told = record { done = n; most = omega arith; all = λ none. refl; run = run; rounds = rounds; told = told }
+finds_all Back a ws m n here u v x run rounds told = record { run = run; rounds = rounds; told = told }
+
+pub finds_early : (way : Way) (a : Asked) (ws : List Watchpoint) (m : Running) (k n : ℕ) (here : Point) (u v : Untraced) (x : Option Told) → k ≤ n → ends way x ≡ true → IsUntraced (after_rounds k m) v → v.rounds ≡ u.rounds + k →
+    x ≡ nearest_point_of way a ws m k here → FindsNearest way a ws m n here u v x
+finds_early On a ws m k n here u v None few e run rounds told = absurd cc
+finds_early On a ws m k n here u v (Some t) few e run rounds told = record { done = k; most = few; all = λ none. absurd cc; run = run; rounds = rounds; told = told }
+finds_early Back a ws m k n here u v x few e run rounds told = absurd cc

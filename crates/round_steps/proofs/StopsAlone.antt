@@ -25,7 +25,7 @@ use Rattle.round_steps.specs.declared.point.Point.{Point}
 use Rattle.round_steps.specs.declared.point.Told.{Told}
 use Rattle.round_steps.specs.Places.{begun_of, parallel_places, part_counts, part_of, part_places, past_at, places, round_places, serial_places, turn_at, turn_comes, turn_of, turn_places}
 use Rattle.round_steps.specs.Points.{break_point, earliest, first_in, hit_point, last_in, latest, next_point_of, or_else, point_before, points_of, previous_point_of}
-use Rattle.round_steps.specs.Searching.{FindsFirst, FindsLast}
+use Rattle.round_steps.specs.Searching.{FindsFirst, FindsLast, FindsNearest}
 use Rattle.round_steps.specs.Stopping.{NoNewStop, tells_anew}
 use Rattle.round_steps.proofs.GoingOn.{GoOn, last_of_part, none_comes_long, part_goes, part_is_left, past_goes, stays_long}
 use Rattle.round_steps.proofs.Silent.{IsSilent, no_places}
@@ -208,7 +208,7 @@ module _ (a : Asked) (asks : AsksOfStops a) (m : Running) where
 
 -- ---- a search in which nothing was asked for, where no hart has stopped
 
-pub first_stays : (a b : Asked) (asks : AsksOfStops a) (m : Running) (silent : IsSilent b) (ws : List Watchpoint) (n : ℕ) (here : Point) (u v : Untraced) (before after : List Hart) (x : Option Told) → IsUntraced m u → before ≡ u.harts → after ≡ v.harts → NoNewStop a before after →
+first_stays : (a b : Asked) (asks : AsksOfStops a) (m : Running) (silent : IsSilent b) (ws : List Watchpoint) (n : ℕ) (here : Point) (u v : Untraced) (before after : List Hart) (x : Option Told) → IsUntraced m u → before ≡ u.harts → after ≡ v.harts → NoNewStop a before after →
     FindsFirst b ws m n here u v x → FindsFirst a ws m n here u v x
 first_stays a b asks m silent ws n here u v before after x is eb ea none f =
     let same : NoNewStop a m.state.harts (after_rounds f.done m).state.harts =
@@ -216,10 +216,15 @@ first_stays a b asks m silent ws n here u v before after x is eb ea none f =
     let le : f.done ≤ f.done = omega arith in
     record { done = f.done; most = f.most; all = f.all; run = f.run; rounds = f.rounds; told = f.told ∙ same_next a asks m b silent ws f.done f.done here le same }
 
-pub last_stays : (a b : Asked) (asks : AsksOfStops a) (m : Running) (silent : IsSilent b) (ws : List Watchpoint) (n : ℕ) (here : Point) (u v : Untraced) (before after : List Hart) (x : Option Told) → IsUntraced m u → before ≡ u.harts → after ≡ v.harts → NoNewStop a before after →
+last_stays : (a b : Asked) (asks : AsksOfStops a) (m : Running) (silent : IsSilent b) (ws : List Watchpoint) (n : ℕ) (here : Point) (u v : Untraced) (before after : List Hart) (x : Option Told) → IsUntraced m u → before ≡ u.harts → after ≡ v.harts → NoNewStop a before after →
     FindsLast b ws m n here u v x → FindsLast a ws m n here u v x
 last_stays a b asks m silent ws n here u v before after x is eb ea none f =
     let same : NoNewStop a m.state.harts (after_rounds n m).state.harts =
     subst (λ (hs : List Hart). NoNewStop a hs (after_rounds n m).state.harts) (eb ∙ is.harts) (subst (λ (hs : List Hart). NoNewStop a before hs) (ea ∙ f.run.harts) none) in
     let le : n ≤ n = omega arith in
     record { run = f.run; rounds = f.rounds; told = f.told ∙ same_previous a asks m b silent ws n n here le same }
+
+pub nearest_stays : (way : Way) (a b : Asked) (asks : AsksOfStops a) (m : Running) (silent : IsSilent b) (ws : List Watchpoint) (n : ℕ) (here : Point) (u v : Untraced) (before after : List Hart) (x : Option Told) → IsUntraced m u → before ≡ u.harts → after ≡ v.harts → NoNewStop a before after →
+    FindsNearest way b ws m n here u v x → FindsNearest way a ws m n here u v x
+nearest_stays On = first_stays
+nearest_stays Back = last_stays

@@ -1,11 +1,18 @@
 -- The machine after so many rounds.
-use Rattle.std.proofs.Common.{◌≡◌, ℕ, ◌+◌, ◌++◌, List, [], ◌∷◌, All, Bool, true, false, cond, refl, sym, subst}
+use Rattle.std.proofs.Common.{◌≡◌, ℕ, ◌+◌, ◌++◌, List, [], ◌∷◌, All, Bool, true, false, cond, Option, refl, sym, subst}
 use Rattle.std.proofs.lemmas.List.Elements.{All-nil, All-push, All-same}
 use Rattle.machine.specs.Machine.{Running, after_rounds}
 use Rattle.machine.specs.Untraced.{IsAfter, IsUntraced, Untraced}
 use Rattle.machine.proofs.Repeated.{more_rounds}
+use Rattle.round_steps.specs.Searching.{FindsNearest}
 use Rattle.round_steps.specs.Timelines.{IsThere}
 use Rattle.round_steps.proofs.Searching.{begins_there}
+use Rattle.walking.specs.declared.asked.Asked.{Asked}
+use Rattle.watching.specs.declared.watchpoint.Watchpoint.{Watchpoint}
+use Rattle.watching.specs.declared.watchpoint.Way.{Way}
+use Rattle.watching.specs.declared.watchpoint.Way.TheVariants.{On, Back}
+use Rattle.round_steps.specs.declared.point.Point.{Point}
+use Rattle.round_steps.specs.declared.point.Told.{Told}
 
 pub from_start : (m : Running) (start u : Untraced) → IsUntraced m start → start.rounds ≡ 0 → u ≡ start → IsUntraced (after_rounds u.rounds m) u
 from_start m start u is none same =
@@ -35,3 +42,8 @@ one_more_there start u v us vs false all is same e = All-same (IsThere start) vs
 -- a machine some rounds after one that is there
 pub goes_there : (m : Running) (b d : ℕ) (v : Untraced) → IsUntraced (after_rounds d (after_rounds b m)) v → v.rounds ≡ b + d → IsUntraced (after_rounds v.rounds m) v
 goes_there m b d v is e = subst (λ (n : ℕ). IsUntraced (after_rounds n m) v) (sym e) (subst (λ (r : Running). IsUntraced r v) (more_rounds b d m) is)
+
+-- the machine behind a search
+pub searched_there : (way : Way) (a : Asked) (ws : List Watchpoint) (m : Running) (n : ℕ) (here : Point) (u v : Untraced) (x : Option Told) → FindsNearest way a ws (after_rounds u.rounds m) n here u v x → IsUntraced (after_rounds v.rounds m) v
+searched_there On a ws m n here u v x f = goes_there m u.rounds f.done v f.run f.rounds
+searched_there Back a ws m n here u v x f = goes_there m u.rounds n v f.run f.rounds

@@ -1,6 +1,6 @@
 -- What a debugger is told in the rounds of a run: where it asked to stop, and what its watchpoints tell of. On the way on a move is told before it, and on
 -- the way back behind it.
-use Rattle.std.specs.Prelude.{ℕ, zero, suc, ◌==◌, ◌||◌, ◌&&◌, nat_lt, Bool, true, false, if◌then◌else◌, List, [], ◌∷◌, ◌++◌, map, filter, slice_get, Option, Some, None}
+use Rattle.std.specs.Prelude.{ℕ, zero, suc, ◌==◌, ◌||◌, ◌&&◌, nat_lt, Bool, true, false, if◌then◌else◌, List, [], ◌∷◌, ◌++◌, map, filter, slice_get, is_some, Option, Some, None}
 use Rattle.round_planner.specs.Quotas.{quotas_of}
 use Rattle.hart_step.specs.declared.hart.Hart.{Hart}
 use Rattle.hart_step.specs.Numbers.{minus, plus}
@@ -113,3 +113,21 @@ next_point_of a ws m (suc n) here = or_else (next_point_of a ws m n here) (first
 unfoldable pub previous_point_of : Asked → List Watchpoint → Running → ℕ → Point → Option Told
 previous_point_of a ws m zero here = None
 previous_point_of a ws m (suc n) here = or_else (last_in a ws (after_rounds n m) here) (previous_point_of a ws m n here)
+
+-- one way
+abbrev pub nearest_told : Way → Point → List Told → Option Told
+nearest_told On here told = earliest None (filter (λ (x : Told). point_before here x.point) told)
+nearest_told Back here told = latest None (filter (λ (x : Told). point_before x.point here) told)
+
+abbrev pub nearest_in : Way → Asked → List Watchpoint → Running → Point → Option Told
+nearest_in On = first_in
+nearest_in Back = last_in
+
+abbrev pub nearest_point_of : Way → Asked → List Watchpoint → Running → ℕ → Point → Option Told
+nearest_point_of On = next_point_of
+nearest_point_of Back = previous_point_of
+
+-- on the way on a search ends with the first round in which something is told
+abbrev pub ends : Way → Option Told → Bool
+ends On x = is_some x
+ends Back x = false

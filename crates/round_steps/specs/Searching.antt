@@ -4,6 +4,8 @@ use Rattle.machine.specs.Machine.{Running, after_rounds}
 use Rattle.machine.specs.Untraced.{IsUntraced, Untraced}
 use Rattle.walking.specs.declared.asked.Asked.{Asked}
 use Rattle.watching.specs.declared.watchpoint.Watchpoint.{Watchpoint}
+use Rattle.watching.specs.declared.watchpoint.Way.{Way}
+use Rattle.watching.specs.declared.watchpoint.Way.TheVariants.{On, Back}
 use Rattle.round_steps.specs.declared.point.Point.{Point}
 use Rattle.round_steps.specs.declared.point.Told.{Told}
 use Rattle.round_steps.specs.Points.{next_point_of, previous_point_of}
@@ -22,3 +24,8 @@ pub record FindsLast (a : Asked) (ws : List Watchpoint) (m : Running) (n : ℕ) 
   pub run : IsUntraced (after_rounds n m) v
   pub rounds : v.rounds ≡ u.rounds + n
   pub told : x ≡ previous_point_of a ws m n here
+
+-- one way
+abbrev pub FindsNearest : Way → Asked → List Watchpoint → Running → ℕ → Point → Untraced → Untraced → Option Told → Type 0
+FindsNearest On = FindsFirst
+FindsNearest Back = FindsLast

@@ -138,7 +138,7 @@ fn part_after(
 }
 
 /// How many instructions a hart may do in its part of the next round.
-fn quota_of(machine: &UntracedMachine, number: u32) -> u32
+pub(crate) fn quota_of(machine: &UntracedMachine, number: u32) -> u32
     requires rounds { machine.now.rounds + 1 < 2 ^ 32 }
     requires hart { number < length machine.now.harts }
     ensures { result ≡ slice_index (quotas_of machine.now.plan machine.now.rounds) number }

@@ -1,9 +1,11 @@
-ghost use Rattle.std.specs.Prelude.{◌≡◌, ◌≤◌, ◌+◌, ◌<◌, ◌^◌, IfOk, IfErr};
+ghost use Rattle.std.specs.Prelude.{◌≡◌, ℕ, ◌≤◌, ◌+◌, ◌<◌, ◌^◌, false, is_some, IfOk, IfErr};
 ghost use Rattle.host_io.specs.declared.error.RunError.TheVariants as refusals;
+ghost use Rattle.hart_step.specs.declared.hart.Hart.{Hart};
 ghost use Rattle.machine.specs.Machine.{Running};
 ghost use Rattle.machine.specs.Untraced.{IsUntraced};
-ghost use Rattle.round_steps.specs.Points.{or_else};
-ghost use Rattle.round_steps.specs.Searching.{FindsFirst, FindsLast};
+ghost use Rattle.walking.specs.Hits.{tells};
+ghost use Rattle.round_steps.specs.Points.{ends, nearest_told, or_else};
+ghost use Rattle.round_steps.specs.Searching.{FindsFirst, FindsLast, FindsNearest};
 ghost use Rattle.round_schedule.specs.Bounds.{AreWorkers};
 
 use crate::point::{Point, Told, earliest_behind, latest_before};
@@ -12,6 +14,7 @@ use crate::stops_alone::{asks_of_stops_alone, have_no_new_stop, nothing_asked};
 use host_io::RunError;
 use machine::UntracedMachine;
 use pages::Range;
+use std::mem::swap;
 use std::sync::Wait;
 use std::thread::Threads;
 use walking::Asked;
@@ -40,51 +43,136 @@ pub fn next_point<R: Threads + Wait + Sync>(
         telling.now.asked telling.now.watches.items m rounds here.now machine.old machine.new) }
     ensures refused { IfErr result (λ e. e ≡ refusals.OutOfMemory) }
 {
-    let (asked, watches) = (&telling.asked, telling.watches.as_slice());
-    if !asks_of_stops_alone(asked) {
-        return first_in(rt, machine, code, rounds, asked, watches, here, workers);
-    }
-    // A hart that stops is stopped when the rounds are done: none of them is walked over where no hart is.
-    let before = machine.share()?;
-    let nothing = nothing_asked(before.pages().allocator());
-    let found = first_in(rt, machine, code, rounds, &nothing, watches, here, workers)?;
-    if have_no_new_stop(
-        before.plan().harts(),
-        before.harts(),
-        machine.harts(),
-        asked,
-    ) {
-        return Ok(found);
-    }
-    *machine = before;
-    first_in(rt, machine, code, rounds, asked, watches, here, workers)
+    nearest(rt, machine, code, rounds, telling, Way::On, here, workers)
 }
 
-/// The same, round by round. The machine has done the rounds up to the one in which something is told.
-fn first_in<R: Threads + Wait + Sync>(
+/// The nearest one in the next rounds, one way.
+pub(crate) fn nearest<R: Threads + Wait + Sync>(
     rt: &R,
     machine: &mut UntracedMachine,
     code: &[Range],
     rounds: u32,
-    asked: &Asked,
-    watches: &[Watchpoint],
+    telling: &Telling,
+    way: Way,
     here: &Point,
     workers: u32,
 ) -> Result<Option<Told>, RunError>
     requires run { (m : Running) × IsUntraced m machine.old }
     requires rounds { machine.old.rounds + rounds < 2 ^ 32 }
     requires workers { AreWorkers workers }
-    ensures first { (m : Running) → IsUntraced m machine.old → m.code ≡ code.now → IfOk result (FindsFirst
+    ensures nearest { (m : Running) → IsUntraced m machine.old → m.code ≡ code.now → IfOk result (FindsNearest way
+        telling.now.asked telling.now.watches.items m rounds here.now machine.old machine.new) }
+    ensures refused { IfErr result (λ e. e ≡ refusals.OutOfMemory) }
+{
+    let (asked, watches) = (&telling.asked, telling.watches.as_slice());
+    if !asks_of_stops_alone(asked) {
+        return nearest_in(
+            rt, machine, code, rounds, asked, watches, way, here, workers,
+        );
+    }
+    let mut before = machine.share()?;
+    let found = nearest_stop(
+        rt,
+        machine,
+        &mut before,
+        code,
+        rounds,
+        telling,
+        way,
+        here,
+        workers,
+    );
+    drop(before);
+    found
+}
+
+/// The same where nothing is told of a hart that runs, with the machine once more to begin anew from. A hart that stops is stopped when
+/// the rounds are done: none of them is walked over where no hart is.
+fn nearest_stop<R: Threads + Wait + Sync>(
+    rt: &R,
+    machine: &mut UntracedMachine,
+    before: &mut UntracedMachine,
+    code: &[Range],
+    rounds: u32,
+    telling: &Telling,
+    way: Way,
+    here: &Point,
+    workers: u32,
+) -> Result<Option<Told>, RunError>
+    requires run { (m : Running) × IsUntraced m machine.old }
+    requires rounds { machine.old.rounds + rounds < 2 ^ 32 }
+    requires workers { AreWorkers workers }
+    requires before { before.old ≡ machine.old }
+    requires stops { (i : ℕ) (h : Hart) → is_some h.stop ≡ false → tells telling.now.asked i h ≡ false }
+    ensures nearest { (m : Running) → IsUntraced m machine.old → m.code ≡ code.now → IfOk result (FindsNearest way
+        telling.now.asked telling.now.watches.items m rounds here.now machine.old machine.new) }
+    ensures refused { IfErr result (λ e. e ≡ refusals.OutOfMemory) }
+{
+    let (asked, watches) = (&telling.asked, telling.watches.as_slice());
+    let nothing = nothing_asked(before.pages().allocator());
+    let watched = nearest_in(
+        rt, machine, code, rounds, &nothing, watches, way, here, workers,
+    );
+    drop(nothing);
+    let found = watched?;
+    let harts = before.plan().harts();
+    if have_no_new_stop(harts, before.harts(), machine.harts(), asked) {
+        return Ok(found);
+    }
+    swap(machine, before);
+    nearest_in(
+        rt, machine, code, rounds, asked, watches, way, here, workers,
+    )
+}
+
+/// The nearest one, round by round: on the way on no further than the round in which something is told.
+fn nearest_in<R: Threads + Wait + Sync>(
+    rt: &R,
+    machine: &mut UntracedMachine,
+    code: &[Range],
+    rounds: u32,
+    asked: &Asked,
+    watches: &[Watchpoint],
+    way: Way,
+    here: &Point,
+    workers: u32,
+) -> Result<Option<Told>, RunError>
+    requires run { (m : Running) × IsUntraced m machine.old }
+    requires rounds { machine.old.rounds + rounds < 2 ^ 32 }
+    requires workers { AreWorkers workers }
+    ensures nearest { (m : Running) → IsUntraced m machine.old → m.code ≡ code.now → IfOk result (FindsNearest way
         asked.now watches.now m rounds here.now machine.old machine.new) }
     ensures refused { IfErr result (λ e. e ≡ refusals.OutOfMemory) }
 {
+    let mut found = None;
     for done in 0..rounds {
-        let told = points_in_round(rt, machine, code, asked, watches, Way::On, workers)?;
-        if let Some(found) = earliest_behind(here, &told) {
-            return Ok(Some(found));
+        let told = points_in_round(rt, machine, code, asked, watches, way, workers)?;
+        found = or_else(nearest_of(way, here, &told), found);
+        if ends(way, found) {
+            return Ok(found);
         }
     }
-    Ok(None)
+    Ok(found)
+}
+
+/// The nearest one of these, one way.
+fn nearest_of(way: Way, here: &Point, told: &[Told]) -> Option<Told>
+    ensures { result ≡ nearest_told way here.now told.now }
+{
+    match way {
+        Way::On => earliest_behind(here, told),
+        Way::Back => latest_before(here, told),
+    }
+}
+
+/// Whether no later round has a nearer one.
+fn ends(way: Way, found: Option<Told>) -> bool
+    ensures { result ≡ ends way found }
+{
+    match way {
+        Way::On => found.is_some(),
+        Way::Back => false,
+    }
 }
 
 /// The latest point before another one at which something is told in the next rounds of a run, all of which the machine does. It may
@@ -109,49 +197,7 @@ pub fn previous_point<R: Threads + Wait + Sync>(
         telling.now.asked telling.now.watches.items m rounds here.now machine.old machine.new) }
     ensures refused { IfErr result (λ e. e ≡ refusals.OutOfMemory) }
 {
-    let (asked, watches) = (&telling.asked, telling.watches.as_slice());
-    if !asks_of_stops_alone(asked) {
-        return last_in(rt, machine, code, rounds, asked, watches, here, workers);
-    }
-    let before = machine.share()?;
-    let nothing = nothing_asked(before.pages().allocator());
-    let found = last_in(rt, machine, code, rounds, &nothing, watches, here, workers)?;
-    if have_no_new_stop(
-        before.plan().harts(),
-        before.harts(),
-        machine.harts(),
-        asked,
-    ) {
-        return Ok(found);
-    }
-    *machine = before;
-    last_in(rt, machine, code, rounds, asked, watches, here, workers)
-}
-
-/// The same, round by round.
-fn last_in<R: Threads + Wait + Sync>(
-    rt: &R,
-    machine: &mut UntracedMachine,
-    code: &[Range],
-    rounds: u32,
-    asked: &Asked,
-    watches: &[Watchpoint],
-    here: &Point,
-    workers: u32,
-) -> Result<Option<Told>, RunError>
-    requires run { (m : Running) × IsUntraced m machine.old }
-    requires rounds { machine.old.rounds + rounds < 2 ^ 32 }
-    requires workers { AreWorkers workers }
-    ensures last { (m : Running) → IsUntraced m machine.old → m.code ≡ code.now → IfOk result (FindsLast
-        asked.now watches.now m rounds here.now machine.old machine.new) }
-    ensures refused { IfErr result (λ e. e ≡ refusals.OutOfMemory) }
-{
-    let mut last = None;
-    for done in 0..rounds {
-        let told = points_in_round(rt, machine, code, asked, watches, Way::Back, workers)?;
-        last = or_else(latest_before(here, &told), last);
-    }
-    Ok(last)
+    nearest(rt, machine, code, rounds, telling, Way::Back, here, workers)
 }
 
 /// The first of two where there is one, and else the other.

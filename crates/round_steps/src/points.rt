@@ -159,11 +159,8 @@ fn hits_noted<R: Threads + Wait + Sync>(
 fn copied(alloc: Global, harts: &[Hart]) -> Result<Vec<Hart>, OutOfMemory>
     ensures { IfOk result (λ v. v.items ≡ harts.now) }
 {
-    let mut found = Vec::new(alloc);
-    for hart in harts {
-        found.push(*hart)?;
-    }
-    Ok(found)
+    let copy = Vec::from_slice(alloc, harts)?;
+    Ok(copy)
 }
 
 /// Adds the places of a round at which a debugger asked to stop.

@@ -1,4 +1,4 @@
-ghost use Rattle.std.specs.Prelude.{◌≡◌, ◌+◌, ◌<◌, ◌^◌, ◌==◌, ◌&&◌, Some, IfOk, IfErr, length, min, slice_get, slice_index};
+ghost use Rattle.std.specs.Prelude.{◌≡◌, ◌+◌, ◌<◌, ◌^◌, ◌==◌, ◌&&◌, Some, IfOk, IfErr, length, slice_get, slice_index};
 ghost use Rattle.host_io.specs.declared.error.RunError.TheVariants as refusals;
 ghost use Rattle.round_planner.specs.Quotas.{quotas_of};
 ghost use Rattle.round_schedule.specs.Past.{last_of};
@@ -10,6 +10,7 @@ ghost use Rattle.round_steps.specs.Moments.{phase_number};
 ghost use Rattle.round_steps.specs.Shown.{behind_move, beside_part, beside_turn, end_of_part, hart_beside, is_behind_move, mover, shown_at, shown_at_point};
 
 use crate::moment::phase_number;
+use crate::own_part::quota_of;
 use crate::place::Place;
 use crate::point::Side;
 use crate::round::are_same;
@@ -122,7 +123,8 @@ fn behind_move(
     match machine.harts().get(place.hart as usize) {
         None => Ok(None),
         Some(hart) => {
-            let sight = end_of_moves(machine, code, place.hart, *hart, place.count)?;
+            let quota = u64::from(quota_of(machine, place.hart));
+            let sight = end_of(machine, code, *hart, place.count.min(quota) as u32)?;
             Ok(Some(sight))
         }
     }
@@ -224,33 +226,6 @@ fn start(machine: &UntracedMachine, hart: Hart) -> Result<Sight, OutOfMemory>
     Ok(Sight::of_memory(hart, pages.copy(pages.allocator())?))
 }
 
-/// A hart at the end of its part of the parallel phase, after so many instructions at most.
-fn end_of_moves(
-    machine: &UntracedMachine,
-    code: &[Range],
-    number: u32,
-    hart: Hart,
-    count: u64,
-) -> Result<Sight, OutOfMemory>
-    requires rounds { machine.now.rounds + 1 < 2 ^ 32 }
-    requires hart { number < length machine.now.harts }
-    ensures { IfOk result (λ s. last_of (part_sights (words_of code.now)
-        (min count (slice_index (quotas_of machine.now.plan machine.now.rounds) number))
-        (record { hart = hart; bytes = machine.now.bytes })) ≡ Some s) }
-{
-    let pages = machine.pages();
-    if !are_same(pages.code(), code) {
-        // A run keeps its code.
-        return Err(OutOfMemory);
-    }
-    let decoded_code = decoded(pages, u64::MAX)?;
-    // As many as the machine has.
-    let _harts = machine.harts();
-    let quota = machine.plan().quota(machine.rounds() + 1, number);
-    let most = count.min(u64::from(quota)) as u32;
-    Sight::after_part(pages.copy(pages.allocator())?, &decoded_code, hart, most)
-}
-
 /// A hart at the end of its part of the parallel phase.
 fn end_of_part(
     machine: &UntracedMachine,
@@ -267,16 +242,26 @@ fn end_of_part(
       quotas = quotas_of machine.now.plan machine.now.rounds;
     }) number hart ≡ Some s) }
 {
+    end_of(machine, code, hart, quota_of(machine, number))
+}
+
+/// A hart at the end of a part of at most so many instructions.
+fn end_of(
+    machine: &UntracedMachine,
+    code: &[Range],
+    hart: Hart,
+    most: u32,
+) -> Result<Sight, OutOfMemory>
+    ensures { IfOk result (λ s. last_of (part_sights (words_of code.now) most
+        (record { hart = hart; bytes = machine.now.bytes })) ≡ Some s) }
+{
     let pages = machine.pages();
     if !are_same(pages.code(), code) {
         // A run keeps its code.
         return Err(OutOfMemory);
     }
     let decoded_code = decoded(pages, u64::MAX)?;
-    // As many as the machine has.
-    let _harts = machine.harts();
-    let quota = machine.plan().quota(machine.rounds() + 1, number);
-    Sight::after_part(pages.copy(pages.allocator())?, &decoded_code, hart, quota)
+    Sight::after_part(pages.copy(pages.allocator())?, &decoded_code, hart, most)
 }
 
 /// A hart at the end of the round.

@@ -3,14 +3,14 @@ ghost use Rattle.host_io.specs.declared.error.RunError.TheVariants as refusals;
 ghost use Rattle.machine.specs.Machine.{Running, after_rounds};
 ghost use Rattle.machine.specs.Untraced.{IsUntraced};
 ghost use Rattle.round_steps.specs.OwnParts.{own_stores, waits_at};
-ghost use Rattle.round_steps.specs.Points.{next_point_of, previous_point_of};
+ghost use Rattle.round_steps.specs.Points.{nearest_point_of, next_point_of, previous_point_of};
 ghost use Rattle.round_steps.specs.Shown.{shown_at_point};
 ghost use Rattle.round_steps.specs.Timelines.{IsThere};
 ghost use Rattle.round_schedule.specs.Bounds.{AreWorkers};
 
 use crate::own_part::{OwnPart, own_part};
 use crate::point::{Point, Told};
-use crate::point_search::{next_point, previous_point};
+use crate::point_search::nearest;
 use crate::points::Telling;
 use crate::showing::shown_at_side;
 use host_io::RunError;
@@ -20,6 +20,7 @@ use seeing::Sight;
 use std::marker::Model;
 use std::sync::Wait;
 use std::thread::Threads;
+use watching::Way;
 
 /// How much longer each stretch of rounds is that is looked through on the way back.
 const LONGER: u32 = 8;
@@ -141,11 +142,9 @@ impl Timeline {
         ensures refused { IfErr result (λ e. e ≡ refusals.OutOfMemory) }
     {
         let mut machine = self.machine_at(rt, begin, workers)?;
-        let found = next_point(rt, &mut machine, &self.code, count, telling, here, workers)?;
-        if found.is_none() {
-            self.keep(&mut machine)?;
-        }
-        Ok(found)
+        let found = self.look_on(rt, &mut machine, count, telling, Way::On, here, workers);
+        drop(machine);
+        found
     }
 
     /// The latest point before another one at which something is told. It may wait.
@@ -206,8 +205,35 @@ impl Timeline {
     {
         let mut machine = self.machine_at(rt, begin, workers)?;
         let rounds = end - begin;
-        let found = previous_point(rt, &mut machine, &self.code, rounds, telling, here, workers)?;
-        self.keep(&mut machine)?;
+        let found = self.look_on(rt, &mut machine, rounds, telling, Way::Back, here, workers);
+        drop(machine);
+        found
+    }
+
+    /// The nearest point one way in the next rounds of a machine, which is kept where it has done all of them.
+    fn look_on<R: Threads + Wait + Sync>(
+        &mut self,
+        rt: &R,
+        machine: &mut UntracedMachine,
+        rounds: u32,
+        telling: &Telling,
+        way: Way,
+        here: &Point,
+        workers: u32,
+    ) -> Result<Option<Told>, RunError>
+        requires there { IsThere self.old.start machine.old }
+        requires within { machine.old.rounds + rounds ≤ self.old.rounds }
+        requires workers { AreWorkers workers }
+        ensures stays { self.new ≡ self.old }
+        ensures nearest { (m : Running) → IsUntraced m self.old.start → IfOk result (λ x. x ≡ nearest_point_of way
+            telling.now.asked telling.now.watches.items (after_rounds machine.old.rounds m) rounds here.now) }
+        ensures refused { IfErr result (λ e. e ≡ refusals.OutOfMemory) }
+    {
+        let code = self.code();
+        let found = nearest(rt, machine, code, rounds, telling, way, here, workers)?;
+        if way == Way::Back || found.is_none() {
+            self.keep(machine)?;
+        }
         Ok(found)
     }
 
@@ -232,14 +258,10 @@ impl Timeline {
     {
         let moment = point.moment;
         let mut machine = self.machine_at(rt, moment.rounds, workers)?;
-        shown_at_side(
-            rt,
-            &mut machine,
-            &self.code,
-            point.side,
-            &moment.place,
-            number,
-        )
+        let code = self.code();
+        let sight = shown_at_side(rt, &mut machine, code, point.side, &moment.place, number);
+        drop(machine);
+        sight
     }
 
     /// What hart `number` has done of its part of the parallel phase at a point: its stores that are not committed, and whether it waits
@@ -266,8 +288,19 @@ impl Timeline {
     {
         let moment = point.moment;
         let machine = self.machine_at(rt, moment.rounds, workers)?;
-        let part = own_part(&machine, &self.code, &moment.place, number)?;
+        let walked = own_part(&machine, self.code(), &moment.place, number);
+        drop(machine);
+        let part = walked?;
         Ok(part)
+    }
+
+    /// Its code.
+    fn code(&self) -> &[Range]
+        ensures run { (m : Running) × IsUntraced m self.now.start }
+        ensures code { (m : Running) → IsUntraced m self.now.start → m.code ≡ result.now }
+        ensures few { self.now.rounds + 1 < 2 ^ 32 }
+    {
+        self.code.as_slice()
     }
 
     /// The machine that did the most rounds, of those that did so many at most.
@@ -330,8 +363,10 @@ impl Timeline {
             return Ok(());
         }
         let copy = machine.share()?;
-        self.machines.push(copy).map_err(|_| RunError::OutOfMemory)?;
-        Ok(())
+        match self.machines.push(copy) {
+            Ok(()) => Ok(()),
+            Err(_) => Err(RunError::OutOfMemory),
+        }
     }
 }
 
