@@ -181,13 +181,25 @@ fn unlike_alone<R: Threads + Wait + Sync>(
     first_unlike(rt, alloc, words, harts, plan, &alone)
 }
 
+/// The same number for the calls of so many harts, and for their stores.
+fn unlike_in_both<R: Threads + Wait + Sync>(
+    rt: &R,
+    alloc: Global,
+    harts: u32,
+) -> Result<[Option<u32>; 2], RunError>
+    requires some_harts { 1 ≤ harts }
+    requires few_harts { harts ≤ 64 }
+{
+    let in_calls = unlike_alone(rt, alloc, &EXIT, harts, b"4\n")?;
+    let in_stores = unlike_alone(rt, alloc, &STORE_THEN_LOAD, harts, b"50\n")?;
+    Ok([in_calls, in_stores])
+}
+
 #[test]
 fn no_number_of_workers_is_shown(rt: HostRuntime) -> Result<(), Fail> {
     for harts in [3, 64] {
-        let unlike = unlike_alone(&rt, rt.alloc(), &EXIT, harts, b"4\n")?;
-        assert_eq!(rt; unlike, None, "calls of {harts} harts");
-        let unlike = unlike_alone(&rt, rt.alloc(), &STORE_THEN_LOAD, harts, b"50\n")?;
-        assert_eq!(rt; unlike, None, "stores of {harts} harts");
+        let unlike = unlike_in_both(&rt, rt.alloc(), harts)?;
+        assert_eq!(rt; unlike, [None; 2], "calls and stores of {harts} harts");
     }
     Ok(())
 }
@@ -298,9 +310,13 @@ fn meet<R: Threads + Wait + Sync>(rt: &R, machine: &mut Machine) -> Result<(bool
     Ok(gate.met())
 }
 
-/// How many harts have stopped after one more round by two workers.
-fn stopped_after<R: Threads + Wait + Sync>(rt: &R, machine: &mut Machine) -> Result<u32, RunError> {
-    Ok(machine.round(rt, 2, &Open)?.stopped)
+/// How many harts have stopped after one more round by two workers, and whether two meet in the round after it.
+fn stop_and_meet<R: Threads + Wait + Sync>(
+    rt: &R,
+    machine: &mut Machine,
+) -> Result<(u32, (bool, bool)), RunError> {
+    let stopped = machine.round(rt, 2, &Open)?.stopped;
+    Ok((stopped, meet(rt, machine)?))
 }
 
 #[test]
@@ -315,11 +331,9 @@ fn two_workers_meet_in_a_round(rt: HostRuntime) -> Result<(), Fail> {
 #[test]
 fn stopped_harts_meet_too(rt: HostRuntime) -> Result<(), Fail> {
     let mut machine = machine_of(rt.alloc(), &EXIT, 2, b"2\n")?;
-    let stopped = stopped_after(&rt, &mut machine);
-    let met = meet(&rt, &mut machine);
+    let met = stop_and_meet(&rt, &mut machine);
     drop(machine);
-    assert!(rt; stopped? == 2);
-    assert!(rt; met? == (true, true));
+    assert!(rt; met? == (2, (true, true)));
     Ok(())
 }
 
