@@ -2,7 +2,7 @@
 ghost use Rattle.std.specs.Prelude.{◌≡◌, ◌⊎◌, ◌++◌, IfErr, IfOk, OnErr};
 ghost use Rattle.host_io.specs.Taken.{BeganText};
 ghost use Rattle.past_commands.specs.Questions.{question_of};
-ghost use Rattle.past_commands.specs.Refused.{EndsReplay, EndsReplayOf, EndsReplaying, IsRefusedRun};
+ghost use Rattle.past_commands.specs.Refused.{EndsReplay, EndsReplayOf, EndsReplaying, IsOutput, IsRefusedRun};
 ghost use Rattle.past_commands.specs.Replays.{AskedReplay, IsHartAnswer, IsRecordingAnswer, IsReplayAnswer, IsVerdictAnswer};
 
 use crate::answer::{Answer, verdict_answer};
@@ -54,7 +54,21 @@ pub fn replay_command<
     ensures errors { IfErr result (EndsReplay (F.either files.now) asked.now) }
 {
     let past = read_past(files, alloc, asked.recording)?;
-    let answer = replay_past(threads, alloc, &past, asked, progress)?;
+    let answer = replay_past(threads, alloc, &past, asked, progress);
+    drop(past);
+    let answer = answer?;
+    let status = print_answer(&answer, out);
+    drop(answer);
+    status
+}
+
+/// Prints an answer and hands it on, and gives its status.
+fn print_answer<O: Output>(answer: &Answer, out: &mut O) -> Result<ExitStatus, PastFailure>
+    ensures printed { IfOk result (λ status. (O.took out.new ≡ O.took out.old ++ answer.now.text) ×
+        O.is_out out.new × (status ≡ answer.now.status)) }
+    ensures begun { OnErr result (BeganText (O.took out.old) (O.took out.new) answer.now.text) }
+    ensures errors { IfErr result IsOutput }
+{
     put_all(out, answer.text.as_bytes())?;
     out.hand_on()?;
     Ok(answer.status)

@@ -1,7 +1,8 @@
 //! The command `watch`.
 ghost use Rattle.std.specs.Prelude.{◌≡◌, ◌⊎◌, ◌++◌, IfErr, IfOk, OnErr};
 ghost use Rattle.host_io.specs.Taken.{BeganText};
-ghost use Rattle.past_commands.specs.Refused.{EndsWatch, EndsWatchOf, EndsWatching, IsRefusal, IsRefusedRun};
+ghost use Rattle.past_commands.specs.Failures.{out_of_memory};
+ghost use Rattle.past_commands.specs.Refused.{EndsWatch, EndsWatchOf, EndsWatching, IsOutput, IsRefusal, IsRefusedRun};
 ghost use Rattle.past_commands.specs.Watched.{watched_status, watched_text};
 ghost use Rattle.past_commands.specs.Watches.{AreRunHits, AskedWatch, IsRecordingWatch, IsWatch, pcs_told};
 ghost use Rattle.round_planner.specs.Quotas.{Planned};
@@ -57,8 +58,26 @@ pub fn watch_command<
     ensures errors { IfErr result (EndsWatch (F.either files.now) asked.now) }
 {
     let past = read_past(files, alloc, asked.recording)?;
-    let watched = watch_past(threads, alloc, &past, asked, progress, messages)?;
-    let status = print_watched(alloc, &watched, out)?;
+    let watched = watch_past(threads, alloc, &past, asked, progress, messages);
+    drop(past);
+    let watched = watched?;
+    let status = hand_on_watched(alloc, &watched, out);
+    drop(watched);
+    status
+}
+
+/// Prints what came of watching and hands it on, and gives the exit status.
+fn hand_on_watched<O: Output>(
+    alloc: Global,
+    watched: &Watched,
+    out: &mut O,
+) -> Result<ExitStatus, PastFailure>
+    ensures printed { IfOk result (λ status. (O.took out.new ≡ O.took out.old ++ watched_text watched.now) ×
+        O.is_out out.new × (status ≡ watched_status watched.now)) }
+    ensures begun { OnErr result (BeganText (O.took out.old) (O.took out.new) (watched_text watched.now)) }
+    ensures errors { IfErr result (λ f. IsOutput f ⊎ (f ≡ out_of_memory)) }
+{
+    let status = print_watched(alloc, watched, out)?;
     out.hand_on()?;
     Ok(status)
 }

@@ -1,30 +1,18 @@
-use Rattle.std.proofs.Common.{◌∙◌, ◌++◌, List, ap, inr, refl, subst, ℕ}
-use Rattle.host_io.specs.Taken.{BeganText}
-use Rattle.program_files.proofs.Begun.{on_err, whole}
+use Rattle.std.proofs.Common.{inl, inr}
+use Rattle.std.proofs.lemmas.Result.{IfErr-weaker, IfOk-weaker, on_err_weaker}
 use Rattle.past_commands.proofs.replaying.replay_command.Goals as goal
-
-pub returns-in_err-put_all-clause-begun : goal.returns-in_err-put_all-clause-begun
-returns-in_err-put_all-clause-begun g c =
-    let old = g.O.Sink.took c.args.out.now in
-    let new = g.O.Sink.took c.put_all.new.out in
-    on_err c.from_residual-in_err-put_all.result _ (inr (
-      record { past = c.in_ok-past.past; holds = c.in_ok-past.ensures.holds; answer = c.in_ok-answer.answer; is_answer = c.in_ok-answer.ensures.answers },
-      subst (λ (t : List ℕ). BeganText old new t) c.as_bytes.ensures c.in_err-put_all.ensures.begun,
-    ))
-
-pub returns-in_err-hand_on-clause-begun : goal.returns-in_err-hand_on-clause-begun
-returns-in_err-hand_on-clause-begun g c =
-    let old = g.O.Sink.took c.args.out.now in
-    on_err c.from_residual-in_err-hand_on.result _ (inr (
-      record { past = c.in_ok-past.past; holds = c.in_ok-past.ensures.holds; answer = c.in_ok-answer.answer; is_answer = c.in_ok-answer.ensures.answers },
-      whole _ _ _ (c.in_err-hand_on.ensures.took ∙ c.in_ok-put_all.ensures.ok ∙ ap (λ (t : List ℕ). old ++ t) c.as_bytes.ensures),
-    ))
 
 pub returns-clause-answers : goal.returns-clause-answers
 returns-clause-answers g c =
-    let old = g.O.Sink.took c.args.out.now in (
-      record { past = c.in_ok-past.past; holds = c.in_ok-past.ensures.holds; answer = c.in_ok-answer.answer; is_answer = c.in_ok-answer.ensures.answers },
-      c.in_ok-hand_on.ensures.took ∙ c.in_ok-put_all.ensures.ok ∙ ap (λ (t : List ℕ). old ++ t) c.as_bytes.ensures,
-      c.in_ok-hand_on.ensures.out,
-      refl,
-    )
+    IfOk-weaker c.print_answer-status.result _ _
+    (λ status h. (record { past = c.in_ok-past.past; holds = c.in_ok-past.ensures.holds; answer = c.in_ok-answer.answer; is_answer = c.in_ok-answer.ensures.answers }, h.0, h.1, h.2))
+    c.print_answer-status.ensures.printed
+
+pub returns-clause-begun : goal.returns-clause-begun
+returns-clause-begun g c =
+    on_err_weaker c.print_answer-status.result
+    (λ begun. inr (record { past = c.in_ok-past.past; holds = c.in_ok-past.ensures.holds; answer = c.in_ok-answer.answer; is_answer = c.in_ok-answer.ensures.answers }, begun))
+    c.print_answer-status.ensures.begun
+
+pub returns-clause-errors : goal.returns-clause-errors
+returns-clause-errors g c = IfErr-weaker c.print_answer-status.result _ _ (λ f output. inr (inl output)) c.print_answer-status.ensures.errors
