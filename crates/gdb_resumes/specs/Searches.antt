@@ -1,5 +1,5 @@
 -- The nearest point of a run at which something is told.
-use Rattle.std.specs.Prelude.{◌≡◌, ℕ, ◌+◌, ◌-◌, Bool, true, false, List, [], Option, Some, None, min}
+use Rattle.std.specs.Prelude.{◌≡◌, ℕ, ◌+◌, ◌-◌, Bool, true, false, List, [], Option, Some, min}
 use Rattle.machine.specs.Machine.{after_rounds}
 use Rattle.watching.specs.declared.watchpoint.Watchpoint.{Watchpoint}
 use Rattle.watching.specs.declared.watchpoint.Way.{Way}

@@ -1,11 +1,11 @@
 //! What is told on the way.
 
-ghost use Rattle.std.specs.Prelude.{◌≡◌, ◌≤◌, length, IfOk, IfErr, IfSome};
+ghost use Rattle.std.specs.Prelude.{◌≡◌, ◌≤◌, length, Some, IfOk, IfErr, IfSome};
 ghost use Rattle.machine.specs.Machine.{Running};
 ghost use Rattle.machine.specs.Untraced.{IsUntraced};
 ghost use Rattle.host_io.specs.declared.error.RunError.TheVariants as refusals;
 ghost use Rattle.gdb_resumes.specs.Searches.{AsksFor, Finds, Wanted, all_told, nearest_of, only_of, watched_of};
-ghost use Rattle.gdb_resumes.specs.Sessions.{IsWithin, OfRun, state_of};
+ghost use Rattle.gdb_resumes.specs.Sessions.{IsReady, IsWithin, OfRun, state_of};
 ghost use Rattle.round_schedule.specs.Bounds.{AreWorkers};
 
 use crate::debugged::Debugged;
@@ -64,6 +64,29 @@ pub(crate) fn only_of(alloc: Global, hart: u32) -> Telling
         },
         watches: Vec::new(alloc),
     }
+}
+
+/// The nearest point, one way, at which something is told in a session, and each moment of a hart beside. It may wait.
+pub(crate) fn find_told<R: Threads + Wait + Sync>(
+    rt: &R,
+    alloc: Global,
+    run: &mut Debugged,
+    session: &Session,
+    way: Way,
+    hart: u32,
+    from: &Point,
+) -> Result<Option<Told>, RunError>
+    requires ready { IsReady run.old session.now.standing }
+    requires within { from.now.moment.rounds ≤ run.old.timeline.rounds }
+    ensures stays { run.new ≡ run.old }
+    ensures finds { OfRun run.old (λ r. IfOk result (λ x. Finds r way (all_told (state_of session.now) (Some hart)) from.now x)) }
+    ensures within { IfOk result (λ x. IfSome x (λ told. IsWithin run.old told.point)) }
+    ensures refused { IfErr result (λ e. e ≡ refusals.OutOfMemory) }
+{
+    let telling = all_told(alloc, session, Some(hart))?;
+    let found = find(rt, run, way, &telling, from);
+    drop(telling);
+    found
 }
 
 /// The nearest point at which this is told, one way. It may wait.

@@ -61,16 +61,17 @@ impl Debugged {
         // At most 64, as many as the plan says.
         let _harts = machine.plan().harts();
         let harts = machine.harts().len() as u32;
-        let start = machine.share()?;
-        let timeline = Timeline::new(machine, code, rounds)?;
-        Ok(Debugged {
-            timeline,
-            harts,
-            workers,
-            start,
-            image,
-            hands_image,
-        })
+        match timeline_of(&mut machine, code, rounds) {
+            Ok(timeline) => Ok(Debugged {
+                timeline,
+                harts,
+                workers,
+                start: machine,
+                image,
+                hands_image,
+            }),
+            Err(error) => Err(error),
+        }
     }
 
     /// The image that a debugger is handed.
@@ -102,4 +103,23 @@ impl Debugged {
             None => Ok(None),
         }
     }
+}
+
+/// So many rounds of the run of a machine before its first one, which has this code.
+fn timeline_of(
+    machine: &mut UntracedMachine,
+    code: Vec<Range>,
+    rounds: u32,
+) -> Result<Timeline, RunError>
+    requires run { (m : Running) × IsUntraced m machine.old }
+    requires fresh { machine.old.rounds ≡ 0 }
+    requires code { (m : Running) → IsUntraced m machine.old → m.code ≡ code.items }
+    requires rounds { rounds + 1 < 2 ^ 32 }
+    ensures stays { machine.new ≡ machine.old }
+    ensures start { IfOk result (λ t. t.start ≡ machine.old) }
+    ensures rounds { IfOk result (λ t. t.rounds ≡ rounds) }
+    ensures refused { IfErr result (λ e. e ≡ refusals.OutOfMemory) }
+{
+    let start = machine.share()?;
+    Timeline::new(start, code, rounds)
 }

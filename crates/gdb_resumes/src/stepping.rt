@@ -5,7 +5,7 @@ ghost use Rattle.host_io.specs.declared.error.RunError.TheVariants as refusals;
 ghost use Rattle.gdb_resumes.specs.Resumes.{Steps, at_side, StepsBackBeside, StepsBy, StepsFrom, StepsOn, begins_step, later_of, no_step, sought_from};
 ghost use Rattle.gdb_resumes.specs.Sessions.{IsReady, IsWithin, OfRun, hart_seen, is_stopped, state_of};
 
-use crate::asking::{all_told, find};
+use crate::asking::find_told;
 use crate::debugged::Debugged;
 use crate::resuming::{end_of, tell, tell_or, why_told};
 use crate::session::{Session, Standing};
@@ -60,9 +60,8 @@ fn step_on<R: Threads + Wait + Sync>(
     ensures ready { IfOk result (λ t. IsReady run.old t) }
     ensures refused { IfErr result (λ e. e ≡ refusals.OutOfMemory) }
 {
-    let telling = all_told(alloc, session, Some(hart))?;
     let from = sought_from(Way::On, session.standing.point, hart);
-    let found = find(rt, run, Way::On, &telling, &from)?;
+    let found = find_told(rt, alloc, run, session, Way::On, hart, &from)?;
     step_by(rt, alloc, run, session, hart, found)
 }
 
@@ -153,9 +152,8 @@ fn step_from<R: Threads + Wait + Sync>(
     ensures ready { IfOk result (λ t. IsReady run.old t) }
     ensures refused { IfErr result (λ e. e ≡ refusals.OutOfMemory) }
 {
-    let telling = all_told(alloc, session, Some(hart))?;
     let from = later_of(session.standing.point, at);
-    let found = find(rt, run, Way::On, &telling, &from)?;
+    let found = find_told(rt, alloc, run, session, Way::On, hart, &from)?;
     let end = end_of(run, session.standing, Way::On);
     tell_or(rt, run, session, found, end)
 }
@@ -186,10 +184,10 @@ pub(crate) fn step_back_beside<R: Threads + Wait + Sync>(
     ensures refused { IfErr result (λ e. e ≡ refusals.OutOfMemory) }
 {
     let standing = session.standing;
-    let telling = all_told(alloc, session, Some(standing.general))?;
-    let from = sought_from(Way::Back, standing.point, standing.general);
-    let found = find(rt, run, Way::Back, &telling, &from)?;
-    let stays = no_step(run, standing, Way::Back, standing.general);
+    let hart = standing.general;
+    let from = sought_from(Way::Back, standing.point, hart);
+    let found = find_told(rt, alloc, run, session, Way::Back, hart, &from)?;
+    let stays = no_step(run, standing, Way::Back, hart);
     tell_or(rt, run, session, found, stays)
 }
 

@@ -152,7 +152,9 @@ fn pass_one<R: Threads + Wait + Sync>(
 {
     let telling = only_of(alloc, hart);
     let from = sought_from(way, session.standing.point, hart);
-    let found = find(rt, run, way, &telling, &from)?;
+    let sought = find(rt, run, way, &telling, &from);
+    drop(telling);
+    let found = sought?;
     move_by(rt, alloc, run, session, way, hart, found)
 }
 
@@ -200,7 +202,9 @@ fn move_alone<R: Threads + Wait + Sync>(
 {
     let telling = watched_of(alloc, session, hart)?;
     let from = own_from(way, session.standing.point, at);
-    let found = find(rt, run, way, &telling, &from)?;
+    let sought = find(rt, run, way, &telling, &from);
+    drop(telling);
+    let found = sought?;
     stand_alone(rt, run, session, way, hart, at, found)
 }
 

@@ -1,9 +1,8 @@
-use Rattle.std.proofs.Common.{◌≡◌, Some, ap, ◌∙◌}
+use Rattle.std.proofs.Common.{◌≡◌, ap, ◌∙◌}
 use Rattle.std.specs.Prelude.{IfOk}
 use Rattle.watching.specs.declared.watchpoint.Way.TheVariants.{On}
 use Rattle.gdb_resumes.specs.declared.debugged.Debugged.{Debugged}
 use Rattle.gdb_resumes.specs.Sessions.{Recorded, recorded_of, state_of}
-use Rattle.gdb_resumes.specs.Searches.{all_told}
 use Rattle.gdb_resumes.specs.Resumes.{end_of, told_or}
 use Rattle.gdb_resumes.proofs.Arriving.{steps_from}
 use Rattle.gdb_resumes.proofs.Runs.{of_same}
@@ -20,5 +19,5 @@ returns-clause-steps g c = λ m is.
     let P : Recorded → Type 0 = λ r. IfOk c.tell_or.result (λ t. t ≡ told_or r s end found) in
     steps_from (recorded_of m d) s found hart c.args.at c.later_of-from.result end c.later_of-from.ensures.point
     (c.end_of-end.ensures.end ∙ ap (λ (x : Debugged). end_of x.timeline.rounds s.standing On) same)
-    (c.in_ok-found.ensures.finds m is (all_told s (Some hart)) c.in_ok-telling.ensures)
-    c.tell_or.result (of_same d c.find.new.run P same c.tell_or.ensures.standing m is)
+    (c.in_ok-found.ensures.finds m is)
+    c.tell_or.result (of_same d c.find_told.new.run P same c.tell_or.ensures.standing m is)

@@ -1,7 +1,5 @@
-use Rattle.std.proofs.Common.{Some}
 use Rattle.std.specs.Prelude.{IfOk}
 use Rattle.gdb_resumes.specs.Sessions.{Recorded, recorded_of, state_of}
-use Rattle.gdb_resumes.specs.Searches.{all_told}
 use Rattle.gdb_resumes.specs.Resumes.{StepsBy}
 use Rattle.gdb_resumes.proofs.Arriving.{steps_on}
 use Rattle.gdb_resumes.proofs.Runs.{of_same}
@@ -15,5 +13,5 @@ returns-clause-steps g c = λ m is.
     let found = c.in_ok-found.found in
     let P : Recorded → Type 0 = λ r. IfOk c.step_by.result (λ t. StepsBy r s hart found t) in
     steps_on (recorded_of m d) s found hart c.sought_from-from.result c.sought_from-from.ensures.from
-    (c.in_ok-found.ensures.finds m is (all_told s (Some hart)) c.in_ok-telling.ensures)
-    c.step_by.result (of_same d c.find.new.run P c.in_ok-found.ensures.stays c.step_by.ensures.steps m is)
+    (c.in_ok-found.ensures.finds m is)
+    c.step_by.result (of_same d c.find_told.new.run P c.in_ok-found.ensures.stays c.step_by.ensures.steps m is)

@@ -18,7 +18,7 @@ returns-clause-moves g c = λ m is.
     let P : Recorded → Type 0 = λ r. IfOk c.stand_alone.result (λ t. t ≡ alone_at r s way hart at found) in
     moves_alone (recorded_of m d) s found hart way at c.own_from-from.result c.own_from-from.ensures.from
     (c.in_ok-found.ensures.finds m is (watched_of s hart) c.in_ok-telling.ensures)
-    c.stand_alone.result (of_same d c.find.new.run P c.in_ok-found.ensures.stays c.stand_alone.ensures.standing m is)
+    c.stand_alone.result (of_same d c.find-sought.new.run P c.in_ok-found.ensures.stays c.stand_alone.ensures.standing m is)
 
-pub find-requires-clause-within : goal.find-requires-clause-within
-find-requires-clause-within g c = λ κs lifetimes. c.own_from-from.ensures.round c.args.run.now.timeline.rounds c.requires.ready.within c.requires.within.rounds
+pub find-sought-requires-clause-within : goal.find-sought-requires-clause-within
+find-sought-requires-clause-within g c = λ κs lifetimes. c.own_from-from.ensures.round c.args.run.now.timeline.rounds c.requires.ready.within c.requires.within.rounds

@@ -16,4 +16,4 @@ returns-clause-passes g c = λ m is.
     let P : Recorded → Type 0 = λ r. IfOk c.move_by.result (λ t. MovesAloneBy r s way hart found t) in
     passes_one (recorded_of m d) s found hart way c.sought_from-from.result c.sought_from-from.ensures.from
     (c.in_ok-found.ensures.finds m is (only_of hart) c.only_of-telling.ensures)
-    c.move_by.result (of_same d c.find.new.run P c.in_ok-found.ensures.stays c.move_by.ensures.moves m is)
+    c.move_by.result (of_same d c.find-sought.new.run P c.in_ok-found.ensures.stays c.move_by.ensures.moves m is)

@@ -1,4 +1,4 @@
-use Rattle.std.proofs.Common.{◌≡◌, ◌<◌, ◌+◌, ◌-◌, rules, Bool, true, false, suc, sym, ap, subst, ◌∙◌, arith}
+use Rattle.std.proofs.Common.{◌≡◌, ◌<◌, ◌+◌, ◌-◌, rules, suc, sym, ap, subst, ◌∙◌, arith}
 use Rattle.gdb_resumes.specs.declared.debugged.Debugged.{Debugged}
 use Rattle.gdb_resumes.specs.declared.session.Session.{Session}
 use Rattle.gdb_resumes.specs.Resumes.{Steps, steps_further}
