@@ -13,7 +13,7 @@ use Rattle.gdb_resumes.specs.Sessions.{Recorded, State}
 use Rattle.gdb_session.specs.Answers.{stands_packets}
 use Rattle.gdb_talk.specs.Asking.{asked_by}
 use Rattle.gdb_talk.specs.Saying.{asks_text, refused_text}
-use Rattle.gdb_session.specs.Serving.{GoesOn, HearsBy, HearsWhile, IsInterrupted, RepliesOrGoesOn, RepliesTo, StandsOrLost, TakesUp, Talking, request_for, way_of}
+use Rattle.gdb_session.specs.Serving.{HearsBy, HearsWhile, IsInterrupted, RepliesOrGoesOn, RepliesTo, StandsOrLost, TakesUp, Talking, request_for, way_of}
 
 module _ (r : Recorded) (s : State) where
   -- the search has ended

@@ -1,7 +1,7 @@
 -- A debugger is served: what it says, and what is written for it.
-use Rattle.std.specs.Prelude.{◌≡◌, ◌⊎◌, ℕ, Bool, true, false, List, [], ◌∷◌, ◌++◌, codes, Option, Some, None}
-use Rattle.gdb_packets.specs.Stream.{Told, Accepted, Again, Interrupt, Packet, Spoilt, next_of}
-use Rattle.gdb_packets.specs.Writing.{answer_to, packet_text}
+use Rattle.std.specs.Prelude.{◌≡◌, ◌⊎◌, ℕ, Bool, true, false, List, [], ◌∷◌, ◌++◌, Option, Some, None}
+use Rattle.gdb_packets.specs.Stream.{Told, Accepted, Again, Interrupt, next_of}
+use Rattle.gdb_packets.specs.Writing.{answer_to}
 use Rattle.gdb_requests.specs.declared.request.Request.{Request}
 use Rattle.gdb_requests.specs.declared.request.Request.TheVariants as requests
 use Rattle.gdb_talk.specs.Asking.{asked_by, ends}

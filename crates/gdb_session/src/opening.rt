@@ -42,29 +42,31 @@ pub fn open(
     if settings.rounds >= u32::MAX - 1 {
         return Err(RunError::RoundsExhausted);
     }
-    let code = code_of(alloc, image, settings)?;
-    let bytes = Vec::from_slice(alloc, image).map_err(|_| RunError::OutOfMemory)?;
-    Debugged::new(
-        machine,
-        code,
-        settings.rounds,
-        settings.workers,
-        bytes,
-        is_elf(settings.format),
-    )
+    let (code, bytes) = copies_of(alloc, image, settings)?;
+    let (rounds, workers) = (settings.rounds, settings.workers);
+    let is_elf = is_elf(settings.format);
+    Debugged::new(machine, code, rounds, workers, bytes, is_elf)
 }
 
-/// The ranges of an image's code.
-fn code_of(alloc: Global, image: &[u8], settings: &Settings<'_>) -> Result<Vec<Range>, RunError>
+/// The ranges of an image's code, and the image itself.
+fn copies_of(
+    alloc: Global,
+    image: &[u8],
+    settings: &Settings<'_>,
+) -> Result<(Vec<Range>, Vec<u8>), RunError>
     requires pages { (1 ≤ settings.now.pages) × (settings.now.pages ≤ MOST_PAGES) }
-    ensures code { IfOk result (λ v. v.items ≡ (image_for settings.now image.now).code) }
+    ensures code { IfOk result (λ x. x.0.items ≡ (image_for settings.now image.now).code) }
+    ensures image { IfOk result (λ x. x.1.items ≡ image.now) }
     ensures errors { IfErr result (λ e. (e ≡ refusals.OutOfMemory) ⊎ ((cause : ImageCause) ×
         IsImageCause settings.now image.now cause × (e ≡ refusals.Image cause))) }
 {
-    let image = load(alloc, settings.format, image, settings.pages)?;
-    match Vec::from_slice(alloc, image.code()) {
-        Ok(code) => Ok(code),
-        Err(_) => Err(RunError::OutOfMemory),
+    let loaded = load(alloc, settings.format, image, settings.pages)?;
+    let code = Vec::from_slice(alloc, loaded.code());
+    let bytes = Vec::from_slice(alloc, image);
+    drop(loaded);
+    match (code, bytes) {
+        (Ok(code), Ok(bytes)) => Ok((code, bytes)),
+        _ => Err(RunError::OutOfMemory),
     }
 }
 

@@ -233,9 +233,8 @@ pub(crate) fn say_where<R: Threads + Wait + Sync, K: Sink>(
     ensures memory { result ≡ Err refusals.OutOfMemory → K.took out.new ≡ K.took out.old }
 {
     let look = Look {
-        point: standing.point,
         hart: standing.told,
-        workers: run.workers,
+        ..look_of(standing, run.workers)
     };
     answer_stop(rt, alloc, &mut run.timeline, look, standing.reason, out)
 }
@@ -257,9 +256,8 @@ pub(crate) fn say_stop<R: Threads + Wait + Sync, K: Sink>(
         return say_where(rt, alloc, run, standing, out);
     }
     let look = Look {
-        point: standing.point,
         hart: standing.told,
-        workers: run.workers,
+        ..look_of(standing, run.workers)
     };
     answer_hit(rt, alloc, &mut run.timeline, look, standing.reason, out)
 }
@@ -291,9 +289,8 @@ fn say_note<R: Threads + Wait + Sync, K: Sink>(
     match hart_of_thread(run.harts, thread) {
         Some(hart) => {
             let look = Look {
-                point: standing.point,
                 hart,
-                workers: run.workers,
+                ..look_of(standing, run.workers)
             };
             answer_note(rt, alloc, &mut run.timeline, look, out)
         }
