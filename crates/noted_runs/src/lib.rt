@@ -3,4 +3,4 @@
 
 mod noting;
 
-pub use noting::{run_noting, walk_noting};
+pub use noting::run_noting;
