@@ -3,10 +3,9 @@ ghost use Rattle.run_settings.specs.Settings.{IsReason, RefusedInOrder, settings
 ghost use Rattle.emulation.specs.Reports.{IsReportAlone};
 ghost use Rattle.text_writes.specs.Writes.{IsFaultOr, WritesAnswer};
 
-use crate::observed::Observed;
 use crate::showing::report_run;
 use host_io::{RunError, Sink};
-use machine::{GuestFiles, Settings, Unobserved};
+use machine::{GuestFiles, Observed, Settings, Unobserved};
 use std::alloc::Global;
 use std::sync::Wait;
 use std::thread::Threads;

@@ -2,7 +2,6 @@
 #![tactic(auto)]
 
 mod emulation;
-mod observed;
 mod ordering;
 mod reporting;
 mod run_end;
@@ -10,7 +9,6 @@ mod showing;
 mod tracing;
 
 pub use emulation::emulate;
-pub use observed::Observed;
 pub use ordering::order_run;
 pub use reporting::{Report, report_on};
 pub use run_end::RunEnd;

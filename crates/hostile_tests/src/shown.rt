@@ -2,8 +2,8 @@
 
 use crate::devices::{Stride, writes};
 use crate::harness::settings;
-use emulation::{Observed, ShownState, show_run};
-use machine::{GuestFiles, Settings, Unobserved};
+use emulation::{ShownState, show_run};
+use machine::{GuestFiles, Observed, Settings, Unobserved};
 use std::alloc::Global;
 use std::sync::Wait;
 use std::thread::Threads;

@@ -14,7 +14,7 @@ mod visiting;
 mod walks;
 
 pub use machine::Machine;
-pub use observing::{Observer, Unobserved};
+pub use observing::{Observed, Observer, Unobserved};
 pub use parallel_phase::{Gate, Open};
 pub use preparing::prepare;
 pub use preparing_untraced::prepare_untraced;

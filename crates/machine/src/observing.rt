@@ -18,13 +18,14 @@ impl Observer for Unobserved {
     fn after_round(&mut self, _machine: &UntracedMachine) {}
 }
 
-/// Shows each round to an observer.
+/// Has an observer shown each round. What the observer knows of them isn't said.
 #[derive(Drop)]
-pub(crate) struct Observing<'a, O> {
-    pub(crate) observer: &'a mut O,
+pub struct Observed<'a, O> {
+    /// It is shown each round.
+    pub observer: &'a mut O,
 }
 
-impl<'a, O: Observer> Visitor for Observing<'a, O> {
+impl<'a, O: Observer> Visitor for Observed<'a, O> {
     ghost knows = { λ first v start rounds done. Unit {0} };
 
     ghost has_enough = { λ v u. ⊥ };

@@ -13,7 +13,7 @@ ghost use Rattle.machine.specs.RoundStarts.{AreOfNext};
 ghost use Rattle.machine.specs.Untraced.{AreLast, HasRun, IsAfter, MayGoOn, next_events, untraced_round};
 ghost use Rattle.round_schedule.specs.Bounds.{AreWorkers};
 
-use crate::observing::{Observer, Observing, Unobserved};
+use crate::observing::{Observed, Observer, Unobserved};
 use crate::running::{RoundNote, stopped_count};
 use crate::untraced::UntracedMachine;
 use guest_rounds::{Crew, EventKeeper, NoTrace};
@@ -92,13 +92,13 @@ impl UntracedMachine {
         if workers < 1 || workers > MOST_WORKERS {
             return Err(RunError::WorkersOutOfRange);
         }
-        let mut observing = Observing { observer };
+        let mut observed = Observed { observer };
         let left = u32::MAX - self.rounds;
         if rounds > left {
-            self.run_within(rt, left, workers, keeper, &mut observing)?;
+            self.run_within(rt, left, workers, keeper, &mut observed)?;
             return Err(RunError::RoundsExhausted);
         }
-        self.run_within(rt, rounds, workers, keeper, &mut observing)?;
+        self.run_within(rt, rounds, workers, keeper, &mut observed)?;
         Ok(())
     }
 

@@ -5,8 +5,8 @@ ghost use Rattle.program_files.specs.Asked.{AskedRun, EndsFor, RefusedSetRun, Se
 ghost use Rattle.program_world.specs.declared.exit_status.ExitStatus.TheVariants as statuses;
 
 use command_line::Run;
-use emulation::{Observed, order_run};
-use machine::Observer;
+use emulation::order_run;
+use machine::{Observed, Observer};
 use program_files::{RunFailure, RunFiles, read_run, settings_of};
 use program_world::{ExitStatus, Files, Output, ProgressLine};
 use std::alloc::Global;

@@ -6,8 +6,7 @@ ghost use Rattle.program_world.specs.declared.exit_status.ExitStatus.TheVariants
 
 use command_line::Run;
 use drawing::trace_run;
-use emulation::Observed;
-use machine::Observer;
+use machine::{Observed, Observer};
 use program_files::{RunFailure, RunFiles, guest_files, read_run, settings_of};
 use program_world::{ExitStatus, Files, Output, ProgressLine};
 use std::alloc::Global;
