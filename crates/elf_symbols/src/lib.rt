@@ -1,7 +1,6 @@
 //! The objects and functions that an ELF file's symbol table names.
 #![tactic(auto)]
 
-mod field;
 mod finding;
 mod object;
 mod offset;

@@ -3,7 +3,7 @@ ghost use Rattle.std.specs.Option.{option_copied};
 ghost use Rattle.elf_loader.specs.ElfCauses.{has_magic, is_little_64, passes};
 ghost use Rattle.elf_symbols.specs.Symbols.{bytes_of, has_sections, section_at, strings_of, symbols_of};
 
-use crate::field::{double_at, half_at, word_at};
+use elf_loader::{double_at, half_at, word_at};
 
 /// The length of the file's header.
 const HEADER: usize = 64;

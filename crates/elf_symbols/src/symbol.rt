@@ -2,8 +2,8 @@ ghost use Rattle.std.specs.Prelude.{◌≡◌, ◌+◌, ◌≤◌, length};
 ghost use Rattle.elf_symbols.specs.Offsets.{has_address, holder_among};
 ghost use Rattle.elf_symbols.specs.Symbols.{is_name, is_named, is_of, is_other, object_at, object_among, other_among, symbol_at};
 
-use crate::field::{double_at, word_at};
 use crate::object::Object;
+use elf_loader::{double_at, word_at};
 
 /// The length of an entry of a symbol table.
 const ENTRY: usize = 24;
