@@ -1,12 +1,9 @@
 -- The load value axiom by the bounds of sources.
-use Rattle.std.proofs.Common.{◌≡◌, ℕ, ◌+◌, ◌-◌, ◌*◌, ◌%◌, ◌^◌, ◌<◌, ◌≤◌, ◌==◌, true, List, length, get_or, Option, Some, None, sym, ap, ◌∙◌, subst, inl, inr, arith}
-use Rattle.std.proofs.lemmas.Bool.{and_from, cases_lt, cond-false, ne_eqb}
-use Rattle.std.proofs.lemmas.Nat.{pow_below}
-use Rattle.std.proofs.Math.Nat.{div-eq_of_lt}
-use Rattle.pages.specs.Memory.{byte_of, in_range}
+use Rattle.std.proofs.Common.{◌≡◌, ℕ, ◌+◌, ◌-◌, ◌<◌, ◌≤◌, ◌==◌, true, List, length, get_or, Option, Some, None, sym, ap, ◌∙◌, subst, inl, inr, arith}
+use Rattle.std.proofs.lemmas.Bool.{and_from, cond-false, ne_eqb}
+use Rattle.pages.specs.Memory.{in_range}
 use Rattle.round_schedule.specs.declared.event.Event.{Event}
-use Rattle.round_schedule.specs.declared.access.Access.{Access}
-use Rattle.round_schedule.specs.Accesses.{address_of, byte_read, byte_written, bytes_of, loads, number_or_zero, read_of, reads}
+use Rattle.round_schedule.specs.Accesses.{address_of, byte_written, bytes_of, loads, reads}
 use Rattle.round_schedule.specs.Positions.{event, reads_at, source_byte}
 use Rattle.memory_order.specs.Orders.{ListsOperations, order_position}
 use Rattle.memory_order.specs.Rvwmo.{IsSource, LoadValueAxiom, MaySee}
@@ -58,18 +55,3 @@ reads_here t r k start width e is l s w low =
     ap (λ (f : Event). reads f.access (start + k)) (sym is)
     ∙ and_from (loads e.access) (in_range (address_of e.access) (bytes_of e.access) (start + k)) l
     (subst (λ n. in_range n (bytes_of e.access) (start + k) ≡ true) s (subst (λ n. in_range start n (start + k) ≡ true) w (range_at start width k low)))
-
-pub read_byte_at : (a : Access) (start k x number : ℕ) → start ≡ address_of a → number ≡ number_or_zero (read_of a) → x ≡ start + k → byte_read a x ≡ byte_of number k
-read_byte_at a start k x number s n e =
-    let d : x - address_of a ≡ k = omega (arith, s, e) in
-    ap (λ j. byte_of (number_or_zero (read_of a)) j) d ∙ ap (λ m. byte_of m k) (sym n)
-
--- past its eight bytes a number has zeros
-pub past_byte : (n k : ℕ) → n < 2 ^ 64 → 8 ≤ k → byte_of n k ≡ 0
-past_byte n k h l = ap (λ q. q % 2 ^ 8) (div-eq_of_lt large)
-  where
-    large : n < 2 ^ (8 * k)
-    large = elim (cases_lt 64 (8 * k)) [
-      | inl a ↦ let p = pow_below 64 (8 * k) a in omega (arith, p, h)
-      | inr b ↦ let e : 8 * k ≡ 64 = omega (arith, b, l) in subst (λ j. n < 2 ^ j) (sym e) h
-    ]

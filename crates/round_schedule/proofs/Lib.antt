@@ -6,6 +6,7 @@ pub mod Local
 pub mod Longest
 pub mod LongestTurn
 pub mod Machines
+pub mod NumberBytes
 pub mod PastAnswers
 pub mod PastAsking
 pub mod PastEnds

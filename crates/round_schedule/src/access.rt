@@ -1,5 +1,6 @@
 ghost use Rattle.std.specs.Prelude.{◌≡◌, ◌≤◌};
-ghost use Rattle.round_schedule.specs.Accesses.{address_of, bytes_of, loads, place_of, stores};
+ghost use Rattle.pages.specs.Memory.{byte_of};
+ghost use Rattle.round_schedule.specs.Accesses.{address_of, byte_read, byte_written, bytes_of, loads, place_of, read_of, stores, written_of};
 
 use pages::Width;
 use rv64_decode::{AcquireRelease, FenceMode, FenceSet};
@@ -136,5 +137,63 @@ impl Access {
             Access::StoreConditional { written, .. } => written.is_some(),
             Access::Load { .. } | Access::LoadReserved { .. } | Access::Fence { .. } => false,
         }
+    }
+
+    /// The number that it read, where it is a load of the memory model.
+    #[inline]
+    pub fn number_read(&self) -> Option<u64>
+        ensures { result ≡ read_of self.now }
+    {
+        match *self {
+            Access::Load { read, .. }
+            | Access::LoadReserved { read, .. }
+            | Access::Atomic { read, .. } => Some(read),
+            Access::Store { .. } | Access::StoreConditional { .. } | Access::Fence { .. } => None,
+        }
+    }
+
+    /// The number that it wrote, where it is a store of the memory model.
+    #[inline]
+    pub fn number_written(&self) -> Option<u64>
+        ensures { result ≡ written_of self.now }
+    {
+        match *self {
+            Access::Store { written, .. } | Access::Atomic { written, .. } => Some(written),
+            Access::StoreConditional { written, .. } => written,
+            Access::Load { .. } | Access::LoadReserved { .. } | Access::Fence { .. } => None,
+        }
+    }
+
+    /// The byte that it read at an address of its own; 0 where it is no load.
+    #[inline]
+    pub fn byte_read(&self, address: u64) -> u8
+        ensures { result ≡ byte_read self.now address }
+    {
+        byte_of(
+            self.number_read().unwrap_or(0),
+            address.saturating_sub(self.address()),
+        )
+    }
+
+    /// The byte that it wrote at an address of its own; 0 where it is no store.
+    #[inline]
+    pub fn byte_written(&self, address: u64) -> u8
+        ensures { result ≡ byte_written self.now address }
+    {
+        byte_of(
+            self.number_written().unwrap_or(0),
+            address.saturating_sub(self.address()),
+        )
+    }
+}
+
+/// Byte `k` of a number, the least significant first; 0 past its eight.
+fn byte_of(number: u64, k: u64) -> u8
+    ensures { result ≡ byte_of number k }
+{
+    if k < 8 {
+        ((number >> (8 * k)) % 256) as u8
+    } else {
+        0
     }
 }

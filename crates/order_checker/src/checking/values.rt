@@ -1,6 +1,4 @@
 ghost use Rattle.std.specs.Prelude.{◌≡◌, ◌≤◌, ◌<◌, ◌↔◌, ℕ, All, IsTrue, length, true};
-ghost use Rattle.pages.specs.Memory.{byte_of};
-ghost use Rattle.round_schedule.specs.Accesses.{byte_written, number_or_zero, read_of, written_of};
 ghost use Rattle.round_schedule.specs.Positions.{reads_at};
 ghost use Rattle.trace.specs.Traced.{HasForm, opening_at};
 ghost use Rattle.memory_order.specs.Orders.{ListsOperations, order_position};
@@ -9,7 +7,7 @@ ghost use Rattle.order_checker.specs.Checking.{AreSources, IsLeft, IsRanking, le
 
 use crate::checking::kinds::{event_at, listed, position_of};
 use crate::checking::source_bounds::{Sources, source_at};
-use round_schedule::{Access, Event};
+use round_schedule::Event;
 use trace::Trace;
 
 /// Whether each byte of each load is the one that its source left; `sources` has the bounds of the sources.
@@ -56,11 +54,10 @@ fn load_is_right(
         return true;
     }
     let position = position_of(events, order, ranks, reader);
-    let number = number_read(&event.access);
     let start = event.access.address();
     for k in 0..event.access.byte_count() {
         let source = source_at(sources, position, start + k);
-        if byte_of(number, k) != byte_left(trace, events, order, source, start + k) {
+        if event.access.byte_read(start + k) != byte_left(trace, events, order, source, start + k) {
             return false;
         }
     }
@@ -79,45 +76,5 @@ fn byte_left(trace: &Trace, events: &[Event], order: &[usize], source: usize, x:
     }
     let writer = listed(events, order, source - 1);
     let event = event_at(events, writer);
-    byte_written(&event.access, x)
-}
-
-fn byte_written(access: &Access, x: u64) -> u8
-    ensures { result ≡ byte_written access.now x }
-{
-    byte_of(number_written(access), x.saturating_sub(access.address()))
-}
-
-/// The number that was read; 0 where none was.
-fn number_read(access: &Access) -> u64
-    ensures { result ≡ number_or_zero (read_of access.now) }
-{
-    match *access {
-        Access::Load { read, .. }
-        | Access::LoadReserved { read, .. }
-        | Access::Atomic { read, .. } => read,
-        _ => 0,
-    }
-}
-
-/// The number that was written; 0 where none was.
-fn number_written(access: &Access) -> u64
-    ensures { result ≡ number_or_zero (written_of access.now) }
-{
-    match *access {
-        Access::Store { written, .. } | Access::Atomic { written, .. } => written,
-        Access::StoreConditional { written, .. } => written.unwrap_or(0),
-        _ => 0,
-    }
-}
-
-/// Byte `k` of a number, the least significant first.
-fn byte_of(number: u64, k: u64) -> u8
-    ensures { result ≡ byte_of number k }
-{
-    if k < 8 {
-        ((number >> (8 * k)) % 256) as u8
-    } else {
-        0
-    }
+    event.access.byte_written(x)
 }

@@ -1,5 +1,5 @@
 use Rattle.std.proofs.Common.{arith, sym}
-use Rattle.order_checker.proofs.Valuing.{past_byte}
+use Rattle.round_schedule.proofs.NumberBytes.{past_byte}
 use Rattle.refusal_reasons.proofs.values.byte_of.Goals as goal
 
 pub returns-else-k-lt8 : goal.returns-else-k-lt8

@@ -5,7 +5,7 @@ use Rattle.trace.specs.Traced.{opening_at}
 use Rattle.order_checker.specs.Checking.{left_by, source_at, source_of}
 use Rattle.order_checker.proofs.Bounding.{range_last}
 use Rattle.order_checker.proofs.Sourcing.{load_within}
-use Rattle.order_checker.proofs.Valuing.{read_byte_at, reads_here, source_listed}
+use Rattle.order_checker.proofs.Valuing.{reads_here, source_listed}
 use Rattle.order_checker.proofs.checking.values.load_is_right.Goals as goal
 
 pub source_at-source-requires : goal.source_at-source-requires
@@ -31,8 +31,8 @@ loop-k-preserved c = λ x h. elim (range_last c.address-start.result c.loop-k.k 
   | inl old ↦ c.loop-k.invariant x old
   | inr same ↦
       ap (λ (f : Event). byte_read f.access x) (sym c.event_at-event.ensures.at)
-      ∙ read_byte_at c.event_at-event.result.access c.address-start.result c.loop-k.k x c.number_read-number.result c.address-start.ensures c.number_read-number.ensures (sym same)
-      ∙ sym c.byte_of.ensures ∙ c.if-byte_of-byte_left.false ∙ c.byte_left.ensures
+      ∙ ap (λ y. byte_read c.event_at-event.result.access y) (sym same)
+      ∙ sym c.byte_read.ensures ∙ c.if-byte_read-byte_left.false ∙ c.byte_left.ensures
       ∙ ap (λ v. left_by c.args.events.now (opening_at c.args.trace.now.opening) c.args.order.now (c.address-start.result + c.loop-k.k) v) (c.source_at-source.ensures ∙ ap (λ p. source_at c.args.sources.now.items p (c.address-start.result + c.loop-k.k)) c.position_of-position.ensures.at)
       ∙ ap (λ y. left_by c.args.events.now (opening_at c.args.trace.now.opening) c.args.order.now y (source_of c.args.order.now c.args.sources.now.items c.args.reader y)) same
 ]
