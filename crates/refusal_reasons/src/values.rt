@@ -1,6 +1,4 @@
 ghost use Rattle.std.specs.Prelude.{◌≡◌, ◌<◌, MatchOption, Option, length, true, false};
-ghost use Rattle.pages.specs.Memory.{byte_of};
-ghost use Rattle.round_schedule.specs.Accesses.{byte_read, byte_written, number_or_zero, read_of, written_of};
 ghost use Rattle.round_schedule.specs.Positions.{reads_at, source_byte};
 ghost use Rattle.trace.specs.Traced.{opening_at};
 ghost use Rattle.memory_order.specs.Orders.{order_position};
@@ -10,7 +8,7 @@ ghost use Rattle.refusal_reasons.specs.Reasons.{IsRight, IsWrong, IsRightLoad};
 
 use order_checker::{Sources, event_at};
 use order_rules::source_of;
-use round_schedule::{Access, Event};
+use round_schedule::Event;
 use trace::Trace;
 
 /// A byte that a load read.
@@ -88,7 +86,7 @@ fn is_right(
     ensures wrong { result ≡ false → IsWrong events.now (opening_at opening.now.opening) (order_position order.now) load x }
 {
     let source = source_of(events, order, ranks, sources, load, x);
-    byte_read(&events[load].access, x) == byte_left(opening, events, source, x)
+    events[load].access.byte_read(x) == byte_left(opening, events, source, x)
 }
 
 /// The byte at an address that the store at an index left; the opening byte where there is none.
@@ -97,53 +95,7 @@ fn byte_left(opening: &Trace, events: &[Event], source: Option<usize>, x: u64) -
     ensures { result ≡ source_byte events.now (opening_at opening.now.opening) x source }
 {
     match source {
-        Some(s) => byte_written(&events[s].access, x),
+        Some(s) => events[s].access.byte_written(x),
         None => opening.opening_byte(x),
-    }
-}
-
-fn byte_read(access: &Access, x: u64) -> u8
-    ensures { result ≡ byte_read access.now x }
-{
-    byte_of(number_read(access), x.saturating_sub(access.address()))
-}
-
-fn byte_written(access: &Access, x: u64) -> u8
-    ensures { result ≡ byte_written access.now x }
-{
-    byte_of(number_written(access), x.saturating_sub(access.address()))
-}
-
-/// The number that was read; 0 where none was.
-fn number_read(access: &Access) -> u64
-    ensures { result ≡ number_or_zero (read_of access.now) }
-{
-    match *access {
-        Access::Load { read, .. }
-        | Access::LoadReserved { read, .. }
-        | Access::Atomic { read, .. } => read,
-        _ => 0,
-    }
-}
-
-/// The number that was written; 0 where none was.
-fn number_written(access: &Access) -> u64
-    ensures { result ≡ number_or_zero (written_of access.now) }
-{
-    match *access {
-        Access::Store { written, .. } | Access::Atomic { written, .. } => written,
-        Access::StoreConditional { written, .. } => written.unwrap_or(0),
-        _ => 0,
-    }
-}
-
-/// Byte `k` of a number, the least significant first.
-fn byte_of(number: u64, k: u64) -> u8
-    ensures { result ≡ byte_of number k }
-{
-    if k < 8 {
-        ((number >> (8 * k)) % 256) as u8
-    } else {
-        0
     }
 }
