@@ -9,6 +9,7 @@ use Rattle.pages.specs.Initial.{bytes_from, piece_byte}
 use Rattle.pages.specs.Memory.{IsBytes, all_code, in_range}
 use Rattle.pages.specs.declared.access.Piece.{Piece}
 use Rattle.pages.specs.declared.access.Range.{Range}
+use Rattle.pages.specs.declared.pages.TheConstants.{MOST_PAGES}
 use Rattle.elf_loader.specs.Causes.{IsLeast, StandsInFlat}
 use Rattle.elf_loader.specs.Image.{IsImage, flat_image}
 use Rattle.host_io.specs.RunErrors.{image_number}
@@ -62,7 +63,7 @@ only_item {X = X} ns xs x none is = is ∙ ap (λ (ys : List X). ys ++ x ∷ [])
 in_code : (n : ℕ) → 4 ≤ n → all_code (record { start = 0; len = n } ∷ []) 0 4 ≡ true
 in_code n h = grind (arith, nat_tests)
 
-one_is_image : (p : Piece) (file : List ℕ) (pages : ℕ) → p.start ≡ 0 → p.bytes.items ≡ file → 1 ≤ pages → pages ≤ 16384 →
+one_is_image : (p : Piece) (file : List ℕ) (pages : ℕ) → p.start ≡ 0 → p.bytes.items ≡ file → 1 ≤ pages → pages ≤ MOST_PAGES →
     IsBytes file → length file ≤ 4096 * pages → 4 ≤ length file → IsImage (p ∷ []) (record { start = 0; len = length file } ∷ []) 0 pages
 one_is_image p file pages z same some few small fits long = record {
   some_pages = some;
@@ -79,7 +80,7 @@ one_is_image p file pages z same some few small fits long = record {
     All-one P x h = All-cons P x [] h (λ k d l. absurd (omega (arith, l)))
 
 pub flat_is_image : (ps : List Piece) (p : Piece) (code : List Range) (file : List ℕ) (pages : ℕ) → ps ≡ p ∷ [] → p.start ≡ 0 → p.bytes.items ≡ file →
-    code ≡ record { start = 0; len = length file } ∷ [] → 1 ≤ pages → pages ≤ 16384 →
+    code ≡ record { start = 0; len = length file } ∷ [] → 1 ≤ pages → pages ≤ MOST_PAGES →
     IsBytes file → length file ≤ 4096 * pages → 4 ≤ length file → IsImage ps code 0 pages
 flat_is_image ps p code file pages one z same ranges some few small fits long =
     subst (λ (qs : List Piece). IsImage qs code 0 pages) (sym one)

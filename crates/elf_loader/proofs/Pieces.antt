@@ -9,6 +9,7 @@ use Rattle.pages.specs.Initial.{bytes_from, piece_byte}
 use Rattle.pages.specs.Memory.{IsBytes, all_code, in_range}
 use Rattle.pages.specs.declared.access.Piece.{Piece}
 use Rattle.pages.specs.declared.access.Range.{Range}
+use Rattle.pages.specs.declared.pages.TheConstants.{MOST_PAGES}
 use Rattle.elf_loader.specs.Elf.{elf_image}
 use Rattle.elf_loader.specs.ElfCauses.{is_entry, is_past_file, is_past_memory}
 use Rattle.elf_loader.specs.ElfTests.{ArePieces, has_overlap, shares}
@@ -110,7 +111,7 @@ entry_fetched code e h = second (e % 4 == 0) (all_code code e 4) h
     second true b h = h
     second false b h = cc
 
-pub elf_is_image : (file : List ℕ) (pages : ℕ) (ss : List Segment) (ps : List Piece) (code : List Range) (entry : ℕ) → 1 ≤ pages → pages ≤ 16384 → IsBytes file →
+pub elf_is_image : (file : List ℕ) (pages : ℕ) (ss : List Segment) (ps : List Piece) (code : List Range) (entry : ℕ) → 1 ≤ pages → pages ≤ MOST_PAGES → IsBytes file →
     list_any (is_past_file (length file)) ss ≡ false → list_any (is_past_memory (4096 * pages)) ss ≡ false → has_overlap ss ≡ false → ArePieces file ss ps →
     code ≡ code_of ss → is_entry code entry ≡ true → IsImage ps code entry pages
 elf_is_image file pages ss ps code entry some few small f g o h is e = record {

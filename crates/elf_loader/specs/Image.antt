@@ -3,7 +3,8 @@ use Rattle.std.specs.Prelude.{◌≡◌, ℕ, ◌+◌, ◌*◌, ◌%◌, ◌≤�
 use Rattle.std.specs.List.{range_with_len}
 use Rattle.pages.specs.declared.access.Piece.{Piece}
 use Rattle.pages.specs.declared.access.Range.{Range}
-use Rattle.pages.specs.Memory.{IsBytes, all_code, in_range}
+use Rattle.pages.specs.declared.pages.TheConstants.{MOST_PAGES}
+use Rattle.pages.specs.Memory.{Memory, IsBytes, all_code, in_range}
 
 -- guest memory as it begins, the ranges of it that are code, the first address to be run, and how many pages there are
 pub record Loaded : Type 0 where
@@ -12,6 +13,10 @@ pub record Loaded : Type 0 where
   pub entry : ℕ
   pub pages : ℕ
 
+-- guest memory as an image opens it
+abbrev pub memory_of : Loaded → Memory
+memory_of image = record { bytes = image.bytes; code = image.code }
+
 -- no address is held by both pieces
 abbrev pub AreApart : Piece → Piece → Type 0
 AreApart p q = (x : ℕ) → in_range p.start (length p.bytes.items) x ≡ true → in_range q.start (length q.bytes.items) x ≡ true → ⊥
@@ -19,7 +24,7 @@ AreApart p q = (x : ℕ) → in_range p.start (length p.bytes.items) x ≡ true 
 -- the pieces lie in memory and share no address, and code lies in memory and has the entry's four bytes
 pub record IsImage (pieces : List Piece) (code : List Range) (entry pages : ℕ) : Type 0 where
   pub some_pages : 1 ≤ pages
-  pub few_pages : pages ≤ 16384
+  pub few_pages : pages ≤ MOST_PAGES
   pub bytes : All (λ p. IsBytes p.bytes.items) pieces
   pub within : All (λ p. p.start + length p.bytes.items ≤ 4096 * pages) pieces
   pub apart : AllPairs AreApart pieces

@@ -15,7 +15,7 @@ use crate::segment::{
     Segment, has_overlap, passes, some_past_file, some_past_memory, some_writable_code,
 };
 use host_io::LoadError;
-use pages::{Piece, Range};
+use pages::{MOST_PAGES, Piece, Range};
 use std::alloc::{AllocError, Global};
 
 /// The length of the file's header.
@@ -177,7 +177,7 @@ fn pieces_of(alloc: Global, file: &[u8], segments: &[Segment]) -> Result<Vec<Pie
 /// The least cause that stands in the file, as `LoadError` lists them, or `OutOfMemory`.
 pub fn load_elf(alloc: Global, file: &[u8], pages: u32) -> Result<Image, LoadError>
     requires some_pages { 1 ≤ pages }
-    requires few_pages { pages ≤ 16384 }
+    requires few_pages { pages ≤ MOST_PAGES }
     ensures image { IfOk result (λ i. i ≡ elf_image file.now pages) }
     // A file is accepted only where no cause stands.
     ensures accepted { IfOk result (λ i. (cause : Cause) → StandsInElf file.now pages cause → ⊥) }

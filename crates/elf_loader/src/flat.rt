@@ -6,7 +6,7 @@ ghost use Rattle.host_io.specs.declared.load_error.LoadError.TheVariants as caus
 
 use crate::image::Image;
 use host_io::LoadError;
-use pages::{Piece, Range};
+use pages::{MOST_PAGES, Piece, Range};
 use std::alloc::Global;
 
 /// The image of a flat file in guest memory of so many pages: it is loaded at address 0, is one code range, and is
@@ -18,7 +18,7 @@ use std::alloc::Global;
 /// 4, or `OutOfMemory`.
 pub fn load_flat(alloc: Global, file: &[u8], pages: u32) -> Result<Image, LoadError>
     requires some_pages { 1 ≤ pages }
-    requires few_pages { pages ≤ 16384 }
+    requires few_pages { pages ≤ MOST_PAGES }
     ensures image { IfOk result (λ i. i ≡ flat_image file.now pages) }
     // A file is accepted only where no cause stands.
     ensures accepted { IfOk result (λ i. (cause : Cause) → StandsInFlat file.now pages cause → ⊥) }

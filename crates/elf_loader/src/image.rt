@@ -1,11 +1,12 @@
-ghost use Rattle.std.specs.Prelude.{◌≡◌, ◌+◌, ◌*◌, ◌%◌, ◌≤◌, true, length, All, AllPairs};
+ghost use Rattle.std.specs.Prelude.{◌≡◌, ◌+◌, ◌*◌, ◌%◌, ◌≤◌, true, length, All, AllPairs, IfOk};
 ghost use Rattle.elf_loader.specs.Image.{AreApart};
 ghost use Rattle.pages.specs.Initial.{bytes_from};
 ghost use Rattle.pages.specs.Memory.{all_code, IsBytes};
 ghost use Rattle.pages.specs.declared.access.Piece.{Piece as PieceOf};
 ghost use Rattle.pages.specs.declared.access.Range.{Range as RangeOf};
 
-use pages::{Piece, Range};
+use pages::{MOST_PAGES, OutOfMemory, Pages, Piece, Range};
+use std::alloc::Global;
 use std::marker::Model;
 
 /// A guest program, ready to be laid into guest memory.
@@ -79,8 +80,21 @@ impl Image {
     pub fn pages(&self) -> u32
         ensures pages { result ≡ self.now.pages }
         ensures some_pages { 1 ≤ result }
-        ensures few_pages { result ≤ 16384 }
+        ensures few_pages { result ≤ MOST_PAGES }
     {
         self.pages
+    }
+
+    /// Guest memory as the program finds it before its first instruction.
+    ///
+    /// # Errors
+    ///
+    /// `OutOfMemory` alone.
+    #[tactic(auto, unfolding(pages::specs::Initial::initial))]
+    pub fn to_pages(&self, alloc: Global) -> Result<Pages, OutOfMemory>
+        ensures bytes { IfOk result (λ p. p.memory.bytes ≡ self.now.bytes) }
+        ensures code { IfOk result (λ p. p.memory.code ≡ self.now.code) }
+    {
+        Pages::new(alloc, self.pages(), self.pieces(), self.code())
     }
 }
