@@ -1,3 +1,4 @@
+pub mod Opening
 pub mod Roomed
 pub mod Turns
 pub mod Atomics

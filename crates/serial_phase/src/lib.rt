@@ -4,6 +4,7 @@
 mod console;
 mod instruction;
 mod log;
+mod opening;
 mod phase;
 mod plain;
 mod plain_run;

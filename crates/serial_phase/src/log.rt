@@ -2,23 +2,24 @@ ghost use Rattle.std.specs.Prelude.{◌≡◌, ℕ, ◌+◌, ◌-◌, ◌≤◌,
 ghost use Rattle.serial_phase.specs.Turns.{count_log, start_of};
 
 use pages::OutOfMemory;
-use round_schedule::Access;
+use round_schedule::{Access, MOST_HARTS};
 use std::alloc::Global;
 use std::marker::Model;
 
-/// How many harts there are at most.
-const MOST: usize = 64;
+/// How many turns there is room for.
+const ROOM: usize = MOST_HARTS as usize;
 
 /// The accesses of the serial turns of one round, turn by turn.
 #[derive(Drop)]
 pub struct SerialLog {
     accesses: Vec<Access>,
-    ends: [usize; MOST],
+    ends: [usize; ROOM],
     turns: usize,
 }
 
 impl Model for SerialLog {
     ghost use Rattle.std.specs.Prelude.{◌≡◌, ◌-◌, ◌≤◌, take, length, vec_len, vec_capacity};
+    ghost use Rattle.round_schedule.specs.declared.bounds.TheConstants.{MOST_HARTS};
     ghost use Rattle.serial_phase.specs.Turns.{Turns, turns_at, open_turn, AreEnds};
 
     ghost Value = { Turns };
@@ -29,7 +30,7 @@ impl Model for SerialLog {
       room = vec_capacity l.accesses - vec_len l.accesses;
     } };
 
-    ghost invariant = { λ l. (l.turns ≤ 64) ×
+    ghost invariant = { λ l. (l.turns ≤ MOST_HARTS) ×
         AreEnds 0 (take l.turns l.ends) (length l.accesses.items) ×
         (length (take l.turns l.ends) ≡ l.turns) };
 }
@@ -42,7 +43,7 @@ impl SerialLog {
     {
         SerialLog {
             accesses: Vec::new(alloc),
-            ends: [0; MOST],
+            ends: [0; ROOM],
             turns: 0,
         }
     }
@@ -81,7 +82,7 @@ impl SerialLog {
 
     /// Ends the turn that is under way; the next one begins.
     pub fn end_turn(&mut self)
-        requires { length self.old.closed < 64 }
+        requires { length self.old.closed < MOST_HARTS }
         ensures closed { self.new.closed ≡ self.old.closed ++ self.old.current ∷ [] }
         ensures current { self.new.current ≡ [] }
         ensures room { self.new.room ≡ self.old.room }

@@ -8,7 +8,7 @@ use crate::log::keep;
 use crate::plain_run::take_plain;
 use crate::shared::{SerialRound, SharedState, Turn};
 use hart_step::Hart;
-use round_schedule::Stepped;
+use round_schedule::{MOST_HARTS, Stepped};
 
 /// Does the serial phase of a round: the turns of the waiting harts, in hart order, each of up to
 /// `budget` instructions, 1 to 1,000.
@@ -19,7 +19,7 @@ use round_schedule::Stepped;
 /// instructions as the turns may do. So no memory is taken.
 pub fn serial(state: &mut SharedState, harts: &mut [Hart], phase: SerialRound)
     requires harts { length harts.old ≡ length state.old.reservations }
-    requires few { length harts.old ≤ 64 }
+    requires few { length harts.old ≤ MOST_HARTS }
     requires pages { HasSpares (budget_of_all phase harts.old) state.old.pages }
     requires console { HasRoom (budget_of_all phase harts.old) state.old.console }
     requires log { budget_of_all phase harts.old ≤ state.old.log.room }
@@ -39,7 +39,7 @@ pub fn serial(state: &mut SharedState, harts: &mut [Hart], phase: SerialRound)
 
 /// Whether hart `hart` waits.
 fn waits(waiting: u64, hart: u32) -> bool
-    requires { hart < 64 }
+    requires { hart < MOST_HARTS }
     ensures { result ≡ is_waiting waiting hart }
 {
     (waiting >> hart) % 2 == 1
@@ -49,7 +49,7 @@ fn waits(waiting: u64, hart: u32) -> bool
 // Inlined, since most harts of a round have no turn.
 #[inline(always)]
 fn take_turn_of_waiting(h: &mut Hart, state: &mut SharedState, hart: u32, phase: SerialRound)
-    requires few { hart < 64 }
+    requires few { hart < MOST_HARTS }
     requires hart { hart < length state.old.reservations }
     requires pages { HasSpares (budget_of phase.waiting hart phase.budget) state.old.pages }
     requires console { HasRoom (budget_of phase.waiting hart phase.budget) state.old.console }

@@ -1,11 +1,12 @@
 use Rattle.std.proofs.Common.{◌≡◌, ℕ, ◌+◌, ◌≤◌, ◌<◌, List, [], ◌∷◌, ◌++◌, length, take, set, sym, ap, ◌∙◌, arith, subst, length-set}
 use Rattle.std.proofs.lemmas.List.{length-take-le}
 use Rattle.round_schedule.specs.declared.access.Access.{Access}
+use Rattle.round_schedule.specs.declared.bounds.TheConstants.{MOST_HARTS}
 use Rattle.serial_phase.specs.Turns.{Turns, turns_at, open_turn, AreEnds}
 use Rattle.serial_phase.proofs.TurnLists.{ends_close, turns_close, open_close, length-turns_at, take_one}
 use Rattle.serial_phase.proofs.log.SerialLog.end_turn.Goals as goal
 
-few : (xs : List Access) (ends : List ℕ) (turns : ℕ) (closed : List (List Access)) → turns ≤ 64 → length ends ≡ 64 → turns_at xs 0 (take turns ends) ≡ closed → length closed < 64 → turns < 64
+few : (xs : List Access) (ends : List ℕ) (turns : ℕ) (closed : List (List Access)) → turns ≤ MOST_HARTS → length ends ≡ MOST_HARTS → turns_at xs 0 (take turns ends) ≡ closed → length closed < MOST_HARTS → turns < MOST_HARTS
 few xs ends turns closed most size is less = omega (arith, ap length is, length-turns_at xs 0 (take turns ends), length-take-le turns ends (omega arith))
 
 pub bounds-self-inside-self-inside : goal.bounds-self-inside-self-inside
