@@ -15,17 +15,17 @@ use Rattle.execution_checker.specs.declared.verdict.Verdict.TheVariants.{Allowed
 use Rattle.execution_checker.specs.Allowed.{Allows, Follows, IsVerdict}
 use Rattle.weak_executions.specs.AllowedEnds.{IsAllowedEnd, console_of, memory_of}
 
-opened_at : (image : Loaded) (ps : List Piece) → bytes_from ps 0 (4096 * image.pages) ≡ image.bytes →
+pub opened_at : (image : Loaded) (ps : List Piece) → bytes_from ps 0 (4096 * image.pages) ≡ image.bytes →
     All (λ (p : Piece). p.start + length p.bytes.items ≤ 4096 * image.pages) ps → (x : ℕ) → opening_at (map laid ps) x ≡ slice_index image.bytes x
 opened_at image ps bytes within x =
     opening_is (map laid ps) (4096 * image.pages) (λ y l. none_beyond ps (4096 * image.pages) y within l) x
     ∙ ap (λ (bs : List ℕ). slice_index bs x) (bytes_of_pieces ps (4096 * image.pages) ∙ bytes)
 
-pub allowed_end : (image : Loaded) (input : List ℕ) (harts : List Hart) (ps : List Piece) (o : List Laid) (m : Memory) (script : List ScriptedStep) (order : List ℕ)
-    (p q : Standing) (v : Verdict) (ends : List Hart) (output : List ℕ) → bytes_from ps 0 (4096 * image.pages) ≡ image.bytes →
-    All (λ (r : Piece). r.start + length r.bytes.items ≤ 4096 * image.pages) ps → o ≡ map laid ps → m ≡ memory_of image → p ≡ at_start harts (console_of input) →
-    IsVerdict v m (opening_at o) script order p q → v ≡ Allowed → ends ≡ q.harts → output ≡ q.console.output → IsAllowedEnd image input harts ends output
-allowed_end image input harts ps o m script order p q v ends output bytes within opened memory start judged allowed harts_are output_is = record {
+pub allowed_end : (image : Loaded) (input : List ℕ) (harts : List Hart) (o : List Laid) (m : Memory) (script : List ScriptedStep) (order : List ℕ)
+    (p q : Standing) (v : Verdict) (ends : List Hart) (output : List ℕ) → ((x : ℕ) → opening_at o x ≡ slice_index image.bytes x) → m ≡ memory_of image →
+    p ≡ at_start harts (console_of input) → IsVerdict v m (opening_at o) script order p q → ends ≡ q.harts → output ≡ q.console.output → v ≡ Allowed →
+    IsAllowedEnd image input harts ends output
+allowed_end image input harts o m script order p q v ends output opened memory start judged harts_are output_is allowed = record {
   script = script;
   order = order;
   end = q;
@@ -38,8 +38,5 @@ allowed_end image input harts ps o m script order p q v ends output bytes within
     both : Follows m script p q × Allows (opening_at o) q order
     both = subst (λ (w : Verdict). IsVerdict w m (opening_at o) script order p q) allowed judged
 
-    at_byte : (x : ℕ) → opening_at o x ≡ slice_index image.bytes x
-    at_byte x = ap (λ (ls : List Laid). opening_at ls x) opened ∙ opened_at image ps bytes within x
-
     same : opening_at o ≡ (λ x. slice_index image.bytes x)
-    same = λ i. λ x. at_byte x i
+    same = λ i. λ x. opened x i

@@ -1,12 +1,14 @@
-ghost use Rattle.std.specs.Prelude.{◌≡◌, ◌≤◌, All, IfOk, length};
-ghost use Rattle.trace.specs.Traced.{HasForm};
+ghost use Rattle.std.specs.Prelude.{◌≡◌, ℕ, ◌≤◌, [], All, IfOk, length, slice_index};
+ghost use Rattle.trace.specs.Traced.{HasForm, opening_at};
+ghost use Rattle.execution_checker.specs.Allowed.{IsVerdict};
 ghost use Rattle.execution_checker.specs.declared.verdict.Verdict.TheVariants.{Allowed};
 ghost use Rattle.execution.specs.Progressing.{at_start};
 ghost use Rattle.weak_executions.specs.AllowedEnds.{IsAllowedEnd, console_of, memory_of};
 
 use crate::opening::{Opening, copies_of, shared};
 use departures::{Placing, Record};
-use execution_checker::{Execution, Verdict, check_execution, follow};
+use elf_loader::Image;
+use execution_checker::{Execution, ScriptedStep, Verdict, check_execution, follow};
 use hart_step::Hart;
 use memory_order::Order;
 use pages::OutOfMemory;
@@ -55,10 +57,29 @@ pub fn check_by(
         IsAllowedEnd opening.now.image.now opening.now.input.now opening.now.harts.now f.harts.items f.output.items) }
 {
     let order = record.order_by(alloc, placing)?;
-    let pieces = copies_of(alloc, opening.image.pieces())?;
-    let trace = Trace::new(alloc, pieces);
+    let trace = opening_trace(alloc, opening.image)?;
     let mut execution = opened(alloc, opening)?;
-    let verdict = check_execution(alloc, &mut execution, record.script(), &trace, &order)?;
+    let finding = find(alloc, &mut execution, record.script(), &trace, &order);
+    drop(execution);
+    finding
+}
+
+/// What the checker finds of a script and an order, where nothing is done yet.
+fn find(
+    alloc: Global,
+    execution: &mut Execution,
+    script: &[ScriptedStep],
+    opening: &Trace,
+    order: &Order,
+) -> Result<Finding, OutOfMemory>
+    requires no_instructions { execution.old.standing.instructions ≡ [] }
+    requires no_events { execution.old.standing.events ≡ [] }
+    ensures { IfOk result (λ f. IsVerdict f.verdict execution.old.memory (opening_at opening.now.opening)
+        script.now order.now.0.items execution.old.standing execution.new.standing ×
+        (f.harts.items ≡ execution.new.standing.harts) ×
+        (f.output.items ≡ execution.new.standing.console.output)) }
+{
+    let verdict = check_execution(alloc, execution, script, opening, order)?;
     let harts = Vec::from_slice(alloc, execution.harts())?;
     let output = Vec::from_slice(alloc, execution.output())?;
     Ok(Finding {
@@ -82,12 +103,28 @@ pub fn is_allowed(
     requires { length opening.now.harts.now ≤ 64 }
 {
     let order = record.order_by(alloc, placing)?;
-    let trace = Trace::new(alloc, copies_of(alloc, opening.image.pieces())?);
+    let trace = opening_trace(alloc, opening.image)?;
     let mut execution = opened(alloc, opening)?;
+    let allowed = allows(alloc, &mut execution, record.script(), &trace, &order);
+    drop(execution);
+    allowed
+}
+
+/// Whether RVWMO allows what a script leads to from where nothing is done yet, in an order of its memory operations.
+fn allows(
+    alloc: Global,
+    execution: &mut Execution,
+    script: &[ScriptedStep],
+    opening: &Trace,
+    order: &Order,
+) -> Result<bool, OutOfMemory>
+    requires no_instructions { execution.old.standing.instructions ≡ [] }
+    requires no_events { execution.old.standing.events ≡ [] }
+{
     execution.is_small();
-    match follow(&mut execution, record.script())? {
+    match follow(execution, script)? {
         Some(_) => Ok(false),
-        None => meets_rvwmo(alloc, &trace, &execution, &order),
+        None => meets_rvwmo(alloc, opening, execution, order),
     }
 }
 
@@ -104,6 +141,15 @@ fn meets_rvwmo(
     let instructions = execution.instructions();
     let events = execution.events();
     check_instructions(alloc, opening, instructions, events, order)
+}
+
+/// The bytes that memory opens with.
+fn opening_trace(alloc: Global, image: &Image) -> Result<Trace, OutOfMemory>
+    ensures { IfOk result (λ t. (x : ℕ) → opening_at t.opening x ≡ slice_index image.now.bytes x) }
+{
+    let pieces = copies_of(alloc, image.pieces())?;
+    let trace = Trace::new(alloc, pieces);
+    Ok(trace)
 }
 
 /// The execution of a guest in which nothing is done yet.

@@ -1,7 +1,7 @@
 ghost use Rattle.std.specs.Prelude.{◌≤◌, length};
 
 use crate::opening::{Opening, shared};
-use departures::{Departure, Draws, EarlyStores, Stream};
+use departures::{Departure, Draws, EarlyStores, Record, Stream};
 use pages::OutOfMemory;
 use plan_family::Family;
 use std::alloc::Global;
@@ -70,14 +70,39 @@ impl<'a> WeakGuest<'a> {
         is_recorded: bool,
         bounds: Bounds,
     ) -> Result<TimedMachine, OutOfMemory> {
-        if let Some(stream) = Draws::early(self.seed, number) {
-            if let Some(machine) = self.execute_early(number, is_recorded, bounds, stream)? {
-                return Ok(machine);
-            }
+        let early = match Draws::early(self.seed, number) {
+            Some(stream) => self.execute_early(number, is_recorded, bounds, stream)?,
+            None => None,
+        };
+        match early {
+            Some(machine) => Ok(machine),
+            None => self.ran(self.machine(number, is_recorded)?, number, bounds),
         }
-        let mut machine = self.machine(number, is_recorded)?;
-        machine.run_within(&self.rows(number)?, bounds)?;
-        Ok(machine)
+    }
+
+    /// A machine after it has gone by the plan of a number.
+    fn ran(
+        &self,
+        machine: TimedMachine,
+        number: u32,
+        bounds: Bounds,
+    ) -> Result<TimedMachine, OutOfMemory> {
+        let mut machine = machine;
+        match self.run(&mut machine, number, bounds) {
+            Ok(()) => Ok(machine),
+            Err(error) => Err(error),
+        }
+    }
+
+    /// Has a machine go by the plan of a number.
+    fn run(
+        &self,
+        machine: &mut TimedMachine,
+        number: u32,
+        bounds: Bounds,
+    ) -> Result<(), OutOfMemory> {
+        let rows = self.rows(number)?;
+        machine.run_within(&rows, bounds)
     }
 
     /// The execution by the plan of a number with just these departures, as far as they can be.
@@ -94,8 +119,7 @@ impl<'a> WeakGuest<'a> {
     ) -> Result<TimedMachine, OutOfMemory> {
         let mut machine = self.machine(number, is_recorded)?;
         machine.depart(departures);
-        machine.run_within(&self.rows(number)?, bounds)?;
-        Ok(machine)
+        self.ran(machine, number, bounds)
     }
 
     /// The execution of a number in which a store comes early, if one of those that are tried can.
@@ -107,14 +131,28 @@ impl<'a> WeakGuest<'a> {
         stream: Stream,
     ) -> Result<Option<TimedMachine>, OutOfMemory> {
         let ordinary = self.ordinary(number)?;
-        let Some(record) = ordinary.record() else {
-            return Ok(None);
+        let early = match ordinary.record() {
+            Some(record) => self.execute_like(record, number, is_recorded, bounds, stream),
+            None => Ok(None),
         };
+        drop(ordinary);
+        early
+    }
+
+    /// The same, where this record is of what the plan does without departures.
+    fn execute_like(
+        &self,
+        record: &Record,
+        number: u32,
+        is_recorded: bool,
+        bounds: Bounds,
+        stream: Stream,
+    ) -> Result<Option<TimedMachine>, OutOfMemory> {
         let stores = EarlyStores::of(self.alloc, record)?;
         let mut stream = stream;
         for _ in 0..TRIES {
             let Some(departure) = stores.draw(&mut stream) else {
-                return Ok(None);
+                break;
             };
             let departures = Vec::from_slice(self.alloc, &[departure])?;
             let machine = self.execute_with(number, departures, is_recorded, bounds)?;
@@ -160,17 +198,11 @@ impl<'a> WeakGuest<'a> {
     /// `OutOfMemory` alone.
     fn machine(&self, number: u32, is_recorded: bool) -> Result<TimedMachine, OutOfMemory> {
         let draws = Draws::of_number(self.seed, number);
+        let fences = Vec::from_slice(self.alloc, self.fences)?;
         let shared = shared(self.alloc, &self.opening)?;
-        let mut machine = TimedMachine::new(
-            self.alloc,
-            self.opening.harts,
-            shared,
-            draws,
-            is_recorded,
-        )?;
-        if !self.fences.is_empty() {
-            machine.assume_fences(Vec::from_slice(self.alloc, self.fences)?);
-        }
+        let harts = self.opening.harts;
+        let mut machine = TimedMachine::new(self.alloc, harts, shared, draws, is_recorded)?;
+        machine.assume_fences(fences);
         Ok(machine)
     }
 }

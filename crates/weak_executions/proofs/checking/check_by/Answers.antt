@@ -1,12 +1,12 @@
-use Rattle.std.proofs.Common.{◌∙◌}
+use Rattle.std.proofs.lemmas.Result.{IfOk-weaker}
 use Rattle.weak_executions.proofs.Judged.{allowed_end}
 use Rattle.weak_executions.proofs.checking.check_by.Goals as goal
 
 pub returns : goal.returns
-returns c = λ allowed.
+returns c =
     let o = c.args.opening.now in
     let begun = c.in_ok-execution.execution in
-    allowed_end o.image.now o.input.now o.harts.now c.pieces.result.now c.new-trace.result.opening begun.memory c.script.result.now c.in_ok-order.order.0.items begun.standing
-    c.check_execution.new.execution.standing c.in_ok-verdict.verdict c.in_ok-harts.harts.items c.in_ok-output.output.items c.pieces.ensures.bytes c.pieces.ensures.within
-    (c.new-trace.ensures.opening ∙ c.in_ok-pieces.ensures) c.in_ok-execution.ensures.memory c.in_ok-execution.ensures.standing c.in_ok-verdict.ensures allowed
-    (c.in_ok-harts.ensures.items ∙ c.harts.ensures.harts) (c.in_ok-output.ensures.items ∙ c.output.ensures)
+    IfOk-weaker c.find-finding.result _ _
+    (λ f h. allowed_end o.image.now o.input.now o.harts.now c.in_ok-trace.trace.opening begun.memory c.script.result.now c.in_ok-order.order.0.items begun.standing
+    c.find-finding.new.execution.standing f.verdict f.harts.items f.output.items c.in_ok-trace.ensures c.in_ok-execution.ensures.memory c.in_ok-execution.ensures.standing h.0 h.1 h.2)
+    c.find-finding.ensures
