@@ -2,8 +2,10 @@ ghost use Rattle.std.specs.Prelude.{◌≡◌, ℕ, ◌≤◌, [], All, IfOk, le
 ghost use Rattle.trace.specs.Traced.{HasForm, opening_at};
 ghost use Rattle.execution_checker.specs.Allowed.{IsVerdict};
 ghost use Rattle.execution_checker.specs.declared.verdict.Verdict.TheVariants.{Allowed};
+ghost use Rattle.elf_loader.specs.Image.{memory_of};
 ghost use Rattle.execution.specs.Progressing.{at_start};
-ghost use Rattle.weak_executions.specs.AllowedEnds.{IsAllowedEnd, console_of, memory_of};
+ghost use Rattle.serial_phase.specs.Opening.{opening_console};
+ghost use Rattle.weak_executions.specs.AllowedEnds.{IsAllowedEnd};
 
 use crate::opening::{Opening, copies_of, shared};
 use departures::{Placing, Record};
@@ -12,6 +14,7 @@ use execution_checker::{Execution, ScriptedStep, Verdict, check_execution, follo
 use hart_step::Hart;
 use memory_order::Order;
 use pages::OutOfMemory;
+use round_schedule::MOST_HARTS;
 use rule_checker::check_instructions;
 use std::alloc::Global;
 use trace::Trace;
@@ -34,7 +37,7 @@ pub struct Finding {
 ///
 /// `OutOfMemory` alone.
 pub fn check(alloc: Global, opening: &Opening<'_>, record: &Record) -> Result<Finding, OutOfMemory>
-    requires { length opening.now.harts.now ≤ 64 }
+    requires { length opening.now.harts.now ≤ MOST_HARTS }
     ensures { IfOk result (λ f. f.verdict ≡ Allowed →
         IsAllowedEnd opening.now.image.now opening.now.input.now opening.now.harts.now f.harts.items f.output.items) }
 {
@@ -52,7 +55,7 @@ pub fn check_by(
     record: &Record,
     placing: Placing,
 ) -> Result<Finding, OutOfMemory>
-    requires { length opening.now.harts.now ≤ 64 }
+    requires { length opening.now.harts.now ≤ MOST_HARTS }
     ensures { IfOk result (λ f. f.verdict ≡ Allowed →
         IsAllowedEnd opening.now.image.now opening.now.input.now opening.now.harts.now f.harts.items f.output.items) }
 {
@@ -100,7 +103,7 @@ pub fn is_allowed(
     record: &Record,
     placing: Placing,
 ) -> Result<bool, OutOfMemory>
-    requires { length opening.now.harts.now ≤ 64 }
+    requires { length opening.now.harts.now ≤ MOST_HARTS }
 {
     let order = record.order_by(alloc, placing)?;
     let trace = opening_trace(alloc, opening.image)?;
@@ -154,10 +157,10 @@ fn opening_trace(alloc: Global, image: &Image) -> Result<Trace, OutOfMemory>
 
 /// The execution of a guest in which nothing is done yet.
 fn opened(alloc: Global, opening: &Opening<'_>) -> Result<Execution, OutOfMemory>
-    requires { length opening.now.harts.now ≤ 64 }
+    requires { length opening.now.harts.now ≤ MOST_HARTS }
     ensures memory { IfOk result (λ e. e.memory ≡ memory_of opening.now.image.now) }
     ensures standing { IfOk result (λ e. e.standing ≡
-        at_start opening.now.harts.now (console_of opening.now.input.now)) }
+        at_start opening.now.harts.now (opening_console opening.now.input.now)) }
 {
     let harts = Vec::from_slice(alloc, opening.harts)?;
     let shared = shared(alloc, opening)?;

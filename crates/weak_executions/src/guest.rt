@@ -4,6 +4,7 @@ use crate::opening::{Opening, shared};
 use departures::{Departure, Draws, EarlyStores, Record, Stream};
 use pages::OutOfMemory;
 use plan_family::Family;
+use round_schedule::MOST_HARTS;
 use std::alloc::Global;
 use timed_machine::{Bounds, TimedMachine};
 
@@ -31,7 +32,7 @@ impl<'a> WeakGuest<'a> {
     /// A guest whose executions go so far, by the plans and the departures of a seed.
     pub fn new(alloc: Global, opening: Opening<'a>, seed: u64, bounds: Bounds) -> WeakGuest<'a>
         requires some { 1 ≤ length opening.harts.now }
-        requires few { length opening.harts.now ≤ 64 }
+        requires few { length opening.harts.now ≤ MOST_HARTS }
     {
         WeakGuest {
             alloc,
