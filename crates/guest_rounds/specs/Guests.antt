@@ -6,10 +6,11 @@ use Rattle.round_schedule.specs.declared.span.Span.{Span}
 use Rattle.round_schedule.specs.ByReservations.{Reserving, reserving_round}
 use Rattle.round_schedule.specs.Schedule.{State}
 use Rattle.round_planner.specs.Quotas.{Planned, quotas_of}
-use Rattle.elf_loader.specs.Image.{Loaded}
+use Rattle.elf_loader.specs.Image.{Loaded, memory_of}
 use Rattle.hart_step.specs.declared.hart.Hart.{Hart}
 use Rattle.hart_step.specs.Console.{ConsoleState}
 use Rattle.hart_step.specs.Words.{words_of}
+use Rattle.serial_phase.specs.Opening.{opening_console}
 use Rattle.serial_phase.specs.declared.shared.SharedState.{SharedState}
 use Rattle.guest_rounds.specs.Opening.{opening_harts}
 
@@ -34,9 +35,9 @@ abbrev pub opening_guest : Loaded → List ℕ → ℕ → Guest
 opening_guest image input n = record {
   harts = opening_harts image.entry n 0 n;
   shared = record {
-    memory = record { bytes = image.bytes; code = image.code };
+    memory = memory_of image;
     reservations = replicate n None;
-    console = record { input = input; place = 0; output = [] };
+    console = opening_console input;
   };
 }
 

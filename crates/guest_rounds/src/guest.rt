@@ -1,9 +1,9 @@
 ghost use Rattle.std.specs.Prelude.{◌≡◌, ◌≤◌, length, IfOk};
 ghost use Rattle.guest_rounds.specs.Guests.{opening_guest};
 
-use crate::decoding::decode_code;
 use crate::opening::opening_harts;
 use crate::spare_lists::SpareLists;
+use decoded_ranges::decode_around;
 use elf_loader::Image;
 use hart_step::{DecodedCode, Hart};
 use pages::{OutOfMemory, Pages};
@@ -43,17 +43,11 @@ impl GuestState {
         requires { count ≤ MOST_HARTS }
         ensures { IfOk result (λ g. g ≡ opening_guest image.now input.items count) }
     {
-        let pages = Pages::new(alloc, image.pages(), image.pieces(), image.code())?;
+        let pages = image.to_pages(alloc)?;
         let entry = image.entry();
-        let code = decode_code(alloc, &pages, entry)?;
+        let code = decode_around(alloc, &pages, entry)?;
         let harts = opening_harts(alloc, entry, count)?;
-        let shared = SharedState {
-            pages,
-            code,
-            reservations: Reservations::new(count),
-            console: Console::new(alloc, input),
-            log: SerialLog::new(alloc),
-        };
+        let shared = SharedState::open(alloc, pages, code, input, count);
         Ok(GuestState {
             harts,
             spare: SpareLists::new(alloc),

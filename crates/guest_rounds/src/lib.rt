@@ -3,7 +3,6 @@
 
 mod committing;
 mod crew;
-mod decoding;
 mod events;
 mod guest;
 mod half_round;
@@ -24,6 +23,7 @@ pub use guest::GuestState;
 pub use half_round::HalfRound;
 pub use keeper::{EventKeeper, NoTrace};
 pub use lasting_crew::LastingCrew;
+pub use opening::opening_harts;
 pub use room::make_turn_room;
 pub use round::RoundCounts;
 pub use tally::Tally;

@@ -1,11 +1,11 @@
-ghost use Rattle.std.specs.Prelude.{◌≡◌, ◌∷◌, [], ◌++◌, ◌≤◌, IfOk, OnOk};
+ghost use Rattle.std.specs.Prelude.{◌≡◌, ◌∷◌, [], ◌++◌, length, IfOk, OnOk};
 ghost use Rattle.guest_rounds.specs.Opening.{opening_hart, opening_harts};
 
 use hart_step::Hart;
 use pages::OutOfMemory;
 use std::alloc::Global;
 
-/// A hart before the first round: x10 is its number, x11 is the number of harts.
+/// A hart before its first instruction: x10 is its number, x11 is the number of harts.
 fn opening_hart(entry: u64, harts: u32, number: u32) -> Hart
     ensures { result ≡ opening_hart entry harts number }
 {
@@ -20,9 +20,14 @@ fn opening_hart(entry: u64, harts: u32, number: u32) -> Hart
     }
 }
 
-/// All harts before the first round.
-pub(crate) fn opening_harts(alloc: Global, entry: u64, harts: u32) -> Result<Vec<Hart>, OutOfMemory>
-    ensures { IfOk result (λ hs. hs.items ≡ opening_harts entry harts 0 harts) }
+/// So many harts before their first instructions, in hart order.
+///
+/// # Errors
+///
+/// `OutOfMemory` alone.
+pub fn opening_harts(alloc: Global, entry: u64, harts: u32) -> Result<Vec<Hart>, OutOfMemory>
+    ensures harts { IfOk result (λ hs. hs.items ≡ opening_harts entry harts 0 harts) }
+    ensures count { IfOk result (λ hs. length hs.items ≡ harts) }
 {
     let mut opened = Vec::new(alloc);
     for number in 0..harts {
