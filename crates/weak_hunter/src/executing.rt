@@ -33,12 +33,23 @@ pub(crate) fn execute_block<R: Threads + Sync>(
     requires few { first + count < 2 ^ 32 }
     ensures { IfOk result (λ v. length v.items ≡ count) }
 {
-    let mut slots = empty_slots(guest.alloc, count)?;
     let next = AtomicU64::new(0);
     let work = |_worker: usize|
         requires { first + count < 2 ^ 32 }
     { work(guest, first, count, &next) };
     let lists = thread::map_indices(rt, guest.alloc, workers as usize, &work)?;
+    filled_slots(guest.alloc, count, lists)
+}
+
+/// A slot for each execution, with what was found in it.
+fn filled_slots(
+    alloc: Global,
+    count: u32,
+    lists: Vec<Vec<Found>>,
+) -> Result<Vec<Option<Ending>>, OutOfMemory>
+    ensures { IfOk result (λ v. length v.items ≡ count) }
+{
+    let mut slots = empty_slots(alloc, count)?;
     for list in lists {
         put(&mut slots, list);
     }
@@ -76,15 +87,21 @@ fn work(guest: &Guest<'_>, first: u32, count: u32, next: &AtomicU64) -> Vec<Foun
         if index >= u64::from(count) {
             break;
         }
-        let index = index as u32;
-        let Ok(ending) = executed(guest, first + index) else {
-            break;
-        };
-        if found.push(Found { index, ending }).is_err() {
+        if !find(guest, first, index as u32, &mut found) {
             break;
         }
     }
     found
+}
+
+/// Finds the ending of the execution at an index of a block. False: memory is refused.
+fn find(guest: &Guest<'_>, first: u32, index: u32, found: &mut Vec<Found>) -> bool
+    requires { first + index < 2 ^ 32 }
+{
+    match executed(guest, first + index) {
+        Ok(ending) => found.push(Found { index, ending }).is_ok(),
+        Err(_) => false,
+    }
 }
 
 /// The ending of the execution of a number.

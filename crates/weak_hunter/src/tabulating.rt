@@ -50,13 +50,18 @@ fn add_endings(
 {
     for index in 0..slots.len() {
         let before = done + index as u32;
-        let ending = match slots[index].take() {
-            Some(ending) => ending,
-            None => executed(guest, first + before)?,
-        };
+        let ending = ending_in(guest, slots[index].take(), first + before)?;
         add_ending(guest.alloc, rows, first, before, ending)?;
     }
     Ok(())
+}
+
+/// The ending in a slot, or where that is empty the one that the execution of its number is found to have.
+fn ending_in(guest: &Guest<'_>, slot: Option<Ending>, number: u32) -> Result<Ending, OutOfMemory> {
+    match slot {
+        Some(ending) => Ok(ending),
+        None => executed(guest, number),
+    }
 }
 
 /// Adds the next ending.

@@ -15,6 +15,7 @@ ghost use Rattle.weak_hunter.specs.declared.error.WeakHuntError.TheVariants.{Hun
 
 use crate::bounds::bounds_of;
 use crate::error::WeakHuntError;
+use departures::Record;
 use elf_loader::Image;
 use execution_scripts::{
     ExecutionFile, Finding, ScriptedGuest, Verdict, check_file, execution_of_script, opening_harts,
@@ -56,7 +57,8 @@ pub fn weak_execution(
 {
     check_guest(settings)?;
     let loaded = load(alloc, settings.format, image, settings.pages)?;
-    let machine = executed(alloc, &loaded, input, settings, steps, number)?;
+    let made = executed(alloc, &loaded, input, settings, steps, number);
+    drop(loaded);
     let guest = ScriptedGuest {
         format: settings.format,
         pages: settings.pages,
@@ -64,10 +66,24 @@ pub fn weak_execution(
         image,
         input,
     };
-    match confirmed_file(alloc, &guest, &machine)? {
+    match confirmed_execution(alloc, &guest, made?)? {
         Some(file) => Ok(file),
         None => Err(WeakHuntError::Unconfirmed(number)),
     }
+}
+
+/// The execution of a machine as a file, if the checker of executions allows it. The machine is let go.
+fn confirmed_execution(
+    alloc: Global,
+    guest: &ScriptedGuest<'_>,
+    machine: TimedMachine,
+) -> Result<Option<ExecutionFile>, OutOfMemory>
+    ensures { IfOk result (λ found. IfSome found (λ f. IsFileFor guest.now (as_recorded f) ×
+        IsAllowedFile (as_recorded f))) }
+{
+    let file = confirmed_file(alloc, guest, &machine);
+    drop(machine);
+    file
 }
 
 /// The machine that made the execution of a number, with its record.
@@ -104,15 +120,27 @@ fn confirmed_file(
     let Some(record) = machine.record() else {
         return Ok(None);
     };
-    let order = record.order(alloc)?;
-    let Ok(file) = execution_of_script(alloc, guest, record.script(), &order) else {
-        // The guest was opened before, so nothing but memory is wanting.
-        return Err(OutOfMemory);
-    };
+    let file = file_of(alloc, guest, record)?;
     if is_allowed(alloc, &file)? {
         Ok(Some(file))
     } else {
         Ok(None)
+    }
+}
+
+/// The execution of a record as a file.
+fn file_of(
+    alloc: Global,
+    guest: &ScriptedGuest<'_>,
+    record: &Record,
+) -> Result<ExecutionFile, OutOfMemory>
+    ensures { IfOk result (λ f. IsFileFor guest.now (as_recorded f)) }
+{
+    let order = record.order(alloc)?;
+    match execution_of_script(alloc, guest, record.script(), &order) {
+        Ok(file) => Ok(file),
+        // The guest was opened before, so nothing but memory is wanting.
+        Err(_) => Err(OutOfMemory),
     }
 }
 
