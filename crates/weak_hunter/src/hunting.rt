@@ -15,7 +15,7 @@ use crate::confirming::confirm;
 use crate::error::WeakHuntError;
 use crate::guest::Guest;
 use crate::tabulating::tabulate;
-use execution_scripts::opening_harts;
+use guest_rounds::opening_harts;
 use host_io::Sink;
 use hunt_table::write_table;
 use hunter::{HuntSettings, check_hunt, check_ranges};

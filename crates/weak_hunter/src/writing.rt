@@ -18,11 +18,13 @@ use crate::error::WeakHuntError;
 use departures::Record;
 use elf_loader::Image;
 use execution_scripts::{
-    ExecutionFile, Finding, ScriptedGuest, Verdict, check_file, execution_of_script, opening_harts,
+    ExecutionFile, Finding, ScriptedGuest, Verdict, check_file, execution_of_script,
 };
+use guest_rounds::opening_harts;
 use hunter::{HuntSettings, check_guest};
 use machine::load;
 use pages::OutOfMemory;
+use round_schedule::MOST_HARTS;
 use std::alloc::Global;
 use timed_machine::TimedMachine;
 use weak_executions::{Opening, WeakGuest};
@@ -96,7 +98,7 @@ fn executed(
     number: u32,
 ) -> Result<TimedMachine, OutOfMemory>
     requires some_harts { 1 ≤ settings.now.harts }
-    requires few_harts { settings.now.harts ≤ 64 }
+    requires few_harts { settings.now.harts ≤ MOST_HARTS }
 {
     let harts = opening_harts(alloc, image.entry(), settings.harts)?;
     let opening = Opening {
