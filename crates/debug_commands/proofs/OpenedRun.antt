@@ -1,8 +1,8 @@
 -- The run that the settings of a recording's run lead to is that of the recording, and what refuses it refuses that.
 use Rattle.std.proofs.Common.{◌≡◌, ◌⊎◌, ◌+◌, ◌^◌, ◌≤◌, ℕ, Err, IfErr, IfOk, List, None, Ok, Result, inl, inr, ⊎_elim}
 use Rattle.debug_commands.specs.Debuggees.{HasSettings, IsRefusal, IsRunOf}
-use Rattle.gdb_resumes.specs.Sessions.{IsReady, handed, image_of}
-use Rattle.gdb_resumes.specs.declared.debugged.Debugged.{Debugged}
+use Rattle.gdb_runs.specs.Sessions.{IsReady, handed, image_of}
+use Rattle.gdb_runs.specs.declared.debugged.Debugged.{Debugged}
 use Rattle.gdb_session.specs.Serving.{begun}
 use Rattle.host_io.specs.declared.error.RunError.{RunError}
 use Rattle.host_io.specs.declared.error.RunError.TheVariants as refusals

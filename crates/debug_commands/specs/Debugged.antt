@@ -11,8 +11,8 @@ use Rattle.execution_session.specs.Serving.{HasEnded as HasLeft, Served as Serve
 use Rattle.execution_session.specs.Sessions.{looked_at}
 use Rattle.execution_session.specs.declared.past.Past.{Past}
 use Rattle.gdb_packets.specs.Stream.{next_of}
-use Rattle.gdb_resumes.specs.Sessions.{OfRun}
-use Rattle.gdb_resumes.specs.declared.debugged.Debugged.{Debugged}
+use Rattle.gdb_runs.specs.Sessions.{OfRun}
+use Rattle.gdb_runs.specs.declared.debugged.Debugged.{Debugged}
 use Rattle.gdb_session.specs.Serving.{HasEnded, Served, Talking}
 use Rattle.gdb_talk.specs.Serving.{Refused}
 use Rattle.host_io.specs.Taken.{BeganText}

@@ -7,8 +7,8 @@ use Rattle.execution_file.specs.Grammar.{IsExecution}
 use Rattle.execution_file.specs.Recorded.{Recorded as Said}
 use Rattle.execution_scripts.specs.declared.checking.Finding.TheVariants.{Judged}
 use Rattle.execution_session.specs.Opening.{IsAgainst, IsPastOf}
-use Rattle.gdb_resumes.specs.Sessions.{IsReady, handed, image_of}
-use Rattle.gdb_resumes.specs.declared.debugged.Debugged.{Debugged}
+use Rattle.gdb_runs.specs.Sessions.{IsReady, handed, image_of}
+use Rattle.gdb_runs.specs.declared.debugged.Debugged.{Debugged}
 use Rattle.gdb_session.specs.Serving.{begun}
 use Rattle.host_io.specs.declared.error.RunError.{RunError}
 use Rattle.host_io.specs.declared.error.RunError.TheVariants as refusals

@@ -5,7 +5,7 @@ ghost use Rattle.run_settings.specs.Settings.{settings_fault};
 
 use execution_scripts::Checked;
 use execution_session::Opened;
-use gdb_resumes::Debugged;
+use gdb_runs::Debugged;
 use host_io::RunError;
 use machine::{Format, Settings};
 use past_commands::{Past, PastFailure, PastFiles, execution_of, read_past};

@@ -6,31 +6,16 @@ use Rattle.hart_step.specs.declared.hart.Hart.{Hart}
 use Rattle.machine.specs.Machine.{Running, after_rounds}
 use Rattle.moments.specs.Sights.{Sight}
 use Rattle.seeing.specs.Bytes.{bytes_from}
-use Rattle.round_steps.specs.declared.moment.Moment.{Moment}
-use Rattle.round_steps.specs.declared.point.Point.{Point}
-use Rattle.round_steps.specs.OwnParts.{waits_at}
-use Rattle.round_steps.specs.Shown.{shown_at_point}
-use Rattle.gdb_replies.specs.Replies.{checksum_text, note_text, part_of, stop_text, thread_element, thread_list_begin, thread_list_end}
+use Rattle.run_points.specs.declared.moment.Moment.{Moment}
+use Rattle.run_points.specs.declared.point.Point.{Point}
+use Rattle.shown_harts.specs.OwnParts.{waits_at, uncommitted}
+use Rattle.shown_harts.specs.Shown.{seen}
+use Rattle.gdb_replies.specs.Replies.{checksum_text, note_text, part_of, thread_element, thread_list_begin, thread_list_end}
 use Rattle.gdb_replies.specs.Words.{numbers_of, register_text, registers_text}
 use Rattle.gdb_replies.specs.declared.note.ThreadNote.{ThreadNote}
-use Rattle.gdb_replies.specs.declared.stop_reply.Reason.{Reason}
 use Rattle.gdb_answers.specs.Checksums.{checksum_of}
-use Rattle.gdb_answers.specs.Stores.{bytes_covered, uncommitted}
-use Rattle.gdb_sights.specs.Told.{note_of, registers_of, stop_reply_of}
-
--- hart i at a point of the run
-abbrev pub seen : Running → Point → ℕ → Option (Sight Hart)
-seen m at i = shown_at_point (after_rounds at.moment.rounds m) at.side at.moment.place i
-
--- `E01` where there is no such hart
-abbrev pub or_missing : Option (Sight Hart) → (Sight Hart → List ℕ) → List ℕ
-or_missing None f = codes "E01"
-or_missing (Some s) f = f s
-
--- a text, and another one where it is empty
-abbrev pub text_or : List ℕ → List ℕ → List ℕ
-text_or none [] = none
-text_or none (b ∷ bs) = b ∷ bs
+use Rattle.gdb_answers.specs.Stores.{bytes_covered}
+use Rattle.gdb_sights.specs.Told.{note_of, or_missing, registers_of}
 
 -- a register by its number, and `E01` where there is none
 abbrev pub number_answer : Option ℕ → List ℕ
@@ -75,9 +60,6 @@ thread_entries m at (suc i) = thread_entries m at i ++ thread_entry (note_at m a
 
 abbrev pub thread_list_answer : Running → Point → ℕ → ℕ → ℕ → List ℕ
 thread_list_answer m at harts offset count = part_of (thread_list_begin ++ thread_entries m at harts ++ thread_list_end) offset count
-
-abbrev pub stop_answer : Reason → ℕ → Option (Sight Hart) → List ℕ
-stop_answer why i s = or_missing s (λ (x : Sight Hart). stop_text (stop_reply_of why i x.hart))
 
 -- the checksum of so many bytes, and `E01` where memory ends before
 abbrev pub sum_answer : ℕ → List ℕ → List ℕ

@@ -1,16 +1,16 @@
 -- What the user's commands are answered, each as the digits of its text.
-use Rattle.std.specs.Prelude.{ℕ, zero, suc, ◌-◌, List, [], ◌∷◌, ◌++◌, length, drop, codes, Option, Some, None}
+use Rattle.std.specs.Prelude.{ℕ, zero, suc, List, [], ◌++◌, codes, Option, Some, None}
 use Rattle.hex.specs.Hex.{encode_lower}
 use Rattle.hart_step.specs.declared.hart.Hart.{Hart}
 use Rattle.machine.specs.Machine.{Running}
 use Rattle.moments.specs.Sights.{Sight}
 use Rattle.round_planner.specs.Quotas.{Planned, quota_of}
-use Rattle.round_steps.specs.declared.moment.Moment.{Moment}
-use Rattle.round_steps.specs.declared.point.Point.{Point}
+use Rattle.run_points.specs.declared.moment.Moment.{Moment}
+use Rattle.run_points.specs.declared.point.Point.{Point}
 use Rattle.gdb_replies.specs.CommandTexts.{hart_line, plan_head, quota_text, where_line}
 use Rattle.gdb_replies.specs.declared.note.ThreadNote.{ThreadNote}
-use Rattle.gdb_sights.specs.Told.{note_of}
-use Rattle.gdb_answers.specs.Answers.{note_at, or_missing}
+use Rattle.gdb_sights.specs.Told.{note_of, or_missing}
+use Rattle.gdb_answers.specs.Answers.{note_at}
 
 -- the hart of the moment, and its pc
 abbrev pub where_answer : Moment → Option (Sight Hart) → List ℕ
@@ -38,14 +38,3 @@ plan_text p round = plan_head round p.budget ++ quotas_text p round p.harts ++ c
 
 abbrev pub plan_answer : Planned → ℕ → List ℕ
 plan_answer p round = encode_lower (plan_text p round)
-
--- what the program has put out: the last 32,000 bytes of it
-abbrev pub most_put_out : ℕ
-most_put_out = 32000
-
-abbrev pub output_text : List ℕ → List ℕ
-output_text [] = codes "no output\n"
-output_text (b ∷ bs) = drop (length (b ∷ bs) - most_put_out) (b ∷ bs)
-
-abbrev pub output_answer : List ℕ → List ℕ
-output_answer bs = encode_lower (output_text bs)

@@ -6,25 +6,26 @@ ghost use Rattle.host_io.specs.declared.error.RunError.TheVariants as refusals;
 ghost use Rattle.machine.specs.Machine.{Running};
 ghost use Rattle.machine.specs.Untraced.{IsUntraced};
 ghost use Rattle.gdb_packets.specs.Writing.{packet_text};
-ghost use Rattle.gdb_replies.specs.CommandTexts.{plan_head, where_line};
+ghost use Rattle.gdb_replies.specs.CommandTexts.{where_line};
 ghost use Rattle.hex.specs.Hex.{encode_lower};
-ghost use Rattle.gdb_answers.specs.Answers.{note_at, seen};
+ghost use Rattle.gdb_answers.specs.Answers.{note_at};
+ghost use Rattle.shown_harts.specs.Shown.{seen};
 ghost use Rattle.gdb_answers.specs.Commands.{hart_entry, hart_lines, harts_answer, plan_answer, plan_text, quotas_text, where_answer};
 ghost use Rattle.round_schedule.specs.Bounds.{AreWorkers};
 
-use crate::look::Look;
 use crate::noting::note_at;
 use gdb_replies::{
     Reply, ThreadNote, add_hart_line, add_plan_head, add_quota, add_where_line, write_reply,
 };
-use gdb_sights::note_of;
+use gdb_sights::{Look, note_of};
 use host_io::{RunError, Sink};
 use pages::OutOfMemory;
 use round_planner::Plan;
-use round_steps::{Point, Timeline};
+use run_points::Point;
 use std::alloc::Global;
 use std::sync::Wait;
 use std::thread::Threads;
+use timelines::Timeline;
 
 /// Answers where the run stands at a point, of its moment's hart. It may wait.
 ///

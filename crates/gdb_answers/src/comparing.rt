@@ -4,17 +4,18 @@ ghost use Rattle.host_io.specs.declared.error.RunError.TheVariants as refusals;
 ghost use Rattle.machine.specs.Machine.{Running};
 ghost use Rattle.machine.specs.Untraced.{IsUntraced};
 ghost use Rattle.gdb_packets.specs.Writing.{packet_text};
-ghost use Rattle.gdb_answers.specs.Answers.{checksum_answer, seen, sum_answer};
+ghost use Rattle.gdb_answers.specs.Answers.{checksum_answer, sum_answer};
+ghost use Rattle.shown_harts.specs.Shown.{seen};
 ghost use Rattle.round_schedule.specs.Bounds.{AreWorkers};
 
 use crate::checksum::checksum_of;
-use crate::look::Look;
 use gdb_replies::{Reply, write_reply};
+use gdb_sights::Look;
 use host_io::{RunError, Sink};
-use round_steps::Timeline;
 use std::alloc::Global;
 use std::sync::Wait;
 use std::thread::Threads;
+use timelines::Timeline;
 
 /// Answers with the checksum of so many bytes of memory from an address on, as a hart sees them at a point. It may wait.
 ///

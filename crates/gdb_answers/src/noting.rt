@@ -6,14 +6,13 @@ ghost use Rattle.gdb_answers.specs.Answers.{note_at};
 ghost use Rattle.round_schedule.specs.Bounds.{AreWorkers};
 
 use crate::covering::bytes_covered;
-use crate::look::Look;
 use gdb_replies::ThreadNote;
-use gdb_sights::note_of;
+use gdb_sights::{Look, note_of};
 use host_io::RunError;
-use round_steps::Timeline;
 use std::alloc::Global;
 use std::sync::Wait;
 use std::thread::Threads;
+use timelines::Timeline;
 
 /// What is said of a hart at a point; nothing where there is no such hart. It may wait.
 ///

@@ -7,14 +7,14 @@ ghost use Rattle.gdb_answers.specs.Answers.{note_at, thread_entry, thread_entrie
 ghost use Rattle.gdb_replies.specs.Replies.{thread_list_begin, thread_list_end};
 ghost use Rattle.round_schedule.specs.Bounds.{AreWorkers};
 
-use crate::look::Look;
 use crate::noting::note_at;
 use gdb_replies::{Reply, Window, add_thread, begin_thread_list, end_thread_list, write_reply};
+use gdb_sights::Look;
 use host_io::{RunError, Sink};
-use round_steps::Timeline;
 use std::alloc::Global;
 use std::sync::Wait;
 use std::thread::Threads;
+use timelines::Timeline;
 
 /// Answers with a part of the list of so many threads at a point. It may wait.
 ///

@@ -5,19 +5,23 @@ use Rattle.std.specs.Prelude.{IfSome, nat_lt, ◌==◌, if◌then◌else◌}
 use Rattle.machine.specs.Machine.{after_rounds}
 use Rattle.watching.specs.declared.watchpoint.Way.{Way}
 use Rattle.watching.specs.declared.watchpoint.Way.TheVariants.{On, Back}
-use Rattle.round_steps.specs.declared.point.Point.{Point}
-use Rattle.round_steps.specs.declared.point.Told.{Told}
+use Rattle.run_points.specs.declared.point.Point.{Point}
+use Rattle.round_steps.specs.declared.told.Told.{Told}
 use Rattle.round_steps.specs.declared.points.Telling.{Telling}
-use Rattle.round_steps.specs.Points.{next_point_of, point_before, previous_point_of}
+use Rattle.round_steps.specs.Points.{next_point_of, previous_point_of}
+use Rattle.run_points.specs.Points.{point_before}
 use Rattle.round_steps.proofs.PointsFound.{last_at_first, none_at_first}
 use Rattle.gdb_resumes.specs.declared.searching.Reach.{Reach}
 use Rattle.gdb_resumes.specs.declared.searching.Searched.{Searched}
 use Rattle.gdb_resumes.specs.declared.searching.Searched.TheVariants.{GoesOn, Stands}
-use Rattle.gdb_resumes.specs.declared.session.Standing.{Standing}
-use Rattle.gdb_resumes.specs.Sessions.{Recorded, State}
-use Rattle.gdb_resumes.specs.Searches.{AsksFor, IsPassed, all_told, begins_at, left_of, nearest_of, rounds_left}
-use Rattle.gdb_resumes.specs.Resumes.{Continues, SearchesTo, at_goal, comes_first, end_of, goal_or, goal_passed, goal_reached, is_ahead, is_passed, told_at, told_or}
-use Rattle.gdb_resumes.proofs.Within.{IsIn, next_is_in, previous_is_in, rounds_after}
+use Rattle.gdb_runs.specs.declared.session.Standing.{Standing}
+use Rattle.gdb_runs.specs.Sessions.{Recorded, State}
+use Rattle.gdb_runs.specs.Wanted.{AsksFor, all_told, nearest_of}
+use Rattle.gdb_resumes.specs.Searches.{IsPassed, begins_at, left_of}
+use Rattle.gdb_runs.specs.Ways.{rounds_left}
+use Rattle.gdb_resumes.specs.Resumes.{Continues, SearchesTo, comes_first, goal_or, goal_passed, goal_reached, is_ahead, is_passed}
+use Rattle.gdb_runs.specs.Standings.{at_goal, end_of, told_at, told_or}
+use Rattle.gdb_runs.proofs.Within.{IsIn, next_is_in, previous_is_in, rounds_after}
 
 pub begins_within : (rounds : ℕ) (way : Way) (n : ℕ) → n ≤ rounds → begins_at rounds way n ≤ rounds
 begins_within rounds On n le = le

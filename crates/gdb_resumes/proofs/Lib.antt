@@ -1,8 +1,3 @@
-pub mod Runs
 pub mod Passing
-pub mod Within
-pub mod Harts
-pub mod Recording
-pub mod Arriving
+pub mod Passed
 pub mod Come
-pub mod Further

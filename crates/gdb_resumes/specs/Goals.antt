@@ -3,19 +3,18 @@ use Rattle.std.specs.Prelude.{◌≡◌, ℕ, ◌-◌, ◌<◌, ◌==◌, ◌&&�
 use Rattle.hart_step.specs.declared.hart.Hart.{Hart}
 use Rattle.machine.specs.Machine.{after_rounds}
 use Rattle.round_schedule.specs.declared.event.Phase.TheVariants.{Parallel}
-use Rattle.round_steps.specs.declared.moment.Moment.{Moment}
-use Rattle.round_steps.specs.declared.point.Point.{Point}
-use Rattle.round_steps.specs.declared.point.Side.TheVariants.{After}
-use Rattle.round_steps.specs.declared.point.Told.{Told}
+use Rattle.run_points.specs.declared.moment.Moment.{Moment}
+use Rattle.run_points.specs.declared.point.Point.{Point}
+use Rattle.run_points.specs.declared.point.Side.TheVariants.{After}
+use Rattle.round_steps.specs.declared.told.Told.{Told}
 use Rattle.round_steps.specs.declared.points.Telling.{Telling}
-use Rattle.round_steps.specs.Moments.{moment_in}
-use Rattle.round_steps.specs.Places.{place_in}
+use Rattle.run_points.specs.Moments.{moment_in, place_in}
 use Rattle.round_steps.specs.Points.{next_point_of}
-use Rattle.gdb_resumes.specs.declared.debugged.Debugged.{Debugged}
+use Rattle.gdb_runs.specs.declared.debugged.Debugged.{Debugged}
 use Rattle.gdb_resumes.specs.declared.goals.Goal.{Goal}
 use Rattle.gdb_resumes.specs.declared.goals.Goal.TheVariants as goals
-use Rattle.gdb_resumes.specs.Searches.{AsksFor, only_of}
-use Rattle.gdb_resumes.specs.Sessions.{Recorded, hart_seen, start_of}
+use Rattle.gdb_runs.specs.Wanted.{AsksFor, only_of}
+use Rattle.gdb_runs.specs.Sessions.{Recorded, hart_seen, start_of}
 
 -- rounds are numbered from 1
 abbrev pub is_there : ℕ → ℕ → Bool

@@ -1,4 +1,3 @@
-pub mod Sessions
 pub mod Searches
 pub mod Goals
 pub mod Resumes

@@ -3,15 +3,14 @@
 ghost use Rattle.std.specs.Prelude.{◌≡◌, ◌<◌, ◌≤◌, IfOk, IfErr};
 ghost use Rattle.host_io.specs.declared.error.RunError.TheVariants as refusals;
 ghost use Rattle.gdb_resumes.specs.Goals.{IsAtCount, IsGoalWithin, IsInRound, IsPlaceOf, goal_at_round, goal_if, is_at, is_there, place_from};
-ghost use Rattle.gdb_resumes.specs.Sessions.{OfRun};
+ghost use Rattle.gdb_runs.specs.Sessions.{OfRun};
 ghost use Rattle.round_schedule.specs.Bounds.{AreWorkers};
 
-use crate::asking::only_of;
-use crate::debugged::Debugged;
-use crate::session::start_of;
+use gdb_runs::{Debugged, only_of, start_of};
 use host_io::RunError;
 use round_schedule::Phase;
-use round_steps::{Moment, Place, Point, Side, Told};
+use round_steps::Told;
+use run_points::{Moment, Place, Point, Side};
 use std::alloc::Global;
 use std::sync::Wait;
 use std::thread::Threads;

@@ -1,23 +1,24 @@
 //! A search for what is told next, which goes on a stretch of rounds at a time.
 
-ghost use Rattle.std.specs.Prelude.{◌≡◌, ◌==◌, if◌then◌else◌, ◌≤◌, ◌<◌, ◌+◌, ◌-◌, ◌^◌, IfOk, IfErr, IfSome};
+ghost use Rattle.std.specs.Prelude.{◌≡◌, ◌==◌, if◌then◌else◌, ◌≤◌, ◌<◌, ◌+◌, ◌-◌, ◌^◌, IfOk, IfErr};
 ghost use Rattle.host_io.specs.declared.error.RunError.TheVariants as refusals;
 ghost use Rattle.watching.specs.declared.watchpoint.Way.TheVariants.{On, Back};
-ghost use Rattle.gdb_resumes.specs.Searches.{IsPassed, begins_at, rounds_at, rounds_left};
-ghost use Rattle.gdb_resumes.specs.Resumes.{IsSearched, IsUnderWay, SearchesTo, end_of, interrupted};
+ghost use Rattle.gdb_resumes.specs.Searches.{IsPassed, begins_at};
+ghost use Rattle.gdb_runs.specs.Ways.{rounds_at, rounds_left};
+ghost use Rattle.gdb_resumes.specs.Resumes.{IsSearched, IsUnderWay, SearchesTo, interrupted};
+ghost use Rattle.gdb_runs.specs.Standings.{end_of};
 ghost use Rattle.gdb_resumes.specs.declared.searching.Searched.TheVariants.{GoesOn, Stands};
-ghost use Rattle.gdb_resumes.specs.Sessions.{IsReady, OfRun, state_of};
+ghost use Rattle.gdb_runs.specs.Sessions.{IsReady, OfRun, state_of};
 ghost use Rattle.round_schedule.specs.Bounds.{AreWorkers};
 
-use crate::asking::all_told;
-use crate::debugged::Debugged;
 use crate::going::goal_passed;
-use crate::pace::{MOST_STEPS, stretch_of};
-use crate::resuming::{end_of, tell};
-use crate::session::{Session, Standing, start_of};
 use gdb_replies::Reason;
+use gdb_runs::{
+    Debugged, MOST_STEPS, Session, Standing, all_told, end_of, start_of, stretch_of, tell,
+};
 use host_io::RunError;
-use round_steps::{Point, Side, Telling, Told};
+use round_steps::{Telling, Told};
+use run_points::{Point, Side};
 use std::alloc::Global;
 use std::sync::Wait;
 use std::thread::Threads;

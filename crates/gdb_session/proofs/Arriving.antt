@@ -9,9 +9,9 @@ use Rattle.gdb_requests.specs.declared.command.Command.TheVariants as commands
 use Rattle.gdb_requests.specs.declared.request.Request.{Request}
 use Rattle.gdb_requests.specs.declared.request.Request.TheVariants as requests
 use Rattle.gdb_replies.specs.CommandTexts.{hits_text}
-use Rattle.gdb_answers.specs.declared.look.Look.{Look}
-use Rattle.gdb_resumes.specs.Sessions.{Recorded, State}
-use Rattle.gdb_resumes.specs.declared.session.Standing.{Standing}
+use Rattle.gdb_sights.specs.declared.look.Look.{Look}
+use Rattle.gdb_runs.specs.Sessions.{Recorded, State}
+use Rattle.gdb_runs.specs.declared.session.Standing.{Standing}
 use Rattle.gdb_session.specs.Answers.{Answered, Answers, AnswersBy, Replied, Resumes, command_text, reply_at, with_hits}
 
 pub both : {T E P Q R : Type 0} (r : Result T E) → (P → Q → R) → OnOk r P → OnOk r Q → OnOk r R

@@ -4,9 +4,9 @@ use Rattle.gdb_packets.specs.Reads.{TellsBy}
 use Rattle.gdb_packets.specs.Stream.{Told, next_of}
 use Rattle.gdb_requests.specs.declared.request.Request.{Request}
 use Rattle.gdb_requests.specs.declared.request.Request.TheVariants as requests
-use Rattle.gdb_resumes.specs.declared.debugged.Debugged.{Debugged}
-use Rattle.gdb_resumes.specs.Sessions.{OfRun, Recorded, State, recorded_of}
-use Rattle.gdb_resumes.proofs.Runs.{of_same}
+use Rattle.gdb_runs.specs.declared.debugged.Debugged.{Debugged}
+use Rattle.gdb_runs.specs.Sessions.{OfRun, Recorded, State, recorded_of}
+use Rattle.gdb_runs.proofs.Runs.{of_same}
 use Rattle.gdb_talk.proofs.Going.{serves_more}
 use Rattle.gdb_talk.specs.Saying.{refused_text}
 use Rattle.gdb_session.specs.Serving.{Hears, Served, Talking, begun, Replies, RepliesTo}

@@ -6,10 +6,10 @@ use Rattle.gdb_packets.specs.Stream.{Told, Accepted, Again, Interrupt, Packet, S
 use Rattle.gdb_packets.specs.Writing.{answer_to}
 use Rattle.gdb_requests.specs.declared.request.Request.{Request}
 use Rattle.gdb_resumes.specs.declared.searching.Search.{Search}
-use Rattle.gdb_resumes.specs.declared.session.Standing.{Standing}
+use Rattle.gdb_runs.specs.declared.session.Standing.{Standing}
 use Rattle.gdb_resumes.specs.Resumes.{Continues, interrupted}
 use Rattle.gdb_resumes.specs.Searches.{HasCome}
-use Rattle.gdb_resumes.specs.Sessions.{Recorded, State}
+use Rattle.gdb_runs.specs.Sessions.{Recorded, State}
 use Rattle.gdb_session.specs.Answers.{stands_packets}
 use Rattle.gdb_talk.specs.Asking.{asked_by}
 use Rattle.gdb_talk.specs.Saying.{asks_text, refused_text}

@@ -6,14 +6,14 @@ use Rattle.gdb_packets.specs.Writing.{packet_text}
 use Rattle.gdb_requests.specs.declared.command.Command.{Command}
 use Rattle.gdb_requests.specs.declared.command.Command.TheVariants as commands
 use Rattle.gdb_requests.specs.declared.request.Request.TheVariants as requests
-use Rattle.round_steps.specs.declared.point.Point.{Point}
-use Rattle.round_steps.specs.Points.{same_moment}
-use Rattle.gdb_resumes.specs.declared.debugged.Debugged.{Debugged}
+use Rattle.run_points.specs.declared.point.Point.{Point}
+use Rattle.run_points.specs.Points.{same_moment}
+use Rattle.gdb_runs.specs.declared.debugged.Debugged.{Debugged}
 use Rattle.gdb_resumes.specs.declared.goals.Goal.{Goal}
 use Rattle.gdb_resumes.specs.declared.goals.Goal.TheVariants as goals
-use Rattle.gdb_resumes.specs.declared.session.Standing.{Standing}
+use Rattle.gdb_runs.specs.declared.session.Standing.{Standing}
 use Rattle.gdb_resumes.specs.Goals.{IsGoalWithin}
-use Rattle.gdb_resumes.specs.Sessions.{IsReady, Recorded, State}
+use Rattle.gdb_runs.specs.Sessions.{IsReady, Recorded, State}
 use Rattle.gdb_session.specs.Answers.{Answered, AnswersBy, GoesTo, IsGoal, Sets, command_text, goal_text, goal_then, is_goto, is_hits, or_else, with_goal}
 
 abbrev pub IsThere : Debugged → Point → Type 0

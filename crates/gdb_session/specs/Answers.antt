@@ -23,21 +23,25 @@ use Rattle.gdb_replies.specs.Words.{thread_text, threads_text}
 use Rattle.gdb_replies.specs.declared.reply.Reply.TheVariants as replies
 use Rattle.gdb_replies.specs.declared.stop_reply.Reason.{Reason}
 use Rattle.gdb_replies.specs.declared.stop_reply.Reason.TheVariants as reasons
-use Rattle.gdb_answers.specs.Answers.{checksum_answer, memory_answer, note_answer, note_at, register_answer, registers_answer, seen, stop_answer, thread_list_answer}
-use Rattle.gdb_answers.specs.Buffers.{buffer_answer}
-use Rattle.gdb_answers.specs.Commands.{harts_answer, output_answer, plan_answer, where_answer}
-use Rattle.gdb_answers.specs.Events.{event_answer, event_packet}
+use Rattle.gdb_answers.specs.Answers.{checksum_answer, memory_answer, note_answer, note_at, register_answer, registers_answer, thread_list_answer}
+use Rattle.gdb_events.specs.Stops.{stop_answer}
+use Rattle.shown_harts.specs.Shown.{seen}
+use Rattle.gdb_events.specs.Buffers.{buffer_answer}
+use Rattle.gdb_answers.specs.Commands.{harts_answer, plan_answer, where_answer}
+use Rattle.gdb_events.specs.Output.{output_answer}
+use Rattle.gdb_events.specs.Events.{event_answer, event_packet}
 use Rattle.gdb_answers.specs.Files.{file_answer}
-use Rattle.gdb_answers.specs.Reserved.{reservations_answer}
-use Rattle.round_steps.specs.declared.point.Point.{Point}
-use Rattle.round_steps.specs.Moments.{is_before}
-use Rattle.round_steps.specs.Points.{same_moment}
+use Rattle.gdb_events.specs.Reserved.{reservations_answer}
+use Rattle.run_points.specs.declared.point.Point.{Point}
+use Rattle.run_points.specs.Moments.{is_before}
+use Rattle.run_points.specs.Points.{same_moment}
 use Rattle.gdb_resumes.specs.declared.goals.Goal.{Goal}
 use Rattle.gdb_resumes.specs.declared.goals.Goal.TheVariants as goals
-use Rattle.gdb_resumes.specs.declared.session.Standing.{Standing}
+use Rattle.gdb_runs.specs.declared.session.Standing.{Standing}
 use Rattle.gdb_resumes.specs.Goals.{IsPlaceOf, goal_at_round}
-use Rattle.gdb_resumes.specs.Sessions.{Recorded, State}
-use Rattle.gdb_resumes.specs.Resumes.{Continues, Steps, StepsAlone, StepsBack, StepsIn}
+use Rattle.gdb_runs.specs.Sessions.{Recorded, State}
+use Rattle.gdb_resumes.specs.Resumes.{Continues}
+use Rattle.gdb_steps.specs.Steps.{Steps, StepsAlone, StepsBack, StepsIn}
 
 -- threads are numbered from 1
 abbrev pub hart_of_thread : ℕ → ℕ → Option ℕ

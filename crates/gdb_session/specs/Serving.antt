@@ -12,10 +12,10 @@ use Rattle.watching.specs.declared.watchpoint.Way.{Way}
 use Rattle.watching.specs.declared.watchpoint.Way.TheVariants.{On, Back}
 use Rattle.gdb_session.specs.Answers.{Answers, stands_packets}
 use Rattle.gdb_resumes.specs.declared.searching.Search.{Search}
-use Rattle.gdb_resumes.specs.declared.session.Standing.{Standing}
+use Rattle.gdb_runs.specs.declared.session.Standing.{Standing}
 use Rattle.gdb_resumes.specs.Resumes.{interrupted}
 use Rattle.gdb_resumes.specs.Searches.{HasCome}
-use Rattle.gdb_resumes.specs.Sessions.{Recorded, State, start_of, state_of}
+use Rattle.gdb_runs.specs.Sessions.{Recorded, State, start_of, state_of}
 use Rattle.gdb_session.specs.declared.talk.Talk.{Talk}
 
 -- a debugger's session, what it asked for last, and the search for the answer that is under way

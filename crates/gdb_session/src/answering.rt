@@ -4,7 +4,7 @@ ghost use Rattle.std.specs.Prelude.{◌≡◌, ◌++◌, ℕ, List, Err, IfErr, 
 ghost use Rattle.host_io.specs.declared.error.RunError.TheVariants as refusals;
 ghost use Rattle.gdb_requests.specs.declared.request.Request.TheVariants as requests;
 ghost use Rattle.gdb_session.specs.Answers.{Answered, Moves, Resumes};
-ghost use Rattle.gdb_resumes.specs.Sessions.{IsReady, OfRun, state_of};
+ghost use Rattle.gdb_runs.specs.Sessions.{IsReady, OfRun, state_of};
 
 use crate::goto::go_to;
 use crate::hits::set_hits;
@@ -13,7 +13,8 @@ use crate::selecting::{hart_of_thread, say_done};
 use crate::watchpoints::{add_watch, remove_watch, watch_of};
 use gdb_replies::{Reply, write_reply};
 use gdb_requests::{Command, Request};
-use gdb_resumes::{Debugged, Session, Standing, step, step_alone, step_back, step_in};
+use gdb_runs::{Debugged, Session, Standing};
+use gdb_steps::{step, step_alone, step_back, step_in};
 use gdb_talk::{add_stop, remove_stop};
 use host_io::{RunError, Sink};
 use std::alloc::Global;

@@ -5,11 +5,11 @@ ghost use Rattle.host_io.specs.declared.error.RunError.TheVariants as refusals;
 ghost use Rattle.hex.specs.Hex.{encode_lower};
 ghost use Rattle.gdb_packets.specs.Writing.{packet_text};
 ghost use Rattle.gdb_replies.specs.CommandTexts.{hits_text};
-ghost use Rattle.gdb_resumes.specs.Sessions.{IsReady, state_of};
+ghost use Rattle.gdb_runs.specs.Sessions.{IsReady, state_of};
 ghost use Rattle.gdb_session.specs.Answers.{with_hits};
 
 use gdb_replies::{Reply, write_reply};
-use gdb_resumes::{Debugged, Session};
+use gdb_runs::{Debugged, Session};
 use host_io::{RunError, Sink};
 use std::alloc::Global;
 

@@ -6,9 +6,9 @@ ghost use Rattle.run_settings.specs.Settings.{IsImageCause, IsPlan, IsReason, Re
 ghost use Rattle.machine.specs.Untraced.{IsUntraced};
 ghost use Rattle.round_planner.specs.Quotas.{Planned};
 ghost use Rattle.gdb_session.specs.Serving.{begun};
-ghost use Rattle.gdb_resumes.specs.Sessions.{IsReady, handed, image_of, is_elf};
+ghost use Rattle.gdb_runs.specs.Sessions.{IsReady, handed, image_of, is_elf};
 
-use gdb_resumes::Debugged;
+use gdb_runs::Debugged;
 use host_io::RunError;
 use machine::{Format, Settings, load, prepare_untraced};
 use pages::{MOST_PAGES, Range};

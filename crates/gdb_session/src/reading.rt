@@ -1,22 +1,25 @@
 //! Requests that change nothing.
 
-ghost use Rattle.std.specs.Prelude.{◌≡◌, ◌≤◌, ◌<◌, ◌++◌, Err, OnOk, ◌+◌, ◌^◌, IfSome, Some};
+ghost use Rattle.std.specs.Prelude.{◌≡◌, ◌<◌, ◌++◌, Err, OnOk, ◌+◌, ◌^◌, IfSome, Some};
 ghost use Rattle.std.specs.Option.{option_map};
 ghost use Rattle.host_io.specs.declared.error.RunError.TheVariants as refusals;
 ghost use Rattle.gdb_packets.specs.Writing.{packet_text};
 ghost use Rattle.gdb_replies.specs.Replies.{payload_of};
 ghost use Rattle.gdb_session.specs.Answers.{Replied, command_text, fixed_text, hart_of_thread, is_goto, is_hit, is_hits, is_setting, name_answer, note_text_of, stands_packets, stands_text};
-ghost use Rattle.gdb_resumes.specs.Sessions.{IsReady, OfRun};
+ghost use Rattle.gdb_runs.specs.Sessions.{IsReady, OfRun};
 
 use crate::selecting::{hart_of_thread, say_done};
 use gdb_answers::{
-    Look, answer_buffer, answer_checksum, answer_event, answer_harts, answer_hit, answer_memory,
-    answer_note, answer_output, answer_plan, answer_register, answer_registers,
-    answer_reservations, answer_stop, answer_threads, answer_where, file_reply,
+    answer_checksum, answer_harts, answer_memory, answer_note, answer_plan, answer_register,
+    answer_registers, answer_threads, answer_where, file_reply,
+};
+use gdb_events::{
+    answer_buffer, answer_event, answer_hit, answer_output, answer_reservations, answer_stop,
 };
 use gdb_replies::{Reason, Reply, Window, command_help, target_description, write_reply};
 use gdb_requests::{Command, IMAGE_NAME, Request};
-use gdb_resumes::{Debugged, Standing};
+use gdb_runs::{Debugged, Standing};
+use gdb_sights::Look;
 use host_io::{RunError, Sink};
 use std::alloc::Global;
 use std::sync::Wait;

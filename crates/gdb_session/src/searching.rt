@@ -2,11 +2,12 @@
 
 ghost use Rattle.std.specs.Prelude.{◌≡◌, ◌++◌, ℕ, List, IfOk, IfSome, OnOk};
 ghost use Rattle.gdb_resumes.specs.Resumes.{IsUnderWay, interrupted};
-ghost use Rattle.gdb_resumes.specs.Sessions.{IsReady, OfRun, state_of};
+ghost use Rattle.gdb_runs.specs.Sessions.{IsReady, OfRun, state_of};
 ghost use Rattle.gdb_session.specs.Serving.{RepliesOrGoesOn, StandsOrLost, request_for};
 
 use crate::reading::say_stop;
-use gdb_resumes::{Debugged, Search, Searched, Session, Standing};
+use gdb_resumes::{Search, Searched};
+use gdb_runs::{Debugged, Session, Standing};
 use gdb_talk::{ask, refuse};
 use host_io::{RunError, Sink};
 use std::alloc::Global;

@@ -1,11 +1,11 @@
-ghost use Rattle.std.specs.Prelude.{◌≡◌, ◌∷◌, ◌++◌, ℕ, List, IfOk, IfSome, OnOk};
+ghost use Rattle.std.specs.Prelude.{◌≡◌, ℕ, List, IfOk, IfSome, OnOk};
 ghost use Rattle.gdb_resumes.specs.Resumes.{IsUnderWay};
-ghost use Rattle.gdb_resumes.specs.Sessions.{IsReady, OfRun, state_of};
+ghost use Rattle.gdb_runs.specs.Sessions.{IsReady, OfRun, state_of};
 ghost use Rattle.gdb_session.specs.Serving.{HasEnded, Served, ServesOn, Talking, begun, talking};
 
 use crate::talk::Talk;
 use gdb_packets::Reader;
-use gdb_resumes::Debugged;
+use gdb_runs::Debugged;
 use gdb_talk::refuse_lost;
 use host_io::{RunError, Sink, Source};
 use std::alloc::Global;

@@ -4,7 +4,7 @@ ghost use Rattle.std.specs.Prelude.{◌≡◌, ◌++◌, ℕ, List, IfSome, None
 ghost use Rattle.host_io.specs.declared.error.RunError.TheVariants as refusals;
 ghost use Rattle.gdb_packets.specs.Views.{told_in};
 ghost use Rattle.gdb_resumes.specs.Resumes.{IsUnderWay, interrupted};
-ghost use Rattle.gdb_resumes.specs.Sessions.{IsReady, OfRun, state_of};
+ghost use Rattle.gdb_runs.specs.Sessions.{IsReady, OfRun, state_of};
 ghost use Rattle.gdb_session.specs.Serving.{HearsBy, HearsWhile, Replies, RepliesTo, StandsOrLost, TakesUp, begun, request_for, talking};
 ghost use Rattle.gdb_talk.specs.Asking.{asked_by, ends};
 
@@ -12,7 +12,8 @@ use crate::answering::answer;
 use crate::searching::{begin_search, interrupt, search_on};
 use gdb_packets::{Item, acknowledge};
 use gdb_requests::Request;
-use gdb_resumes::{Debugged, Search, Session};
+use gdb_resumes::Search;
+use gdb_runs::{Debugged, Session};
 use gdb_talk::{ask, asked_by, has_left, refuse};
 use host_io::{RunError, Sink};
 use std::alloc::Global;

@@ -1,10 +1,11 @@
 -- What a debugger is told of a hart at a moment.
-use Rattle.std.specs.Prelude.{ℕ, ◌+◌, ◌==◌, ◌||◌, false, if◌then◌else◌, List, slice_set, slice_index, Option, Some, None}
+use Rattle.std.specs.Prelude.{ℕ, ◌+◌, ◌==◌, ◌||◌, false, if◌then◌else◌, List, codes, slice_set, slice_index, Option, Some, None}
 use Rattle.hart_step.specs.declared.hart.Hart.{Hart}
 use Rattle.hart_step.specs.declared.hart.Stop.{Stop}
+use Rattle.moments.specs.Sights.{Sight}
 use Rattle.walking.specs.Stops.{is_one_of}
-use Rattle.round_steps.specs.declared.moment.Moment.{Moment}
-use Rattle.round_steps.specs.Moments.{phase_number}
+use Rattle.run_points.specs.declared.moment.Moment.{Moment}
+use Rattle.run_points.specs.Moments.{phase_number}
 use Rattle.gdb_replies.specs.declared.note.ThreadNote.{ThreadNote}
 use Rattle.gdb_replies.specs.declared.registers.Registers.{Registers}
 use Rattle.gdb_replies.specs.declared.stop_reply.Reason.{Reason}
@@ -42,3 +43,8 @@ reason_of stops h = reason_by_stop h.stop (if is_one_of stops h.pc then Breakpoi
 -- thread i + 1 stands there for a reason
 abbrev pub stop_reply_of : Reason → ℕ → Hart → StopReply
 stop_reply_of why i h = record { reason = why; thread = i + 1; pc = h.pc; sp = slice_index h.x 2; fp = slice_index h.x 8 }
+
+-- what is answered of a hart as it is seen, and `E01` where there is no such hart
+abbrev pub or_missing : Option (Sight Hart) → (Sight Hart → List ℕ) → List ℕ
+or_missing None f = codes "E01"
+or_missing (Some s) f = f s

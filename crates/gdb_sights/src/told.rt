@@ -1,11 +1,9 @@
 ghost use Rattle.std.specs.Prelude.{◌≡◌, ◌+◌, ◌<◌, ◌^◌};
-ghost use Rattle.round_steps.specs.Moments.{phase_number};
 ghost use Rattle.gdb_sights.specs.Told.{note_of, reason_of, registers_of, signal_of, stop_reply_of, told_stop};
 
 use gdb_replies::{Reason, Registers, StopReply, ThreadNote};
 use hart_step::{Hart, Stop};
-use round_schedule::Phase;
-use round_steps::Moment;
+use run_points::{Moment, phase_number};
 
 /// The numbers that a hart is shown with at a moment.
 pub fn registers_of(hart: &Hart, moment: Moment) -> Registers
@@ -18,17 +16,7 @@ pub fn registers_of(hart: &Hart, moment: Moment) -> Registers
         pc: hart.pc,
         round: u64::from(moment.rounds) + 1,
         place: hart.done,
-        phase: phase_number(moment.place.phase),
-    }
-}
-
-/// 0 in the parallel phase, and 1 from the commit on.
-fn phase_number(phase: Phase) -> u64
-    ensures { result ≡ phase_number phase }
-{
-    match phase {
-        Phase::Parallel => 0,
-        Phase::Serial => 1,
+        phase: u64::from(phase_number(moment.place.phase)),
     }
 }
 

@@ -2,9 +2,6 @@ pub mod Turning
 pub mod TurnsAlong
 pub mod Searching
 pub mod RoundParts
-pub mod ShownThere
-pub mod OwnPartsDone
-pub mod Stretches
 pub mod PointsFound
 pub mod Silent
 pub mod GoingOn

@@ -16,16 +16,17 @@ use Rattle.moments.specs.Moves.{events_left, moves_of}
 use Rattle.moments.proofs.Left.{moves_leave}
 use Rattle.walking.specs.declared.asked.Asked.{Asked}
 use Rattle.watching.specs.declared.watchpoint.Watchpoint.{Watchpoint}
-use Rattle.round_steps.specs.declared.point.Point.{Point}
-use Rattle.round_steps.specs.declared.point.Told.{Told}
+use Rattle.run_points.specs.declared.point.Point.{Point}
+use Rattle.round_steps.specs.declared.told.Told.{Told}
 use Rattle.watching.specs.declared.hits.Hit.{Hit}
 use Rattle.watching.specs.declared.watchpoint.Way.{Way}
 use Rattle.watching.specs.declared.watchpoint.Way.TheVariants.{On, Back}
 use Rattle.watching.specs.Watches.{hits_of}
-use Rattle.round_steps.specs.declared.place.Place.{Place}
+use Rattle.run_points.specs.declared.place.Place.{Place}
 use Rattle.round_steps.specs.Places.{round_places}
 use Rattle.round_steps.specs.Searching.{FindsNearest}
-use Rattle.round_steps.specs.Points.{break_point, earliest, first_in, hit_point, ends, last_in, later, latest, nearest_in, nearest_point_of, nearest_told, next_point_of, or_else, point_before, points_of, previous_point_of, sooner}
+use Rattle.round_steps.specs.Points.{break_point, earliest, first_in, hit_point, ends, last_in, later, latest, nearest_in, nearest_point_of, nearest_told, next_point_of, or_else, points_of, previous_point_of, sooner}
+use Rattle.run_points.specs.Points.{point_before}
 
 -- ---- on the way on
 

@@ -11,18 +11,13 @@ use Rattle.round_planner.specs.Quotas.{Planned, quota_of, quotas_of}
 use Rattle.hart_step.specs.declared.hart.Hart.{Hart}
 use Rattle.hart_step.specs.Buffered.{Overlay, seen_through}
 use Rattle.machine.specs.Machine.{Running}
-use Rattle.machine.specs.Untraced.{IsUntraced, Untraced}
 use Rattle.walking.specs.Hits.{harts_in_part, hits_from}
 use Rattle.walking.specs.Stops.{sight_of}
 use Rattle.walking.specs.declared.asked.Asked.{Asked}
-use Rattle.round_steps.specs.declared.place.Place.{Place}
-use Rattle.round_steps.specs.Places.{Begun, begun_of, parallel_places, part_counts, part_places, past_at, serial_places, turn_at, turn_comes, turn_of, turn_places, turns_of}
-
--- the item that stands at a place
-pub got : {A : Type 0} (xs : List A) (i : ℕ) (x d : A) → i < length xs → x ≡ get_or xs i d → slice_get xs i ≡ Some x
-got [] i x d lt e = absurd (omega (arith, lt))
-got {A} (y ∷ ys) zero x d lt e = let there : A → Option A = λ z. Some z in ap there (sym e)
-got (y ∷ ys) (suc i) x d lt e = got ys i x d (omega (arith, lt)) e
+use Rattle.run_points.specs.declared.place.Place.{Place}
+use Rattle.run_points.specs.Begun.{Begun}
+use Rattle.run_points.proofs.Begun.{got}
+use Rattle.round_steps.specs.Places.{parallel_places, part_counts, part_places, past_at, serial_places, turn_at, turn_comes, turn_of, turn_places, turns_of}
 
 get_or-append_seam_at : {A : Type 0} (xs : List A) (x : A) (i : ℕ) (d : A) → i ≡ length xs → get_or (xs ++ x ∷ []) i d ≡ x
 get_or-append_seam_at xs x i d e = ap (λ (k : ℕ). get_or (xs ++ x ∷ []) k d) e ∙ get_or-append_seam xs x [] d
@@ -47,18 +42,6 @@ pub turn_is : (quota done : ℕ) (h g : Hart) (part : List Hart) (t : Option ℕ
 turn_is quota done h g part t hs last size e =
     let n : length part - 1 ≡ done = omega (arith, size) in
     rw (hs, last, n) e
-
--- what a machine without its trace begins a round with
-abbrev pub begun_by : Untraced → List Range → Begun
-begun_by u code = record { harts = u.harts; bytes = u.bytes; code = code; quotas = quotas_of u.plan u.rounds }
-
-pub begun_same : (m : Running) (u : Untraced) (code : List Range) → IsUntraced m u → m.code ≡ code → begun_by u code ≡ begun_of m
-begun_same m u code is c =
-    ap (λ (hs : List Hart). record { harts = hs; bytes = u.bytes; code = code; quotas = quotas_of u.plan u.rounds }) is.harts
-    ∙ ap (λ (bs : List ℕ). record { harts = m.state.harts; bytes = bs; code = code; quotas = quotas_of u.plan u.rounds }) is.bytes
-    ∙ ap (λ (rs : List Range). record { harts = m.state.harts; bytes = m.state.bytes; code = rs; quotas = quotas_of u.plan u.rounds }) (sym c)
-    ∙ ap (λ (p : Planned). record { harts = m.state.harts; bytes = m.state.bytes; code = m.code; quotas = quotas_of p u.rounds }) is.plan
-    ∙ ap (λ (n : ℕ). record { harts = m.state.harts; bytes = m.state.bytes; code = m.code; quotas = quotas_of m.plan n }) is.rounds
 
 -- a part by other names of its code, quota and bytes
 pub same_part : (code code2 : List Range) (q q2 : ℕ) (h : Hart) (bs bs2 : List ℕ) → code ≡ code2 → q ≡ q2 → bs ≡ bs2 →

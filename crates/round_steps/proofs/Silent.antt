@@ -11,8 +11,9 @@ use Rattle.watching.specs.declared.hits.Hit.{Hit}
 use Rattle.watching.specs.declared.watchpoint.Watchpoint.{Watchpoint}
 use Rattle.watching.specs.declared.watchpoint.Way.{Way}
 use Rattle.watching.specs.Watches.{access_hits, beside, hits_after, hits_of}
-use Rattle.round_steps.specs.declared.place.Place.{Place}
-use Rattle.round_steps.specs.Places.{Begun, begun_of, parallel_places, part_counts, part_of, part_places, past_at, places, round_places, serial_places, turn_of, turn_places}
+use Rattle.run_points.specs.declared.place.Place.{Place}
+use Rattle.run_points.specs.Begun.{Begun, begun_of}
+use Rattle.round_steps.specs.Places.{parallel_places, part_counts, part_of, part_places, past_at, places, round_places, serial_places, turn_of, turn_places}
 
 abbrev pub IsSilent : Asked → Type 0
 IsSilent a = (i : ℕ) (h : Hart) → tells a i h ≡ false

@@ -4,8 +4,9 @@ use Rattle.std.proofs.lemmas.List.{drop_all, drop_more}
 use Rattle.round_schedule.specs.declared.event.Phase.TheVariants.{Serial}
 use Rattle.hart_step.specs.declared.hart.Hart.{Hart}
 use Rattle.walking.specs.Hits.{hits_from, is_moment}
-use Rattle.round_steps.specs.declared.place.Place.{Place}
-use Rattle.round_steps.specs.Places.{place_in, places}
+use Rattle.run_points.specs.declared.place.Place.{Place}
+use Rattle.run_points.specs.Moments.{place_in}
+use Rattle.round_steps.specs.Places.{places}
 
 -- what is told of the turn's rest: of these harts, of which the first has this count, those from c on
 abbrev pub told_from : (Hart → Bool) → ℕ → ℕ → List Hart → ℕ → List Place

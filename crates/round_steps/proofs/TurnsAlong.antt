@@ -16,8 +16,9 @@ use Rattle.guest_turns.specs.TurnHarts.{turns_in_round}
 use Rattle.guest_turns.proofs.TurnHartsAsked.{turns_end}
 use Rattle.walking.specs.Hits.{hits_from, tells}
 use Rattle.walking.specs.declared.asked.Asked.{Asked}
-use Rattle.round_steps.specs.declared.place.Place.{Place}
-use Rattle.round_steps.specs.Places.{begun_of, ends_stopped, part_of, past_at, places, serial_places, turn_at, turn_comes, turn_of, turn_places, turns_of}
+use Rattle.run_points.specs.declared.place.Place.{Place}
+use Rattle.run_points.specs.Begun.{begun_of}
+use Rattle.round_steps.specs.Places.{ends_stopped, part_of, past_at, places, serial_places, turn_at, turn_comes, turn_of, turn_places, turns_of}
 
 abbrev there : {X : Type 0} → X → Option X
 there x = Some x

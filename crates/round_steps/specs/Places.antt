@@ -1,7 +1,6 @@
 -- Where in a round something is told, in the order of the trace: in the parts of the parallel phase hart by hart, and after the commit in the serial
 -- turns hart by hart.
 use Rattle.std.specs.Prelude.{ℕ, zero, suc, ◌-◌, ◌==◌, ◌||◌, Bool, true, if◌then◌else◌, List, [], ◌∷◌, ◌++◌, length, map, drop, slice_get, slice_index, is_some, Option, Some, None}
-use Rattle.pages.specs.declared.access.Range.{Range}
 use Rattle.round_schedule.specs.declared.event.Phase.{Phase}
 use Rattle.round_schedule.specs.declared.event.Phase.TheVariants.{Parallel, Serial}
 use Rattle.round_schedule.specs.Past.{last_of, past_of}
@@ -11,11 +10,9 @@ use Rattle.hart_step.specs.Words.{words_of}
 use Rattle.machine.specs.Machine.{Running}
 use Rattle.walking.specs.declared.asked.Asked.{Asked}
 use Rattle.walking.specs.Hits.{harts_in_part, hits_from, tells}
-use Rattle.round_steps.specs.declared.place.Place.{Place}
-
--- hart i after so many of its instructions of the round
-abbrev pub place_in : Phase → ℕ → ℕ → Place
-place_in p i c = record { phase = p; hart = i; count = c }
+use Rattle.run_points.specs.declared.place.Place.{Place}
+use Rattle.run_points.specs.Moments.{place_in}
+use Rattle.run_points.specs.Begun.{Begun, begun_of}
 
 abbrev pub places : Phase → ℕ → List ℕ → List Place
 places p i cs = map (place_in p i) cs
@@ -34,16 +31,6 @@ abbrev pub turn_comes : ℕ → Hart → List Hart → Option ℕ
 turn_comes quota h part = if is_some h.stop || ends_stopped (last_of part) || (length part - 1 == quota) then None else Some (length part - 1)
 
 -- ---- all harts
-
--- what a round begins with: its harts, memory, the code, and the harts' quotas
-pub record Begun : Type 0 where
-  pub harts : List Hart
-  pub bytes : List ℕ
-  pub code : List Range
-  pub quotas : List ℕ
-
-abbrev pub begun_of : Running → Begun
-begun_of m = record { harts = m.state.harts; bytes = m.state.bytes; code = m.code; quotas = quotas_of m.plan m.state.rounds }
 
 -- a hart's part of it
 abbrev pub part_of : Begun → ℕ → Hart → List Hart

@@ -1,6 +1,6 @@
 -- What a debugger is told in the rounds of a run: where it asked to stop, and what its watchpoints tell of. On the way on a move is told before it, and on
 -- the way back behind it.
-use Rattle.std.specs.Prelude.{ℕ, zero, suc, ◌==◌, ◌||◌, ◌&&◌, nat_lt, Bool, true, false, if◌then◌else◌, List, [], ◌∷◌, ◌++◌, map, filter, slice_get, is_some, Option, Some, None}
+use Rattle.std.specs.Prelude.{ℕ, zero, suc, Bool, true, false, if◌then◌else◌, List, [], ◌∷◌, ◌++◌, map, filter, slice_get, is_some, Option, Some, None}
 use Rattle.round_planner.specs.Quotas.{quotas_of}
 use Rattle.hart_step.specs.declared.hart.Hart.{Hart}
 use Rattle.hart_step.specs.Numbers.{minus, plus}
@@ -13,32 +13,14 @@ use Rattle.watching.specs.declared.watchpoint.Watchpoint.{Watchpoint}
 use Rattle.watching.specs.declared.watchpoint.Way.{Way}
 use Rattle.watching.specs.declared.watchpoint.Way.TheVariants.{On, Back}
 use Rattle.watching.specs.Watches.{hits_of}
-use Rattle.round_steps.specs.declared.moment.Moment.{Moment}
-use Rattle.round_steps.specs.declared.place.Place.{Place}
-use Rattle.round_steps.specs.declared.point.Point.{Point}
-use Rattle.round_steps.specs.declared.point.Side.{Side}
-use Rattle.round_steps.specs.declared.point.Side.TheVariants.{After, RivalAfter, Break, Rival, Access}
-use Rattle.round_steps.specs.declared.point.Told.{Told}
-use Rattle.round_steps.specs.Moments.{is_before, moment_in, phase_number}
+use Rattle.run_points.specs.declared.place.Place.{Place}
+use Rattle.run_points.specs.declared.point.Point.{Point}
+use Rattle.run_points.specs.declared.point.Side.{Side}
+use Rattle.run_points.specs.declared.point.Side.TheVariants.{After, RivalAfter, Break, Rival, Access}
+use Rattle.round_steps.specs.declared.told.Told.{Told}
+use Rattle.run_points.specs.Moments.{moment_in}
+use Rattle.run_points.specs.Points.{point_before}
 use Rattle.round_steps.specs.Places.{round_places}
-
--- ---- their order: by moments, and at one moment by sides
-
-abbrev pub side_number : Side → ℕ
-side_number After = 0
-side_number RivalAfter = 1
-side_number Break = 2
-side_number Rival = 3
-side_number Access = 4
-
-abbrev pub same_place : Place → Place → Bool
-same_place x y = phase_number x.phase == phase_number y.phase && (x.hart == y.hart && x.count == y.count)
-
-abbrev pub same_moment : Moment → Moment → Bool
-same_moment x y = x.rounds == y.rounds && same_place x.place y.place
-
-abbrev pub point_before : Point → Point → Bool
-point_before x y = is_before x.moment y.moment || (same_moment x.moment y.moment && nat_lt (side_number x.side) (side_number y.side))
 
 -- the earliest of some, and the latest
 abbrev pub sooner : Option Told → Told → Option Told

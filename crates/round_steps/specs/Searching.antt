@@ -6,8 +6,8 @@ use Rattle.walking.specs.declared.asked.Asked.{Asked}
 use Rattle.watching.specs.declared.watchpoint.Watchpoint.{Watchpoint}
 use Rattle.watching.specs.declared.watchpoint.Way.{Way}
 use Rattle.watching.specs.declared.watchpoint.Way.TheVariants.{On, Back}
-use Rattle.round_steps.specs.declared.point.Point.{Point}
-use Rattle.round_steps.specs.declared.point.Told.{Told}
+use Rattle.run_points.specs.declared.point.Point.{Point}
+use Rattle.round_steps.specs.declared.told.Told.{Told}
 use Rattle.round_steps.specs.Points.{next_point_of, previous_point_of}
 
 -- on the way on, through n rounds after machine u at most: those up to the one in which something is told are done, and all where nothing is

@@ -6,10 +6,11 @@ ghost use Rattle.walking.specs.Quiet.{AreQuiet};
 ghost use Rattle.walking.specs.Stops.{sight_of};
 ghost use Rattle.round_steps.specs.Places.{part_counts, places, turn_comes};
 
-use crate::place::{Place, add_places};
+use crate::noting::add_places;
 use hart_step::{Buffered, DecodedCode, Hart};
 use pages::{OutOfMemory, Pages};
 use round_schedule::Phase;
+use run_points::Place;
 use walking::{Asked, hits_in_part};
 
 /// A hart before a round.

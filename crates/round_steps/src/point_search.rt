@@ -1,53 +1,34 @@
-ghost use Rattle.std.specs.Prelude.{◌≡◌, ℕ, ◌≤◌, ◌+◌, ◌<◌, ◌^◌, false, is_some, IfOk, IfErr};
+ghost use Rattle.std.specs.Prelude.{◌≡◌, ℕ, ◌+◌, ◌<◌, ◌^◌, false, is_some, IfOk, IfErr};
 ghost use Rattle.host_io.specs.declared.error.RunError.TheVariants as refusals;
 ghost use Rattle.hart_step.specs.declared.hart.Hart.{Hart};
 ghost use Rattle.machine.specs.Machine.{Running};
 ghost use Rattle.machine.specs.Untraced.{IsUntraced};
 ghost use Rattle.walking.specs.Hits.{tells};
 ghost use Rattle.round_steps.specs.Points.{ends, nearest_told, or_else};
-ghost use Rattle.round_steps.specs.Searching.{FindsFirst, FindsLast, FindsNearest};
+ghost use Rattle.round_steps.specs.Searching.{FindsNearest};
 ghost use Rattle.round_schedule.specs.Bounds.{AreWorkers};
 
-use crate::point::{Point, Told, earliest_behind, latest_before};
 use crate::points::{Telling, points_in_round};
 use crate::stops_alone::{asks_of_stops_alone, have_no_new_stop, nothing_asked};
+use crate::told::{Told, earliest_behind, latest_before};
 use host_io::RunError;
 use machine::UntracedMachine;
 use pages::Range;
+use run_points::Point;
 use std::mem::swap;
 use std::sync::Wait;
 use std::thread::Threads;
 use walking::Asked;
 use watching::{Watchpoint, Way};
 
-/// The earliest point behind another one at which something is told in the next rounds of a run. Of the run there is the machine
-/// without its trace, and its code; rounds are run on 1 to 16 workers. The machine has done all of them where nothing is told. It may
-/// wait.
+/// The nearest point one way at which something is told in the next rounds of a run: the earliest one behind another point, or the latest
+/// one before it. Of the run there is the machine without its trace, and its code; rounds are run on 1 to 16 workers. The machine has done
+/// the rounds up to the one in which something is told, and all of them where nothing is, or on the way back. It may wait.
 ///
 /// # Errors
 ///
 /// `OutOfMemory` alone.
-pub fn next_point<R: Threads + Wait + Sync>(
-    rt: &R,
-    machine: &mut UntracedMachine,
-    code: &[Range],
-    rounds: u32,
-    telling: &Telling,
-    here: &Point,
-    workers: u32,
-) -> Result<Option<Told>, RunError>
-    requires run { (m : Running) × IsUntraced m machine.old }
-    requires rounds { machine.old.rounds + rounds < 2 ^ 32 }
-    requires workers { AreWorkers workers }
-    ensures first { (m : Running) → IsUntraced m machine.old → m.code ≡ code.now → IfOk result (FindsFirst
-        telling.now.asked telling.now.watches.items m rounds here.now machine.old machine.new) }
-    ensures refused { IfErr result (λ e. e ≡ refusals.OutOfMemory) }
-{
-    nearest(rt, machine, code, rounds, telling, Way::On, here, workers)
-}
-
-/// The nearest one in the next rounds, one way.
-pub(crate) fn nearest<R: Threads + Wait + Sync>(
+pub fn nearest<R: Threads + Wait + Sync>(
     rt: &R,
     machine: &mut UntracedMachine,
     code: &[Range],
@@ -173,31 +154,6 @@ fn ends(way: Way, found: Option<Told>) -> bool
         Way::On => found.is_some(),
         Way::Back => false,
     }
-}
-
-/// The latest point before another one at which something is told in the next rounds of a run, all of which the machine does. It may
-/// wait.
-///
-/// # Errors
-///
-/// `OutOfMemory` alone.
-pub fn previous_point<R: Threads + Wait + Sync>(
-    rt: &R,
-    machine: &mut UntracedMachine,
-    code: &[Range],
-    rounds: u32,
-    telling: &Telling,
-    here: &Point,
-    workers: u32,
-) -> Result<Option<Told>, RunError>
-    requires run { (m : Running) × IsUntraced m machine.old }
-    requires rounds { machine.old.rounds + rounds < 2 ^ 32 }
-    requires workers { AreWorkers workers }
-    ensures last { (m : Running) → IsUntraced m machine.old → m.code ≡ code.now → IfOk result (FindsLast
-        telling.now.asked telling.now.watches.items m rounds here.now machine.old machine.new) }
-    ensures refused { IfErr result (λ e. e ≡ refusals.OutOfMemory) }
-{
-    nearest(rt, machine, code, rounds, telling, Way::Back, here, workers)
 }
 
 /// The first of two where there is one, and else the other.

@@ -1,6 +1,6 @@
 //! What is told in a round: where a debugger asked to stop, and what its watchpoints tell of.
 
-ghost use Rattle.std.specs.Prelude.{◌≡◌, ℕ, ◌++◌, ◌+◌, ◌<◌, ◌≤◌, ◌^◌, false, map, true, IfOk, IfErr, OnOk};
+ghost use Rattle.std.specs.Prelude.{◌≡◌, ℕ, ◌++◌, ◌+◌, ◌<◌, ◌^◌, false, map, true, IfOk, IfErr, OnOk};
 ghost use Rattle.host_io.specs.declared.error.RunError.TheVariants as refusals;
 ghost use Rattle.machine.specs.Machine.{Running};
 ghost use Rattle.machine.specs.Untraced.{IsAfter, IsUntraced};
@@ -14,15 +14,14 @@ ghost use Rattle.watching.specs.Watches.{hits_of};
 ghost use Rattle.round_steps.specs.Points.{break_point, done_by, hit_place, hit_point, hit_side, points_of};
 ghost use Rattle.round_schedule.specs.Bounds.{AreWorkers};
 
-use crate::moment::Moment;
-use crate::place::Place;
-use crate::point::{Point, Side, Told};
 use crate::round::places_in_round;
+use crate::told::Told;
 use hart_step::Hart;
 use host_io::RunError;
 use machine::UntracedMachine;
 use noted_runs::run_noting;
 use pages::{OutOfMemory, Range};
+use run_points::{Moment, Place, Point, Side};
 use std::alloc::Global;
 use std::sync::Wait;
 use std::thread::Threads;

@@ -1,20 +1,19 @@
-ghost use Rattle.std.specs.Prelude.{◌≡◌, ◌≤◌, ◌+◌, ◌<◌, ◌^◌, true, length, IfOk, IfErr};
+ghost use Rattle.std.specs.Prelude.{◌≡◌, ◌+◌, ◌<◌, ◌^◌, length, IfOk, IfErr};
 ghost use Rattle.host_io.specs.declared.error.RunError.TheVariants as refusals;
 ghost use Rattle.round_planner.specs.Quotas.{quotas_of};
 ghost use Rattle.machine.specs.Machine.{Running};
 ghost use Rattle.machine.specs.Untraced.{IsUntraced};
-ghost use Rattle.round_steps.specs.Places.{begun_of, parallel_places, round_places, turns_of};
+ghost use Rattle.round_steps.specs.Places.{parallel_places, round_places, turns_of};
 
 use crate::part::{Before, add_part};
-use crate::place::Place;
 use crate::turn::add_turns;
 use host_io::RunError;
 use machine::UntracedMachine;
 use pages::{OutOfMemory, Range};
-use std::alloc::Global;
+use run_points::{Place, code_of_run};
 use std::sync::Wait;
 use std::thread::Threads;
-use walking::{Asked, decoded, quiet_lengths};
+use walking::{Asked, quiet_lengths};
 
 /// What the parts of the parallel phase of a round came to.
 #[derive(Drop)]
@@ -31,7 +30,7 @@ struct Parts {
 /// # Errors
 ///
 /// `OutOfMemory` alone.
-pub fn places_in_round<R: Threads + Wait + Sync>(
+pub(crate) fn places_in_round<R: Threads + Wait + Sync>(
     rt: &R,
     machine: &mut UntracedMachine,
     code: &[Range],
@@ -70,11 +69,7 @@ fn parts_in_round(
     }) (length machine.now.harts)) }
 {
     let pages = machine.pages();
-    if !are_same(pages.code(), code) {
-        // A run keeps its code.
-        return Err(OutOfMemory);
-    }
-    let decoded_code = decoded(pages, u64::MAX)?;
+    let decoded_code = code_of_run(pages, code, u64::MAX)?;
     let runs = quiet_lengths(pages.allocator(), &decoded_code, &asked.stops)?;
     let mut found = Vec::new(pages.allocator());
     let mut turns = Vec::new(pages.allocator());
@@ -90,17 +85,4 @@ fn parts_in_round(
         turns.push(add_part(before, pages, &decoded_code, &runs, asked, &mut found)?)?;
     }
     Ok(Parts { found, turns })
-}
-
-/// Whether these are the same ranges.
-pub(crate) fn are_same(ranges: &[Range], others: &[Range]) -> bool
-    ensures { result ≡ true → ranges.now ≡ others.now }
-{
-    match (ranges, others) {
-        ([], []) => true,
-        ([range, rest @ ..], [other, more @ ..]) => {
-            range.start == other.start && range.len == other.len && are_same(rest, more)
-        }
-        _ => false,
-    }
 }

@@ -1,6 +1,6 @@
 use Rattle.std.proofs.Common.{ap, sym, subst, ◌∙◌}
 use Rattle.machine.specs.Untraced.{IsUntraced}
-use Rattle.round_steps.specs.Timelines.{Line}
+use Rattle.timelines.specs.Timelines.{Line}
 use Rattle.gdb_answers.specs.Stores.{bytes_covered}
 use Rattle.gdb_answers.proofs.Noted.{noted}
 use Rattle.gdb_answers.proofs.noting.note_at.Goals as goal

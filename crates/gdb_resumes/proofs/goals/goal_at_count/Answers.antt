@@ -1,7 +1,7 @@
 use Rattle.std.proofs.Common.{Option, ap, ◌∙◌}
 use Rattle.machine.specs.Machine.{after_rounds}
-use Rattle.round_steps.specs.declared.point.Point.{Point}
-use Rattle.round_steps.specs.declared.point.Told.{Told}
+use Rattle.run_points.specs.declared.point.Point.{Point}
+use Rattle.round_steps.specs.declared.told.Told.{Told}
 use Rattle.round_steps.specs.Points.{next_point_of}
 use Rattle.gdb_resumes.specs.Goals.{goal_if}
 use Rattle.gdb_resumes.proofs.goals.goal_at_count.Goals as goal

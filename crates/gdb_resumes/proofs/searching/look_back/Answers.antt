@@ -4,7 +4,7 @@ use Rattle.machine.specs.Machine.{after_rounds}
 use Rattle.watching.specs.declared.watchpoint.Way.TheVariants.{Back}
 use Rattle.round_steps.specs.Points.{previous_point_of}
 use Rattle.gdb_resumes.specs.Searches.{IsPassed}
-use Rattle.gdb_resumes.specs.Sessions.{recorded_of}
+use Rattle.gdb_runs.specs.Sessions.{recorded_of}
 use Rattle.gdb_resumes.proofs.Passing.{passed_back}
 use Rattle.gdb_resumes.proofs.searching.look_back.Goals as goal
 

@@ -4,7 +4,7 @@ use Rattle.machine.specs.Machine.{after_rounds}
 use Rattle.watching.specs.declared.watchpoint.Way.TheVariants.{On}
 use Rattle.round_steps.specs.Points.{next_point_of}
 use Rattle.gdb_resumes.specs.Searches.{IsPassed}
-use Rattle.gdb_resumes.specs.Sessions.{recorded_of}
+use Rattle.gdb_runs.specs.Sessions.{recorded_of}
 use Rattle.gdb_resumes.proofs.Passing.{passed_on}
 use Rattle.gdb_resumes.proofs.searching.look_on.Goals as goal
 

@@ -3,7 +3,7 @@ use Rattle.std.proofs.lemmas.Result.{on_ok_weaker}
 use Rattle.gdb_requests.specs.declared.request.Request.TheVariants as requests
 use Rattle.watching.specs.declared.watchpoint.Watchpoint.{Watchpoint}
 use Rattle.gdb_session.specs.Answers.{with_watch, without_watch}
-use Rattle.gdb_resumes.specs.Sessions.{State, recorded_of, state_of}
+use Rattle.gdb_runs.specs.Sessions.{State, recorded_of, state_of}
 use Rattle.gdb_session.proofs.Arriving.{both, command_answered, replied, step_answered, stop_changed}
 use Rattle.gdb_session.proofs.answering.answer.Goals as goal
 

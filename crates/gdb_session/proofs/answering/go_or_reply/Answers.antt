@@ -1,6 +1,6 @@
 use Rattle.std.proofs.lemmas.Result.{on_ok_weaker}
 use Rattle.gdb_requests.specs.declared.request.Request.TheVariants as requests
-use Rattle.gdb_resumes.specs.Sessions.{recorded_of, state_of}
+use Rattle.gdb_runs.specs.Sessions.{recorded_of, state_of}
 use Rattle.gdb_session.proofs.Arriving.{replied}
 use Rattle.gdb_session.proofs.answering.go_or_reply.Goals as goal
 

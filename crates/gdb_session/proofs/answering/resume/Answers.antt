@@ -1,10 +1,10 @@
 use Rattle.std.proofs.Common.{◌≡◌, ◌++◌, Option, Some, None, codes, refl, ap, subst}
 use Rattle.std.proofs.lemmas.Result.{on_ok_weaker}
 use Rattle.gdb_packets.specs.Writing.{packet_text}
-use Rattle.gdb_resumes.specs.declared.session.Session.{Session}
-use Rattle.gdb_resumes.specs.declared.session.Standing.{Standing}
-use Rattle.gdb_resumes.specs.Sessions.{Recorded, recorded_of, state_of}
-use Rattle.gdb_resumes.proofs.Runs.{of_same}
+use Rattle.gdb_runs.specs.declared.session.Session.{Session}
+use Rattle.gdb_runs.specs.declared.session.Standing.{Standing}
+use Rattle.gdb_runs.specs.Sessions.{Recorded, recorded_of, state_of}
+use Rattle.gdb_runs.proofs.Runs.{of_same}
 use Rattle.gdb_session.specs.Answers.{Moves, Resumes, stands_packets}
 use Rattle.gdb_session.proofs.answering.resume.Goals as goal
 

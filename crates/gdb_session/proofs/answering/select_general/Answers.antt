@@ -1,6 +1,5 @@
-use Rattle.std.proofs.Common.{ℕ, Option, sym, subst}
-use Rattle.gdb_resumes.specs.Sessions.{recorded_of, state_of}
-use Rattle.std.proofs.Common.{codes, refl}
+use Rattle.std.proofs.Common.{ℕ, Option, sym, subst, codes, refl}
+use Rattle.gdb_runs.specs.Sessions.{recorded_of, state_of}
 use Rattle.std.proofs.lemmas.Result.{on_ok_weaker}
 use Rattle.gdb_packets.specs.Writing.{packet_text}
 use Rattle.gdb_session.specs.Answers.{SelectsGeneral}

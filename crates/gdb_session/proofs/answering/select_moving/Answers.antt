@@ -1,6 +1,5 @@
-use Rattle.std.proofs.Common.{ℕ, Option, None, sym, subst}
-use Rattle.gdb_resumes.specs.Sessions.{recorded_of, state_of}
-use Rattle.std.proofs.Common.{codes, refl}
+use Rattle.std.proofs.Common.{ℕ, Option, None, sym, subst, codes, refl}
+use Rattle.gdb_runs.specs.Sessions.{recorded_of, state_of}
 use Rattle.gdb_packets.specs.Writing.{packet_text}
 use Rattle.gdb_session.specs.Answers.{SelectsMovingBy, moves_alone}
 use Rattle.gdb_session.proofs.answering.select_moving.Goals as goal

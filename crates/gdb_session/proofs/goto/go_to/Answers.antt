@@ -1,8 +1,8 @@
 use Rattle.std.proofs.Common.{◌≡◌, ◌++◌}
 use Rattle.hex.specs.Hex.{encode_lower}
 use Rattle.gdb_packets.specs.Writing.{packet_text}
-use Rattle.gdb_resumes.specs.Sessions.{Recorded, recorded_of, state_of}
-use Rattle.gdb_resumes.proofs.Runs.{of_same}
+use Rattle.gdb_runs.specs.Sessions.{Recorded, recorded_of, state_of}
+use Rattle.gdb_runs.proofs.Runs.{of_same}
 use Rattle.gdb_session.specs.Answers.{goal_text}
 use Rattle.gdb_session.proofs.Wanting.{goes_to, ready_with}
 use Rattle.gdb_session.proofs.goto.go_to.Goals as goal

@@ -3,7 +3,7 @@ use Rattle.std.specs.Prelude.{OnOk}
 use Rattle.hex.specs.Hex.{encode_lower}
 use Rattle.gdb_packets.specs.Writing.{packet_text}
 use Rattle.gdb_resumes.specs.declared.goals.Goal.{Goal}
-use Rattle.gdb_resumes.specs.Sessions.{recorded_of}
+use Rattle.gdb_runs.specs.Sessions.{recorded_of}
 use Rattle.gdb_session.specs.Answers.{goal_text}
 use Rattle.gdb_session.proofs.goto.say_goal.Goals as goal
 

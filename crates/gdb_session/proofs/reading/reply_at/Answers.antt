@@ -1,10 +1,11 @@
 use Rattle.std.proofs.Common.{refl}
 use Rattle.std.proofs.lemmas.Result.{on_ok_weaker}
 use Rattle.gdb_requests.specs.declared.request.Request.TheVariants as requests
-use Rattle.gdb_answers.specs.declared.look.Look.{Look}
-use Rattle.gdb_answers.specs.Answers.{checksum_answer, memory_answer, register_answer, registers_answer, seen}
+use Rattle.gdb_sights.specs.declared.look.Look.{Look}
+use Rattle.gdb_answers.specs.Answers.{checksum_answer, memory_answer, register_answer, registers_answer}
+use Rattle.shown_harts.specs.Shown.{seen}
 use Rattle.gdb_session.specs.Answers.{stands_text}
-use Rattle.gdb_resumes.specs.Sessions.{recorded_of}
+use Rattle.gdb_runs.specs.Sessions.{recorded_of}
 use Rattle.gdb_session.proofs.Arriving.{read_with, replied_with}
 use Rattle.gdb_session.proofs.reading.reply_at.Goals as goal
 

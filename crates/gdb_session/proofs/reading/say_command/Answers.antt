@@ -1,7 +1,7 @@
 use Rattle.std.proofs.Common.{◌≡◌, ◌++◌, ℕ, List, OnOk, subst, sym}
 use Rattle.machine.specs.Untraced.{IsUntraced, Untraced}
 use Rattle.gdb_packets.specs.Writing.{packet_text}
-use Rattle.gdb_resumes.specs.Sessions.{recorded_of}
+use Rattle.gdb_runs.specs.Sessions.{recorded_of}
 use Rattle.gdb_session.proofs.Arriving.{no_command}
 use Rattle.gdb_session.proofs.reading.say_command.Goals as goal
 

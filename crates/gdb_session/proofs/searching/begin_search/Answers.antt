@@ -1,7 +1,7 @@
 use Rattle.std.proofs.Common.{◌≡◌, ◌++◌, ℕ, List, subst}
 use Rattle.std.specs.Prelude.{IfOk}
 use Rattle.watching.specs.declared.watchpoint.Way.{Way}
-use Rattle.gdb_resumes.specs.Sessions.{recorded_of, state_of}
+use Rattle.gdb_runs.specs.Sessions.{recorded_of, state_of}
 use Rattle.gdb_session.specs.Serving.{RepliesOrGoesOn, request_for}
 use Rattle.gdb_session.proofs.searching.begin_search.Goals as goal
 

@@ -1,8 +1,8 @@
 use Rattle.std.proofs.Common.{subst}
 use Rattle.gdb_resumes.specs.declared.searching.Searched.{Searched}
 use Rattle.gdb_resumes.specs.Resumes.{SearchesTo}
-use Rattle.gdb_resumes.specs.Sessions.{Recorded, recorded_of, state_of}
-use Rattle.gdb_resumes.proofs.Runs.{of_same}
+use Rattle.gdb_runs.specs.Sessions.{Recorded, recorded_of, state_of}
+use Rattle.gdb_runs.proofs.Runs.{of_same}
 use Rattle.gdb_session.specs.Serving.{StandsOrLost}
 use Rattle.gdb_session.proofs.Resuming.{ended}
 use Rattle.gdb_session.proofs.searching.search_on.Goals as goal

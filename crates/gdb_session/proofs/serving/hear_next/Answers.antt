@@ -4,7 +4,7 @@ use Rattle.gdb_packets.specs.Stream.{next_of}
 use Rattle.gdb_packets.specs.Views.{told_in}
 use Rattle.gdb_packets.specs.declared.item.Item.{Item}
 use Rattle.gdb_session.specs.Serving.{Hears, begun, talking}
-use Rattle.gdb_resumes.specs.Sessions.{recorded_of}
+use Rattle.gdb_runs.specs.Sessions.{recorded_of}
 use Rattle.gdb_talk.proofs.Going.{serves_more}
 use Rattle.gdb_session.proofs.Going.{serves_lost}
 use Rattle.gdb_session.proofs.serving.hear_next.Goals as goal

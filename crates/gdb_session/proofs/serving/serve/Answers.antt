@@ -3,8 +3,8 @@ use Rattle.gdb_session.specs.Serving.{Hears, Served, ServesOn, Talking, begun, t
 use Rattle.std.specs.Prelude.{IfSome}
 use Rattle.gdb_resumes.specs.declared.searching.Search.{Search}
 use Rattle.gdb_resumes.specs.Resumes.{IsUnderWay}
-use Rattle.gdb_resumes.specs.Sessions.{IsReady, Recorded, recorded_of, state_of}
-use Rattle.gdb_resumes.proofs.Runs.{of_same}
+use Rattle.gdb_runs.specs.Sessions.{IsReady, Recorded, recorded_of, state_of}
+use Rattle.gdb_runs.proofs.Runs.{of_same}
 use Rattle.gdb_talk.proofs.Going.{serves_none}
 use Rattle.gdb_session.proofs.serving.serve.Goals as goal
 

@@ -3,7 +3,7 @@ use Rattle.machine.specs.Machine.{Running}
 use Rattle.machine.specs.Untraced.{IsUntraced}
 use Rattle.std.specs.Prelude.{IfSome}
 use Rattle.gdb_resumes.specs.Resumes.{IsUnderWay}
-use Rattle.gdb_resumes.specs.Sessions.{IsReady, recorded_of, state_of}
+use Rattle.gdb_runs.specs.Sessions.{IsReady, recorded_of, state_of}
 use Rattle.gdb_session.specs.Serving.{Served, talking}
 use Rattle.gdb_session.proofs.serving.serve.Given as goal
 

@@ -2,7 +2,7 @@ use Rattle.std.proofs.Common.{[], refl, sym, subst, append-nil}
 use Rattle.std.proofs.lemmas.Result.{on_ok_weaker}
 use Rattle.gdb_requests.specs.declared.request.Request.{Request}
 use Rattle.gdb_session.specs.Serving.{RepliesTo}
-use Rattle.gdb_resumes.specs.Sessions.{recorded_of, state_of}
+use Rattle.gdb_runs.specs.Sessions.{recorded_of, state_of}
 use Rattle.gdb_session.proofs.Going.{replies_to}
 use Rattle.gdb_session.proofs.talk.reply.Goals as goal
 

@@ -1,4 +1,4 @@
-use Rattle.std.proofs.Common.{◌≡◌, ◌<◌, length, ℕ, List, [], None, slice_index, get_or, ap, sym, ◌∙◌, arith}
+use Rattle.std.proofs.Common.{◌≡◌, ◌<◌, length, ℕ, List, [], None, slice_index, get_or, ap, ◌∙◌, arith}
 use Rattle.hart_step.specs.declared.hart.Hart.{Hart}
 use Rattle.round_schedule.specs.declared.event.Phase.TheVariants.{Parallel}
 use Rattle.round_planner.specs.Quotas.{quotas_of}
@@ -13,7 +13,7 @@ loop-number-init c = (no_parts _ _ _ c.new-found.ensures.items, no_turns _ _ c.n
 pub loop-number-preserved : goal.loop-number-preserved
 loop-number-preserved c =
     let inv = c.loop-number.invariant in
-    let code : c.pages-pages.result.now.memory.code ≡ c.args.code.now = sym c.code.ensures ∙ c.are_same.ensures c.if-not-are_same.false in
+    let code : c.pages-pages.result.now.memory.code ≡ c.args.code.now = c.in_ok-decoded_code.ensures.same in
     let quota = same_quota c.args.machine.now.plan c.args.machine.now.rounds c.loop-number.number c.quota.result (c.quota.ensures.quota ∙ grind arith) in
     let q2 : ℕ = slice_index (quotas_of c.args.machine.now.plan c.args.machine.now.rounds) c.loop-number.number in
     let part = λ (h : Hart). same_part c.pages-pages.result.now.memory.code c.args.code.now c.quota.result q2 h c.pages-pages.result.now.memory.bytes c.args.machine.now.bytes code quota c.pages-pages.ensures.bytes in

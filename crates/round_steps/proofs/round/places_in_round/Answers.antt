@@ -1,7 +1,9 @@
 use Rattle.std.proofs.Common.{◌≡◌, ℕ, ◌++◌, length, List, ap, ◌∙◌}
-use Rattle.round_steps.specs.Places.{Begun, parallel_places, serial_places, turns_of}
-use Rattle.round_steps.specs.declared.place.Place.{Place}
-use Rattle.round_steps.proofs.RoundParts.{begun_by, begun_same, turns_count}
+use Rattle.run_points.specs.Begun.{Begun}
+use Rattle.round_steps.specs.Places.{parallel_places, serial_places, turns_of}
+use Rattle.run_points.specs.declared.place.Place.{Place}
+use Rattle.run_points.proofs.Begun.{begun_by, begun_same}
+use Rattle.round_steps.proofs.RoundParts.{turns_count}
 use Rattle.round_steps.proofs.round.places_in_round.Goals as goal
 
 pub add_turns-requires-clause-turns : goal.add_turns-requires-clause-turns

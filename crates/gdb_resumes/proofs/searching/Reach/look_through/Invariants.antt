@@ -2,7 +2,7 @@ use Rattle.std.proofs.Common.{◌≡◌, ◌≤◌}
 use Rattle.machine.specs.Machine.{Running}
 use Rattle.machine.specs.Untraced.{IsUntraced}
 use Rattle.gdb_resumes.specs.Searches.{left_of}
-use Rattle.gdb_resumes.specs.Sessions.{recorded_of}
+use Rattle.gdb_runs.specs.Sessions.{recorded_of}
 use Rattle.gdb_resumes.proofs.searching.Reach.look_through.Given as goal
 
 abbrev pub invariant-loop-i : goal.invariant-loop-i

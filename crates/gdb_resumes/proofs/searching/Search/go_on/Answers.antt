@@ -1,16 +1,18 @@
 use Rattle.std.proofs.Common.{◌≡◌, ◌<◌, ℕ, Bool, true, false, ◌&&◌, Option, Some, None, refl, sym, ap, subst, ◌∙◌, arith}
 use Rattle.std.specs.Prelude.{IfSome, if◌then◌else◌}
 use Rattle.machine.specs.Untraced.{IsUntraced, Untraced}
-use Rattle.round_steps.specs.declared.point.Point.{Point}
-use Rattle.round_steps.specs.declared.point.Told.{Told}
-use Rattle.gdb_resumes.specs.declared.debugged.Debugged.{Debugged}
+use Rattle.run_points.specs.declared.point.Point.{Point}
+use Rattle.round_steps.specs.declared.told.Told.{Told}
+use Rattle.gdb_runs.specs.declared.debugged.Debugged.{Debugged}
 use Rattle.watching.specs.declared.watchpoint.Way.{Way}
-use Rattle.gdb_resumes.specs.declared.session.Standing.{Standing}
-use Rattle.gdb_resumes.specs.Sessions.{IsReady, IsWithin, Recorded, recorded_of, state_of}
-use Rattle.gdb_resumes.specs.Resumes.{at_goal, goal_passed, is_ahead, passed_first, told_at}
+use Rattle.gdb_runs.specs.declared.session.Standing.{Standing}
+use Rattle.gdb_runs.specs.Sessions.{IsReady, IsWithin, Recorded, recorded_of, state_of}
+use Rattle.gdb_runs.specs.Standings.{at_goal, told_at}
+use Rattle.gdb_resumes.specs.Resumes.{goal_passed, is_ahead, passed_first}
 use Rattle.gdb_resumes.proofs.Come.{goes_there, searched_there, told_there}
-use Rattle.gdb_resumes.proofs.Recording.{begun, passed_within}
-use Rattle.gdb_resumes.proofs.Runs.{of_same}
+use Rattle.gdb_runs.proofs.Recording.{begun}
+use Rattle.gdb_resumes.proofs.Passed.{passed_within}
+use Rattle.gdb_runs.proofs.Runs.{of_same}
 use Rattle.gdb_resumes.proofs.searching.Search.go_on.Goals as goal
 
 goal_within : (rounds harts : ℕ) (goal : Option Point) → IfSome goal (λ (g : Point). (g.moment.rounds < rounds) × (g.moment.place.hart < harts)) →

@@ -4,7 +4,7 @@ use Rattle.std.proofs.lemmas.Result.{on_ok_weaker}
 use Rattle.gdb_packets.specs.Views.{told_in}
 use Rattle.gdb_packets.specs.declared.item.Item.{Item}
 use Rattle.gdb_resumes.specs.declared.searching.Search.{Search}
-use Rattle.gdb_resumes.specs.Sessions.{recorded_of}
+use Rattle.gdb_runs.specs.Sessions.{recorded_of}
 use Rattle.gdb_talk.specs.Asking.{asked_by}
 use Rattle.gdb_session.specs.Serving.{HearsBy, HearsWhile, request_for, talking}
 use Rattle.gdb_session.proofs.Arriving.{both}

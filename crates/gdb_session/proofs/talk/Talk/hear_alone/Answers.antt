@@ -3,7 +3,7 @@ use Rattle.std.specs.Prelude.{OnOk}
 use Rattle.std.proofs.lemmas.Result.{on_ok_weaker}
 use Rattle.gdb_packets.specs.Views.{told_in}
 use Rattle.gdb_requests.specs.declared.request.Request.{Request}
-use Rattle.gdb_resumes.specs.Sessions.{recorded_of}
+use Rattle.gdb_runs.specs.Sessions.{recorded_of}
 use Rattle.gdb_session.specs.Serving.{HearsBy, talking}
 use Rattle.gdb_session.proofs.Resuming.{acknowledged}
 use Rattle.gdb_session.proofs.talk.Talk.hear_alone.Goals as goal

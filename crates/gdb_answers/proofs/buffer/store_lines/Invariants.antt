@@ -1,6 +1,0 @@
-use Rattle.std.proofs.Common.{◌≡◌, take}
-use Rattle.gdb_answers.specs.Buffers.{store_lines}
-use Rattle.gdb_answers.proofs.buffer.store_lines.Given as goal
-
-abbrev pub invariant-loop-store : goal.invariant-loop-store
-invariant-loop-store l = l.text.items ≡ store_lines (take l.store-index l.stores)

@@ -1,8 +1,0 @@
-use Rattle.std.proofs.Common.{◌≡◌, List}
-use Rattle.round_schedule.specs.declared.event.Event.{Event}
-use Rattle.round_schedule.specs.Reservations.{Tied}
-use Rattle.gdb_answers.specs.Reserved.{held_lines}
-use Rattle.gdb_answers.proofs.reserved.held_lines.Given as goal
-
-abbrev pub invariant-loop-hart : goal.invariant-loop-hart
-invariant-loop-hart l = (t : List Event) → Tied l.reservations t → l.text.items ≡ held_lines t l.hart

@@ -1,0 +1,85 @@
+//! The stores of a hart that are not committed.
+
+ghost use Rattle.std.specs.Prelude.{◌≡◌, ◌≤◌, ◌++◌, Err, IfOk, OnOk};
+ghost use Rattle.hex.specs.Hex.{encode_lower};
+ghost use Rattle.host_io.specs.Taken.{WritesText};
+ghost use Rattle.host_io.specs.declared.error.RunError.TheVariants as refusals;
+ghost use Rattle.machine.specs.Machine.{Running};
+ghost use Rattle.machine.specs.Untraced.{IsUntraced};
+ghost use Rattle.gdb_packets.specs.Writing.{packet_text};
+ghost use Rattle.shown_harts.specs.Shown.{seen};
+ghost use Rattle.gdb_events.specs.Buffers.{buffer_answer, buffer_text, line_of, store_lines};
+ghost use Rattle.round_schedule.specs.Bounds.{AreWorkers};
+
+use crate::saying::say_or;
+use gdb_replies::{Reply, add_store_line, write_reply};
+use gdb_sights::Look;
+use host_io::{RunError, Sink};
+use pages::{OutOfMemory, Store};
+use std::alloc::Global;
+use std::sync::Wait;
+use std::thread::Threads;
+use timelines::Timeline;
+
+/// What is said where there are none.
+const NONE: &[u8] = b"no stores\n";
+
+/// Answers with the stores of a hart that are not committed at a point of the run. It may wait.
+///
+/// # Errors
+///
+/// `OutOfMemory`: nothing is written then. `SinkFailed`: a beginning of the packet is.
+pub fn answer_buffer<R: Threads + Wait + Sync, K: Sink>(
+    rt: &R,
+    alloc: Global,
+    timeline: &mut Timeline,
+    look: Look,
+    out: &mut K,
+) -> Result<(), RunError>
+    requires within { look.point.moment.rounds ≤ timeline.old.rounds }
+    requires workers { AreWorkers look.workers }
+    ensures stays { timeline.new ≡ timeline.old }
+    ensures writes { (m : Running) → IsUntraced m timeline.old.start → OnOk result
+        (K.took out.new ≡ K.took out.old ++ packet_text
+        (buffer_answer m look.point look.hart (seen m look.point look.hart))) }
+    ensures memory { result ≡ Err refusals.OutOfMemory → K.took out.new ≡ K.took out.old }
+{
+    let Some(sight) = timeline.shown_at(rt, &look.point, look.hart, look.workers)? else {
+        return write_reply(alloc, &Reply::Missing, out);
+    };
+    drop(sight);
+    let part = timeline.own_part_at(rt, &look.point, look.hart, look.workers)?;
+    say_buffer(alloc, part.stores.as_slice(), out)
+}
+
+/// Answers with these stores.
+fn say_buffer<K: Sink>(alloc: Global, stores: &[Store], out: &mut K) -> Result<(), RunError>
+    ensures writes { WritesText (packet_text (encode_lower (buffer_text stores.now)))
+        (K.took out.old) (K.failures out.old) result (K.took out.new) (K.failures out.new) }
+    ensures memory { result ≡ Err refusals.OutOfMemory → K.took out.new ≡ K.took out.old }
+{
+    match store_lines(alloc, stores) {
+        Ok(text) => say_or(alloc, text.as_slice(), NONE, out),
+        Err(_) => Err(RunError::OutOfMemory),
+    }
+}
+
+/// A line for each store.
+fn store_lines(alloc: Global, stores: &[Store]) -> Result<Vec<u8>, OutOfMemory>
+    ensures { IfOk result (λ text. text.items ≡ store_lines stores.now) }
+{
+    let mut text = Vec::new(alloc);
+    for store in stores {
+        add_line(&mut text, store)?;
+    }
+    Ok(text)
+}
+
+/// Adds the line of a store.
+fn add_line(text: &mut Vec<u8>, store: &Store) -> Result<(), OutOfMemory>
+    ensures { OnOk result (text.new.items ≡ text.old.items ++ line_of store.now) }
+{
+    let bytes = store.value.to_le_bytes();
+    let count = store.width.bytes() as usize;
+    add_store_line(text, store.address, &bytes[..count])
+}

@@ -1,0 +1,5 @@
+pub mod Runs
+pub mod Within
+pub mod Harts
+pub mod Recording
+pub mod Finding

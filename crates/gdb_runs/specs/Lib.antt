@@ -1,0 +1,4 @@
+pub mod Sessions
+pub mod Wanted
+pub mod Ways
+pub mod Standings

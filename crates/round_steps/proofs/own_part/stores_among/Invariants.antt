@@ -1,6 +1,0 @@
-use Rattle.std.proofs.Common.{◌≡◌, take}
-use Rattle.round_steps.specs.OwnParts.{stores_among}
-use Rattle.round_steps.proofs.own_part.stores_among.Given as goal
-
-abbrev pub invariant-loop-access : goal.invariant-loop-access
-invariant-loop-access l = l.stores.items ≡ stores_among (take l.access-index l.accesses)

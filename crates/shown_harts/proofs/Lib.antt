@@ -1,0 +1,2 @@
+pub mod ShownThere
+pub mod OwnPartsDone
