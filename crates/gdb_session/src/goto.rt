@@ -141,10 +141,8 @@ fn say_rounds<K: Sink>(alloc: Global, rounds: u32, out: &mut K) -> Result<(), Ru
         (K.failures out.old) result (K.took out.new) (K.failures out.new) }
     ensures memory { result ≡ Err refusals.OutOfMemory → K.took out.new ≡ K.took out.old }
 {
-    match rounds_line(alloc, rounds) {
-        Ok(text) => say(alloc, text.as_slice(), out),
-        Err(_) => Err(RunError::OutOfMemory),
-    }
+    let text = rounds_line(alloc, rounds)?;
+    say(alloc, text.as_slice(), out)
 }
 
 fn rounds_line(alloc: Global, rounds: u32) -> Result<Vec<u8>, OutOfMemory>
@@ -161,10 +159,8 @@ fn say_harts<K: Sink>(alloc: Global, harts: u32, out: &mut K) -> Result<(), RunE
         (K.failures out.old) result (K.took out.new) (K.failures out.new) }
     ensures memory { result ≡ Err refusals.OutOfMemory → K.took out.new ≡ K.took out.old }
 {
-    match harts_line(alloc, harts) {
-        Ok(text) => say(alloc, text.as_slice(), out),
-        Err(_) => Err(RunError::OutOfMemory),
-    }
+    let text = harts_line(alloc, harts)?;
+    say(alloc, text.as_slice(), out)
 }
 
 fn harts_line(alloc: Global, harts: u32) -> Result<Vec<u8>, OutOfMemory>

@@ -74,8 +74,5 @@ fn copies_of(
 fn is_elf(format: Format) -> bool
     ensures { result ≡ is_elf format }
 {
-    match format {
-        Format::Elf => true,
-        Format::Flat => false,
-    }
+    matches!(format, Format::Elf)
 }
