@@ -14,7 +14,7 @@ pub enum Failing {
 }
 
 /// What comes of an execution.
-#[derive(Clone, Copy, Debug, PartialEq, Eq)]
+#[derive(Clone, Copy)]
 pub(crate) enum Judgement {
     /// It ends as it has to, or it is none.
     Well,
@@ -27,12 +27,16 @@ pub(crate) enum Judgement {
 impl Failing {
     /// Whether two executions fail in one way, whichever hart it is that stops, and how.
     pub(crate) fn is_like(self, other: Failing) -> bool {
-        matches!(
-            (self, other),
-            (Failing::Stopped(_, _), Failing::Stopped(_, _))
-                | (Failing::Output, Failing::Output)
-                | (Failing::Seen, Failing::Seen)
-                | (Failing::Stuck, Failing::Stuck)
-        )
+        self.way() == other.way()
+    }
+
+    /// The number of the way in which an execution fails.
+    fn way(self) -> u8 {
+        match self {
+            Failing::Stopped(_, _) => 0,
+            Failing::Output => 1,
+            Failing::Seen => 2,
+            Failing::Stuck => 3,
+        }
     }
 }

@@ -5,6 +5,7 @@ use fence_places::{Gap, Move, Sides};
 use fence_table::{FenceKind, Side, Tally};
 use pages::OutOfMemory;
 use std::alloc::Global;
+use std::mem;
 
 /// A gap at which a fence is missing: it would forbid some executions that fail.
 #[derive(Drop)]
@@ -25,7 +26,7 @@ pub struct Weakness {
 }
 
 /// Where a fence may stand.
-#[derive(Clone, Copy, Debug, PartialEq, Eq, PartialOrd, Ord)]
+#[derive(Clone, Copy, PartialEq, Eq, PartialOrd, Ord)]
 enum Spot {
     /// Right behind the instruction at an address.
     Behind(u64),
@@ -69,13 +70,23 @@ pub(crate) fn fewest_weaknesses(
         let Some(spot) = elected(spots_of(alloc, &left)?) else {
             break;
         };
-        let (hit, others) = divided(alloc, left, spot)?;
-        left = others;
-        if let Some(weakness) = weakness_at(alloc, spot, hit)? {
-            weaknesses.push(weakness)?;
-        }
+        add_weakness(alloc, spot, &mut left, &mut weaknesses)?;
     }
     Ok(weaknesses)
+}
+
+/// Adds the gap of a spot, and takes away the executions that a fence there forbids.
+fn add_weakness(
+    alloc: Global,
+    spot: Spot,
+    left: &mut Vec<Found>,
+    weaknesses: &mut Vec<Weakness>,
+) -> Result<(), OutOfMemory> {
+    let hit = taken_away(alloc, left, spot)?;
+    if let Some(weakness) = weakness_at(alloc, spot, hit)? {
+        weaknesses.push(weakness)?;
+    }
+    Ok(())
 }
 
 impl Spot {
@@ -183,6 +194,13 @@ impl Found {
         nearest
     }
 
+    /// The nearest gap that a spot is in, and the operation that moved there.
+    fn gap_at(&self, spot: Spot) -> Option<(Gap, Move)> {
+        let gap = self.nearest(spot)?;
+        let moved = self.moves.moves.get(gap.moved)?;
+        Some((gap, *moved))
+    }
+
     /// Votes for a spot, where no other gap that has it is nearer.
     fn vote(&self, votes: &mut Vec<Vote>, spot: Spot, gap: &Gap) -> Result<(), OutOfMemory> {
         if self.nearest(spot) == Some(*gap) {
@@ -204,22 +222,22 @@ impl Found {
     }
 }
 
-/// The executions that a fence at a spot forbids, and the others.
-fn divided(
+/// The executions that a fence at a spot forbids, which are taken away from all.
+fn taken_away(
     alloc: Global,
-    founds: Vec<Found>,
+    founds: &mut Vec<Found>,
     spot: Spot,
-) -> Result<(Vec<Found>, Vec<Found>), OutOfMemory> {
+) -> Result<Vec<Found>, OutOfMemory> {
+    let all = mem::replace(founds, Vec::new(alloc));
     let mut hit = Vec::new(alloc);
-    let mut others = Vec::new(alloc);
-    for found in founds {
+    for found in all {
         if found.nearest(spot).is_some() {
             hit.push(found)?;
         } else {
-            others.push(found)?;
+            founds.push(found)?;
         }
     }
-    Ok((hit, others))
+    Ok(hit)
 }
 
 /// The gap of a spot where a fence forbids these executions.
@@ -228,12 +246,10 @@ fn weakness_at(
     spot: Spot,
     hit: Vec<Found>,
 ) -> Result<Option<Weakness>, OutOfMemory> {
-    let Some(between) = elected(gaps_of(alloc, &hit, spot)?) else {
-        return Ok(None);
-    };
-    let numbers = numbers_of(&hit);
-    let fence = fence_at(spot, &hit);
-    Ok(shown_at(between, hit).and_then(|shown| told_at(between, fence, numbers, shown)))
+    match elected(gaps_of(alloc, &hit, spot)?) {
+        Some(between) => Ok(told_at(between, fence_at(spot, &hit), numbers_of(&hit), hit)),
+        None => Ok(None),
+    }
 }
 
 /// How many executions these are, and the least of their numbers.
@@ -267,28 +283,40 @@ fn fence_at(spot: Spot, founds: &[Found]) -> FenceKind {
 
 /// The execution that is shown at a spot.
 fn shown_at(spot: Spot, founds: Vec<Found>) -> Option<Found> {
-    let mut best: Option<Found> = None;
-    for found in founds {
-        best = Some(match best {
-            Some(best) if best.cost(spot) <= found.cost(spot) => best,
-            _ => found,
-        });
+    let mut founds = founds;
+    let index = index_shown(spot, &founds);
+    if index < founds.len() {
+        Some(founds.swap_remove(index))
+    } else {
+        None
+    }
+}
+
+/// The index of the execution that is shown at a spot, where there is one.
+fn index_shown(spot: Spot, founds: &[Found]) -> usize {
+    let mut best = 0;
+    for index in 1..founds.len() {
+        if founds[index].cost(spot) < founds[best].cost(spot) {
+            best = index;
+        }
     }
     best
 }
 
-/// A gap with what is told of it.
-fn told_at(spot: Spot, fence: FenceKind, numbers: Tally, shown: Found) -> Option<Weakness> {
-    let gap = shown.nearest(spot)?;
-    let moved = *shown.moves.moves.get(gap.moved)?;
-    Some(Weakness {
-        earlier: gap.earlier,
-        later: gap.later,
-        fence,
-        numbers,
-        moved,
-        shown,
-    })
+/// A gap with what is told of it, where a fence forbids these executions.
+fn told_at(spot: Spot, fence: FenceKind, numbers: Tally, hit: Vec<Found>) -> Option<Weakness> {
+    let shown = shown_at(spot, hit)?;
+    match shown.gap_at(spot) {
+        Some((gap, moved)) => Some(Weakness {
+            earlier: gap.earlier,
+            later: gap.later,
+            fence,
+            numbers,
+            moved,
+            shown,
+        }),
+        None => None,
+    }
 }
 
 /// What a fence has to keep before it, where each of these is enough: loads sooner than stores, and both where neither is.

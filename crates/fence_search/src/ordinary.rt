@@ -37,7 +37,7 @@ pub(crate) struct Ordinary {
 }
 
 /// How far an execution has come.
-#[derive(Clone, Copy, Debug, PartialEq, Eq)]
+#[derive(Clone, Copy)]
 pub(crate) enum State {
     /// This hart stopped so, which is otherwise than by exit 0.
     Failed(u8, Stop),
@@ -51,28 +51,35 @@ pub(crate) enum State {
 pub(crate) fn state_of(machine: &TimedMachine, harts: usize) -> State {
     let mut state = State::Ended;
     for number in 0..harts.min(64) {
-        match machine.hart(number).and_then(|hart| hart.stop) {
+        let stop = match machine.hart(number) {
+            Some(hart) => hart.stop,
+            None => None,
+        };
+        match stop {
             None => state = State::Runs,
-            Some(stop) if stop.code != 1 || stop.value != 0 => {
-                return State::Failed(number as u8, stop);
+            Some(stop) => {
+                if stop.code != 1 || stop.value != 0 {
+                    return State::Failed(number as u8, stop);
+                }
             }
-            Some(_) => {}
         }
     }
     state
 }
 
-/// The bytes of this run, where they are those of the runs before it.
-fn agreed(
+/// Keeps the bytes of the first run, and forgets them where those of another run are others.
+fn agree(
     alloc: Global,
     run: u32,
-    before: Option<Vec<u8>>,
+    agreed: &mut Option<Vec<u8>>,
     bytes: &[u8],
-) -> Result<Option<Vec<u8>>, OutOfMemory> {
+) -> Result<(), OutOfMemory> {
     if run == 0 {
-        return Ok(Some(Vec::from_slice(alloc, bytes)?));
+        *agreed = Some(Vec::from_slice(alloc, bytes)?);
+    } else if differs(agreed, bytes) {
+        *agreed = None;
     }
-    Ok(before.filter(|before| before.as_slice() == bytes))
+    Ok(())
 }
 
 /// Makes the runs that say what is ordinary.
@@ -90,48 +97,59 @@ pub(crate) fn ordinary_runs(guest: &FenceGuest<'_>) -> Result<Ordinary, OutOfMem
     };
     let mut longest = 0;
     for number in 0..RUNS {
-        let machine = guest.execute(number, Departing::NONE, false, guest.bounds.steps)?;
-        add_run(guest, &mut ordinary, number, &machine)?;
-        if state_of(&machine, guest.harts()) == State::Ended {
-            longest = machine.steps().max(longest);
-        }
+        longest = make_run(guest, &mut ordinary, number)?.max(longest);
     }
-    if !ordinary.ends_well {
-        ordinary.output = None;
-        ordinary.seen = None;
-    }
-    let hanging = longest
-        .saturating_mul(MOST_TIMES)
-        .saturating_add(MORE_STEPS);
-    if longest > 0 && hanging <= guest.bounds.steps {
-        ordinary.steps = hanging;
-        ordinary.hangs_after = Some(hanging);
-    }
+    ordinary.settle(longest);
     Ok(ordinary)
 }
 
-/// Adds one of these runs.
+/// Makes one of these runs. Answers how many steps it took, and 0 where it doesn't end well.
+fn make_run(
+    guest: &FenceGuest<'_>,
+    ordinary: &mut Ordinary,
+    number: u32,
+) -> Result<u64, OutOfMemory> {
+    let machine = guest.execute(number, Departing::NONE, false, guest.bounds.steps)?;
+    let steps = add_run(guest, ordinary, number, &machine);
+    drop(machine);
+    steps
+}
+
+/// Adds a run that was made.
 fn add_run(
     guest: &FenceGuest<'_>,
     ordinary: &mut Ordinary,
     number: u32,
     machine: &TimedMachine,
-) -> Result<(), OutOfMemory> {
-    if state_of(machine, guest.harts()) != State::Ended {
-        ordinary.ends_well = false;
-    }
+) -> Result<u64, OutOfMemory> {
     let seen = seen_of(guest.alloc, machine.pages(), guest.ranges)?;
-    ordinary.output = agreed(
-        guest.alloc,
-        number,
-        ordinary.output.take(),
-        machine.output(),
-    )?;
-    ordinary.seen = agreed(guest.alloc, number, ordinary.seen.take(), &seen)?;
-    Ok(())
+    agree(guest.alloc, number, &mut ordinary.output, machine.output())?;
+    agree(guest.alloc, number, &mut ordinary.seen, &seen)?;
+    match state_of(machine, guest.harts()) {
+        State::Ended => Ok(machine.steps()),
+        _ => {
+            ordinary.ends_well = false;
+            Ok(0)
+        }
+    }
 }
 
 impl Ordinary {
+    /// Settles what is ordinary once all runs are made, of which the longest that ends well took so many steps.
+    fn settle(&mut self, longest: u64) {
+        if !self.ends_well {
+            self.output = None;
+            self.seen = None;
+        }
+        let hanging = longest
+            .saturating_mul(MOST_TIMES)
+            .saturating_add(MORE_STEPS);
+        if longest > 0 && hanging <= self.steps {
+            self.steps = hanging;
+            self.hangs_after = Some(hanging);
+        }
+    }
+
     /// What comes of an execution of which each hart exited with 0.
     fn judgement_of_ended(
         &self,
@@ -160,7 +178,9 @@ impl Ordinary {
         departing: Departing<'_>,
     ) -> Result<Option<Failing>, OutOfMemory> {
         let machine = guest.execute(number, departing, false, self.steps)?;
-        match self.judgement_now(guest, &machine)? {
+        let judgement = self.judgement_now(guest, &machine);
+        drop(machine);
+        match judgement? {
             Judgement::Fails(failing) => Ok(Some(failing)),
             Judgement::Cut if self.hangs_after.is_some() => Ok(Some(Failing::Stuck)),
             Judgement::Cut | Judgement::Well => Ok(None),
@@ -179,9 +199,25 @@ impl Ordinary {
         departing: Departing<'_>,
     ) -> Result<Judgement, OutOfMemory> {
         let mut machine = guest.execute(number, departing, false, self.steps)?;
-        match (self.judgement_now(guest, &machine)?, self.hangs_after) {
-            (Judgement::Cut, Some(steps)) => self.running(guest, &mut machine, number, steps),
-            (judgement, _) => Ok(judgement),
+        let judgement = self.judgement_of(guest, &mut machine, number);
+        drop(machine);
+        judgement
+    }
+
+    /// What comes of the execution of a number that a machine has made so far.
+    fn judgement_of(
+        &self,
+        guest: &FenceGuest<'_>,
+        machine: &mut TimedMachine,
+        number: u32,
+    ) -> Result<Judgement, OutOfMemory> {
+        let judgement = self.judgement_now(guest, machine)?;
+        match judgement {
+            Judgement::Cut => match self.hangs_after {
+                Some(steps) => self.running(guest, machine, number, steps),
+                None => Ok(judgement),
+            },
+            _ => Ok(judgement),
         }
     }
 

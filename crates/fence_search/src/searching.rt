@@ -81,23 +81,9 @@ pub fn search_fences<O: FenceObserver, R: Threads + Sync>(
     requires { first + count < 2 ^ 32 }
 {
     let ordinary = ordinary_runs(guest)?;
-    let mut trials = Trials {
-        founds: Vec::new(guest.alloc),
-        ordinary: NOBODY,
-        unnamed: NOBODY,
-        running: NOBODY,
-        unconfirmed: None,
-    };
-    let mut done = 0;
-    while done < count {
-        let size = block_size(
-            observer.before_block(done, trials.founds.len()),
-            count - done,
-        );
-        let mut slots = try_block(rt, guest, &ordinary, first + done, size, workers)?;
-        add_block(guest, &ordinary, &mut trials, first + done, &mut slots)?;
-        done += size;
-    }
+    let trials = try_all(rt, guest, &ordinary, first, count, workers, observer);
+    drop(ordinary);
+    let trials = trials?;
     Ok(Search {
         weaknesses: fewest_weaknesses(guest.alloc, trials.founds)?,
         ordinary: trials.ordinary,
@@ -107,8 +93,63 @@ pub fn search_fences<O: FenceObserver, R: Threads + Sync>(
     })
 }
 
+/// What came of these executions.
+fn try_all<O: FenceObserver, R: Threads + Sync>(
+    rt: &R,
+    guest: &FenceGuest<'_>,
+    ordinary: &Ordinary,
+    first: u32,
+    count: u32,
+    workers: u32,
+    observer: &mut O,
+) -> Result<Trials, OutOfMemory>
+    requires { first + count < 2 ^ 32 }
+{
+    let mut trials = Trials {
+        founds: Vec::new(guest.alloc),
+        ordinary: NOBODY,
+        unnamed: NOBODY,
+        running: NOBODY,
+        unconfirmed: None,
+    };
+    let mut done = 0;
+    while done < count {
+        let wanted = observer.before_block(done, trials.founds.len());
+        let size = block_size(wanted, count - done);
+        add_block(
+            rt,
+            guest,
+            ordinary,
+            &mut trials,
+            first + done,
+            size,
+            workers,
+        )?;
+        done += size;
+    }
+    Ok(trials)
+}
+
+/// Makes a block of executions, and adds what came of them.
+fn add_block<R: Threads + Sync>(
+    rt: &R,
+    guest: &FenceGuest<'_>,
+    ordinary: &Ordinary,
+    trials: &mut Trials,
+    first: u32,
+    count: u32,
+    workers: u32,
+) -> Result<(), OutOfMemory>
+    requires { first + count < 2 ^ 32 }
+{
+    let mut slots = try_block(rt, guest, ordinary, first, count, workers)?;
+    let added = add_slots(guest, ordinary, trials, first, &mut slots);
+    drop(slots);
+    added
+}
+
 /// Adds what came of a block of executions. What the slots leave out is tried here.
-fn add_block(
+fn add_slots(
     guest: &FenceGuest<'_>,
     ordinary: &Ordinary,
     trials: &mut Trials,
@@ -119,11 +160,10 @@ fn add_block(
 {
     for index in 0..slots.len() {
         let number = first + index as u32;
-        let trial = match slots[index].take() {
-            Some(trial) => trial,
-            None => try_number(guest, ordinary, number)?,
-        };
-        trials.add(number, trial)?;
+        match slots[index].take() {
+            Some(trial) => trials.add(number, trial)?,
+            None => trials.add(number, try_number(guest, ordinary, number)?)?,
+        }
     }
     Ok(())
 }

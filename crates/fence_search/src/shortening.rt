@@ -43,8 +43,12 @@ pub(crate) fn shortened(
         failing,
         runs: MOST_RUNS,
     };
-    let fewer = shortening.fewest(copied(guest.alloc, departures)?)?;
-    shortening.with_simple_ways(fewer)
+    let mut needed = copied(guest.alloc, departures)?;
+    shortening.leave_out_most(&mut needed)?;
+    for index in 0..needed.len() {
+        shortening.simplify(&mut needed, index)?;
+    }
+    Ok(needed)
 }
 
 impl Shortening<'_, '_> {
@@ -54,19 +58,19 @@ impl Shortening<'_, '_> {
             return Ok(false);
         }
         self.runs -= 1;
-        let failing = self
-            .ordinary
-            .seeming(self.guest, self.number, Departing::Listed(departures))?;
-        Ok(failing.is_some_and(|failing| failing.is_like(self.failing)))
+        let departing = Departing::Listed(departures);
+        match self.ordinary.seeming(self.guest, self.number, departing)? {
+            Some(failing) => Ok(failing.is_like(self.failing)),
+            None => Ok(false),
+        }
     }
 
     /// Leaves out halves, quarters, and so on, and at last single ones.
-    fn fewest(&mut self, departures: Vec<Departure>) -> Result<Vec<Departure>, OutOfMemory> {
-        let mut needed = departures;
+    fn leave_out_most(&mut self, needed: &mut Vec<Departure>) -> Result<(), OutOfMemory> {
         let mut size = (needed.len() / 2).max(1);
         for _ in 0..MOST_RUNS {
             let before = needed.len();
-            needed = self.without_chunks(needed, size)?;
+            self.leave_out_chunks(needed, size)?;
             if needed.len() < before {
                 size = size.min((needed.len() / 2).max(1));
             } else if size > 1 {
@@ -75,67 +79,76 @@ impl Shortening<'_, '_> {
                 break;
             }
         }
-        Ok(needed)
+        Ok(())
     }
 
     /// Leaves out each so many in turn, where the execution still fails.
-    fn without_chunks(
+    fn leave_out_chunks(
         &mut self,
-        departures: Vec<Departure>,
+        needed: &mut Vec<Departure>,
         size: usize,
-    ) -> Result<Vec<Departure>, OutOfMemory> {
-        let mut needed = departures;
+    ) -> Result<(), OutOfMemory> {
         let mut start = 0;
         for _ in 0..needed.len() {
             if start >= needed.len() {
                 break;
             }
-            let fewer = without(self.guest.alloc, &needed, start, size)?;
-            if self.still_fails(&fewer)? {
-                needed = fewer;
-            } else {
+            if !self.leave_out(needed, start, size)? {
                 start = start.saturating_add(size);
             }
         }
-        Ok(needed)
+        Ok(())
     }
 
-    /// Has each departure be the smallest one with which the execution still fails.
-    fn with_simple_ways(
+    /// Leaves out so many from an index on, if the execution still fails. Says whether it does.
+    fn leave_out(
         &mut self,
-        departures: Vec<Departure>,
-    ) -> Result<Vec<Departure>, OutOfMemory> {
-        let mut needed = departures;
-        for index in 0..needed.len() {
-            needed = self.with_simple_way(needed, index)?;
+        needed: &mut Vec<Departure>,
+        start: usize,
+        size: usize,
+    ) -> Result<bool, OutOfMemory> {
+        let fewer = without(self.guest.alloc, needed, start, size)?;
+        let still_fails = self.still_fails(&fewer)?;
+        if still_fails {
+            *needed = fewer;
         }
-        Ok(needed)
+        Ok(still_fails)
     }
 
-    /// The same of one of them.
-    fn with_simple_way(
+    /// Has the departure at an index be the smallest one with which the execution still fails.
+    fn simplify(&mut self, needed: &mut Vec<Departure>, index: usize) -> Result<(), OutOfMemory> {
+        let Some(departure) = needed.get(index) else {
+            return Ok(());
+        };
+        let way = departure.way;
+        let mut changed = copied(self.guest.alloc, needed)?;
+        if self.finds_smaller(&mut changed, index, way)? {
+            *needed = changed;
+        }
+        Ok(())
+    }
+
+    /// Makes the departure at an index the smallest one with which the execution still fails. Says whether there is a smaller one.
+    fn finds_smaller(
         &mut self,
-        departures: Vec<Departure>,
+        changed: &mut [Departure],
         index: usize,
-    ) -> Result<Vec<Departure>, OutOfMemory> {
-        let mut changed = copied(self.guest.alloc, &departures)?;
+        way: Way,
+    ) -> Result<bool, OutOfMemory> {
         let mut extent = 1;
         for _ in 0..64 {
-            let Some(departure) = departures.get(index) else {
-                break;
-            };
-            let Some(way) = smaller(departure.way, extent) else {
+            let Some(smaller) = smaller(way, extent) else {
                 break;
             };
             if let Some(departure) = changed.get_mut(index) {
-                departure.way = way;
+                departure.way = smaller;
             }
-            if self.still_fails(&changed)? {
-                return Ok(changed);
+            if self.still_fails(changed)? {
+                return Ok(true);
             }
             extent = extent.saturating_mul(2);
         }
-        Ok(departures)
+        Ok(false)
     }
 }
 
@@ -162,9 +175,9 @@ fn without(
     size: usize,
 ) -> Result<Vec<Departure>, OutOfMemory> {
     let mut left = Vec::new(alloc);
-    for (index, departure) in departures.iter().enumerate() {
+    for index in 0..departures.len() {
         if index < start || index - start >= size {
-            left.push(*departure)?;
+            left.push(departures[index])?;
         }
     }
     Ok(left)

@@ -74,28 +74,55 @@ fn look_into(
     number: u32,
     failing: Failing,
 ) -> Result<Trial, OutOfMemory> {
-    match ordinary.judgement(guest, number, Departing::NONE)? {
-        Judgement::Fails(_) => return Ok(Trial::Ordinary),
+    let without = ordinary.judgement(guest, number, Departing::NONE)?;
+    match trial_without(without, failing, ordinary.ends_well) {
+        Some(trial) => Ok(trial),
+        None => look_into_departures(guest, ordinary, number, failing),
+    }
+}
+
+/// What came of an execution that fails so, where its departures needn't be looked into, since this comes of it without them.
+fn trial_without(without: Judgement, failing: Failing, ends_well: bool) -> Option<Trial> {
+    let is_stuck = failing.is_like(Failing::Stuck);
+    match without {
+        Judgement::Fails(_) => Some(Trial::Ordinary),
         // What hangs isn't told from what would only take longer.
-        Judgement::Cut if failing == Failing::Stuck => return Ok(Trial::Running),
-        Judgement::Cut | Judgement::Well => {}
+        Judgement::Cut if is_stuck => Some(Trial::Running),
+        _ if is_stuck && !ends_well => Some(Trial::Unnamed),
+        _ => None,
     }
-    if failing == Failing::Stuck && !ordinary.ends_well {
-        return Ok(Trial::Unnamed);
-    }
+}
+
+/// Looks for those departures that the execution of a number fails by.
+fn look_into_departures(
+    guest: &FenceGuest<'_>,
+    ordinary: &Ordinary,
+    number: u32,
+    failing: Failing,
+) -> Result<Trial, OutOfMemory> {
     let drawn = drawn_departures(guest, ordinary, number)?;
     let fewer = shortened(guest, ordinary, number, failing, &drawn)?;
-    // What seemed to run on for ever may end after all.
-    for departures in [fewer, drawn] {
-        if let Judgement::Fails(failing) = ordinary.judgement(
-            guest,
-            number,
-            Departing::Listed(&departures),
-        )? {
-            return explain(guest, ordinary, number, failing, departures);
-        }
+    match failing_with(guest, ordinary, number, &fewer)? {
+        Some(failing) => explain(guest, ordinary, number, failing, fewer),
+        // What seemed to run on for ever may end after all.
+        None => match failing_with(guest, ordinary, number, &drawn)? {
+            Some(failing) => explain(guest, ordinary, number, failing, drawn),
+            None => Ok(Trial::Unconfirmed),
+        },
     }
-    Ok(Trial::Unconfirmed)
+}
+
+/// How the execution of a number fails with these departures, if it does.
+fn failing_with(
+    guest: &FenceGuest<'_>,
+    ordinary: &Ordinary,
+    number: u32,
+    departures: &[Departure],
+) -> Result<Option<Failing>, OutOfMemory> {
+    match ordinary.judgement(guest, number, Departing::Listed(departures))? {
+        Judgement::Fails(failing) => Ok(Some(failing)),
+        Judgement::Cut | Judgement::Well => Ok(None),
+    }
 }
 
 /// The departures that a number draws, as far as they take effect.
@@ -105,17 +132,24 @@ fn drawn_departures(
     number: u32,
 ) -> Result<Vec<Departure>, OutOfMemory> {
     let machine = guest.execute(number, Departing::Drawn, true, ordinary.steps)?;
+    let drawn = copied(guest.alloc, departures_of(&machine));
+    drop(machine);
+    drawn
+}
+
+/// What departs in the execution of a machine.
+fn departures_of(machine: &TimedMachine) -> &[Departure] {
     match machine.record() {
-        Some(record) => copied(guest.alloc, record.departures()),
-        None => Ok(Vec::new(guest.alloc)),
+        Some(record) => record.departures(),
+        None => &[],
     }
 }
 
 /// The first of the orders in which the checker of executions allows a record.
 fn placing_of(guest: &FenceGuest<'_>, record: &Record) -> Result<Option<Placing>, OutOfMemory> {
-    for placing in PLACINGS {
-        if is_allowed(guest.alloc, &guest.opening, record, placing)? {
-            return Ok(Some(placing));
+    for placing in &PLACINGS {
+        if is_allowed(guest.alloc, &guest.opening, record, *placing)? {
+            return Ok(Some(*placing));
         }
     }
     Ok(None)

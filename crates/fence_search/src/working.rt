@@ -32,12 +32,23 @@ pub(crate) fn try_block<R: Threads + Sync>(
     requires few { first + count < 2 ^ 32 }
     ensures { IfOk result (λ v. length v.items ≡ count) }
 {
-    let mut slots = empty_slots(guest.alloc, count)?;
     let next = AtomicU64::new(0);
     let work = |_worker: usize|
         requires { first + count < 2 ^ 32 }
     { work(guest, ordinary, first, count, &next) };
     let lists = thread::map_indices(rt, guest.alloc, workers as usize, &work)?;
+    filled_slots(guest.alloc, count, lists)
+}
+
+/// A slot for each execution, with what was found in it.
+fn filled_slots(
+    alloc: Global,
+    count: u32,
+    lists: Vec<Vec<Tried>>,
+) -> Result<Vec<Option<Trial>>, OutOfMemory>
+    ensures { IfOk result (λ v. length v.items ≡ count) }
+{
+    let mut slots = empty_slots(alloc, count)?;
     for list in lists {
         put(&mut slots, list);
     }

@@ -1,5 +1,5 @@
 use Rattle.std.proofs.Common.{◌≤◌, ◌-◌}
-use Rattle.fence_search.proofs.searching.search_fences.Given as goal
+use Rattle.fence_search.proofs.searching.try_all.Given as goal
 
 abbrev pub invariant-loop-done : goal.invariant-loop-done
 invariant-loop-done g l = l.done ≤ l.count
