@@ -11,7 +11,7 @@ use Rattle.elf_loader.specs.Image.{Loaded}
 use Rattle.guest_rounds.specs.Guests.{opening_guest}
 use Rattle.guest_rounds.specs.Opening.{opening_harts}
 use Rattle.execution_file.specs.Recorded.{HartDeeds}
-use Rattle.execution_scripts.specs.Deeds.{deeds, parts_from}
+use Rattle.execution_deeds.specs.Deeds.{deeds, parts_from}
 use Rattle.execution_scripts.specs.Findings.{start_of}
 
 -- a step changes one hart
@@ -32,9 +32,12 @@ opened : (entry n i k : ℕ) → length (opening_harts entry n i k) ≡ k
 opened entry n i zero = refl
 opened entry n i (suc k) = ap (λ m. suc m) (opened entry n (suc i) k)
 
--- a part for each hart of a guest that was opened with k harts
-pub a_part_each : (image : Loaded) (input : List ℕ) (k : ℕ) (p q : Standing) (hs : List Hart) (t : List Event) (ps : List HartDeeds) →
-    p ≡ start_of (opening_guest image input k) → length q.harts ≡ length p.harts → hs ≡ q.harts → ps ≡ deeds hs t → length ps ≡ k
-a_part_each image input k p q hs t ps opens as_many_more are did =
-    ap (λ (xs : List HartDeeds). length xs) did ∙ parts 0 hs t ∙ ap (λ (xs : List Hart). length xs) are ∙ as_many_more ∙ ap (λ (s : Standing). length s.harts) opens
-    ∙ opened image.entry k 0 k
+-- k harts, where a guest's execution begins that was opened with k harts
+pub as_many_opened : (image : Loaded) (input : List ℕ) (k : ℕ) (p : Standing) → p ≡ start_of (opening_guest image input k) → length p.harts ≡ k
+as_many_opened image input k p opens = ap (λ (s : Standing). length s.harts) opens ∙ opened image.entry k 0 k
+
+-- a part for each of k harts
+pub a_part_each : (k : ℕ) (p q : Standing) (hs : List Hart) (t : List Event) (ps : List HartDeeds) →
+    length p.harts ≡ k → length q.harts ≡ length p.harts → hs ≡ q.harts → ps ≡ deeds hs t → length ps ≡ k
+a_part_each k p q hs t ps count as_many_more are did =
+    ap (λ (xs : List HartDeeds). length xs) did ∙ parts 0 hs t ∙ ap (λ (xs : List Hart). length xs) are ∙ as_many_more ∙ count

@@ -1,17 +1,22 @@
 -- A verdict over the pieces of an image is one over its bytes.
-use Rattle.std.proofs.Common.{◌≡◌, ℕ, ◌+◌, ◌*◌, ◌≤◌, List, length, map, slice_index, ap, ◌∙◌, subst, All}
+use Rattle.std.proofs.Common.{◌≡◌, ℕ, ◌+◌, ◌*◌, ◌≤◌, List, Option, length, map, slice_index, ap, ◌∙◌, refl, subst, All}
 use Rattle.pages.specs.declared.access.Piece.{Piece}
 use Rattle.pages.specs.Initial.{bytes_from}
 use Rattle.pages.specs.Memory.{Memory}
 use Rattle.trace.specs.Traced.{Laid, laid, opening_at}
 use Rattle.trace.proofs.Openings.{bytes_of_pieces, none_beyond, opening_is}
 use Rattle.elf_loader.specs.Image.{Loaded}
-use Rattle.guest_rounds.specs.Guests.{opening_guest}
+use Rattle.guest_rounds.specs.Guests.{Guest, opening_guest}
 use Rattle.execution.specs.declared.step.ScriptedStep.{ScriptedStep}
 use Rattle.execution.specs.Executions.{Standing}
 use Rattle.execution_checker.specs.declared.verdict.Verdict.{Verdict}
 use Rattle.execution_checker.specs.Allowed.{IsVerdict}
-use Rattle.execution_scripts.specs.Findings.{start_of}
+use Rattle.execution_views.specs.declared.sights.HartStep.{HartStep}
+use Rattle.execution_file.specs.Recorded.{HartDeeds, Turn}
+use Rattle.execution_scripts.specs.Findings.{IsFound, IsJudged, start_of}
+use Rattle.execution_scripts.specs.declared.checking.Checked.{Checked}
+use Rattle.execution_scripts.specs.declared.checking.Finding.{Finding}
+use Rattle.execution_scripts.specs.declared.checking.Finding.TheVariants.{Fault, Judged}
 
 pub opened_at : (image : Loaded) (ps : List Piece) → bytes_from ps 0 (4096 * image.pages) ≡ image.bytes →
     All (λ (p : Piece). p.start + length p.bytes.items ≤ 4096 * image.pages) ps → (x : ℕ) → opening_at (map laid ps) x ≡ slice_index image.bytes x
@@ -33,3 +38,9 @@ verdict_on image input n ps o m p v ss order q bytes within opened memory start 
 
     same : opening_at o ≡ (λ x. slice_index image.bytes x)
     same = λ i. λ x. at_byte x i
+
+-- what is found, where it is so of each verdict that it may be
+pub found_on : (g : Guest) (parts : List HartDeeds) (turns : List Turn) (asked : Option HartStep) (f : Finding) (c : Checked) →
+    ((v : Verdict) → f ≡ Judged v → IsJudged g parts turns asked v c) → IsFound g parts turns asked f c
+found_on g parts turns asked (Judged v) c h = h v refl
+found_on g parts turns asked (Fault f) c h = tt

@@ -1,5 +1,3 @@
 mod Counted
-mod Doing
 mod Judging
-mod NamedTurns
 mod Unrefused

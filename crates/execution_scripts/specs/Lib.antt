@@ -1,4 +1,2 @@
-pub mod Deeds
 pub mod Findings
 pub mod RunFiles
-pub mod Turns

@@ -1,16 +1,20 @@
-ghost use Rattle.std.specs.Prelude.{◌≡◌, ◌≤◌, if◌then◌else◌, length, IfOk, true};
+ghost use Rattle.std.specs.Prelude.{◌≡◌, ◌≢◌, ◌≤◌, [], if◌then◌else◌, length, IfOk, true};
 ghost use Rattle.guest_rounds.specs.Guests.{opening_guest};
+ghost use Rattle.trace.specs.Traced.{opening_at};
+ghost use Rattle.execution_checker.specs.Allowed.{IsVerdict};
+ghost use Rattle.execution_checker.specs.declared.verdict.Verdict.{Verdict};
 ghost use Rattle.execution_file.specs.Views.{as_recorded};
+ghost use Rattle.execution_views.specs.Walks.{AreSights};
 ghost use Rattle.execution_scripts.specs.Findings.{IsAsSaid, IsFound, guest_in, image_in};
+ghost use Rattle.execution_scripts.specs.declared.checking.Finding.TheVariants.{Judged};
 
-use crate::deeds::{are_said, deeds};
 use crate::fault::{Fault, Halt, Misfit};
 use crate::following::Follower;
-use crate::naming::is_named;
 use crate::opening::open_execution;
 use crate::ordering::order_of;
 use elf_loader::Image;
 use execution_checker::{Execution, ScriptedStep, Verdict};
+use execution_deeds::{are_said, deeds, is_named};
 use execution_file::ExecutionFile;
 use execution_views::{HartStep, Sights, check_seen};
 use host_io::RunError;
@@ -108,36 +112,55 @@ fn check_over(
     harts: u32,
     asked: Option<HartStep>,
 ) -> Result<Checked, RunError>
-    requires { harts ≤ MOST_HARTS }
+    requires within { harts ≤ MOST_HARTS }
+    requires few { length file.now.harts.items ≤ MOST_HARTS }
     ensures { IfOk result (λ c. IsFound (opening_guest image file.now.input.items harts) (as_recorded file.now).harts (as_recorded file.now).order asked c.finding c) }
 {
-    let execution = open_execution(alloc, &image, &file.input, harts)?;
-    let mut follower = Follower::new(alloc, execution, &file.harts)?;
-    let followed = follower.follow(&file.calls);
-    let (execution, script) = follower.into_parts();
-    let order = match followed {
-        Ok(()) => order_of(alloc, execution.events(), file.harts.len(), &file.order),
-        Err(halt) => Err(halt),
-    };
-    match order {
+    let mut follower = Follower::open(alloc, &image, &file.input, &file.harts)?;
+    match order_followed(alloc, file, &mut follower) {
         Ok(order) => {
-            // The checker follows the script anew: what was followed here is as large.
-            drop(execution);
+            // The checker follows the script anew: what was followed here is as large, and is let go.
+            let script = follower.into_script();
             judge(alloc, file, image, script, order, harts, asked)
         }
-        Err(Halt::Fault(fault)) => Ok(Checked {
-            finding: Finding::Fault(fault),
-            execution,
-            script,
-            order: Order(Vec::new(alloc)),
-            opening: Trace::new(alloc, image.into_pieces()),
-            sights: Sights {
-                pcs: Vec::new(alloc),
-                before: None,
-            },
-        }),
-        Err(Halt::OutOfMemory) => Err(RunError::OutOfMemory),
+        Err(halt) => halted(alloc, image, follower, halt),
     }
+}
+
+/// What is found of a file that couldn't be followed to its end.
+fn halted(
+    alloc: Global,
+    image: Image,
+    follower: Follower<'_>,
+    halt: Halt,
+) -> Result<Checked, RunError>
+    ensures { IfOk result (λ c. (v : Verdict) → c.finding ≢ Judged v) }
+{
+    let Halt::Fault(fault) = halt else {
+        return Err(RunError::OutOfMemory);
+    };
+    let (execution, script) = follower.into_parts();
+    Ok(Checked {
+        finding: Finding::Fault(fault),
+        execution,
+        script,
+        order: Order(Vec::new(alloc)),
+        opening: Trace::new(alloc, image.into_pieces()),
+        sights: Sights {
+            pcs: Vec::new(alloc),
+            before: None,
+        },
+    })
+}
+
+/// Follows what a file says. The order that its turns name.
+fn order_followed(
+    alloc: Global,
+    file: &ExecutionFile,
+    follower: &mut Follower<'_>,
+) -> Result<Order, Halt> {
+    follower.follow(&file.calls)?;
+    order_of(alloc, follower.events(), file.harts.len(), &file.order)
 }
 
 /// Follows the script anew, by the checker.
@@ -155,31 +178,60 @@ fn judge(
 {
     let mut execution = open_execution(alloc, &image, &file.input, harts)?;
     let opening = Trace::new(alloc, image.into_pieces());
-    let (verdict, sights) = check_seen(alloc, &mut execution, &script, &opening, &order, asked)?;
-    let as_said = is_as_said(alloc, file, &execution, &order)?;
-    if !as_said {
-        let fault = Fault {
-            hart: 0,
-            step: 0,
-            misfit: Misfit::Otherwise,
-        };
-        return Ok(Checked {
-            finding: Finding::Fault(fault),
-            execution,
-            script,
-            order,
-            opening,
-            sights,
-        });
-    }
+    let (finding, sights) = find(
+        alloc,
+        file,
+        &mut execution,
+        &script,
+        &opening,
+        &order,
+        asked,
+    )?;
     Ok(Checked {
-        finding: Finding::Judged(verdict),
+        finding,
         execution,
         script,
         order,
         opening,
         sights,
     })
+}
+
+/// What the checker finds of a script and an order, where nothing is done yet, and what is seen on the way.
+fn find(
+    alloc: Global,
+    file: &ExecutionFile,
+    execution: &mut Execution,
+    script: &[ScriptedStep],
+    opening: &Trace,
+    order: &Order,
+    asked: Option<HartStep>,
+) -> Result<(Finding, Sights), OutOfMemory>
+    requires no_instructions { execution.old.standing.instructions ≡ [] }
+    requires no_events { execution.old.standing.events ≡ [] }
+    ensures verdict { IfOk result (λ f. (v : Verdict) → f.0 ≡ Judged v → IsVerdict v execution.old.memory
+        (opening_at opening.now.opening) script.now order.now.0.items execution.old.standing execution.new.standing) }
+    ensures as_said { IfOk result (λ f. (v : Verdict) → f.0 ≡ Judged v → IsAsSaid (as_recorded file.now).harts
+        (as_recorded file.now).order execution.new.standing order.now.0.items) }
+    ensures sights { IfOk result (λ f. AreSights execution.old.memory execution.old.standing execution.new.standing asked f.1) }
+{
+    let (verdict, sights) = check_seen(alloc, execution, script, opening, order, asked)?;
+    let as_said = is_as_said(alloc, file, execution, order)?;
+    Ok((finding_of(verdict, as_said), sights))
+}
+
+/// What is found where a verdict is on what the file says, or on something else.
+fn finding_of(verdict: Verdict, as_said: bool) -> Finding
+    ensures { (v : Verdict) → result ≡ Judged v → (v ≡ verdict) × (as_said ≡ true) }
+{
+    if !as_said {
+        return Finding::Fault(Fault {
+            hart: 0,
+            step: 0,
+            misfit: Misfit::Otherwise,
+        });
+    }
+    Finding::Judged(verdict)
 }
 
 /// Whether the harts of an execution did what a file says of them, and its turns name an order of their memory operations.

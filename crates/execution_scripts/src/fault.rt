@@ -66,7 +66,7 @@ pub struct Fault {
 }
 
 /// Why a file wasn't followed to its end.
-#[derive(Clone, Copy, Debug, PartialEq, Eq)]
+#[derive(Clone, Copy)]
 pub(crate) enum Halt {
     /// What it says is no execution.
     Fault(Fault),

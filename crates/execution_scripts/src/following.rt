@@ -1,11 +1,17 @@
 //! The script of a file: each hart's steps, with the numbers that its line has.
 
-use crate::deeds::number_read;
+ghost use Rattle.std.specs.Prelude.{◌≡◌, ◌≤◌, None, OnOk, length};
+
+use crate::calls::{Taken, call_number, taken_at};
 use crate::fault::{Fault, Halt, Misfit};
+use crate::opening::open_execution;
+use elf_loader::Image;
 use execution_checker::{Execution, ScriptedStep};
+use execution_deeds::number_read;
 use execution_file::{HartDeeds, Turn};
+use hart_step::Stop;
 use pages::OutOfMemory;
-use rv64_decode::Instr;
+use round_schedule::{Event, MOST_HARTS};
 use std::alloc::Global;
 
 /// How far a hart is.
@@ -15,17 +21,6 @@ struct Course {
     done: u64,
     /// How many numbers of its line it has read.
     used: usize,
-}
-
-/// What a step was.
-#[derive(Clone, Copy, Debug, PartialEq, Eq)]
-pub(crate) enum Taken {
-    /// The hart did an instruction.
-    Done,
-    /// It did a call whose position among the calls makes a difference: to put or get a byte, or to ask for the round.
-    Called { round: bool },
-    /// It stopped.
-    Stopped,
 }
 
 /// Harts on their way through an execution.
@@ -48,13 +43,17 @@ fn misfit_of(read: u64, said: Option<u64>) -> Option<Misfit> {
 }
 
 impl<'a> Follower<'a> {
-    /// Harts that have done nothing yet.
-    pub(crate) fn new(
+    /// Harts of an image and an input that have done nothing yet, one for each of these parts.
+    pub(crate) fn open(
         alloc: Global,
-        execution: Execution,
+        image: &Image,
+        input: &[u8],
         parts: &'a [HartDeeds],
-    ) -> Result<Follower<'a>, OutOfMemory> {
+    ) -> Result<Follower<'a>, OutOfMemory>
+        requires { length parts.now ≤ MOST_HARTS }
+    {
         let courses = vec![in alloc; Course { done: 0, used: 0 }; parts.len()]?;
+        let execution = open_execution(alloc, image, input, parts.len() as u32)?;
         Ok(Follower {
             execution,
             parts,
@@ -80,14 +79,6 @@ impl<'a> Follower<'a> {
         part.reads.get(course.used).copied()
     }
 
-    /// The number of the call that a hart's next instruction would be.
-    fn call_number(&self, hart: u8) -> u64 {
-        match self.execution.harts().get(usize::from(hart)) {
-            Some(hart) => hart.x[17],
-            None => 0,
-        }
-    }
-
     /// Notes what a hart did, and whether it read a number.
     fn note(&mut self, hart: u8, reads: bool) {
         if let Some(course) = self.courses.get_mut(usize::from(hart)) {
@@ -100,42 +91,57 @@ impl<'a> Follower<'a> {
 
     /// The next step of a hart.
     pub(crate) fn step(&mut self, hart: u8) -> Result<Taken, Halt> {
-        let before = self.execution.events().len();
-        let said = self.said(hart);
-        let call = self.call_number(hart);
-        let mut step = ScriptedStep {
-            hart,
-            round: self.round,
-            number: said,
-            holds: said == Some(1),
-        };
-        if self.execution.take_step(step)?.is_some() {
-            return Err(self.fault(hart, Misfit::NoStep));
-        }
-        let Some(event) = self.execution.events().get(before).copied() else {
-            step.number = None;
-            self.script.push(step)?;
-            return Ok(Taken::Stopped);
-        };
-        let read = number_read(&event.access);
-        if let Some(read) = read {
-            if let Some(misfit) = misfit_of(read, said) {
-                return Err(self.fault(hart, misfit));
+        let index = self.execution.events().len();
+        let call = call_number(&self.execution, hart);
+        let step = self.next_step(hart);
+        match self.take(step, index)? {
+            Some(event) => {
+                self.read(step, &event)?;
+                Ok(taken_at(&self.execution, index, call))
             }
-        } else {
-            step.number = None;
+            None => {
+                self.keep(step, None)?;
+                Ok(Taken::Stopped)
+            }
         }
-        self.script.push(step)?;
-        self.note(hart, read.is_some());
-        Ok(self.taken(before, call))
     }
 
-    /// What the instruction at an index of the list was, where x17 was as `call` says.
-    fn taken(&self, index: usize, call: u64) -> Taken {
-        match self.execution.instructions().get(index) {
-            Some(Instr::Ecall) if call >= 1 && call <= 3 => Taken::Called { round: call == 3 },
-            _ => Taken::Done,
+    /// The next step of a hart, on the number that its line has.
+    fn next_step(&self, hart: u8) -> ScriptedStep {
+        let number = self.said(hart);
+        ScriptedStep {
+            hart,
+            round: self.round,
+            number,
+            holds: number == Some(1),
         }
+    }
+
+    /// Takes a step. The event of the instruction, which has this index in the list; none where the hart stopped.
+    fn take(&mut self, step: ScriptedStep, index: usize) -> Result<Option<Event>, Halt> {
+        match self.execution.take_step(step)? {
+            Some(_) => Err(self.fault(step.hart, Misfit::NoStep)),
+            None => Ok(self.execution.events().get(index).copied()),
+        }
+    }
+
+    /// Compares what a step read with what it was to read, and keeps the step.
+    fn read(&mut self, step: ScriptedStep, event: &Event) -> Result<(), Halt> {
+        let read = number_read(&event.access);
+        if let Some(read) = read {
+            if let Some(misfit) = misfit_of(read, step.number) {
+                return Err(self.fault(step.hart, misfit));
+            }
+        }
+        self.keep(step, read)?;
+        self.note(step.hart, read.is_some());
+        Ok(())
+    }
+
+    /// Keeps a step that read this number.
+    fn keep(&mut self, step: ScriptedStep, number: Option<u64>) -> Result<(), OutOfMemory> {
+        self.script.push(ScriptedStep { number, ..step })?;
+        Ok(())
     }
 
     /// Sets the number of the round from here on.
@@ -153,23 +159,26 @@ impl<'a> Follower<'a> {
 
     /// How many instructions a hart has still to do.
     fn left(&self, hart: u8) -> u64 {
-        match (
-            self.parts.get(usize::from(hart)),
-            self.courses.get(usize::from(hart)),
-        ) {
-            (Some(part), Some(course)) => part.steps.saturating_sub(course.done),
-            _ => 0,
+        match self.parts.get(usize::from(hart)) {
+            Some(part) => part.steps.saturating_sub(self.done(hart)),
+            None => 0,
         }
     }
 
-    /// A hart's steps up to its next call.
-    fn call(&mut self, turn: &Turn) -> Result<(), Halt> {
+    /// Enters the round that answers a call.
+    fn enter(&mut self, turn: &Turn) -> Result<(), Halt> {
         if let Some(round) = turn.number {
             if round > u64::from(u32::MAX) || round < u64::from(self.round) {
                 return Err(self.fault(turn.hart, Misfit::NoRound));
             }
             self.round = round as u32;
         }
+        Ok(())
+    }
+
+    /// A hart's steps up to its next call.
+    fn call(&mut self, turn: &Turn) -> Result<(), Halt> {
+        self.enter(turn)?;
         for _ in 0..self.left(turn.hart) {
             match self.step(turn.hart)? {
                 Taken::Done => {}
@@ -181,22 +190,15 @@ impl<'a> Follower<'a> {
     }
 
     /// A hart's other steps, and its stop.
-    fn finish(&mut self, hart: u8, part: &HartDeeds) -> Result<(), Halt> {
+    fn finish(&mut self, hart: u8, part: &HartDeeds) -> Result<(), Halt>
+        ensures runs_on { OnOk result (part.now.code ≡ 0 → part.now.value ≡ None) }
+    {
         if part.code == 0 && part.value.is_some() {
             return Err(self.fault(hart, Misfit::RunsOnWithValue));
         }
-        for _ in 0..self.left(hart) {
-            if self.step(hart)? == Taken::Stopped {
-                return Err(self.fault(hart, Misfit::Stops));
-            }
-        }
+        self.run_on(hart)?;
         if part.code != 0 {
-            let step = self.done(hart);
-            if self.step(hart)? != Taken::Stopped {
-                let misfit = Misfit::RunsOn;
-                return Err(Halt::Fault(Fault { hart, step, misfit }));
-            }
-            self.compare_stop(hart, part)?;
+            self.stop(hart, part)?;
         }
         match self.said(hart) {
             Some(_) => Err(self.fault(hart, Misfit::NumbersLeft)),
@@ -204,31 +206,54 @@ impl<'a> Follower<'a> {
         }
     }
 
+    /// A hart's other instructions.
+    fn run_on(&mut self, hart: u8) -> Result<(), Halt> {
+        for _ in 0..self.left(hart) {
+            if let Taken::Stopped = self.step(hart)? {
+                return Err(self.fault(hart, Misfit::Stops));
+            }
+        }
+        Ok(())
+    }
+
+    /// A hart's stop, as it is said.
+    fn stop(&mut self, hart: u8, part: &HartDeeds) -> Result<(), Halt> {
+        let step = self.done(hart);
+        match self.step(hart)? {
+            Taken::Stopped => self.compare_stop(hart, part),
+            _ => {
+                let misfit = Misfit::RunsOn;
+                Err(Halt::Fault(Fault { hart, step, misfit }))
+            }
+        }
+    }
+
     /// Refuses a hart that stopped otherwise than it is said.
     fn compare_stop(&self, hart: u8, part: &HartDeeds) -> Result<(), Halt> {
-        let Some(stop) = self
-            .execution
-            .harts()
-            .get(usize::from(hart))
-            .and_then(|hart| hart.stop)
-        else {
-            return Err(self.fault(hart, Misfit::RunsOn));
-        };
-        let value = if stop.code == 1 {
-            Some(stop.value)
-        } else {
-            None
-        };
-        if stop.code == part.code && value == part.value {
-            return Ok(());
+        match self.stop_of(hart) {
+            Some(stop) => {
+                let (code, value) = (stop.code, stop.value);
+                let of_exit = if code == 1 { Some(value) } else { None };
+                if code == part.code && of_exit == part.value {
+                    return Ok(());
+                }
+                Err(self.fault(hart, Misfit::OtherStop { code, value }))
+            }
+            None => Err(self.fault(hart, Misfit::RunsOn)),
         }
-        Err(self.fault(
-            hart,
-            Misfit::OtherStop {
-                code: stop.code,
-                value: stop.value,
-            },
-        ))
+    }
+
+    /// How a hart stopped; none where it runs.
+    fn stop_of(&self, hart: u8) -> Option<Stop> {
+        match self.execution.harts().get(usize::from(hart)) {
+            Some(hart) => hart.stop,
+            None => None,
+        }
+    }
+
+    /// What was done, in the order of the steps.
+    pub(crate) fn events(&self) -> &[Event] {
+        self.execution.events()
     }
 
     /// All that the file says: first the calls in their order, and then the harts, one after another.
@@ -243,6 +268,12 @@ impl<'a> Follower<'a> {
             hart = hart.wrapping_add(1);
         }
         Ok(())
+    }
+
+    /// The script of what was followed.
+    pub(crate) fn into_script(self) -> Vec<ScriptedStep> {
+        let Follower { script, .. } = self;
+        script
     }
 
     /// The execution that was followed, and its script.

@@ -1,11 +1,10 @@
 //! Executions of files, and runs as executions: from a file to the script of the checker, and from a run to a file.
 #![tactic(auto)]
 
+mod calls;
 mod checking;
-mod deeds;
 mod fault;
 mod following;
-mod naming;
 mod opening;
 mod ordering;
 mod paces;

@@ -2,7 +2,7 @@
 
 use crate::fault::{Fault, Halt, Misfit};
 use execution_file::Turn;
-use memory_order::Order;
+use memory_order::{Order, is_operation};
 use pages::OutOfMemory;
 use round_schedule::Event;
 use std::alloc::Global;
@@ -24,6 +24,17 @@ fn operations_of(
     events: &[Event],
     harts: usize,
 ) -> Result<Vec<Operations>, OutOfMemory> {
+    let mut all = lists_of(alloc, harts)?;
+    for index in 0..events.len() {
+        if is_operation(&events[index]) {
+            add_operation(&mut all, events[index].hart, index)?;
+        }
+    }
+    Ok(all)
+}
+
+/// An empty list for each hart.
+fn lists_of(alloc: Global, harts: usize) -> Result<Vec<Operations>, OutOfMemory> {
     let mut all = Vec::new(alloc);
     for _ in 0..harts {
         all.push(Operations {
@@ -32,15 +43,16 @@ fn operations_of(
             next: 0,
         })?;
     }
-    for (index, event) in events.iter().enumerate() {
-        if event.access.loads() || event.access.stores() {
-            if let Some(operations) = all.get_mut(usize::from(event.hart)) {
-                operations.indexes.push(index)?;
-                operations.listed.push(false)?;
-            }
-        }
-    }
     Ok(all)
+}
+
+/// Adds a hart's memory operation, by its index.
+fn add_operation(all: &mut [Operations], hart: u8, index: usize) -> Result<(), OutOfMemory> {
+    if let Some(operations) = all.get_mut(usize::from(hart)) {
+        operations.indexes.push(index)?;
+        operations.listed.push(false)?;
+    }
+    Ok(())
 }
 
 impl Operations {
@@ -72,6 +84,16 @@ impl Operations {
         };
         self.list(number)
     }
+
+    /// Lists the one of a number, which is one of a hart. The turn that names it.
+    fn name(&mut self, hart: u8, number: usize) -> Turn {
+        let is_first = self.first_left() == number;
+        let _place = self.list(number);
+        Turn {
+            hart,
+            number: if is_first { None } else { Some(number as u64) },
+        }
+    }
 }
 
 /// The order that turns name, as indexes in the list of events.
@@ -84,22 +106,25 @@ pub(crate) fn order_of(
     let mut all = operations_of(alloc, events, harts)?;
     let mut indexes = Vec::with_capacity(alloc, turns.len())?;
     for turn in turns {
-        let index = match all.get_mut(usize::from(turn.hart)) {
-            Some(operations) => operations.take(turn),
-            None => None,
-        };
-        match index {
-            Some(index) => indexes.push(index)?,
-            None => {
-                return Err(Halt::Fault(Fault {
-                    hart: turn.hart,
-                    step: turn.number.unwrap_or(0),
-                    misfit: Misfit::NoOperation,
-                }));
-            }
-        }
+        indexes.push(index_of(&mut all, turn)?)?;
     }
     Ok(Order(indexes))
+}
+
+/// The index of the operation that a turn names, which is listed.
+fn index_of(all: &mut [Operations], turn: &Turn) -> Result<usize, Halt> {
+    let index = match all.get_mut(usize::from(turn.hart)) {
+        Some(operations) => operations.take(turn),
+        None => None,
+    };
+    match index {
+        Some(index) => Ok(index),
+        None => Err(Halt::Fault(Fault {
+            hart: turn.hart,
+            step: turn.number.unwrap_or(0),
+            misfit: Misfit::NoOperation,
+        })),
+    }
 }
 
 /// The turns of an order: its harts, and for an operation that isn't the first one left of its hart its number.
@@ -113,20 +138,24 @@ pub(crate) fn turns_of(
     let numbers = numbers_of(alloc, events, harts)?;
     let mut turns = Vec::with_capacity(alloc, order.0.len())?;
     for index in &order.0 {
-        let (Some(event), Some(number)) = (events.get(*index), numbers.get(*index)) else {
-            continue;
-        };
-        let Some(operations) = all.get_mut(usize::from(event.hart)) else {
-            continue;
-        };
-        let is_first = operations.first_left() == *number;
-        let _place = operations.list(*number);
-        turns.push(Turn {
-            hart: event.hart,
-            number: if is_first { None } else { Some(*number as u64) },
-        })?;
+        if let Some(turn) = turn_of(events, &numbers, &mut all, *index) {
+            turns.push(turn)?;
+        }
     }
     Ok(turns)
+}
+
+/// The turn of the operation at an index, which has this number among those of its hart; it is listed.
+fn turn_of(
+    events: &[Event],
+    numbers: &[usize],
+    all: &mut [Operations],
+    index: usize,
+) -> Option<Turn> {
+    let hart = events.get(index)?.hart;
+    let number = numbers.get(index)?;
+    let operations = all.get_mut(usize::from(hart))?;
+    Some(operations.name(hart, *number))
 }
 
 /// For each event how many memory operations its hart had done before.
@@ -134,15 +163,19 @@ fn numbers_of(alloc: Global, events: &[Event], harts: usize) -> Result<Vec<usize
     let mut counts = vec![in alloc; 0usize; harts]?;
     let mut numbers = Vec::with_capacity(alloc, events.len())?;
     for event in events {
-        match counts.get_mut(usize::from(event.hart)) {
-            Some(count) => {
-                numbers.push(*count)?;
-                if event.access.loads() || event.access.stores() {
-                    *count = count.wrapping_add(1);
-                }
-            }
-            None => numbers.push(0)?,
-        }
+        numbers.push(number_of(&mut counts, event))?;
     }
     Ok(numbers)
+}
+
+/// How many memory operations the hart of an event had done before, which is counted with them.
+fn number_of(counts: &mut [usize], event: &Event) -> usize {
+    let Some(count) = counts.get_mut(usize::from(event.hart)) else {
+        return 0;
+    };
+    let number = *count;
+    if is_operation(event) {
+        *count = number.wrapping_add(1);
+    }
+    number
 }

@@ -5,22 +5,22 @@ ghost use Rattle.machine.specs.Machine.{after_rounds};
 ghost use Rattle.run_settings.specs.Settings.{IsPlan, IsReason, RefusedInOrder, settings_fault};
 ghost use Rattle.machine.specs.Runs.{after_run};
 ghost use Rattle.execution_file.specs.Views.{as_recorded, hart_view};
-ghost use Rattle.execution_scripts.specs.Deeds.{deeds};
+ghost use Rattle.execution_deeds.specs.Deeds.{deeds};
 ghost use Rattle.execution_scripts.specs.RunFiles.{IsFileOf, IsFileWith, is_flat};
 
-use crate::deeds::deeds;
+use crate::calls::{add_call, forget_plain};
 use crate::fault::Halt;
-use crate::following::{Follower, Taken};
-use crate::opening::open_execution;
+use crate::following::Follower;
 use crate::ordering::turns_of;
 use crate::paces::Paces;
 use elf_loader::Image;
+use execution_deeds::deeds;
 use execution_file::{ExecutionFile, HartDeeds, Turn};
 use host_io::RunError;
 use machine::{Format, Machine, Observer, Settings, load, prepare};
 use memory_order::memory_order;
 use pages::{MOST_PAGES, OutOfMemory};
-use round_schedule::MOST_WORKERS;
+use round_schedule::{Event, MOST_WORKERS};
 use std::alloc::Global;
 use std::sync::Wait;
 use std::thread::Threads;
@@ -125,10 +125,19 @@ fn deeds_of(alloc: Global, machine: &Machine) -> Result<(Vec<HartDeeds>, Vec<Tur
     ensures { IfOk result (λ d. map hart_view d.0.items ≡ deeds machine.now.state.harts machine.now.state.trace) }
 {
     let events = machine.trace().to_vec(alloc)?;
-    let order = memory_order(alloc, machine.trace())?;
-    let order = turns_of(alloc, &events, machine.harts().len(), &order)?;
+    let order = order_by_rounds(alloc, machine, &events)?;
     let parts = deeds(alloc, machine.harts(), &events)?;
     Ok((parts, order))
+}
+
+/// The order by rounds of a machine's events.
+fn order_by_rounds(
+    alloc: Global,
+    machine: &Machine,
+    events: &[Event],
+) -> Result<Vec<Turn>, OutOfMemory> {
+    let order = memory_order(alloc, machine.trace())?;
+    turns_of(alloc, events, machine.harts().len(), &order)
 }
 
 /// A run as an execution.
@@ -145,8 +154,7 @@ fn file_of(
     ensures errors { IfErr result (λ e. IsReason settings.now image.now e) }
 {
     let calls = calls_in(alloc, image, input, settings, &ran)?;
-    let image = copied(alloc, image)?;
-    let input = copied(alloc, input)?;
+    let (image, input) = copied(alloc, image, input)?;
     Ok(ExecutionFile {
         flat: is_flat(settings.format),
         pages: settings.pages,
@@ -183,15 +191,21 @@ fn calls_in(
     Ok(calls_of(alloc, &loaded, input, &ran.parts, &ran.rounds, &ran.done)?)
 }
 
-/// The same bytes.
-pub(crate) fn copied(alloc: Global, bytes: &[u8]) -> Result<Vec<u8>, OutOfMemory>
-    ensures { IfOk result (λ v. v.items ≡ bytes.now) }
+/// The same image and input.
+pub(crate) fn copied(
+    alloc: Global,
+    image: &[u8],
+    input: &[u8],
+) -> Result<(Vec<u8>, Vec<u8>), OutOfMemory>
+    ensures image { IfOk result (λ c. c.0.items ≡ image.now) }
+    ensures input { IfOk result (λ c. c.1.items ≡ input.now) }
 {
-    Ok(Vec::from_slice(alloc, bytes)?)
+    let image = Vec::from_slice(alloc, image)?;
+    let input = Vec::from_slice(alloc, input)?;
+    Ok((image, input))
 }
 
-/// The calls of a run in their order; none where one hart alone makes them and none asks for the round, as they have no other
-/// order then.
+/// The calls of a run in their order.
 fn calls_of(
     alloc: Global,
     image: &Image,
@@ -200,29 +214,40 @@ fn calls_of(
     rounds: &[u32],
     done: &[u64],
 ) -> Result<Vec<Turn>, OutOfMemory> {
-    let mut calls = Vec::new(alloc);
     if parts.len() > 64 {
-        return Ok(calls);
+        return Ok(Vec::new(alloc));
     }
-    let execution = open_execution(alloc, image, input, parts.len() as u32)?;
-    let mut follower = Follower::new(alloc, execution, parts)?;
-    let mut told = done.iter();
-    for round in rounds {
-        let mut hart = 0u8;
-        for _ in parts {
-            let count = told.next().copied().unwrap_or(0);
-            add_calls(&mut calls, &mut follower, hart, *round, count)?;
-            hart = hart.wrapping_add(1);
-        }
-    }
-    if is_plain(&calls) {
-        calls.clear();
-    }
+    let mut follower = Follower::open(alloc, image, input, parts)?;
+    let mut calls = Vec::new(alloc);
+    let added = add_calls(&mut calls, &mut follower, parts.len(), rounds, done);
+    drop(follower);
+    added?;
+    forget_plain(&mut calls);
     Ok(calls)
 }
 
-/// Adds the calls that a hart makes in a round, after which it has done so many instructions.
+/// Adds the calls that so many harts make in these rounds, after each of which they have done so many instructions.
 fn add_calls(
+    calls: &mut Vec<Turn>,
+    follower: &mut Follower<'_>,
+    harts: usize,
+    rounds: &[u32],
+    done: &[u64],
+) -> Result<(), OutOfMemory> {
+    let mut told = done.iter();
+    for round in rounds {
+        let mut hart = 0u8;
+        for _ in 0..harts {
+            let count = told.next().copied().unwrap_or(0);
+            add_calls_of(calls, follower, hart, *round, count)?;
+            hart = hart.wrapping_add(1);
+        }
+    }
+    Ok(())
+}
+
+/// Adds the calls that a hart makes in a round, after which it has done so many instructions.
+fn add_calls_of(
     calls: &mut Vec<Turn>,
     follower: &mut Follower<'_>,
     hart: u8,
@@ -232,26 +257,11 @@ fn add_calls(
     for _ in follower.done(hart)..count {
         follower.set_round(round);
         match follower.step(hart) {
-            Ok(Taken::Called { round: true }) => calls.push(Turn {
-                hart,
-                number: Some(u64::from(round)),
-            })?,
-            Ok(Taken::Called { round: false }) => calls.push(Turn { hart, number: None })?,
-            Ok(_) => {}
+            Ok(taken) => add_call(calls, hart, round, taken)?,
             Err(Halt::OutOfMemory) => return Err(OutOfMemory),
             // A run is an execution, so that its harts have these steps.
             Err(Halt::Fault(_)) => return Ok(()),
         }
     }
     Ok(())
-}
-
-/// Whether one hart makes all calls, and none asks for the round.
-pub(crate) fn is_plain(calls: &[Turn]) -> bool {
-    match calls.first() {
-        Some(first) => calls
-            .iter()
-            .all(|turn| turn.hart == first.hart && turn.number.is_none()),
-        None => true,
-    }
 }

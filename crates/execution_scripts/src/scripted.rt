@@ -2,18 +2,18 @@ ghost use Rattle.std.specs.Prelude.{◌≡◌, ◌≤◌, IfOk, OnOk, length};
 ghost use Rattle.execution_file.specs.Views.{as_recorded};
 ghost use Rattle.execution_scripts.specs.RunFiles.{IsFileFor};
 
-use crate::deeds::deeds;
+use crate::calls::{add_call, call_number, forget_plain, taken_at};
 use crate::opening::open_execution;
 use crate::ordering::turns_of;
-use crate::running::{copied, is_flat, is_plain};
+use crate::running::{copied, is_flat};
 use execution_checker::{Execution, ScriptedStep};
+use execution_deeds::deeds;
 use execution_file::{ExecutionFile, Turn};
 use host_io::RunError;
 use machine::{Format, load};
 use memory_order::Order;
 use pages::{MOST_PAGES, OutOfMemory};
 use round_schedule::MOST_HARTS;
-use rv64_decode::Instr;
 use std::alloc::Global;
 
 /// What a script is of.
@@ -51,21 +51,51 @@ pub fn execution_of_script(
     if guest.pages < 1 || guest.pages > MOST_PAGES {
         return Err(RunError::PagesOutOfRange);
     }
+    let mut execution = opened(alloc, guest)?;
+    let file = file_of(alloc, guest, &mut execution, script, order);
+    drop(execution);
+    Ok(file?)
+}
+
+/// The execution of a guest in which nothing is done yet.
+fn opened(alloc: Global, guest: &ScriptedGuest<'_>) -> Result<Execution, RunError>
+    requires some_pages { 1 ≤ guest.now.pages }
+    requires few_pages { guest.now.pages ≤ MOST_PAGES }
+    requires few_harts { guest.now.harts ≤ MOST_HARTS }
+    ensures { IfOk result (λ e. length e.standing.harts ≡ guest.now.harts) }
+{
     let image = load(alloc, guest.format, guest.image, guest.pages)?;
-    let mut execution = open_execution(alloc, &image, guest.input, guest.harts)?;
-    let calls = calls_of(alloc, &mut execution, script)?;
+    let execution = open_execution(alloc, &image, guest.input, guest.harts)?;
+    Ok(execution)
+}
+
+/// What `execution_of_script` gives, from where the guest's execution begins.
+fn file_of(
+    alloc: Global,
+    guest: &ScriptedGuest<'_>,
+    execution: &mut Execution,
+    script: &[ScriptedStep],
+    order: &Order,
+) -> Result<ExecutionFile, OutOfMemory>
+    requires { length execution.old.standing.harts ≡ guest.now.harts }
+    ensures { IfOk result (λ f. IsFileFor guest.now (as_recorded f)) }
+{
+    let calls = calls_of(alloc, execution, script)?;
+    let harts = deeds(alloc, execution.harts(), execution.events())?;
+    let order = turns_of(alloc, execution.events(), guest.harts as usize, order)?;
+    let (image, input) = copied(alloc, guest.image, guest.input)?;
     Ok(ExecutionFile {
         flat: is_flat(guest.format),
         pages: guest.pages,
-        image: copied(alloc, guest.image)?,
-        input: copied(alloc, guest.input)?,
-        harts: deeds(alloc, execution.harts(), execution.events())?,
+        image,
+        input,
+        harts,
         calls,
-        order: turns_of(alloc, execution.events(), guest.harts as usize, order)?,
+        order,
     })
 }
 
-/// Follows a script. Gives the calls in their order; none where one hart alone makes them and none asks for the round.
+/// Follows a script. Gives the calls in their order.
 fn calls_of(
     alloc: Global,
     execution: &mut Execution,
@@ -75,40 +105,24 @@ fn calls_of(
 {
     let mut calls = Vec::new(alloc);
     for step in script {
-        let call = call_number(execution, step.hart);
-        let before = execution.instructions().len();
-        take_step(execution, *step)?;
-        if let Some(Instr::Ecall) = execution.instructions().get(before) {
-            if call >= 1 && call <= 3 {
-                calls.push(Turn {
-                    hart: step.hart,
-                    number: if call == 3 {
-                        Some(u64::from(step.round))
-                    } else {
-                        None
-                    },
-                })?;
-            }
-        }
+        take_step(execution, &mut calls, *step)?;
     }
-    if is_plain(&calls) {
-        calls.clear();
-    }
+    forget_plain(&mut calls);
     Ok(calls)
 }
 
-/// Takes a step, where the hart has such a one.
-fn take_step(execution: &mut Execution, step: ScriptedStep) -> Result<(), OutOfMemory>
+/// Takes a step, where the hart has such a one, and adds its call, where it is one.
+fn take_step(
+    execution: &mut Execution,
+    calls: &mut Vec<Turn>,
+    step: ScriptedStep,
+) -> Result<(), OutOfMemory>
     ensures { OnOk result (length execution.new.standing.harts ≡ length execution.old.standing.harts) }
 {
+    let call = call_number(execution, step.hart);
+    let index = execution.instructions().len();
     let _fault = execution.take_step(step)?;
+    let taken = taken_at(execution, index, call);
+    add_call(calls, step.hart, step.round, taken)?;
     Ok(())
-}
-
-/// The number of the call that a hart's next instruction would be.
-fn call_number(execution: &Execution, hart: u8) -> u64 {
-    match execution.harts().get(usize::from(hart)) {
-        Some(hart) => hart.x[17],
-        None => 0,
-    }
 }
