@@ -28,11 +28,27 @@ pub(crate) fn confirm(
         guest.now.opening.input.now guest.now.opening.harts.now c.missing.failure)) }
 {
     let machine = made_again(guest, &weakness.shown)?;
-    match failure_of(guest, &weakness.shown, &machine)? {
-        Some(failure) => Ok(Some(Confirmed {
-            missing: told_of(guest, gap, weakness, failure)?,
-            execution: file_of(guest, &weakness.shown, &machine)?,
-        })),
+    let confirmed = confirm_by(guest, gap, weakness, &machine);
+    drop(machine);
+    confirmed
+}
+
+/// The same, where this machine has made the execution again.
+fn confirm_by(
+    guest: &Guest<'_>,
+    gap: NamedGap,
+    weakness: &Weakness,
+    machine: &TimedMachine,
+) -> Result<Option<Confirmed>, OutOfMemory>
+    ensures { IfOk result (λ found. IfSome found (λ c. IsShown guest.now.opening.image.now
+        guest.now.opening.input.now guest.now.opening.harts.now c.missing.failure)) }
+{
+    match failure_of(guest, &weakness.shown, machine)? {
+        Some(failure) => {
+            let missing = told_of(guest, gap, weakness, failure)?;
+            let execution = file_of(guest, &weakness.shown, machine)?;
+            Ok(Some(Confirmed { missing, execution }))
+        }
         None => Ok(None),
     }
 }

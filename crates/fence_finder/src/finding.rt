@@ -167,5 +167,5 @@ fn findings_of<O: FenceObserver, R: Threads + Wait + Sync>(
     if let Some(number) = found.unconfirmed {
         return Err(WeakHuntError::Unconfirmed(number));
     }
-    Findings::of(&guest, found)
+    Findings::of(&guest, &found)
 }

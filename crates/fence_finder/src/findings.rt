@@ -1,11 +1,11 @@
-ghost use Rattle.std.specs.Prelude.{◌≡◌, ◌⊎◌, ℕ, IfErr, IfOk};
+ghost use Rattle.std.specs.Prelude.{◌≡◌, ◌⊎◌, ℕ, [], ◌∷◌, ◌++◌, IfErr, IfOk, OnOk};
 ghost use Rattle.std.specs.Bool.{OnTrue};
 ghost use Rattle.fence_finder.specs.MissingFences.{AreShown};
 ghost use Rattle.host_io.specs.declared.error.RunError.TheVariants as refusals;
 ghost use Rattle.hunter.specs.declared.error.HuntError.TheVariants as hunting;
 ghost use Rattle.weak_hunter.specs.declared.error.WeakHuntError.TheVariants.{Hunt, Unconfirmed};
 
-use crate::confirming::confirm;
+use crate::confirming::{Confirmed, confirm};
 use crate::guest::Guest;
 use execution_scripts::ExecutionFile;
 use fence_search::{Search, Weakness};
@@ -47,7 +47,7 @@ impl Findings {
     /// # Errors
     ///
     /// `Unconfirmed` with the number of the first one that the checker doesn't allow, or that it finds to end otherwise; `OutOfMemory`.
-    pub(crate) fn of(guest: &Guest<'_>, search: Search) -> Result<Findings, WeakHuntError>
+    pub(crate) fn of(guest: &Guest<'_>, search: &Search) -> Result<Findings, WeakHuntError>
         ensures shown { IfOk result (λ f. AreShown guest.now.opening.image.now guest.now.opening.input.now
             guest.now.opening.harts.now f.missing.items) }
         ensures errors { IfErr result (λ e. (e ≡ Hunt (hunting.Run refusals.OutOfMemory)) ⊎
@@ -61,12 +61,24 @@ impl Findings {
             missing: Vec::new(guest.alloc),
             executions: Vec::new(guest.alloc),
         };
-        for weakness in search.weaknesses {
-            if !findings.add(guest, &weakness)? {
+        findings.add_all(guest, &search.weaknesses)?;
+        Ok(findings)
+    }
+
+    /// Adds missing fences, where none was added before.
+    fn add_all(&mut self, guest: &Guest<'_>, weaknesses: &[Weakness]) -> Result<(), WeakHuntError>
+        requires { self.old.missing.items ≡ [] }
+        ensures shown { OnOk result (AreShown guest.now.opening.image.now guest.now.opening.input.now
+            guest.now.opening.harts.now self.new.missing.items) }
+        ensures errors { IfErr result (λ e. (e ≡ Hunt (hunting.Run refusals.OutOfMemory)) ⊎
+            ((n : ℕ) × (e ≡ Unconfirmed n))) }
+    {
+        for weakness in weaknesses {
+            if !self.add(guest, weakness)? {
                 return Err(WeakHuntError::Unconfirmed(weakness.shown.number));
             }
         }
-        Ok(findings)
+        Ok(())
     }
 
     /// Adds a missing fence, if the checker of executions allows the execution that shows it. Says whether it does.
@@ -84,10 +96,19 @@ impl Findings {
         let Some(confirmed) = confirm(guest, gap, weakness)? else {
             return Ok(false);
         };
-        self.missing.push(confirmed.missing)?;
-        if let Some(execution) = confirmed.execution {
+        self.put(confirmed)?;
+        Ok(true)
+    }
+
+    /// Puts a missing fence that was confirmed with the others.
+    fn put(&mut self, confirmed: Confirmed) -> Result<(), OutOfMemory>
+        ensures { OnOk result (self.new.missing.items ≡ self.old.missing.items ++ confirmed.missing ∷ []) }
+    {
+        let Confirmed { missing, execution } = confirmed;
+        if let Some(execution) = execution {
             self.executions.push(execution)?;
         }
-        Ok(true)
+        self.missing.push(missing)?;
+        Ok(())
     }
 }
