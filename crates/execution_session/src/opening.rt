@@ -1,5 +1,8 @@
-ghost use Rattle.std.specs.Prelude.{◌≡◌, ◌≤◌, ℕ, if◌then◌else◌, length, slice_index, IfOk, OnOk};
+ghost use Rattle.std.specs.Prelude.{◌≡◌, ◌≢◌, ◌≤◌, ℕ, if◌then◌else◌, length, slice_index, IfOk, MatchOption, OnOk};
+ghost use Rattle.execution_checker.specs.Allowed.{IsVerdict};
+ghost use Rattle.execution_checker.specs.declared.verdict.Verdict.TheVariants.{Allowed};
 ghost use Rattle.execution_file.specs.Views.{as_recorded};
+ghost use Rattle.execution_moments.specs.Courses.{IsCourse};
 ghost use Rattle.execution_scripts.specs.Findings.{guest_in, image_in, start_of};
 ghost use Rattle.execution_session.specs.Opening.{IsOpened};
 ghost use Rattle.trace.specs.Traced.{opening_at};
@@ -8,7 +11,7 @@ use crate::past::Past;
 use elf_loader::Image;
 use execution_checker::{Execution, Verdict};
 use execution_file::ExecutionFile;
-use execution_moments::check_moments;
+use execution_moments::{Course, check_moments};
 use execution_scripts::{Checked, Finding, Sights, check_file, open_execution};
 use host_io::RunError;
 use machine::{Format, load};
@@ -47,35 +50,63 @@ fn open_allowed(alloc: Global, file: &ExecutionFile, checked: Checked) -> Result
     requires { (x : ℕ) → opening_at checked.opening.opening x ≡ slice_index (guest_in (as_recorded file.now)).shared.memory.bytes x }
     ensures { IfOk result (λ o. IsOpened (as_recorded file.now) o) }
 {
-    let mut execution = start(alloc, file)?;
-    let Checked {
-        script,
-        order,
-        opening,
-        ..
-    } = checked;
-    let (verdict, course) = check_moments(alloc, &mut execution, &script, &opening, &order)?;
+    let followed = follow(alloc, file, &checked)?;
+    let Followed {
+        execution,
+        verdict,
+        course,
+    } = followed;
     match course {
         Some(course) => Ok(Opened::Past(Past {
             execution,
             course,
-            order,
-            opening,
+            order: checked.order,
+            opening: checked.opening,
             harts: file.harts.len() as u8,
             size: file.pages * 4096,
         })),
         None => Ok(Opened::Refused(Checked {
             finding: Finding::Judged(verdict),
             execution,
-            script,
-            order,
-            opening,
+            script: checked.script,
+            order: checked.order,
+            opening: checked.opening,
             sights: Sights {
                 pcs: Vec::new(alloc),
                 before: None,
             },
         })),
     }
+}
+
+/// An execution that was followed anew.
+#[derive(Drop)]
+struct Followed {
+    execution: Execution,
+    verdict: Verdict,
+    /// Its moments, where RVWMO allows it.
+    course: Option<Course>,
+}
+
+/// Follows the script of a file that was checked anew, and judges what it leads to.
+fn follow(alloc: Global, file: &ExecutionFile, checked: &Checked) -> Result<Followed, RunError>
+    ensures verdict { IfOk result (λ f. let g = guest_in (as_recorded file.now) in
+        IsVerdict f.verdict g.shared.memory (opening_at checked.now.opening.opening) checked.now.script.items
+        checked.now.order.0.items (start_of g) f.execution.standing) }
+    ensures course { IfOk result (λ f. let g = guest_in (as_recorded file.now) in
+        MatchOption f.course (f.verdict ≢ Allowed) (λ c. (f.verdict ≡ Allowed) ×
+        IsCourse g.shared.memory (start_of g) f.execution.standing checked.now.order.0.items c)) }
+    ensures harts { OnOk result (length file.now.harts.items ≤ MOST_HARTS) }
+    ensures pages { OnOk result (file.now.pages ≤ MOST_PAGES) }
+{
+    let mut execution = start(alloc, file)?;
+    let (script, opening) = (&checked.script, &checked.opening);
+    let (verdict, course) = check_moments(alloc, &mut execution, script, opening, &checked.order)?;
+    Ok(Followed {
+        execution,
+        verdict,
+        course,
+    })
 }
 
 /// The execution of a file in which nothing is done yet.
