@@ -52,6 +52,11 @@ pub fn trace_run<V: Visitor, R: Threads + Wait + Sync>(
         IfErr result (λ e. IsReason settings.now image.now e) }
 {
     let mut machine = prepare(alloc, image, input, settings)?;
-    machine.run_visited(rt, settings.rounds, settings.workers, visitor)?;
-    Ok(machine.into_trace())
+    match machine.run_visited(rt, settings.rounds, settings.workers, visitor) {
+        Ok(()) => Ok(machine.into_trace()),
+        Err(refused) => {
+            drop(machine);
+            Err(RunError::from(refused))
+        }
+    }
 }
