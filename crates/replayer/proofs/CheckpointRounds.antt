@@ -4,7 +4,7 @@ use Rattle.std.proofs.lemmas.List.{append-nil, map-append}
 use Rattle.machine.specs.Machine.{Running, after_round, after_rounds}
 use Rattle.machine.proofs.Repeated.{no_rounds, next_round}
 use Rattle.recording.specs.Recorded.{Checkpoint}
-use Rattle.replayer.specs.Summaries.{checkpoint_of, checkpoints_of_rounds}
+use Rattle.kept_states.specs.Summaries.{checkpoint_of, checkpoints_of_rounds}
 
 one_round : (m : Running) → after_rounds 1 m ≡ after_round m
 one_round m = sym (next_round 0 m) ∙ ap after_round (sym (no_rounds m))

@@ -6,14 +6,14 @@ use Rattle.machine.specs.Untraced.{IsUntraced, Untraced}
 use Rattle.machine.specs.Walks.{HasDone}
 use Rattle.machine.proofs.Repeated.{more_rounds, no_rounds}
 use Rattle.recording.specs.Recorded.{Checkpoint}
-use Rattle.replayer.specs.declared.keeping.Seen.{Seen}
+use Rattle.kept_states.specs.declared.keeping.Seen.{Seen}
 use Rattle.replayer.specs.declared.verdict.Verdict.{Verdict}
 use Rattle.replayer.specs.declared.verdict.Verdict.TheVariants.{Same, Differs}
 use Rattle.replayer.specs.Replayed.{IsNextVerdict, IsVerdictOn}
-use Rattle.replayer.specs.Summaries.{IsSeenOf, checkpoint_in, checkpoint_of}
+use Rattle.kept_states.specs.Summaries.{IsSeenOf, checkpoint_in, checkpoint_of}
 use Rattle.replayer.specs.Visits.{HasCompared, IsVerdictUpTo}
 use Rattle.replayer.proofs.First.{one_more, none_more, placed, size}
-use Rattle.replayer.proofs.SeenOf.{seen_is}
+use Rattle.kept_states.proofs.SeenOf.{seen_is}
 use Rattle.replayer.proofs.Verdicts.{up_to_next}
 
 -- before the first of these rounds

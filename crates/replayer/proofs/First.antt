@@ -5,7 +5,7 @@ use Rattle.machine.specs.Machine.{Running, after_rounds}
 use Rattle.machine.proofs.Repeated.{more_rounds}
 use Rattle.recording.specs.Recorded.{Checkpoint}
 use Rattle.replayer.specs.Replayed.{Agrees}
-use Rattle.replayer.specs.Summaries.{checkpoint_of}
+use Rattle.kept_states.specs.Summaries.{checkpoint_of}
 
 -- the state after one more round, and what is kept at its place
 pub one_more : (ks : List Checkpoint) (every : ℕ) (m now next : Running) (k : ℕ) (x : Checkpoint) → now ≡ after_rounds k m → next ≡ after_rounds 1 now → slice_get ks k ≡ Some x →

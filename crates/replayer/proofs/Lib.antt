@@ -1,11 +1,8 @@
 pub mod Faults
 pub mod Formats
 pub mod First
-pub mod SeenOf
 pub mod Untraced
-pub mod Checkpoint
 pub mod CheckpointRounds
-pub mod Ranges
 pub mod PastAt
 pub mod Counted
 pub mod Grown

@@ -9,12 +9,12 @@ use Rattle.round_planner.specs.Quotas.{Planned}
 use Rattle.recording.specs.Fields.{HaveEach}
 use Rattle.recording.specs.Grammar.{checkpoint_after}
 use Rattle.recording.specs.Recorded.{Checkpoint}
-use Rattle.replayer.specs.declared.keeping.Seen.{Seen}
-use Rattle.replayer.specs.Summaries.{IsSeenOf, checkpoint_in, checkpoints_of_rounds}
+use Rattle.kept_states.specs.declared.keeping.Seen.{Seen}
+use Rattle.kept_states.specs.Summaries.{IsSeenOf, checkpoint_in, checkpoints_of_rounds}
 use Rattle.replayer.specs.Visits.{HasRecorded}
-use Rattle.replayer.proofs.Checkpoint.{have_seen}
+use Rattle.kept_states.proofs.Checkpoint.{have_seen}
 use Rattle.replayer.proofs.CheckpointRounds.{keeps_all, keeps_next}
-use Rattle.replayer.proofs.SeenOf.{seen_is}
+use Rattle.kept_states.proofs.SeenOf.{seen_is}
 
 -- before the first round
 pub none_recorded : (every : ℕ) (start : Untraced) (rounds : ℕ) → start.rounds ≡ 0 → (m : Running) → IsUntraced m start → HasRecorded [] every start rounds 0

@@ -1,4 +1,3 @@
-pub mod Summaries
 pub mod Replayed
 pub mod Refusals
 pub mod Past

@@ -1,5 +1,5 @@
 -- Why a recording is refused by those who run it: the workers, then the image, then the plan, or want of memory.
-use Rattle.std.specs.Prelude.{◌≡◌, ◌⊎◌, ℕ, ◌<◌, ◌≤◌, Result, Err, IfErr}
+use Rattle.std.specs.Prelude.{◌≡◌, ◌⊎◌, ℕ, Result, Err, IfErr}
 use Rattle.round_planner.specs.Causes.{IsLeast as IsLeastOfPlan}
 use Rattle.host_io.specs.declared.plan_error.PlanError.{PlanError as PlanCause}
 use Rattle.elf_loader.specs.Causes.{IsGood, IsLeast as IsLeastOfImage}

@@ -11,7 +11,7 @@ use Rattle.run_settings.specs.declared.settings.Settings.{Settings}
 use Rattle.recording.specs.Recorded.{Checkpoint, Recorded}
 use Rattle.replayer.specs.declared.verdict.Verdict.{Verdict}
 use Rattle.replayer.specs.declared.verdict.Verdict.TheVariants.{Same, Differs}
-use Rattle.replayer.specs.Summaries.{checkpoint_of, checkpoints_of_rounds}
+use Rattle.kept_states.specs.Summaries.{checkpoint_of, checkpoints_of_rounds}
 use Rattle.run_hits.specs.Hits.{hits}
 
 abbrev pub format_of : ℕ → Format

@@ -11,7 +11,7 @@ use Rattle.replayer.specs.declared.verdict.Verdict.{Verdict}
 use Rattle.replayer.specs.declared.verdict.Verdict.TheVariants.{Same, Differs}
 use Rattle.replayer.specs.Past.{Begins, IsBefore, IsRoundOf}
 use Rattle.replayer.specs.Replayed.{Agrees}
-use Rattle.replayer.specs.Summaries.{checkpoints_of_rounds}
+use Rattle.kept_states.specs.Summaries.{checkpoints_of_rounds}
 
 -- ---- who records
 

@@ -17,6 +17,7 @@ use crate::verdict::Verdict;
 use hart_step::Hart;
 use host_io::RunError;
 use machine::{Machine, Unobserved, UntracedMachine};
+use pages::OutOfMemory;
 use recording::Recording;
 use round_schedule::MOST_WORKERS;
 use std::alloc::Global;
@@ -72,15 +73,21 @@ impl Replay {
         ensures in_order { RefusedInOrder workers recording.now result }
     {
         let mut start = opened(alloc, recording, workers)?;
-        let mut machine = start.share()?;
-        let (verdict, later) = run_keeping(rt, alloc, &mut machine, recording, every, workers)?;
-        Ok(Replay {
-            rounds: recording.rounds(),
-            every,
-            verdict,
-            start,
-            later,
-        })
+        let mut later = Vec::new(alloc);
+        match run_copy(rt, &mut start, recording, every, workers, &mut later) {
+            Ok(verdict) => Ok(Replay {
+                rounds: recording.rounds(),
+                every,
+                verdict,
+                start,
+                later,
+            }),
+            Err(refused) => {
+                drop(start);
+                drop(later);
+                Err(refused)
+            }
+        }
     }
 
     /// Whether the run is the recorded one.
@@ -167,21 +174,44 @@ fn last_multiple(every: u32, rounds: u32) -> (u32, u32)
     (rounds / every, rounds % every)
 }
 
-/// Runs a machine that was just opened for the rounds of a recording, whatever it was opened from: the verdict, and the
-/// machine after each round that is a multiple of `every`. It may wait.
+/// Does what `run_keeping` does with a copy of a machine that was just opened.
+fn run_copy<R: Threads + Wait + Sync>(
+    rt: &R,
+    start: &mut Machine,
+    recording: &Recording,
+    every: u32,
+    workers: u32,
+    later: &mut Vec<Machine>,
+) -> Result<Verdict, RunError>
+    requires workers { AreWorkers workers }
+    requires opened { start.old.state.rounds ≡ 0 }
+    requires none { later.old.items ≡ [] }
+    ensures verdict { IfOk result (λ v. IsVerdict recording.now start.old v) }
+    ensures later { OnOk result (AreCheckpoints every recording.now.rounds start.old later.new.items) }
+    ensures stays { start.new ≡ start.old }
+    ensures refused { IfErr result (λ e. e ≡ refusals.OutOfMemory) }
+{
+    let mut machine = start.share()?;
+    let verdict = run_keeping(rt, &mut machine, recording, every, workers, later);
+    drop(machine);
+    verdict
+}
+
+/// Runs a machine that was just opened for the rounds of a recording, whatever it was opened from: the verdict. The machines after
+/// the rounds that are multiples of `every` are put into an empty list, in turn. It may wait.
 fn run_keeping<R: Threads + Wait + Sync>(
     rt: &R,
-    alloc: Global,
     machine: &mut Machine,
     recording: &Recording,
     every: u32,
     workers: u32,
-) -> Result<(Verdict, Vec<Machine>), RunError>
+    machines: &mut Vec<Machine>,
+) -> Result<Verdict, RunError>
     requires workers { AreWorkers workers }
     requires opened { machine.old.state.rounds ≡ 0 }
-    ensures verdict { IfOk result (λ x. IsVerdict recording.now machine.old x.0) }
-    ensures machines { IfOk result (λ x.
-        AreCheckpoints every recording.now.rounds machine.old x.1.items) }
+    requires none { machines.old.items ≡ [] }
+    ensures verdict { IfOk result (λ v. IsVerdict recording.now machine.old v) }
+    ensures machines { OnOk result (AreCheckpoints every recording.now.rounds machine.old machines.new.items) }
     ensures refused { IfErr result (λ e. e ≡ refusals.OutOfMemory) }
 {
     let rounds = recording.rounds();
@@ -193,15 +223,14 @@ fn run_keeping<R: Threads + Wait + Sync>(
         ends: false,
         observer: &mut nobody,
     };
-    let mut machines = Vec::new(alloc);
     let mut done = 0;
     while done < rounds {
         let more = next_rounds(every, rounds - done);
         machine.walk(rt, more, workers, &mut comparing)?;
         done += more;
-        keep_if_due(&mut machines, machine, every, done)?;
+        keep_if_due(machines, machine, every, done)?;
     }
-    Ok((comparing.verdict, machines))
+    Ok(comparing.verdict)
 }
 
 /// How many rounds are done at once of those that are left: as many as to the next multiple of `every`.
@@ -230,8 +259,12 @@ fn keep_if_due(
     if every == 0 || round % every != 0 {
         return Ok(());
     }
-    match machines.push(machine.share()?) {
-        Ok(()) => Ok(()),
-        Err(_) => Err(RunError::OutOfMemory),
-    }
+    Ok(add(machines, machine.share()?)?)
+}
+
+fn add(machines: &mut Vec<Machine>, machine: Machine) -> Result<(), OutOfMemory>
+    ensures { OnOk result (machines.new.items ≡ machines.old.items ++ machine ∷ []) }
+{
+    machines.push(machine)?;
+    Ok(())
 }

@@ -38,6 +38,7 @@ pub fn count_at<R: Threads + Wait + Sync>(
     // At most 1,000, so that no count of instructions wraps.
     let _budget = recording.budget();
     if round == 0 || round > recording.rounds() || hart >= recording.harts() {
+        drop(machine);
         return Ok(None);
     }
     let mut counting = Counting {
@@ -45,7 +46,9 @@ pub fn count_at<R: Threads + Wait + Sync>(
         before: 0,
         after: done_by(&machine, hart),
     };
-    machine.walk(rt, round, workers, &mut counting)?;
+    let walked = machine.walk(rt, round, workers, &mut counting);
+    drop(machine);
+    let _rounds = walked?;
     Ok(Some(counting.after - counting.before))
 }
 

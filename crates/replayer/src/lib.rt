@@ -3,7 +3,6 @@
 
 mod checkpoints;
 mod counting;
-mod keeping;
 mod locating;
 mod opened;
 mod past;
@@ -17,6 +16,7 @@ pub use checkpoints::Replay;
 pub use counting::count_at;
 pub use event_pcs::pcs_of_run;
 pub use locating::pcs_before;
+pub use opened::settings_of;
 pub use past::{sight_at, state_at};
 pub use placing::state_before;
 pub use recorder::{record, record_observed, record_with};

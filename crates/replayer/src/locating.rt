@@ -32,5 +32,7 @@ pub fn pcs_before<R: Threads + Wait + Sync>(
     ensures in_order { RefusedInOrder workers recording.now result }
 {
     let mut start = opened_untraced(alloc, recording, workers)?;
-    pcs_of_run(rt, alloc, &mut start, recording.rounds(), events, workers)
+    let pcs = pcs_of_run(rt, alloc, &mut start, recording.rounds(), events, workers);
+    drop(start);
+    pcs
 }

@@ -44,8 +44,8 @@ pub(crate) fn opened_untraced(
     prepare_untraced(alloc, recording.image(), recording.input(), &settings)
 }
 
-/// What a recording says of its run, with so many workers.
-fn settings_of(recording: &Recording, workers: u32) -> Settings<'_>
+/// What a recording says of its run, with so many workers: they alone may be out of range.
+pub fn settings_of(recording: &Recording, workers: u32) -> Settings<'_>
     ensures format { result.format ≡ format_of recording.now.format }
     ensures machine { (result.harts ≡ recording.now.harts) × (result.pages ≡ recording.now.pages) }
     ensures rounds { (result.rounds ≡ recording.now.rounds) ×

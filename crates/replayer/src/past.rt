@@ -47,7 +47,10 @@ pub fn sight_at<R: Threads + Wait + Sync>(
     let machine = opened_untraced(alloc, recording, workers)?;
     match rounds_before(recording, round) {
         Some(before) => sight_in_round(rt, machine, before, hart, count, workers),
-        None => Ok(None),
+        None => {
+            drop(machine);
+            Ok(None)
+        }
     }
 }
 
@@ -72,7 +75,10 @@ pub fn state_at<R: Threads + Wait + Sync>(
     let machine = opened_untraced(alloc, recording, workers)?;
     match rounds_before(recording, round) {
         Some(before) => hart_in_round(rt, machine, before, hart, count, workers),
-        None => Ok(None),
+        None => {
+            drop(machine);
+            Ok(None)
+        }
     }
 }
 
@@ -104,8 +110,13 @@ fn sight_in_round<R: Threads + Wait + Sync>(
         m.code) m.plan.budget (quotas_of m.plan) (after_rounds before m).state hart count) }
     ensures refused { IfErr result (λ e. e ≡ refusals.OutOfMemory) }
 {
-    machine.run(rt, before, workers)?;
-    sight_after(rt, machine, hart, count, workers)
+    match machine.run(rt, before, workers) {
+        Ok(()) => sight_after(rt, machine, hart, count, workers),
+        Err(refused) => {
+            drop(machine);
+            Err(refused)
+        }
+    }
 }
 
 /// The hart alone.
@@ -124,6 +135,11 @@ pub(crate) fn hart_in_round<R: Threads + Wait + Sync>(
         m.code) m.plan.budget (quotas_of m.plan) (after_rounds before m).state hart count) }
     ensures refused { IfErr result (λ e. e ≡ refusals.OutOfMemory) }
 {
-    machine.run(rt, before, workers)?;
-    hart_after(rt, machine, hart, count, workers)
+    match machine.run(rt, before, workers) {
+        Ok(()) => hart_after(rt, machine, hart, count, workers),
+        Err(refused) => {
+            drop(machine);
+            Err(refused)
+        }
+    }
 }

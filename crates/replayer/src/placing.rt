@@ -19,6 +19,7 @@ use machine::{Next, UntracedMachine, Visitor};
 use pages::OutOfMemory;
 use recording::Recording;
 use std::alloc::Global;
+use std::mem;
 use std::sync::Wait;
 use std::thread::Threads;
 
@@ -70,7 +71,10 @@ fn state_sought<R: Threads + Wait + Sync>(
 {
     let sought = seek(rt, machine, rounds, hart, place, workers)?;
     match sought.found {
-        None => Ok(None),
+        None => {
+            drop(sought);
+            Ok(None)
+        }
         Some((round, count)) => match hart_from(rt, sought.last, round, hart, count, workers)? {
             Some(before) => Ok(Some((round, before))),
             None => unreachable!(),
@@ -122,8 +126,13 @@ fn seek<R: Threads + Wait + Sync>(
         found: None,
         last,
     };
-    machine.walk(rt, rounds, workers, &mut seeking)?;
-    Ok(seeking)
+    match machine.walk(rt, rounds, workers, &mut seeking) {
+        Ok(_rounds) => Ok(seeking),
+        Err(refused) => {
+            drop(seeking);
+            Err(RunError::from(refused))
+        }
+    }
 }
 
 /// Seeks the round in which a hart does its instruction of a place.
@@ -174,10 +183,7 @@ impl Seeking {
         if !self.is_near(machine) || machine.rounds() / 2 < self.last.rounds() {
             return Ok(());
         }
-        let Ok(copy) = machine.copy() else {
-            return Err(OutOfMemory);
-        };
-        self.last = copy;
+        drop(mem::replace(&mut self.last, copied(machine)?));
         Ok(())
     }
 
@@ -189,5 +195,15 @@ impl Seeking {
         }
         let quota = plan.quota(machine.rounds() + 1, self.hart);
         self.place.saturating_sub(self.before) < u64::from(quota) + u64::from(plan.budget())
+    }
+}
+
+/// An equal machine.
+fn copied(machine: &UntracedMachine) -> Result<UntracedMachine, OutOfMemory>
+    ensures { IfOk result (λ u. u ≡ machine.now) }
+{
+    match machine.copy() {
+        Ok(copy) => Ok(copy),
+        Err(_) => Err(OutOfMemory),
     }
 }

@@ -8,12 +8,12 @@ ghost use Rattle.recording.specs.Fields.{HaveEach};
 ghost use Rattle.recording.specs.Grammar.{checkpoint_after};
 ghost use Rattle.recording.specs.Views.{checkpoint_view};
 ghost use Rattle.replayer.specs.Replayed.{number_of, recorded_of, recorded_with};
-ghost use Rattle.replayer.specs.Summaries.{checkpoints_of_rounds};
+ghost use Rattle.kept_states.specs.Summaries.{checkpoints_of_rounds};
 ghost use Rattle.replayer.specs.Visits.{HasRecorded};
 ghost use Rattle.round_schedule.specs.Bounds.{AreWorkers};
 
-use crate::keeping::{keep, seen_of};
 use host_io::RunError;
+use kept_states::{keep, seen_of};
 use machine::{
     Format, Next, Observer, Settings, Unobserved, UntracedMachine, Visitor, prepare_untraced,
 };
@@ -96,8 +96,9 @@ pub fn record_observed<O: Observer, R: Threads + Wait + Sync>(
         every,
         settings.workers,
         observer,
-    )?;
-    recording_of(alloc, image, input, settings, every, checkpoints)
+    );
+    drop(machine);
+    recording_of(alloc, image, input, settings, every, checkpoints?)
 }
 
 /// What is kept of the next rounds of a machine that was just opened, which does them. It may wait.

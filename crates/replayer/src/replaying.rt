@@ -6,15 +6,15 @@ ghost use Rattle.machine.specs.Untraced.{IsUntraced};
 ghost use Rattle.recording.specs.Views.{checkpoint_view};
 ghost use Rattle.replayer.specs.Refusals.{RefusedInOrder};
 ghost use Rattle.replayer.specs.Replayed.{IsNextVerdict, IsPlanFor, IsVerdict, IsVerdictOn, start_of};
-ghost use Rattle.replayer.specs.Summaries.{checkpoint_in};
+ghost use Rattle.kept_states.specs.Summaries.{checkpoint_in};
 ghost use Rattle.replayer.specs.Visits.{HasCompared};
 ghost use Rattle.replayer.specs.declared.verdict.Verdict.TheVariants.{Same};
 ghost use Rattle.round_schedule.specs.Bounds.{AreWorkers};
 
-use crate::keeping::{Seen, agrees, seen_of};
 use crate::opened::opened_untraced;
 use crate::verdict::Verdict;
 use host_io::RunError;
+use kept_states::{Seen, agrees, seen_of};
 use machine::{Next, Observer, Unobserved, UntracedMachine, Visitor};
 use pages::OutOfMemory;
 use recording::{Checkpoint, Recording};
@@ -61,14 +61,16 @@ pub fn replay_observed<O: Observer, R: Threads + Wait + Sync>(
     let mut machine = opened_untraced(alloc, recording, workers)?;
     // So many rounds are kept, as 32 bits hold.
     let _rounds = recording.rounds();
-    first_difference(
+    let verdict = first_difference(
         rt,
         &mut machine,
         recording.checkpoints(),
         recording.every(),
         workers,
         observer,
-    )
+    );
+    drop(machine);
+    verdict
 }
 
 /// Runs a machine that was just opened for as many rounds as were kept, and looks for the first after which its state is

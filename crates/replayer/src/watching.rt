@@ -40,7 +40,7 @@ pub fn watch<R: Threads + Wait + Sync>(
         within: None,
     };
     let rounds = recording.rounds();
-    hits_of_run(
+    let hits = hits_of_run(
         rt,
         alloc,
         &mut machine,
@@ -48,7 +48,9 @@ pub fn watch<R: Threads + Wait + Sync>(
         sought,
         workers,
         &mut Unobserved,
-    )
+    );
+    drop(machine);
+    hits
 }
 
 /// What `watch` gives, of some rounds alone. It runs no further than the last of them. It may wait.
@@ -78,5 +80,7 @@ pub fn watch_rounds<O: Observer, R: Threads + Wait + Sync>(
         within: Some(rounds),
     };
     let count = recording.rounds().min(rounds.last);
-    hits_of_run(rt, alloc, &mut machine, count, sought, workers, observer)
+    let hits = hits_of_run(rt, alloc, &mut machine, count, sought, workers, observer);
+    drop(machine);
+    hits
 }

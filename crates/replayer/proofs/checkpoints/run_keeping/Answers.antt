@@ -1,4 +1,4 @@
-use Rattle.std.proofs.Common.{◌≡◌, ◌+◌, ◌-◌, ◌∙◌, ap, arith, false, inl, inr, length, map, refl, subst, sym, true≢false, ℕ, List}
+use Rattle.std.proofs.Common.{◌≡◌, ◌+◌, ◌∙◌, ap, arith, false, inl, inr, length, map, refl, subst, sym, true≢false, ℕ, List}
 use Rattle.machine.specs.Machine.{Running, after_rounds}
 use Rattle.machine.proofs.Repeated.{no_rounds, more_rounds}
 use Rattle.recording.specs.Recorded.{Checkpoint}
@@ -18,7 +18,7 @@ loop-done-init g c = (
   (omega arith, λ lt. none_multiple c.args.every),
   (c.checkpoints.ensures.value, c.every.ensures, refl),
   λ j lo hi. absurd (omega (arith, lo, hi)),
-  rw c.new-machines.ensures.items (checkpoints_first c.args.every c.args.machine.now),
+  rw c.requires.none (checkpoints_first c.args.every c.args.machine.now),
 )
 
 pub walk-requires-clause-known : goal.walk-requires-clause-known

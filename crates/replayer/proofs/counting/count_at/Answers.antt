@@ -19,8 +19,8 @@ returns-then-round-eq0-clause-count g c =
       ],
     )
 
-pub walk-requires-clause-known : goal.walk-requires-clause-known
-walk-requires-clause-known g c = λ lifetimes within. (refl, none_counted c.args.hart 0 c.done_by.result c.in_ok-machine.machine c.done_by.ensures)
+pub walk-walked-requires-clause-known : goal.walk-walked-requires-clause-known
+walk-walked-requires-clause-known g c = λ lifetimes within. (refl, none_counted c.args.hart 0 c.done_by.result c.in_ok-machine.machine c.done_by.ensures)
 
 pub overflow_sub-result : goal.overflow_sub-result
 overflow_sub-result g c =
@@ -28,8 +28,8 @@ overflow_sub-result g c =
     let m : Running = start_of c.args.recording.now made.0 in
     let b = begins c.in_ok-machine.machine c.args.recording.now made.0 c.args.hart made.1 (omega (arith, c.if-hart-harts.false, c.harts.ensures.value)) (omega (arith, c.budget-budget.ensures.value, c.budget-budget.ensures.range.1))
     (λ cause least. c.in_ok-machine.ensures.in_order.image cause c.in_ok-machine.ensures.in_range least) (λ cause good least. c.in_ok-machine.ensures.in_order.plan cause c.in_ok-machine.ensures.in_range good least) in
-    let r = all_read m c.args.round c.args.hart c.in_ok-walk.field-0 c.in_ok-machine.machine c.walk.new.visitor.before c.walk.new.visitor.after b made.2 (omega (arith, c.if-round-eq0.false)) (omega (arith, c.ranges.round.fits)) c.in_ok-walk.ensures.ended c.in_ok-walk.ensures.known.1 in
-    never_less m (c.args.round - 1) c.args.hart c.walk.new.visitor.before c.walk.new.visitor.after r.one r.first r.last
+    let r = all_read m c.args.round c.args.hart c.in_ok-_rounds._rounds c.in_ok-machine.machine c.walk-walked.new.visitor.before c.walk-walked.new.visitor.after b made.2 (omega (arith, c.if-round-eq0.false)) (omega (arith, c.ranges.round.fits)) c.in_ok-_rounds.ensures.ended c.in_ok-_rounds.ensures.known.1 in
+    never_less m (c.args.round - 1) c.args.hart c.walk-walked.new.visitor.before c.walk-walked.new.visitor.after r.one r.first r.last
 
 pub returns-clause-count : goal.returns-clause-count
 returns-clause-count g c =
@@ -37,5 +37,5 @@ returns-clause-count g c =
     let m : Running = start_of c.args.recording.now made.0 in
     let b = begins c.in_ok-machine.machine c.args.recording.now made.0 c.args.hart made.1 (omega (arith, c.if-hart-harts.false, c.harts.ensures.value)) (omega (arith, c.budget-budget.ensures.value, c.budget-budget.ensures.range.1))
     (λ cause least. c.in_ok-machine.ensures.in_order.image cause c.in_ok-machine.ensures.in_range least) (λ cause good least. c.in_ok-machine.ensures.in_order.plan cause c.in_ok-machine.ensures.in_range good least) in
-    let r = all_read m c.args.round c.args.hart c.in_ok-walk.field-0 c.in_ok-machine.machine c.walk.new.visitor.before c.walk.new.visitor.after b made.2 (omega (arith, c.if-round-eq0.false)) (omega (arith, c.ranges.round.fits)) c.in_ok-walk.ensures.ended c.in_ok-walk.ensures.known.1 in
-    (made.0, made.1, count_is c.args.recording.now.rounds m c.args.round c.args.hart c.walk.new.visitor.before c.walk.new.visitor.after r.one (omega (arith, c.if-round-eq0.false)) (omega (arith, c.if-round-rounds.false, c.rounds.ensures)) r.first r.last)
+    let r = all_read m c.args.round c.args.hart c.in_ok-_rounds._rounds c.in_ok-machine.machine c.walk-walked.new.visitor.before c.walk-walked.new.visitor.after b made.2 (omega (arith, c.if-round-eq0.false)) (omega (arith, c.ranges.round.fits)) c.in_ok-_rounds.ensures.ended c.in_ok-_rounds.ensures.known.1 in
+    (made.0, made.1, count_is c.args.recording.now.rounds m c.args.round c.args.hart c.walk-walked.new.visitor.before c.walk-walked.new.visitor.after r.one (omega (arith, c.if-round-eq0.false)) (omega (arith, c.if-round-rounds.false, c.rounds.ensures)) r.first r.last)

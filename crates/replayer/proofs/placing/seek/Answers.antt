@@ -12,15 +12,15 @@ walk-requires-clause-known g c = λ lifetimes within. (
       (c.in_ok-last.ensures.same ∙ sym c.share.ensures.stays),
 )
 
-pub returns-clause-round : goal.returns-clause-round
-returns-clause-round g c = λ m is begins.
+pub returns-in-Ok-clause-round : goal.returns-in-Ok-clause-round
+returns-in-Ok-clause-round g c = λ m is begins.
     let v = c.walk.new.visitor in
-    let walked = c.in_ok-walk.ensures in
-    sought_all c.args.hart c.args.place v.before v.found v.last c.share.new.self c.args.rounds c.in_ok-walk.field-0 m walked.known.2 walked.ended (subst (λ (u : Untraced). IsUntraced m u) (sym c.share.ensures.stays) is) begins
+    let walked = c.in-Ok.ensures in
+    sought_all c.args.hart c.args.place v.before v.found v.last c.share.new.self c.args.rounds c.in-Ok._rounds m walked.known.2 walked.ended (subst (λ (u : Untraced). IsUntraced m u) (sym c.share.ensures.stays) is) begins
 
-pub returns-clause-behind : goal.returns-clause-behind
-returns-clause-behind g c =
+pub returns-in-Ok-clause-behind : goal.returns-in-Ok-clause-behind
+returns-in-Ok-clause-behind g c =
     let v = c.walk.new.visitor in
-    let walked = c.in_ok-walk.ensures in
+    let walked = c.in-Ok.ensures in
     subst (λ (u : Untraced). IsBehind u v.last c.args.rounds v.found) c.share.ensures.stays
-    (behind_all c.share.new.self v.last c.args.rounds c.in_ok-walk.field-0 v.found walked.most walked.known.2.behind)
+    (behind_all c.share.new.self v.last c.args.rounds c.in-Ok._rounds v.found walked.most walked.known.2.behind)

@@ -10,9 +10,9 @@ pub returns-clause-verdict : goal.returns-clause-verdict
 returns-clause-verdict g c =
     let made = c.in_ok-machine.ensures.machine in
     let m : Running = start_of c.args.recording.now made.0 in
-    IfOk-weaker c.first_difference.result _ _ (λ v is. (
+    IfOk-weaker c.first_difference-verdict.result _ _ (λ v is. (
       made.0,
       made.1,
       subst (λ (ks : List Checkpoint). IsVerdictOn ks c.args.recording.now.every m v) c.checkpoints.ensures.value
           (subst (λ (n : ℕ). IsVerdictOn (map checkpoint_view c.checkpoints.result.now) n m v) c.every.ensures is),
-    )) (c.first_difference.ensures.verdict m made.2)
+    )) (c.first_difference-verdict.ensures.verdict m made.2)

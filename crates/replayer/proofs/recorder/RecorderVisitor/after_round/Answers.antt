@@ -1,4 +1,4 @@
-use Rattle.std.proofs.Common.{ℕ, ◌+◌, ◌∙◌, [], ◌∷◌, ◌++◌, map, sym, subst}
+use Rattle.std.proofs.Common.{ℕ, ◌+◌, [], ◌∷◌, ◌++◌, map, sym, subst}
 use Rattle.machine.specs.Machine.{after_rounds}
 use Rattle.recording.specs.Views.{checkpoint_view}
 use Rattle.replayer.specs.Visits.{HasRecorded}

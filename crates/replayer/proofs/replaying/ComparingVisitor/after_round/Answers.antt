@@ -1,4 +1,4 @@
-use Rattle.std.proofs.Common.{ℕ, ◌-◌, ap, get_or, ◌∙◌}
+use Rattle.std.proofs.Common.{ℕ, ◌-◌, ap, get_or}
 use Rattle.recording.specs.Views.{checkpoint_view}
 use Rattle.replayer.proofs.Compared.{compared_round}
 use Rattle.replayer.proofs.replaying.ComparingVisitor.after_round.Goals as goal

@@ -3,9 +3,9 @@ use Rattle.std.specs.Global.{Vec}
 use Rattle.std.specs.Int.{w64}
 use Rattle.recording.specs.Fields.{each}
 use Rattle.recording.specs.Grammar.{any}
-use Rattle.replayer.specs.Summaries.{registers_of}
-use Rattle.replayer.proofs.Checkpoint.{have_seen, one_more_seen}
-use Rattle.replayer.proofs.keeping.registers_of_all.Goals as goal
+use Rattle.kept_states.specs.Summaries.{registers_of}
+use Rattle.kept_states.proofs.Checkpoint.{have_seen, one_more_seen}
+use Rattle.kept_states.proofs.keeping.registers_of_all.Goals as goal
 
 pub loop-place-preserved : goal.loop-place-preserved
 loop-place-preserved c = (

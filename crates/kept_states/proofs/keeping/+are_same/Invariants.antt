@@ -1,5 +1,5 @@
 use Rattle.std.proofs.Common.{length}
-use Rattle.replayer.proofs.keeping.+are_same.Given as goal
+use Rattle.kept_states.proofs.keeping.+are_same.Given as goal
 
 abbrev pub decreases-are_same : goal.decreases-are_same
 decreases-are_same l = length l.recorded.now

@@ -1,6 +1,6 @@
 use Rattle.std.proofs.Common.{arith}
-use Rattle.replayer.proofs.Ranges.{stop_fits}
-use Rattle.replayer.proofs.keeping.hart_summary_of.Goals as goal
+use Rattle.kept_states.proofs.Ranges.{stop_fits}
+use Rattle.kept_states.proofs.keeping.hart_summary_of.Goals as goal
 
 pub returns-clause-ranges : goal.returns-clause-ranges
 returns-clause-ranges c =

@@ -7,7 +7,7 @@ use Rattle.recording.specs.Fields.{HaveEach, is_within, most}
 use Rattle.hart_step.specs.Stops.{has_stop}
 use Rattle.hart_step.specs.declared.hart.Stop.{Stop}
 use Rattle.recording.specs.Grammar.{any, most_value}
-use Rattle.replayer.specs.Summaries.{code_of, value_of}
+use Rattle.kept_states.specs.Summaries.{code_of, value_of}
 
 within : (low high n : ℕ) → low ≤ n → n ≤ high → is_within low high n ≡ true
 within low high n l h = grind (arith, nat_tests, l, h)

@@ -6,7 +6,7 @@ ghost use Rattle.std.specs.Int.{w64};
 ghost use Rattle.recording.specs.Fields.{HaveEach};
 ghost use Rattle.recording.specs.Grammar.{any, hart_summary, checkpoint_after, registers, summary};
 ghost use Rattle.recording.specs.Views.{hart_view, checkpoint_view, registers_view, summary_view};
-ghost use Rattle.replayer.specs.Summaries.{IsSeenOf, code_of, hart_summary_of, checkpoint_in, registers_of, summary_in, value_of};
+ghost use Rattle.kept_states.specs.Summaries.{IsSeenOf, code_of, hart_summary_of, checkpoint_in, registers_of, summary_in, value_of};
 
 use hart_step::{Hart, Stop};
 use machine::UntracedMachine;
@@ -16,19 +16,19 @@ use std::alloc::Global;
 
 /// What is seen of the state after a round, and of no more is anything kept.
 #[derive(Drop)]
-pub(crate) struct Seen<'a> {
+pub struct Seen<'a> {
     /// The harts, in hart order.
-    pub(crate) harts: &'a [Hart],
+    pub harts: &'a [Hart],
     /// How many bytes of output there are.
-    pub(crate) output: u64,
+    pub output: u64,
     /// How many events the trace has.
-    pub(crate) trace: u64,
+    pub trace: u64,
     /// The round's number, and 0 before the first one.
-    pub(crate) round: u32,
+    pub round: u32,
 }
 
 /// What is seen of a machine.
-pub(crate) fn seen_of(machine: &UntracedMachine) -> Seen<'_>
+pub fn seen_of(machine: &UntracedMachine) -> Seen<'_>
     ensures seen { (m : Running) → IsUntraced m machine.now → IsSeenOf result m.state }
     ensures harts { length result.harts.now ≡ machine.now.plan.harts }
     ensures round { result.round ≡ machine.now.rounds }
@@ -43,8 +43,13 @@ pub(crate) fn seen_of(machine: &UntracedMachine) -> Seen<'_>
     }
 }
 
-/// What is kept of a state, with registers where they are due.
-pub(crate) fn keep(alloc: Global, seen: &Seen<'_>, every: u32) -> Result<Checkpoint, OutOfMemory>
+/// What is kept of a state, with registers where they are due: after each round whose number is a multiple of `every`, and after
+/// none where it is 0.
+///
+/// # Errors
+///
+/// `OutOfMemory` alone.
+pub fn keep(alloc: Global, seen: &Seen<'_>, every: u32) -> Result<Checkpoint, OutOfMemory>
     requires { All (λ h. has_stop h.stop ≡ true) seen.now.harts.now }
     ensures checkpoint { IfOk result (λ k. checkpoint_view k ≡ checkpoint_in every seen.now) }
     ensures ranges { IfOk result (λ k.
@@ -210,8 +215,8 @@ fn summary_agrees(recorded: &Summary, seen: &Seen<'_>) -> bool
         && harts_agree(&recorded.harts, seen.harts)
 }
 
-/// Whether a state is what was kept of it.
-pub(crate) fn agrees(recorded: &Checkpoint, every: u32, seen: &Seen<'_>) -> bool
+/// Whether a state is what was kept of it, with registers where they are due.
+pub fn agrees(recorded: &Checkpoint, every: u32, seen: &Seen<'_>) -> bool
     ensures { IsTrue result ↔ checkpoint_view recorded.now ≡ checkpoint_in every seen.now }
 {
     if !summary_agrees(&recorded.summary, seen) {

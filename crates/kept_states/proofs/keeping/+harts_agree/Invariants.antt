@@ -1,5 +1,5 @@
 use Rattle.std.proofs.Common.{length}
-use Rattle.replayer.proofs.keeping.+harts_agree.Given as goal
+use Rattle.kept_states.proofs.keeping.+harts_agree.Given as goal
 
 abbrev pub decreases-harts_agree : goal.decreases-harts_agree
 decreases-harts_agree l = length l.recorded.now

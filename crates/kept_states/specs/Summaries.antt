@@ -7,7 +7,7 @@ use Rattle.hart_step.specs.Console.{ConsoleState}
 use Rattle.machine.specs.Machine.{Running, after_round}
 use Rattle.recording.specs.Grammar.{is_due}
 use Rattle.recording.specs.Recorded.{HartSummary, Summary, Checkpoint}
-use Rattle.replayer.specs.declared.keeping.Seen.{Seen}
+use Rattle.kept_states.specs.declared.keeping.Seen.{Seen}
 
 -- why a hart has stopped, and 0 while it runs
 abbrev pub code_of : Option Stop → ℕ

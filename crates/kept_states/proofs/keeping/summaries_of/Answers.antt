@@ -1,9 +1,9 @@
 use Rattle.std.proofs.Common.{arith}
 use Rattle.recording.specs.Grammar.{hart_summary}
 use Rattle.recording.specs.Views.{hart_view}
-use Rattle.replayer.specs.Summaries.{hart_summary_of}
-use Rattle.replayer.proofs.Checkpoint.{have_seen, one_more_seen}
-use Rattle.replayer.proofs.keeping.summaries_of.Goals as goal
+use Rattle.kept_states.specs.Summaries.{hart_summary_of}
+use Rattle.kept_states.proofs.Checkpoint.{have_seen, one_more_seen}
+use Rattle.kept_states.proofs.keeping.summaries_of.Goals as goal
 
 pub loop-place-preserved : goal.loop-place-preserved
 loop-place-preserved c = (

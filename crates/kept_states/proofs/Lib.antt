@@ -1,0 +1,3 @@
+pub mod SeenOf
+pub mod Checkpoint
+pub mod Ranges
