@@ -1,6 +1,6 @@
 -- The run that the settings of a recording's run lead to is that of the recording, and what refuses it refuses that.
 use Rattle.std.proofs.Common.{◌≡◌, ◌⊎◌, ◌+◌, ◌^◌, ◌≤◌, ℕ, Err, IfErr, IfOk, List, None, Ok, Result, inl, inr, ⊎_elim}
-use Rattle.debug_commands.specs.Debuggees.{HasSettings, IsRefusal, IsRunOf}
+use Rattle.debug_commands.specs.Debuggees.{IsRefusal, IsRunOf}
 use Rattle.gdb_runs.specs.Sessions.{IsReady, handed, image_of}
 use Rattle.gdb_runs.specs.declared.debugged.Debugged.{Debugged}
 use Rattle.gdb_session.specs.Serving.{begun}
@@ -12,10 +12,19 @@ use Rattle.machine.specs.Machine.{opening}
 use Rattle.machine.specs.Untraced.{IsUntraced}
 use Rattle.recording.specs.Recorded.{Recorded}
 use Rattle.replayer.specs.Refusals.{HasImage, HasImageCause, HasPlanCause, HasReason}
-use Rattle.replayer.specs.Replayed.{IsPlanFor, start_of}
+use Rattle.replayer.specs.Replayed.{IsPlanFor, format_of, start_of}
 use Rattle.round_planner.specs.Quotas.{Planned}
 use Rattle.run_settings.specs.Settings.{IsImage, IsImageCause, IsPlan, IsPlanCause, IsReason, RefusedAs, RefusedInOrder, image_for, settings_fault}
 use Rattle.run_settings.specs.declared.settings.Settings.{Settings}
+
+-- the settings are those of a recording's run
+pub record HasSettings (r : Recorded) (s : Settings) : Type 0 where
+  pub format : s.format ≡ format_of r.format
+  pub harts : s.harts ≡ r.harts
+  pub pages : s.pages ≡ r.pages
+  pub rounds : s.rounds ≡ r.rounds
+  pub is_budget : s.budget ≡ r.budget
+  pub is_plan : s.plan.now ≡ r.plan
 
 -- the plan and the first state are those of the recording
 plan_for : (r : Recorded) (s : Settings) (plan : Planned) → HasSettings r s → IsPlan s plan → IsPlanFor r plan

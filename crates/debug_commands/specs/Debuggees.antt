@@ -26,19 +26,8 @@ use Rattle.recording.specs.Recorded.{Recorded}
 use Rattle.replayer.specs.Refusals.{HasImage, HasImageCause, HasPlanCause, HasReason}
 use Rattle.replayer.specs.Replayed.{IsPlanFor, format_of, start_of}
 use Rattle.round_planner.specs.Quotas.{Planned}
-use Rattle.run_settings.specs.declared.settings.Settings.{Settings}
 
 -- ---- recordings
-
--- the settings are those of a recording's run, on one worker
-pub record HasSettings (r : Recorded) (s : Settings) : Type 0 where
-  pub format : s.format ≡ format_of r.format
-  pub harts : s.harts ≡ r.harts
-  pub pages : s.pages ≡ r.pages
-  pub rounds : s.rounds ≡ r.rounds
-  pub workers : s.workers ≡ 1
-  pub is_budget : s.budget ≡ r.budget
-  pub is_plan : s.plan.now ≡ r.plan
 
 -- the run of a recording before its first round: from its inputs, by its plan, and over as many rounds; the debugger is handed its image if
 -- that is an ELF file

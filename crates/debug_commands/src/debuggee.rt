@@ -1,15 +1,14 @@
 //! What a debugger looks at.
-ghost use Rattle.std.specs.Prelude.{◌≡◌, IfErr, IfOk, None};
-ghost use Rattle.debug_commands.specs.Debuggees.{HasSettings, IsDebuggee, IsDebuggeeOf, IsRefusal, IsRefusedPast, IsRefusedText, IsRunOf, IsTextDebuggee, IsUnopened};
-ghost use Rattle.run_settings.specs.Settings.{settings_fault};
+ghost use Rattle.std.specs.Prelude.{IfErr, IfOk};
+ghost use Rattle.debug_commands.specs.Debuggees.{IsDebuggee, IsDebuggeeOf, IsRefusal, IsRefusedPast, IsRefusedText, IsRunOf, IsTextDebuggee, IsUnopened};
 
 use execution_scripts::Checked;
 use execution_session::Opened;
 use gdb_runs::Debugged;
 use host_io::RunError;
-use machine::{Format, Settings};
 use past_commands::{Past, PastFailure, PastFiles, execution_of, read_past};
 use recording::Recording;
+use replayer::settings_of;
 use std::alloc::Global;
 
 /// What a debugger looks at.
@@ -58,29 +57,8 @@ fn opened_run(alloc: Global, recording: &Recording) -> Result<Debugged, RunError
     ensures opens { IfOk result (IsRunOf recording.now) }
     ensures errors { IfErr result (IsRefusal recording.now) }
 {
-    let settings = settings_of(recording);
+    let settings = settings_of(recording, 1);
     gdb_session::open(alloc, recording.image(), recording.input(), &settings)
-}
-
-/// What a recording says of its run, on one worker.
-#[tactic(auto, using(replayer::proofs::Faults::no_fault))]
-fn settings_of(recording: &Recording) -> Settings<'_>
-    ensures settings { HasSettings recording.now result }
-    ensures in_range { settings_fault result ≡ None }
-{
-    Settings {
-        format: if recording.is_flat() {
-            Format::Flat
-        } else {
-            Format::Elf
-        },
-        harts: recording.harts(),
-        pages: recording.pages(),
-        rounds: recording.rounds(),
-        workers: 1,
-        budget: recording.budget(),
-        plan: recording.plan(),
-    }
 }
 
 /// The execution that a text says, or what was found against it.
