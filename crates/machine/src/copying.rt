@@ -19,10 +19,14 @@ impl Machine {
         ensures same { IfOk result (λ m. m ≡ self.now) }
         ensures refused { IfErr result (λ e. e ≡ refusals.OutOfMemory) }
     {
-        Ok(Machine {
-            bare: self.bare.copy()?,
-            trace: self.trace.copy(self.bare.allocator())?,
-        })
+        let trace = self.trace.copy(self.bare.allocator())?;
+        match self.bare.copy() {
+            Ok(bare) => Ok(Machine { bare, trace }),
+            Err(refused) => {
+                drop(trace);
+                Err(refused)
+            }
+        }
     }
 
     /// A machine that is equal to this one and shares its pages: each of the two gets its own of a page when it writes there.
@@ -38,10 +42,14 @@ impl Machine {
         ensures stays { self.new ≡ self.old }
         ensures refused { IfErr result (λ e. e ≡ refusals.OutOfMemory) }
     {
-        Ok(Machine {
-            bare: self.bare.share()?,
-            trace: self.trace.copy(self.bare.allocator())?,
-        })
+        let trace = self.trace.copy(self.bare.allocator())?;
+        match self.bare.share() {
+            Ok(bare) => Ok(Machine { bare, trace }),
+            Err(refused) => {
+                drop(trace);
+                Err(refused)
+            }
+        }
     }
 
     /// The machine of the same run without its trace.
@@ -96,12 +104,18 @@ impl UntracedMachine {
         ensures same { IfOk result (λ u. u ≡ self.now) }
         ensures refused { IfErr result (λ e. e ≡ refusals.OutOfMemory) }
     {
-        Ok(UntracedMachine {
-            plan: self.plan.copy(guest.pages().allocator())?,
-            guest,
-            rounds: self.rounds,
-            events: self.events,
-            work: self.work,
-        })
+        match self.plan.copy(guest.pages().allocator()) {
+            Ok(plan) => Ok(UntracedMachine {
+                guest,
+                plan,
+                rounds: self.rounds,
+                events: self.events,
+                work: self.work,
+            }),
+            Err(refused) => {
+                drop(guest);
+                Err(RunError::from(refused))
+            }
+        }
     }
 }

@@ -46,10 +46,17 @@ impl Machine {
     {
         // It tells how many bytes the pieces fill.
         let _pieces = image.pieces();
-        let bare = UntracedMachine::open(alloc, &image, input, plan)?;
-        bare.bytes_fit();
-        let trace = Trace::new(alloc, image.into_pieces());
-        Ok(Machine { bare, trace })
+        match UntracedMachine::open(alloc, &image, input, plan) {
+            Ok(bare) => {
+                bare.bytes_fit();
+                let trace = Trace::new(alloc, image.into_pieces());
+                Ok(Machine { bare, trace })
+            }
+            Err(refused) => {
+                drop(image);
+                Err(refused)
+            }
+        }
     }
 
     /// The harts, in hart order. One that has stopped did so with a code of 1 to 10, and with a value in the exit call alone.
@@ -109,7 +116,8 @@ impl Machine {
         ensures rounds { IsRoundTrace result.events (opening_at result.opening) self.plan.budget }
         ensures opening { (x : ℕ) → opening_at result.opening x ≡ slice_index self.opening x }
     {
-        let Machine { trace, .. } = self;
+        let Machine { bare, trace } = self;
+        drop(bare);
         trace
     }
 
@@ -117,7 +125,8 @@ impl Machine {
     pub fn into_untraced(self) -> UntracedMachine
         ensures run { IsUntraced self result }
     {
-        let Machine { bare, .. } = self;
+        let Machine { bare, trace } = self;
+        drop(trace);
         bare
     }
 }

@@ -67,7 +67,9 @@ impl UntracedMachine {
         ensures machine { IfOk result (λ u. IsUntraced (opening image input.items plan) u) }
         ensures refused { IfErr result (λ e. e ≡ refusals.OutOfMemory) }
     {
-        UntracedMachine::open(alloc, &image, input, plan)
+        let opened = UntracedMachine::open(alloc, &image, input, plan);
+        drop(image);
+        opened
     }
 
     /// The same of an image that is lent, so that one image opens many machines.
@@ -84,14 +86,19 @@ impl UntracedMachine {
         ensures machine { IfOk result (λ u. IsUntraced (opening image.now input.items plan) u) }
         ensures refused { IfErr result (λ e. e ≡ refusals.OutOfMemory) }
     {
-        let guest = GuestState::open(alloc, image, input, plan.harts())?;
-        Ok(UntracedMachine {
-            guest,
-            plan,
-            rounds: 0,
-            events: 0,
-            work: RoundWork::unknown(),
-        })
+        match GuestState::open(alloc, image, input, plan.harts()) {
+            Ok(guest) => Ok(UntracedMachine {
+                guest,
+                plan,
+                rounds: 0,
+                events: 0,
+                work: RoundWork::unknown(),
+            }),
+            Err(refused) => {
+                drop(plan);
+                Err(RunError::from(refused))
+            }
+        }
     }
 
     /// The harts, in hart order. One that has stopped did so with a code of 1 to 10, and with a value in the exit call alone.

@@ -140,7 +140,9 @@ impl UntracedMachine {
         ensures opening { E.opens_with keeper.new ≡ E.opens_with keeper.old }
     {
         let board = Board::<S>::new(self.allocator(), workers);
-        self.walk_beside(rt, &board, workers - 1, stretch, keeper, visitor)
+        let walked = self.walk_beside(rt, &board, workers - 1, stretch, keeper, visitor);
+        drop(board);
+        walked
     }
 
     /// Starts so many threads that serve a board, and then does a part of a walk.
@@ -224,6 +226,34 @@ impl UntracedMachine {
         ensures opening { E.opens_with keeper.new ≡ E.opens_with keeper.old }
     {
         let mut crew = LastingCrew::new(rt, board, keeper.log_form());
+        let walked = self.walk_by(&mut crew, stretch, keeper, visitor);
+        drop(crew);
+        walked
+    }
+
+    /// The same by a crew that is lent.
+    fn walk_by<S: RunStarts, E: EventKeeper, V: Visitor, R: Threads + Wait + Sync>(
+        &mut self,
+        crew: &mut LastingCrew<'_, S, R>,
+        stretch: Stretch,
+        keeper: &mut E,
+        visitor: &mut V,
+    ) -> Result<Walked, OutOfMemory>
+        requires form { keeps_log crew.old.crew.form ≡ E.logs }
+        requires starts { (n : ℕ) → S.starts n ≡ start_at E.logs self.old n }
+        requires rounds { self.old.rounds + stretch.rounds < 2 ^ 32 }
+        requires sound { MayWalk E.may_keep (E.keeps keeper.old) stretch.rounds self.old }
+        requires known { IsUpToDate V.knows stretch.rounds self.old visitor.old }
+        ensures walked { HasWalked result V.may_fail stretch.rounds self.old self.new
+            (E.keeps keeper.old) (E.keeps keeper.new) }
+        ensures sound { IfOk result (λ w. MayWalk E.may_keep (E.keeps keeper.new)
+            (stretch.rounds - w.rounds) self.new) }
+        ensures known { IfOk result (λ w. HasLearned V.knows stretch.rounds w.rounds self.old
+            visitor.old visitor.new) }
+        ensures ended { IfOk result (λ w. HasEnded w stretch.rounds stretch.most_workers
+            (V.has_enough visitor.new self.new)) }
+        ensures opening { E.opens_with keeper.new ≡ E.opens_with keeper.old }
+    {
         for done in 0..stretch.rounds {
             if self.wants_workers(stretch.most_workers) {
                 return Ok(Walked {
@@ -231,7 +261,7 @@ impl UntracedMachine {
                     wants_workers: true,
                 });
             }
-            self.walk_round(&mut crew, keeper)?;
+            self.walk_round(crew, keeper)?;
             match visitor.after_round(self)? {
                 Next::Round => {}
                 Next::Enough => {

@@ -3,7 +3,7 @@ use Rattle.hart_rounds.specs.Starts.{keeps_log}
 use Rattle.machine.specs.Untraced.{HasRun}
 use Rattle.machine.specs.Walks.{HasLearned, MayWalk}
 use Rattle.machine.proofs.Walked.{IsAlong}
-use Rattle.machine.proofs.untraced.UntracedMachine.walk_lasting.Given as goal
+use Rattle.machine.proofs.untraced.UntracedMachine.walk_by.Given as goal
 
 abbrev pub invariant-loop-done : goal.invariant-loop-done
 invariant-loop-done g l = record {
