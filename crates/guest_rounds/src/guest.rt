@@ -1,5 +1,6 @@
 ghost use Rattle.std.specs.Prelude.{◌≡◌, ◌≤◌, length, IfOk};
 ghost use Rattle.guest_rounds.specs.Guests.{opening_guest};
+ghost use Rattle.hart_step.specs.DecodedCode.{Shows};
 
 use crate::opening::opening_harts;
 use crate::spare_lists::SpareLists;
@@ -122,20 +123,38 @@ impl GuestState {
         ensures { IfOk result (λ g. g ≡ self.now) }
     {
         let alloc = pages.allocator();
+        match self.copied_beside(&pages) {
+            Ok((harts, console, code)) => Ok(GuestState {
+                harts,
+                spare: SpareLists::new(alloc),
+                shared: SharedState {
+                    pages,
+                    code,
+                    reservations: self.shared.reservations.copy(),
+                    console,
+                    // No turn is under way between two rounds.
+                    log: SerialLog::new(alloc),
+                },
+            }),
+            Err(refused) => {
+                drop(pages);
+                Err(refused)
+            }
+        }
+    }
+
+    /// Equal harts and an equal console, and the decoded words of equal pages.
+    fn copied_beside(&self, pages: &Pages) -> Result<(Vec<Hart>, Console, DecodedCode), OutOfMemory>
+        ensures harts { IfOk result (λ x. x.0.items ≡ self.now.harts) }
+        ensures console { IfOk result (λ x. x.1.console ≡ self.now.shared.console) }
+        ensures code { IfOk result (λ x. Shows pages.now.memory x.2.first x.2.instructions) }
+    {
+        let alloc = pages.allocator();
         let known = &self.shared.code;
-        let code = DecodedCode::new(alloc, &pages, known.first(), known.words().len())?;
-        Ok(GuestState {
-            harts: copied(alloc, &self.harts)?,
-            spare: SpareLists::new(alloc),
-            shared: SharedState {
-                pages,
-                code,
-                reservations: self.shared.reservations.copy(),
-                console: self.shared.console.copy(alloc)?,
-                // No turn is under way between two rounds.
-                log: SerialLog::new(alloc),
-            },
-        })
+        let harts = copied(alloc, &self.harts)?;
+        let console = self.shared.console.copy(alloc)?;
+        let code = DecodedCode::new(alloc, pages, known.first(), known.words().len())?;
+        Ok((harts, console, code))
     }
 }
 

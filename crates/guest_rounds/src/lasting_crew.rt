@@ -58,13 +58,15 @@ impl<'a, S: RunStarts, R> LastingCrew<'a, S, R> {
         ensures crew { self.new.crew.form ≡ self.old.crew.form }
     {
         let form = self.crew.form;
-        if let Some(mut borrowed) = self.stand_in.take() {
-            if borrowed.quotas.len() == harts {
-                borrowed.form = form;
-                return Ok(borrowed);
-            }
+        let Some(mut borrowed) = self.stand_in.take() else {
+            return stand_in(alloc, harts, form);
+        };
+        if borrowed.quotas.len() != harts {
+            drop(borrowed);
+            return stand_in(alloc, harts, form);
         }
-        stand_in(alloc, harts, form)
+        borrowed.form = form;
+        Ok(borrowed)
     }
 }
 
@@ -73,15 +75,21 @@ fn stand_in(alloc: Global, harts: usize, form: LogForm) -> Result<BorrowedStart,
     ensures sized { IfOk result (λ p. length p.quotas.items ≡ harts) }
     ensures form { IfOk result (λ p. p.form ≡ form) }
 {
+    let quotas = Vec::from_elem(alloc, 0, harts)?;
     let pages = Pages::new(alloc, 1, &[], &[])?;
-    let code = DecodedCode::new(alloc, &pages, 0, 0)?;
-    Ok(BorrowedStart {
-        pages,
-        code,
-        harts: Vec::new(alloc),
-        quotas: Vec::from_elem(alloc, 0, harts)?,
-        form,
-    })
+    match DecodedCode::new(alloc, &pages, 0, 0) {
+        Ok(code) => Ok(BorrowedStart {
+            pages,
+            code,
+            harts: Vec::new(alloc),
+            quotas,
+            form,
+        }),
+        Err(refused) => {
+            drop(pages);
+            Err(refused)
+        }
+    }
 }
 
 /// Has what is borrowed change places with what stands in a guest.
@@ -126,12 +134,12 @@ impl<S: RunStarts, R: Wait> LastingCrew<'_, S, R> {
             AreOfGuest (keeps_log self.old.crew.form) plan.now done guest.old os.items) }
     {
         let alloc = guest.shared.pages.allocator();
-        let mut spare = guest.spare.take_ends(alloc);
-        // The round before has what it left until here: two rounds' stores would be in memory at once.
-        spare.clear();
         // At most 64.
         let _harts = plan.harts();
         let mut borrowed = self.take_stand_in(alloc, guest.harts.len())?;
+        let mut spare = guest.spare.take_ends(alloc);
+        // The round before has what it left until here: two rounds' stores would be in memory at once.
+        spare.clear();
         let round = done + 1;
         set_quotas(plan, round, borrowed.quotas.as_mut_slice());
         swap_borrowed(&mut guest.harts, &mut guest.shared, &mut borrowed);
@@ -139,7 +147,7 @@ impl<S: RunStarts, R: Wait> LastingCrew<'_, S, R> {
         let (start, ends) = self.share(start, spare);
         let mut borrowed = start.into_borrowed();
         swap_borrowed(&mut guest.harts, &mut guest.shared, &mut borrowed);
-        self.stand_in = Some(borrowed);
+        drop(self.stand_in.replace(borrowed));
         ends
     }
 
@@ -157,7 +165,10 @@ impl<S: RunStarts, R: Wait> LastingCrew<'_, S, R> {
         let (start, whole) = self.board.share(self.crew.rt, start, &mut self.history);
         let ends = match whole {
             Ok(()) => self.history.take_ends(spare),
-            Err(refused) => Err(refused),
+            Err(refused) => {
+                drop(spare);
+                Err(refused)
+            }
         };
         (start, ends)
     }

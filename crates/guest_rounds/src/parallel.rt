@@ -71,8 +71,13 @@ fn parallel_from<B: BookStart + Send + Sync, G: Gate + Sync, R: Threads + Wait +
         return parallel_alone(crew.gate, start, ends, &mut spare.accesses);
     }
     ends.clear();
-    ends.reserve(start.harts().len())?;
-    gather_ends::<B, G, R>(crew, start, ends)
+    match ends.reserve(start.harts().len()) {
+        Ok(()) => gather_ends::<B, G, R>(crew, start, ends),
+        Err(refused) => {
+            drop(ends);
+            Err(OutOfMemory::from(refused))
+        }
+    }
 }
 
 /// Does the rounds of all harts on the calling thread, in hart order, each in the place of what an earlier round of the hart left.
@@ -88,9 +93,29 @@ fn parallel_alone<G: Gate>(
     ensures { IfOk result (λ os.
         AreEndsOf start.now.logs start.now.memory (rounds_of start.now) os.items) }
 {
-    make_as_many(start, &mut ends)?;
-    rounds_in_place(gate, start, ends.as_mut_slice(), accesses)?;
-    Ok(ends)
+    match fill_places(gate, start, &mut ends, accesses) {
+        Ok(()) => Ok(ends),
+        Err(refused) => {
+            drop(ends);
+            Err(refused)
+        }
+    }
+}
+
+/// Sees that there is a place for each hart, and does the rounds there.
+fn fill_places<G: Gate>(
+    gate: &G,
+    start: &RoundStart<'_>,
+    ends: &mut Vec<HartEnd>,
+    accesses: &mut Vec<Access>,
+) -> Result<(), OutOfMemory>
+    requires sized { length start.now.quotas ≡ length start.now.harts }
+    requires kept { StoppedStay start.now.harts (harts_of ends.old.items) }
+    ensures { OnOk result (AreEndsOf start.now.logs start.now.memory
+        (rounds_of start.now) ends.new.items) }
+{
+    make_as_many(start, ends)?;
+    rounds_in_place(gate, start, ends.as_mut_slice(), accesses)
 }
 
 /// Sees that there is a place for each hart, those that are missing as of rounds that did nothing.
@@ -143,7 +168,13 @@ fn gather_ends<B: BookStart + Send + Sync, G: Gate + Sync, R: Threads + Wait + S
     ensures { IfOk result (λ os.
         AreEndsOf start.now.logs start.now.memory (rounds_of start.now) os.items) }
 {
-    let mut gathered = gather::<B, G, R>(crew.rt, start, crew.workers, crew.gate)?;
+    let mut gathered = match gather::<B, G, R>(crew.rt, start, crew.workers, crew.gate) {
+        Ok(gathered) => gathered,
+        Err(refused) => {
+            drop(ends);
+            return Err(refused);
+        }
+    };
     for number in 0..start.harts().len() {
         // The history is complete.
         let Some(round) = gathered.take(number as u32) else {
@@ -151,6 +182,7 @@ fn gather_ends<B: BookStart + Send + Sync, G: Gate + Sync, R: Threads + Wait + S
         };
         ends.push_reserved(round.into_end());
     }
+    drop(gathered);
     Ok(ends)
 }
 

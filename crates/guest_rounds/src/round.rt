@@ -116,9 +116,17 @@ impl GuestState {
             &mut self.harts,
             phase,
             tally,
-        )?;
-        self.spare.ends = ends;
-        Ok(counts)
+        );
+        match counts {
+            Ok(counts) => {
+                self.spare.ends = ends;
+                Ok(counts)
+            }
+            Err(refused) => {
+                drop(ends);
+                Err(refused)
+            }
+        }
     }
 }
 
