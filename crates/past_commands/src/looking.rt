@@ -33,17 +33,17 @@ pub(crate) fn replay_execution(
     let file = execution_of(alloc, text)?;
     refuse_rounds(asked.round.is_some())?;
     refuse_workers(asked.workers)?;
-    let checked = check_file(alloc, &file, step_asked(asked))?;
+    let checked = check_file(alloc, &file, step_asked(asked.hart, asked.place))?;
     answer_checked(alloc, &file, &checked, asked)
 }
 
-/// The step of a hart that a line asks for; no execution has a hart of a greater number than fits there.
-fn step_asked(asked: &Replay<'_>) -> Option<HartStep>
-    ensures { result ≡ step_asked asked.now.hart asked.now.place }
+/// The step of a hart at a place; no execution has a hart of a greater number than fits there.
+fn step_asked(hart: u32, place: Option<u64>) -> Option<HartStep>
+    ensures { result ≡ step_asked hart place }
 {
-    match asked.place {
+    match place {
         Some(number) => Some(HartStep {
-            hart: u8::try_from(asked.hart).unwrap_or(u8::MAX),
+            hart: u8::try_from(hart).unwrap_or(u8::MAX),
             number,
         }),
         None => None,

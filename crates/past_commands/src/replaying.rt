@@ -145,12 +145,19 @@ fn answer_question<R: Threads + Wait + Sync>(
         &asked.objects,
     )?;
     match fault {
-        Some(fault) => Err(refused_for(threads, alloc, recorded, asked.workers, fault)),
+        Some(fault) => {
+            drop(bytes);
+            Err(refused_for(threads, alloc, recorded, asked.workers, fault))
+        }
         None => {
-            let ranges = seen_ranges(alloc, &bytes, &asked.objects)?;
+            let ranges = seen_ranges(alloc, &bytes, &asked.objects);
+            drop(bytes);
+            let ranges = ranges?;
             let told = tell(threads, alloc, recorded, question, asked)?;
+            let text = told_line(alloc, asked.hart, &told, &ranges);
+            drop(told);
             Ok(Answer {
-                text: told_line(alloc, asked.hart, &told, &ranges)?,
+                text: text?,
                 status: ExitStatus::Done,
             })
         }

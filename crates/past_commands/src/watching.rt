@@ -155,10 +155,16 @@ fn watch_bytes<P: Observer + ProgressLine, R: Threads + Wait + Sync>(
         asked.workers,
         progress,
     );
+    drop(ranges);
     progress.end();
     let events = choose(alloc, found?, asked.hart, asked.stores)?;
-    let pcs = pcs_of(threads, alloc, recorded, &events, asked)?;
-    Ok(Hits { events, pcs })
+    match pcs_of(threads, alloc, recorded, &events, asked) {
+        Ok(pcs) => Ok(Hits { events, pcs }),
+        Err(refused) => {
+            drop(events);
+            Err(PastFailure::from(refused))
+        }
+    }
 }
 
 /// The pcs of the instructions of these events, if the line asks for them.
