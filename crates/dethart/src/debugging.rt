@@ -1,10 +1,10 @@
 //! The command that serves a debugger.
 
 use crate::failure::Failure;
-use crate::world::HostFiles;
 use command_line::Gdb;
 use debug_commands::debug_command;
 use host_io::{ReadSource, WriteSink};
+use host_world::HostFiles;
 use program_world::ExitStatus;
 use std::io;
 use std::sync::Wait;
@@ -22,7 +22,7 @@ pub(crate) fn serve_debugger<R: Threads + Wait + Sync>(
     Ok(debug_command(
         threads,
         rt.alloc(),
-        &HostFiles::new(rt),
+        &HostFiles { rt },
         asked,
         &mut requests,
         &mut replies,

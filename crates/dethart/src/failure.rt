@@ -20,7 +20,7 @@ use view_commands::DrawFailure;
 use weak_hunter::WeakHuntError;
 
 /// Why the program ends without what it was asked for.
-#[derive(Debug, Drop)]
+#[derive(Drop)]
 pub(crate) enum Failure {
     /// The command line is bad; the error has the text for the user.
     Line(clap::Error),
@@ -210,26 +210,34 @@ impl Failure {
         if let Some(number) = self.number() {
             eprintln!(rt; "error {number}")?;
         }
+        self.print_words(rt)
+    }
+
+    /// Prints the words alone.
+    fn print_words(&self, rt: &HostRuntime) -> io::Result<()> {
         match self {
             Failure::Line(error) => error.print(rt),
-            Failure::NotText => eprintln!(rt; "error: an argument isn't UTF-8"),
-            Failure::Refused(error) => eprintln!(rt; "{error}"),
-            Failure::Run(failure) => eprintln!(rt; "{failure}"),
-            Failure::Unwritten(path) => {
-                eprintln!(rt; "the file {path} couldn't be made or written")
-            }
-            Failure::Unread(error) => eprintln!(rt; "{error}"),
-            Failure::Execution(failure) => eprintln!(rt; "{failure}"),
+            Failure::NotText => rt.eprintln("error: an argument isn't UTF-8"),
+            Failure::Refused(error) => rt.eprintln(error),
+            Failure::Run(failure) => rt.eprintln(failure),
+            Failure::Unwritten(path) => print_unwritten(rt, path),
+            Failure::Unread(error) => rt.eprintln(error),
+            Failure::Execution(failure) => rt.eprintln(failure),
             Failure::NoRounds => {
-                eprintln!(rt; "an execution has no rounds: leave out --round, --from and --to")
+                rt.eprintln("an execution has no rounds: leave out --round, --from and --to")
             }
-            Failure::Hunt(error) => eprintln!(rt; "{error}"),
-            Failure::WeakHunt(error) => eprintln!(rt; "{error}"),
-            Failure::Fences(failure) => eprintln!(rt; "{failure}"),
-            Failure::Merge(failure) => eprintln!(rt; "{failure}"),
-            Failure::Draw(failure) => eprintln!(rt; "{failure}"),
-            Failure::Naming(fault) => eprintln!(rt; "{fault}"),
+            Failure::Hunt(error) => rt.eprintln(error),
+            Failure::WeakHunt(error) => rt.eprintln(error),
+            Failure::Fences(failure) => rt.eprintln(failure),
+            Failure::Merge(failure) => rt.eprintln(failure),
+            Failure::Draw(failure) => rt.eprintln(failure),
+            Failure::Naming(fault) => rt.eprintln(fault),
             Failure::ReaderGone => Ok(()),
         }
     }
+}
+
+/// Prints the words for a file that couldn't be made or written.
+fn print_unwritten(rt: &HostRuntime, path: &str) -> io::Result<()> {
+    eprintln!(rt; "the file {path} couldn't be made or written")
 }

@@ -6,6 +6,7 @@ ghost use Rattle.dethart.specs.declared.failure.Failure.TheVariants as failures;
 use crate::failure::Failure;
 use clap::error::ErrorKind;
 use host_io::RunError;
+use program_world::ExitStatus;
 use std::alloc::{AllocError, Global};
 use std::{env, io};
 
@@ -29,7 +30,7 @@ pub(crate) fn texts_of<'a>(
 }
 
 /// Answers a line that `clap` doesn't take: prints the help or the version that was asked for, and else says what fails.
-pub(crate) fn answer_line(rt: &HostRuntime, error: clap::Error) -> Result<(), Failure>
+pub(crate) fn answer_line(rt: &HostRuntime, error: clap::Error) -> Result<ExitStatus, Failure>
     ensures memory { kind_of error ≡ ErrorKind.OutOfMemory →
         result ≡ Err (failures.Refused RunError.OutOfMemory) }
     ensures help { kind_of error ≡ ErrorKind.DisplayHelp →
@@ -42,7 +43,7 @@ pub(crate) fn answer_line(rt: &HostRuntime, error: clap::Error) -> Result<(), Fa
     match error.kind() {
         ErrorKind::OutOfMemory => Err(Failure::Refused(RunError::OutOfMemory)),
         ErrorKind::DisplayHelp | ErrorKind::DisplayVersion => match error.print(rt) {
-            Ok(()) => Ok(()),
+            Ok(()) => Ok(ExitStatus::Done),
             Err(error) => Err(unprinted(error.kind())),
         },
         _ => Err(Failure::Line(error)),

@@ -5,23 +5,16 @@
 mod debugging;
 mod failure;
 mod line;
-mod output;
 mod printing;
-mod progress;
 mod recordings;
 mod run;
-mod saving;
 mod unread;
-mod world;
 
 use command_line::{Command, asked_by_options, parse_line};
 use debugging::serve_debugger;
 use failure::Failure;
 use line::{answer_line, arguments, texts_of};
-use printing::{
-    print_check, print_drawing, print_execution, print_fences, print_hunt, print_merged,
-    print_order, print_plan, print_replay, print_run, print_shrunk, print_trace, print_watch,
-};
+use printing::print_answer;
 use program_world::ExitStatus;
 use recordings::{make_recording, migrate_file};
 use std::process::ExitCode;
@@ -43,17 +36,29 @@ fn main(rt: HostRuntime) -> ExitCode {
 /// Does what the command line says, on the threads that `threads` starts.
 fn start<R: Threads + Wait + Sync>(rt: &HostRuntime, threads: &R) -> Result<ExitStatus, Failure> {
     let arguments = arguments(rt)?;
-    let words = texts_of(rt.alloc(), arguments.as_slice())?;
-    let words = asked_by_options(rt.alloc(), words.as_slice())?;
+    obey_arguments(rt, threads, arguments.as_slice())
+}
+
+/// Does what these arguments say, of which the first is the program's name.
+fn obey_arguments<R: Threads + Wait + Sync>(
+    rt: &HostRuntime,
+    threads: &R,
+    arguments: &[String],
+) -> Result<ExitStatus, Failure> {
+    let words = texts_of(rt.alloc(), arguments)?;
+    obey_words(rt, threads, words.as_slice())
+}
+
+/// Does what the words of a line say.
+fn obey_words<R: Threads + Wait + Sync>(
+    rt: &HostRuntime,
+    threads: &R,
+    words: &[&str],
+) -> Result<ExitStatus, Failure> {
+    let words = asked_by_options(rt.alloc(), words)?;
     match parse_line(rt.alloc(), words.as_slice()) {
-        Ok(command) => {
-            tell_unread(rt, &command);
-            obey(rt, threads, &command)
-        }
-        Err(error) => {
-            answer_line(rt, error)?;
-            Ok(ExitStatus::Done)
-        }
+        Ok(command) => obey(rt, threads, &command),
+        Err(error) => answer_line(rt, error),
     }
 }
 
@@ -63,22 +68,11 @@ fn obey<R: Threads + Wait + Sync>(
     threads: &R,
     command: &Command<'_>,
 ) -> Result<ExitStatus, Failure> {
+    tell_unread(rt, command);
     match command {
-        Command::Run(asked) => print_run(rt, threads, asked),
-        Command::Order(run) => print_order(rt, threads, run),
         Command::Record(asked) => make_recording(rt, threads, asked),
-        Command::Replay(asked) => print_replay(rt, threads, asked),
-        Command::Watch(asked) => print_watch(rt, threads, asked),
         Command::Migrate(asked) => migrate_file(rt, asked),
         Command::Gdb(asked) => serve_debugger(rt, threads, asked),
-        Command::Hunt(asked) => print_hunt(rt, threads, asked),
-        Command::Fences(asked) => print_fences(rt, threads, asked),
-        Command::Shrink(asked) => print_shrunk(rt, threads, asked),
-        Command::Merge(asked) => print_merged(rt, asked),
-        Command::Plan(asked) => print_plan(rt, asked),
-        Command::Draw(asked) => print_drawing(rt, threads, asked),
-        Command::Trace(run) => print_trace(rt, threads, run),
-        Command::Execution(asked) => print_execution(rt, threads, asked),
-        Command::Check(asked) => print_check(rt, asked),
+        command => print_answer(rt, threads, command),
     }
 }

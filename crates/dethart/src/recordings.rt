@@ -2,8 +2,8 @@
 
 use crate::failure::Failure;
 use crate::run::progress_of;
-use crate::world::HostFiles;
 use command_line::{Migrate, Record};
+use host_world::HostFiles;
 use program_world::ExitStatus;
 use record_commands::{migrate_command, record_command};
 use std::sync::Wait;
@@ -15,12 +15,12 @@ pub(crate) fn make_recording<R: Threads + Wait + Sync>(
     threads: &R,
     asked: &Record<'_>,
 ) -> Result<ExitStatus, Failure> {
-    let mut files = HostFiles::new(rt);
+    let mut files = HostFiles { rt };
     let mut progress = progress_of(rt, &asked.run.program);
     Ok(record_command(threads, rt.alloc(), &mut files, asked, &mut progress)?)
 }
 
 /// Writes the recording of a file to another file, in the newest version.
 pub(crate) fn migrate_file(rt: &HostRuntime, asked: &Migrate<'_>) -> Result<ExitStatus, Failure> {
-    Ok(migrate_command(rt.alloc(), &mut HostFiles::new(rt), asked)?)
+    Ok(migrate_command(rt.alloc(), &mut HostFiles { rt }, asked)?)
 }

@@ -1,5 +1,7 @@
 //! How far a command is, told on standard error.
 
+ghost use Rattle.std.specs.Prelude.{◌≡◌, None, false};
+
 use fence_finder::FenceObserver;
 use hunter::{HuntObserver, ShrinkObserver};
 use machine::{Observer, UntracedMachine};
@@ -13,11 +15,12 @@ const FIRST_BLOCK: u32 = 64;
 /// Tells once a second how far a command is, in a line that is written over the one before it. Where nobody asks for that, it
 /// tells nothing.
 #[derive(Drop)]
-pub(crate) struct Progress<'a> {
+pub struct Progress<'a> {
     rt: &'a HostRuntime,
-    clock: Option<Clock>,
+    /// When the command began, where it is told how far it is.
+    pub clock: Option<Clock>,
     /// How many rounds or plans there are in all.
-    all: u32,
+    pub all: u32,
     /// How many plans the last block of a hunt had at most.
     block: u32,
     /// How many plans were run in the search for a smaller one.
@@ -26,7 +29,7 @@ pub(crate) struct Progress<'a> {
 
 /// When a command began, and what was told since.
 #[derive(Clone, Copy, Drop)]
-struct Clock {
+pub struct Clock {
     start: Instant,
     /// After so many seconds the last line was written; 0: none was.
     told: u64,
@@ -47,7 +50,10 @@ impl Clock {
 
 impl<'a> Progress<'a> {
     /// Tells, where it is asked for, how far a command is that has so many rounds or plans to do.
-    pub(crate) fn new(rt: &'a HostRuntime, asked: bool, all: u32) -> Progress<'a> {
+    pub fn new(rt: &'a HostRuntime, asked: bool, all: u32) -> Progress<'a>
+        ensures all { result.all ≡ all }
+        ensures silent { asked ≡ false → result.clock ≡ None }
+    {
         Progress {
             rt,
             clock: if asked { Clock::started(rt) } else { None },

@@ -2,7 +2,7 @@
 
 use host_io::{RunError, WriteSink};
 use program_world::FileText;
-use std::fs;
+use std::fs::{self, File};
 use std::io::{self, BufWriter, Write};
 
 /// Writes a text to a file, in place of what it held.
@@ -17,16 +17,26 @@ pub(crate) fn save<T: FileText>(rt: &HostRuntime, text: &T, path: &str) -> Resul
     if is_other_than_a_file(rt, path) {
         return write_to(rt, text, path);
     }
-    let Ok(part) = format!(in rt.alloc(); "{path}.part") else {
-        return Err(RunError::OutOfMemory);
-    };
-    let saved = match write_to(rt, text, part.as_str()) {
-        Ok(()) => rename(rt, part.as_str(), path),
+    match format!(in rt.alloc(); "{path}.part") {
+        Ok(part) => save_by(rt, text, part.as_str(), path),
+        Err(_) => Err(RunError::OutOfMemory),
+    }
+}
+
+/// The same by the name of a part.
+fn save_by<T: FileText>(
+    rt: &HostRuntime,
+    text: &T,
+    part: &str,
+    path: &str,
+) -> Result<(), RunError> {
+    let saved = match write_to(rt, text, part) {
+        Ok(()) => rename(rt, part, path),
         Err(error) => Err(error),
     };
     if saved.is_err() {
         // What is left of it doesn't matter: it hasn't the name of the file.
-        let _left = fs::remove_file(rt, part.as_str());
+        let _left = fs::remove_file(rt, part);
     }
     saved
 }
@@ -52,7 +62,16 @@ pub(crate) fn write_to<T: FileText>(
     let Ok(mut out) = BufWriter::new(rt.alloc(), file) else {
         return Err(RunError::OutOfMemory);
     };
-    text.write_to(rt.alloc(), &mut WriteSink::new(&mut out))?;
+    put_text(rt, text, &mut out)
+}
+
+/// Writes a text to a file that is open.
+fn put_text<T: FileText>(
+    rt: &HostRuntime,
+    text: &T,
+    out: &mut BufWriter<File>,
+) -> Result<(), RunError> {
+    text.write_to(rt.alloc(), &mut WriteSink::new(&mut *out))?;
     match out.flush() {
         Ok(()) => Ok(()),
         Err(error) => Err(failed(error.kind())),

@@ -1,0 +1,14 @@
+//! The world of the program: the files of the host, its streams, who reads them, and how far a command is. Nothing can be proved of a
+//! host, so the relations of its files and of its output say nothing here: a command is proved for all that they may say.
+#![tactic(auto)]
+
+mod files;
+mod messages;
+mod output;
+mod progress;
+mod saving;
+
+pub use files::HostFiles;
+pub use messages::HostMessages;
+pub use output::HostOutput;
+pub use progress::{Clock, Progress};
