@@ -7,7 +7,18 @@ use Rattle.gdb_requests.specs.Fields.{alone, behind, by_address, by_thread, by_t
 use Rattle.gdb_requests.specs.Files.{file_of, name_of}
 use Rattle.gdb_requests.specs.Commands.{command_of}
 
--- queries: behind `q`
+-- queries about threads, and what the user says: behind `q`
+abbrev pub asking_of : List ℕ → Request
+asking_of bs =
+    or_else (behind (codes "Rcmd,") bs) (λ r. requests.Command (command_of r))
+    (or_else (behind (codes "fThreadInfo") bs) (λ r. requests.FirstThreads)
+    (or_else (behind (codes "sThreadInfo") bs) (λ r. requests.MoreThreads)
+    (or_else (behind (codes "ThreadExtraInfo,") bs) (λ r. by_thread requests.Note (thread_of r))
+    (or_else (behind (codes "Attached") bs) (λ r. requests.Attached)
+    (or_else (behind (codes "C") bs) (λ r. alone requests.PresentThread r)
+    requests.Unknown)))))
+
+-- all queries
 abbrev pub query_of : List ℕ → Request
 query_of bs =
     or_else (behind (codes "Supported") bs) (λ r. requests.Features)
@@ -15,13 +26,7 @@ query_of bs =
     (or_else (behind (codes "Xfer:threads:read::") bs) (λ r. by_two requests.ThreadList (two_numbers r))
     (or_else (behind (codes "Xfer:exec-file:read:") bs) (λ r. name_of (number_from 0 r))
     (or_else (behind (codes "CRC:") bs) (λ r. by_two requests.Checksum (two_numbers r))
-    (or_else (behind (codes "Rcmd,") bs) (λ r. requests.Command (command_of r))
-    (or_else (behind (codes "fThreadInfo") bs) (λ r. requests.FirstThreads)
-    (or_else (behind (codes "sThreadInfo") bs) (λ r. requests.MoreThreads)
-    (or_else (behind (codes "ThreadExtraInfo,") bs) (λ r. by_thread requests.Note (thread_of r))
-    (or_else (behind (codes "Attached") bs) (λ r. requests.Attached)
-    (or_else (behind (codes "C") bs) (λ r. alone requests.PresentThread r)
-    requests.Unknown))))))))))
+    (asking_of bs)))))
 
 -- a step of one thread, in which the others may go on where more actions follow; a signal before the thread is passed over
 abbrev pub together_where : Option (List ℕ) → Request → Request → Request
@@ -58,18 +63,23 @@ abbrev pub signalled_by : Option (ℕ × List ℕ) → Request
 signalled_by None = requests.Unknown
 signalled_by (Some x) = step_of x.1
 
--- ways to go on, and files: behind `v`
+-- ways to go on without steps, an end, and files: behind `v`
+abbrev pub going_of : List ℕ → Request
+going_of bs =
+    or_else (behind (codes "Cont;c") bs) (λ r. requests.Continue)
+    (or_else (behind (codes "Cont;C") bs) (λ r. requests.Continue)
+    (or_else (behind (codes "Kill") bs) (λ r. requests.Detach)
+    (or_else (behind (codes "File:") bs) file_of
+    requests.Unknown)))
+
+-- all ways to go on, and files
 abbrev pub resume_of : List ℕ → Request
 resume_of bs =
     or_else (behind (codes "Cont?") bs) (λ r. requests.Actions)
     (or_else (behind (codes "Cont;s") bs) step_of
     (or_else (behind (codes "Cont;S") bs) (λ r. signalled_by (number_from 0 r))
     (or_else (behind (codes "Cont;r") bs) range_of
-    (or_else (behind (codes "Cont;c") bs) (λ r. requests.Continue)
-    (or_else (behind (codes "Cont;C") bs) (λ r. requests.Continue)
-    (or_else (behind (codes "Kill") bs) (λ r. requests.Detach)
-    (or_else (behind (codes "File:") bs) file_of
-    requests.Unknown)))))))
+    (going_of bs))))
 
 -- ways back and ends
 abbrev pub way_of : List ℕ → Request

@@ -1,5 +1,5 @@
 /// A command of the user's, which is answered by a text.
-#[derive(Clone, Copy, Debug, PartialEq, Eq)]
+#[derive(Clone, Copy, PartialEq)]
 pub enum Command {
     /// Where the run stands.
     Where,

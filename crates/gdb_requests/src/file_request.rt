@@ -1,5 +1,5 @@
 /// What a debugger asks of files. Open files have numbers.
-#[derive(Clone, Copy, Debug, PartialEq, Eq)]
+#[derive(Clone, Copy, PartialEq)]
 pub enum FileRequest {
     /// Files are those of some process from now on.
     Root,

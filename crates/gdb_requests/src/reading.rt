@@ -1,6 +1,7 @@
 ghost use Rattle.std.specs.Prelude.{◌≡◌};
-ghost use Rattle.gdb_requests.specs.Grammar.{change_of, moving_of, query_of, reading_of, request_of, resume_of, signalled_by, watching_of, way_of};
-ghost use Rattle.gdb_requests.specs.Fields.{alone};
+ghost use Rattle.gdb_requests.specs.Grammar.{asking_of, change_of, going_of, moving_of, query_of, reading_of, request_of, resume_of, signalled_by, watching_of, way_of};
+ghost use Rattle.gdb_requests.specs.Fields.{alone, by_two, two_numbers};
+ghost use Rattle.gdb_requests.specs.declared.request.Request.TheVariants as requests;
 
 use crate::commands::command_of;
 use crate::fields::{behind, number_from, thread_of, two_numbers};
@@ -49,6 +50,13 @@ fn query_of(text: &[u8]) -> Request
             None => Request::Unknown,
         };
     }
+    asking_of(text)
+}
+
+/// A query about threads, or what the user says, behind its `q`.
+fn asking_of(text: &[u8]) -> Request
+    ensures { result ≡ asking_of text.now }
+{
     if let Some(rest) = behind(b"Rcmd,", text) {
         return Request::Command(command_of(rest));
     }
@@ -102,6 +110,13 @@ fn resume_of(text: &[u8]) -> Request
     if let Some(rest) = behind(b"Cont;r", text) {
         return range_of(rest);
     }
+    going_of(text)
+}
+
+/// A way to go on without steps, an end, or something of files, behind its `v`.
+fn going_of(text: &[u8]) -> Request
+    ensures { result ≡ going_of text.now }
+{
     if let Some(_) = behind(b"Cont;c", text) {
         return Request::Continue;
     }
@@ -209,42 +224,44 @@ fn watching_of(text: &[u8]) -> Request
     ensures { result ≡ watching_of text.now }
 {
     if let Some(rest) = behind(b"Z2,", text) {
-        return match two_numbers(rest) {
-            Some((address, count)) => Request::AddWatch(Watch::Write, address, count),
-            None => Request::Unknown,
-        };
+        return added(Watch::Write, rest);
     }
     if let Some(rest) = behind(b"z2,", text) {
-        return match two_numbers(rest) {
-            Some((address, count)) => Request::RemoveWatch(Watch::Write, address, count),
-            None => Request::Unknown,
-        };
+        return removed(Watch::Write, rest);
     }
     if let Some(rest) = behind(b"Z3,", text) {
-        return match two_numbers(rest) {
-            Some((address, count)) => Request::AddWatch(Watch::Read, address, count),
-            None => Request::Unknown,
-        };
+        return added(Watch::Read, rest);
     }
     if let Some(rest) = behind(b"z3,", text) {
-        return match two_numbers(rest) {
-            Some((address, count)) => Request::RemoveWatch(Watch::Read, address, count),
-            None => Request::Unknown,
-        };
+        return removed(Watch::Read, rest);
     }
     if let Some(rest) = behind(b"Z4,", text) {
-        return match two_numbers(rest) {
-            Some((address, count)) => Request::AddWatch(Watch::Access, address, count),
-            None => Request::Unknown,
-        };
+        return added(Watch::Access, rest);
     }
     if let Some(rest) = behind(b"z4,", text) {
-        return match two_numbers(rest) {
-            Some((address, count)) => Request::RemoveWatch(Watch::Access, address, count),
-            None => Request::Unknown,
-        };
+        return removed(Watch::Access, rest);
     }
     way_of(text)
+}
+
+/// A watchpoint that is added, by its address and how many bytes it is on.
+fn added(watch: Watch, text: &[u8]) -> Request
+    ensures { result ≡ by_two (requests.AddWatch watch) (two_numbers text.now) }
+{
+    match two_numbers(text) {
+        Some((address, count)) => Request::AddWatch(watch, address, count),
+        None => Request::Unknown,
+    }
+}
+
+/// A watchpoint that is removed, likewise.
+fn removed(watch: Watch, text: &[u8]) -> Request
+    ensures { result ≡ by_two (requests.RemoveWatch watch) (two_numbers text.now) }
+{
+    match two_numbers(text) {
+        Some((address, count)) => Request::RemoveWatch(watch, address, count),
+        None => Request::Unknown,
+    }
 }
 
 /// A way back or an end, or nothing that is known.

@@ -2,7 +2,7 @@ use crate::command::Command;
 use crate::file_request::FileRequest;
 
 /// Which accesses a watchpoint is for.
-#[derive(Clone, Copy, Debug, PartialEq, Eq)]
+#[derive(Clone, Copy, PartialEq)]
 pub enum Watch {
     Write,
     Read,
@@ -11,7 +11,7 @@ pub enum Watch {
 }
 
 /// What a debugger asks for. Hart 0 is thread 1.
-#[derive(Clone, Copy, Debug, PartialEq, Eq)]
+#[derive(Clone, Copy, PartialEq)]
 pub enum Request {
     /// What of the protocol is offered.
     Features,
