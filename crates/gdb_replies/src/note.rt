@@ -1,7 +1,7 @@
 use round_schedule::Phase;
 
 /// What is said of a hart in a list of threads.
-#[derive(Clone, Copy, Debug, PartialEq, Eq)]
+#[derive(Clone, Copy)]
 pub struct ThreadNote {
     /// The hart's number.
     pub hart: u32,

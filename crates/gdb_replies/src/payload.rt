@@ -22,33 +22,39 @@ pub(crate) fn payload_of(alloc: Global, reply: &Reply<'_>) -> Result<Vec<u8>, Ou
     ensures { IfOk result (λ text. text.items ≡ payload_of reply.now) }
 {
     let mut text = Vec::new(alloc);
-    match reply {
-        Reply::Unknown => {}
-        Reply::Done => put(&mut text, b"OK")?,
-        Reply::Missing => put(&mut text, b"E01")?,
-        Reply::Refused(number) => put_refusal(&mut text, *number)?,
-        Reply::PastStands => put(&mut text, b"E.the past of a recording cannot be changed")?,
-        Reply::ExecutionStands => {
-            put(&mut text, b"E.the past of an execution cannot be changed")?;
-        }
-        Reply::Features(has_image) => put_features(&mut text, *has_image)?,
-        Reply::Actions => put(&mut text, b"vCont;c;C;s;S;r")?,
-        Reply::Attached => put(&mut text, b"1")?,
-        Reply::Registers(registers) => put_registers(&mut text, registers)?,
-        Reply::Register(value) => put_register(&mut text, *value)?,
-        Reply::Memory(bytes) => put_hex(&mut text, bytes)?,
-        Reply::Stopped(stop) => put_stop(&mut text, stop)?,
-        Reply::Threads(count) => put_threads(&mut text, *count)?,
-        Reply::NoMoreThreads => put(&mut text, b"l")?,
-        Reply::Thread(thread) => put_present(&mut text, *thread)?,
-        Reply::Note(note) => put_note(&mut text, note)?,
-        Reply::Console(words) => put_console(&mut text, words)?,
-        Reply::Part(window) => put_part(&mut text, window)?,
-        Reply::Checksum(sum) => put_checksum(&mut text, *sum)?,
-        Reply::File(file) => put_file(&mut text, file)?,
-        Reply::Words(words) => put_hex(&mut text, words)?,
-    }
+    put_payload(&mut text, reply)?;
     Ok(text)
+}
+
+/// Adds the bytes of a reply.
+fn put_payload(text: &mut Vec<u8>, reply: &Reply<'_>) -> Result<(), OutOfMemory>
+    requires empty { text.old.items ≡ [] }
+    ensures { OnOk result (text.new.items ≡ text.old.items ++ payload_of reply.now) }
+{
+    match reply {
+        Reply::Unknown => Ok(()),
+        Reply::Done => put(text, b"OK"),
+        Reply::Missing => put(text, b"E01"),
+        Reply::Refused(number) => put_refusal(text, *number),
+        Reply::PastStands => put(text, b"E.the past of a recording cannot be changed"),
+        Reply::ExecutionStands => put(text, b"E.the past of an execution cannot be changed"),
+        Reply::Features(has_image) => put_features(text, *has_image),
+        Reply::Actions => put(text, b"vCont;c;C;s;S;r"),
+        Reply::Attached => put(text, b"1"),
+        Reply::Registers(registers) => put_registers(text, registers),
+        Reply::Register(value) => put_register(text, *value),
+        Reply::Memory(bytes) => put_hex(text, bytes),
+        Reply::Stopped(stop) => put_stop(text, stop),
+        Reply::Threads(count) => put_threads(text, *count),
+        Reply::NoMoreThreads => put(text, b"l"),
+        Reply::Thread(thread) => put_present(text, *thread),
+        Reply::Note(note) => put_note(text, note),
+        Reply::Console(words) => put_console(text, words),
+        Reply::Part(window) => put_part(text, window),
+        Reply::Checksum(sum) => put_checksum(text, *sum),
+        Reply::File(file) => put_file(text, file),
+        Reply::Words(words) => put_hex(text, words),
+    }
 }
 
 /// Adds what of the protocol is offered. A packet is of 65,536 bytes at most.
@@ -172,7 +178,7 @@ fn put_signal(text: &mut Vec<u8>, number: u8) -> Result<(), OutOfMemory>
 #[tactic(auto, unfolding(crate::specs::Words::threads_text))]
 fn put_threads(text: &mut Vec<u8>, count: u32) -> Result<(), OutOfMemory>
     requires empty { text.old.items ≡ [] }
-    ensures { OnOk result (text.new.items ≡ threads_text count) }
+    ensures { OnOk result (text.new.items ≡ text.old.items ++ threads_text count) }
 {
     for before in 0..count {
         put_next_thread(text, before)?;

@@ -1,5 +1,5 @@
 /// The numbers that a debugger is shown of a hart: those of the hart, and where in the run it is.
-#[derive(Clone, Copy, Debug, PartialEq, Eq)]
+#[derive(Clone, Copy)]
 pub struct Registers {
     /// Registers x0 to x31.
     pub x: [u64; 32],

@@ -22,7 +22,7 @@ pub enum Reason {
 }
 
 /// Where the run stands, and why.
-#[derive(Clone, Copy, Debug, PartialEq, Eq)]
+#[derive(Clone, Copy)]
 pub struct StopReply {
     pub reason: Reason,
     /// The thread that the reason speaks of: hart 0 is thread 1.
