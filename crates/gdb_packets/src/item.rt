@@ -1,5 +1,5 @@
 /// What a debugger says.
-#[derive(Debug, PartialEq, Eq, Drop)]
+#[derive(Drop)]
 pub enum Item {
     /// The last packet came.
     Accepted,

@@ -12,7 +12,7 @@ pub(crate) const MOST: usize = 65_536;
 pub(crate) const FLIP: u8 = 0x20;
 
 /// What a byte is in the data of a packet.
-#[derive(Clone, Copy, Debug, PartialEq, Eq)]
+#[derive(Clone, Copy)]
 pub(crate) enum Kind {
     /// It stands for itself.
     Plain,
