@@ -151,4 +151,26 @@ def going_round(rounds):
     return head + b"".join(wide(len(text)) + text for text in texts) + b"".join(kept)
 
 
+# Reports
+
+# Two digits for each byte.
+ROW = "{:08x} {}\n"
+
+
+def counted(count):
+    """The report of one hart that counted so often in x6, and each time stored x6 to 100, by counting.bin."""
+    code = "13031300233060106ff09fff00000000"
+    head = f"rounds 1\nhart 0 pc 0000000000000000 done {3 * count} running\nx6 {count:016x}\nx11 0000000000000001\nmemory 1\n"
+    memory = ROW.format(0, code) + ROW.format(0x100, count.to_bytes(8, "little").hex() + "00" * 8)
+    events = (f"1 0 {3 * place + 1} p store - 00000100 8 - {place + 1:016x}\n" for place in range(count))
+    return f"{head}{memory}output 0\ntrace {count}\n{''.join(events)}end\n".encode()
+
+
+def full(pages):
+    """The report of one hart on so many pages of bytes cd, which are no instruction."""
+    head = f"rounds 1\nhart 0 pc 0000000000000000 done 0 stop 2\nx11 0000000000000001\nmemory {pages}\n"
+    memory = (ROW.format(16 * row, "cd" * 16) for row in range(256 * pages))
+    return f"{head}{''.join(memory)}output 0\ntrace 0\nend\n".encode()
+
+
 RULES = {rule.__name__: rule for rule in (elf_on_2_pages, plan_for_2_harts, recording)}

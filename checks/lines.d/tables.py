@@ -309,7 +309,8 @@ class Reader:
 def names_in(case):
     """The words of a case that may name a file of its table."""
     words = [str(word) for step in case.steps for word in step.words]
-    return {*words, *(word.partition("=")[2] for word in words), *case.each}
+    wanted = [step.out_file for step in case.steps if isinstance(step, Line)]
+    return {*words, *(word.partition("=")[2] for word in words), *wanted, *case.each}
 
 
 def read_tables(folder):

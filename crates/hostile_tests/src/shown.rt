@@ -19,6 +19,36 @@ fn echoes() -> Settings<'static> {
     }
 }
 
+/// What is shown, and the text of that.
+static SHOWN: [(ShownState, &[u8]); 3] = [
+    (ShownState::State, STATE),
+    (ShownState::Harts, HARTS),
+    (ShownState::Output, b"A\xff"),
+];
+
+const STATE: &[u8] = b"rounds 2\n\
+    hart 0 pc 0000000000000010 done 4 running\n\
+    x11 0000000000000002\n\
+    x17 0000000000000001\n\
+    hart 1 pc 0000000000000010 done 4 running\n\
+    x11 0000000000000002\n\
+    x17 0000000000000001\n\
+    memory 1\n\
+    00000000 93082000730000009308100073000000\n\
+    output 2\n\
+    41ff\n\
+    end\n";
+
+/// The harts come with the length of the output.
+const HARTS: &[u8] = b"rounds 2\n\
+    hart 0 pc 0000000000000010 done 4 running\n\
+    x11 0000000000000002\n\
+    x17 0000000000000001\n\
+    hart 1 pc 0000000000000010 done 4 running\n\
+    x11 0000000000000002\n\
+    x17 0000000000000001\n\
+    output 2\n";
+
 /// Whether what is shown of the run is this text, and all its ways into a sink that fails are told.
 fn shows<R: Threads + Wait + Sync>(rt: &R, alloc: Global, shown: ShownState, text: &[u8]) -> bool {
     let asked = echoes();
@@ -43,36 +73,8 @@ fn shows<R: Threads + Wait + Sync>(rt: &R, alloc: Global, shown: ShownState, tex
 }
 
 #[test]
-fn a_state_has_no_lines_of_a_trace(rt: HostRuntime) {
-    let text = b"rounds 2\n\
-        hart 0 pc 0000000000000010 done 4 running\n\
-        x11 0000000000000002\n\
-        x17 0000000000000001\n\
-        hart 1 pc 0000000000000010 done 4 running\n\
-        x11 0000000000000002\n\
-        x17 0000000000000001\n\
-        memory 1\n\
-        00000000 93082000730000009308100073000000\n\
-        output 2\n\
-        41ff\n\
-        end\n";
-    assert!(rt; shows(&rt, rt.alloc(), ShownState::State, text));
-}
-
-#[test]
-fn harts_come_with_the_length_of_the_output(rt: HostRuntime) {
-    let text = b"rounds 2\n\
-        hart 0 pc 0000000000000010 done 4 running\n\
-        x11 0000000000000002\n\
-        x17 0000000000000001\n\
-        hart 1 pc 0000000000000010 done 4 running\n\
-        x11 0000000000000002\n\
-        x17 0000000000000001\n\
-        output 2\n";
-    assert!(rt; shows(&rt, rt.alloc(), ShownState::Harts, text));
-}
-
-#[test]
-fn output_is_shown_as_it_is(rt: HostRuntime) {
-    assert!(rt; shows(&rt, rt.alloc(), ShownState::Output, b"A\xff"));
+fn states_harts_and_output_are_shown(rt: HostRuntime) {
+    for (shown, text) in &SHOWN {
+        assert!(rt; shows(&rt, rt.alloc(), *shown, text), "{text:?}");
+    }
 }
