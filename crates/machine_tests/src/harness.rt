@@ -1,13 +1,9 @@
 //! What the tests have in common.
 
-ghost use Rattle.std.specs.Prelude.{◌≤◌};
-
-use elf_loader::load_flat;
 use emulation::Report;
 use host_io::{RunError, WriteSink};
-use machine::{Format, Machine, Settings};
+use machine::{Format, Machine, Settings, prepare};
 use pages::OutOfMemory;
-use round_planner::Plan;
 use std::alloc::Global;
 
 /// The flat image of these words.
@@ -19,75 +15,33 @@ pub(crate) fn flat(alloc: Global, words: &[u32]) -> Result<Vec<u8>, OutOfMemory>
     Ok(image)
 }
 
-/// A flat image on one page, with one worker and a budget of 1.
-pub(crate) fn settings(harts: u32, rounds: u32, plan: &[u8]) -> Settings<'_> {
-    Settings {
-        format: Format::Flat,
-        harts,
-        pages: 1,
-        rounds,
-        workers: 1,
-        budget: 1,
-        plan,
-    }
-}
+/// One round of two harts by a flat image on one page, each with a quota of 4, with one worker and a budget of 1.
+pub(crate) const ASKED: Settings<'static> = Settings {
+    format: Format::Flat,
+    harts: 2,
+    pages: 1,
+    rounds: 1,
+    workers: 1,
+    budget: 1,
+    plan: b"4\n",
+};
 
-/// The machine of these words on one page, without input.
-pub(crate) fn machine_of(
+/// What a trial comes to on the machine of these words, without input. It alone has the machine, and the trial borrows it: what
+/// drops it is checked once.
+pub(crate) fn on_machine<T, F>(
     alloc: Global,
     words: &[u32],
-    harts: u32,
-    plan: &[u8],
-) -> Result<Machine, RunError>
-    requires some_harts { 1 ≤ harts }
-    requires few_harts { harts ≤ 64 }
+    asked: &Settings<'_>,
+    trial: F,
+) -> Result<T, RunError>
+where
+    T: Drop,
+    F: FnOnce(&mut Machine) -> Result<T, RunError> + Drop,
+    requires { F.IsAlwaysCallable trial }
 {
-    machine_on(alloc, words, 1, harts, plan)
-}
-
-/// The machine of these words on so many pages, without input.
-pub(crate) fn machine_on(
-    alloc: Global,
-    words: &[u32],
-    pages: u32,
-    harts: u32,
-    plan: &[u8],
-) -> Result<Machine, RunError>
-    requires some_pages { 1 ≤ pages }
-    requires few_pages { pages ≤ 16384 }
-    requires some_harts { 1 ≤ harts }
-    requires few_harts { harts ≤ 64 }
-{
-    machine_by_budget(alloc, words, pages, harts, plan, 1)
-}
-
-/// The same with a serial budget.
-pub(crate) fn machine_by_budget(
-    alloc: Global,
-    words: &[u32],
-    pages: u32,
-    harts: u32,
-    plan: &[u8],
-    budget: u32,
-) -> Result<Machine, RunError>
-    requires some_pages { 1 ≤ pages }
-    requires few_pages { pages ≤ 16384 }
-    requires some_harts { 1 ≤ harts }
-    requires few_harts { harts ≤ 64 }
-    requires some_budget { 1 ≤ budget }
-    requires few_budget { budget ≤ 1000 }
-{
-    let image = match load_flat(alloc, &flat(alloc, words)?, pages) {
-        Ok(image) => image,
-        Err(error) => return Err(RunError::Image(error)),
-    };
-    match Plan::parse(alloc, plan, harts) {
-        Ok(mut plan) => {
-            plan.set_budget(budget);
-            Machine::new(alloc, image, Vec::new(alloc), plan)
-        }
-        Err(error) => Err(RunError::Plan(error)),
-    }
+    let image = flat(alloc, words)?;
+    let mut machine = prepare(alloc, &image, &[], asked)?;
+    trial(&mut machine)
 }
 
 /// The report of a machine.

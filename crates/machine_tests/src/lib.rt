@@ -1,6 +1,13 @@
-//! Tests of the machine by whole guest programs, through the public calls of the crate `machine`.
+//! Tests of the machine by whole guest programs, and of what is copied and kept of a run, through the public calls of the crates
+//! `machine`, `noted_runs` and `replayer`.
 #![tactic(auto)]
 
+#[cfg(test)]
+mod checkpoints;
+#[cfg(test)]
+mod copies;
+#[cfg(test)]
+mod gates;
 #[cfg(test)]
 mod harness;
 #[cfg(test)]
@@ -8,11 +15,7 @@ mod images;
 #[cfg(test)]
 mod long_rounds;
 #[cfg(test)]
-mod memory;
-#[cfg(test)]
 mod rounds;
-#[cfg(test)]
-mod sinks;
 #[cfg(test)]
 mod untraced;
 #[cfg(test)]

@@ -2,9 +2,10 @@
 
 ghost use Rattle.std.specs.Prelude.{◌<◌};
 
-use crate::harness::machine_of;
+use crate::harness::{ASKED, on_machine};
+use crate::images::TURNS;
 use host_io::RunError;
-use machine::{Machine, Open};
+use machine::{Machine, Open, Settings};
 use pages::Width;
 use round_schedule::{Access, Event, Phase};
 use std::alloc::Global;
@@ -12,17 +13,6 @@ use std::sync::Wait;
 use std::test::Fail;
 use std::thread::Threads;
 use trace::Trace;
-
-/// In one turn after another, a hart loads the doubleword at 0x400 and then stores there its number plus 2, 4, 6 and so on,
-/// so that no two harts store the same number:
-/// ADDI x20,x0,1024; ADDI x10,x10,2; LD x9,0(x20); SD x10,0(x20); BNE x20,x0,-12.
-pub(crate) const TURNS: [u32; 5] = [
-    0x4000_0A13,
-    0x0025_0513,
-    0x000A_3483,
-    0x00AA_3023,
-    0xFE0A_1AE3,
-];
 
 /// Does so many rounds, each on so many workers.
 fn does_rounds<R: Threads + Wait + Sync>(
@@ -128,23 +118,27 @@ fn event_counts<R: Threads + Wait + Sync>(
 
 #[test]
 fn long_rounds_leave_each_event(rt: HostRuntime) -> Result<(), Fail> {
+    let asked = Settings {
+        plan: b"2401\n",
+        ..ASKED
+    };
     for workers in [1, 4] {
-        let mut machine = machine_of(rt.alloc(), &TURNS, 2, b"2401\n")?;
-        let left = leaves_each_event(&rt, &mut machine, workers);
-        drop(machine);
-        assert!(rt; left?);
+        let trial = |machine: &mut Machine| leaves_each_event(&rt, machine, workers);
+        assert!(rt; on_machine(rt.alloc(), TURNS, &asked, trial)?, "{workers}");
     }
     Ok(())
 }
 
 #[test]
 fn short_rounds_leave_as_many_events(rt: HostRuntime) -> Result<(), Fail> {
+    let asked = Settings {
+        plan: b"40\n",
+        ..ASKED
+    };
     // 2,400 instructions a hart end after the store of turn 600: as many accesses as in one long round.
     for workers in [1, 4] {
-        let mut machine = machine_of(rt.alloc(), &TURNS, 2, b"40\n")?;
-        let counts = event_counts(&rt, &mut machine, workers);
-        drop(machine);
-        assert!(rt; counts? == (2400, 1200));
+        let trial = |machine: &mut Machine| event_counts(&rt, machine, workers);
+        assert_eq!(rt; on_machine(rt.alloc(), TURNS, &asked, trial)?, (2400, 1200));
     }
     Ok(())
 }

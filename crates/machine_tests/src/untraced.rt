@@ -3,12 +3,10 @@
 ghost use Rattle.std.specs.Prelude.{[], IfOk};
 ghost use Rattle.machine.specs.Untraced.{AreLast};
 
-use crate::harness::{flat, settings};
-use crate::images::{CROSSED_AND_FENCED, RESERVED};
-use crate::long_rounds::TURNS;
-use crate::workers::SHARED_COUNTERS;
+use crate::harness::{ASKED, flat, on_machine};
+use crate::images::{CROSSED_AND_FENCED, RESERVED, RESERVED_PLAN, SHARED_COUNTERS, TURNS};
 use host_io::RunError;
-use machine::{Machine, Observer, Settings, Trace, UntracedMachine, prepare, prepare_untraced};
+use machine::{Machine, Observer, Settings, Trace, UntracedMachine, prepare_untraced};
 use noted_runs::run_noting;
 use std::alloc::Global;
 use std::sync::Wait;
@@ -18,8 +16,11 @@ use std::thread::Threads;
 fn reserved(alloc: Global) -> Result<UntracedMachine, RunError>
     ensures { IfOk result (λ u. AreLast u []) }
 {
-    let settings = settings(2, 2, b"3 2\n3 3\n");
-    prepare_untraced(alloc, &flat(alloc, &RESERVED)?, &[], &settings)
+    let asked = Settings {
+        plan: RESERVED_PLAN,
+        ..ASKED
+    };
+    prepare_untraced(alloc, &flat(alloc, RESERVED)?, &[], &asked)
 }
 
 /// Whether it is the machine after the two rounds.
@@ -63,20 +64,26 @@ fn stay_alike<R: Threads + Wait + Sync>(
     Ok(are_alike(traced, bare))
 }
 
-/// Whether the run of an image without a trace ends as that of this machine of the same image.
+/// Whether the run of these words without a trace ends as that of this machine of the same words.
 fn ends_as<R: Threads + Wait + Sync>(
     rt: &R,
     alloc: Global,
-    image: &[u8],
-    settings: &Settings<'_>,
+    words: &[u32],
+    asked: &Settings<'_>,
     traced: &mut Machine,
     workers: u32,
 ) -> Result<bool, RunError> {
-    let mut bare = prepare_untraced(alloc, image, &[], settings)?;
-    let alike = stay_alike(rt, traced, &mut bare, workers);
-    drop(bare);
-    alike
+    let image = flat(alloc, words)?;
+    let mut bare = prepare_untraced(alloc, &image, &[], asked)?;
+    stay_alike(rt, traced, &mut bare, workers)
 }
+
+/// Rounds with serial turns; rounds that stay on the calling thread; rounds that are worth four workers.
+static ALIKE: [(&str, &[u32], &[u8]); 3] = [
+    ("turns", SHARED_COUNTERS, b"50\n"),
+    ("short rounds", TURNS, b"41\n"),
+    ("long rounds", TURNS, b"20001\n"),
+];
 
 /// Whether three rounds of eight harts end alike with a trace and without one, on so many workers.
 fn ends_alike<R: Threads + Wait + Sync>(
@@ -86,21 +93,26 @@ fn ends_alike<R: Threads + Wait + Sync>(
     plan: &[u8],
     workers: u32,
 ) -> Result<bool, RunError> {
-    let settings = settings(8, 3, plan);
-    let image = flat(alloc, words)?;
-    let mut traced = prepare(alloc, &image, &[], &settings)?;
-    let alike = ends_as(rt, alloc, &image, &settings, &mut traced, workers);
-    drop(traced);
-    alike
+    let asked = &Settings {
+        harts: 8,
+        plan,
+        ..ASKED
+    };
+    on_machine(
+        alloc,
+        words,
+        asked,
+        |traced| ends_as(rt, alloc, words, asked, traced, workers),
+    )
 }
 
 #[test]
 fn runs_end_alike_without_a_trace_on_any_workers(rt: HostRuntime) {
-    for workers in [1, 2, 4] {
-        // Rounds with serial turns; rounds that stay on the calling thread; rounds that are worth four workers.
-        assert!(rt; ends_alike(&rt, rt.alloc(), &SHARED_COUNTERS, b"50\n", workers) == Ok(true));
-        assert!(rt; ends_alike(&rt, rt.alloc(), &TURNS, b"41\n", workers) == Ok(true));
-        assert!(rt; ends_alike(&rt, rt.alloc(), &TURNS, b"20001\n", workers) == Ok(true));
+    for (name, words, plan) in &ALIKE {
+        for workers in [1, 2, 4] {
+            let alike = ends_alike(&rt, rt.alloc(), words, plan, workers);
+            assert!(rt; alike == Ok(true), "{name}");
+        }
     }
 }
 
@@ -128,8 +140,7 @@ fn notes<R: Threads + Wait + Sync>(rt: &R, alloc: Global) -> Result<bool, RunErr
 
 #[test]
 fn events_are_noted_in_a_trace_that_is_lent(rt: HostRuntime) {
-    let noted = notes(&rt, rt.alloc());
-    assert!(rt; matches!(&noted, Ok(true)));
+    assert!(rt; notes(&rt, rt.alloc()) == Ok(true));
 }
 
 /// Who counts how often it looks on, and keeps the number of the last round.
@@ -157,15 +168,15 @@ fn counts_looks<R: Threads + Wait + Sync>(
 }
 
 fn is_observed<R: Threads + Wait + Sync>(rt: &R, alloc: Global) -> Result<bool, RunError> {
-    let settings = settings(2, 5, b"6\n");
-    let mut machine = prepare_untraced(alloc, &flat(alloc, &CROSSED_AND_FENCED)?, &[], &settings)?;
-    let observed = counts_looks(rt, &mut machine);
-    drop(machine);
-    observed
+    let asked = Settings {
+        plan: b"6\n",
+        ..ASKED
+    };
+    let mut machine = prepare_untraced(alloc, &flat(alloc, CROSSED_AND_FENCED)?, &[], &asked)?;
+    counts_looks(rt, &mut machine)
 }
 
 #[test]
 fn an_observer_looks_on_while_a_hart_runs(rt: HostRuntime) {
-    let observed = is_observed(&rt, rt.alloc());
-    assert!(rt; matches!(&observed, Ok(true)));
+    assert!(rt; is_observed(&rt, rt.alloc()) == Ok(true));
 }

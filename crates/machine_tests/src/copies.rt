@@ -1,43 +1,55 @@
 //! Copies of machines, and machines that share their pages.
-use crate::harness::{PLAN, RESERVED, settings};
+
+use crate::harness::{ASKED, flat, on_machine};
+use crate::images::{RESERVED, RESERVED_PLAN};
 use host_io::RunError;
-use machine::{Machine, UntracedMachine, prepare, prepare_untraced};
+use machine::{Machine, Settings, UntracedMachine, prepare_untraced};
+use std::alloc::Global;
 use std::sync::Wait;
 use std::test::Fail;
 use std::thread::Threads;
+
+const RESERVING: Settings<'static> = Settings {
+    plan: RESERVED_PLAN,
+    ..ASKED
+};
 
 /// The rounds and the events of a machine and of its copy, after one more round of the copy.
 fn counts_beside<R: Threads + Wait + Sync>(
     rt: &R,
     machine: &UntracedMachine,
     copy: &mut UntracedMachine,
-) -> Result<((u32, u32), (u64, u64)), RunError> {
+) -> Result<[(u32, u64); 2], RunError> {
     copy.run(rt, 1, 1)?;
-    Ok((
-        (machine.rounds(), copy.rounds()),
-        (machine.events(), copy.events()),
-    ))
+    Ok([
+        (machine.rounds(), machine.events()),
+        (copy.rounds(), copy.events()),
+    ])
 }
 
 /// The same, of a machine that is copied after one round.
 fn counts_of_both<R: Threads + Wait + Sync>(
     rt: &R,
     machine: &mut UntracedMachine,
-) -> Result<((u32, u32), (u64, u64)), RunError> {
+) -> Result<[(u32, u64); 2], RunError> {
     machine.run(rt, 1, 1)?;
     let mut copy = machine.copy()?;
-    let counts = counts_beside(rt, machine, &mut copy);
-    drop(copy);
-    counts
+    counts_beside(rt, machine, &mut copy)
+}
+
+/// The same, of a machine that has done nothing.
+fn counts_of_a_copy<R: Threads + Wait + Sync>(
+    rt: &R,
+    alloc: Global,
+) -> Result<[(u32, u64); 2], RunError> {
+    let mut machine = prepare_untraced(alloc, &flat(alloc, RESERVED)?, &[], &RESERVING)?;
+    counts_of_both(rt, &mut machine)
 }
 
 #[test]
 fn a_copy_goes_on_by_itself(rt: HostRuntime) -> Result<(), Fail> {
-    let mut machine = prepare_untraced(rt.alloc(), &RESERVED, &[], &settings(2, PLAN))?;
-    let counts = counts_of_both(&rt, &mut machine);
-    drop(machine);
     // The store and the SC of round 2 are events of the copy alone.
-    assert_eq!(rt; counts?, ((1, 2), (1, 3)));
+    assert_eq!(rt; counts_of_a_copy(&rt, rt.alloc())?, [(1, 1), (2, 3)]);
     Ok(())
 }
 
@@ -50,38 +62,48 @@ fn share_after_round_1<R: Threads + Wait + Sync>(
     machine.share()
 }
 
-/// A byte and the trace's length, of a machine after round 2 and of the one that was kept.
-fn bytes_and_lengths<R: Threads + Wait + Sync>(
+/// A byte, and the trace's length.
+type Seen = (Option<u8>, usize);
+
+/// What a machine shows of the store.
+fn seen(machine: &Machine) -> Seen {
+    (machine.byte(0x101), machine.trace().len())
+}
+
+/// The same of a machine after round 2, and of the one that was kept.
+fn both_seen<R: Threads + Wait + Sync>(
     rt: &R,
     machine: &mut Machine,
     earlier: &Machine,
-) -> Result<((Option<u8>, Option<u8>), (usize, usize)), RunError> {
+) -> Result<[Seen; 2], RunError> {
     machine.run(rt, 1, 1)?;
-    Ok((
-        (machine.byte(0x101), earlier.byte(0x101)),
-        (machine.trace().len(), earlier.trace().len()),
-    ))
+    Ok([seen(machine), seen(earlier)])
 }
 
 /// The same, of a machine that has done nothing.
 fn goes_on_alone<R: Threads + Wait + Sync>(
     rt: &R,
     machine: &mut Machine,
-) -> Result<((Option<u8>, Option<u8>), (usize, usize)), RunError> {
+) -> Result<[Seen; 2], RunError> {
     let earlier = share_after_round_1(rt, machine)?;
-    let seen = bytes_and_lengths(rt, machine, &earlier);
-    drop(earlier);
-    seen
+    both_seen(rt, machine, &earlier)
 }
 
 #[test]
 fn machines_that_share_their_pages_go_on_by_themselves(rt: HostRuntime) -> Result<(), Fail> {
-    let mut machine = prepare(rt.alloc(), &RESERVED, &[], &settings(2, PLAN))?;
-    let seen = goes_on_alone(&rt, &mut machine);
-    drop(machine);
+    let trial = |machine: &mut Machine| goes_on_alone(&rt, machine);
     // In round 2 hart 1 stores 0x100 at 0x100.
-    assert_eq!(rt; seen?, ((Some(1), Some(0)), (3, 1)));
+    let wanted = [(Some(1), 3), (Some(0), 1)];
+    assert_eq!(rt;
+        on_machine(rt.alloc(), RESERVED, &RESERVING, trial)?,
+        wanted
+    );
     Ok(())
+}
+
+/// What a copy that keeps no trace shows: its rounds, its events and a byte.
+fn seen_of_copy(bare: &UntracedMachine) -> (u32, u64, Option<u8>) {
+    (bare.rounds(), bare.events(), bare.byte(0x101))
 }
 
 /// Whether round 2 of a machine that was kept after round 1 leaves its copy as it is.
@@ -90,14 +112,10 @@ fn leaves<R: Threads + Wait + Sync>(
     earlier: &mut Machine,
     bare: &UntracedMachine,
 ) -> Result<bool, RunError> {
-    let is_copy = bare.rounds() == 1 && bare.events() == 1 && bare.byte(0x101) == Some(0);
+    let before = seen_of_copy(bare);
     earlier.run(rt, 1, 1)?;
-    Ok(
-        is_copy
-            && earlier.byte(0x101) == Some(1)
-            && bare.byte(0x101) == Some(0)
-            && earlier.trace().len() == 3,
-    )
+    let kept = (1, 1, Some(0));
+    Ok(before == kept && seen_of_copy(bare) == kept && seen(earlier) == (Some(1), 3))
 }
 
 /// The same, of a machine that is copied once the one with which it shares has done round 2.
@@ -108,9 +126,7 @@ fn leaves_its_copy<R: Threads + Wait + Sync>(
 ) -> Result<bool, RunError> {
     machine.run(rt, 1, 1)?;
     let bare = earlier.copy_untraced()?;
-    let left = leaves(rt, earlier, &bare);
-    drop(bare);
-    left
+    leaves(rt, earlier, &bare)
 }
 
 /// The same, of a machine that shares with this one, which has done nothing.
@@ -119,16 +135,12 @@ fn sharer_leaves_its_copy<R: Threads + Wait + Sync>(
     machine: &mut Machine,
 ) -> Result<bool, RunError> {
     let mut earlier = share_after_round_1(rt, machine)?;
-    let left = leaves_its_copy(rt, machine, &mut earlier);
-    drop(earlier);
-    left
+    leaves_its_copy(rt, machine, &mut earlier)
 }
 
 #[test]
 fn a_machine_that_shares_goes_on_beside_its_copy(rt: HostRuntime) -> Result<(), Fail> {
-    let mut machine = prepare(rt.alloc(), &RESERVED, &[], &settings(2, PLAN))?;
-    let left = sharer_leaves_its_copy(&rt, &mut machine);
-    drop(machine);
-    assert!(rt; left?);
+    let trial = |machine: &mut Machine| sharer_leaves_its_copy(&rt, machine);
+    assert!(rt; on_machine(rt.alloc(), RESERVED, &RESERVING, trial)?);
     Ok(())
 }
