@@ -14,7 +14,6 @@ use std::marker::Brand;
 use std::process::Abort;
 use std::sync::Wait;
 use std::test::Fail;
-use std::thread::{Threads, join};
 
 /// One page, of which nothing is code.
 fn no_code(alloc: Global) -> Result<(Pages, DecodedCode), OutOfMemory>
@@ -87,27 +86,6 @@ fn put_at_once<B: BookStart>(
     let ticket = book.claim(seat)?;
     let round = idle_round::<B>(alloc, start, ticket)?;
     book.try_put(seat, round).ok()
-}
-
-/// Claims and puts until every hart is claimed.
-fn take_part<B: BookStart, R: Wait>(
-    rt: &R,
-    alloc: Global,
-    start: &RoundStart<'_>,
-    book: &RoundBook<HartRound<B>>,
-    mut seat: Seat<HartRound<B>>,
-) -> Seat<HartRound<B>>
-    requires start { start.now ≡ B.start }
-    requires table { seat.table ≡ book.now.table }
-    requires own { harts_put seat ≡ seat.claims }
-    ensures table { result.table ≡ seat.table }
-{
-    for _ in 0..start.harts().len() {
-        if put_one(rt, alloc, start, book, &mut seat).is_none() {
-            break;
-        }
-    }
-    seat
 }
 
 /// Opens a book of two seats.
@@ -225,65 +203,6 @@ fn two_meet<B: BookStart, R: Abort + Wait>(rt: &R, alloc: Global, start: &RoundS
     assert!(rt; are_put(&mut gathered));
 }
 
-/// Two seats meet, after which each has seen all of so many harts, and they have put all between them.
-fn meet_after_all<B: BookStart>(
-    book: &RoundBook<HartRound<B>>,
-    first: &mut Seat<HartRound<B>>,
-    second: &mut Seat<HartRound<B>>,
-    count: usize,
-) -> bool
-    requires tables { (first.old.table ≡ book.now.table) × (second.old.table ≡ book.now.table) }
-    ensures tables { (first.new.table ≡ book.now.table) × (second.new.table ≡ book.now.table) }
-{
-    book.meet(first, second);
-    let own = first.own().checked_add(second.own());
-    first.seen() == count && second.seen() == count && own == Some(count)
-}
-
-/// Two threads claim and put, with a seat each, until every hart is claimed.
-fn join_two<B: BookStart + Send + Sync, R: Threads + Wait + Sync>(
-    rt: &R,
-    alloc: Global,
-    start: &RoundStart<'_>,
-    book: &RoundBook<HartRound<B>>,
-    first: Seat<HartRound<B>>,
-    second: Seat<HartRound<B>>,
-) -> (Seat<HartRound<B>>, Seat<HartRound<B>>)
-    requires start { start.now ≡ B.start }
-    requires first { (first.table ≡ book.now.table) × (harts_put first ≡ first.claims) }
-    requires second { (second.table ≡ book.now.table) × (harts_put second ≡ second.claims) }
-    ensures tables { (result.0.table ≡ book.now.table) × (result.1.table ≡ book.now.table) }
-{
-    join(
-        rt,
-        || -> Seat<HartRound<B>>
-            requires { (start.now ≡ B.start) × (first.table ≡ book.now.table) ×
-                (harts_put first ≡ first.claims) }
-            ensures { result.table ≡ first.table }
-        { take_part(rt, alloc, start, book, first) },
-        || -> Seat<HartRound<B>>
-            requires { (start.now ≡ B.start) × (second.table ≡ book.now.table) ×
-                (harts_put second ≡ second.claims) }
-            ensures { result.table ≡ second.table }
-        { take_part(rt, alloc, start, book, second) },
-    )
-}
-
-/// Two threads put all harts between them.
-fn two_threads<B: BookStart + Send + Sync, R: Abort + Threads + Wait + Sync>(
-    rt: &R,
-    alloc: Global,
-    start: &RoundStart<'_>,
-)
-    requires { start.now ≡ B.start }
-{
-    let (book, first, second) = open_two::<B, R>(rt, alloc, start);
-    let (mut first, mut second) = join_two(rt, alloc, start, &book, first, second);
-    assert!(rt; meet_after_all(&book, &mut first, &mut second, start.harts().len()));
-    let gathered = close_two(rt, alloc, book, first, second);
-    assert!(rt; gathered.is_complete());
-}
-
 /// Whether the round of hart 1 is there, and that of hart 0 isn't.
 fn has_hart_1_alone<B: BookStart>(gathered: &Gathered<HartRound<B>>) -> bool {
     !gathered.is_complete() && gathered.get(0).is_none() && gathered.get(1).is_some()
@@ -319,16 +238,6 @@ fn two_seats_meet(rt: HostRuntime) -> Result<(), Fail> {
     let harts = [hart(6), hart(7)];
     let start = RoundStart::new(&pages, &table, &harts, &[0; 2]);
     two_meet::<Brand, _>(&rt, alloc, &start);
-    Ok(())
-}
-
-#[test]
-fn two_threads_put_all_harts(rt: HostRuntime) -> Result<(), Fail> {
-    let alloc = rt.alloc();
-    let (pages, table) = no_code(alloc)?;
-    let harts = [hart(0); 64];
-    let start = RoundStart::new(&pages, &table, &harts, &[0; 64]);
-    two_threads::<Brand, _>(&rt, alloc, &start);
     Ok(())
 }
 

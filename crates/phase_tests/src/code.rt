@@ -1,9 +1,9 @@
-//! Code in memory, and decoded.
+//! Code in memory, and decoded, and the harts that are to do it.
 
 ghost use Rattle.std.specs.Prelude.{◌≤◌, IfOk, length};
 ghost use Rattle.hart_step.specs.DecodedCode.{Shows};
 
-use hart_step::DecodedCode;
+use hart_step::{DecodedCode, Hart};
 use pages::{OutOfMemory, Pages, Piece, Range};
 use std::alloc::Global;
 
@@ -36,3 +36,14 @@ pub(crate) fn code_of(alloc: Global, words: &[u32]) -> Result<(Pages, DecodedCod
     let table = DecodedCode::new(alloc, &pages, 0, words.len())?;
     Ok((pages, table))
 }
+
+/// ADDI x6,x6,1; SD x6,256(x0); JAL x0,-8
+pub(crate) const COUNT: [u32; 3] = [0x0013_0313, 0x1060_3023, 0xff9f_f06f];
+
+/// Harts at address 0.
+pub(crate) const HARTS: [Hart; 64] = [Hart {
+    x: [0; 32],
+    pc: 0,
+    done: 0,
+    stop: None,
+}; 64];

@@ -1,5 +1,5 @@
 //! Tests of the three phases of a round and of the book that its workers share, through the public calls of the crates `round_lock`,
-//! `parallel_phase`, `commit_phase` and `serial_phase`.
+//! `hart_rounds`, `commit_phase` and `serial_phase`.
 #![tactic(auto)]
 
 #[cfg(test)]
@@ -8,8 +8,6 @@ mod books;
 mod code;
 #[cfg(test)]
 mod commits;
-#[cfg(test)]
-mod gathering;
 #[cfg(test)]
 mod rounds;
 #[cfg(test)]

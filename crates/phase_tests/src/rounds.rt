@@ -2,8 +2,7 @@
 
 ghost use Rattle.std.specs.Prelude.{◌≡◌, ◌<◌, IfOk, Some, length, slice_get};
 
-use crate::code::code_of;
-use crate::gathering::{COUNT, harts};
+use crate::code::{COUNT, HARTS, code_of};
 use hart_rounds::{HartEnd, LogForm, RoundStart, round_from, round_in_place};
 use hart_step::{Access, Stop};
 use pages::{OutOfMemory, Store, Width};
@@ -98,7 +97,7 @@ fn rests(start: &RoundStart<'_>) -> Result<bool, OutOfMemory>
 /// Does rounds whose accesses are kept or counted, as the form says.
 fn does_rounds<R: Abort>(rt: &R, alloc: Global, form: LogForm, logged: usize) {
     let (pages, table) = code_of(alloc, &COUNT).expect(rt, "memory");
-    let harts = harts();
+    let harts = HARTS;
     let start = RoundStart::new(&pages, &table, &harts, &[300; 64]).with_form(form);
     let placed = takes_its_place(&start, logged).expect(rt, "memory");
     let left = leaves(&start, logged).expect(rt, "memory");
@@ -117,7 +116,7 @@ fn a_round_takes_the_place_of_what_is_there(rt: HostRuntime) -> Result<(), Fail>
 #[test]
 fn a_stopped_hart_is_left_alone(rt: HostRuntime) -> Result<(), Fail> {
     let (pages, table) = code_of(rt.alloc(), &COUNT)?;
-    let mut harts = harts();
+    let mut harts = HARTS;
     harts[0].stop = Some(Stop { code: 10, value: 0 });
     let start = RoundStart::new(&pages, &table, &harts, &[300; 64]);
     assert!(rt; rests(&start)?);

@@ -1,67 +1,42 @@
-//! Serial turns, through the public calls of the crate `serial_phase`.
+//! A serial turn in which an SC stops its hart, through the public calls of the crate `serial_phase`: nothing that a program shows tells
+//! then whether the hart keeps its reservation.
 
 ghost use Rattle.std.specs.Prelude.{◌≡◌, ◌*◌, ◌+◌, ◌≤◌, ◌<◌, IfOk, length};
 ghost use Rattle.serial_phase.specs.Phase.{budget_from, budget_of};
 
-mod budgets;
-mod calls;
-mod lr_and_sc;
-
 use crate::code::code_of;
-use hart_step::Hart;
-use pages::OutOfMemory;
+use hart_step::{Hart, Stop};
+use pages::{OutOfMemory, Width};
 use reservations::Reservations;
 use round_schedule::MOST_HARTS;
 use serial_phase::{Console, SerialLog, SerialRound, SharedState, serial};
 use std::alloc::Global;
+use std::test::Fail;
 
-/// One page with these words as its code from address 0 on, no reservation of so many harts, and this input.
-fn begin(
-    alloc: Global,
-    words: [u32; 4],
-    harts: u32,
-    input: &[u8],
-) -> Result<SharedState, OutOfMemory>
-    requires { harts ≤ MOST_HARTS }
-    ensures size { IfOk result (λ s. length s.reservations ≡ harts) }
+/// SC.D x7,x6,(x5).
+const CONDITIONAL: u32 = 0x1862_B3AF;
+
+/// One page with the SC as its code, and no reservation of one hart.
+fn begin(alloc: Global) -> Result<SharedState, OutOfMemory>
+    ensures size { IfOk result (λ s. length s.reservations ≡ 1) }
 {
-    let input = input.to_vec(alloc)?;
-    let (pages, code) = code_of(alloc, &words)?;
+    let (pages, code) = code_of(alloc, &[CONDITIONAL])?;
     Ok(SharedState {
         pages,
         code,
-        reservations: Reservations::new(harts),
-        console: Console::new(alloc, input),
+        reservations: Reservations::new(1),
+        console: Console::new(alloc, Vec::new(alloc)),
         log: SerialLog::new(alloc),
     })
 }
 
-/// What a trial comes to on such a state. It alone has the state, and the trial borrows it: what drops it is checked once.
-fn on_shared<T, F>(
-    alloc: Global,
-    words: [u32; 4],
-    harts: u32,
-    input: &[u8],
-    trial: F,
-) -> Result<T, OutOfMemory>
-where
-    T: Drop,
-    F: FnOnce(&mut SharedState) -> Result<T, OutOfMemory> + Drop,
-    requires harts { harts ≤ MOST_HARTS }
-    requires trial { (shared : _) → length shared.now.reservations ≡ harts → F.pre trial shared }
-{
-    let mut shared = begin(alloc, words, harts, input)?;
-    trial(&mut shared)
-}
-
-/// A hart before its first instruction, at this pc, with these values in x5 and x6.
-fn hart(pc: u64, x5: u64, x6: u64) -> Hart {
+/// A hart before its first instruction, with an address in x5.
+fn hart(address: u64) -> Hart {
     let mut x = [0; 32];
-    x[5] = x5;
-    x[6] = x6;
+    x[5] = address;
     Hart {
         x,
-        pc,
+        pc: 0,
         done: 0,
         stop: None,
     }
@@ -117,5 +92,35 @@ fn turns(
         budget,
     };
     serial(shared, harts, phase);
+    Ok(())
+}
+
+/// The stop of a hart with a reservation at 0x100 that does the SC at an address, and whether it keeps the reservation.
+fn after_sc(
+    alloc: Global,
+    shared: &mut SharedState,
+    address: u64,
+) -> Result<(Option<Stop>, bool), OutOfMemory>
+    requires size { length shared.old.reservations ≡ 1 }
+{
+    shared.reservations.set(0, 0x100, Width::W8);
+    let mut harts = [hart(address)];
+    turns(alloc, shared, &mut harts, 1, 1)?;
+    Ok((harts[0].stop, shared.reservations.take(0, 0x100, Width::W8)))
+}
+
+/// The same in a memory of its own.
+fn left_by_sc(alloc: Global, address: u64) -> Result<(Option<Stop>, bool), OutOfMemory> {
+    let mut shared = begin(alloc)?;
+    after_sc(alloc, &mut shared, address)
+}
+
+#[test]
+fn an_sc_that_stops_keeps_the_reservation(rt: HostRuntime) -> Result<(), Fail> {
+    // one to the code, and one that is misaligned
+    for (address, code) in [(0x000, 9), (0x104, 7)] {
+        let left = left_by_sc(rt.alloc(), address)?;
+        assert_eq!(rt; left, (Some(Stop { code, value: 0 }), true), "{address}");
+    }
     Ok(())
 }

@@ -1,9 +1,9 @@
-ghost use Rattle.std.specs.Prelude.{◌≡◌, ◌%◌, All, IfOk, IsTrue, length};
+ghost use Rattle.std.specs.Prelude.{◌≡◌, ◌<◌, ◌%◌, All, IfOk, IsTrue, length};
 ghost use Rattle.commit_phase.specs.Commit.{IsWritable};
 ghost use Rattle.pages.specs.Memory.{width_bytes};
 
 use super::{buffer_of, fits};
-use commit_phase::{OpenShards, ShardGate, commit, commit_on};
+use commit_phase::{ShardGate, commit_on};
 use pages::{OutOfMemory, Pages, Piece, Store, Width};
 use reservations::Reservations;
 use std::alloc::Global;
@@ -106,43 +106,30 @@ fn commit_all<R: Threads + Sync, G: ShardGate + Sync>(
     true
 }
 
-/// A buffer with one more store.
-fn with(
-    mut buffer: StoreBuffer,
-    address: u64,
-    width: Width,
-    value: u64,
-) -> Result<StoreBuffer, OutOfMemory>
+/// A store of this number.
+fn store(address: u64, width: Width, value: u64) -> Store
     requires { address % width_bytes width ≡ 0 }
+    ensures { result.address % width_bytes result.width ≡ 0 }
 {
-    buffer.put(Store {
+    Store {
         address,
         width,
         value,
-    })?;
-    Ok(buffer)
+    }
 }
 
 /// Buffers of three harts: the later ones write over bytes of the first, on both sides of the end of a page, and the
-/// last page has a byte of each of two.
+/// last page has a byte of each of two. Hart 2 writes its byte twice.
 fn three_buffers(alloc: Global) -> Result<Vec<StoreBuffer>, OutOfMemory> {
-    let first = buffer_of(alloc, 0xff8, Width::W8, 0x1111_1111_1111_1111)?;
-    let first = with(first, 0x9ffe, Width::W1, 0x44)?;
-    let second = buffer_of(alloc, 0xffc, Width::W4, 0x2222_2222)?;
-    let second = with(second, 0x1000, Width::W4, 0x3333_3333)?;
-    let third = buffer_of(alloc, 0x9fff, Width::W1, 0x55)?;
-    Ok(Vec::from_array(alloc, [first, second, third])?)
-}
-
-/// Commits buffers on the calling thread, if their bytes may be written.
-fn commit_alone(pages: &mut Pages, table: &mut Reservations, buffers: &[StoreBuffer]) -> bool
-    ensures { length table.new ≡ length table.old }
-{
-    if buffers.len() > 64 || !all_fit(pages, buffers) {
-        return false;
-    }
-    commit(pages, table, buffers);
-    true
+    let across = store(0xff8, Width::W8, 0x1111_1111_1111_1111);
+    let before = store(0xffc, Width::W4, 0x2222_2222);
+    let behind = store(0x1000, Width::W4, 0x3333_3333);
+    let last = store(0x9fff, Width::W1, 0x55);
+    let mut buffers = Vec::new(alloc);
+    buffers.push(buffer_of(alloc, across, store(0x9ffe, Width::W1, 0x44))?)?;
+    buffers.push(buffer_of(alloc, before, behind)?)?;
+    buffers.push(buffer_of(alloc, store(0x9fff, Width::W1, 0x54), last)?)?;
+    Ok(buffers)
 }
 
 /// Reservations of three harts.
@@ -172,78 +159,58 @@ fn is_broken_for_hart_0(table: &mut Reservations) -> bool
         && table.take(2, 0x9ff0, Width::W8)
 }
 
+/// Whether a commit by so many workers writes the same as ever, each of them with a shard.
+fn writes_by<R: Threads + Sync>(
+    rt: &R,
+    pages: &mut Pages,
+    buffers: &[StoreBuffer],
+    workers: u32,
+) -> bool
+    requires { workers < 32 }
+{
+    let mut table = reserved();
+    let marks = Marks::new();
+    let all = (1u32 << workers) - 1;
+    commit_all(rt, pages, &mut table, buffers, workers, &marks)
+        && are_written(pages)
+        && is_broken_for_hart_0(&mut table)
+        && marks.passed.load(SeqCst) == all
+        && marks.done.load(SeqCst) == all
+}
+
 #[test]
 fn any_number_of_workers_writes_the_same(rt: HostRuntime) -> Result<(), Fail> {
     let buffers = three_buffers(rt.alloc())?;
     for workers in 1..17 {
         let mut pages = ten_pages(rt.alloc())?;
-        let mut table = reserved();
-        assert!(rt; commit_all(&rt, &mut pages, &mut table, &buffers, workers, &OpenShards));
-        assert!(rt; are_written(&pages));
-        assert!(rt; is_broken_for_hart_0(&mut table));
+        let writes = writes_by(&rt, &mut pages, &buffers, workers);
+        drop(pages);
+        assert!(rt; writes, "{workers}");
     }
     Ok(())
 }
 
-#[test]
-fn one_thread_writes_the_same(rt: HostRuntime) -> Result<(), Fail> {
-    let buffers = three_buffers(rt.alloc())?;
-    let mut pages = ten_pages(rt.alloc())?;
-    let mut table = reserved();
-    assert!(rt; commit_alone(&mut pages, &mut table, &buffers));
-    assert!(rt; are_written(&pages));
-    assert!(rt; is_broken_for_hart_0(&mut table));
-    Ok(())
-}
-
-#[test]
-fn each_worker_has_a_shard(rt: HostRuntime) -> Result<(), Fail> {
-    let buffers = three_buffers(rt.alloc())?;
+/// Whether two shards meet in the commit of these buffers by two workers.
+fn meet<R: Threads + Sync>(rt: &R, pages: &mut Pages, buffers: &[StoreBuffer]) -> bool {
     let mut table = Reservations::new(3);
-    for workers in 1..17 {
-        let mut pages = ten_pages(rt.alloc())?;
-        let marks = Marks::new();
-        assert!(rt; commit_all(&rt, &mut pages, &mut table, &buffers, workers, &marks));
-        let all = (1u32 << workers) - 1;
-        assert!(rt; marks.passed.load(SeqCst) == all);
-        assert!(rt; marks.done.load(SeqCst) == all);
-    }
-    Ok(())
+    let meeting = Meeting {
+        come: AtomicU32::new(0),
+        met: AtomicU32::new(0),
+    };
+    commit_all(rt, pages, &mut table, buffers, 2, &meeting) && meeting.met.load(SeqCst) == 3
 }
 
 #[test]
 fn two_shards_run_at_once(rt: HostRuntime) -> Result<(), Fail> {
     let buffers = three_buffers(rt.alloc())?;
     let mut pages = ten_pages(rt.alloc())?;
-    let mut table = Reservations::new(3);
-    let meeting = Meeting {
-        come: AtomicU32::new(0),
-        met: AtomicU32::new(0),
-    };
-    assert!(rt; commit_all(&rt, &mut pages, &mut table, &buffers, 2, &meeting));
-    assert!(rt; meeting.met.load(SeqCst) == 3);
+    assert!(rt; meet(&rt, &mut pages, &buffers));
     Ok(())
-}
-
-/// One page that is ready.
-fn one_page(alloc: Global) -> Result<Pages, OutOfMemory> {
-    let piece = Piece {
-        start: 0,
-        bytes: zeros(alloc, 1)?,
-    };
-    Pages::new(alloc, 1, &[piece], &[])
 }
 
 #[test]
 fn an_empty_shard_has_a_worker(rt: HostRuntime) -> Result<(), Fail> {
-    let buffers = Vec::new(rt.alloc());
-    let mut pages = one_page(rt.alloc())?;
-    let mut table = Reservations::new(3);
-    let meeting = Meeting {
-        come: AtomicU32::new(0),
-        met: AtomicU32::new(0),
-    };
-    assert!(rt; commit_all(&rt, &mut pages, &mut table, &buffers, 2, &meeting));
-    assert!(rt; meeting.met.load(SeqCst) == 3);
+    let mut pages = ten_pages(rt.alloc())?;
+    assert!(rt; meet(&rt, &mut pages, &[]));
     Ok(())
 }

@@ -1,4 +1,0 @@
-use Rattle.phase_tests.proofs.gathering.gathers_on_any_workers.Given as goal
-
-abbrev pub ghosts-gathers : goal.ghosts-gathers
-ghosts-gathers g a = record { start = a.start.now }
