@@ -1,290 +1,244 @@
 //! What the checker says of orders of hand-made traces.
 
-use crate::traces::{BOTH, PLAIN, event, full_fence, load, store};
-use memory_order::{Order, memory_order};
+use crate::made::Made::{
+    Atomic, Conditional, Fence, Load, LoadHalf, Release, Reserve, Store, StoreByte, StoreFence,
+    TotalFence,
+};
+use crate::made::{Row, events_of, trace_of};
+use memory_order::Order;
 use order_checker::check_order;
 use pages::Piece;
-use pages::Width::{W1, W2, W8};
-use rv64_decode::{AcquireRelease, FenceMode, FenceSet};
 use std::alloc::Global;
-use trace::{Access, Event, Phase, Trace};
+use std::test::Fail;
+use trace::Phase::{Parallel, Serial};
+use trace::Trace;
 
-const RELEASE: AcquireRelease = AcquireRelease {
-    acquire: false,
-    release: true,
-};
+/// What a trace is of, its events, and orders of them, by their indexes, with whether each is met.
+type Case = (
+    &'static str,
+    &'static [Row],
+    &'static [(&'static [usize], bool)],
+);
 
-const STORES: FenceSet = FenceSet {
-    reads: false,
-    writes: true,
-};
+static CASES: [Case; 18] = [
+    (
+        "each of two harts misses the other's store",
+        &[
+            (1, 0, Parallel, Store(3, 0x100, 1)),
+            (1, 0, Parallel, Load(4, 0x108, 0)),
+            (1, 1, Parallel, Store(3, 0x108, 1)),
+            (1, 1, Parallel, Load(4, 0x100, 0)),
+        ],
+        &[
+            (&[1, 3, 0, 2], true),
+            (&[1, 3, 2, 0], true),
+            (&[0, 1, 2, 3], false),
+            (&[1, 3, 0], false),
+            (&[1, 3, 0, 2, 2], false),
+            (&[1, 3, 0, 4], false),
+        ],
+    ),
+    (
+        "a load may see its hart's store before others do",
+        &[
+            (1, 0, Parallel, Store(2, 0x100, 5)),
+            (1, 0, Parallel, Load(3, 0x100, 5)),
+            (1, 1, Parallel, Store(2, 0x100, 6)),
+            (1, 1, Parallel, Load(3, 0x100, 6)),
+        ],
+        &[
+            (&[1, 3, 0, 2], true),
+            (&[0, 1, 2, 3], true),
+            (&[2, 0, 1, 3], false),
+        ],
+    ),
+    (
+        "a byte is from the hart's latest store that covers it",
+        &[
+            (1, 0, Parallel, Store(1, 0x100, 0x1122_3344_5566_7788)),
+            (1, 0, Parallel, StoreByte(2, 0x103, 0xaa)),
+            (1, 0, Parallel, LoadHalf(3, 0x102, 0xaa66)),
+        ],
+        &[(&[0, 1, 2], true), (&[2, 0, 1], true), (&[1, 0, 2], false)],
+    ),
+    (
+        "a byte is from another hart's latest store that covers it",
+        &[
+            (1, 0, Parallel, Store(1, 0x100, 0x1122_3344_5566_7788)),
+            (1, 0, Parallel, StoreByte(2, 0x103, 0xaa)),
+            (1, 1, Parallel, LoadHalf(3, 0x102, 0x5566)),
+        ],
+        &[(&[0, 2, 1], true), (&[0, 1, 2], false), (&[2, 0, 1], false)],
+    ),
+    (
+        "no other hart stores between an LR and its SC",
+        &[
+            (1, 0, Serial, Reserve(1, 0)),
+            (1, 1, Serial, Store(1, 0x100, 7)),
+            (1, 0, Serial, Conditional(2, Some(1))),
+        ],
+        &[(&[0, 2, 1], true), (&[0, 1, 2], false), (&[1, 0, 2], false)],
+    ),
+    (
+        "another hart stores before an LR that sees it",
+        &[
+            (1, 0, Serial, Reserve(1, 7)),
+            (1, 1, Serial, Store(1, 0x100, 7)),
+            (1, 0, Serial, Conditional(2, Some(1))),
+        ],
+        &[(&[1, 0, 2], true), (&[0, 1, 2], false)],
+    ),
+    (
+        "the hart's own store may stand between an LR and its SC",
+        &[
+            (1, 0, Serial, Reserve(1, 0)),
+            (1, 0, Serial, Store(2, 0x100, 7)),
+            (1, 0, Serial, Conditional(3, Some(1))),
+        ],
+        &[(&[0, 1, 2], true), (&[0, 2, 1], false)],
+    ),
+    (
+        "an SC that failed is no operation",
+        &[
+            (1, 0, Serial, Reserve(2, 0)),
+            (1, 1, Parallel, Store(2, 0x100, 0x100)),
+            (1, 0, Serial, Conditional(3, None)),
+        ],
+        &[(&[0, 1], true), (&[0, 1, 2], false), (&[1, 0], false)],
+    ),
+    (
+        "a store may pass no load behind a fence",
+        &[
+            (1, 0, Parallel, Store(1, 0x100, 1)),
+            (1, 0, Parallel, Fence(2)),
+            (1, 0, Parallel, Load(3, 0x108, 0)),
+        ],
+        &[(&[0, 2], true), (&[2, 0], false)],
+    ),
+    (
+        "a store may pass a load behind a fence of total order",
+        &[
+            (1, 0, Parallel, Store(1, 0x100, 1)),
+            (1, 0, Parallel, TotalFence(2)),
+            (1, 0, Parallel, Load(3, 0x108, 0)),
+        ],
+        &[(&[0, 2], true), (&[2, 0], true)],
+    ),
+    (
+        "a store may pass a load behind a fence of stores",
+        &[
+            (1, 0, Parallel, Store(1, 0x100, 1)),
+            (1, 0, Parallel, StoreFence(2)),
+            (1, 0, Parallel, Load(3, 0x108, 0)),
+        ],
+        &[(&[2, 0], true)],
+    ),
+    (
+        "stores may pass one another",
+        &[
+            (1, 0, Parallel, Store(1, 0x100, 1)),
+            (1, 0, Parallel, Store(3, 0x108, 1)),
+        ],
+        &[(&[1, 0], true)],
+    ),
+    (
+        "stores may not pass one another over a fence of stores",
+        &[
+            (1, 0, Parallel, Store(1, 0x100, 1)),
+            (1, 0, Parallel, StoreFence(2)),
+            (1, 0, Parallel, Store(3, 0x108, 1)),
+        ],
+        &[(&[0, 2], true), (&[2, 0], false)],
+    ),
+    (
+        "stores may not pass one another over a fence of total order",
+        &[
+            (1, 0, Parallel, Store(1, 0x100, 1)),
+            (1, 0, Parallel, TotalFence(2)),
+            (1, 0, Parallel, Store(3, 0x108, 1)),
+        ],
+        &[(&[2, 0], false)],
+    ),
+    (
+        "a release stands after all before it",
+        &[
+            (1, 0, Parallel, Store(1, 0x100, 1)),
+            (1, 0, Serial, Release(2)),
+        ],
+        &[(&[0, 1], true), (&[1, 0], false)],
+    ),
+    (
+        "an AMO that is no release may pass a store",
+        &[
+            (1, 0, Parallel, Store(1, 0x100, 1)),
+            (1, 0, Serial, Atomic(2)),
+        ],
+        &[(&[1, 0], true)],
+    ),
+    (
+        "a load stands before what follows",
+        &[
+            (1, 0, Parallel, Load(1, 0x100, 0)),
+            (1, 0, Parallel, Store(2, 0x108, 1)),
+        ],
+        &[(&[0, 1], true), (&[1, 0], false)],
+    ),
+    (
+        "an AMO stands before what follows",
+        &[(1, 0, Serial, Atomic(1)), (1, 0, Serial, Load(2, 0x100, 0))],
+        &[(&[0, 1], true), (&[1, 0], false)],
+    ),
+];
 
-// What the checker says of these indexes as an order of these events; none where memory runs out or the events make no trace.
-fn answer(alloc: Global, events: &[Event], indexes: &[usize]) -> Option<bool> {
-    let events = Vec::from_slice(alloc, events).ok()?;
-    let trace = Trace::of(Vec::new(alloc), events)?;
+/// Whether these indexes are an order that is met, if memory doesn't run out.
+fn is_met(alloc: Global, trace: &Trace, indexes: &[usize]) -> Option<bool> {
     let indexes = Vec::from_slice(alloc, indexes).ok()?;
-    check_order(alloc, &trace, &Order(indexes)).ok()
+    check_order(alloc, trace, &Order(indexes)).ok()
 }
 
-fn is_met(alloc: Global, events: &[Event], indexes: &[usize]) -> bool {
-    answer(alloc, events, indexes) == Some(true)
-}
-
-fn is_refused(alloc: Global, events: &[Event], indexes: &[usize]) -> bool {
-    answer(alloc, events, indexes) == Some(false)
-}
-
-fn parallel(hart: u8, access: Access) -> Event {
-    event(1, hart, Phase::Parallel, access)
-}
-
-fn serial(hart: u8, access: Access) -> Event {
-    event(1, hart, Phase::Serial, access)
-}
-
-fn fence(place: u64, before: FenceSet, after: FenceSet, mode: FenceMode) -> Access {
-    Access::Fence {
-        before,
-        after,
-        mode,
-        place,
+/// The number of the first order of which the checker says otherwise than is wanted, if there is any.
+fn first_other(alloc: Global, trace: &Trace, orders: &[(&[usize], bool)]) -> Option<usize> {
+    for (number, (indexes, wanted)) in orders.iter().enumerate() {
+        if is_met(alloc, trace, indexes) != Some(*wanted) {
+            return Some(number);
+        }
     }
+    None
 }
 
-fn load_reserved(place: u64, read: u64) -> Access {
-    Access::LoadReserved {
-        width: W8,
-        ordering: PLAIN,
-        place,
-        address: 0x100,
-        read,
+#[test]
+fn orders_are_met_or_not(rt: HostRuntime) -> Result<(), Fail> {
+    for (name, rows, orders) in &CASES {
+        let trace = trace_of(rt.alloc(), rows).ok_or("a trace")?;
+        let other = first_other(rt.alloc(), &trace, orders);
+        drop(trace);
+        assert_eq!(rt; other, None, "{name}");
     }
+    Ok(())
 }
 
-fn store_conditional(place: u64, written: Option<u64>) -> Access {
-    Access::StoreConditional {
-        width: W8,
-        ordering: PLAIN,
-        place,
-        address: 0x100,
-        written,
-    }
-}
+/// A load of what memory has at first, before another hart stores there.
+static OPENING: [Row; 2] = [
+    (1, 0, Parallel, Load(1, 0x100, 0x107)),
+    (1, 1, Parallel, Store(1, 0x100, 9)),
+];
 
-fn atomic(place: u64, ordering: AcquireRelease) -> Access {
-    Access::Atomic {
-        width: W8,
-        ordering,
-        place,
-        address: 0x108,
-        read: 0,
-        written: 1,
-    }
-}
-
-#[test]
-fn each_of_two_harts_misses_the_others_store(rt: HostRuntime) {
-    let alloc = rt.alloc();
-    let events = [
-        parallel(0, store(3, 0x100, 1)),
-        parallel(0, load(4, 0x108, 0)),
-        parallel(1, store(3, 0x108, 1)),
-        parallel(1, load(4, 0x100, 0)),
-    ];
-    assert!(rt; is_met(alloc, &events, &[1, 3, 0, 2]));
-    assert!(rt; is_met(alloc, &events, &[1, 3, 2, 0]));
-    assert!(rt; is_refused(alloc, &events, &[0, 1, 2, 3]));
-    assert!(rt; is_refused(alloc, &events, &[1, 3, 0]));
-    assert!(rt; is_refused(alloc, &events, &[1, 3, 0, 2, 2]));
-    assert!(rt; is_refused(alloc, &events, &[1, 3, 0, 4]));
-}
-
-#[test]
-fn the_order_by_rounds_is_met(rt: HostRuntime) {
-    let alloc = rt.alloc();
-    let events = vec![in alloc;
-        parallel(0, store(3, 0x100, 1)),
-        parallel(0, load(4, 0x108, 0)),
-        parallel(1, store(3, 0x108, 1)),
-        parallel(1, load(4, 0x100, 0)),
-    ]
-    .expect(&rt, "memory");
-    let trace = Trace::of(Vec::new(alloc), events).expect(&rt, "a trace");
-    let order = memory_order(alloc, &trace).expect(&rt, "memory");
-    assert!(rt; check_order(alloc, &trace, &order) == Ok(true));
-}
-
-#[test]
-fn a_load_may_see_its_harts_store_before_others_do(rt: HostRuntime) {
-    let alloc = rt.alloc();
-    let events = [
-        parallel(0, store(2, 0x100, 5)),
-        parallel(0, load(3, 0x100, 5)),
-        parallel(1, store(2, 0x100, 6)),
-        parallel(1, load(3, 0x100, 6)),
-    ];
-    assert!(rt; is_met(alloc, &events, &[1, 3, 0, 2]));
-    assert!(rt; is_met(alloc, &events, &[0, 1, 2, 3]));
-    assert!(rt; is_refused(alloc, &events, &[2, 0, 1, 3]));
-}
-
-#[test]
-fn a_byte_is_from_the_latest_store_that_covers_it(rt: HostRuntime) {
-    let alloc = rt.alloc();
-    let byte = Access::Store {
-        width: W1,
-        place: 2,
-        address: 0x103,
-        written: 0xaa,
-    };
-    let half = |read| Access::Load {
-        width: W2,
-        place: 3,
-        address: 0x102,
-        read,
-    };
-    let number = store(1, 0x100, 0x1122_3344_5566_7788);
-    let own = [
-        parallel(0, number),
-        parallel(0, byte),
-        parallel(0, half(0xaa66)),
-    ];
-    assert!(rt; is_met(alloc, &own, &[0, 1, 2]));
-    assert!(rt; is_met(alloc, &own, &[2, 0, 1]));
-    assert!(rt; is_refused(alloc, &own, &[1, 0, 2]));
-    let other = [
-        parallel(0, number),
-        parallel(0, byte),
-        parallel(1, half(0x5566)),
-    ];
-    assert!(rt; is_met(alloc, &other, &[0, 2, 1]));
-    assert!(rt; is_refused(alloc, &other, &[0, 1, 2]));
-    assert!(rt; is_refused(alloc, &other, &[2, 0, 1]));
-}
-
-#[test]
-fn a_byte_may_be_the_opening_one(rt: HostRuntime) {
-    let alloc = rt.alloc();
+/// The trace of these events over memory that has 7 and 1 at 0x100.
+fn trace_over_bytes(alloc: Global) -> Option<Trace> {
     let piece = Piece {
         start: 0x100,
-        bytes: vec![in alloc; 7, 1].expect(&rt, "memory"),
+        bytes: Vec::from_slice(alloc, &[7, 1]).ok()?,
     };
-    let pieces = vec![in alloc; piece].expect(&rt, "memory");
-    let events = vec![in alloc;
-        parallel(0, load(1, 0x100, 0x107)),
-        parallel(1, store(1, 0x100, 9)),
-    ]
-    .expect(&rt, "memory");
-    let trace = Trace::of(pieces, events).expect(&rt, "a trace");
-    let before = Order(vec![in alloc; 0, 1].expect(&rt, "memory"));
-    let after = Order(vec![in alloc; 1, 0].expect(&rt, "memory"));
-    assert!(rt; check_order(alloc, &trace, &before) == Ok(true));
-    assert!(rt; check_order(alloc, &trace, &after) == Ok(false));
+    let mut pieces = Vec::new(alloc);
+    pieces.push(piece).ok()?;
+    Trace::of(pieces, events_of(alloc, &OPENING)?)
 }
 
 #[test]
-fn no_other_hart_stores_between_an_lr_and_its_sc(rt: HostRuntime) {
-    let alloc = rt.alloc();
-    let unseen = [
-        serial(0, load_reserved(1, 0)),
-        serial(1, store(1, 0x100, 7)),
-        serial(0, store_conditional(2, Some(1))),
-    ];
-    assert!(rt; is_met(alloc, &unseen, &[0, 2, 1]));
-    assert!(rt; is_refused(alloc, &unseen, &[0, 1, 2]));
-    assert!(rt; is_refused(alloc, &unseen, &[1, 0, 2]));
-    let seen = [
-        serial(0, load_reserved(1, 7)),
-        serial(1, store(1, 0x100, 7)),
-        serial(0, store_conditional(2, Some(1))),
-    ];
-    assert!(rt; is_met(alloc, &seen, &[1, 0, 2]));
-    assert!(rt; is_refused(alloc, &seen, &[0, 1, 2]));
-    // the hart's own store may stand between
-    let own = [
-        serial(0, load_reserved(1, 0)),
-        serial(0, store(2, 0x100, 7)),
-        serial(0, store_conditional(3, Some(1))),
-    ];
-    assert!(rt; is_met(alloc, &own, &[0, 1, 2]));
-    assert!(rt; is_refused(alloc, &own, &[0, 2, 1]));
-}
-
-#[test]
-fn an_sc_that_failed_is_no_operation(rt: HostRuntime) {
-    let alloc = rt.alloc();
-    let events = [
-        serial(0, load_reserved(2, 0)),
-        parallel(1, store(2, 0x100, 0x100)),
-        serial(0, store_conditional(3, None)),
-    ];
-    assert!(rt; is_met(alloc, &events, &[0, 1]));
-    assert!(rt; is_refused(alloc, &events, &[0, 1, 2]));
-    assert!(rt; is_refused(alloc, &events, &[1, 0]));
-}
-
-#[test]
-fn a_store_may_pass_a_later_load_but_for_a_fence(rt: HostRuntime) {
-    let alloc = rt.alloc();
-    let with = |between| [
-        parallel(0, store(1, 0x100, 1)),
-        parallel(0, between),
-        parallel(0, load(3, 0x108, 0)),
-    ];
-    let full = with(full_fence(2));
-    assert!(rt; is_met(alloc, &full, &[0, 2]));
-    assert!(rt; is_refused(alloc, &full, &[2, 0]));
-    let total = with(fence(2, BOTH, BOTH, FenceMode::Tso));
-    assert!(rt; is_met(alloc, &total, &[0, 2]));
-    assert!(rt; is_met(alloc, &total, &[2, 0]));
-    let stores = with(fence(2, STORES, STORES, FenceMode::Normal));
-    assert!(rt; is_met(alloc, &stores, &[2, 0]));
-}
-
-#[test]
-fn stores_may_pass_one_another_but_for_a_fence(rt: HostRuntime) {
-    let alloc = rt.alloc();
-    let free = [
-        parallel(0, store(1, 0x100, 1)),
-        parallel(0, store(3, 0x108, 1)),
-    ];
-    assert!(rt; is_met(alloc, &free, &[1, 0]));
-    let with = |between| [
-        parallel(0, store(1, 0x100, 1)),
-        parallel(0, between),
-        parallel(0, store(3, 0x108, 1)),
-    ];
-    let stores = with(fence(2, STORES, STORES, FenceMode::Normal));
-    assert!(rt; is_met(alloc, &stores, &[0, 2]));
-    assert!(rt; is_refused(alloc, &stores, &[2, 0]));
-    let total = with(fence(2, BOTH, BOTH, FenceMode::Tso));
-    assert!(rt; is_refused(alloc, &total, &[2, 0]));
-}
-
-#[test]
-fn a_release_stands_after_all_before_it(rt: HostRuntime) {
-    let alloc = rt.alloc();
-    let released = [
-        parallel(0, store(1, 0x100, 1)),
-        serial(0, atomic(2, RELEASE)),
-    ];
-    assert!(rt; is_met(alloc, &released, &[0, 1]));
-    assert!(rt; is_refused(alloc, &released, &[1, 0]));
-    let free = [parallel(0, store(1, 0x100, 1)), serial(0, atomic(2, PLAIN))];
-    assert!(rt; is_met(alloc, &free, &[1, 0]));
-}
-
-#[test]
-fn all_but_plain_stores_stand_before_what_follows(rt: HostRuntime) {
-    let alloc = rt.alloc();
-    let loaded = [
-        parallel(0, load(1, 0x100, 0)),
-        parallel(0, store(2, 0x108, 1)),
-    ];
-    assert!(rt; is_met(alloc, &loaded, &[0, 1]));
-    assert!(rt; is_refused(alloc, &loaded, &[1, 0]));
-    let exchanged = [serial(0, atomic(1, PLAIN)), serial(0, load(2, 0x100, 0))];
-    assert!(rt; is_met(alloc, &exchanged, &[0, 1]));
-    assert!(rt; is_refused(alloc, &exchanged, &[1, 0]));
+fn a_byte_may_be_the_opening_one(rt: HostRuntime) -> Result<(), Fail> {
+    let trace = trace_over_bytes(rt.alloc()).ok_or("a trace")?;
+    let other = first_other(rt.alloc(), &trace, &[(&[0, 1], true), (&[1, 0], false)]);
+    drop(trace);
+    assert_eq!(rt; other, None);
+    Ok(())
 }

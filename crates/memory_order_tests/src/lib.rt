@@ -7,4 +7,6 @@ mod checks;
 #[cfg(test)]
 mod logs;
 #[cfg(test)]
+mod made;
+#[cfg(test)]
 mod traces;

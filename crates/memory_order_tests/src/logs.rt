@@ -4,8 +4,8 @@ ghost use Rattle.std.specs.Prelude.{◌≡◌, ◌+◌, ◌^◌, ◌<◌, ◌≤
 ghost use Rattle.round_schedule.specs.Events.{events_of};
 ghost use Rattle.trace.specs.Traced.{IsTrace};
 
-use crate::traces::{PLAIN, add_loads, full_fence, load, store};
-use pages::Width;
+use crate::made::{conditional, full_fence, load, store};
+use crate::traces::add_loads;
 use std::alloc::Global;
 use trace::{Access, Event, Log, Phase, Trace};
 
@@ -39,7 +39,7 @@ fn accesses_of(alloc: Global, log: &Log) -> Option<Vec<Access>>
 }
 
 /// Accesses of logs that are kept in different ways.
-#[derive(Clone, Copy)]
+#[derive(Clone, Copy, Debug)]
 enum Kind {
     /// Loads and stores in turn, at places far from 0 and addresses up to the last of 32 bits.
     Plain,
@@ -70,16 +70,6 @@ fn wide(number: u64) -> Access {
     load(place, 0x100, number)
 }
 
-fn failed_sc(place: u64) -> Access {
-    Access::StoreConditional {
-        width: Width::W8,
-        ordering: PLAIN,
-        place,
-        address: 0x100,
-        written: None,
-    }
-}
-
 // But in the wide kind, access 200 is the other one.
 fn access_of(kind: Kind, number: u64) -> Access {
     match kind {
@@ -88,7 +78,7 @@ fn access_of(kind: Kind, number: u64) -> Access {
         Kind::Plain => plain(number),
         Kind::Fenced => full_fence(0x1_0000_0258),
         Kind::Far => load(0x1_0000_0258, 0x1_0000_0008, 7),
-        Kind::Conditional => failed_sc(0x1_0000_0258),
+        Kind::Conditional => conditional(0x1_0000_0258, None),
         Kind::Early => store(5, 0x100, 1),
     }
 }
@@ -123,28 +113,28 @@ fn is_handed_over(alloc: Global, end: usize, kind: Kind) -> Option<bool> {
     Some(has(&taken, end, kind) && log.len() == 0)
 }
 
+/// How many accesses a log has, and of which kind.
+static LOGS: [(usize, Kind); 9] = [
+    (0, Kind::Plain),
+    (300, Kind::Plain),
+    (300, Kind::Fenced),
+    (2, Kind::Wide),
+    (3, Kind::Wide),
+    (300, Kind::Wide),
+    // these have no brief form
+    (300, Kind::Far),
+    (300, Kind::Conditional),
+    (300, Kind::Early),
+];
+
 #[test]
 fn a_log_shows_its_accesses_and_hands_them_over(rt: HostRuntime) {
-    let alloc = rt.alloc();
-    assert!(rt; is_handed_over(alloc, 0, Kind::Plain) == Some(true));
-    assert!(rt; is_handed_over(alloc, 300, Kind::Plain) == Some(true));
-    assert!(rt; is_handed_over(alloc, 300, Kind::Fenced) == Some(true));
-}
-
-#[test]
-fn a_log_shows_accesses_at_places_far_apart(rt: HostRuntime) {
-    let alloc = rt.alloc();
-    assert!(rt; is_handed_over(alloc, 2, Kind::Wide) == Some(true));
-    assert!(rt; is_handed_over(alloc, 3, Kind::Wide) == Some(true));
-    assert!(rt; is_handed_over(alloc, 300, Kind::Wide) == Some(true));
-}
-
-#[test]
-fn a_log_shows_accesses_that_have_no_brief_form(rt: HostRuntime) {
-    let alloc = rt.alloc();
-    assert!(rt; is_handed_over(alloc, 300, Kind::Far) == Some(true));
-    assert!(rt; is_handed_over(alloc, 300, Kind::Conditional) == Some(true));
-    assert!(rt; is_handed_over(alloc, 300, Kind::Early) == Some(true));
+    for (end, kind) in &LOGS {
+        assert!(rt;
+            is_handed_over(rt.alloc(), *end, *kind) == Some(true),
+            "{end} {kind:?}"
+        );
+    }
 }
 
 // Whether a trace with these accesses of a hart at its end is still one.

@@ -1,25 +1,112 @@
 //! Traces, and the orders of their memory operations.
 
-ghost use Rattle.std.specs.Prelude.{◌≡◌, ◌<◌, ◌≤◌, All};
+ghost use Rattle.std.specs.Prelude.{◌≡◌, ◌<◌, ◌≤◌, [], All};
 ghost use Rattle.round_schedule.specs.Accesses.{place_of};
 ghost use Rattle.trace.specs.Traced.{HasForm};
 
-use memory_order::{Order, is_operation, memory_order};
+use crate::made::Made::{Conditional, Fence, Load, Reserve, Store};
+use crate::made::{BOTH, Row, trace_of};
+use memory_order::{is_operation, memory_order};
+use order_checker::check_order;
 use pages::Piece;
 use pages::Width::W8;
-use rv64_decode::{AcquireRelease, FenceMode, FenceSet};
+use rv64_decode::FenceMode;
 use std::alloc::Global;
+use std::test::Fail;
+use trace::Phase::{Parallel, Serial};
 use trace::{Access, Event, Phase, Trace};
 
-pub(crate) const PLAIN: AcquireRelease = AcquireRelease {
-    acquire: false,
-    release: false,
-};
+/// What a trace is of, its events, and the indexes of its memory order.
+type Ordered = (&'static str, &'static [Row], &'static [usize]);
 
-pub(crate) const BOTH: FenceSet = FenceSet {
-    reads: true,
-    writes: true,
-};
+static ORDERED: [Ordered; 4] = [
+    (
+        "two harts store and load the other one's place",
+        &[
+            (1, 0, Parallel, Store(3, 0x100, 1)),
+            (1, 0, Parallel, Load(4, 0x108, 0)),
+            (1, 1, Parallel, Store(3, 0x108, 1)),
+            (1, 1, Parallel, Load(4, 0x100, 0)),
+        ],
+        &[1, 3, 0, 2],
+    ),
+    (
+        "two harts load what they stored",
+        &[
+            (1, 0, Parallel, Store(1, 0x100, 5)),
+            (1, 0, Parallel, Load(2, 0x100, 5)),
+            (1, 1, Parallel, Store(1, 0x100, 6)),
+            (1, 1, Parallel, Load(2, 0x100, 6)),
+        ],
+        &[1, 3, 0, 2],
+    ),
+    (
+        "an SC that failed is not in the order",
+        &[
+            (1, 0, Serial, Reserve(2, 0)),
+            (2, 1, Parallel, Store(2, 0x100, 0x100)),
+            (2, 0, Serial, Conditional(3, None)),
+        ],
+        &[0, 1],
+    ),
+    (
+        "serial loads come after the stores of their round",
+        &[
+            (1, 0, Parallel, Store(3, 0x100, 1)),
+            (1, 1, Parallel, Store(3, 0x108, 1)),
+            (1, 0, Serial, Fence(4)),
+            (1, 0, Serial, Load(5, 0x108, 1)),
+            (1, 1, Serial, Fence(4)),
+            (1, 1, Serial, Load(5, 0x100, 1)),
+        ],
+        &[0, 1, 3, 5],
+    ),
+];
+
+/// Whether the memory order of a trace is of these indexes, and is met.
+fn is_ordered(alloc: Global, trace: &Trace, indexes: &[usize]) -> bool {
+    let Ok(order) = memory_order(alloc, trace) else {
+        return false;
+    };
+    order.0.as_slice() == indexes && check_order(alloc, trace, &order) == Ok(true)
+}
+
+#[test]
+fn memory_operations_are_ordered(rt: HostRuntime) -> Result<(), Fail> {
+    for (name, rows, indexes) in &ORDERED {
+        let trace = trace_of(rt.alloc(), rows).ok_or("a trace")?;
+        let ordered = is_ordered(rt.alloc(), &trace, indexes);
+        drop(trace);
+        assert!(rt; ordered, "{name}");
+    }
+    Ok(())
+}
+
+const FIRST: Row = (1, 0, Parallel, Store(3, 0x100, 1));
+
+const OTHER: Row = (1, 70, Parallel, Store(3, 0x100, 1));
+
+const LATER: Row = (1, 0, Parallel, Load(4, 0x108, 0));
+
+const ODD: Row = (1, 1, Parallel, Load(4, 0x104, 0));
+
+const FAR: Row = (1, 1, Parallel, Load(4, 0x1_0000_0000, 0));
+
+/// Events, and whether they make a trace.
+static FORMED: [(&[Row], bool); 5] = [
+    (&[FIRST, OTHER, LATER], true),
+    (&[LATER, OTHER, FIRST], false),
+    (&[OTHER, FIRST, OTHER], false),
+    (&[FIRST, ODD], false),
+    (&[FIRST, FAR], false),
+];
+
+#[test]
+fn a_trace_takes_rising_places_and_right_forms(rt: HostRuntime) {
+    for (number, (rows, formed)) in FORMED.iter().enumerate() {
+        assert!(rt; trace_of(rt.alloc(), rows).is_some() == *formed, "{number}");
+    }
+}
 
 pub(crate) fn event(round: u32, hart: u8, phase: Phase, access: Access) -> Event
     ensures { result.access ≡ access }
@@ -32,137 +119,21 @@ pub(crate) fn event(round: u32, hart: u8, phase: Phase, access: Access) -> Event
     }
 }
 
-pub(crate) fn store(place: u64, address: u64, written: u64) -> Access {
-    Access::Store {
-        width: W8,
-        place,
-        address,
-        written,
-    }
-}
-
-pub(crate) fn load(place: u64, address: u64, read: u64) -> Access {
-    Access::Load {
-        width: W8,
-        place,
-        address,
-        read,
-    }
-}
-
-pub(crate) fn full_fence(place: u64) -> Access {
-    Access::Fence {
-        before: BOTH,
-        after: BOTH,
-        mode: FenceMode::Normal,
-        place,
-    }
-}
-
-// Whether the memory order of these events is of these indexes.
-fn is_ordered(alloc: Global, events: &[Event], indexes: &[usize]) -> bool {
-    let Ok(events) = Vec::from_slice(alloc, events) else {
-        return false;
-    };
-    let Some(trace) = Trace::of(Vec::new(alloc), events) else {
-        return false;
-    };
-    match memory_order(alloc, &trace) {
-        Ok(Order(order)) => order.as_slice() == indexes,
-        Err(_) => false,
-    }
-}
-
-#[test]
-fn two_harts_store_and_load_the_other_ones_place(rt: HostRuntime) {
-    let events = [
-        event(1, 0, Phase::Parallel, store(3, 0x100, 1)),
-        event(1, 0, Phase::Parallel, load(4, 0x108, 0)),
-        event(1, 1, Phase::Parallel, store(3, 0x108, 1)),
-        event(1, 1, Phase::Parallel, load(4, 0x100, 0)),
-    ];
-    assert!(rt; is_ordered(rt.alloc(), &events, &[1, 3, 0, 2]));
-}
-
-#[test]
-fn two_harts_load_what_they_stored(rt: HostRuntime) {
-    let events = [
-        event(1, 0, Phase::Parallel, store(1, 0x100, 5)),
-        event(1, 0, Phase::Parallel, load(2, 0x100, 5)),
-        event(1, 1, Phase::Parallel, store(1, 0x100, 6)),
-        event(1, 1, Phase::Parallel, load(2, 0x100, 6)),
-    ];
-    assert!(rt; is_ordered(rt.alloc(), &events, &[1, 3, 0, 2]));
-}
-
-#[test]
-fn an_sc_that_failed_is_not_in_the_order(rt: HostRuntime) {
-    let reserve = Access::LoadReserved {
-        width: W8,
-        ordering: PLAIN,
-        place: 2,
-        address: 0x100,
-        read: 0,
-    };
-    let conditional = Access::StoreConditional {
-        width: W8,
-        ordering: PLAIN,
-        place: 3,
-        address: 0x100,
-        written: None,
-    };
-    let events = [
-        event(1, 0, Phase::Serial, reserve),
-        event(2, 1, Phase::Parallel, store(2, 0x100, 0x100)),
-        event(2, 0, Phase::Serial, conditional),
-    ];
-    assert!(rt; is_ordered(rt.alloc(), &events, &[0, 1]));
-}
-
-#[test]
-fn serial_loads_come_after_the_stores_of_their_round(rt: HostRuntime) {
-    let events = [
-        event(1, 0, Phase::Parallel, store(3, 0x100, 1)),
-        event(1, 1, Phase::Parallel, store(3, 0x108, 1)),
-        event(1, 0, Phase::Serial, full_fence(4)),
-        event(1, 0, Phase::Serial, load(5, 0x108, 1)),
-        event(1, 1, Phase::Serial, full_fence(4)),
-        event(1, 1, Phase::Serial, load(5, 0x100, 1)),
-    ];
-    assert!(rt; is_ordered(rt.alloc(), &events, &[0, 1, 3, 5]));
-}
-
-#[test]
-fn a_trace_takes_rising_places_and_right_forms(rt: HostRuntime) {
-    let alloc = rt.alloc();
-    let first = event(1, 0, Phase::Parallel, store(3, 0x100, 1));
-    let other = event(1, 70, Phase::Parallel, store(3, 0x100, 1));
-    let later = event(1, 0, Phase::Parallel, load(4, 0x108, 0));
-    let odd = event(1, 1, Phase::Parallel, load(4, 0x104, 0));
-    let far = event(1, 1, Phase::Parallel, load(4, 1 << 32, 0));
-    assert!(rt; is_trace(alloc, &[first, other, later]));
-    assert!(rt; !is_trace(alloc, &[later, other, first]));
-    assert!(rt; !is_trace(alloc, &[other, first, other]));
-    assert!(rt; !is_trace(alloc, &[first, odd]));
-    assert!(rt; !is_trace(alloc, &[first, far]));
-}
-
-fn is_trace(alloc: Global, events: &[Event]) -> bool {
-    match Vec::from_slice(alloc, events) {
-        Ok(events) => Trace::of(Vec::new(alloc), events).is_some(),
-        Err(_) => false,
-    }
-}
-
-#[test]
-fn a_trace_grows_and_is_copied(rt: HostRuntime) {
-    let alloc = rt.alloc();
+/// The pieces of memory that has 7 and 8 at 0x100.
+fn two_bytes(alloc: Global) -> Option<Vec<Piece>> {
     let piece = Piece {
         start: 0x100,
-        bytes: vec![in alloc; 7, 8].expect(&rt, "memory"),
+        bytes: Vec::from_slice(alloc, &[7, 8]).ok()?,
     };
-    let pieces = vec![in alloc; piece].expect(&rt, "memory");
-    let mut trace = Trace::new(alloc, pieces);
+    let mut pieces = Vec::new(alloc);
+    pieces.push(piece).ok()?;
+    Some(pieces)
+}
+
+/// Whether a fence is no memory operation, and a copy of a trace has it that is put into the trace before, with the bytes beneath.
+fn grows(alloc: Global, trace: &mut Trace) -> Option<bool>
+    requires { trace.old.events ≡ [] }
+{
     let fence = Event {
         access: Access::Fence {
             before: BOTH,
@@ -174,15 +145,21 @@ fn a_trace_grows_and_is_copied(rt: HostRuntime) {
         hart: 0,
         phase: Phase::Serial,
     };
-    trace.reserve(1).expect(&rt, "memory");
+    trace.reserve(1).ok()?;
     trace.push(fence);
-    let copy = trace.copy(alloc).expect(&rt, "memory");
-    assert!(rt; copy.len() == 1 && copy.event(0) == fence);
-    assert!(rt;
-        is_operation(&event(1, 0, Phase::Parallel, store(3, 0x100, 1))) && !is_operation(&fence)
-    );
-    assert!(rt; copy.opening_byte(0x101) == 8);
-    assert!(rt; copy.opening_byte(0x102) == 0);
+    let copy = trace.copy(alloc).ok()?;
+    let has_event = copy.len() == 1 && copy.event(0) == fence && !is_operation(&fence);
+    Some(has_event && copy.opening_byte(0x101) == 8 && copy.opening_byte(0x102) == 0)
+}
+
+#[test]
+fn a_trace_grows_and_is_copied(rt: HostRuntime) -> Result<(), Fail> {
+    let mut trace = Trace::new(rt.alloc(), two_bytes(rt.alloc()).ok_or("memory")?);
+    let grown = grows(rt.alloc(), &mut trace);
+    drop(trace);
+    assert!(rt; grown == Some(true));
+    assert!(rt; is_operation(&load_at(3)));
+    Ok(())
 }
 
 // A load of hart 0 at a place.
@@ -235,23 +212,50 @@ fn has_loads(alloc: Global, trace: &Trace, end: usize) -> bool {
     events.next().is_none()
 }
 
-// The reserves finish parts that end at 5,000, 18,000 and 23,001.
+// Adds loads from 18,001 on to a trace, and two to its copy of 8,000: neither that nor the one of 18,001 shows the other's.
+fn grow_apart(alloc: Global, trace: &mut Trace, early: &mut Trace, late: &Trace) -> bool
+    requires trace { All (λ e. place_of e.access < 18_001) trace.old.events }
+    requires early { All (λ e. place_of e.access < 8_000) early.old.events }
+{
+    add_loads(trace, 18_001, 23_001)
+        && add_loads(trace, 23_001, 25_001)
+        && has_loads(alloc, early, 8_000)
+        && has_loads(alloc, late, 18_001)
+        && has_loads(alloc, trace, 25_001)
+        && add_loads(early, 8_000, 8_002)
+        && has_loads(alloc, early, 8_002)
+        && has_loads(alloc, trace, 25_001)
+}
+
+// The same of a trace of 8,000 loads and its copy.
+fn copied_late(alloc: Global, trace: &mut Trace, early: &mut Trace) -> Option<bool>
+    requires trace { All (λ e. place_of e.access < 8_000) trace.old.events }
+    requires early { All (λ e. place_of e.access < 8_000) early.old.events }
+{
+    if !add_loads(trace, 8_000, 18_000) || !add_loads(trace, 18_000, 18_001) {
+        return Some(false);
+    }
+    let late = trace.copy(alloc).ok()?;
+    Some(grow_apart(alloc, trace, early, &late))
+}
+
+// The same of a trace without events. The reserves finish parts that end at 5,000, 18,000 and 23,001.
+fn copied_twice(alloc: Global, trace: &mut Trace) -> Option<bool>
+    requires { trace.old.events ≡ [] }
+{
+    if !add_loads(trace, 0, 5_000) || !add_loads(trace, 5_000, 8_000) {
+        return Some(false);
+    }
+    match trace.copy(alloc) {
+        Ok(mut early) => copied_late(alloc, trace, &mut early),
+        Err(_) => None,
+    }
+}
+
 #[test]
 fn copies_of_a_long_trace_have_its_events(rt: HostRuntime) {
-    let alloc = rt.alloc();
-    let mut trace = Trace::new(alloc, Vec::new(alloc));
-    assert!(rt; add_loads(&mut trace, 0, 5_000));
-    assert!(rt; add_loads(&mut trace, 5_000, 8_000));
-    let mut early = trace.copy(alloc).expect(&rt, "memory");
-    assert!(rt; add_loads(&mut trace, 8_000, 18_000));
-    assert!(rt; add_loads(&mut trace, 18_000, 18_001));
-    let late = trace.copy(alloc).expect(&rt, "memory");
-    assert!(rt; add_loads(&mut trace, 18_001, 23_001));
-    assert!(rt; add_loads(&mut trace, 23_001, 25_001));
-    assert!(rt; has_loads(alloc, &early, 8_000));
-    assert!(rt; has_loads(alloc, &late, 18_001));
-    assert!(rt; has_loads(alloc, &trace, 25_001));
-    assert!(rt; add_loads(&mut early, 8_000, 8_002));
-    assert!(rt; has_loads(alloc, &early, 8_002));
-    assert!(rt; has_loads(alloc, &trace, 25_001));
+    let mut trace = Trace::new(rt.alloc(), Vec::new(rt.alloc()));
+    let copied = copied_twice(rt.alloc(), &mut trace);
+    drop(trace);
+    assert!(rt; copied == Some(true));
 }
