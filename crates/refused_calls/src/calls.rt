@@ -1,6 +1,5 @@
-//! Calls that are made once more where they were refused memory.
+//! What a call came to, and why it was refused.
 
-use crate::ending::Ending;
 use elf_loader::LoadError;
 use host_io::RunError;
 use pages::OutOfMemory;
@@ -43,40 +42,46 @@ impl Refusal for ReadError {
     }
 }
 
-/// Makes a call that changes nothing but what it answers, and once more where it was refused memory.
-pub(crate) fn tried<T, E, C, W>(call: C, is_whole: W) -> Ending
-where
-    T: Drop,
-    E: Refusal + Drop,
-    C: Fn() -> Result<T, E> + Drop,
-    W: Fn(&T) -> bool + Drop,
-    requires call { C.IsAlwaysCallable call }
-    requires whole { W.IsAlwaysCallable is_whole }
-{
-    match call() {
-        Ok(outcome) => Ending::first(is_whole(&outcome)),
-        Err(error) if error.is_of_memory() => match call() {
-            Ok(outcome) => Ending::second(is_whole(&outcome)),
-            Err(_) => Ending::Wrong,
-        },
-        Err(_) => Ending::Other,
-    }
+/// What one call came to.
+#[derive(Clone, Copy)]
+pub(crate) enum Outcome {
+    /// Its whole outcome.
+    Whole,
+    /// Another outcome.
+    Wrong,
+    /// It was refused memory, and all stands as it has to.
+    Refused,
+    /// What it needs was refused memory before it.
+    RefusedBefore,
+    /// There was another refusal than of memory.
+    Other,
 }
 
-/// Makes a call that takes what it is made on, and once more where it was refused memory: so there are two of that. The call
-/// answers whether its outcome is the whole one.
-pub(crate) fn tried_on<P, M, C>(make: M, call: C) -> Result<Ending, RunError>
-where
-    P: Drop,
-    M: Fn() -> Result<P, RunError> + Drop,
-    C: Fn(P) -> Result<bool, RunError> + Drop,
-    requires make { M.IsAlwaysCallable make }
-    requires call { C.IsAlwaysCallable call }
-{
-    let (first, second) = (make()?, make()?);
-    Ok(match call(first) {
-        Ok(is_whole) => Ending::first(is_whole),
-        Err(error) if !error.is_of_memory() => Ending::Other,
-        Err(_) => Ending::second(call(second) == Ok(true)),
-    })
+impl Outcome {
+    /// Of a call that wasn't refused.
+    pub(crate) fn of(is_whole: bool) -> Outcome {
+        if is_whole {
+            Outcome::Whole
+        } else {
+            Outcome::Wrong
+        }
+    }
+
+    /// Of a call that was refused so.
+    pub(crate) fn refused<E: Refusal>(error: &E) -> Outcome {
+        if error.is_of_memory() {
+            Outcome::Refused
+        } else {
+            Outcome::Other
+        }
+    }
+
+    /// Of a call before which this was refused.
+    pub(crate) fn before<E: Refusal>(error: &E) -> Outcome {
+        if error.is_of_memory() {
+            Outcome::RefusedBefore
+        } else {
+            Outcome::Other
+        }
+    }
 }

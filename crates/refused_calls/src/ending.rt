@@ -1,9 +1,9 @@
-use crate::calls::Refusal;
+use crate::calls::Outcome;
 use host_io::RunError;
 use std::fmt::{self, Display};
 
 /// What a trial came to.
-#[derive(Clone, Copy, Debug, PartialEq, Eq)]
+#[derive(Clone, Copy, PartialEq, Eq)]
 pub(crate) enum Ending {
     /// The call wasn't refused, and its outcome is the whole one.
     Done,
@@ -20,31 +20,27 @@ pub(crate) enum Ending {
 }
 
 impl Ending {
-    /// Of a trial in which the first call had an outcome.
-    pub(crate) fn first(is_whole: bool) -> Ending {
-        if is_whole {
-            Ending::Done
-        } else {
-            Ending::Wrong
+    /// Of a trial of one call that came to this, and wasn't refused memory.
+    pub(crate) fn first(outcome: Outcome) -> Ending {
+        match outcome {
+            Outcome::Whole => Ending::Done,
+            Outcome::Wrong | Outcome::Refused => Ending::Wrong,
+            Outcome::RefusedBefore => Ending::RefusedBefore,
+            Outcome::Other => Ending::Other,
         }
     }
 
-    /// Of a trial in which the first call was refused memory, by whether the second had the whole outcome.
-    pub(crate) fn second(is_whole: bool) -> Ending {
-        if is_whole {
-            Ending::RefusedThenDone
-        } else {
-            Ending::Wrong
+    /// Of a trial in which the first call was refused memory, by what the second came to.
+    pub(crate) fn second(outcome: Outcome) -> Ending {
+        match outcome {
+            Outcome::Whole => Ending::RefusedThenDone,
+            _ => Ending::Wrong,
         }
     }
 
     /// Of a trial in which this was refused before the call.
     pub(crate) fn before(error: RunError) -> Ending {
-        if error.is_of_memory() {
-            Ending::RefusedBefore
-        } else {
-            Ending::Other
-        }
+        Ending::first(Outcome::before(&error))
     }
 
     /// Of a trial of several calls, of which this is the next. The first that didn't end well is told.

@@ -1,11 +1,6 @@
 //! The guest of the trials: each of two harts stores to the doubleword that the other loads behind a fence.
 
-use crate::ending::Ending;
-use host_io::RunError;
-use machine::{Format, Machine, Settings, Trace, prepare};
-use std::alloc::Global;
-use std::sync::Wait;
-use std::thread::Threads;
+use machine::{Format, Settings};
 
 /// SLLI x5,x10,3; XORI x6,x5,8; ADDI x7,x0,1; SD x7,256(x5); FENCE RW,RW; LD x28,256(x6).
 pub(crate) static GUEST: [u8; 24] = [
@@ -41,7 +36,7 @@ pub(crate) const REPORT: &str = "rounds 2\n\
     end\n";
 
 /// Two rounds of two harts.
-pub(crate) const SETTINGS: Settings<'static> = Settings {
+pub(crate) static SETTINGS: Settings<'static> = Settings {
     format: Format::Flat,
     harts: 2,
     pages: 1,
@@ -50,43 +45,3 @@ pub(crate) const SETTINGS: Settings<'static> = Settings {
     budget: 1,
     plan: b"6\n",
 };
-
-/// The machine before the first round.
-pub(crate) fn opened(alloc: Global) -> Result<Machine, RunError> {
-    prepare(alloc, &GUEST, &[], &SETTINGS)
-}
-
-/// Makes a trial on the machine before the first round, or says what was refused before the call.
-pub(crate) fn on_opened<T>(alloc: Global, trial: T) -> Result<Ending, RunError>
-where
-    T: FnOnce(&mut Machine) -> Result<Ending, RunError> + Drop,
-    requires { T.IsAlwaysCallable trial }
-{
-    let mut machine = opened(alloc)?;
-    trial(&mut machine)
-}
-
-/// Makes a trial on the machine after both rounds.
-pub(crate) fn on_ended<R, T>(rt: &R, alloc: Global, trial: T) -> Result<Ending, RunError>
-where
-    R: Threads + Wait + Sync,
-    T: FnOnce(&mut Machine) -> Ending + Drop,
-    requires { T.IsAlwaysCallable trial }
-{
-    on_opened(alloc, |machine| {
-        machine.run(rt, 2, 1)?;
-        Ok(trial(machine))
-    })
-}
-
-/// Makes a trial on the trace of both rounds, or says what was refused before the call.
-pub(crate) fn on_trace<R, T>(rt: &R, alloc: Global, trial: T) -> Result<Ending, RunError>
-where
-    R: Threads + Wait + Sync,
-    T: FnOnce(&Trace) -> Result<Ending, RunError> + Drop,
-    requires { T.IsAlwaysCallable trial }
-{
-    let mut machine = opened(alloc)?;
-    machine.run(rt, 2, 1)?;
-    trial(&machine.into_trace())
-}

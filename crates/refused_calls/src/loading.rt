@@ -1,7 +1,6 @@
 //! Images and plans, read from their files, and the files themselves.
 
-use crate::calls::tried;
-use crate::ending::Ending;
+use crate::calls::Outcome;
 use crate::guest::GUEST;
 use elf_loader::{Image, load_elf, load_flat};
 use host_io::{ReadSource, read_all};
@@ -36,31 +35,31 @@ fn is_image(image: &Image, start: u64, code: &[u8], pages: u32) -> bool {
 }
 
 /// The image of an ELF file.
-pub(crate) fn try_elf(alloc: Global) -> Ending {
-    tried(
-        || load_elf(alloc, &PROGRAM, 2),
-        |image| is_image(image, 0x1000, &PROGRAM[120..], 2),
-    )
+pub(crate) fn elf(alloc: Global) -> Outcome {
+    match load_elf(alloc, &PROGRAM, 2) {
+        Ok(image) => Outcome::of(is_image(&image, 0x1000, &PROGRAM[120..], 2)),
+        Err(error) => Outcome::refused(&error),
+    }
 }
 
 /// The image of a flat file.
-pub(crate) fn try_flat(alloc: Global) -> Ending {
-    tried(
-        || load_flat(alloc, &GUEST, 1),
-        |image| is_image(image, 0, &GUEST, 1),
-    )
+pub(crate) fn flat(alloc: Global) -> Outcome {
+    match load_flat(alloc, &GUEST, 1) {
+        Ok(image) => Outcome::of(is_image(&image, 0, &GUEST, 1)),
+        Err(error) => Outcome::refused(&error),
+    }
 }
 
 /// All that a source gives.
-pub(crate) fn try_read_all(alloc: Global) -> Ending {
-    tried(
-        || read_all(alloc, &mut ReadSource::new(GUEST.as_slice())),
-        |bytes| bytes.as_slice() == GUEST.as_slice(),
-    )
+pub(crate) fn source(alloc: Global) -> Outcome {
+    match read_all(alloc, &mut ReadSource::new(GUEST.as_slice())) {
+        Ok(bytes) => Outcome::of(bytes.as_slice() == GUEST.as_slice()),
+        Err(error) => Outcome::refused(&error),
+    }
 }
 
 /// Whether a plan has rows of 3 and 2, and of 3 and 3, and so again.
-pub(crate) fn is_plan(plan: &Plan) -> bool {
+fn is_plan(plan: &Plan) -> bool {
     plan.harts() == 2
         && plan.budget() == 1
         && [(1, 3, 2), (2, 3, 3), (3, 3, 2)].iter().all(|(round, first, second)| {
@@ -68,7 +67,28 @@ pub(crate) fn is_plan(plan: &Plan) -> bool {
         })
 }
 
+/// The text of that plan.
+const PLAN: &[u8] = b"3 2\n3 3\n";
+
 /// The plan of a text.
-pub(crate) fn try_plan(alloc: Global) -> Ending {
-    tried(|| Plan::parse(alloc, b"3 2\n3 3\n", 2), is_plan)
+pub(crate) fn plan(alloc: Global) -> Outcome {
+    match Plan::parse(alloc, PLAN, 2) {
+        Ok(plan) => Outcome::of(is_plan(&plan)),
+        Err(error) => Outcome::refused(&error),
+    }
+}
+
+/// The copy of a plan, which stays as it is.
+pub(crate) fn plan_copy(alloc: Global) -> Outcome {
+    match Plan::parse(alloc, PLAN, 2) {
+        Ok(plan) => copy_of(alloc, &plan),
+        Err(error) => Outcome::before(&error),
+    }
+}
+
+fn copy_of(alloc: Global, plan: &Plan) -> Outcome {
+    match plan.copy(alloc) {
+        Ok(copy) => Outcome::of(is_plan(plan) && is_plan(&copy)),
+        Err(error) => Outcome::refused(&error),
+    }
 }

@@ -1,19 +1,17 @@
 //! Rounds in which there is work for several threads.
 
-use crate::calls::Refusal;
+use crate::calls::Outcome;
 use crate::ending::Ending;
 use hart_step::Hart;
-use host_io::RunError;
-use machine::{Format, Machine, Settings, prepare};
-use std::alloc::Global;
+use machine::{Format, Machine, Settings};
 use std::sync::Wait;
 use std::thread::Threads;
 
 /// ADDI x5,x5,1; JAL x0,-4.
-static LOOP: [u8; 8] = [0x93, 0x82, 0x12, 0x00, 0x6F, 0xF0, 0xDF, 0xFF];
+pub(crate) static LOOP: [u8; 8] = [0x93, 0x82, 0x12, 0x00, 0x6F, 0xF0, 0xDF, 0xFF];
 
 /// Two rounds of four harts, each of which goes round 25,000 times in a round.
-const SETTINGS: Settings<'static> = Settings {
+pub(crate) static LOOPING: Settings<'static> = Settings {
     format: Format::Flat,
     harts: 4,
     pages: 1,
@@ -24,28 +22,21 @@ const SETTINGS: Settings<'static> = Settings {
 };
 
 /// Does both rounds by one call. A refused one leaves fewer rounds done, and the next call does those that are left.
-pub(crate) fn try_loops<R: Threads + Wait + Sync>(
-    rt: &R,
-    alloc: Global,
-) -> Result<Ending, RunError> {
-    let mut machine = prepare(alloc, &LOOP, &[], &SETTINGS)?;
-    Ok(loop_twice(rt, &mut machine))
-}
-
-/// The same with this machine.
-fn loop_twice<R: Threads + Wait + Sync>(rt: &R, machine: &mut Machine) -> Ending {
-    match machine.run(rt, 2, 4) {
-        Ok(()) => Ending::first(has_looped(machine, 2)),
-        Err(error) if !error.is_of_memory() => Ending::Other,
-        Err(_) if has_looped(machine, 0) => Ending::second(loops(rt, machine, 2)),
-        Err(_) if has_looped(machine, 1) => Ending::second(loops(rt, machine, 1)),
-        Err(_) => Ending::Changed,
+pub(crate) fn loop_twice<R: Threads + Wait + Sync>(rt: &R, machine: &mut Machine) -> Ending {
+    match loops(rt, machine, 2) {
+        Outcome::Refused if has_looped(machine, 0) => Ending::second(loops(rt, machine, 2)),
+        Outcome::Refused if has_looped(machine, 1) => Ending::second(loops(rt, machine, 1)),
+        Outcome::Refused => Ending::Changed,
+        outcome => Ending::first(outcome),
     }
 }
 
-/// Whether so many rounds lead to the end of the second.
-fn loops<R: Threads + Wait + Sync>(rt: &R, machine: &mut Machine, rounds: u32) -> bool {
-    machine.run(rt, rounds, 4) == Ok(()) && has_looped(machine, 2)
+/// Does so many rounds, which lead to the end of the second.
+fn loops<R: Threads + Wait + Sync>(rt: &R, machine: &mut Machine, rounds: u32) -> Outcome {
+    match machine.run(rt, rounds, 4) {
+        Ok(()) => Outcome::of(has_looped(machine, 2)),
+        Err(error) => Outcome::refused(&error),
+    }
 }
 
 /// Whether the harts of a machine are where so many rounds leave them, and nothing was accessed or put out.

@@ -4,13 +4,14 @@
 #![tactic(auto)]
 
 mod calls;
-mod copies;
+mod consoles;
 mod ending;
 mod guest;
 mod loading;
+mod lone;
 mod loops;
+mod machines;
 mod memory;
-mod orders;
 mod past;
 mod recordings;
 mod rounds;
@@ -18,6 +19,7 @@ mod runs;
 mod stage;
 mod steps;
 mod texts;
+mod traces;
 mod trial;
 
 use ending::Ending;
@@ -26,7 +28,7 @@ use std::process::ExitCode;
 use std::sync::Wait;
 use std::thread::Threads;
 use std::{env, io};
-use trial::Trial;
+use trial::{TRIALS, Trial};
 
 fn main(rt: HostRuntime) -> ExitCode {
     match start(&rt, &rt) {
@@ -53,7 +55,7 @@ fn tell(rt: &HostRuntime, ending: Ending) -> io::Result<bool> {
 }
 
 /// What the program is asked to do.
-#[derive(Clone, Copy, Debug, PartialEq, Eq)]
+#[derive(Clone, Copy)]
 enum Asked {
     /// Each trial in turn.
     All,
@@ -86,8 +88,8 @@ fn asked_in(word: &str) -> Asked {
 /// Makes each trial, prints what it came to, and answers whether all ended well.
 fn try_all<R: Threads + Wait + Sync>(rt: &HostRuntime, threads: &R) -> io::Result<bool> {
     let mut are_well = true;
-    for trial in Trial::ALL {
-        let (name, ending) = (trial.name(), trial.ending(threads, rt.alloc()));
+    for (name, trial) in &TRIALS {
+        let ending = trial.ending(threads, rt.alloc());
         println!(rt; "{name}: {ending}")?;
         are_well = are_well && ending.is_well();
     }

@@ -3,6 +3,7 @@
 ghost use Rattle.std.specs.Prelude.{◌≡◌, ◌%◌, ◌<◌};
 ghost use Rattle.pages.specs.Memory.{width_bytes};
 
+use crate::calls::Outcome;
 use crate::ending::Ending;
 use host_io::RunError;
 use pages::{OutOfMemory, Pages, Piece, Range, Store, Width};
@@ -25,13 +26,19 @@ pub(crate) fn try_put(alloc: Global) -> Ending {
 fn put_one(buffer: &mut StoreBuffer, number: u64) -> Ending
     requires { number < 40 }
 {
+    match put(buffer, number) {
+        Outcome::Refused if !has_put(buffer, number) => Ending::Changed,
+        Outcome::Refused => Ending::second(put(buffer, number)),
+        outcome => Ending::first(outcome),
+    }
+}
+
+fn put(buffer: &mut StoreBuffer, number: u64) -> Outcome
+    requires { number < 40 }
+{
     match buffer.put(byte(number)) {
-        Ok(()) => Ending::first(has_put(buffer, number + 1)),
-        Err(OutOfMemory) if !has_put(buffer, number) => Ending::Changed,
-        Err(OutOfMemory) => {
-            let answer = buffer.put(byte(number));
-            Ending::second(answer == Ok(()) && has_put(buffer, number + 1))
-        }
+        Ok(()) => Outcome::of(has_put(buffer, number + 1)),
+        Err(error) => Outcome::refused(&error),
     }
 }
 
@@ -73,23 +80,89 @@ fn pages(alloc: Global) -> Result<Pages, OutOfMemory> {
     Pages::new(alloc, 4, &pieces, &code)
 }
 
-/// Makes a trial on these pages.
-pub(crate) fn on_pages<T>(alloc: Global, trial: T) -> Result<Ending, RunError>
-where
-    T: FnOnce(&mut Pages) -> Ending + Drop,
-    requires { T.IsAlwaysCallable trial }
-{
+/// A call on these pages.
+#[derive(Clone, Copy)]
+pub(crate) enum OfPages {
+    /// Makes one more page ready, and a spare.
+    Prepare,
+    Copy,
+    /// A copy that shares the pages.
+    Share,
+}
+
+/// Makes the call, or says what was refused before it.
+pub(crate) fn try_pages(alloc: Global, call: OfPages) -> Result<Ending, RunError> {
     let mut pages = pages(alloc)?;
-    Ok(trial(&mut pages))
+    Ok(call.tried(alloc, &mut pages))
+}
+
+impl OfPages {
+    /// Makes the call, and once more where it was refused memory and the pages stand as they have to.
+    fn tried(self, alloc: Global, pages: &mut Pages) -> Ending {
+        if !is_opened(pages) || pages.count() != 4 {
+            return Ending::Wrong;
+        }
+        match self.made(alloc, pages) {
+            Outcome::Refused if !self.stands(pages) => Ending::Changed,
+            Outcome::Refused => Ending::second(self.made(alloc, pages)),
+            outcome => Ending::first(outcome),
+        }
+    }
+
+    /// Whether pages are as a refused call has to leave them: no byte is changed, and where they aren't to be shared, the page that
+    /// was ready stays ready.
+    fn stands(self, pages: &Pages) -> bool {
+        match self {
+            OfPages::Share => has_bytes(pages),
+            OfPages::Prepare | OfPages::Copy => is_opened(pages),
+        }
+    }
+
+    fn made(self, alloc: Global, pages: &mut Pages) -> Outcome {
+        match self {
+            OfPages::Prepare => prepare(alloc, pages),
+            OfPages::Copy => copy(alloc, pages),
+            OfPages::Share => share(alloc, pages),
+        }
+    }
+}
+
+fn prepare(alloc: Global, pages: &mut Pages) -> Outcome {
+    if pages.count() != 4 {
+        return Outcome::Wrong;
+    }
+    match pages.prepare(alloc, &[2], 1) {
+        Ok(()) => Outcome::of(is_prepared(pages)),
+        Err(error) => Outcome::refused(&error),
+    }
+}
+
+fn copy(alloc: Global, pages: &Pages) -> Outcome {
+    match pages.copy(alloc) {
+        Ok(copy) => Outcome::of(is_opened(pages) && is_opened(&copy)),
+        Err(error) => Outcome::refused(&error),
+    }
+}
+
+fn share(alloc: Global, pages: &mut Pages) -> Outcome {
+    match pages.share(alloc) {
+        Ok(copy) => Outcome::of(are_shared(pages, &copy)),
+        Err(error) => Outcome::refused(&error),
+    }
+}
+
+/// Whether both have the bytes of the trial, and neither the page in which one of them lies for its own.
+fn are_shared(pages: &Pages, copy: &Pages) -> bool {
+    has_bytes(pages) && has_bytes(copy) && !pages.ready(1) && !copy.ready(1)
 }
 
 /// Whether pages have that byte and no other, and page 1 is ready.
-pub(crate) fn is_opened(pages: &Pages) -> bool {
+fn is_opened(pages: &Pages) -> bool {
     pages.ready(1) && has_bytes(pages)
 }
 
 /// Whether pages have that byte and no other.
-pub(crate) fn has_bytes(pages: &Pages) -> bool {
+fn has_bytes(pages: &Pages) -> bool {
     pages.count() == 4
         && (0..4).all(|page| match pages.page(page) {
             Some([first, rest @ ..]) => {
@@ -98,26 +171,6 @@ pub(crate) fn has_bytes(pages: &Pages) -> bool {
             Some([]) => false,
             None => true,
         })
-}
-
-/// Makes one more page ready, and a spare. A refused call changes no byte, and the page that was ready stays ready.
-pub(crate) fn try_prepare(alloc: Global) -> Result<Ending, RunError> {
-    on_pages(alloc, |pages| prepare_one(alloc, pages))
-}
-
-/// The same with these pages.
-fn prepare_one(alloc: Global, pages: &mut Pages) -> Ending {
-    if !is_opened(pages) || pages.count() != 4 {
-        return Ending::Wrong;
-    }
-    match pages.prepare(alloc, &[2], 1) {
-        Ok(()) => Ending::first(is_prepared(pages)),
-        Err(OutOfMemory) if !is_opened(pages) => Ending::Changed,
-        Err(OutOfMemory) => {
-            let answer = pages.prepare(alloc, &[2], 1);
-            Ending::second(answer == Ok(()) && is_prepared(pages))
-        }
-    }
 }
 
 /// Whether one more page is ready, and there is a spare for the others.

@@ -1,13 +1,12 @@
-//! Recordings, made, read and replayed.
+//! Recordings, made and read.
 
-use crate::calls::tried;
-use crate::ending::Ending;
+use crate::calls::Outcome;
 use crate::guest::{GUEST, SETTINGS};
 use crate::stage::Stage;
 use hart_step::Hart;
 use host_io::RunError;
 use recording::{Checkpoint, HartSummary, Recording, read_recording};
-use replayer::{Replay, Verdict, record, record_with, replay};
+use replayer::{record, record_with};
 use std::alloc::Global;
 use std::sync::Wait;
 use std::thread::Threads;
@@ -21,37 +20,35 @@ pub(crate) static EXITS: [u8; 125] = [
     0, 0,
 ];
 
-/// The recording of the guest's run, with registers after each round.
-fn recorded<R: Threads + Wait + Sync>(rt: &R, alloc: Global) -> Result<Recording, RunError> {
-    record_with(rt, alloc, &GUEST, &[], &SETTINGS, 1)
+/// The recording of the guest's run, with registers after each round where `every` is 1.
+pub(crate) fn recorded<R: Threads + Wait + Sync>(
+    rt: &R,
+    alloc: Global,
+    every: u32,
+) -> Result<Recording, RunError> {
+    record_with(rt, alloc, &GUEST, &[], &SETTINGS, every)
 }
 
-/// Makes a trial on that recording, or says what was refused before the call.
-pub(crate) fn on_recording<R, T>(rt: &R, alloc: Global, trial: T) -> Result<Ending, RunError>
-where
-    R: Threads + Wait + Sync,
-    T: FnOnce(&Recording) -> Result<Ending, RunError> + Drop,
-    requires { T.IsAlwaysCallable trial }
-{
-    let recording = recorded(rt, alloc)?;
-    trial(&recording)
+/// Records the guest's run without registers.
+pub(crate) fn record_bare<R: Threads + Wait + Sync>(rt: &R, alloc: Global) -> Outcome {
+    is_made(record(rt, alloc, &GUEST, &[], &SETTINGS), 0)
 }
 
-/// Records the guest's run, without registers and with them.
-pub(crate) fn try_record<R: Threads + Wait + Sync>(rt: &R, alloc: Global) -> Ending {
-    let without = tried(
-        || record(rt, alloc, &GUEST, &[], &SETTINGS),
-        |recording| is_recorded(recording, 0),
-    );
-    let with = tried(
-        || recorded(rt, alloc),
-        |recording| is_recorded(recording, 1),
-    );
-    without.and(with)
+/// Records it with them.
+pub(crate) fn record_registers<R: Threads + Wait + Sync>(rt: &R, alloc: Global) -> Outcome {
+    is_made(recorded(rt, alloc, 1), 1)
+}
+
+/// What a call came to that records the guest's run.
+fn is_made(made: Result<Recording, RunError>, every: u32) -> Outcome {
+    match made {
+        Ok(recording) => Outcome::of(is_recorded(&recording, every)),
+        Err(error) => Outcome::refused(&error),
+    }
 }
 
 /// Whether a recording is that of the guest's run, with registers after each round where `every` is 1.
-fn is_recorded(recording: &Recording, every: u32) -> bool {
+pub(crate) fn is_recorded(recording: &Recording, every: u32) -> bool {
     let has_rounds = match recording.checkpoints() {
         [first, second] => {
             is_checkpoint(first, Stage::Fenced, every) && is_checkpoint(second, Stage::Ended, every)
@@ -106,8 +103,11 @@ fn summary_of(hart: &Hart) -> HartSummary {
 }
 
 /// Reads a recording.
-pub(crate) fn try_read(alloc: Global) -> Ending {
-    tried(|| read_recording(alloc, &EXITS), are_exits)
+pub(crate) fn read(alloc: Global) -> Outcome {
+    match read_recording(alloc, &EXITS) {
+        Ok(recording) => Outcome::of(are_exits(&recording)),
+        Err(error) => Outcome::refused(&error),
+    }
 }
 
 /// Whether a recording is that of the harts that exit.
@@ -134,47 +134,4 @@ fn are_exits(recording: &Recording) -> bool {
         && recording.image() == b"\x93\x08\0\0\x73\0\0\0".as_slice()
         && recording.input().is_empty()
         && recording.plan() == b"4\n".as_slice()
-}
-
-/// Runs a recording anew.
-pub(crate) fn try_replay<R: Threads + Wait + Sync>(
-    rt: &R,
-    alloc: Global,
-) -> Result<Ending, RunError> {
-    on_recording(rt, alloc, |recording| {
-        Ok(tried(
-            || replay(rt, alloc, recording, 1),
-            |verdict| *verdict == Verdict::Same && is_recorded(recording, 1),
-        ))
-    })
-}
-
-/// Opens a recording, which keeps the machine after each round.
-pub(crate) fn try_replay_open<R: Threads + Wait + Sync>(
-    rt: &R,
-    alloc: Global,
-) -> Result<Ending, RunError> {
-    on_recording(rt, alloc, |recording| {
-        Ok(tried(
-            || Replay::open(rt, alloc, recording, 1, 1),
-            |replay| is_opened(replay) && is_recorded(recording, 1),
-        ))
-    })
-}
-
-/// Whether a recording was opened with the machine of each round.
-fn is_opened(replay: &Replay) -> bool {
-    replay.verdict() == Verdict::Same
-        && replay.checkpoints() == 3
-        && keeps(replay, 0, Stage::Opening)
-        && keeps(replay, 1, Stage::Fenced)
-        && keeps(replay, 2, Stage::Ended)
-}
-
-/// Whether a machine is kept at this stage.
-fn keeps(replay: &Replay, number: usize, stage: Stage) -> bool {
-    match replay.kept(number) {
-        Some(machine) => stage.is_of(machine),
-        None => false,
-    }
 }

@@ -11,7 +11,7 @@ use rv64_decode::{FenceMode, FenceSet};
 const MEMORY: u64 = 4096;
 
 /// How many rounds of the guest were done.
-#[derive(Clone, Copy, Debug, PartialEq, Eq)]
+#[derive(Clone, Copy, PartialEq, Eq)]
 pub(crate) enum Stage {
     /// None.
     Opening,

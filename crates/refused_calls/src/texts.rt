@@ -1,46 +1,15 @@
 //! Calls that write a text.
 
-use crate::calls::Refusal;
+use crate::calls::{Outcome, Refusal};
 use crate::ending::Ending;
-use crate::guest::{REPORT, on_ended};
+use crate::guest::REPORT;
 use crate::recordings::EXITS;
 use emulation::Report;
 use host_io::{RunError, WriteSink};
 use machine::Machine;
-use recording::{read_recording, write_recording};
+use recording::{Recording, read_recording, write_recording};
 use std::alloc::Global;
 use std::io::{self, Write};
-use std::sync::Wait;
-use std::thread::Threads;
-
-/// A call that writes a text.
-#[derive(Clone, Copy, Debug, PartialEq, Eq)]
-pub(crate) enum Writing {
-    Report,
-    Write,
-}
-
-impl Writing {
-    /// The word that names it.
-    pub(crate) fn name(self) -> &'static str {
-        match self {
-            Writing::Report => "report",
-            Writing::Write => "write",
-        }
-    }
-
-    /// Makes the trial, or says what was refused before the call.
-    pub(crate) fn made<R: Threads + Wait + Sync>(
-        self,
-        rt: &R,
-        alloc: Global,
-    ) -> Result<Ending, RunError> {
-        Ok(match self {
-            Writing::Report => try_report(rt, alloc)?,
-            Writing::Write => try_write(alloc)?,
-        })
-    }
-}
 
 /// How many bytes a page has room for.
 const ROOM: usize = 1024;
@@ -81,43 +50,51 @@ impl Write for Page {
     }
 }
 
-/// Writes a text on a page, and once more on another where that was refused memory: the first has a beginning of it then.
-fn written<C: Fn(&mut Page) -> Result<(), RunError>>(call: &C, wanted: &[u8]) -> Ending
+/// What a call came to that wrote a text on a page, where this one is wanted: refused, it leaves a beginning of it.
+fn outcome_of(answer: Result<(), RunError>, page: &Page, wanted: &[u8]) -> Option<Outcome> {
+    match answer {
+        Ok(()) => Some(Outcome::of(page.text() == wanted)),
+        Err(error) if error.is_of_memory() && !wanted.starts_with(page.text()) => None,
+        Err(error) => Some(Outcome::refused(&error)),
+    }
+}
+
+/// Of two calls that wrote the same text, of which the second is made where the first was refused memory.
+fn ending_of<C: Fn() -> Option<Outcome>>(call: &C) -> Ending
     requires { C.IsAlwaysCallable call.now }
 {
-    let mut page = Page::new();
-    match call(&mut page) {
-        Ok(()) => Ending::first(page.text() == wanted),
-        Err(error) if !error.is_of_memory() => Ending::Other,
-        Err(_) if !wanted.starts_with(page.text()) => Ending::Changed,
-        Err(_) => {
-            let mut second = Page::new();
-            let answer = call(&mut second);
-            Ending::second(answer == Ok(()) && second.text() == wanted)
-        }
+    match call() {
+        None => Ending::Changed,
+        Some(Outcome::Refused) => match call() {
+            Some(outcome) => Ending::second(outcome),
+            None => Ending::Changed,
+        },
+        Some(outcome) => Ending::first(outcome),
     }
 }
 
 /// Writes the report of a machine.
-fn try_report<R: Threads + Wait + Sync>(rt: &R, alloc: Global) -> Result<Ending, RunError> {
-    on_ended(rt, alloc, |machine| report_of(alloc, machine))
+pub(crate) fn report(alloc: Global, machine: &Machine) -> Ending {
+    ending_of(&|| {
+        let mut page = Page::new();
+        let answer = machine.report(alloc, &mut WriteSink::new(&mut page));
+        outcome_of(answer, &page, REPORT.as_bytes())
+    })
 }
 
-/// Writes the report of this machine.
-fn report_of(alloc: Global, machine: &Machine) -> Ending {
-    written(
-        &|page| machine.report(alloc, &mut WriteSink::new(page)),
-        REPORT.as_bytes(),
-    )
-}
-
-/// Writes a recording that was read.
-fn try_write(alloc: Global) -> Result<Ending, RunError> {
+/// Writes a recording that was read, or says what was refused before that.
+pub(crate) fn try_write(alloc: Global) -> Result<Ending, RunError> {
     let Ok(recording) = read_recording(alloc, &EXITS) else {
         return Err(RunError::OutOfMemory);
     };
-    Ok(written(
-        &|page| write_recording(alloc, &recording, &mut WriteSink::new(page)),
-        &EXITS,
-    ))
+    Ok(write_twice(alloc, &recording))
+}
+
+/// Writes this one.
+fn write_twice(alloc: Global, recording: &Recording) -> Ending {
+    ending_of(&|| {
+        let mut page = Page::new();
+        let answer = write_recording(alloc, recording, &mut WriteSink::new(&mut page));
+        outcome_of(answer, &page, &EXITS)
+    })
 }
