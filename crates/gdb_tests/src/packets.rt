@@ -1,7 +1,7 @@
 //! Packets read and written. Sums are worked out by hand; the examples of escapes and of runs are those of gdb's manual, appendix E.1.
 
 use gdb_packets::{Item, Reader, acknowledge, write_packet};
-use host_io::{History, Source, SourceFault, WriteSink};
+use host_io::{History, ReadSource, RunError, Source, SourceFault, WriteSink};
 use std::alloc::Global;
 use std::test::Fail;
 
@@ -62,52 +62,72 @@ fn told<S: Source>(alloc: Global, src: &mut S) -> Result<Vec<u8>, Fail> {
     Ok(text)
 }
 
+/// What is told of a source that gives one byte at a time.
+fn told_slowly(alloc: Global, stream: &[u8]) -> Result<Vec<u8>, Fail> {
+    let mut slow = Slow {
+        rest: stream,
+        given: History::new(),
+        ended: History::new(),
+    };
+    told(alloc, &mut slow)
+}
+
+/// What is told of a source that gives all at once.
+fn told_at_once(alloc: Global, stream: &[u8]) -> Result<Vec<u8>, Fail> {
+    told(alloc, &mut ReadSource::new(stream))
+}
+
+/// Streams, and what they tell.
+static STREAMS: [(&[u8], &[u8]); 16] = [
+    (b"$g#67", b"[g]"),
+    (b"+$m1000,8#92-$?#3f", b"+[m1000,8]-[?]"),
+    (b"$qC#b4$qC#B4", b"[qC][qC]"),
+    (b"$g#68$g#6g$g#67", b"??[g]"),
+    (b"ab\n$g#67\r\n", b"[g]"),
+    (b"\x03$\x03#03\x03", b"![\x03]!"),
+    (b"$#00", b"[]"),
+    (b"$}\x03#80", b"[#]"),
+    (b"$0* #7a", b"[0000]"),
+    (b"$* #4a", b"?"),
+    (b"$0*#5a", b"?"),
+    (b"$a}#de", b"?"),
+    (b"$a$g#ec", b"?"),
+    (b"$g#67$g#6", b"[g]"),
+    (b"$g", b""),
+    (b"", b""),
+];
+
 #[test]
 fn streams_are_told(rt: HostRuntime) -> Result<(), Fail> {
-    let rows: [(&[u8], &[u8]); 16] = [
-        (b"$g#67", b"[g]"),
-        (b"+$m1000,8#92-$?#3f", b"+[m1000,8]-[?]"),
-        (b"$qC#b4$qC#B4", b"[qC][qC]"),
-        (b"$g#68$g#6g$g#67", b"??[g]"),
-        (b"ab\n$g#67\r\n", b"[g]"),
-        (b"\x03$\x03#03\x03", b"![\x03]!"),
-        (b"$#00", b"[]"),
-        (b"$}\x03#80", b"[#]"),
-        (b"$0* #7a", b"[0000]"),
-        (b"$* #4a", b"?"),
-        (b"$0*#5a", b"?"),
-        (b"$a}#de", b"?"),
-        (b"$a$g#ec", b"?"),
-        (b"$g#67$g#6", b"[g]"),
-        (b"$g", b""),
-        (b"", b""),
-    ];
-    for (stream, expected) in rows {
-        let mut slow = Slow {
-            rest: stream,
-            given: History::new(),
-            ended: History::new(),
-        };
-        let text = told(rt.alloc(), &mut slow)?;
-        assert!(rt; text.as_slice() == expected, "{stream:?}");
-        let text = told(rt.alloc(), &mut host_io::ReadSource::new(stream))?;
-        assert!(rt; text.as_slice() == expected, "{stream:?}");
+    for (stream, expected) in &STREAMS {
+        let slowly = told_slowly(rt.alloc(), stream)?;
+        assert!(rt; slowly.as_slice() == *expected, "{stream:?}");
+        let at_once = told_at_once(rt.alloc(), stream)?;
+        assert!(rt; at_once.as_slice() == *expected, "{stream:?}");
     }
     Ok(())
 }
 
+/// Payloads, and the packets that they are written as.
+static PAYLOADS: [(&[u8], &[u8]); 4] = [
+    (b"OK", b"$OK#9a"),
+    (b"", b"$#00"),
+    (b"#$*}", b"$}\x03}\x04}\x0a}\x5d#62"),
+    (b"\x00\xff", b"$\x00\xff#ff"),
+];
+
+/// The packet that a payload is written as.
+fn packet_of(alloc: Global, payload: &[u8]) -> Result<Vec<u8>, RunError> {
+    let mut text = Vec::new(alloc);
+    write_packet(alloc, payload, &mut WriteSink::new(&mut text))?;
+    Ok(text)
+}
+
 #[test]
 fn payloads_are_written(rt: HostRuntime) -> Result<(), Fail> {
-    let rows: [(&[u8], &[u8]); 4] = [
-        (b"OK", b"$OK#9a"),
-        (b"", b"$#00"),
-        (b"#$*}", b"$}\x03}\x04}\x0a}\x5d#62"),
-        (b"\x00\xff", b"$\x00\xff#ff"),
-    ];
-    for (payload, expected) in rows {
-        let mut text = Vec::new(rt.alloc());
-        assert!(rt; write_packet(rt.alloc(), payload, &mut WriteSink::new(&mut text)) == Ok(()));
-        assert!(rt; text.as_slice() == expected, "{payload:?}");
+    for (payload, expected) in &PAYLOADS {
+        let text = packet_of(rt.alloc(), payload)?;
+        assert!(rt; text.as_slice() == *expected, "{payload:?}");
     }
     Ok(())
 }
@@ -139,10 +159,10 @@ fn long_packet(alloc: Global, count: u32, digits: &[u8]) -> Result<Vec<u8>, Fail
 #[test]
 fn packets_end_at_65536_bytes(rt: HostRuntime) -> Result<(), Fail> {
     let most = long_packet(rt.alloc(), 65_536, b"00")?;
-    let text = told(rt.alloc(), &mut host_io::ReadSource::new(most.as_slice()))?;
+    let text = told_at_once(rt.alloc(), &most)?;
     assert_eq!(rt; text.len(), 65_538);
     let more = long_packet(rt.alloc(), 65_537, b"61")?;
-    let text = told(rt.alloc(), &mut host_io::ReadSource::new(more.as_slice()))?;
+    let text = told_at_once(rt.alloc(), &more)?;
     assert!(rt; text.as_slice() == b"?".as_slice());
     Ok(())
 }
