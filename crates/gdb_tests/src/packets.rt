@@ -2,7 +2,7 @@
 
 use gdb_packets::{Item, Reader, acknowledge, write_packet};
 use host_io::{History, ReadSource, RunError, Source, SourceFault, WriteSink};
-use std::alloc::Global;
+use std::alloc::{AllocError, Global};
 use std::test::Fail;
 
 /// A source that gives one byte at a time.
@@ -41,22 +41,48 @@ impl Source for Slow<'_> {
     }
 }
 
-/// All that a stream tells: `+`, `-`, `!` for an interrupt, `?` for a spoilt packet, and a packet's payload in brackets.
+/// Tells a packet: its payload in brackets.
+fn tell_packet(text: &mut Vec<u8>, payload: &[u8]) -> Result<(), AllocError> {
+    text.push(b'[')?;
+    text.extend_from_slice(payload)?;
+    text.push(b']')?;
+    Ok(())
+}
+
+/// Tells an item: `+`, `-`, `!` for an interrupt, `?` for a spoilt packet, or a packet.
+fn tell(text: &mut Vec<u8>, item: &Item) -> Result<(), AllocError> {
+    let byte = match item {
+        Item::Accepted => b'+',
+        Item::Again => b'-',
+        Item::Interrupt => b'!',
+        Item::Spoilt => b'?',
+        Item::Packet(payload) => return tell_packet(text, payload),
+    };
+    text.push(byte)?;
+    Ok(())
+}
+
+/// Tells the next item of a stream, and answers whether there is one.
+fn tell_next<S: Source>(
+    alloc: Global,
+    reader: &mut Reader,
+    src: &mut S,
+    text: &mut Vec<u8>,
+) -> Result<bool, Fail> {
+    let Some(item) = reader.next(alloc, src)? else {
+        return Ok(false);
+    };
+    tell(text, &item)?;
+    Ok(true)
+}
+
+/// All that a stream tells.
 fn told<S: Source>(alloc: Global, src: &mut S) -> Result<Vec<u8>, Fail> {
     let mut reader = Reader::new();
     let mut text = Vec::new(alloc);
     for _ in 0..100 {
-        match reader.next(alloc, src)? {
-            None => break,
-            Some(Item::Accepted) => text.push(b'+')?,
-            Some(Item::Again) => text.push(b'-')?,
-            Some(Item::Interrupt) => text.push(b'!')?,
-            Some(Item::Spoilt) => text.push(b'?')?,
-            Some(Item::Packet(payload)) => {
-                text.push(b'[')?;
-                text.extend_from_slice(payload.as_slice())?;
-                text.push(b']')?;
-            }
+        if !tell_next(alloc, &mut reader, src, &mut text)? {
+            break;
         }
     }
     Ok(text)
@@ -132,18 +158,18 @@ fn payloads_are_written(rt: HostRuntime) -> Result<(), Fail> {
     Ok(())
 }
 
+/// Whether what is to be sent for an item is added to a text.
+fn adds(text: &mut Vec<u8>, item: &Item) -> bool {
+    acknowledge(item, &mut WriteSink::new(text)) == Ok(())
+}
+
 #[test]
-fn packets_are_acknowledged(rt: HostRuntime) -> Result<(), Fail> {
+fn packets_are_acknowledged(rt: HostRuntime) {
     let mut text = Vec::new(rt.alloc());
-    for item in [
-        Item::Packet(Vec::new(rt.alloc())),
-        Item::Accepted,
-        Item::Spoilt,
-    ] {
-        assert!(rt; acknowledge(&item, &mut WriteSink::new(&mut text)) == Ok(()));
-    }
+    assert!(rt; adds(&mut text, &Item::Packet(Vec::new(rt.alloc()))));
+    assert!(rt; adds(&mut text, &Item::Accepted));
+    assert!(rt; adds(&mut text, &Item::Spoilt));
     assert!(rt; text.as_slice() == b"+-".as_slice());
-    Ok(())
 }
 
 /// A packet of so many bytes `a`, of which the sum is 61 (hexadecimal) times as much.
