@@ -20,7 +20,6 @@ pub use execution_views::{
     Before, HartStep, Moment, Sights, bytes_at, moment_of, positions_sought,
 };
 pub use fault::{Fault, Misfit};
-pub use guest_rounds::opening_harts;
 pub use opening::open_execution;
 pub use running::execution_of_run;
 pub use scripted::{ScriptedGuest, execution_of_script};

@@ -14,9 +14,10 @@ ghost use Rattle.weak_hunter.specs.declared.error.WeakHuntError.TheVariants.{Hun
 use crate::findings::Findings;
 use crate::guest::Guest;
 use crate::settings::FenceSettings;
-use execution_scripts::{ExecutionFile, opening_harts};
+use execution_scripts::ExecutionFile;
 use fence_search::{FenceGuest, FenceObserver, Reach, search_fences};
 use fence_table::{FenceTable, write_fences};
+use guest_rounds::opening_harts;
 use host_io::Sink;
 use hunter::{check_hunt, check_ranges};
 use machine::load;
