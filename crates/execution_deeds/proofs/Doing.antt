@@ -112,3 +112,9 @@ said_next ps qs i p q l same at_p at_q e was =
     let lq : i < length (map hart_view qs) = omega (arith, lw, length-map qs hart_view) in
     take_more_same (map hart_view ps) (map hart_view qs) i (hart_view q) lv lq was
     (get_or-map hart_view ps i p (hart_view q) l ∙ ap hart_view (sym at_p) ∙ e ∙ sym (get_or-map hart_view qs i q (hart_view q) lw ∙ ap hart_view (sym at_q)))
+
+pub said_there : (ps qs : List HartHeld) (i : ℕ) (p q : HartHeld) → i < length ps → length ps ≡ length qs → p ≡ get_or ps i p → q ≡ get_or qs i q →
+    map hart_view ps ≡ map hart_view qs → hart_view p ≡ hart_view q
+said_there ps qs i p q l same at_p at_q e =
+    ap hart_view at_p ∙ sym (get_or-map hart_view ps i p (hart_view q) l) ∙ ap (λ (vs : List HartDeeds). get_or vs i (hart_view q)) e
+    ∙ get_or-map hart_view qs i q (hart_view q) (omega (arith, l, same)) ∙ ap hart_view (sym at_q)

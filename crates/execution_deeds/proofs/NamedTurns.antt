@@ -13,7 +13,7 @@ use Rattle.execution_file.specs.Recorded.{Turn}
 use Rattle.execution_file.specs.declared.file.Turn.{Turn as TurnHeld}
 use Rattle.execution_file.specs.Views.{turn_view}
 use Rattle.execution_deeds.specs.declared.naming.Passed.{Passed}
-use Rattle.execution_deeds.specs.Turns.{HasNumber, Names, operations_of}
+use Rattle.execution_deeds.specs.Turns.{AreNames, HasNumber, Names, operations_of}
 
 abbrev pub nothing_passed : Passed
 nothing_passed = record { count = 0; latest = 0 }
@@ -124,3 +124,28 @@ named_more us t g i was now a l op = elim (cases_lt a i) [
       let s : a ≡ i = omega (arith, l, m) in
       subst (NamedAt us t g) (sym s) (now (ap (λ k. is_operation (event t k)) (sym s) ∙ op))
 ]
+
+-- ---- an operation that isn't named
+
+has_match : (o : Option ℕ) (t : List Event) (g : List ℕ) (i count latest rank : ℕ) → HasNumber o t g i → rank ≡ order_position g i →
+    count ≡ operations_of (event t i).hart (take i t) → IsMax (order_position g) (Earlier is_operation t (event t i).hart i) latest → MatchOption o (latest ≤ rank) (λ n. n ≡ count)
+has_match (Some n) t g i count latest rank has at counted most = has ∙ sym counted
+has_match None t g i count latest rank has at counted most = elim most.attained [
+  | inl none ↦ omega (arith, none)
+  | inr last ↦
+      let l = has last.0 last.1.0 last.1.1 last.1.2 in
+      omega (arith, l, last.2, at)
+]
+
+-- the turn at the position of an operation says of it what is so, where turns name the order
+pub turn_says : (us : List TurnHeld) (t : List Event) (g : List ℕ) (i count latest rank : ℕ) (turn : TurnHeld) → rank ≡ order_position g i → rank < length us → turn ≡ get_or us rank turn →
+    is_operation (event t i) ≡ true → count ≡ operations_of (event t i).hart (take i t) → IsMax (order_position g) (Earlier is_operation t (event t i).hart i) latest →
+    AreNames (map turn_view us) t g → (turn.hart ≡ (event t i).hart) × MatchOption turn.number (latest ≤ rank) (λ n. n ≡ count)
+turn_says us t g i count latest rank turn at l is op counted most are =
+    (named.hart, has_match turn.number t g i count latest rank named.number at counted most)
+  where
+    this : turn_view turn ≡ get_or (map turn_view us) (order_position g i) (turn_view turn)
+    this = ap turn_view is ∙ sym (get_or-map turn_view us rank turn (turn_view turn) l) ∙ ap (λ k. get_or (map turn_view us) k (turn_view turn)) at
+
+    named : Names (turn_view turn) t g i
+    named = (are.each i op).1 (turn_view turn) this

@@ -5,4 +5,4 @@ mod naming;
 mod parts;
 
 pub use naming::is_named;
-pub use parts::{are_said, deeds, number_read};
+pub use parts::{are_said, deeds, number_shown};

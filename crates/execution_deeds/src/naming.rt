@@ -1,6 +1,6 @@
 //! Whether turns name the memory operations of an order.
 
-ghost use Rattle.std.specs.Prelude.{◌≡◌, ◌+◌, ◌<◌, ◌≤◌, ◌^◌, IfOk, MatchOption, length, map, max, true};
+ghost use Rattle.std.specs.Prelude.{◌≡◌, ◌↔◌, ◌+◌, ◌<◌, ◌≤◌, ◌^◌, IfOk, MatchOption, length, map, max, true};
 ghost use Rattle.round_schedule.specs.Positions.{event};
 ghost use Rattle.memory_order.specs.Orders.{ListsOperations};
 ghost use Rattle.order_checker.specs.Checking.{IsRanking};
@@ -23,7 +23,7 @@ struct Passed {
     latest: usize,
 }
 
-/// Whether turns name an order of the memory operations. Where it leaves some out, or has one twice, nothing is said.
+/// Whether turns name an order of the memory operations. Where it leaves some out, or has one twice, the answer means nothing.
 ///
 /// # Errors
 ///
@@ -34,8 +34,8 @@ pub fn is_named(
     turns: &[Turn],
     order: &[usize],
 ) -> Result<bool, OutOfMemory>
-    ensures { IfOk result (λ yes. yes ≡ true → ListsOperations events.now order.now →
-        AreNames (map turn_view turns.now) events.now order.now) }
+    ensures { IfOk result (λ yes. ListsOperations events.now order.now →
+        (yes ≡ true ↔ AreNames (map turn_view turns.now) events.now order.now)) }
 {
     if turns.len() != order.len() {
         return Ok(false);
@@ -56,7 +56,7 @@ fn are_names(
 ) -> Result<bool, OutOfMemory>
     requires as_many { length turns.now ≡ length order.now }
     requires ranking { IsRanking events.now order.now ranks.now }
-    ensures { IfOk result (λ yes. yes ≡ true → AreNames (map turn_view turns.now) events.now order.now) }
+    ensures { IfOk result (λ yes. yes ≡ true ↔ AreNames (map turn_view turns.now) events.now order.now) }
 {
     let mut passed = vec![in alloc; Passed {
         count: 0,
@@ -86,8 +86,8 @@ fn hart_at(events: &[Event], i: usize) -> u8
 
 /// Whether a turn names the operation of a hart at a position in the order.
 fn names(turn: &Turn, hart: u8, before: Passed, rank: usize) -> bool
-    ensures hart { result ≡ true → turn.now.hart ≡ hart }
-    ensures number { result ≡ true → MatchOption turn.now.number (before.latest ≤ rank) (λ n. n ≡ before.count) }
+    ensures { result ≡ true ↔ (turn.now.hart ≡ hart) ×
+        MatchOption turn.now.number (before.latest ≤ rank) (λ n. n ≡ before.count) }
 {
     if turn.hart != hart {
         return false;

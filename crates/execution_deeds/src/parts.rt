@@ -1,6 +1,6 @@
 //! What the harts of an execution did, as a file says it.
 
-ghost use Rattle.std.specs.Prelude.{◌≡◌, ℕ, [], IfOk, OnOk, map, true};
+ghost use Rattle.std.specs.Prelude.{◌≡◌, ◌↔◌, ℕ, [], IfOk, OnOk, map, true};
 ghost use Rattle.execution_file.specs.Views.{hart_view};
 ghost use Rattle.execution_deeds.specs.Deeds.{code_of, deeds, number_shown, part_of, value_of, with_event};
 
@@ -11,7 +11,7 @@ use round_schedule::{Access, Event};
 use std::alloc::Global;
 
 /// The number that an access shows of what was read: of an SC 1 where it succeeded, and 0 where it failed.
-pub fn number_read(access: &Access) -> Option<u64>
+pub fn number_shown(access: &Access) -> Option<u64>
     ensures { result ≡ number_shown access.now }
 {
     match *access {
@@ -68,7 +68,7 @@ fn unread_part(alloc: Global, hart: &Hart) -> HartDeeds
 fn add_number(parts: &mut Vec<HartDeeds>, event: &Event) -> Result<(), OutOfMemory>
     ensures { OnOk result (map hart_view parts.new.items ≡ with_event 0 (map hart_view parts.old.items) event.now) }
 {
-    if let Some(number) = number_read(&event.access) {
+    if let Some(number) = number_shown(&event.access) {
         if let Some(part) = parts.get_mut(usize::from(event.hart)) {
             part.reads.push(number)?;
         }
@@ -103,7 +103,7 @@ fn value_of(stop: &Option<Stop>) -> Option<u64>
 
 /// Whether harts did what is said of them.
 pub fn are_said(parts: &[HartDeeds], did: &[HartDeeds]) -> bool
-    ensures { result ≡ true → map hart_view parts.now ≡ map hart_view did.now }
+    ensures { result ≡ true ↔ map hart_view parts.now ≡ map hart_view did.now }
 {
     if parts.len() != did.len() {
         return false;
@@ -118,24 +118,10 @@ pub fn are_said(parts: &[HartDeeds], did: &[HartDeeds]) -> bool
 
 /// Whether a hart did what is said of it.
 fn is_said(part: &HartDeeds, did: &HartDeeds) -> bool
-    ensures { result ≡ true → hart_view part.now ≡ hart_view did.now }
+    ensures { result ≡ true ↔ hart_view part.now ≡ hart_view did.now }
 {
     part.steps == did.steps
         && part.code == did.code
         && part.value == did.value
-        && are_equal(&part.reads, &did.reads)
-}
-
-fn are_equal(a: &[u64], b: &[u64]) -> bool
-    ensures { result ≡ true → a.now ≡ b.now }
-{
-    if a.len() != b.len() {
-        return false;
-    }
-    for i in 0..a.len() {
-        if a[i] != b[i] {
-            return false;
-        }
-    }
-    true
+        && part.reads.as_slice() == did.reads.as_slice()
 }

@@ -7,7 +7,7 @@ use crate::fault::{Fault, Halt, Misfit};
 use crate::opening::open_execution;
 use elf_loader::Image;
 use execution_checker::{Execution, ScriptedStep};
-use execution_deeds::number_read;
+use execution_deeds::number_shown;
 use execution_file::{HartDeeds, Turn};
 use hart_step::Stop;
 use pages::OutOfMemory;
@@ -127,7 +127,7 @@ impl<'a> Follower<'a> {
 
     /// Compares what a step read with what it was to read, and keeps the step.
     fn read(&mut self, step: ScriptedStep, event: &Event) -> Result<(), Halt> {
-        let read = number_read(&event.access);
+        let read = number_shown(&event.access);
         if let Some(read) = read {
             if let Some(misfit) = misfit_of(read, step.number) {
                 return Err(self.fault(step.hart, misfit));

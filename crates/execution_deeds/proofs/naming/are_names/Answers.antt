@@ -1,4 +1,4 @@
-use Rattle.std.proofs.Common.{◌≡◌, ◌∙◌, ◌+◌, ◌<◌, ◌==◌, ℕ, None, ap, arith, get_or, inl, inr, length, map, replicate, rules, subst, sym, take}
+use Rattle.std.proofs.Common.{◌≡◌, ◌∙◌, ◌+◌, ◌<◌, ◌==◌, ℕ, None, ap, arith, get_or, inl, inr, length, map, refl, replicate, rules, subst, sym, take}
 use Rattle.std.proofs.lemmas.Bool.{cases_eq, cond-false, cond-true, eq-eqb, ne_eqb}
 use Rattle.std.proofs.lemmas.List.{get_or_default, length-map, length-replicate}
 use Rattle.round_schedule.specs.Positions.{event}
@@ -12,9 +12,9 @@ use Rattle.execution_file.specs.declared.file.Turn.{Turn as TurnHeld}
 use Rattle.execution_file.specs.Views.{turn_view}
 use Rattle.execution_deeds.specs.declared.naming.Passed.{Passed}
 use Rattle.execution_deeds.specs.Turns.{operations_of}
-use Rattle.execution_deeds.proofs.NamedTurns.{count_below, counted_elsewhere, counted_here, counted_none, latest_elsewhere, latest_here, latest_none, named_here, named_more, nothing_passed}
+use Rattle.execution_deeds.proofs.NamedTurns.{count_below, counted_elsewhere, counted_here, counted_none, latest_elsewhere, latest_here, latest_none, named_here, named_more, nothing_passed, turn_says}
 use Rattle.execution_deeds.proofs.naming.are_names.Goals as goal
-use Rattle.execution_deeds.proofs.naming.are_names.Goals.{then-is_operation_at+else-rank-turns+else-not-names, else-is_operation_at}
+use Rattle.execution_deeds.proofs.naming.are_names.Goals.{then-is_operation_at+else-rank-turns+else-not-names, else-is_operation_at, then-rank-turns-via-then-rank-turns, then-rank-turns-via-else-rank-turns+then-not-names}
 
 pub loop-i-init : goal.loop-i-init
 loop-i-init c =
@@ -83,7 +83,7 @@ loop-i-preserved c = elim c.if-is_operation_at.branch [
             let l : rank < length us = omega (arith, w.if-rank-turns.false) in
             named_here us t g i before.count before.latest rank turn w.position_of-rank.ensures.at l
             (get_or_default us rank (record { hart = 0; number = None }) turn l)
-            (w.names.ensures.hart w.if-not-names.false ∙ w.hart_at-hart.ensures) (w.names.ensures.number w.if-not-names.false) count most);
+            ((w.names.ensures.0 w.if-not-names.false).0 ∙ w.hart_at-hart.ensures) (w.names.ensures.0 w.if-not-names.false).1 count most);
       })
   | else-is_operation_at w ↦
       let t = c.args.events.now in
@@ -99,7 +99,37 @@ loop-i-preserved c = elim c.if-is_operation_at.branch [
 ]
 
 pub returns : goal.returns
-returns c = λ yes. record {
-  as_many = length-map c.args.turns.now turn_view ∙ c.requires.as_many;
-  each = λ a op. c.loop-i.invariant.named a (let l = within c.args.events.now a op in omega (arith, l)) op;
-}
+returns c = (
+  λ yes. record {
+    as_many = length-map c.args.turns.now turn_view ∙ c.requires.as_many;
+    each = λ a op. c.loop-i.invariant.named a (let l = within c.args.events.now a op in omega (arith, l)) op;
+  },
+  λ are. refl,
+)
+
+pub returns-then-rank-turns : goal.returns-then-rank-turns
+returns-then-rank-turns c = (
+  λ yes. cc,
+  λ are. elim c.then-rank-turns.branch [
+    | then-rank-turns-via-then-rank-turns w ↦
+        let l = (are.each c.loop-i.i (sym c.is_operation_at.ensures ∙ c.if-is_operation_at.true)).0 in
+        absurd (omega (arith, l, length-map c.args.turns.now turn_view, c.position_of-rank.ensures.at, w.if-rank-turns.true))
+    | then-rank-turns-via-else-rank-turns+then-not-names w ↦
+        let t = c.args.events.now in
+        let g = c.args.order.now in
+        let us = c.args.turns.now in
+        let i = c.loop-i.i in
+        let hart = (event t i).hart in
+        let rank = c.position_of-rank.result in
+        let l : rank < length us = omega (arith, w.if-rank-turns.false) in
+        let turn : TurnHeld = get_or us rank (record { hart = 0; number = None }) in
+        let known : c.of_hart-before.result ≡ get_or c.loop-i.passed.items hart nothing_passed =
+        c.of_hart-before.ensures nothing_passed ∙ ap (λ k. get_or c.loop-i.passed.items k nothing_passed) c.hart_at-hart.ensures in
+        let said =
+        turn_says us t g i c.of_hart-before.result.count c.of_hart-before.result.latest rank turn c.position_of-rank.ensures.at l
+        (get_or_default us rank (record { hart = 0; number = None }) turn l) (sym c.is_operation_at.ensures ∙ c.if-is_operation_at.true)
+        (ap (λ (p : Passed). p.count) known ∙ c.loop-i.invariant.counts hart)
+        (subst (IsMax (order_position g) (Earlier is_operation t hart i)) (sym (ap (λ (p : Passed). p.latest) known)) (c.loop-i.invariant.latest hart)) are in
+        sym w.if-not-names.true ∙ w.names.ensures.1 (said.0 ∙ sym c.hart_at-hart.ensures, said.1)
+  ],
+)
