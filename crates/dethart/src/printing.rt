@@ -1,4 +1,6 @@
 //! What the commands print to standard output, and the exit status that goes with it.
+//!
+//! Each command stays a function of the program: if all are laid into the one that calls them, LLVM takes longer for it than for them.
 
 use crate::failure::Failure;
 use crate::run::progress_of;
@@ -77,6 +79,7 @@ where
 }
 
 /// Runs the guest program, and prints what is asked for of the run.
+#[inline(never)]
 fn put_run<R: Threads + Wait + Sync>(
     rt: &HostRuntime,
     threads: &R,
@@ -96,6 +99,7 @@ fn put_run<R: Threads + Wait + Sync>(
 }
 
 /// Runs the guest program, and prints the order of its memory operations.
+#[inline(never)]
 fn put_order<R: Threads + Wait + Sync>(
     rt: &HostRuntime,
     threads: &R,
@@ -114,6 +118,7 @@ fn put_order<R: Threads + Wait + Sync>(
 }
 
 /// Replays the recording of a file, and prints what came of it, or the hart that is asked for.
+#[inline(never)]
 fn put_replay<R: Threads + Wait + Sync>(
     rt: &HostRuntime,
     threads: &R,
@@ -132,6 +137,7 @@ fn put_replay<R: Threads + Wait + Sync>(
 }
 
 /// Runs the recording of a file anew, and prints which accesses hit.
+#[inline(never)]
 fn put_watch<R: Threads + Wait + Sync>(
     rt: &HostRuntime,
     threads: &R,
@@ -151,6 +157,7 @@ fn put_watch<R: Threads + Wait + Sync>(
 }
 
 /// Runs the guest program by many plans, and prints the table of its endings.
+#[inline(never)]
 fn put_hunt<R: Threads + Wait + Sync>(
     rt: &HostRuntime,
     threads: &R,
@@ -171,6 +178,7 @@ fn put_hunt<R: Threads + Wait + Sync>(
 }
 
 /// Looks for missing fences, and prints at which places they are missing.
+#[inline(never)]
 fn put_fences<R: Threads + Wait + Sync>(
     rt: &HostRuntime,
     threads: &R,
@@ -191,6 +199,7 @@ fn put_fences<R: Threads + Wait + Sync>(
 }
 
 /// Prints a smaller plan that leads to the same ending, and on standard error its budget.
+#[inline(never)]
 fn put_shrunk<R: Threads + Wait + Sync>(
     rt: &HostRuntime,
     threads: &R,
@@ -210,6 +219,7 @@ fn put_shrunk<R: Threads + Wait + Sync>(
 }
 
 /// Prints the table of all plans of the tables in some files.
+#[inline(never)]
 fn put_merged(
     rt: &HostRuntime,
     asked: &Merge<'_>,
@@ -219,6 +229,7 @@ fn put_merged(
 }
 
 /// Prints a plan of the family, and on standard error its budget, which a plan's text has no place for.
+#[inline(never)]
 fn put_plan(
     rt: &HostRuntime,
     asked: &Plan,
@@ -228,6 +239,7 @@ fn put_plan(
 }
 
 /// Runs the guest program, and prints a picture of the run, or prints that of an execution.
+#[inline(never)]
 fn put_drawing<R: Threads + Wait + Sync>(
     rt: &HostRuntime,
     threads: &R,
@@ -246,6 +258,7 @@ fn put_drawing<R: Threads + Wait + Sync>(
 }
 
 /// Runs the guest program, and prints its trace for viewers of traces.
+#[inline(never)]
 fn put_trace<R: Threads + Wait + Sync>(
     rt: &HostRuntime,
     threads: &R,
@@ -264,6 +277,7 @@ fn put_trace<R: Threads + Wait + Sync>(
 }
 
 /// Prints an execution of the guest program.
+#[inline(never)]
 fn put_execution<R: Threads + Wait + Sync>(
     rt: &HostRuntime,
     threads: &R,
@@ -283,6 +297,7 @@ fn put_execution<R: Threads + Wait + Sync>(
 }
 
 /// Checks the execution of a file, and prints whether RVWMO allows it.
+#[inline(never)]
 fn put_check(
     rt: &HostRuntime,
     asked: &Check<'_>,
