@@ -10,12 +10,25 @@ use std::alloc::Global;
 use std::marker::Model;
 
 /// A guest program, ready to be laid into guest memory.
-#[derive(Drop)]
 pub struct Image {
     pub(crate) pieces: Vec<Piece>,
     pub(crate) code: Vec<Range>,
     pub(crate) entry: u64,
     pub(crate) pages: u32,
+}
+
+// By hand, so that a proof has one step for it wherever one is dropped, in this crate and above.
+impl Drop for Image {
+    fn drop(self) {
+        let Image {
+            pieces,
+            code,
+            entry: _,
+            pages: _,
+        } = self;
+        drop(pieces);
+        drop(code);
+    }
 }
 
 impl Model for Image {
@@ -55,7 +68,13 @@ impl Image {
         ensures within { All (λ (p : PieceOf). p.start + length p.bytes.items ≤
             4096 * self.pages) result.items }
     {
-        let Image { pieces, .. } = self;
+        let Image {
+            pieces,
+            code,
+            entry: _,
+            pages: _,
+        } = self;
+        drop(code);
         pieces
     }
 

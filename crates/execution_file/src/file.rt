@@ -9,7 +9,6 @@ pub struct Turn {
 }
 
 /// What a hart does.
-#[derive(Drop)]
 pub struct HartDeeds {
     /// How many instructions it does.
     pub steps: u64,
@@ -21,10 +20,22 @@ pub struct HartDeeds {
     pub reads: Vec<u64>,
 }
 
+// By hand, so that a proof has one step for it wherever one is dropped, in this crate and above.
+impl Drop for HartDeeds {
+    fn drop(self) {
+        let HartDeeds {
+            steps: _,
+            code: _,
+            value: _,
+            reads,
+        } = self;
+        drop(reads);
+    }
+}
+
 /// An execution of a guest program: what its harts do, what they read, and an order of their memory operations.
 ///
 /// Each value has one text, and nothing is said of whether there is such an execution.
-#[derive(Drop)]
 pub struct ExecutionFile {
     /// Whether the image is a flat file; else it is an ELF file.
     pub flat: bool,
@@ -40,4 +51,24 @@ pub struct ExecutionFile {
     pub calls: Vec<Turn>,
     /// The harts in an order of their memory operations.
     pub order: Vec<Turn>,
+}
+
+// By hand, so that a proof has one step for it wherever one is dropped, in this crate and above.
+impl Drop for ExecutionFile {
+    fn drop(self) {
+        let ExecutionFile {
+            flat: _,
+            pages: _,
+            image,
+            input,
+            harts,
+            calls,
+            order,
+        } = self;
+        drop(image);
+        drop(input);
+        drop(harts);
+        drop(calls);
+        drop(order);
+    }
 }

@@ -4,7 +4,6 @@ use memory_order::Order;
 use trace::Trace;
 
 /// An execution that RVWMO allows, and what a debugger is told of it.
-#[derive(Drop)]
 pub struct Past {
     /// The execution, at its end.
     pub execution: Execution,
@@ -18,4 +17,22 @@ pub struct Past {
     pub harts: u8,
     /// How many bytes memory has.
     pub size: u32,
+}
+
+// By hand, so that a proof has one step for it wherever one is dropped, in this crate and above.
+impl Drop for Past {
+    fn drop(self) {
+        let Past {
+            execution,
+            course,
+            order,
+            opening,
+            harts: _,
+            size: _,
+        } = self;
+        drop(execution);
+        drop(course);
+        drop(order);
+        drop(opening);
+    }
 }

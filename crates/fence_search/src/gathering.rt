@@ -8,7 +8,6 @@ use std::alloc::Global;
 use std::mem;
 
 /// A gap at which a fence is missing: it would forbid some executions that fail.
-#[derive(Drop)]
 pub struct Weakness {
     /// The address of the instruction before it.
     pub earlier: u64,
@@ -23,6 +22,21 @@ pub struct Weakness {
     pub shown: Found,
     /// The operation that the fence would have kept in it.
     pub moved: Move,
+}
+
+// By hand, so that a proof has one step for it wherever one is dropped, in this crate and above.
+impl Drop for Weakness {
+    fn drop(self) {
+        let Weakness {
+            earlier: _,
+            later: _,
+            fence: _,
+            numbers: _,
+            shown,
+            moved: _,
+        } = self;
+        drop(shown);
+    }
 }
 
 /// Where a fence may stand.

@@ -16,7 +16,6 @@ use std::thread::Threads;
 use timelines::Timeline;
 
 /// A recorded run that a debugger looks at.
-#[derive(Drop)]
 pub struct Debugged {
     /// The run.
     pub timeline: Timeline,
@@ -30,6 +29,23 @@ pub struct Debugged {
     pub image: Vec<u8>,
     /// Whether a debugger is handed the image.
     pub hands_image: bool,
+}
+
+// By hand, so that a proof has one step for it wherever one is dropped, in this crate and above.
+impl Drop for Debugged {
+    fn drop(self) {
+        let Debugged {
+            timeline,
+            harts: _,
+            workers: _,
+            start,
+            image,
+            hands_image: _,
+        } = self;
+        drop(timeline);
+        drop(start);
+        drop(image);
+    }
 }
 
 impl Debugged {

@@ -1,5 +1,5 @@
 ghost use Rattle.std.specs.Prelude.{◌≡◌, ◌≤◌, length, IfOk};
-ghost use Rattle.guest_rounds.specs.Guests.{opening_guest};
+ghost use Rattle.guest_rounds.specs.Guests.{opening_guest, shared_of};
 ghost use Rattle.hart_step.specs.DecodedCode.{Shows};
 
 use crate::opening::opening_harts;
@@ -15,11 +15,24 @@ use std::alloc::Global;
 use std::marker::Model;
 
 /// A guest between two rounds: its harts, and what they share. A round changes this, and nothing else.
-#[derive(Drop)]
 pub struct GuestState {
     pub(crate) harts: Vec<Hart>,
     pub(crate) spare: SpareLists,
     pub(crate) shared: SharedState,
+}
+
+// By hand, so that a proof has one step for it wherever one is dropped, in this crate and above.
+impl Drop for GuestState {
+    fn drop(self) {
+        let GuestState {
+            harts,
+            spare,
+            shared,
+        } = self;
+        drop(harts);
+        drop(spare);
+        drop(shared);
+    }
 }
 
 impl Model for GuestState {
@@ -91,6 +104,21 @@ impl GuestState {
         &self.shared.reservations
     }
 
+    /// What the harts share alone. The harts are dropped.
+    pub(crate) fn into_shared(self) -> SharedState
+        ensures shared { shared_of result ≡ self.shared }
+        ensures size { length result.reservations ≡ length self.harts }
+    {
+        let GuestState {
+            harts,
+            spare,
+            shared,
+        } = self;
+        drop(harts);
+        drop(spare);
+        shared
+    }
+
     /// There is one reservation's place for each hart.
     pub fn sizes_agree(&self)
         ensures { length self.now.shared.reservations ≡ length self.now.harts }
@@ -123,24 +151,19 @@ impl GuestState {
         ensures { IfOk result (λ g. g ≡ self.now) }
     {
         let alloc = pages.allocator();
-        match self.copied_beside(&pages) {
-            Ok((harts, console, code)) => Ok(GuestState {
-                harts,
-                spare: SpareLists::new(alloc),
-                shared: SharedState {
-                    pages,
-                    code,
-                    reservations: self.shared.reservations.copy(),
-                    console,
-                    // No turn is under way between two rounds.
-                    log: SerialLog::new(alloc),
-                },
-            }),
-            Err(refused) => {
-                drop(pages);
-                Err(refused)
-            }
-        }
+        let (harts, console, code) = self.copied_beside(&pages)?;
+        Ok(GuestState {
+            harts,
+            spare: SpareLists::new(alloc),
+            shared: SharedState {
+                pages,
+                code,
+                reservations: self.shared.reservations.copy(),
+                console,
+                // No turn is under way between two rounds.
+                log: SerialLog::new(alloc),
+            },
+        })
     }
 
     /// Equal harts and an equal console, and the decoded words of equal pages.

@@ -37,7 +37,7 @@ impl GuestState {
     {
         let ends = self.do_parallel(crew, plan, done)?;
         Ok(HalfRound {
-            shared: self.shared,
+            shared: self.into_shared(),
             ends,
         })
     }

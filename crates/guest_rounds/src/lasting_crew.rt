@@ -77,19 +77,14 @@ fn stand_in(alloc: Global, harts: usize, form: LogForm) -> Result<BorrowedStart,
 {
     let quotas = Vec::from_elem(alloc, 0, harts)?;
     let pages = Pages::new(alloc, 1, &[], &[])?;
-    match DecodedCode::new(alloc, &pages, 0, 0) {
-        Ok(code) => Ok(BorrowedStart {
-            pages,
-            code,
-            harts: Vec::new(alloc),
-            quotas,
-            form,
-        }),
-        Err(refused) => {
-            drop(pages);
-            Err(refused)
-        }
-    }
+    let code = DecodedCode::new(alloc, &pages, 0, 0)?;
+    Ok(BorrowedStart {
+        pages,
+        code,
+        harts: Vec::new(alloc),
+        quotas,
+        form,
+    })
 }
 
 /// Has what is borrowed change places with what stands in a guest.

@@ -71,13 +71,8 @@ fn parallel_from<B: BookStart + Send + Sync, G: Gate + Sync, R: Threads + Wait +
         return parallel_alone(crew.gate, start, ends, &mut spare.accesses);
     }
     ends.clear();
-    match ends.reserve(start.harts().len()) {
-        Ok(()) => gather_ends::<B, G, R>(crew, start, ends),
-        Err(refused) => {
-            drop(ends);
-            Err(OutOfMemory::from(refused))
-        }
-    }
+    ends.reserve(start.harts().len())?;
+    gather_ends::<B, G, R>(crew, start, ends)
 }
 
 /// Does the rounds of all harts on the calling thread, in hart order, each in the place of what an earlier round of the hart left.
@@ -93,13 +88,8 @@ fn parallel_alone<G: Gate>(
     ensures { IfOk result (λ os.
         AreEndsOf start.now.logs start.now.memory (rounds_of start.now) os.items) }
 {
-    match fill_places(gate, start, &mut ends, accesses) {
-        Ok(()) => Ok(ends),
-        Err(refused) => {
-            drop(ends);
-            Err(refused)
-        }
-    }
+    fill_places(gate, start, &mut ends, accesses)?;
+    Ok(ends)
 }
 
 /// Sees that there is a place for each hart, and does the rounds there.
@@ -168,13 +158,7 @@ fn gather_ends<B: BookStart + Send + Sync, G: Gate + Sync, R: Threads + Wait + S
     ensures { IfOk result (λ os.
         AreEndsOf start.now.logs start.now.memory (rounds_of start.now) os.items) }
 {
-    let mut gathered = match gather::<B, G, R>(crew.rt, start, crew.workers, crew.gate) {
-        Ok(gathered) => gathered,
-        Err(refused) => {
-            drop(ends);
-            return Err(refused);
-        }
-    };
+    let mut gathered = gather::<B, G, R>(crew.rt, start, crew.workers, crew.gate)?;
     for number in 0..start.harts().len() {
         // The history is complete.
         let Some(round) = gathered.take(number as u32) else {

@@ -116,17 +116,9 @@ impl GuestState {
             &mut self.harts,
             phase,
             tally,
-        );
-        match counts {
-            Ok(counts) => {
-                self.spare.ends = ends;
-                Ok(counts)
-            }
-            Err(refused) => {
-                drop(ends);
-                Err(refused)
-            }
-        }
+        )?;
+        self.spare.ends = ends;
+        Ok(counts)
     }
 }
 

@@ -87,6 +87,6 @@ fn shorter_part(shared: SharedState, hart: Hart, quota: u32) -> Result<Sight, Ou
     ensures { IfOk result (λ s. last_of (part_sights (words_of shared.pages.memory.code) quota
         (sight_of hart shared.pages.memory)) ≡ Some s) }
 {
-    let SharedState { pages, code, .. } = shared;
+    let (pages, code) = shared.into_memory();
     Sight::after_part(pages, &code, hart, quota)
 }

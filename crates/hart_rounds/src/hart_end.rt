@@ -8,7 +8,6 @@ use store_buffer::StoreBuffer;
 use trace::Log;
 
 /// What the round of one hart left.
-#[derive(Drop)]
 pub struct HartEnd {
     /// The hart after its round.
     pub hart: Hart,
@@ -20,6 +19,21 @@ pub struct HartEnd {
     pub accesses: u64,
     /// Whether its next instruction is for the serial phase.
     pub waits: bool,
+}
+
+// By hand, so that a proof has one step for it wherever one is dropped, in this crate and above.
+impl Drop for HartEnd {
+    fn drop(self) {
+        let HartEnd {
+            hart: _,
+            buffer,
+            log,
+            accesses: _,
+            waits: _,
+        } = self;
+        drop(buffer);
+        drop(log);
+    }
 }
 
 impl HartEnd {

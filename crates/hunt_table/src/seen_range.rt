@@ -3,7 +3,6 @@ ghost use Rattle.std.specs.Prelude.{◌≡◌, ◌↔◌, ◌<◌, IsTrue};
 use crate::range_name::{RangeName, are_same_names};
 
 /// Bytes of memory that are looked at when a run ends.
-#[derive(Drop)]
 pub struct SeenRange {
     /// The address of the first byte.
     pub address: u32,
@@ -11,6 +10,18 @@ pub struct SeenRange {
     pub length: u32,
     /// The object that they are, where it was asked for by its name.
     pub name: Option<RangeName>,
+}
+
+// By hand, so that a proof has one step for it wherever one is dropped, in this crate and above.
+impl Drop for SeenRange {
+    fn drop(self) {
+        let SeenRange {
+            address: _,
+            length: _,
+            name,
+        } = self;
+        drop(name);
+    }
 }
 
 impl SeenRange {

@@ -6,7 +6,6 @@ use pages::Pages;
 
 /// What the parallel phase of a round borrows of a guest: its owner hands it over and gets it back.
 // docs/decisions/threads.md
-#[derive(Drop)]
 pub struct BorrowedStart {
     /// Guest memory.
     pub pages: Pages,
@@ -20,4 +19,21 @@ pub struct BorrowedStart {
     pub quotas: Vec<u32>,
     /// What becomes of the harts' accesses.
     pub form: LogForm,
+}
+
+// By hand, so that a proof has one step for it wherever one is dropped, in this crate and above.
+impl Drop for BorrowedStart {
+    fn drop(self) {
+        let BorrowedStart {
+            pages,
+            code,
+            harts,
+            quotas,
+            form: _,
+        } = self;
+        drop(pages);
+        drop(code);
+        drop(harts);
+        drop(quotas);
+    }
 }

@@ -20,13 +20,8 @@ impl Machine {
         ensures refused { IfErr result (λ e. e ≡ refusals.OutOfMemory) }
     {
         let trace = self.trace.copy(self.bare.allocator())?;
-        match self.bare.copy() {
-            Ok(bare) => Ok(Machine { bare, trace }),
-            Err(refused) => {
-                drop(trace);
-                Err(refused)
-            }
-        }
+        let bare = self.bare.copy()?;
+        Ok(Machine { bare, trace })
     }
 
     /// A machine that is equal to this one and shares its pages: each of the two gets its own of a page when it writes there.
@@ -43,13 +38,8 @@ impl Machine {
         ensures refused { IfErr result (λ e. e ≡ refusals.OutOfMemory) }
     {
         let trace = self.trace.copy(self.bare.allocator())?;
-        match self.bare.share() {
-            Ok(bare) => Ok(Machine { bare, trace }),
-            Err(refused) => {
-                drop(trace);
-                Err(refused)
-            }
-        }
+        let bare = self.bare.share()?;
+        Ok(Machine { bare, trace })
     }
 
     /// The machine of the same run without its trace.
@@ -104,18 +94,13 @@ impl UntracedMachine {
         ensures same { IfOk result (λ u. u ≡ self.now) }
         ensures refused { IfErr result (λ e. e ≡ refusals.OutOfMemory) }
     {
-        match self.plan.copy(guest.pages().allocator()) {
-            Ok(plan) => Ok(UntracedMachine {
-                guest,
-                plan,
-                rounds: self.rounds,
-                events: self.events,
-                work: self.work,
-            }),
-            Err(refused) => {
-                drop(guest);
-                Err(RunError::from(refused))
-            }
-        }
+        let plan = self.plan.copy(guest.pages().allocator())?;
+        Ok(UntracedMachine {
+            guest,
+            plan,
+            rounds: self.rounds,
+            events: self.events,
+            work: self.work,
+        })
     }
 }

@@ -17,10 +17,18 @@ use std::marker::Model;
 use trace::Trace;
 
 /// A guest program between two rounds, and the trace of its run.
-#[derive(Drop)]
 pub struct Machine {
     pub(crate) bare: UntracedMachine,
     pub(crate) trace: Trace,
+}
+
+// By hand, so that a proof has one step for it wherever one is dropped, in this crate and above.
+impl Drop for Machine {
+    fn drop(self) {
+        let Machine { bare, trace } = self;
+        drop(bare);
+        drop(trace);
+    }
 }
 
 impl Model for Machine {
@@ -46,17 +54,10 @@ impl Machine {
     {
         // It tells how many bytes the pieces fill.
         let _pieces = image.pieces();
-        match UntracedMachine::open(alloc, &image, input, plan) {
-            Ok(bare) => {
-                bare.bytes_fit();
-                let trace = Trace::new(alloc, image.into_pieces());
-                Ok(Machine { bare, trace })
-            }
-            Err(refused) => {
-                drop(image);
-                Err(refused)
-            }
-        }
+        let bare = UntracedMachine::open(alloc, &image, input, plan)?;
+        bare.bytes_fit();
+        let trace = Trace::new(alloc, image.into_pieces());
+        Ok(Machine { bare, trace })
     }
 
     /// The harts, in hart order. One that has stopped did so with a code of 1 to 10, and with a value in the exit call alone.

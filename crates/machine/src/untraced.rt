@@ -20,7 +20,6 @@ use std::marker::Model;
 /// A guest program between two rounds that keeps no trace, but the number of events that the trace would have. Its memory
 /// grows with the guest, and never with the run.
 // docs/decisions/untraced-and-pictures.md
-#[derive(Drop)]
 pub struct UntracedMachine {
     pub(crate) guest: GuestState,
     pub(crate) plan: Plan,
@@ -28,6 +27,21 @@ pub struct UntracedMachine {
     pub(crate) events: u64,
     /// About how much the next round has to do.
     pub(crate) work: RoundWork,
+}
+
+// By hand, so that a proof has one step for it wherever one is dropped, in this crate and above.
+impl Drop for UntracedMachine {
+    fn drop(self) {
+        let UntracedMachine {
+            guest,
+            plan,
+            rounds: _,
+            events: _,
+            work: _,
+        } = self;
+        drop(guest);
+        drop(plan);
+    }
 }
 
 impl Model for UntracedMachine {
@@ -86,19 +100,14 @@ impl UntracedMachine {
         ensures machine { IfOk result (λ u. IsUntraced (opening image.now input.items plan) u) }
         ensures refused { IfErr result (λ e. e ≡ refusals.OutOfMemory) }
     {
-        match GuestState::open(alloc, image, input, plan.harts()) {
-            Ok(guest) => Ok(UntracedMachine {
-                guest,
-                plan,
-                rounds: 0,
-                events: 0,
-                work: RoundWork::unknown(),
-            }),
-            Err(refused) => {
-                drop(plan);
-                Err(RunError::from(refused))
-            }
-        }
+        let guest = GuestState::open(alloc, image, input, plan.harts())?;
+        Ok(UntracedMachine {
+            guest,
+            plan,
+            rounds: 0,
+            events: 0,
+            work: RoundWork::unknown(),
+        })
     }
 
     /// The harts, in hart order. One that has stopped did so with a code of 1 to 10, and with a value in the exit call alone.
@@ -185,7 +194,8 @@ impl UntracedMachine {
             guest,
             plan,
             rounds,
-            ..
+            events: _,
+            work: _,
         } = self;
         MachineFields {
             guest,

@@ -22,7 +22,6 @@ pub const MOST_PAGES: u32 = 16_384;
 
 /// Guest memory from address 0 on, in pages of 4096 bytes. A page takes memory once it is ready, and copies may share it.
 // docs/decisions/storage.md
-#[derive(Drop)]
 pub struct Pages {
     parts: Vec<Part>,
     spares: Vec<Spare>,
@@ -31,6 +30,23 @@ pub struct Pages {
     code: Vec<Range>,
     code_start: u64,
     code_end: u64,
+}
+
+// By hand, so that a proof has one step for it wherever one is dropped, in this crate and above.
+impl Drop for Pages {
+    fn drop(self) {
+        let Pages {
+            parts,
+            spares,
+            unready: _,
+            code,
+            code_start: _,
+            code_end: _,
+        } = self;
+        drop(parts);
+        drop(spares);
+        drop(code);
+    }
 }
 
 impl Model for Pages {

@@ -18,7 +18,6 @@ pub struct HartSummary {
 }
 
 /// What a recording keeps of the state after a round.
-#[derive(Drop)]
 pub struct Summary {
     /// How many bytes of output there are.
     pub output: u64,
@@ -28,13 +27,33 @@ pub struct Summary {
     pub harts: Vec<HartSummary>,
 }
 
+// By hand, so that a proof has one step for it wherever one is dropped, in this crate and above.
+impl Drop for Summary {
+    fn drop(self) {
+        let Summary {
+            output: _,
+            trace: _,
+            harts,
+        } = self;
+        drop(harts);
+    }
+}
+
 /// What a recording keeps of a round.
-#[derive(Drop)]
 pub struct Checkpoint {
     /// The summary of the state after it.
     pub summary: Summary,
     /// Where they are due, registers x1 to x31 of each hart.
     pub registers: Option<Vec<Vec<u64>>>,
+}
+
+// By hand, so that a proof has one step for it wherever one is dropped, in this crate and above.
+impl Drop for Checkpoint {
+    fn drop(self) {
+        let Checkpoint { summary, registers } = self;
+        drop(summary);
+        drop(registers);
+    }
 }
 
 /// The fields of a recording, whatever their values.
@@ -67,9 +86,16 @@ pub struct RecordingFields {
 /// A recording of a run: what the run was asked for, and what a recording has of the state after each round.
 ///
 /// Each of its fields is in its range, so that it has a text.
-#[derive(Drop)]
 pub struct Recording {
     fields: RecordingFields,
+}
+
+// By hand, so that a proof has one step for it wherever one is dropped, in this crate and above.
+impl Drop for Recording {
+    fn drop(self) {
+        let Recording { fields } = self;
+        drop(fields);
+    }
 }
 
 impl Model for Recording {

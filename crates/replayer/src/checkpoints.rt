@@ -26,7 +26,6 @@ use std::sync::Wait;
 use std::thread::Threads;
 
 /// An opened recording: whether its run is the recorded one, and machines of that run, kept to go on from.
-#[derive(Drop)]
 pub struct Replay {
     rounds: u32,
     every: u32,
@@ -35,6 +34,21 @@ pub struct Replay {
     start: Machine,
     /// The machines after the rounds that are multiples of `every`, in turn.
     later: Vec<Machine>,
+}
+
+// By hand, so that a proof has one step for it wherever one is dropped, in this crate and above.
+impl Drop for Replay {
+    fn drop(self) {
+        let Replay {
+            rounds: _,
+            every: _,
+            verdict: _,
+            start,
+            later,
+        } = self;
+        drop(start);
+        drop(later);
+    }
 }
 
 impl Model for Replay {

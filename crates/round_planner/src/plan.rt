@@ -25,11 +25,22 @@ const MOST_ROWS: usize = 256;
 ///
 /// A plan has one or more rows, which the rounds take in turn, the first after the last. A row is one quota for all
 /// harts, or a quota for each.
-#[derive(Drop)]
 pub struct Plan {
     harts: u32,
     rows: Vec<Vec<u32>>,
     budget: u32,
+}
+
+// By hand, so that a proof has one step for it wherever one is dropped, in this crate and above.
+impl Drop for Plan {
+    fn drop(self) {
+        let Plan {
+            harts: _,
+            rows,
+            budget: _,
+        } = self;
+        drop(rows);
+    }
 }
 
 impl Model for Plan {

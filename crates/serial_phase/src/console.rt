@@ -10,7 +10,6 @@ use std::marker::Model;
 pub(crate) const OUTPUT_ROOM: usize = 1_048_576;
 
 /// The input and the output of a run.
-#[derive(Drop)]
 pub struct Console {
     /// All input bytes.
     pub input: Vec<u8>,
@@ -18,6 +17,19 @@ pub struct Console {
     pub place: usize,
     /// The output so far.
     pub output: Vec<u8>,
+}
+
+// By hand, so that a proof has one step for it wherever one is dropped, in this crate and above.
+impl Drop for Console {
+    fn drop(self) {
+        let Console {
+            input,
+            place: _,
+            output,
+        } = self;
+        drop(input);
+        drop(output);
+    }
 }
 
 impl Model for Console {

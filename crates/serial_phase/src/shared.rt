@@ -1,3 +1,4 @@
+ghost use Rattle.std.specs.Prelude.{◌≡◌};
 ghost use Rattle.hart_step.specs.DecodedCode.{Shows};
 
 use crate::console::Console;
@@ -7,7 +8,6 @@ use pages::Pages;
 use reservations::Reservations;
 
 /// What the harts share in the serial phase of a round.
-#[derive(Drop)]
 pub struct SharedState {
     /// Guest memory.
     pub pages: Pages,
@@ -21,6 +21,45 @@ pub struct SharedState {
     pub console: Console,
     /// The accesses of the turns of this round.
     pub log: SerialLog,
+}
+
+// By hand, so that a proof has one step for it wherever one is dropped, in this crate and above.
+impl Drop for SharedState {
+    fn drop(self) {
+        let SharedState {
+            pages,
+            code,
+            reservations,
+            console,
+            log,
+        } = self;
+        drop(pages);
+        drop(code);
+        drop(reservations);
+        drop(console);
+        drop(log);
+    }
+}
+
+impl SharedState {
+    /// Memory and its decoded words alone. The others are dropped.
+    pub fn into_memory(self) -> (Pages, DecodedCode)
+        ensures pages { result.0 ≡ self.pages }
+        ensures code { result.1 ≡ self.code }
+        ensures shows { Shows result.0.memory result.1.first result.1.instructions }
+    {
+        let SharedState {
+            pages,
+            code,
+            reservations,
+            console,
+            log,
+        } = self;
+        drop(reservations);
+        drop(console);
+        drop(log);
+        (pages, code)
+    }
 }
 
 /// Which round it is, who waits, and how much each turn may do.

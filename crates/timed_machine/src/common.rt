@@ -5,7 +5,6 @@ use pages::OutOfMemory;
 use serial_memory::Memory;
 
 /// What the harts have in common.
-#[derive(Drop)]
 pub(crate) struct Common {
     pub(crate) memory: Memory,
     pub(crate) history: History,
@@ -25,6 +24,29 @@ pub(crate) struct Common {
     pub(crate) held: u32,
     /// What was done, where it is wanted.
     pub(crate) record: Option<Record>,
+}
+
+// By hand, so that a proof has one step for it wherever one is dropped, in this crate and above.
+impl Drop for Common {
+    fn drop(self) {
+        let Common {
+            memory,
+            history,
+            draws: _,
+            listed,
+            promise: _,
+            fences,
+            operations: _,
+            steps: _,
+            held: _,
+            record,
+        } = self;
+        drop(memory);
+        drop(history);
+        drop(listed);
+        drop(fences);
+        drop(record);
+    }
 }
 
 impl Common {

@@ -29,7 +29,6 @@ pub struct Bounds {
 /// sequentially consistent. With departures a load may read memory as it was at an earlier time, and a plain store may stay with
 /// its hart for a while, where the times of registers, fences, acquires, releases and accesses say that the rules of RVWMO on
 /// preserved program order leave room for that.
-#[derive(Drop)]
 pub struct TimedMachine {
     harts: Vec<TimedHart>,
     common: Common,
@@ -37,6 +36,20 @@ pub struct TimedMachine {
     round: u32,
     /// Whether a hart has stopped otherwise than by exit 0, where that ends the execution.
     has_failed: bool,
+}
+
+// By hand, so that a proof has one step for it wherever one is dropped, in this crate and above.
+impl Drop for TimedMachine {
+    fn drop(self) {
+        let TimedMachine {
+            harts,
+            common,
+            round: _,
+            has_failed: _,
+        } = self;
+        drop(harts);
+        drop(common);
+    }
 }
 
 impl TimedMachine {

@@ -30,7 +30,6 @@ const MOST_MACHINES: u32 = 128;
 const MOST_PAGES: u32 = 65_536;
 
 /// A run of so many rounds, which can be looked at at each of its points.
-#[derive(Drop)]
 pub struct Timeline {
     /// The machine before the first round.
     start: UntracedMachine,
@@ -42,6 +41,24 @@ pub struct Timeline {
     apart: u32,
     code: Vec<Range>,
     rounds: u32,
+}
+
+// By hand, so that a proof has one step for it wherever one is dropped, in this crate and above.
+impl Drop for Timeline {
+    fn drop(self) {
+        let Timeline {
+            start,
+            here,
+            machines,
+            apart: _,
+            code,
+            rounds: _,
+        } = self;
+        drop(start);
+        drop(here);
+        drop(machines);
+        drop(code);
+    }
 }
 
 impl Model for Timeline {

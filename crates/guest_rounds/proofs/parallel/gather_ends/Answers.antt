@@ -11,7 +11,7 @@ use Rattle.guest_rounds.proofs.parallel.gather_ends.Goals as goal
 
 pub loop-number-init : goal.loop-number-init
 loop-number-init g c = record {
-  left = λ h least most. has_from_times _ h (c.in-Ok.ensures.complete h most);
+  left = λ h least most. has_from_times _ h (c.in_ok-gathered.ensures.complete h most);
   count = search rules;
   room = search rules;
   rounds = subst (λ (os : List HartEnd). AreEndsOf c.args.start.now.logs c.args.start.now.memory [] os) (sym c.requires.empty) tt;

@@ -18,11 +18,11 @@ use Rattle.guest_rounds.proofs.RoundDone.{finished_done, waited_is}
 use Rattle.guest_rounds.proofs.TraceHolds.{low_quotas}
 use Rattle.guest_rounds.proofs.guest.GuestState.do_round.Goals as goal
 
-pub finish-counts-requires-clause-workers : goal.finish-counts-requires-clause-workers
-finish-counts-requires-clause-workers g c = λ lifetimes within. c.requires.workers
+pub finish-requires-clause-workers : goal.finish-requires-clause-workers
+finish-requires-clause-workers g c = λ lifetimes within. c.requires.workers
 
-pub finish-counts-requires-clause-rounds : goal.finish-counts-requires-clause-rounds
-finish-counts-requires-clause-rounds g c = λ lifetimes within.
+pub finish-requires-clause-rounds : goal.finish-requires-clause-rounds
+finish-requires-clause-rounds g c = λ lifetimes within.
     let i = c.self.inside in
     let m = i.shared.pages.memory in
     let qs = quotas_of c.args.plan.now c.args.done in
@@ -42,27 +42,27 @@ finish-counts-requires-clause-rounds g c = λ lifetimes within.
       ),
     )
 
-pub finish-counts-requires-clause-few : goal.finish-counts-requires-clause-few
-finish-counts-requires-clause-few g c = λ lifetimes within.
+pub finish-requires-clause-few : goal.finish-requires-clause-few
+finish-requires-clause-few g c = λ lifetimes within.
     let i = c.self.inside in
     let many = many_here g.E.EventKeeper.logs c.args.plan.now c.args.done i.harts.items i.shared _ c.args.ends.items c.self.view_is c.requires.ends in
     omega (arith, many, ap length c.deref_mut.ensures.value, c.requires.harts, ap (λ (x : Guest). length x.harts) c.self.view_is, c.harts-harts.ensures.harts, c.harts-harts.ensures.few_harts)
 
-pub finish-counts-requires-clause-fits : goal.finish-counts-requires-clause-fits
-finish-counts-requires-clause-fits g c = λ lifetimes within.
+pub finish-requires-clause-fits : goal.finish-requires-clause-fits
+finish-requires-clause-fits g c = λ lifetimes within.
     let i = c.self.inside in
     let m = i.shared.pages.memory in
     let a = here_are g.E.EventKeeper.logs c.args.plan.now c.args.done i.harts.items i.shared _ c.args.ends.items c.self.view_is c.requires.ends in
     subst (λ (x : List HartEnd). AreFit m x) (sym c.deref_mut.ensures.value) (are_fit g.E.EventKeeper.logs m _ c.args.ends.items a)
 
-pub finish-counts-requires-clause-harts : goal.finish-counts-requires-clause-harts
-finish-counts-requires-clause-harts g c = λ lifetimes within.
+pub finish-requires-clause-harts : goal.finish-requires-clause-harts
+finish-requires-clause-harts g c = λ lifetimes within.
     let i = c.self.inside in
     let many = many_here g.E.EventKeeper.logs c.args.plan.now c.args.done i.harts.items i.shared _ c.args.ends.items c.self.view_is c.requires.ends in
     ap length c.deref_mut-2.ensures.value ∙ sym many ∙ sym (ap length c.deref_mut.ensures.value)
 
-pub finish-counts-requires-clause-at_rest : goal.finish-counts-requires-clause-at_rest
-finish-counts-requires-clause-at_rest g c = λ lifetimes within.
+pub finish-requires-clause-at_rest : goal.finish-requires-clause-at_rest
+finish-requires-clause-at_rest g c = λ lifetimes within.
     let i = c.self.inside in
     let m = i.shared.pages.memory in
     let qs = quotas_of c.args.plan.now c.args.done in
@@ -70,28 +70,28 @@ finish-counts-requires-clause-at_rest g c = λ lifetimes within.
     subst (λ (hs : List Hart). AreAtRest hs c.deref_mut.result.now) (sym c.deref_mut-2.ensures.value)
     (subst (λ (os : List HartEnd). AreAtRest i.harts.items os) (sym c.deref_mut.ensures.value) (at_rest g.E.EventKeeper.logs m qs i.harts.items c.args.ends.items a))
 
-pub finish-counts-requires-clause-size : goal.finish-counts-requires-clause-size
-finish-counts-requires-clause-size g c = λ lifetimes within.
+pub finish-requires-clause-size : goal.finish-requires-clause-size
+finish-requires-clause-size g c = λ lifetimes within.
     let i = c.self.inside in
     let many = many_here g.E.EventKeeper.logs c.args.plan.now c.args.done i.harts.items i.shared _ c.args.ends.items c.self.view_is c.requires.ends in
     c.self.invariant.size ∙ sym many ∙ sym (ap length c.deref_mut.ensures.value)
 
-pub finish-counts-requires-clause-waiting : goal.finish-counts-requires-clause-waiting
-finish-counts-requires-clause-waiting g c = λ lifetimes within.
+pub finish-requires-clause-waiting : goal.finish-requires-clause-waiting
+finish-requires-clause-waiting g c = λ lifetimes within.
     c.of-tally.ensures.waiting ∙ ap (λ (os : List HartEnd). mask_of (waits_of os)) (c.deref.ensures.value ∙ sym c.deref_mut.ensures.value)
 
-pub finish-counts-requires-clause-waited : goal.finish-counts-requires-clause-waited
-finish-counts-requires-clause-waited g c = λ lifetimes within.
+pub finish-requires-clause-waited : goal.finish-requires-clause-waited
+finish-requires-clause-waited g c = λ lifetimes within.
     c.of-tally.ensures.waited ∙ ap (λ (os : List HartEnd). count_true (waits_of os)) (c.deref.ensures.value ∙ sym c.deref_mut.ensures.value)
 
-pub finish-counts-requires-clause-counted : goal.finish-counts-requires-clause-counted
-finish-counts-requires-clause-counted g c = λ lifetimes within. c.of-tally.ensures.accesses ∙ ap count_accesses (c.deref.ensures.value ∙ sym c.deref_mut.ensures.value)
+pub finish-requires-clause-counted : goal.finish-requires-clause-counted
+finish-requires-clause-counted g c = λ lifetimes within. c.of-tally.ensures.accesses ∙ ap count_accesses (c.deref.ensures.value ∙ sym c.deref_mut.ensures.value)
 
-pub finish-counts-requires-clause-budget : goal.finish-counts-requires-clause-budget
-finish-counts-requires-clause-budget g c = λ lifetimes within. c.budget.ensures.few_budget
+pub finish-requires-clause-budget : goal.finish-requires-clause-budget
+finish-requires-clause-budget g c = λ lifetimes within. c.budget.ensures.few_budget
 
-pub finish-counts-requires-clause-accesses : goal.finish-counts-requires-clause-accesses
-finish-counts-requires-clause-accesses g c = λ lifetimes within.
+pub finish-requires-clause-accesses : goal.finish-requires-clause-accesses
+finish-requires-clause-accesses g c = λ lifetimes within.
     let i = c.self.inside in
     let m = i.shared.pages.memory in
     let many = many_here g.E.EventKeeper.logs c.args.plan.now c.args.done i.harts.items i.shared _ c.args.ends.items c.self.view_is c.requires.ends in
@@ -99,54 +99,54 @@ finish-counts-requires-clause-accesses g c = λ lifetimes within.
     let few = few_accesses g.E.EventKeeper.logs m (words_of m.code) m.bytes (quotas_of c.args.plan.now c.args.done) i.harts.items c.args.ends.items (low_quotas c.args.plan.now c.harts-harts.ensures.in_range c.args.done) a in
     omega (arith, few, ap count_accesses c.deref_mut.ensures.value, many, c.requires.harts, ap (λ (x : Guest). length x.harts) c.self.view_is, c.harts-harts.ensures.harts, c.harts-harts.ensures.few_harts)
 
-pub returns-in-Ok-clause-ok : goal.returns-in-Ok-clause-ok
-returns-in-Ok-clause-ok g c =
+pub returns-clause-ok : goal.returns-clause-ok
+returns-clause-ok g c =
     let i = c.self.inside in
     let m = i.shared.pages.memory in
     let rs = hart_rounds (words_of m.code) m.bytes (quotas_of c.args.plan.now c.args.done) i.harts.items in
     let a = here_are g.E.EventKeeper.logs c.args.plan.now c.args.done i.harts.items i.shared _ c.args.ends.items c.self.view_is c.requires.ends in
     let here = subst (λ (x : List HartEnd). AreEndsOf g.E.EventKeeper.logs m rs x) (sym c.deref_mut.ensures.value) a in
     let waits = c.of-tally.ensures.waiting ∙ ap (λ (os : List HartEnd). mask_of (waits_of os)) (c.deref.ensures.value ∙ sym c.deref_mut.ensures.value) in
-    let ok = c.in-Ok.ensures.ok rs here in
+    let ok = c.in_ok-counts.ensures.ok rs here in
     let done = finished_done g.E.EventKeeper.logs c.args.plan.now _ c.args.done (guest_of i.harts.items i.shared) _ ok.0 c.deref_mut.result.now here c.budget.ensures.budget refl waits ok.1 in
-    let whole : take i.harts.len (c.finish-counts.new.harts ++ drop (length c.finish-counts.new.harts) i.harts.items) ≡ c.finish-counts.new.harts = take_at c.finish-counts.new.harts _ i.harts.len (omega (arith, c.finish-counts.auto.harts, c.deref_mut-2.ensures.len, ap length c.deref_mut-2.ensures.value)) in
-    ap (λ (hs : List Hart). guest_of hs c.finish-counts.new.shared) whole ∙ done.done ∙ ap (λ (x : Guest). next_guest c.args.plan.now c.args.done x) c.self.view_is
+    let whole : take i.harts.len (c.finish.new.harts ++ drop (length c.finish.new.harts) i.harts.items) ≡ c.finish.new.harts = take_at c.finish.new.harts _ i.harts.len (omega (arith, c.finish.auto.harts, c.deref_mut-2.ensures.len, ap length c.deref_mut-2.ensures.value)) in
+    ap (λ (hs : List Hart). guest_of hs c.finish.new.shared) whole ∙ done.done ∙ ap (λ (x : Guest). next_guest c.args.plan.now c.args.done x) c.self.view_is
 
-pub returns-in-Ok-clause-kept : goal.returns-in-Ok-clause-kept
-returns-in-Ok-clause-kept g c = λ es kept.
+pub returns-clause-kept : goal.returns-clause-kept
+returns-clause-kept g c = λ es kept.
     let i = c.self.inside in
     let m = i.shared.pages.memory in
     let rs = hart_rounds (words_of m.code) m.bytes (quotas_of c.args.plan.now c.args.done) i.harts.items in
     let a = here_are g.E.EventKeeper.logs c.args.plan.now c.args.done i.harts.items i.shared _ c.args.ends.items c.self.view_is c.requires.ends in
     let here = subst (λ (x : List HartEnd). AreEndsOf g.E.EventKeeper.logs m rs x) (sym c.deref_mut.ensures.value) a in
     let waits = c.of-tally.ensures.waiting ∙ ap (λ (os : List HartEnd). mask_of (waits_of os)) (c.deref.ensures.value ∙ sym c.deref_mut.ensures.value) in
-    let ok = c.in-Ok.ensures.ok rs here in
+    let ok = c.in_ok-counts.ensures.ok rs here in
     let done = finished_done g.E.EventKeeper.logs c.args.plan.now _ c.args.done (guest_of i.harts.items i.shared) _ ok.0 c.deref_mut.result.now here c.budget.ensures.budget refl waits ok.1 in
-    subst (λ (x : List Event). g.E.EventKeeper.keeps c.finish-counts.new.keeper (es ++ x)) (done.events ∙ ap (λ (x : Guest). guest_events c.args.plan.now c.args.done x) c.self.view_is) (ok.3 es kept)
+    subst (λ (x : List Event). g.E.EventKeeper.keeps c.finish.new.keeper (es ++ x)) (done.events ∙ ap (λ (x : Guest). guest_events c.args.plan.now c.args.done x) c.self.view_is) (ok.3 es kept)
 
-pub returns-in-Ok-clause-events : goal.returns-in-Ok-clause-events
-returns-in-Ok-clause-events g c =
+pub returns-clause-events : goal.returns-clause-events
+returns-clause-events g c =
     let i = c.self.inside in
     let m = i.shared.pages.memory in
     let rs = hart_rounds (words_of m.code) m.bytes (quotas_of c.args.plan.now c.args.done) i.harts.items in
     let a = here_are g.E.EventKeeper.logs c.args.plan.now c.args.done i.harts.items i.shared _ c.args.ends.items c.self.view_is c.requires.ends in
     let here = subst (λ (x : List HartEnd). AreEndsOf g.E.EventKeeper.logs m rs x) (sym c.deref_mut.ensures.value) a in
     let waits = c.of-tally.ensures.waiting ∙ ap (λ (os : List HartEnd). mask_of (waits_of os)) (c.deref.ensures.value ∙ sym c.deref_mut.ensures.value) in
-    let ok = c.in-Ok.ensures.ok rs here in
+    let ok = c.in_ok-counts.ensures.ok rs here in
     let done = finished_done g.E.EventKeeper.logs c.args.plan.now _ c.args.done (guest_of i.harts.items i.shared) _ ok.0 c.deref_mut.result.now here c.budget.ensures.budget refl waits ok.1 in
     ok.2 ∙ ap length (done.events ∙ ap (λ (x : Guest). guest_events c.args.plan.now c.args.done x) c.self.view_is)
 
-pub returns-in-Ok-clause-few : goal.returns-in-Ok-clause-few
-returns-in-Ok-clause-few g c = c.in-Ok.ensures.few
+pub returns-clause-few : goal.returns-clause-few
+returns-clause-few g c = c.in_ok-counts.ensures.few
 
-pub returns-in-Ok-clause-waited : goal.returns-in-Ok-clause-waited
-returns-in-Ok-clause-waited g c =
+pub returns-clause-waited : goal.returns-clause-waited
+returns-clause-waited g c =
     let i = c.self.inside in
     let m = i.shared.pages.memory in
     let rs = hart_rounds (words_of m.code) m.bytes (quotas_of c.args.plan.now c.args.done) i.harts.items in
     let a = here_are g.E.EventKeeper.logs c.args.plan.now c.args.done i.harts.items i.shared _ c.args.ends.items c.self.view_is c.requires.ends in
     let here = subst (λ (x : List HartEnd). AreEndsOf g.E.EventKeeper.logs m rs x) (sym c.deref_mut.ensures.value) a in
-    c.in-Ok.ensures.waited ∙ waited_is g.E.EventKeeper.logs m rs c.deref_mut.result.now here
+    c.in_ok-counts.ensures.waited ∙ waited_is g.E.EventKeeper.logs m rs c.deref_mut.result.now here
     ∙ ap (λ (x : Guest). count_waiting (hart_rounds (words_of x.shared.memory.code) x.shared.memory.bytes (quotas_of c.args.plan.now c.args.done) x.harts)) c.self.view_is
 
 pub of-tally-requires-clause-few : goal.of-tally-requires-clause-few
@@ -163,21 +163,21 @@ of-tally-requires-clause-accesses g c =
     let few = few_accesses g.E.EventKeeper.logs m (words_of m.code) m.bytes (quotas_of c.args.plan.now c.args.done) h.harts os (low_quotas c.args.plan.now c.harts-harts.ensures.in_range c.args.done) c.requires.ends in
     omega (arith, few, ap count_accesses c.deref.ensures.value, many, c.requires.harts, c.harts-harts.ensures.harts, c.harts-harts.ensures.few_harts)
 
-pub invariant_of-self : goal.invariant_of-self
-invariant_of-self g c =
+pub invariant_of-self-2 : goal.invariant_of-self-2
+invariant_of-self-2 g c =
     let i = c.self.inside in
     let many = many_here g.E.EventKeeper.logs c.args.plan.now c.args.done i.harts.items i.shared _ c.args.ends.items c.self.view_is c.requires.ends in
-    let whole : take i.harts.len (c.finish-counts.new.harts ++ drop (length c.finish-counts.new.harts) i.harts.items) ≡ c.finish-counts.new.harts = take_at c.finish-counts.new.harts _ i.harts.len (omega (arith, c.finish-counts.auto.harts, c.deref_mut-2.ensures.len, ap length c.deref_mut-2.ensures.value)) in
-    let all : take c.args.ends.len (c.finish-counts.new.ends ++ drop (length c.finish-counts.new.ends) c.args.ends.items) ≡ c.finish-counts.new.ends =
-    take_at c.finish-counts.new.ends _ c.args.ends.len (omega (arith, c.finish-counts.auto.ends, c.deref_mut.ensures.len, ap length c.deref_mut.ensures.value)) in
+    let whole : take i.harts.len (c.finish.new.harts ++ drop (length c.finish.new.harts) i.harts.items) ≡ c.finish.new.harts = take_at c.finish.new.harts _ i.harts.len (omega (arith, c.finish.auto.harts, c.deref_mut-2.ensures.len, ap length c.deref_mut-2.ensures.value)) in
+    let all : take c.args.ends.len (c.finish.new.ends ++ drop (length c.finish.new.ends) c.args.ends.items) ≡ c.finish.new.ends =
+    take_at c.finish.new.ends _ c.args.ends.len (omega (arith, c.finish.auto.ends, c.deref_mut.ensures.len, ap length c.deref_mut.ensures.value)) in
     record {
-      size = c.finish-counts.ensures.size ∙ c.self.invariant.size ∙ sym (ap length whole ∙ omega (arith, c.finish-counts.auto.harts, ap length c.deref_mut-2.ensures.value));
-      kept = subst (λ (hs : List Hart). StoppedStay hs (harts_of (take c.args.ends.len (c.finish-counts.new.ends ++ drop (length c.finish-counts.new.ends) c.args.ends.items)))) (sym whole) (subst (λ (os : List HartEnd). StoppedStay c.finish-counts.new.harts (harts_of os)) (sym all) c.in-Ok.ensures.kept);
+      size = c.finish.ensures.size ∙ c.self.invariant.size ∙ sym (ap length whole ∙ omega (arith, c.finish.auto.harts, ap length c.deref_mut-2.ensures.value));
+      kept = subst (λ (hs : List Hart). StoppedStay hs (harts_of (take c.args.ends.len (c.finish.new.ends ++ drop (length c.finish.new.ends) c.args.ends.items)))) (sym whole) (subst (λ (os : List HartEnd). StoppedStay c.finish.new.harts (harts_of os)) (sym all) c.in_ok-counts.ensures.kept);
     }
 
-pub returns-in-Ok-clause-count : goal.returns-in-Ok-clause-count
-returns-in-Ok-clause-count g c =
+pub returns-clause-count : goal.returns-clause-count
+returns-clause-count g c =
     let i = c.self.inside in
     let many = many_here g.E.EventKeeper.logs c.args.plan.now c.args.done i.harts.items i.shared _ c.args.ends.items c.self.view_is c.requires.ends in
-    let whole : take i.harts.len (c.finish-counts.new.harts ++ drop (length c.finish-counts.new.harts) i.harts.items) ≡ c.finish-counts.new.harts = take_at c.finish-counts.new.harts _ i.harts.len (omega (arith, c.finish-counts.auto.harts, c.deref_mut-2.ensures.len, ap length c.deref_mut-2.ensures.value)) in
-    ap length whole ∙ omega (arith, c.finish-counts.auto.harts, ap length c.deref_mut-2.ensures.value, ap (λ (x : Guest). length x.harts) c.self.view_is)
+    let whole : take i.harts.len (c.finish.new.harts ++ drop (length c.finish.new.harts) i.harts.items) ≡ c.finish.new.harts = take_at c.finish.new.harts _ i.harts.len (omega (arith, c.finish.auto.harts, c.deref_mut-2.ensures.len, ap length c.deref_mut-2.ensures.value)) in
+    ap length whole ∙ omega (arith, c.finish.auto.harts, ap length c.deref_mut-2.ensures.value, ap (λ (x : Guest). length x.harts) c.self.view_is)

@@ -6,9 +6,9 @@ use Rattle.machine.proofs.untraced.UntracedMachine.open.Goals as goal
 
 pub invariant_of-result : goal.invariant_of-result
 invariant_of-result c = record {
-  harts = ap (λ (g : Guest). length g.harts) c.in-Ok.ensures ∙ length-opening _ c.harts.result 0 c.harts.result ∙ c.harts.ensures.harts;
+  harts = ap (λ (g : Guest). length g.harts) c.in_ok-guest.ensures ∙ length-opening _ c.harts.result 0 c.harts.result ∙ c.harts.ensures.harts;
   few = omega arith;
 }
 
-pub returns-in-Ok-clause-machine : goal.returns-in-Ok-clause-machine
-returns-in-Ok-clause-machine c = opened c.args.image.now c.args.input.items c.args.plan c.harts.result c.in-Ok.guest c.harts.ensures.harts c.in-Ok.ensures
+pub returns-clause-machine : goal.returns-clause-machine
+returns-clause-machine c = opened c.args.image.now c.args.input.items c.args.plan c.harts.result c.in_ok-guest.guest c.harts.ensures.harts c.in_ok-guest.ensures
