@@ -1,4 +1,5 @@
 pub mod Arriving
 pub mod Going
+pub mod Refusing
 pub mod Resuming
 pub mod Wanting

@@ -4,7 +4,7 @@ ghost use Rattle.std.specs.Prelude.{◌≡◌, ◌++◌, ℕ, List, Err, IfErr, 
 ghost use Rattle.host_io.specs.declared.error.RunError.TheVariants as refusals;
 ghost use Rattle.gdb_requests.specs.declared.request.Request.TheVariants as requests;
 ghost use Rattle.gdb_session.specs.Answers.{Answered, Moves, Resumes};
-ghost use Rattle.gdb_runs.specs.Sessions.{IsReady, OfRun, state_of};
+ghost use Rattle.gdb_runs.specs.Sessions.{IsReady, OfRun, Recorded, state_of};
 
 use crate::goto::go_to;
 use crate::hits::set_hits;
@@ -44,6 +44,32 @@ pub fn answer<R: Threads + Wait + Sync, K: Sink>(
     match request {
         Request::SelectGeneral(thread) => select_general(alloc, run, session, thread, out),
         Request::SelectMoving(thread) => select_moving(alloc, run, session, thread, out),
+        Request::AddStop(_)
+        | Request::RemoveStop(_)
+        | Request::AddHardwareStop(_)
+        | Request::RemoveHardwareStop(_)
+        | Request::AddWatch(..)
+        | Request::RemoveWatch(..) => change_stops(alloc, session, request, out),
+        Request::Step(_) | Request::StepIn(..) | Request::StepAlone(_) | Request::StepBack =>
+            resume(rt, alloc, run, session, request, out),
+        Request::Command(command) => answer_command(rt, alloc, run, session, command, out),
+        _ => reply_to(rt, alloc, run, session.standing, request, out),
+    }
+}
+
+/// Adds or removes a breakpoint or a watchpoint.
+fn change_stops<K: Sink>(
+    alloc: Global,
+    session: &mut Session,
+    request: Request,
+    out: &mut K,
+) -> Result<(), RunError>
+    ensures standing { session.new.standing ≡ session.old.standing }
+    ensures answers { (r : Recorded) → OnOk result (Answered r (state_of session.old) request (K.took out.old) (K.took out.new) (state_of session.new)) }
+    ensures refused { result ≡ Err refusals.OutOfMemory →
+        (K.took out.new ≡ K.took out.old) × (state_of session.new ≡ state_of session.old) }
+{
+    match request {
         Request::AddStop(address) => add_stop(alloc, &mut session.software, address, out),
         Request::RemoveStop(address) => remove_stop(alloc, &mut session.software, address, out),
         Request::AddHardwareStop(address) => add_stop(alloc, &mut session.hardware, address, out),
@@ -58,10 +84,8 @@ pub fn answer<R: Threads + Wait + Sync, K: Sink>(
             let watch = watch_of(kind, address, count);
             remove_watch(alloc, &mut session.watches, watch, out)
         }
-        Request::Step(_) | Request::StepIn(..) | Request::StepAlone(_) | Request::StepBack =>
-            resume(rt, alloc, run, session, request, out),
-        Request::Command(command) => answer_command(rt, alloc, run, session, command, out),
-        _ => reply_to(rt, alloc, run, session.standing, request, out),
+        // No other request changes them.
+        _ => Err(RunError::OutOfMemory),
     }
 }
 
@@ -85,38 +109,14 @@ fn answer_command<R: Threads + Wait + Sync, K: Sink>(
     match command {
         Command::HitsOn => set_hits(alloc, run, session, true, out),
         Command::HitsOff => set_hits(alloc, run, session, false, out),
-        _ => go_or_reply(rt, alloc, run, session, command, out),
-    }
-}
-
-/// Answers another one.
-fn go_or_reply<R: Threads + Wait + Sync, K: Sink>(
-    rt: &R,
-    alloc: Global,
-    run: &mut Debugged,
-    session: &mut Session,
-    command: Command,
-    out: &mut K,
-) -> Result<(), RunError>
-    requires ready { IsReady run.old session.old.standing }
-    ensures stays { run.new ≡ run.old }
-    ensures ready { IsReady run.old session.new.standing }
-    ensures answers { OfRun run.old (λ r. OnOk result (Answered r (state_of session.old) (requests.Command command)
-        (K.took out.old) (K.took out.new) (state_of session.new))) }
-    ensures refused { result ≡ Err refusals.OutOfMemory →
-        (K.took out.new ≡ K.took out.old) × (state_of session.new ≡ state_of session.old) }
-{
-    if is_goto(command) {
-        go_to(rt, alloc, run, session, command, out)
-    } else {
-        reply_to(
-            rt,
-            alloc,
-            run,
-            session.standing,
-            Request::Command(command),
-            out,
-        )
+        _ => {
+            if is_goto(command) {
+                go_to(rt, alloc, run, session, command, out)
+            } else {
+                let request = Request::Command(command);
+                reply_to(rt, alloc, run, session.standing, request, out)
+            }
+        }
     }
 }
 
@@ -162,24 +162,24 @@ fn standing_after<R: Threads + Wait + Sync>(
     ensures ready { IfOk result (λ x. IfSome x (λ t. IsReady run.old t)) }
     ensures refused { IfErr result (λ e. e ≡ refusals.OutOfMemory) }
 {
-    let standing = match request {
+    let moved = match request {
         Request::Step(thread) => match hart_of_thread(run.harts, thread) {
-            Some(hart) => step(rt, alloc, run, session, hart)?,
+            Some(hart) => step(rt, alloc, run, session, hart),
             None => return Ok(None),
         },
         Request::StepIn(low, high, thread) => match hart_of_thread(run.harts, thread) {
-            Some(hart) => step_in(rt, alloc, run, session, hart, low, high)?,
+            Some(hart) => step_in(rt, alloc, run, session, hart, low, high),
             None => return Ok(None),
         },
         Request::StepAlone(thread) => match hart_of_thread(run.harts, thread) {
-            Some(hart) => step_alone(rt, alloc, run, session, hart)?,
+            Some(hart) => step_alone(rt, alloc, run, session, hart),
             None => return Ok(None),
         },
-        Request::StepBack => step_back(rt, alloc, run, session)?,
+        Request::StepBack => step_back(rt, alloc, run, session),
         // No other request resumes the run.
-        _ => return Err(RunError::OutOfMemory),
+        _ => Err(RunError::OutOfMemory),
     };
-    Ok(Some(standing))
+    Ok(Some(moved?))
 }
 
 /// Registers and memory are asked of this thread from now on.

@@ -59,26 +59,16 @@ fn reply_at<R: Threads + Wait + Sync, K: Sink>(
     ensures writes { OfRun run.old (λ r. OnOk result (Replied r standing request (K.took out.old) (K.took out.new))) }
     ensures memory { result ≡ Err refusals.OutOfMemory → K.took out.new ≡ K.took out.old }
 {
-    let look = look_of(standing, run.workers);
     match request {
         Request::WhyStopped => say_where(rt, alloc, run, standing, out),
         Request::Note(thread) => say_note(rt, alloc, run, standing, thread, out),
         Request::ThreadList(offset, count) => {
             let all = Look {
+                point: standing.point,
                 hart: run.harts,
-                ..look
+                workers: run.workers,
             };
             answer_threads(rt, alloc, &mut run.timeline, all, offset, count, out)
-        }
-        Request::ReadRegisters => answer_registers(rt, alloc, &mut run.timeline, look, out),
-        Request::ReadRegister(number) => {
-            answer_register(rt, alloc, &mut run.timeline, look, number, out)
-        }
-        Request::ReadMemory(address, count) => {
-            answer_memory(rt, alloc, &mut run.timeline, look, address, count, out)
-        }
-        Request::Checksum(address, count) => {
-            answer_checksum(rt, alloc, &mut run.timeline, look, address, count, out)
         }
         Request::Command(command) => {
             if is_setting(command) {
@@ -88,7 +78,36 @@ fn reply_at<R: Threads + Wait + Sync, K: Sink>(
             say_command(rt, alloc, run, standing, command, out)
         }
         Request::IsAlive(thread) => say_done(alloc, hart_of_thread(run.harts, thread), out),
-        // No other request is about a moment.
+        _ => read_at(rt, alloc, run, standing, request, out),
+    }
+}
+
+/// Answers a request to read registers or memory where the run stands.
+fn read_at<R: Threads + Wait + Sync, K: Sink>(
+    rt: &R,
+    alloc: Global,
+    run: &mut Debugged,
+    standing: Standing,
+    request: Request,
+    out: &mut K,
+) -> Result<(), RunError>
+    requires ready { IsReady run.old standing }
+    ensures stays { run.new ≡ run.old }
+    ensures writes { OfRun run.old (λ r. OnOk result (Replied r standing request (K.took out.old) (K.took out.new))) }
+    ensures memory { result ≡ Err refusals.OutOfMemory → K.took out.new ≡ K.took out.old }
+{
+    let look = look_of(standing, run.workers);
+    let timeline = &mut run.timeline;
+    match request {
+        Request::ReadRegisters => answer_registers(rt, alloc, timeline, look, out),
+        Request::ReadRegister(number) => answer_register(rt, alloc, timeline, look, number, out),
+        Request::ReadMemory(address, count) => {
+            answer_memory(rt, alloc, timeline, look, address, count, out)
+        }
+        Request::Checksum(address, count) => {
+            answer_checksum(rt, alloc, timeline, look, address, count, out)
+        }
+        // No other request reads them.
         _ => Err(RunError::OutOfMemory),
     }
 }
@@ -114,25 +133,26 @@ fn fixed_reply<'a>(
     requires general { standing.general + 1 < 2 ^ 32 }
     ensures { IfSome result (λ reply. fixed_text harts (option_map (λ bytes. bytes.now) image.entry) standing request ≡ Some (payload_of reply)) }
 {
-    match request {
-        Request::Features => Some(Reply::Features(image.is_some())),
-        Request::Description(offset, count) => Some(Reply::Part(Window {
+    let reply = match request {
+        Request::Features => Reply::Features(image.is_some()),
+        Request::Description(offset, count) => Reply::Part(Window {
             text: target_description(),
             offset,
             count,
-        })),
-        Request::FirstThreads => Some(Reply::Threads(harts)),
-        Request::MoreThreads => Some(Reply::NoMoreThreads),
-        Request::PresentThread => Some(Reply::Thread(standing.general + 1)),
-        Request::Attached => Some(Reply::Attached),
-        Request::Change => Some(Reply::PastStands),
-        Request::Actions => Some(Reply::Actions),
-        Request::Detach => Some(Reply::Done),
-        Request::Unknown => Some(Reply::Unknown),
-        Request::ImageName(offset, count) => Some(name_reply(image, offset, count)),
-        Request::File(request) => Some(Reply::File(file_reply(image, request))),
-        _ => None,
-    }
+        }),
+        Request::FirstThreads => Reply::Threads(harts),
+        Request::MoreThreads => Reply::NoMoreThreads,
+        Request::PresentThread => Reply::Thread(standing.general + 1),
+        Request::Attached => Reply::Attached,
+        Request::Change => Reply::PastStands,
+        Request::Actions => Reply::Actions,
+        Request::Detach => Reply::Done,
+        Request::Unknown => Reply::Unknown,
+        Request::ImageName(offset, count) => name_reply(image, offset, count),
+        Request::File(request) => Reply::File(file_reply(image, request)),
+        _ => return None,
+    };
+    Some(reply)
 }
 
 /// The reply to a request for the image's name.
@@ -187,26 +207,30 @@ fn say_command<R: Threads + Wait + Sync, K: Sink>(
     ensures writes { OfRun run.old (λ r. OnOk result (K.took out.new ≡ K.took out.old ++ packet_text (command_text r standing command))) }
     ensures memory { result ≡ Err refusals.OutOfMemory → K.took out.new ≡ K.took out.old }
 {
-    let look = look_of(standing, run.workers);
-    let rounds = look.point.moment.rounds;
-    let workers = look.workers;
+    let point = standing.point;
+    let rounds = point.moment.rounds;
+    let workers = run.workers;
     match command {
-        Command::Where => answer_where(rt, alloc, &mut run.timeline, look.point, workers, out),
+        Command::Where => answer_where(rt, alloc, &mut run.timeline, point, workers, out),
         Command::Harts => {
             let all = Look {
+                point,
                 hart: run.harts,
-                ..look
+                workers,
             };
             answer_harts(rt, alloc, &mut run.timeline, all, out)
         }
-        Command::Buffer => answer_buffer(rt, alloc, &mut run.timeline, look, out),
-        Command::Event => answer_event(rt, alloc, &mut run.timeline, look.point, workers, out),
+        Command::Buffer => {
+            let look = look_of(standing, workers);
+            answer_buffer(rt, alloc, &mut run.timeline, look, out)
+        }
+        Command::Event => answer_event(rt, alloc, &mut run.timeline, point, workers, out),
         Command::Reservations => answer_reservations(
             rt,
             alloc,
             &mut run.timeline,
             &mut run.start,
-            look.point,
+            point,
             run.harts,
             workers,
             out,

@@ -1,7 +1,7 @@
-//! Runs that go on or back until something is told, and are interrupted.
+//! Runs that go on or back until something is told.
 
 ghost use Rattle.std.specs.Prelude.{◌≡◌, ◌++◌, ℕ, List, IfOk, IfSome, OnOk};
-ghost use Rattle.gdb_resumes.specs.Resumes.{IsUnderWay, interrupted};
+ghost use Rattle.gdb_resumes.specs.Resumes.{IsUnderWay};
 ghost use Rattle.gdb_runs.specs.Sessions.{IsReady, OfRun, state_of};
 ghost use Rattle.gdb_session.specs.Serving.{RepliesOrGoesOn, StandsOrLost, request_for};
 
@@ -77,28 +77,8 @@ pub(crate) fn search_on<R: Threads + Wait + Sync, K: Sink>(
     }
 }
 
-/// Ends a search where it has come to. It may wait.
-pub(crate) fn interrupt<R: Threads + Wait + Sync, K: Sink>(
-    rt: &R,
-    alloc: Global,
-    run: &mut Debugged,
-    session: &mut Session,
-    search: Search,
-    out: &mut K,
-) -> Result<(), RunError>
-    requires ready { IsReady run.old session.old.standing }
-    requires search { IsUnderWay run.old (state_of session.old) search }
-    ensures stays { run.new ≡ run.old }
-    ensures ready { OnOk result (IsReady run.old session.new.standing) }
-    ensures stands { OfRun run.old (λ r. OnOk result (StandsOrLost r (state_of session.old)
-        (interrupted session.old.standing search.reach.rounds) (K.took out.old) (K.took out.new) (state_of session.new))) }
-{
-    let standing = search.interrupted(run, session.standing);
-    stand(rt, alloc, run, session, standing, out)
-}
-
 /// Says where the run stands now; or that this found no memory, and it stays where it stood.
-fn stand<R: Threads + Wait + Sync, K: Sink>(
+pub(crate) fn stand<R: Threads + Wait + Sync, K: Sink>(
     rt: &R,
     alloc: Global,
     run: &mut Debugged,

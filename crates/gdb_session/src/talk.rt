@@ -1,15 +1,14 @@
 //! What a debugger says, one thing after another.
 
 ghost use Rattle.std.specs.Prelude.{◌≡◌, ◌++◌, ℕ, List, IfSome, None, OnOk};
-ghost use Rattle.host_io.specs.declared.error.RunError.TheVariants as refusals;
 ghost use Rattle.gdb_packets.specs.Views.{told_in};
 ghost use Rattle.gdb_resumes.specs.Resumes.{IsUnderWay, interrupted};
 ghost use Rattle.gdb_runs.specs.Sessions.{IsReady, OfRun, state_of};
-ghost use Rattle.gdb_session.specs.Serving.{HearsBy, HearsWhile, Replies, RepliesTo, StandsOrLost, TakesUp, begun, request_for, talking};
+ghost use Rattle.gdb_session.specs.Serving.{HearsBy, HearsWhile, RepliesTo, StandsOrLost, TakesUp, begun, request_for, talking};
 ghost use Rattle.gdb_talk.specs.Asking.{asked_by, ends};
 
 use crate::answering::answer;
-use crate::searching::{begin_search, interrupt, search_on};
+use crate::searching::{begin_search, search_on, stand};
 use gdb_packets::{Item, acknowledge};
 use gdb_requests::Request;
 use gdb_resumes::Search;
@@ -115,7 +114,9 @@ impl Talk {
         ensures stands { OfRun run.old (λ r. OnOk result (StandsOrLost r (state_of self.old.session)
             (interrupted self.old.session.standing search.reach.rounds) (K.took out.old) (K.took out.new) (state_of self.new.session))) }
     {
-        interrupt(rt, alloc, run, &mut self.session, search, out)?;
+        let standing = search.interrupted(run, self.session.standing);
+        drop(search);
+        stand(rt, alloc, run, &mut self.session, standing, out)?;
         self.searching = None;
         Ok(())
     }
@@ -200,7 +201,7 @@ impl Talk {
     }
 }
 
-/// Replies to a request, but for one that the run is to end.
+/// Replies to a request, but for one that the run is to end, or says that it found no memory.
 fn reply<R: Threads + Wait + Sync, K: Sink>(
     rt: &R,
     alloc: Global,
@@ -216,28 +217,11 @@ fn reply<R: Threads + Wait + Sync, K: Sink>(
 {
     match request {
         Request::Kill => Ok(()),
-        _ => answer_or_refuse(rt, alloc, run, session, request, out),
-    }
-}
-
-/// Answers a request, or says that it found no memory.
-fn answer_or_refuse<R: Threads + Wait + Sync, K: Sink>(
-    rt: &R,
-    alloc: Global,
-    run: &mut Debugged,
-    session: &mut Session,
-    request: Request,
-    out: &mut K,
-) -> Result<(), RunError>
-    requires ready { IsReady run.old session.old.standing }
-    ensures stays { run.new ≡ run.old }
-    ensures ready { OnOk result (IsReady run.old session.new.standing) }
-    ensures replies { OfRun run.old (λ r. OnOk result ((written : List ℕ) × Replies r (state_of session.old) request written (state_of session.new) × (K.took out.new ≡ K.took out.old ++ written))) }
-{
-    match answer(rt, alloc, run, session, request, out) {
-        Ok(()) => Ok(()),
-        Err(RunError::OutOfMemory) => refuse(out),
-        Err(error) => Err(error),
+        _ => match answer(rt, alloc, run, session, request, out) {
+            Ok(()) => Ok(()),
+            Err(RunError::OutOfMemory) => refuse(out),
+            Err(error) => Err(error),
+        },
     }
 }
 

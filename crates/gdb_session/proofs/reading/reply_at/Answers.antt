@@ -1,12 +1,12 @@
-use Rattle.std.proofs.Common.{refl}
+use Rattle.std.proofs.Common.{◌≡◌, ◌++◌, ℕ, Option, refl, subst}
+use Rattle.std.specs.Prelude.{OnOk}
 use Rattle.std.proofs.lemmas.Result.{on_ok_weaker}
 use Rattle.gdb_requests.specs.declared.request.Request.TheVariants as requests
-use Rattle.gdb_sights.specs.declared.look.Look.{Look}
-use Rattle.gdb_answers.specs.Answers.{checksum_answer, memory_answer, register_answer, registers_answer}
-use Rattle.shown_harts.specs.Shown.{seen}
-use Rattle.gdb_session.specs.Answers.{stands_text}
+use Rattle.gdb_packets.specs.Writing.{packet_text}
+use Rattle.gdb_answers.specs.Answers.{thread_list_answer}
+use Rattle.gdb_session.specs.Answers.{done_or_missing, hart_of_thread, note_text_of, stands_text}
 use Rattle.gdb_runs.specs.Sessions.{recorded_of}
-use Rattle.gdb_session.proofs.Arriving.{read_with, replied_with}
+use Rattle.gdb_session.proofs.Arriving.{replied_with}
 use Rattle.gdb_session.proofs.reading.reply_at.Goals as goal
 
 pub returns-in-WhyStopped-clause-writes : goal.returns-in-WhyStopped-clause-writes
@@ -17,26 +17,29 @@ returns-in-WhyStopped-clause-writes g c = λ m is.
     (λ e. replied_with r t c.args.request requests.WhyStopped (stands_text r t) _ _ c.in-WhyStopped.is refl e)
     (c.say_where.ensures.writes m is)
 
-pub returns-in-ReadRegisters-clause-writes : goal.returns-in-ReadRegisters-clause-writes
-returns-in-ReadRegisters-clause-writes g c = λ m is.
-    read_with (recorded_of m c.args.run.now) c.args.standing c.args.request requests.ReadRegisters
-    (λ (l : Look). registers_answer l.point.moment (seen m l.point l.hart)) c.look_of-look.result c.args.run.now.workers _ _ c.in-ReadRegisters.is
-    c.look_of-look.ensures refl c.answer_registers.result (c.answer_registers.ensures.writes m is)
+pub returns-in-Note-clause-writes : goal.returns-in-Note-clause-writes
+returns-in-Note-clause-writes g c = λ m is.
+    let r = recorded_of m c.args.run.now in
+    let t = c.args.standing in
+    let thread = c.in-Note.thread in
+    on_ok_weaker c.say_note.result
+    (λ e. replied_with r t c.args.request (requests.Note thread) (note_text_of r t (hart_of_thread r.harts thread)) _ _ c.in-Note.is refl e)
+    (c.say_note.ensures.writes m is)
 
-pub returns-in-ReadRegister-clause-writes : goal.returns-in-ReadRegister-clause-writes
-returns-in-ReadRegister-clause-writes g c = λ m is.
-    read_with (recorded_of m c.args.run.now) c.args.standing c.args.request (requests.ReadRegister c.in-ReadRegister.number)
-    (λ (l : Look). register_answer c.in-ReadRegister.number l.point.moment (seen m l.point l.hart)) c.look_of-look.result c.args.run.now.workers _ _ c.in-ReadRegister.is
-    c.look_of-look.ensures refl c.answer_register.result (c.answer_register.ensures.writes m is)
+pub returns-in-ThreadList-clause-writes : goal.returns-in-ThreadList-clause-writes
+returns-in-ThreadList-clause-writes g c = λ m is.
+    let r = recorded_of m c.args.run.now in
+    let t = c.args.standing in
+    let asked = c.in-ThreadList in
+    on_ok_weaker c.answer_threads.result
+    (λ e. replied_with r t c.args.request (requests.ThreadList asked.offset asked.count) (thread_list_answer m t.point r.harts asked.offset asked.count) _ _ asked.is refl e)
+    (c.answer_threads.ensures.writes m is)
 
-pub returns-in-ReadMemory-clause-writes : goal.returns-in-ReadMemory-clause-writes
-returns-in-ReadMemory-clause-writes g c = λ m is.
-    read_with (recorded_of m c.args.run.now) c.args.standing c.args.request (requests.ReadMemory c.in-ReadMemory.address c.in-ReadMemory.count)
-    (λ (l : Look). memory_answer c.in-ReadMemory.address c.in-ReadMemory.count (seen m l.point l.hart)) c.look_of-look.result c.args.run.now.workers _ _ c.in-ReadMemory.is
-    c.look_of-look.ensures refl c.answer_memory.result (c.answer_memory.ensures.writes m is)
-
-pub returns-in-Checksum-clause-writes : goal.returns-in-Checksum-clause-writes
-returns-in-Checksum-clause-writes g c = λ m is.
-    read_with (recorded_of m c.args.run.now) c.args.standing c.args.request (requests.Checksum c.in-Checksum.address c.in-Checksum.count)
-    (λ (l : Look). checksum_answer c.in-Checksum.address c.in-Checksum.count (seen m l.point l.hart)) c.look_of-look.result c.args.run.now.workers _ _ c.in-Checksum.is
-    c.look_of-look.ensures refl c.answer_checksum.result (c.answer_checksum.ensures.writes m is)
+pub returns-in-IsAlive-clause-writes : goal.returns-in-IsAlive-clause-writes
+returns-in-IsAlive-clause-writes g c = λ m is.
+    let r = recorded_of m c.args.run.now in
+    let thread = c.in-IsAlive.thread in
+    let W : Option ℕ → Type 0 = λ hart. OnOk c.say_done.result (g.K.Sink.took c.say_done.new.out ≡ g.K.Sink.took c.args.out.now ++ packet_text (done_or_missing hart)) in
+    on_ok_weaker c.say_done.result
+    (λ e. replied_with r c.args.standing c.args.request (requests.IsAlive thread) (done_or_missing (hart_of_thread r.harts thread)) _ _ c.in-IsAlive.is refl e)
+    (subst W c.hart_of_thread.ensures.hart c.say_done.ensures.writes)
