@@ -7,7 +7,7 @@ ghost use Rattle.byte_sources.specs.Sources.{bytes, source, sources};
 ghost use Rattle.trace_events.specs.Flows.{flow_number, flow_start, flow_text, flow_to, flows_from, flows_text};
 ghost use Rattle.trace_events.specs.Writers.{Indexes};
 
-use crate::slices::track_of;
+use crate::slices::{add_with_number, track_of};
 use crate::writers::Writers;
 use byte_sources::has_index;
 use pages::OutOfMemory;
@@ -22,10 +22,8 @@ fn add_end(line: &mut Line, kind: &str, hart: u8, time: u64) -> Result<(), OutOf
 {
     line.text(",\n{\"ph\":")?;
     line.text(kind)?;
-    line.text(",\"pid\":0,\"tid\":")?;
-    line.decimal(track_of(hart))?;
-    line.text(",\"ts\":")?;
-    line.decimal(time)
+    add_with_number(line, ",\"pid\":0,\"tid\":", track_of(hart))?;
+    add_with_number(line, ",\"ts\":", time)
 }
 
 /// Adds the number of a flow.

@@ -62,6 +62,14 @@ fn set_number(set: FenceSet) -> u64
     reads + writes
 }
 
+/// Adds a text, and a number in decimal after it.
+pub(crate) fn add_with_number(line: &mut Line, text: &str, number: u64) -> Result<(), OutOfMemory>
+    ensures { OnOk result (line.new ≡ line.old ++ text.now ++ decimal number) }
+{
+    line.text(text)?;
+    line.decimal(number)
+}
+
 /// Adds a number of as many bytes as the access has, or a dash.
 fn add_number(line: &mut Line, width: Width, number: Option<u64>) -> Result<(), OutOfMemory>
     ensures { OnOk result (line.new ≡ line.old ++ number_text width number) }
@@ -128,10 +136,8 @@ fn add_fence(
 ) -> Result<(), OutOfMemory>
     ensures { OnOk result (line.new ≡ line.old ++ fence_text before after fence_mode) }
 {
-    line.text(",\"before\":")?;
-    line.decimal(set_number(before))?;
-    line.text(",\"after\":")?;
-    line.decimal(set_number(after))?;
+    add_with_number(line, ",\"before\":", set_number(before))?;
+    add_with_number(line, ",\"after\":", set_number(after))?;
     line.text(",\"mode\":\"")?;
     line.text(mode(fence_mode))?;
     line.text("\"")
@@ -200,12 +206,9 @@ fn add_arguments(line: &mut Line, access: &Access) -> Result<(), OutOfMemory>
 fn add_slice(line: &mut Line, track: u64, time: u64, count: u64) -> Result<(), OutOfMemory>
     ensures { OnOk result (line.new ≡ line.old ++ slice_start track time count) }
 {
-    line.text(",\n{\"ph\":\"X\",\"pid\":0,\"tid\":")?;
-    line.decimal(track)?;
-    line.text(",\"ts\":")?;
-    line.decimal(time)?;
-    line.text(",\"dur\":")?;
-    line.decimal(count)?;
+    add_with_number(line, ",\n{\"ph\":\"X\",\"pid\":0,\"tid\":", track)?;
+    add_with_number(line, ",\"ts\":", time)?;
+    add_with_number(line, ",\"dur\":", count)?;
     line.text(",\"name\":\"")
 }
 
@@ -223,12 +226,10 @@ pub(crate) fn add_event(line: &mut Line, index: u64, event: &Event) -> Result<()
 {
     add_slice(line, track_of(event.hart), index, 1)?;
     line.text(name(&event.access))?;
-    line.text("\",\"args\":{\"round\":")?;
-    line.decimal(u64::from(event.round))?;
+    add_with_number(line, "\",\"args\":{\"round\":", u64::from(event.round))?;
     line.text(",\"phase\":\"")?;
     line.text(phase(event.phase))?;
-    line.text("\",\"place\":")?;
-    line.decimal(event.access.place())?;
+    add_with_number(line, "\",\"place\":", event.access.place())?;
     add_arguments(line, &event.access)?;
     line.text("}}")
 }
@@ -309,8 +310,7 @@ pub(crate) fn add_round(
         return Ok(());
     }
     add_slice(line, 0, index, count_of_round(event, rest))?;
-    line.text("round ")?;
-    line.decimal(u64::from(event.round))?;
+    add_with_number(line, "round ", u64::from(event.round))?;
     line.text("\"}")
 }
 

@@ -11,7 +11,7 @@ ghost use Rattle.trace_events.specs.TraceEvents.{before_index, entries_text, ent
 ghost use Rattle.trace_events.specs.Writers.{Indexes};
 
 use crate::flows::add_flows;
-use crate::slices::{add_event, add_round, add_serial};
+use crate::slices::{add_event, add_round, add_serial, add_with_number};
 use crate::writers::Writers;
 use host_io::{RunError, Sink};
 use pages::OutOfMemory;
@@ -30,10 +30,9 @@ fn add_track(line: &mut Line, hart: u64) -> Result<(), OutOfMemory>
     requires { hart < 2 ^ 32 }
     ensures { OnOk result (line.new ≡ line.old ++ track_text hart) }
 {
-    line.text(",\n{\"ph\":\"M\",\"pid\":0,\"tid\":")?;
-    line.decimal(hart + 1)?;
-    line.text(",\"name\":\"thread_name\",\"args\":{\"name\":\"hart ")?;
-    line.decimal(hart)?;
+    add_with_number(line, ",\n{\"ph\":\"M\",\"pid\":0,\"tid\":", hart + 1)?;
+    let name = ",\"name\":\"thread_name\",\"args\":{\"name\":\"hart ";
+    add_with_number(line, name, hart)?;
     line.text("\"}}")
 }
 
