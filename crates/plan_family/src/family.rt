@@ -21,7 +21,7 @@ const BUDGETS: [u32; 7] = [1, 2, 4, 8, 16, 32, 64];
 ///
 /// Plan n has 1, 4, 16 or 64 rows. A hart has a pace, of 1, 2, 4, .. or 1024 instructions a round, and each of its quotas
 /// is drawn from 1 to its pace; where n is odd, all harts have one pace. The budget of a serial turn is 1, 2, 4, .. or 64.
-#[derive(Clone, Copy, Debug, PartialEq, Eq)]
+#[derive(Clone, Copy)]
 pub struct Family {
     /// The seed of all draws.
     pub seed: u64,

@@ -6,6 +6,3 @@ mod split_mix;
 
 pub use family::{Family, plans_are_accepted, serial_budget};
 pub use split_mix::draw;
-
-#[cfg(test)]
-mod tests;
