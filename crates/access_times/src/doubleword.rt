@@ -3,7 +3,7 @@ ghost use Rattle.std.specs.Prelude.{◌<◌};
 use pages::Width;
 
 /// Some bytes of an aligned doubleword of memory.
-#[derive(Clone, Copy, Debug, PartialEq, Eq)]
+#[derive(Clone, Copy, PartialEq, Eq)]
 pub struct Bytes {
     /// The number of the doubleword: its address divided by 8.
     pub doubleword: u64,

@@ -3,7 +3,7 @@ use crate::operation::{Kind, Operation};
 use pages::Store;
 
 /// A store that comes early, as an ordinary execution by the same plan has it.
-#[derive(Clone, Copy, Debug, PartialEq, Eq)]
+#[derive(Clone, Copy, PartialEq, Eq)]
 pub struct Early {
     /// It is put in memory once its hart has done so many instructions, before the next one.
     pub before: u64,

@@ -3,7 +3,7 @@ use pages::Width;
 use rv64_decode::{AcquireRelease, Atomic, AtomicWidth, Instr, Reg};
 
 /// The kinds of memory operations (manual, section 14.1).
-#[derive(Clone, Copy, Debug, PartialEq, Eq)]
+#[derive(Clone, Copy, PartialEq, Eq)]
 pub enum Kind {
     /// A plain load.
     Load,

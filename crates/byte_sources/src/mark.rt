@@ -1,5 +1,5 @@
 /// What is to be marked of an event.
-#[derive(Clone, Copy, Debug, PartialEq, Eq)]
+#[derive(Clone, Copy)]
 pub enum Mark {
     /// A store that another hart overwrote, and that nobody read: so a lost update looks.
     Lost,

@@ -8,7 +8,7 @@ pub trait ShardGate {
 }
 
 /// A gate that does nothing.
-#[derive(Clone, Copy, Debug)]
+#[derive(Clone, Copy)]
 pub struct OpenShards;
 
 impl ShardGate for OpenShards {

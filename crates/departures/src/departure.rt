@@ -1,7 +1,7 @@
 use access_times::{Early, Promise, Stage};
 
 /// How a memory operation departs from the order of its hart's program.
-#[derive(Clone, Copy, Debug, PartialEq, Eq)]
+#[derive(Clone, Copy, PartialEq, Eq)]
 pub enum Way {
     /// A load or an LR reads memory as it was before the so many-th newest store to its bytes.
     Old(u32),
@@ -12,7 +12,7 @@ pub enum Way {
 }
 
 /// A memory operation that departs from the order of its hart's program.
-#[derive(Clone, Copy, Debug, PartialEq, Eq)]
+#[derive(Clone, Copy)]
 pub struct Departure {
     /// The hart.
     pub hart: u8,

@@ -6,7 +6,7 @@ use round_schedule::Access;
 use std::alloc::Global;
 
 /// A memory operation that a hart did.
-#[derive(Clone, Copy, Debug, PartialEq, Eq)]
+#[derive(Clone, Copy)]
 pub struct Deed {
     /// The hart.
     pub hart: u8,
@@ -25,7 +25,7 @@ pub struct Deed {
 }
 
 /// Where in the global memory order the operations of an execution are put. A store always stands at its time.
-#[derive(Clone, Copy, Debug, PartialEq, Eq)]
+#[derive(Clone, Copy)]
 pub enum Placing {
     /// A load stands where it was done, so that just what departs is out of its hart's order.
     AsDone,
@@ -37,7 +37,7 @@ pub enum Placing {
 
 /// Where a memory operation stands: behind the store of a time, or it is this store. Of operations with one time the earlier step
 /// stands first.
-#[derive(Clone, Copy, Debug, PartialEq, Eq, PartialOrd, Ord)]
+#[derive(Clone, Copy, PartialEq, Eq, PartialOrd, Ord)]
 struct OrderEntry {
     time: u32,
     is_load: bool,

@@ -8,7 +8,7 @@ use crate::field::{double_at, word_at};
 use pages::Range;
 
 /// A part of an ELF file that is loaded.
-#[derive(Clone, Copy, Debug, PartialEq, Eq)]
+#[derive(Clone, Copy)]
 pub(crate) struct Segment {
     /// The flags of its program header: X is 1, W is 2, R is 4.
     pub(crate) flags: u32,

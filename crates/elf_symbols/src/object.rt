@@ -1,5 +1,5 @@
 /// Where an object of a program lies in memory.
-#[derive(Clone, Copy, Debug, PartialEq, Eq)]
+#[derive(Clone, Copy)]
 pub struct Object {
     /// The address of its first byte.
     pub address: u64,

@@ -6,7 +6,7 @@ use crate::symbol::{FUNCTION, OBJECT, Symbol, holder_among};
 use crate::table::table_of;
 
 /// A byte of what a symbol names.
-#[derive(Clone, Copy, Debug, PartialEq, Eq)]
+#[derive(Clone, Copy)]
 pub struct SymbolOffset<'a> {
     /// The symbol's name, without the byte 0 that ends it in the file.
     pub name: &'a [u8],

@@ -18,7 +18,7 @@ const SYMBOL_TABLE: u32 = 2;
 const STRING_TABLE: u32 = 3;
 
 /// A part of an ELF file, by its section header.
-#[derive(Clone, Copy, Debug, PartialEq, Eq)]
+#[derive(Clone, Copy)]
 pub(crate) struct Section {
     /// Its type.
     pub kind: u32,

@@ -15,7 +15,7 @@ pub(crate) const OBJECT: u8 = 1;
 pub(crate) const FUNCTION: u8 = 2;
 
 /// What an entry of a symbol table says.
-#[derive(Clone, Copy, Debug, PartialEq, Eq)]
+#[derive(Clone, Copy)]
 pub(crate) struct Symbol {
     /// Where its name begins among the strings.
     pub name: u32,

@@ -4,7 +4,7 @@ ghost use Rattle.elf_symbols.specs.Symbols.{as_entries, has_symbol_table, table_
 use crate::section::{bytes_of, has_sections, strings_of, symbols_of};
 
 /// The symbol table of an ELF64 file.
-#[derive(Clone, Copy, Debug, PartialEq, Eq)]
+#[derive(Clone, Copy)]
 pub(crate) struct SymbolTable<'a> {
     /// Its entries.
     pub entries: &'a [u8],

@@ -6,7 +6,7 @@ ghost use Rattle.emulation.specs.Showing.{all_end_well, end_of, ends_well, some_
 use hart_step::{Hart, Stop};
 
 /// How the harts of a run have ended.
-#[derive(Clone, Copy, Debug, PartialEq, Eq)]
+#[derive(Clone, Copy, PartialEq, Eq)]
 pub enum RunEnd {
     /// Each exited with 0.
     Well,

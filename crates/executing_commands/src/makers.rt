@@ -47,7 +47,7 @@ pub trait WeakExecutions {
 }
 
 /// The executions of weak_hunter.
-#[derive(Clone, Copy, Debug, PartialEq, Eq)]
+#[derive(Clone, Copy)]
 pub struct WeakExecuter;
 
 impl WeakExecutions for WeakExecuter {

@@ -1,5 +1,5 @@
 /// Why a hart has no next step.
-#[derive(Clone, Copy, Debug, PartialEq, Eq)]
+#[derive(Clone, Copy, PartialEq, Eq)]
 pub enum StepFault {
     /// There is no hart of this number.
     NoSuchHart,

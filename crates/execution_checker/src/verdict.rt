@@ -4,7 +4,7 @@ use round_schedule::Event;
 use std::fmt;
 
 /// What is found of a script and an order.
-#[derive(Clone, Copy, Debug, PartialEq, Eq)]
+#[derive(Clone, Copy, PartialEq, Eq)]
 pub enum Verdict {
     /// RVWMO allows the execution that the script leads to, in this order of its memory operations.
     Allowed,

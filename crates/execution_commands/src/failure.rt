@@ -10,7 +10,7 @@ use program_files::RunFailure;
 use std::fmt::{self, Display, Formatter, Write};
 
 /// Why an execution that was asked for isn't there, or isn't checked.
-#[derive(Debug, Drop)]
+#[derive(Drop)]
 pub enum ExecutionFailure {
     /// A file couldn't be read, the output couldn't be written, or what runs the execution is refused.
     Run(RunFailure),

@@ -1,5 +1,5 @@
 /// A hart's turn: at its next access or call, or at one of a number.
-#[derive(Clone, Copy, Debug, PartialEq, Eq)]
+#[derive(Clone, Copy)]
 pub struct Turn {
     /// The hart.
     pub hart: u8,

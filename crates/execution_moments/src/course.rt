@@ -7,7 +7,7 @@ use memory_order::Order;
 use round_schedule::Event;
 
 /// A moment of a hart: before one of its instructions, or where it has stopped.
-#[derive(Clone, Copy, Debug, PartialEq, Eq)]
+#[derive(Clone, Copy)]
 pub struct HartMoment {
     /// The number of the hart.
     pub number: u8,

@@ -6,7 +6,7 @@ use round_schedule::Event;
 
 /// A neighbour in the program of an operation that is out of order: the nearest one of its hart, on the side where it belongs, that is
 /// in order itself.
-#[derive(Clone, Copy, Debug, PartialEq, Eq)]
+#[derive(Clone, Copy)]
 pub(crate) struct Home {
     /// How the operation is out of order: where it is late it belongs before the neighbour, and where it is early behind it.
     pub stray: Stray,

@@ -5,7 +5,7 @@ use pages::OutOfMemory;
 use std::alloc::Global;
 
 /// How an operation is out of its hart's order.
-#[derive(Clone, Copy, Debug, PartialEq, Eq)]
+#[derive(Clone, Copy)]
 pub(crate) enum Stray {
     /// It comes late: an operation that the program has later stands before it.
     Late,

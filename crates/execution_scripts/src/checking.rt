@@ -26,7 +26,7 @@ use std::alloc::Global;
 use trace::Trace;
 
 /// What is found of a file.
-#[derive(Clone, Copy, Debug, PartialEq, Eq)]
+#[derive(Clone, Copy, PartialEq, Eq)]
 pub enum Finding {
     /// What the file says is no execution of its image and input.
     Fault(Fault),

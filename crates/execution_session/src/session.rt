@@ -5,7 +5,7 @@ use gdb_replies::Reason;
 use std::alloc::Global;
 
 /// Where a debugger's session stands, and of which harts it speaks.
-#[derive(Clone, Copy, Debug, PartialEq, Eq)]
+#[derive(Clone, Copy)]
 pub struct Standing {
     /// The time. What is told before it is told on the way back.
     pub time: usize,

@@ -14,7 +14,7 @@ use std::alloc::Global;
 use trace::Trace;
 
 /// A moment of a hart in an execution: which of its instructions it has done, and which operations precede it in the order of memory.
-#[derive(Clone, Copy, Debug, PartialEq, Eq)]
+#[derive(Clone, Copy)]
 pub struct Moment {
     /// The hart.
     pub hart: u8,

@@ -1,7 +1,7 @@
 use hart_step::Hart;
 
 /// A step of a hart.
-#[derive(Clone, Copy, Debug, PartialEq, Eq)]
+#[derive(Clone, Copy)]
 pub struct HartStep {
     /// The hart.
     pub hart: u8,

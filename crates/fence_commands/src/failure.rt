@@ -15,7 +15,7 @@ use std::fmt::{self, Display, Formatter, Write};
 use weak_hunter::WeakHuntError;
 
 /// Why a search for missing fences that was asked for isn't done, or not all of it.
-#[derive(Debug, Drop)]
+#[derive(Drop)]
 pub enum FencesFailure {
     /// A file couldn't be read, the output couldn't be written, memory was refused, or what refuses a hunt.
     Hunt(HuntFailure),

@@ -16,7 +16,7 @@ use program_world::Messages;
 use std::alloc::{AllocFailed, Global};
 
 /// Why a word names no instruction.
-#[derive(Clone, Copy, Debug, PartialEq, Eq)]
+#[derive(Clone, Copy)]
 pub enum Misplaced {
     /// It is neither an address nor a place in a function.
     Unreadable,

@@ -61,7 +61,7 @@ pub trait FenceSearches {
 }
 
 /// The searches of fence_finder.
-#[derive(Clone, Copy, Debug, PartialEq, Eq)]
+#[derive(Clone, Copy)]
 pub struct FenceSearcher;
 
 impl FenceSearches for FenceSearcher {

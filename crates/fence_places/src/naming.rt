@@ -7,14 +7,14 @@ use round_schedule::Access;
 use std::alloc::Global;
 
 /// Loads, stores, or both.
-#[derive(Clone, Copy, Debug, PartialEq, Eq)]
+#[derive(Clone, Copy, PartialEq, Eq)]
 pub struct Sides {
     pub loads: bool,
     pub stores: bool,
 }
 
 /// Two neighbours among a hart's accesses of shared bytes. A fence between them forbids an execution.
-#[derive(Clone, Copy, Debug, PartialEq, Eq)]
+#[derive(Clone, Copy, PartialEq, Eq)]
 pub struct Gap {
     /// The address of the instruction that is the first in program order.
     pub earlier: u64,
@@ -31,7 +31,7 @@ pub struct Gap {
 }
 
 /// An operation of another hart that an operation moved past.
-#[derive(Clone, Copy, Debug, PartialEq, Eq)]
+#[derive(Clone, Copy)]
 pub struct Overtaken {
     /// The operation.
     pub operation: Operation,
@@ -40,7 +40,7 @@ pub struct Overtaken {
 }
 
 /// An operation that stands in the global memory order elsewhere than its hart's program has it.
-#[derive(Clone, Copy, Debug, PartialEq, Eq)]
+#[derive(Clone, Copy)]
 pub struct Move {
     /// The operation.
     pub operation: Operation,

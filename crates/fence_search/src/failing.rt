@@ -1,7 +1,7 @@
 use hart_step::Stop;
 
 /// How an execution fails.
-#[derive(Clone, Copy, Debug, PartialEq, Eq)]
+#[derive(Clone, Copy)]
 pub enum Failing {
     /// This hart stopped so, which is otherwise than by exit 0.
     Stopped(u8, Stop),

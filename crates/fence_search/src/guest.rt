@@ -9,7 +9,7 @@ use timed_machine::{Bounds, TimedMachine};
 use weak_executions::{Opening, WeakGuest};
 
 /// How far the executions of a search go at most.
-#[derive(Clone, Copy, Debug, PartialEq, Eq)]
+#[derive(Clone, Copy)]
 pub struct Reach {
     pub rounds: u32,
     /// Steps of all harts together.

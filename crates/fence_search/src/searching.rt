@@ -18,7 +18,7 @@ pub trait FenceObserver {
 }
 
 /// Nobody looks.
-#[derive(Clone, Copy, Debug, PartialEq, Eq)]
+#[derive(Clone, Copy)]
 pub struct UnobservedSearch;
 
 impl FenceObserver for UnobservedSearch {

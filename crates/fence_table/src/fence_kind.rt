@@ -1,5 +1,5 @@
 /// Memory operations on one side of a fence.
-#[derive(Clone, Copy, Debug, PartialEq, Eq)]
+#[derive(Clone, Copy)]
 pub enum Side {
     /// Loads, LRs and AMOs.
     Loads,
@@ -10,7 +10,7 @@ pub enum Side {
 }
 
 /// What a fence orders: the operations of one side that are before it, before those of the other side that are after it.
-#[derive(Clone, Copy, Debug, PartialEq, Eq)]
+#[derive(Clone, Copy)]
 pub struct FenceKind {
     pub before: Side,
     pub after: Side,

@@ -4,7 +4,7 @@ use crate::moved::Moved;
 use crate::tally::Tally;
 
 /// The execution that shows a fault: that of a number, with just the departures that it needs.
-#[derive(Clone, Copy, Debug, PartialEq, Eq)]
+#[derive(Clone, Copy, PartialEq, Eq)]
 pub struct Shown {
     pub number: u32,
     /// How many operations depart from the order of their harts' programs, as the search counts them.

@@ -2,7 +2,7 @@ use crate::site::Site;
 use round_schedule::Access;
 
 /// A memory operation of a hart.
-#[derive(Clone, Copy, Debug, PartialEq, Eq)]
+#[derive(Clone, Copy, PartialEq, Eq)]
 pub struct Operation {
     pub hart: u32,
     /// What it did to memory.
@@ -10,7 +10,7 @@ pub struct Operation {
 }
 
 /// Where an operation stands in memory, beside its position in the program.
-#[derive(Clone, Copy, Debug, PartialEq, Eq)]
+#[derive(Clone, Copy)]
 pub enum Direction {
     /// It was done early: an operation that it would have seen, or that would have seen nothing of it, is behind it.
     Before,

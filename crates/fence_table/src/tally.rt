@@ -1,5 +1,5 @@
 /// Numbers of executions, by how many they are and the first of them.
-#[derive(Clone, Copy, Debug, PartialEq, Eq)]
+#[derive(Clone, Copy)]
 pub struct Tally {
     pub plans: u32,
     /// 0 where they are none.

@@ -1,5 +1,5 @@
 /// Why the run stands where it stands.
-#[derive(Clone, Copy, Debug, PartialEq, Eq)]
+#[derive(Clone, Copy, PartialEq, Eq)]
 pub enum Reason {
     /// A step has ended.
     Step,

@@ -31,7 +31,7 @@ const LONGER: u32 = 8;
 const INTERRUPTED: u8 = 2;
 
 /// How far a search has come.
-#[derive(Clone, Copy, Debug, PartialEq, Eq)]
+#[derive(Clone, Copy)]
 pub struct Reach {
     /// Which way it goes.
     pub way: Way,

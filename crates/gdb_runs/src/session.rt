@@ -13,7 +13,7 @@ use std::alloc::Global;
 const NO_SIGNAL: u8 = 0;
 
 /// Where a debugger's session stands, and of which harts it speaks.
-#[derive(Clone, Copy, Debug, PartialEq, Eq)]
+#[derive(Clone, Copy)]
 pub struct Standing {
     /// Where in the run: what is told before this point is told on the way back, and what is told behind it on the way on.
     pub point: Point,

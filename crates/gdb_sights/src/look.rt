@@ -1,7 +1,7 @@
 use run_points::Point;
 
 /// What a debugger looks at.
-#[derive(Clone, Copy, Debug, PartialEq, Eq)]
+#[derive(Clone, Copy)]
 pub struct Look {
     /// Where in the run.
     pub point: Point,

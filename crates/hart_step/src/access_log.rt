@@ -29,7 +29,7 @@ impl AccessLog for Vec<Access> {
 
 /// How many accesses there were, where nobody asks for more.
 // docs/decisions/storage.md
-#[derive(Clone, Copy, Debug)]
+#[derive(Clone, Copy)]
 pub struct AccessCount {
     /// The number, modulo 2^64.
     pub count: u64,

@@ -1,5 +1,5 @@
 /// The answer of an instruction without its access, which stands elsewhere: two bytes, where `Stepped` is large.
-#[derive(Clone, Copy, Debug, PartialEq, Eq)]
+#[derive(Clone, Copy)]
 pub enum Answer {
     /// It is done.
     Went,

@@ -17,7 +17,7 @@ pub struct Stop {
 }
 
 /// The state of one hart (manual, section 2.1).
-#[derive(Clone, Copy, Debug, PartialEq, Eq)]
+#[derive(Clone, Copy, PartialEq, Eq)]
 pub struct Hart {
     /// The registers. `x[0]` is not looked at: register x0 reads 0.
     pub x: [u64; 32],

@@ -14,7 +14,7 @@ use std::fmt::{self, Display, Formatter, Write};
 use weak_hunter::WeakHuntError;
 
 /// Why a hunt that was asked for isn't done.
-#[derive(Debug, Drop)]
+#[derive(Drop)]
 pub enum HuntFailure {
     /// A file couldn't be read, the output couldn't be written, or memory was refused.
     Run(RunFailure),

@@ -12,7 +12,7 @@ use std::alloc::{AllocError, AllocFailed};
 use std::fmt::{self, Display, Formatter, Write};
 
 /// Why the tables of a line weren't merged.
-#[derive(Debug, Drop)]
+#[derive(Drop)]
 pub enum MergeFailure {
     /// A file couldn't be read, the output couldn't be written, or memory was refused.
     Run(RunFailure),

@@ -9,7 +9,7 @@ use plan_hunt::Row;
 use std::fmt::{self, Display, Formatter, Write};
 
 /// How a table isn't that of the slice which follows on another one.
-#[derive(Clone, Copy, Debug, PartialEq, Eq, Drop)]
+#[derive(Clone, Copy, Drop)]
 pub enum Apart {
     /// Its executions are made otherwise.
     Kind,

@@ -62,7 +62,7 @@ pub trait WeakHunts {
 }
 
 /// The weak hunts of weak_hunter.
-#[derive(Clone, Copy, Debug, PartialEq, Eq)]
+#[derive(Clone, Copy)]
 pub struct WeakHunter;
 
 impl WeakHunts for WeakHunter {

@@ -11,7 +11,7 @@ pub trait Observer {
 }
 
 /// Nobody looks.
-#[derive(Clone, Copy, Debug, PartialEq, Eq)]
+#[derive(Clone, Copy)]
 pub struct Unobserved;
 
 impl Observer for Unobserved {

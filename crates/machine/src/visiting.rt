@@ -6,7 +6,7 @@ use crate::untraced::UntracedMachine;
 use pages::OutOfMemory;
 
 /// Whether a walk goes on.
-#[derive(Clone, Copy, Debug, PartialEq, Eq)]
+#[derive(Clone, Copy)]
 pub enum Next {
     /// The next round is to be done.
     Round,

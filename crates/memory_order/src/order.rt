@@ -15,7 +15,7 @@ use std::alloc::Global;
 use trace::Trace;
 
 /// Indexes in a trace, in an order of its memory operations.
-#[derive(Debug, PartialEq, Eq, Drop)]
+#[derive(PartialEq, Eq, Drop)]
 pub struct Order(pub Vec<usize>);
 
 /// An order of the memory operations of a trace that meets RVWMO where the trace is that of a run in rounds.

@@ -4,7 +4,7 @@ ghost use Rattle.named_bytes.specs.Naming.{naming_number};
 use std::fmt::{self, Display, Formatter, Write};
 
 /// Why the bytes that a line names can't be looked at.
-#[derive(Debug, Drop)]
+#[derive(Drop)]
 pub enum NamingFault {
     /// A range is empty, or isn't all in guest memory.
     Outside,

@@ -56,7 +56,7 @@ pub struct Store {
 }
 
 /// The addresses from `start` on, `len` of them.
-#[derive(Clone, Copy, Debug, PartialEq, Eq)]
+#[derive(Clone, Copy, PartialEq, Eq)]
 pub struct Range {
     /// The first address.
     pub start: u64,
@@ -65,7 +65,7 @@ pub struct Range {
 }
 
 /// Bytes that lie in memory from an address on.
-#[derive(Debug, Drop)]
+#[derive(Drop)]
 pub struct Piece {
     /// The address of the first byte.
     pub start: u64,

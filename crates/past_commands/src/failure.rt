@@ -15,7 +15,7 @@ use std::alloc::{AllocError, AllocFailed};
 use std::fmt::{self, Display, Formatter, Write};
 
 /// Why a question about the past isn't answered.
-#[derive(Debug, Drop)]
+#[derive(Drop)]
 pub enum PastFailure {
     /// A file couldn't be read, the output couldn't be written, the run was refused, or memory was.
     Run(RunFailure),

@@ -4,7 +4,7 @@ ghost use Rattle.past_commands.specs.Questions.{question_of};
 use command_line::Replay;
 
 /// What of a hart's past in a recorded run a line asks for.
-#[derive(Clone, Copy, Debug, PartialEq, Eq)]
+#[derive(Clone, Copy)]
 pub(crate) enum Question {
     /// The hart before its instruction at this place.
     Before(u64),

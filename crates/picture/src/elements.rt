@@ -7,14 +7,14 @@ use pages::OutOfMemory;
 use report_lines::Line;
 
 /// A point, so far from the left and from the top.
-#[derive(Clone, Copy, Debug, PartialEq, Eq)]
+#[derive(Clone, Copy)]
 pub struct Point {
     pub x: u64,
     pub y: u64,
 }
 
 /// A rectangle, by its upper left corner.
-#[derive(Clone, Copy, Debug, PartialEq, Eq)]
+#[derive(Clone, Copy)]
 pub struct Rectangle {
     pub x: u64,
     pub y: u64,
@@ -23,7 +23,7 @@ pub struct Rectangle {
 }
 
 /// A curve that leaves one point and enters another level, on the way to `leaving` and from `entering`.
-#[derive(Clone, Copy, Debug, PartialEq, Eq)]
+#[derive(Clone, Copy)]
 pub struct Curve {
     pub start: Point,
     pub leaving: u64,

@@ -15,7 +15,7 @@ use trace::Trace;
 pub(crate) const MOST: usize = 400;
 
 /// An event that has a box, and how many in a row are the same load.
-#[derive(Clone, Copy, Debug, PartialEq, Eq)]
+#[derive(Clone, Copy, PartialEq, Eq)]
 pub(crate) struct Row {
     pub index: usize,
     pub times: u64,

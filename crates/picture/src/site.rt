@@ -1,7 +1,7 @@
 use elf_symbols::SymbolOffset;
 
 /// What is known of an event beside the trace.
-#[derive(Clone, Copy, Debug, PartialEq, Eq)]
+#[derive(Clone, Copy)]
 pub struct Site<'a> {
     /// The pc of its instruction.
     pub pc: Option<u64>,

@@ -11,7 +11,7 @@ use std::alloc::Global;
 use trace::Trace;
 
 /// What a picture shows of a run.
-#[derive(Clone, Copy, Debug)]
+#[derive(Clone, Copy)]
 pub struct View<'a> {
     /// Only events that touch a byte of one of these ranges are shown; all of them, where there is no range.
     pub ranges: &'a [Range],

@@ -5,7 +5,7 @@ ghost use Rattle.plan_hunt.specs.Endings.{ends_well};
 use hart_step::Stop;
 
 /// How a hart's part of a run ended.
-#[derive(Clone, Copy, Debug, PartialEq, Eq)]
+#[derive(Clone, Copy, PartialEq, Eq)]
 pub enum HartEnding {
     /// It still ran when the rounds were over.
     Runs,

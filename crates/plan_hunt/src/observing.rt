@@ -8,7 +8,7 @@ pub trait HuntObserver {
 }
 
 /// Nobody looks.
-#[derive(Clone, Copy, Debug, PartialEq, Eq)]
+#[derive(Clone, Copy)]
 pub struct UnobservedHunt;
 
 impl HuntObserver for UnobservedHunt {

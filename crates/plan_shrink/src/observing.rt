@@ -5,7 +5,7 @@ pub trait ShrinkObserver {
 }
 
 /// Nobody looks.
-#[derive(Clone, Copy, Debug, PartialEq, Eq)]
+#[derive(Clone, Copy)]
 pub struct UnobservedShrink;
 
 impl ShrinkObserver for UnobservedShrink {

@@ -10,7 +10,7 @@ use std::alloc::{AllocError, AllocFailed};
 use std::fmt::{self, Display, Formatter, Write};
 
 /// Why a run that was asked for isn't done.
-#[derive(Debug, Drop)]
+#[derive(Drop)]
 pub enum RunFailure {
     /// The run was refused.
     Refused(RunError),

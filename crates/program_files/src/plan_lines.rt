@@ -6,7 +6,7 @@ use std::alloc::Global;
 use std::fmt::{self, Display, Formatter, Write};
 
 /// The first bad line of a plan.
-#[derive(Clone, Copy, Debug, PartialEq, Eq, Drop)]
+#[derive(Clone, Copy, Drop)]
 pub struct BadLine {
     /// Its number, from 1 on.
     pub number: usize,
@@ -15,7 +15,7 @@ pub struct BadLine {
 }
 
 /// What is often wrong with a line of a plan.
-#[derive(Clone, Copy, Debug, PartialEq, Eq, Drop)]
+#[derive(Clone, Copy, Drop)]
 pub enum LineFault {
     /// It is the last one, and has no end.
     NoLineFeed,

@@ -6,7 +6,7 @@ use host_io::{RunError, Sink};
 use std::alloc::Global;
 
 /// Why a file can't be read.
-#[derive(Clone, Copy, Debug, PartialEq, Eq, Drop)]
+#[derive(Clone, Copy, Drop)]
 pub enum FileFault {
     /// There is none of its path.
     NotFound,

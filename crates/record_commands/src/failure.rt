@@ -8,7 +8,7 @@ use recording::ReadError;
 use std::fmt::{self, Display, Formatter, Write};
 
 /// Why a recording that was asked for isn't read or written.
-#[derive(Debug, Drop)]
+#[derive(Drop)]
 pub enum RecordFailure {
     /// A file couldn't be read, the run was refused, or memory was.
     Run(RunFailure),

@@ -5,7 +5,7 @@ ghost use Rattle.recording.specs.Views.{checkpoint_view, as_recorded};
 use std::marker::Model;
 
 /// What a recording keeps of a hart after a round.
-#[derive(Clone, Copy, Debug, PartialEq, Eq)]
+#[derive(Clone, Copy, PartialEq, Eq)]
 pub struct HartSummary {
     /// The address of the next instruction.
     pub pc: u64,

@@ -1,5 +1,5 @@
 /// Whether a run is the recorded one.
-#[derive(Clone, Copy, Debug, PartialEq, Eq)]
+#[derive(Clone, Copy, PartialEq, Eq)]
 pub enum Verdict {
     /// In every round the state is the recorded one.
     Same,

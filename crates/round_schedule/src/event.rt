@@ -2,7 +2,7 @@ use crate::access::Access;
 use std::mem::size_of;
 
 /// The two phases of a round in which instructions are done.
-#[derive(Clone, Copy, Debug, PartialEq, Eq)]
+#[derive(Clone, Copy, PartialEq, Eq)]
 pub enum Phase {
     /// Each hart on memory as it was at the round's start, under its own stores.
     Parallel,
@@ -11,7 +11,7 @@ pub enum Phase {
 }
 
 /// An access with the round, the hart and the phase that it was made in.
-#[derive(Clone, Copy, Debug, PartialEq, Eq)]
+#[derive(Clone, Copy, PartialEq, Eq)]
 pub struct Event {
     /// What was done.
     pub access: Access,

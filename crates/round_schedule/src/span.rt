@@ -1,7 +1,7 @@
 use pages::Width;
 
 /// The bytes of one access: `width` of them from `address` on.
-#[derive(Clone, Copy, Debug, PartialEq, Eq)]
+#[derive(Clone, Copy, PartialEq, Eq)]
 pub struct Span {
     /// The address of the first byte.
     pub address: u64,

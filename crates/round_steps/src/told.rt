@@ -5,7 +5,7 @@ ghost use Rattle.run_points.specs.Points.{point_before};
 use run_points::Point;
 
 /// What is told at a point.
-#[derive(Clone, Copy, Debug, PartialEq, Eq)]
+#[derive(Clone, Copy)]
 pub struct Told {
     /// The point.
     pub point: Point,

@@ -8,7 +8,7 @@ use round_planner::Plan;
 const WORTH_A_WORKER: u64 = 16_384;
 
 /// About how many instructions the harts do together in the next round.
-#[derive(Clone, Copy, Debug, PartialEq, Eq)]
+#[derive(Clone, Copy)]
 pub struct RoundWork {
     /// How many they did in the last one, where there was one.
     last: Option<u64>,

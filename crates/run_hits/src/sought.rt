@@ -7,7 +7,7 @@ use pages::Range;
 use std::marker::Brand;
 
 /// Which events of a run are sought.
-#[derive(Clone, Copy, Debug, PartialEq, Eq)]
+#[derive(Clone, Copy)]
 pub struct Sought<'a> {
     /// Those that hit one of these ranges. A range ends at its start plus its length, without wrap; an empty one has no bytes.
     pub ranges: &'a [Range],

@@ -5,7 +5,7 @@ use crate::place::Place;
 use round_schedule::Phase;
 
 /// A moment of a run.
-#[derive(Clone, Copy, Debug, PartialEq, Eq)]
+#[derive(Clone, Copy)]
 pub struct Moment {
     /// How many rounds are done.
     pub rounds: u32,

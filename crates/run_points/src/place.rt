@@ -1,7 +1,7 @@
 use round_schedule::Phase;
 
 /// A moment of a round: a hart after so many of the instructions that it does in it.
-#[derive(Clone, Copy, Debug, PartialEq, Eq)]
+#[derive(Clone, Copy)]
 pub struct Place {
     /// The phase in which its next instruction is, or the one that stopped it.
     pub phase: Phase,

@@ -4,7 +4,7 @@ ghost use Rattle.run_points.specs.Points.{is_behind_move, point_before, same_mom
 use crate::moment::{Moment, phase_number};
 
 /// On which side of a moment something is told, and of which move, in the order in which a debugger comes by them on the way on.
-#[derive(Clone, Copy, Debug, PartialEq, Eq)]
+#[derive(Clone, Copy)]
 pub enum Side {
     /// Behind the move of its hart that leads there.
     After,
@@ -20,7 +20,7 @@ pub enum Side {
 
 /// Where in a run a debugger stops: a moment, and a side of it. A hart's moment is told of behind its last instruction and before its
 /// next one, and other harts may do theirs between.
-#[derive(Clone, Copy, Debug, PartialEq, Eq)]
+#[derive(Clone, Copy)]
 pub struct Point {
     /// The moment.
     pub moment: Moment,

@@ -5,7 +5,7 @@ use host_io::RunError;
 use round_schedule::MOST_WORKERS;
 
 /// How an image is read.
-#[derive(Clone, Copy, Debug, PartialEq, Eq)]
+#[derive(Clone, Copy)]
 pub enum Format {
     /// An ELF file.
     Elf,

@@ -8,7 +8,7 @@ use pages::{Width, number_in, write_number};
 pub(crate) const LINE_BYTES: u64 = 64;
 
 /// 64 bytes from a multiple of 64 on, of which only the covered ones mean something.
-#[derive(Clone, Copy, Debug)]
+#[derive(Clone, Copy)]
 pub struct Line {
     /// The bytes, in rising address.
     pub bytes: [u8; 64],

@@ -13,7 +13,7 @@ use serial_phase::SharedState;
 use std::alloc::Global;
 
 /// How far the harts go.
-#[derive(Clone, Copy, Debug, PartialEq, Eq)]
+#[derive(Clone, Copy)]
 pub struct Bounds {
     /// So many rounds at most.
     pub rounds: u32,

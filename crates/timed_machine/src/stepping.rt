@@ -15,7 +15,7 @@ use round_schedule::Stepped;
 use rv64_decode::{FenceMode, FenceSet, Instr};
 
 /// What came of a hart's next step.
-#[derive(Clone, Copy, Debug, PartialEq, Eq)]
+#[derive(Clone, Copy)]
 pub(crate) enum Advance {
     /// It did a memory operation.
     Operated,

@@ -13,7 +13,7 @@ use std::alloc::AllocError;
 use std::fmt::{self, Display, Formatter, Write};
 
 /// Why a picture isn't drawn.
-#[derive(Debug, Drop)]
+#[derive(Drop)]
 pub enum DrawFailure {
     /// A file couldn't be read, the output couldn't be written, memory was refused, or the run.
     Run(RunFailure),

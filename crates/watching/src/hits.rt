@@ -21,7 +21,7 @@ use std::alloc::Global;
 use trace::Trace;
 
 /// A move of a round that a debugger is told of.
-#[derive(Clone, Copy, Debug, PartialEq, Eq)]
+#[derive(Clone, Copy)]
 pub struct Hit {
     /// The phase that it is made in.
     pub phase: Phase,

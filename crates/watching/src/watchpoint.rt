@@ -1,7 +1,7 @@
 use pages::Range;
 
 /// Which moves on a range of bytes are told.
-#[derive(Clone, Copy, Debug, PartialEq, Eq)]
+#[derive(Clone, Copy, PartialEq, Eq)]
 pub enum WatchKind {
     /// Those after which their hart sees another byte in it than before.
     Changes,
@@ -12,7 +12,7 @@ pub enum WatchKind {
 }
 
 /// A range of bytes that is watched.
-#[derive(Clone, Copy, Debug, PartialEq, Eq)]
+#[derive(Clone, Copy)]
 pub struct Watchpoint {
     /// What is told of it.
     pub kind: WatchKind,
@@ -21,7 +21,7 @@ pub struct Watchpoint {
 }
 
 /// Which way a debugger goes through a run.
-#[derive(Clone, Copy, Debug, PartialEq, Eq)]
+#[derive(Clone, Copy, PartialEq, Eq)]
 pub enum Way {
     /// With time.
     On,
