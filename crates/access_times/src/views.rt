@@ -1,7 +1,7 @@
 //! The times of a hart: before which time what it does next cannot be.
 use crate::operation::Operation;
 use crate::paged_times::PagedTimes;
-use dependencies::Registers;
+use memory_order::Registers;
 use pages::{OutOfMemory, Width};
 use rv64_decode::{FenceMode, FenceSet, Reg};
 use std::alloc::Global;

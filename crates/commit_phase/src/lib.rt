@@ -9,7 +9,6 @@ mod part;
 mod shard;
 mod sharing;
 
-pub use buffer::commit_buffer;
 pub use buffered::Buffered;
 pub use gate::{OpenShards, ShardGate};
 pub use in_turn::commit;

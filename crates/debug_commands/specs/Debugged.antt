@@ -18,8 +18,8 @@ use Rattle.gdb_talk.specs.Serving.{Refused}
 use Rattle.host_io.specs.Taken.{BeganText}
 use Rattle.past_commands.specs.Failures.{failure_number}
 use Rattle.past_commands.specs.declared.failure.PastFailure.{PastFailure}
-use Rattle.program_world.specs.declared.exit_status.ExitStatus.{ExitStatus}
-use Rattle.program_world.specs.declared.exit_status.ExitStatus.TheVariants as statuses
+use Rattle.program_files.specs.declared.exit_status.ExitStatus.{ExitStatus}
+use Rattle.program_files.specs.declared.exit_status.ExitStatus.TheVariants as statuses
 
 -- what a debugger said, what it was answered, and what standard error took, each before and after
 pub record Dialogue : Type 0 where

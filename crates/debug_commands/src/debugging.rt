@@ -11,7 +11,7 @@ use gdb_talk::refuse_each;
 use host_io::{RunError, Sink, Source, put_all};
 use pages::OutOfMemory;
 use past_commands::{PastFailure, PastFiles};
-use program_world::ExitStatus;
+use program_files::ExitStatus;
 use report_lines::Line;
 use std::alloc::Global;
 use std::sync::Wait;

@@ -1,4 +1,4 @@
-use plan_family::draw;
+use round_planner::draw;
 
 /// One operation in so many departs. The longest holds are among the same numbers.
 const RATES: [u64; 9] = [2, 4, 8, 16, 32, 64, 128, 256, 512];

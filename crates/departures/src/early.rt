@@ -234,9 +234,8 @@ fn beginnings_of(alloc: Global, candidates: &[Candidate]) -> Result<Vec<usize>, 
     let mut beginnings = Vec::new(alloc);
     let mut last: Option<&Candidate> = None;
     for (index, candidate) in candidates.iter().enumerate() {
-        let is_same = last.is_some_and(|last| {
-            last.load_pc == candidate.load_pc && last.store_pc == candidate.store_pc
-        });
+        let is_same =
+            matches!(last, Some(last) if last.load_pc == candidate.load_pc && last.store_pc == candidate.store_pc);
         if !is_same {
             beginnings.push(index)?;
         }

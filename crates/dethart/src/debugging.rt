@@ -1,11 +1,11 @@
 //! The command that serves a debugger.
 
-use crate::failure::Failure;
+use crate::refusal::finish;
 use command_line::Gdb;
 use debug_commands::debug_command;
 use host_io::{ReadSource, WriteSink};
 use host_world::HostFiles;
-use program_world::ExitStatus;
+use program_files::ExitStatus;
 use std::io;
 use std::sync::Wait;
 use std::thread::Threads;
@@ -15,11 +15,11 @@ pub(crate) fn serve_debugger<R: Threads + Wait + Sync>(
     rt: &HostRuntime,
     threads: &R,
     asked: &Gdb<'_>,
-) -> Result<ExitStatus, Failure> {
+) -> ExitStatus {
     let mut requests = ReadSource::new(rt.reader());
     let mut replies = WriteSink::new(io::writer(rt));
     let mut errors = WriteSink::new(rt.stderr());
-    Ok(debug_command(
+    let served = debug_command(
         threads,
         rt.alloc(),
         &HostFiles { rt },
@@ -27,5 +27,6 @@ pub(crate) fn serve_debugger<R: Threads + Wait + Sync>(
         &mut requests,
         &mut replies,
         &mut errors,
-    )?)
+    );
+    finish(rt, served)
 }

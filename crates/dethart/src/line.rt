@@ -6,7 +6,7 @@ ghost use Rattle.dethart.specs.declared.failure.Failure.TheVariants as failures;
 use crate::failure::Failure;
 use clap::error::ErrorKind;
 use host_io::RunError;
-use program_world::ExitStatus;
+use program_files::ExitStatus;
 use std::alloc::{AllocError, Global};
 use std::{env, io};
 

@@ -7,6 +7,7 @@ mod failure;
 mod line;
 mod printing;
 mod recordings;
+mod refusal;
 mod run;
 mod unread;
 
@@ -15,7 +16,7 @@ use debugging::serve_debugger;
 use failure::Failure;
 use line::{answer_line, arguments, texts_of};
 use printing::print_answer;
-use program_world::ExitStatus;
+use program_files::ExitStatus;
 use recordings::{make_recording, migrate_file};
 use std::process::ExitCode;
 use std::sync::Wait;
@@ -23,14 +24,15 @@ use std::thread::Threads;
 use unread::tell_unread;
 
 fn main(rt: HostRuntime) -> ExitCode {
-    match start(&rt, &rt) {
-        Ok(answer) => ExitCode::from(answer.number()),
+    let status = match start(&rt, &rt) {
+        Ok(status) => status,
         Err(failure) => {
             // There is nobody left to tell where standard error takes nothing.
             let _unwritten = failure.print(&rt);
-            ExitCode::from(failure.status().number())
+            failure.status()
         }
-    }
+    };
+    ExitCode::from(status.number())
 }
 
 /// Does what the command line says, on the threads that `threads` starts.
@@ -57,7 +59,7 @@ fn obey_words<R: Threads + Wait + Sync>(
 ) -> Result<ExitStatus, Failure> {
     let words = asked_by_options(rt.alloc(), words)?;
     match parse_line(rt.alloc(), words.as_slice()) {
-        Ok(command) => obey(rt, threads, &command),
+        Ok(command) => Ok(obey(rt, threads, &command)),
         Err(error) => answer_line(rt, error),
     }
 }
@@ -67,7 +69,7 @@ fn obey<R: Threads + Wait + Sync>(
     rt: &HostRuntime,
     threads: &R,
     command: &Command<'_>,
-) -> Result<ExitStatus, Failure> {
+) -> ExitStatus {
     tell_unread(rt, command);
     match command {
         Command::Record(asked) => make_recording(rt, threads, asked),

@@ -1,43 +1,35 @@
 //! What the commands print to standard output, and the exit status that goes with it.
 //!
-//! Each command stays a function of the program: if all are laid into the one that calls them, LLVM takes longer for it than for them.
+//! `inline(never)` keeps each command a function of its own: laid into the one that calls them, they are a function of 168 KB.
 
-use crate::failure::Failure;
+use crate::refusal::{finish, finish_printing};
 use crate::run::progress_of;
 use command_line::{
     Check, Command, Draw, Execution, Fences, Hunt, Merge, Plan, Print, Replay, Run, Shrink, Watch,
 };
-use executing_commands::{WeakExecuter, execution_command};
 use execution_commands::check_command;
-use fence_commands::{FenceSearcher, fences_command};
+use host_io::RunError;
 use host_world::{HostFiles, HostMessages, HostOutput, Progress};
 use hunt_commands::{WeakHunter, hunt_command, merge_command, plan_command, shrink_command};
 use past_commands::{replay_command, watch_command};
-use program_world::ExitStatus;
+use program_files::ExitStatus;
 use run_commands::{order_command, run_command};
 use std::sync::Wait;
 use std::thread::Threads;
 use view_commands::{draw_command, trace_command};
+use weak_commands::{
+    FenceSearcher, FencesFailure, WeakExecuter, execution_command, fences_command,
+};
 
 /// Does what a command says that prints to standard output.
 pub(crate) fn print_answer<R: Threads + Wait + Sync>(
     rt: &HostRuntime,
     threads: &R,
     command: &Command<'_>,
-) -> Result<ExitStatus, Failure> {
-    let mut out = HostOutput::new(rt)?;
-    match put_answer(rt, threads, command, &mut out) {
-        Ok(status) => Ok(status),
-        Err(failure) => Err(told_of(failure, out.reader_is_gone)),
-    }
-}
-
-/// The failure of a command that printed to an output, of which the reader may have gone.
-fn told_of(failure: Failure, reader_is_gone: bool) -> Failure {
-    if reader_is_gone && failure.is_of_output() {
-        Failure::ReaderGone
-    } else {
-        failure
+) -> ExitStatus {
+    match HostOutput::new(rt) {
+        Ok(mut out) => put_answer(rt, threads, command, &mut out),
+        Err(error) => finish::<RunError>(rt, Err(error)),
     }
 }
 
@@ -47,7 +39,7 @@ fn put_answer<R: Threads + Wait + Sync>(
     threads: &R,
     command: &Command<'_>,
     out: &mut HostOutput<'_>,
-) -> Result<ExitStatus, Failure> {
+) -> ExitStatus {
     match command {
         Command::Run(asked) => put_run(rt, threads, asked, out),
         Command::Order(run) => put_order(rt, threads, run, out),
@@ -63,18 +55,7 @@ fn put_answer<R: Threads + Wait + Sync>(
         Command::Execution(asked) => put_execution(rt, threads, asked, out),
         Command::Check(asked) => put_check(rt, asked, out),
         // These print nothing there.
-        Command::Record(_) | Command::Migrate(_) | Command::Gdb(_) => Ok(ExitStatus::Done),
-    }
-}
-
-/// What came of a command.
-fn told<E>(answer: Result<ExitStatus, E>) -> Result<ExitStatus, Failure>
-where
-    Failure: From<E>,
-{
-    match answer {
-        Ok(status) => Ok(status),
-        Err(error) => Err(Failure::from(error)),
+        Command::Record(_) | Command::Migrate(_) | Command::Gdb(_) => ExitStatus::Done,
     }
 }
 
@@ -85,9 +66,9 @@ fn put_run<R: Threads + Wait + Sync>(
     threads: &R,
     asked: &Print<'_>,
     out: &mut HostOutput<'_>,
-) -> Result<ExitStatus, Failure> {
+) -> ExitStatus {
     let mut progress = progress_of(rt, &asked.run.program);
-    told(run_command(
+    let answer = run_command(
         threads,
         rt.alloc(),
         &HostFiles { rt },
@@ -95,7 +76,8 @@ fn put_run<R: Threads + Wait + Sync>(
         &mut progress,
         out,
         &HostMessages { rt },
-    ))
+    );
+    finish_printing(rt, out.reader_is_gone, answer)
 }
 
 /// Runs the guest program, and prints the order of its memory operations.
@@ -105,16 +87,17 @@ fn put_order<R: Threads + Wait + Sync>(
     threads: &R,
     run: &Run<'_>,
     out: &mut HostOutput<'_>,
-) -> Result<ExitStatus, Failure> {
+) -> ExitStatus {
     let mut progress = progress_of(rt, &run.program);
-    told(order_command(
+    let answer = order_command(
         threads,
         rt.alloc(),
         &HostFiles { rt },
         run,
         &mut progress,
         out,
-    ))
+    );
+    finish_printing(rt, out.reader_is_gone, answer)
 }
 
 /// Replays the recording of a file, and prints what came of it, or the hart that is asked for.
@@ -124,16 +107,17 @@ fn put_replay<R: Threads + Wait + Sync>(
     threads: &R,
     asked: &Replay<'_>,
     out: &mut HostOutput<'_>,
-) -> Result<ExitStatus, Failure> {
+) -> ExitStatus {
     let mut progress = Progress::new(rt, asked.progress, 0);
-    told(replay_command(
+    let answer = replay_command(
         threads,
         rt.alloc(),
         &HostFiles { rt },
         asked,
         &mut progress,
         out,
-    ))
+    );
+    finish_printing(rt, out.reader_is_gone, answer)
 }
 
 /// Runs the recording of a file anew, and prints which accesses hit.
@@ -143,9 +127,9 @@ fn put_watch<R: Threads + Wait + Sync>(
     threads: &R,
     asked: &Watch<'_>,
     out: &mut HostOutput<'_>,
-) -> Result<ExitStatus, Failure> {
+) -> ExitStatus {
     let mut progress = Progress::new(rt, asked.progress, 0);
-    told(watch_command(
+    let answer = watch_command(
         threads,
         rt.alloc(),
         &HostFiles { rt },
@@ -153,7 +137,8 @@ fn put_watch<R: Threads + Wait + Sync>(
         &mut progress,
         out,
         &HostMessages { rt },
-    ))
+    );
+    finish_printing(rt, out.reader_is_gone, answer)
 }
 
 /// Runs the guest program by many plans, and prints the table of its endings.
@@ -163,9 +148,9 @@ fn put_hunt<R: Threads + Wait + Sync>(
     threads: &R,
     asked: &Hunt<'_>,
     out: &mut HostOutput<'_>,
-) -> Result<ExitStatus, Failure> {
+) -> ExitStatus {
     let mut progress = Progress::new(rt, asked.search.program.progress, asked.plans);
-    told(hunt_command(
+    let answer = hunt_command(
         threads,
         rt.alloc(),
         &HostFiles { rt },
@@ -174,7 +159,8 @@ fn put_hunt<R: Threads + Wait + Sync>(
         &mut progress,
         out,
         &HostMessages { rt },
-    ))
+    );
+    finish_printing(rt, out.reader_is_gone, answer)
 }
 
 /// Looks for missing fences, and prints at which places they are missing.
@@ -184,9 +170,9 @@ fn put_fences<R: Threads + Wait + Sync>(
     threads: &R,
     asked: &Fences<'_>,
     out: &mut HostOutput<'_>,
-) -> Result<ExitStatus, Failure> {
+) -> ExitStatus {
     let mut progress = Progress::new(rt, asked.search.program.progress, asked.plans);
-    told(fences_command(
+    let answer = fences_command(
         threads,
         rt.alloc(),
         &mut HostFiles { rt },
@@ -195,7 +181,10 @@ fn put_fences<R: Threads + Wait + Sync>(
         &mut progress,
         out,
         &HostMessages { rt },
-    ))
+    );
+    // A file that can't be written is no fault of the output.
+    let is_of_output = !matches!(answer, Err(FencesFailure::Unwritten(_)));
+    finish_printing(rt, out.reader_is_gone && is_of_output, answer)
 }
 
 /// Prints a smaller plan that leads to the same ending, and on standard error its budget.
@@ -205,9 +194,9 @@ fn put_shrunk<R: Threads + Wait + Sync>(
     threads: &R,
     asked: &Shrink<'_>,
     out: &mut HostOutput<'_>,
-) -> Result<ExitStatus, Failure> {
+) -> ExitStatus {
     let mut progress = Progress::new(rt, asked.search.program.progress, 0);
-    told(shrink_command(
+    let answer = shrink_command(
         threads,
         rt.alloc(),
         &HostFiles { rt },
@@ -215,27 +204,22 @@ fn put_shrunk<R: Threads + Wait + Sync>(
         &mut progress,
         out,
         &HostMessages { rt },
-    ))
+    );
+    finish_printing(rt, out.reader_is_gone, answer)
 }
 
 /// Prints the table of all plans of the tables in some files.
 #[inline(never)]
-fn put_merged(
-    rt: &HostRuntime,
-    asked: &Merge<'_>,
-    out: &mut HostOutput<'_>,
-) -> Result<ExitStatus, Failure> {
-    told(merge_command(rt.alloc(), &HostFiles { rt }, asked, out))
+fn put_merged(rt: &HostRuntime, asked: &Merge<'_>, out: &mut HostOutput<'_>) -> ExitStatus {
+    let answer = merge_command(rt.alloc(), &HostFiles { rt }, asked, out);
+    finish_printing(rt, out.reader_is_gone, answer)
 }
 
 /// Prints a plan of the family, and on standard error its budget, which a plan's text has no place for.
 #[inline(never)]
-fn put_plan(
-    rt: &HostRuntime,
-    asked: &Plan,
-    out: &mut HostOutput<'_>,
-) -> Result<ExitStatus, Failure> {
-    told(plan_command(rt.alloc(), asked, out, &HostMessages { rt }))
+fn put_plan(rt: &HostRuntime, asked: &Plan, out: &mut HostOutput<'_>) -> ExitStatus {
+    let answer = plan_command(rt.alloc(), asked, out, &HostMessages { rt });
+    finish_printing(rt, out.reader_is_gone, answer)
 }
 
 /// Runs the guest program, and prints a picture of the run, or prints that of an execution.
@@ -245,16 +229,17 @@ fn put_drawing<R: Threads + Wait + Sync>(
     threads: &R,
     asked: &Draw<'_>,
     out: &mut HostOutput<'_>,
-) -> Result<ExitStatus, Failure> {
+) -> ExitStatus {
     let mut progress = progress_of(rt, &asked.run.program);
-    told(draw_command(
+    let answer = draw_command(
         threads,
         rt.alloc(),
         &HostFiles { rt },
         asked,
         &mut progress,
         out,
-    ))
+    );
+    finish_printing(rt, out.reader_is_gone, answer)
 }
 
 /// Runs the guest program, and prints its trace for viewers of traces.
@@ -264,16 +249,17 @@ fn put_trace<R: Threads + Wait + Sync>(
     threads: &R,
     run: &Run<'_>,
     out: &mut HostOutput<'_>,
-) -> Result<ExitStatus, Failure> {
+) -> ExitStatus {
     let mut progress = progress_of(rt, &run.program);
-    told(trace_command(
+    let answer = trace_command(
         threads,
         rt.alloc(),
         &HostFiles { rt },
         run,
         &mut progress,
         out,
-    ))
+    );
+    finish_printing(rt, out.reader_is_gone, answer)
 }
 
 /// Prints an execution of the guest program.
@@ -283,9 +269,9 @@ fn put_execution<R: Threads + Wait + Sync>(
     threads: &R,
     asked: &Execution<'_>,
     out: &mut HostOutput<'_>,
-) -> Result<ExitStatus, Failure> {
+) -> ExitStatus {
     let mut progress = progress_of(rt, &asked.run.program);
-    told(execution_command(
+    let answer = execution_command(
         threads,
         rt.alloc(),
         &HostFiles { rt },
@@ -293,15 +279,13 @@ fn put_execution<R: Threads + Wait + Sync>(
         asked,
         &mut progress,
         out,
-    ))
+    );
+    finish_printing(rt, out.reader_is_gone, answer)
 }
 
 /// Checks the execution of a file, and prints whether RVWMO allows it.
 #[inline(never)]
-fn put_check(
-    rt: &HostRuntime,
-    asked: &Check<'_>,
-    out: &mut HostOutput<'_>,
-) -> Result<ExitStatus, Failure> {
-    told(check_command(rt.alloc(), &HostFiles { rt }, asked, out))
+fn put_check(rt: &HostRuntime, asked: &Check<'_>, out: &mut HostOutput<'_>) -> ExitStatus {
+    let answer = check_command(rt.alloc(), &HostFiles { rt }, asked, out);
+    finish_printing(rt, out.reader_is_gone, answer)
 }

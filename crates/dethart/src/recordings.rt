@@ -1,11 +1,11 @@
 //! The commands that make recordings: they get the world of the host.
 
-use crate::failure::Failure;
+use crate::refusal::finish;
 use crate::run::progress_of;
 use command_line::{Migrate, Record};
 use host_world::HostFiles;
-use program_world::ExitStatus;
-use record_commands::{migrate_command, record_command};
+use program_files::ExitStatus;
+use run_commands::{migrate_command, record_command};
 use std::sync::Wait;
 use std::thread::Threads;
 
@@ -14,13 +14,17 @@ pub(crate) fn make_recording<R: Threads + Wait + Sync>(
     rt: &HostRuntime,
     threads: &R,
     asked: &Record<'_>,
-) -> Result<ExitStatus, Failure> {
+) -> ExitStatus {
     let mut files = HostFiles { rt };
     let mut progress = progress_of(rt, &asked.run.program);
-    Ok(record_command(threads, rt.alloc(), &mut files, asked, &mut progress)?)
+    let recorded = record_command(threads, rt.alloc(), &mut files, asked, &mut progress);
+    finish(rt, recorded)
 }
 
 /// Writes the recording of a file to another file, in the newest version.
-pub(crate) fn migrate_file(rt: &HostRuntime, asked: &Migrate<'_>) -> Result<ExitStatus, Failure> {
-    Ok(migrate_command(rt.alloc(), &mut HostFiles { rt }, asked)?)
+pub(crate) fn migrate_file(rt: &HostRuntime, asked: &Migrate<'_>) -> ExitStatus {
+    finish(
+        rt,
+        migrate_command(rt.alloc(), &mut HostFiles { rt }, asked),
+    )
 }

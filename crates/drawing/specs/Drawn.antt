@@ -3,7 +3,7 @@ use Rattle.std.specs.Prelude.{◌≡◌, ℕ, ◌-◌, ◌==◌, if◌then◌els
 use Rattle.round_planner.specs.Quotas.{Planned}
 use Rattle.round_schedule.specs.declared.event.Event.{Event}
 use Rattle.round_schedule.specs.Accesses.{address_of, bytes_of}
-use Rattle.elf_symbols.specs.Offsets.{NamedOffset, object_offset}
+use Rattle.elf_loader.specs.Offsets.{NamedOffset, object_offset}
 use Rattle.picture.specs.Picture.{Drawn, picture_text}
 use Rattle.picture.specs.Rows.{events_shown}
 use Rattle.picture.specs.Titles.{Told}
@@ -15,7 +15,7 @@ use Rattle.run_settings.specs.Settings.{IsPlan, image_for}
 use Rattle.run_settings.specs.declared.settings.Format.{Format}
 use Rattle.run_settings.specs.declared.settings.Format.TheVariants.{Elf, Flat}
 use Rattle.run_settings.specs.declared.settings.Settings.{Settings}
-use Rattle.event_pcs.specs.Pcs.{pc_before}
+use Rattle.run_events.specs.Pcs.{pc_before}
 
 -- ---- what is drawn
 

@@ -8,7 +8,7 @@ ghost use Rattle.round_schedule.specs.Bounds.{AreWorkers};
 ghost use Rattle.run_settings.specs.Settings.{IsReason, RefusedInOrder, settings_fault};
 ghost use Rattle.drawing.specs.Drawn.{IsPictureOfRun, before_drawn, last_drawn, picture_of};
 ghost use Rattle.drawing.specs.DrawnRounds.{HasDrawnAll};
-ghost use Rattle.text_writes.specs.Writes.{IsFaultOr, WritesAnswer};
+ghost use Rattle.host_io.specs.Writes.{IsFaultOr, WritesAnswer};
 
 use crate::drawn_rounds::{Drawing, DrawnRounds};
 use crate::sites::sites_of;

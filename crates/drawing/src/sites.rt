@@ -5,13 +5,13 @@ ghost use Rattle.round_schedule.specs.declared.event.Event.{Event};
 ghost use Rattle.host_io.specs.declared.error.RunError.TheVariants as refusals;
 ghost use Rattle.machine.specs.Machine.{Running, after_rounds};
 ghost use Rattle.machine.specs.Untraced.{IsUntraced};
-ghost use Rattle.elf_symbols.specs.Offsets.{as_offset};
+ghost use Rattle.elf_loader.specs.Offsets.{as_offset};
 ghost use Rattle.picture.specs.Rows.{events_shown};
 ghost use Rattle.picture.specs.Titles.{told};
 ghost use Rattle.drawing.specs.Drawn.{object_touched, told_by, told_of};
 ghost use Rattle.round_schedule.specs.Bounds.{AreWorkers};
 
-use elf_symbols::{SymbolOffset, find_object_offset};
+use elf_loader::{SymbolOffset, find_object_offset};
 use host_io::RunError;
 use machine::{Format, Settings, UntracedMachine};
 use pages::OutOfMemory;

@@ -5,3 +5,5 @@ pub mod Bytes
 pub mod Causes
 pub mod ElfLaws
 pub mod FlatImage
+pub mod Holding
+pub mod Searching

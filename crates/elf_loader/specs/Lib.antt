@@ -4,3 +4,5 @@ pub mod ElfCauses
 pub mod ElfTests
 pub mod Image
 pub mod Segments
+pub mod Offsets
+pub mod Symbols

@@ -2,7 +2,7 @@ ghost use Rattle.std.specs.Prelude.{◌≡◌, ◌≢◌, ◌≤◌, ◌⊎◌, 
 ghost use Rattle.std.specs.List.{list_any};
 ghost use Rattle.elf_loader.specs.Causes.{IsLeast};
 ghost use Rattle.elf_loader.specs.Elf.{elf_image};
-ghost use Rattle.elf_loader.specs.ElfCauses.{StandsInElf, has_magic, has_table, is_entry, is_little_64, is_past_file};
+ghost use Rattle.elf_loader.specs.ElfCauses.{StandsInElf, has_table, is_entry, is_past_file};
 ghost use Rattle.elf_loader.specs.ElfTests.{ArePieces, first_true, header_tests, segment_tests};
 ghost use Rattle.elf_loader.specs.Segments.{code_of, segments_of};
 ghost use Rattle.host_io.specs.declared.load_error.LoadError.{LoadError as Cause};
@@ -10,16 +10,12 @@ ghost use Rattle.host_io.specs.declared.load_error.LoadError.TheVariants as caus
 ghost use Rattle.pages.specs.Memory.{is_code};
 
 use crate::field::{double_at, half_at, word_at};
+use crate::header::{HEADER, has_magic, is_little_64, passes};
 use crate::image::Image;
-use crate::segment::{
-    Segment, has_overlap, passes, some_past_file, some_past_memory, some_writable_code,
-};
+use crate::segment::{Segment, has_overlap, some_past_file, some_past_memory, some_writable_code};
 use host_io::LoadError;
 use pages::{MOST_PAGES, Piece, Range};
 use std::alloc::{AllocError, Global};
-
-/// The length of the file's header.
-const HEADER: usize = 64;
 
 /// The length of a program header.
 const PROGRAM_HEADER: u16 = 56;
@@ -35,20 +31,6 @@ const RISC_V: u16 = 243;
 
 /// The type of a program header whose segment is loaded.
 const LOADED: u32 = 1;
-
-fn has_magic(file: &[u8]) -> bool
-    requires { 4 ≤ length file.now }
-    ensures { result ≡ has_magic file.now }
-{
-    file[0] == 0x7f && file[1] == b'E' && file[2] == b'L' && file[3] == b'F'
-}
-
-fn is_little_64(file: &[u8]) -> bool
-    requires { 7 ≤ length file.now }
-    ensures { result ≡ is_little_64 file.now }
-{
-    file[4] == 2 && file[5] == 1 && file[6] == 1
-}
 
 fn has_table(file: &[u8]) -> bool
     requires { 64 ≤ length file.now }

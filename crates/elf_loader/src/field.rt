@@ -5,7 +5,7 @@ use byteorder::{ByteOrder, LittleEndian};
 
 /// The number of 16 bits at an offset of a file, its least significant byte first.
 #[tactic(auto, unfolding(crate::specs::Segments::field))]
-pub fn half_at(file: &[u8], offset: usize) -> u16
+pub(crate) fn half_at(file: &[u8], offset: usize) -> u16
     requires { offset + 2 ≤ length file.now }
     ensures { result ≡ field file.now offset 2 }
 {
@@ -14,7 +14,7 @@ pub fn half_at(file: &[u8], offset: usize) -> u16
 
 /// The number of 32 bits at an offset of a file, its least significant byte first.
 #[tactic(auto, unfolding(crate::specs::Segments::field))]
-pub fn word_at(file: &[u8], offset: usize) -> u32
+pub(crate) fn word_at(file: &[u8], offset: usize) -> u32
     requires { offset + 4 ≤ length file.now }
     ensures { result ≡ field file.now offset 4 }
 {
@@ -23,7 +23,7 @@ pub fn word_at(file: &[u8], offset: usize) -> u32
 
 /// The number of 64 bits at an offset of a file, its least significant byte first.
 #[tactic(auto, unfolding(crate::specs::Segments::field))]
-pub fn double_at(file: &[u8], offset: usize) -> u64
+pub(crate) fn double_at(file: &[u8], offset: usize) -> u64
     requires { offset + 8 ≤ length file.now }
     ensures { result ≡ field file.now offset 8 }
 {

@@ -1,10 +1,11 @@
 ghost use Rattle.std.specs.Prelude.{◌≡◌, ◌≤◌, ◌+◌, length};
 ghost use Rattle.std.specs.List.{list_any};
-ghost use Rattle.elf_loader.specs.ElfCauses.{is_past_file, is_past_memory, is_writable_code, passes};
+ghost use Rattle.elf_loader.specs.ElfCauses.{is_past_file, is_past_memory, is_writable_code};
 ghost use Rattle.elf_loader.specs.ElfTests.{has_overlap, shares};
 ghost use Rattle.elf_loader.specs.Segments.{is_executable, memory_range, segment_at};
 
 use crate::field::{double_at, word_at};
+use crate::header::passes;
 use pages::Range;
 
 /// A part of an ELF file that is loaded.
@@ -20,13 +21,6 @@ pub(crate) struct Segment {
     pub(crate) file_len: u64,
     /// How many bytes it has in guest memory. Those past the file's are 0.
     pub(crate) memory_len: u64,
-}
-
-/// Whether a part passes an end. The sum may exceed 64 bits.
-pub(crate) fn passes(end: u64, start: u64, len: u64) -> bool
-    ensures { result ≡ passes end start len }
-{
-    u128::from(start) + u128::from(len) > u128::from(end)
 }
 
 impl Segment {

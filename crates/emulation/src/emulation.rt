@@ -1,7 +1,7 @@
 ghost use Rattle.host_io.specs.declared.error.RunError.TheVariants as refusals;
 ghost use Rattle.run_settings.specs.Settings.{IsReason, RefusedInOrder, settings_fault};
 ghost use Rattle.emulation.specs.Reports.{IsReportAlone};
-ghost use Rattle.text_writes.specs.Writes.{IsFaultOr, WritesAnswer};
+ghost use Rattle.host_io.specs.Writes.{IsFaultOr, WritesAnswer};
 
 use crate::showing::report_run;
 use host_io::{RunError, Sink};

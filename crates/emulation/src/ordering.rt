@@ -4,7 +4,7 @@ ghost use Rattle.emulation.specs.OrderedRun.{IsOrderText};
 ghost use Rattle.emulation.specs.Visited.{HasSeenRun};
 ghost use Rattle.machine.specs.Untraced.{Untraced};
 ghost use Rattle.run_settings.specs.Settings.{IsReason, RefusedInOrder, settings_fault};
-ghost use Rattle.text_writes.specs.Writes.{IsFaultOr, WritesAnswer};
+ghost use Rattle.host_io.specs.Writes.{IsFaultOr, WritesAnswer};
 
 use crate::tracing::trace_run;
 use host_io::{RunError, Sink};

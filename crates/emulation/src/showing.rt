@@ -10,7 +10,7 @@ ghost use Rattle.machine.specs.Untraced.{IsUntraced, Untraced};
 ghost use Rattle.machine.specs.Walks.{HasSeenAll};
 ghost use Rattle.report.specs.Report.{report_of};
 ghost use Rattle.round_schedule.specs.Bounds.{AreWorkers};
-ghost use Rattle.text_writes.specs.Writes.{IsFaultOr, WritesAnswer};
+ghost use Rattle.host_io.specs.Writes.{IsFaultOr, WritesAnswer};
 
 use crate::reporting::{report_on, untraced_state_of};
 use crate::run_end::{RunEnd, end_of};

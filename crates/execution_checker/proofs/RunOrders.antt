@@ -9,7 +9,7 @@ use Rattle.hart_step.proofs.Soundness.{sound}
 use Rattle.memory_order.specs.Operations.{is_plain_store}
 use Rattle.memory_order.specs.Rvwmo.{MeetsRvwmo}
 use Rattle.memory_order.proofs.Meeting.{runs_meet}
-use Rattle.dependencies.proofs.Wider.{wider_is_wider}
+use Rattle.memory_order.proofs.Wider.{wider_is_wider}
 use Rattle.execution.specs.Executions.{Standing}
 use Rattle.execution.specs.Progressing.{at_start}
 use Rattle.execution.specs.Runs.{IsOfRun, told_run}

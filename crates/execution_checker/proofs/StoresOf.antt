@@ -27,7 +27,7 @@ use Rattle.hart_step.specs.SerialStep.{called, conditional_by, exchanged_by, is_
 use Rattle.hart_step.specs.Step.{branched, by_instr, by_word, jumped, read_by, stopped_by}
 use Rattle.hart_step.proofs.ByWord.{of_test}
 use Rattle.memory_order.specs.Operations.{is_plain_store}
-use Rattle.dependencies.specs.WiderRule.{StoresAreOfStores, is_store_instruction}
+use Rattle.memory_order.specs.WiderRule.{StoresAreOfStores, is_store_instruction}
 use Rattle.execution.specs.Executions.{Executes, IsStep, Standing, begins, goes, no_access, stops}
 use Rattle.execution.proofs.Answering.{decoded_like}
 use Rattle.execution.proofs.Forming.{executes_even}

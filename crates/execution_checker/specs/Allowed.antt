@@ -2,7 +2,7 @@
 use Rattle.std.specs.Prelude.{◌≡◌, ℕ, ◌<◌, List, [], ◌∷◌, ◌++◌, length, slice_index_or, take}
 use Rattle.pages.specs.Memory.{Memory}
 use Rattle.memory_order.specs.Rvwmo.{MeetsRvwmoBy}
-use Rattle.dependencies.specs.Dependencies.{DependencyRule}
+use Rattle.memory_order.specs.Dependencies.{DependencyRule}
 use Rattle.execution.specs.declared.step.ScriptedStep.{ScriptedStep}
 use Rattle.execution.specs.declared.step_fault.StepFault.{StepFault}
 use Rattle.execution.specs.Executions.{Standing, Takes}

@@ -5,8 +5,8 @@ use Rattle.execution_scripts.specs.declared.checking.Checked.{Checked}
 use Rattle.execution_scripts.specs.declared.checking.Finding.{Finding}
 use Rattle.execution_scripts.specs.declared.checking.Finding.TheVariants.{Fault, Judged}
 use Rattle.hart_step.specs.declared.hart.Hart.{Hart}
-use Rattle.program_world.specs.declared.exit_status.ExitStatus.{ExitStatus}
-use Rattle.program_world.specs.declared.exit_status.ExitStatus.TheVariants.{Differs, Done}
+use Rattle.program_files.specs.declared.exit_status.ExitStatus.{ExitStatus}
+use Rattle.program_files.specs.declared.exit_status.ExitStatus.TheVariants.{Differs, Done}
 use Rattle.report.specs.Report.{harts_text}
 
 -- RVWMO allows it

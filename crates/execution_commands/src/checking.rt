@@ -10,8 +10,7 @@ use crate::verdicts::put_verdict;
 use command_line::Check;
 use execution_scripts::{Checked, check_file};
 use host_io::RunError;
-use program_files::read_file;
-use program_world::{ExitStatus, Files, Output};
+use program_files::{ExitStatus, Files, Output, read_file};
 use std::alloc::Global;
 
 /// Checks the execution of a file, and prints whether RVWMO allows it.

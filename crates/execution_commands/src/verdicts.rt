@@ -8,7 +8,7 @@ ghost use Rattle.report.specs.Report.{harts_text};
 use execution_scripts::{Checked, Finding, Verdict};
 use host_io::{RunError, Sink, put_all};
 use pages::OutOfMemory;
-use program_world::ExitStatus;
+use program_files::ExitStatus;
 use report_lines::{Line, hart_lines};
 use std::alloc::{AllocError, Global};
 

@@ -4,3 +4,5 @@ pub mod Whole
 pub mod Loops
 pub mod Written
 pub mod WordLoops
+mod Doing
+mod NamedTurns

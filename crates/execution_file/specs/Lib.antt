@@ -4,3 +4,5 @@ pub mod Grammar
 pub mod Recorded
 pub mod Views
 pub mod Refusals
+pub mod Deeds
+pub mod Turns

@@ -11,7 +11,7 @@ use Rattle.byte_sources.proofs.Firsts.{first_found}
 use Rattle.execution.specs.Executions.{Standing}
 use Rattle.execution_views.specs.Moments.{byte_at}
 use Rattle.execution_views.specs.Passing.{IsBefore}
-use Rattle.view_law.specs.Laws.{LoadsReadWhatIsSeen}
+use Rattle.execution_views.specs.Laws.{LoadsReadWhatIsSeen}
 use Rattle.execution_moments.specs.declared.course.Course.{Course}
 use Rattle.execution_moments.specs.declared.course.HartMoment.{HartMoment}
 use Rattle.execution_moments.specs.Courses.{IsCourse, before_one, stopped_from}

@@ -1,8 +1,8 @@
 -- At which times something is told.
 use Rattle.std.specs.Prelude.{ℕ, ◌-◌, ◌||◌, ◌&&◌, Bool, false, List, length, Option, Some, None}
-use Rattle.walking.specs.declared.asked.Asked.{Asked}
-use Rattle.walking.specs.Hits.{is_fault, is_hart}
-use Rattle.walking.specs.Stops.{is_one_of}
+use Rattle.moments.specs.declared.asked.Asked.{Asked}
+use Rattle.moments.specs.Hits.{is_fault, is_hart}
+use Rattle.moments.specs.Stops.{is_one_of}
 use Rattle.byte_sources.specs.Marks.{first_from}
 use Rattle.byte_sources.specs.Sources.{last_below}
 use Rattle.execution_moments.specs.declared.course.Course.{Course}

@@ -2,7 +2,7 @@
 
 ghost use Rattle.execution_moments.specs.Laws.{HartsRespectProgramOrder, LoadsReadWhatIsShown};
 
-use view_law::loads_read_what_is_seen;
+use execution_views::loads_read_what_is_seen;
 
 /// In the order of time each hart does its instructions in program order.
 pub fn harts_respect_program_order()

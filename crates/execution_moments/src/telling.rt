@@ -4,7 +4,7 @@ ghost use Rattle.std.specs.Prelude.{◌≡◌, ◌+◌};
 ghost use Rattle.execution_moments.specs.Told.{is_told, next_by, next_told, previous_told};
 
 use crate::course::Course;
-use walking::Asked;
+use moments::Asked;
 
 impl Course {
     /// Whether something is told at a time.

@@ -5,8 +5,7 @@ ghost use Rattle.memory_order.specs.Orders.{ListsOperations};
 ghost use Rattle.round_schedule.specs.Positions.{event};
 ghost use Rattle.execution_moments.specs.Times.{AreLatest, AreTimes, AreTimesBy, is_load_of, is_operation_of, later_of, sooner_of};
 
-use memory_order::{Order, is_operation};
-use order_checker::positions;
+use memory_order::{Order, is_operation, positions};
 use pages::OutOfMemory;
 use round_schedule::Event;
 use std::alloc::Global;

@@ -18,10 +18,11 @@ pub(crate) struct Home {
 
 /// Whether the operation at an index is nearer to another than what was found so far, on the side where that belongs.
 fn is_nearer(stray: Stray, sought: usize, index: usize, found: Option<Home>) -> bool {
-    let nearest = found.map(|home| home.neighbour);
-    match stray {
-        Stray::Late => index > sought && nearest.is_none_or(|nearest| index < nearest),
-        Stray::Early => index < sought && nearest.is_none_or(|nearest| index > nearest),
+    match (stray, found) {
+        (Stray::Late, None) => index > sought,
+        (Stray::Early, None) => index < sought,
+        (Stray::Late, Some(nearest)) => index > sought && index < nearest.neighbour,
+        (Stray::Early, Some(nearest)) => index < sought && index > nearest.neighbour,
     }
 }
 

@@ -124,8 +124,10 @@ fn mark_block(
 
 /// Whether the operation at a position only stores.
 fn is_plain_store(scene: &ExecutionScene<'_>, position: usize) -> bool {
-    scene.operation(position).is_some_and(|(_, event)| event.access.stores()
-        && !event.access.loads())
+    match scene.operation(position) {
+        Some((_, event)) => event.access.stores() && !event.access.loads(),
+        None => false,
+    }
 }
 
 /// Marks those of a block that are out of order in this way.

@@ -11,7 +11,7 @@ use Rattle.elf_loader.specs.Image.{Loaded}
 use Rattle.guest_rounds.specs.Guests.{opening_guest}
 use Rattle.guest_rounds.specs.Opening.{opening_harts}
 use Rattle.execution_file.specs.Recorded.{HartDeeds}
-use Rattle.execution_deeds.specs.Deeds.{deeds, parts_from}
+use Rattle.execution_file.specs.Deeds.{deeds, parts_from}
 use Rattle.execution_scripts.specs.Findings.{start_of}
 
 -- a step changes one hart

@@ -14,8 +14,8 @@ use Rattle.execution_views.specs.declared.sights.HartStep.{HartStep}
 use Rattle.execution_views.specs.Walks.{AreSights}
 use Rattle.trace.specs.Traced.{opening_at}
 use Rattle.execution_file.specs.Recorded.{HartDeeds, Recorded, Turn}
-use Rattle.execution_deeds.specs.Deeds.{deeds}
-use Rattle.execution_deeds.specs.Turns.{AreNames}
+use Rattle.execution_file.specs.Deeds.{deeds}
+use Rattle.execution_file.specs.Turns.{AreNames}
 use Rattle.execution_scripts.specs.declared.checking.Checked.{Checked}
 use Rattle.execution_scripts.specs.declared.checking.Finding.{Finding}
 use Rattle.execution_scripts.specs.declared.checking.Finding.TheVariants.{Fault, Judged}

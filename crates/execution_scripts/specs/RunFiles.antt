@@ -5,7 +5,7 @@ use Rattle.run_settings.specs.declared.settings.Format.TheVariants.{Elf, Flat}
 use Rattle.run_settings.specs.declared.settings.Settings.{Settings}
 use Rattle.machine.specs.Machine.{Running}
 use Rattle.execution_file.specs.Recorded.{HartDeeds, Recorded}
-use Rattle.execution_deeds.specs.Deeds.{deeds}
+use Rattle.execution_file.specs.Deeds.{deeds}
 use Rattle.execution_scripts.specs.declared.scripted.ScriptedGuest.{ScriptedGuest}
 
 abbrev pub is_flat : Format → Bool

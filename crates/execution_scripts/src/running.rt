@@ -5,7 +5,7 @@ ghost use Rattle.machine.specs.Machine.{after_rounds};
 ghost use Rattle.run_settings.specs.Settings.{IsPlan, IsReason, RefusedInOrder, settings_fault};
 ghost use Rattle.machine.specs.Runs.{after_run};
 ghost use Rattle.execution_file.specs.Views.{as_recorded, hart_view};
-ghost use Rattle.execution_deeds.specs.Deeds.{deeds};
+ghost use Rattle.execution_file.specs.Deeds.{deeds};
 ghost use Rattle.execution_scripts.specs.RunFiles.{IsFileOf, IsFileWith, is_flat};
 
 use crate::calls::{add_call, forget_plain};
@@ -14,8 +14,7 @@ use crate::following::Follower;
 use crate::ordering::turns_of;
 use crate::paces::Paces;
 use elf_loader::Image;
-use execution_deeds::deeds;
-use execution_file::{ExecutionFile, HartDeeds, Turn};
+use execution_file::{ExecutionFile, HartDeeds, Turn, deeds};
 use host_io::RunError;
 use machine::{Format, Machine, Observer, Settings, load, prepare};
 use memory_order::memory_order;

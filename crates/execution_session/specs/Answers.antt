@@ -12,7 +12,7 @@ use Rattle.gdb_replies.specs.Description.{target_text}
 use Rattle.gdb_replies.specs.Replies.{features_text, part_of, stop_text}
 use Rattle.gdb_replies.specs.Words.{numbers_of, register_text, registers_text, thread_text, threads_text}
 use Rattle.gdb_replies.specs.declared.registers.Registers.{Registers}
-use Rattle.gdb_sights.specs.Told.{stop_reply_of}
+use Rattle.gdb_talk.specs.Told.{stop_reply_of}
 use Rattle.execution_session.specs.declared.session.Standing.{Standing}
 use Rattle.execution_session.specs.Sessions.{Looked, State, hart_of_thread, position_at}
 use Rattle.execution_session.specs.Moving.{goes_back, goes_on, steps, steps_alone, steps_back}

@@ -5,10 +5,10 @@ use Rattle.hart_step.specs.declared.hart.Hart.{Hart}
 use Rattle.trace.specs.Traced.{opening_at}
 use Rattle.execution_moments.specs.declared.course.Course.{Course}
 use Rattle.execution_moments.specs.Shown.{hart_at, view_at}
-use Rattle.walking.specs.Stops.{is_one_of}
+use Rattle.moments.specs.Stops.{is_one_of}
 use Rattle.gdb_replies.specs.declared.stop_reply.Reason.{Reason}
 use Rattle.gdb_replies.specs.declared.stop_reply.Reason.TheVariants as reasons
-use Rattle.gdb_sights.specs.Told.{reason_of}
+use Rattle.gdb_talk.specs.Told.{reason_of}
 use Rattle.execution_session.specs.declared.past.Past.{Past}
 use Rattle.execution_session.specs.declared.session.Session.{Session}
 use Rattle.execution_session.specs.declared.session.Standing.{Standing}

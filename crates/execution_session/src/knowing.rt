@@ -9,7 +9,7 @@ use crate::past::Past;
 use crate::session::Session;
 use execution_views::bytes_at;
 use gdb_replies::Reason;
-use gdb_sights::reason_of;
+use gdb_talk::reason_of;
 use hart_step::Hart;
 use pages::OutOfMemory;
 use std::alloc::Global;

@@ -9,9 +9,9 @@ use crate::knowing::{why, why_in};
 use crate::past::Past;
 use crate::session::{Session, Standing};
 use gdb_replies::Reason;
+use moments::Asked;
 use pages::OutOfMemory;
 use std::alloc::Global;
-use walking::Asked;
 
 /// What is told in a session, and each moment of a hart beside.
 fn all_told(alloc: Global, session: &Session, each: Option<u32>) -> Result<Asked, OutOfMemory>

@@ -1,3 +1,4 @@
 pub mod Further
 pub mod Noting
 pub mod Positions
+pub mod Seeing

@@ -2,3 +2,4 @@ pub mod Passing
 pub mod Walks
 pub mod Moments
 pub mod Touched
+pub mod Laws

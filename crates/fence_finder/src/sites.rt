@@ -1,7 +1,7 @@
 //! Sites and gaps of the program, by their names.
 
 use crate::guest::Guest;
-use elf_symbols::function_at;
+use elf_loader::function_at;
 use fence_search::Weakness;
 use fence_table::{Moved, NamedGap, Passed, Site, SiteName};
 use machine::Format;

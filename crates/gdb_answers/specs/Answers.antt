@@ -5,9 +5,9 @@ use Rattle.hex.specs.Hex.{encode_lower}
 use Rattle.hart_step.specs.declared.hart.Hart.{Hart}
 use Rattle.machine.specs.Machine.{Running, after_rounds}
 use Rattle.moments.specs.Sights.{Sight}
-use Rattle.seeing.specs.Bytes.{bytes_from}
-use Rattle.run_points.specs.declared.moment.Moment.{Moment}
-use Rattle.run_points.specs.declared.point.Point.{Point}
+use Rattle.moments.specs.Bytes.{bytes_from}
+use Rattle.past_harts.specs.declared.moment.Moment.{Moment}
+use Rattle.past_harts.specs.declared.point.Point.{Point}
 use Rattle.shown_harts.specs.OwnParts.{waits_at, uncommitted}
 use Rattle.shown_harts.specs.Shown.{seen}
 use Rattle.gdb_replies.specs.Replies.{checksum_text, note_text, part_of, thread_element, thread_list_begin, thread_list_end}
@@ -15,7 +15,7 @@ use Rattle.gdb_replies.specs.Words.{numbers_of, register_text, registers_text}
 use Rattle.gdb_replies.specs.declared.note.ThreadNote.{ThreadNote}
 use Rattle.gdb_answers.specs.Checksums.{checksum_of}
 use Rattle.gdb_answers.specs.Stores.{bytes_covered}
-use Rattle.gdb_sights.specs.Told.{note_of, or_missing, registers_of}
+use Rattle.gdb_talk.specs.Told.{note_of, or_missing, registers_of}
 
 -- a register by its number, and `E01` where there is none
 abbrev pub number_answer : Option ℕ → List ℕ

@@ -5,11 +5,11 @@ use Rattle.hart_step.specs.declared.hart.Hart.{Hart}
 use Rattle.machine.specs.Machine.{Running}
 use Rattle.moments.specs.Sights.{Sight}
 use Rattle.round_planner.specs.Quotas.{Planned, quota_of}
-use Rattle.run_points.specs.declared.moment.Moment.{Moment}
-use Rattle.run_points.specs.declared.point.Point.{Point}
+use Rattle.past_harts.specs.declared.moment.Moment.{Moment}
+use Rattle.past_harts.specs.declared.point.Point.{Point}
 use Rattle.gdb_replies.specs.CommandTexts.{hart_line, plan_head, quota_text, where_line}
 use Rattle.gdb_replies.specs.declared.note.ThreadNote.{ThreadNote}
-use Rattle.gdb_sights.specs.Told.{note_of, or_missing}
+use Rattle.gdb_talk.specs.Told.{note_of, or_missing}
 use Rattle.gdb_answers.specs.Answers.{note_at}
 
 -- the hart of the moment, and its pc

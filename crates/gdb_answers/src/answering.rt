@@ -11,7 +11,7 @@ ghost use Rattle.round_schedule.specs.Bounds.{AreWorkers};
 
 use crate::noting::note_at;
 use gdb_replies::{Registers, Reply, write_reply};
-use gdb_sights::{Look, registers_of};
+use gdb_talk::{Look, registers_of};
 use host_io::{RunError, Sink};
 use std::alloc::Global;
 use std::sync::Wait;

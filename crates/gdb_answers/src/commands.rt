@@ -17,11 +17,11 @@ use crate::noting::note_at;
 use gdb_replies::{
     Reply, ThreadNote, add_hart_line, add_plan_head, add_quota, add_where_line, write_reply,
 };
-use gdb_sights::{Look, note_of};
+use gdb_talk::{Look, note_of};
 use host_io::{RunError, Sink};
 use pages::OutOfMemory;
+use past_harts::Point;
 use round_planner::Plan;
-use run_points::Point;
 use std::alloc::Global;
 use std::sync::Wait;
 use std::thread::Threads;

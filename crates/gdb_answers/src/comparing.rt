@@ -10,7 +10,7 @@ ghost use Rattle.round_schedule.specs.Bounds.{AreWorkers};
 
 use crate::checksum::checksum_of;
 use gdb_replies::{Reply, write_reply};
-use gdb_sights::Look;
+use gdb_talk::Look;
 use host_io::{RunError, Sink};
 use std::alloc::Global;
 use std::sync::Wait;

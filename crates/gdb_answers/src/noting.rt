@@ -7,7 +7,7 @@ ghost use Rattle.round_schedule.specs.Bounds.{AreWorkers};
 
 use crate::covering::bytes_covered;
 use gdb_replies::ThreadNote;
-use gdb_sights::{Look, note_of};
+use gdb_talk::{Look, note_of};
 use host_io::RunError;
 use std::alloc::Global;
 use std::sync::Wait;

@@ -9,7 +9,7 @@ ghost use Rattle.round_schedule.specs.Bounds.{AreWorkers};
 
 use crate::noting::note_at;
 use gdb_replies::{Reply, Window, add_thread, begin_thread_list, end_thread_list, write_reply};
-use gdb_sights::Look;
+use gdb_talk::Look;
 use host_io::{RunError, Sink};
 use std::alloc::Global;
 use std::sync::Wait;

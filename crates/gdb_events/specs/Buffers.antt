@@ -8,9 +8,9 @@ use Rattle.pages.specs.declared.access.Store.{Store}
 use Rattle.hart_step.specs.declared.hart.Hart.{Hart}
 use Rattle.machine.specs.Machine.{Running}
 use Rattle.moments.specs.Sights.{Sight}
-use Rattle.run_points.specs.declared.point.Point.{Point}
+use Rattle.past_harts.specs.declared.point.Point.{Point}
 use Rattle.gdb_replies.specs.CommandTexts.{store_line}
-use Rattle.gdb_sights.specs.Told.{or_missing}
+use Rattle.gdb_talk.specs.Told.{or_missing}
 use Rattle.gdb_events.specs.Saying.{text_or}
 use Rattle.shown_harts.specs.OwnParts.{uncommitted}
 

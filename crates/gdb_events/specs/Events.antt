@@ -9,8 +9,8 @@ use Rattle.report_lines.specs.Text.{event_text}
 use Rattle.hart_step.specs.declared.hart.Hart.{Hart}
 use Rattle.machine.specs.Machine.{Running, after_rounds}
 use Rattle.moments.specs.Sights.{Sight}
-use Rattle.run_points.specs.declared.point.Point.{Point}
-use Rattle.run_points.specs.Points.{is_behind_move}
+use Rattle.past_harts.specs.declared.point.Point.{Point}
+use Rattle.past_harts.specs.Points.{is_behind_move}
 use Rattle.gdb_packets.specs.Writing.{packet_text}
 use Rattle.gdb_events.specs.Saying.{text_or}
 use Rattle.gdb_events.specs.Rounds.{round_events}

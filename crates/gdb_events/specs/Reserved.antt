@@ -9,10 +9,10 @@ use Rattle.round_schedule.specs.declared.span.Span.{Span}
 use Rattle.hart_step.specs.declared.hart.Hart.{Hart}
 use Rattle.machine.specs.Machine.{Running, after_rounds}
 use Rattle.moments.specs.Sights.{Sight}
-use Rattle.run_points.specs.declared.moment.Moment.{Moment}
-use Rattle.run_points.specs.declared.point.Point.{Point}
+use Rattle.past_harts.specs.declared.moment.Moment.{Moment}
+use Rattle.past_harts.specs.declared.point.Point.{Point}
 use Rattle.gdb_replies.specs.CommandTexts.{reservation_line}
-use Rattle.gdb_sights.specs.Told.{or_missing}
+use Rattle.gdb_talk.specs.Told.{or_missing}
 use Rattle.gdb_events.specs.Saying.{text_or}
 use Rattle.gdb_events.specs.Rounds.{is_parallel, round_events}
 

@@ -13,7 +13,7 @@ ghost use Rattle.round_schedule.specs.Bounds.{AreWorkers};
 
 use crate::saying::say_or;
 use gdb_replies::{Reply, add_store_line, write_reply};
-use gdb_sights::Look;
+use gdb_talk::Look;
 use host_io::{RunError, Sink};
 use pages::{OutOfMemory, Store};
 use std::alloc::Global;

@@ -13,7 +13,7 @@ ghost use Rattle.round_schedule.specs.Bounds.{AreWorkers};
 use crate::event::event_packet;
 use crate::stopping::stop_packet;
 use gdb_replies::Reason;
-use gdb_sights::Look;
+use gdb_talk::Look;
 use host_io::{RunError, Sink, put_all};
 use pages::OutOfMemory;
 use std::alloc::Global;

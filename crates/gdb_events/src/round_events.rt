@@ -9,7 +9,7 @@ ghost use Rattle.round_schedule.specs.Bounds.{AreWorkers};
 
 use host_io::RunError;
 use machine::UntracedMachine;
-use noted_runs::run_noting;
+use past_harts::run_noting;
 use round_schedule::{Event, Phase};
 use std::alloc::Global;
 use std::sync::Wait;

@@ -10,7 +10,7 @@ ghost use Rattle.shown_harts.specs.Shown.{seen};
 ghost use Rattle.round_schedule.specs.Bounds.{AreWorkers};
 
 use gdb_replies::{Reason, Reply, reply_text};
-use gdb_sights::{Look, stop_reply_of};
+use gdb_talk::{Look, stop_reply_of};
 use host_io::{RunError, Sink, put_all};
 use std::alloc::Global;
 use std::sync::Wait;

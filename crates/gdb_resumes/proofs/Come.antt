@@ -5,11 +5,11 @@ use Rattle.std.specs.Prelude.{IfSome, nat_lt, ◌==◌, if◌then◌else◌}
 use Rattle.machine.specs.Machine.{after_rounds}
 use Rattle.watching.specs.declared.watchpoint.Way.{Way}
 use Rattle.watching.specs.declared.watchpoint.Way.TheVariants.{On, Back}
-use Rattle.run_points.specs.declared.point.Point.{Point}
+use Rattle.past_harts.specs.declared.point.Point.{Point}
 use Rattle.round_steps.specs.declared.told.Told.{Told}
 use Rattle.round_steps.specs.declared.points.Telling.{Telling}
 use Rattle.round_steps.specs.Points.{next_point_of, previous_point_of}
-use Rattle.run_points.specs.Points.{point_before}
+use Rattle.past_harts.specs.Points.{point_before}
 use Rattle.round_steps.proofs.PointsFound.{last_at_first, none_at_first}
 use Rattle.gdb_resumes.specs.declared.searching.Reach.{Reach}
 use Rattle.gdb_resumes.specs.declared.searching.Searched.{Searched}

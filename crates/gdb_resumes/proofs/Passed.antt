@@ -3,7 +3,7 @@ use Rattle.std.proofs.Common.{◌≡◌, ℕ, ◌-◌, ◌≤◌, Option, Some, 
 use Rattle.machine.specs.Machine.{Running}
 use Rattle.watching.specs.declared.watchpoint.Way.{Way}
 use Rattle.watching.specs.declared.watchpoint.Way.TheVariants.{On, Back}
-use Rattle.run_points.specs.declared.point.Point.{Point}
+use Rattle.past_harts.specs.declared.point.Point.{Point}
 use Rattle.round_steps.specs.declared.told.Told.{Told}
 use Rattle.round_steps.specs.declared.points.Telling.{Telling}
 use Rattle.gdb_runs.specs.declared.debugged.Debugged.{Debugged}

@@ -3,12 +3,12 @@ use Rattle.std.specs.Prelude.{◌≡◌, ℕ, ◌-◌, ◌<◌, ◌==◌, ◌&&�
 use Rattle.hart_step.specs.declared.hart.Hart.{Hart}
 use Rattle.machine.specs.Machine.{after_rounds}
 use Rattle.round_schedule.specs.declared.event.Phase.TheVariants.{Parallel}
-use Rattle.run_points.specs.declared.moment.Moment.{Moment}
-use Rattle.run_points.specs.declared.point.Point.{Point}
-use Rattle.run_points.specs.declared.point.Side.TheVariants.{After}
+use Rattle.past_harts.specs.declared.moment.Moment.{Moment}
+use Rattle.past_harts.specs.declared.point.Point.{Point}
+use Rattle.past_harts.specs.declared.point.Side.TheVariants.{After}
 use Rattle.round_steps.specs.declared.told.Told.{Told}
 use Rattle.round_steps.specs.declared.points.Telling.{Telling}
-use Rattle.run_points.specs.Moments.{moment_in, place_in}
+use Rattle.past_harts.specs.Moments.{moment_in, place_in}
 use Rattle.round_steps.specs.Points.{next_point_of}
 use Rattle.gdb_runs.specs.declared.debugged.Debugged.{Debugged}
 use Rattle.gdb_resumes.specs.declared.goals.Goal.{Goal}

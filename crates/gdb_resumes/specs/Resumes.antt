@@ -2,10 +2,10 @@
 use Rattle.std.specs.Prelude.{◌≡◌, ℕ, ◌≤◌, nat_le, nat_lt, ◌&&◌, not, Bool, true, if◌then◌else◌, Option, Some, None}
 use Rattle.watching.specs.declared.watchpoint.Way.{Way}
 use Rattle.watching.specs.declared.watchpoint.Way.TheVariants.{On, Back}
-use Rattle.run_points.specs.declared.point.Point.{Point}
-use Rattle.run_points.specs.declared.point.Side.TheVariants.{After}
+use Rattle.past_harts.specs.declared.point.Point.{Point}
+use Rattle.past_harts.specs.declared.point.Side.TheVariants.{After}
 use Rattle.round_steps.specs.declared.told.Told.{Told}
-use Rattle.run_points.specs.Points.{point_before}
+use Rattle.past_harts.specs.Points.{point_before}
 use Rattle.gdb_replies.specs.declared.stop_reply.Reason.TheVariants.{Signal}
 use Rattle.gdb_runs.specs.declared.session.Standing.{Standing}
 use Rattle.gdb_runs.specs.declared.debugged.Debugged.{Debugged}

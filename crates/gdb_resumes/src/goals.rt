@@ -8,9 +8,9 @@ ghost use Rattle.round_schedule.specs.Bounds.{AreWorkers};
 
 use gdb_runs::{Debugged, only_of, start_of};
 use host_io::RunError;
+use past_harts::{Moment, Place, Point, Side};
 use round_schedule::Phase;
 use round_steps::Told;
-use run_points::{Moment, Place, Point, Side};
 use std::alloc::Global;
 use std::sync::Wait;
 use std::thread::Threads;

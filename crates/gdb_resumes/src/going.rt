@@ -4,8 +4,8 @@ ghost use Rattle.std.specs.Prelude.{◌≡◌};
 ghost use Rattle.gdb_resumes.specs.Resumes.{goal_passed, is_ahead, is_passed, passed_first};
 
 use crate::searching::Reach;
+use past_harts::Point;
 use round_steps::Told;
-use run_points::Point;
 use watching::Way;
 
 /// The goal, where a search from here that has come so far comes there before what it has found.

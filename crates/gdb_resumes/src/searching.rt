@@ -17,8 +17,8 @@ use gdb_runs::{
     Debugged, MOST_STEPS, Session, Standing, all_told, end_of, start_of, stretch_of, tell,
 };
 use host_io::RunError;
+use past_harts::{Point, Side};
 use round_steps::{Telling, Told};
-use run_points::{Point, Side};
 use std::alloc::Global;
 use std::sync::Wait;
 use std::thread::Threads;

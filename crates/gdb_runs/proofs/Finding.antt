@@ -3,7 +3,7 @@ use Rattle.std.proofs.Common.{◌≡◌, Option, Result}
 use Rattle.std.specs.Prelude.{IfOk}
 use Rattle.std.proofs.lemmas.Result.{IfOk-weaker}
 use Rattle.watching.specs.declared.watchpoint.Way.{Way}
-use Rattle.run_points.specs.declared.point.Point.{Point}
+use Rattle.past_harts.specs.declared.point.Point.{Point}
 use Rattle.round_steps.specs.declared.told.Told.{Told}
 use Rattle.round_steps.specs.declared.points.Telling.{Telling}
 use Rattle.gdb_runs.specs.Wanted.{AsksFor, Finds, Wanted, nearest_of}

@@ -17,20 +17,20 @@ use Rattle.hart_step.specs.Words.{words_of}
 use Rattle.machine.specs.Machine.{Running, after_rounds}
 use Rattle.moments.specs.Moves.{Move, moved_by, moves_of, part_moves, parts_moves, stopped_at, stopped_by, taken_by, took, turn_moves, turns_moves, went_by}
 use Rattle.moments.specs.Sights.{Sight, next_seen, seen_after, turn_start}
-use Rattle.walking.specs.declared.asked.Asked.{Asked}
+use Rattle.moments.specs.declared.asked.Asked.{Asked}
 use Rattle.watching.specs.declared.hits.Hit.{Hit}
 use Rattle.watching.specs.declared.watchpoint.Watchpoint.{Watchpoint}
 use Rattle.watching.specs.declared.watchpoint.Way.{Way}
 use Rattle.watching.specs.declared.watchpoint.Way.TheVariants.{On, Back}
 use Rattle.watching.specs.Watches.{access_hits, beside, hit_at, hits_after, hits_of, is_rival, is_told}
-use Rattle.run_points.specs.declared.place.Place.{Place}
-use Rattle.run_points.specs.declared.point.Point.{Point}
+use Rattle.past_harts.specs.declared.place.Place.{Place}
+use Rattle.past_harts.specs.declared.point.Point.{Point}
 use Rattle.round_steps.specs.declared.told.Told.{Told}
-use Rattle.run_points.specs.Begun.{Begun, begun_of}
+use Rattle.past_harts.specs.Begun.{Begun, begun_of}
 use Rattle.round_steps.specs.Places.{parallel_places, part_places, past_at, places, round_places, serial_places, turn_of, turn_places}
-use Rattle.run_points.specs.Moments.{place_in}
+use Rattle.past_harts.specs.Moments.{place_in}
 use Rattle.round_steps.specs.Points.{break_point, first_in, hit_point, last_in, next_point_of, points_of, previous_point_of}
-use Rattle.run_points.specs.Points.{point_before}
+use Rattle.past_harts.specs.Points.{point_before}
 use Rattle.gdb_runs.proofs.Within.{earliest_one, either, latest_one, weaker}
 
 -- ---- how many harts there are

@@ -7,16 +7,16 @@ use Rattle.round_planner.specs.Quotas.{quotas_of}
 use Rattle.hart_step.specs.Words.{words_of}
 use Rattle.machine.specs.Machine.{Running, after_rounds}
 use Rattle.moments.specs.Moves.{moves_of}
-use Rattle.walking.specs.declared.asked.Asked.{Asked}
+use Rattle.moments.specs.declared.asked.Asked.{Asked}
 use Rattle.watching.specs.declared.watchpoint.Watchpoint.{Watchpoint}
 use Rattle.watching.specs.declared.watchpoint.Way.{Way}
 use Rattle.watching.specs.declared.watchpoint.Way.TheVariants.{On, Back}
 use Rattle.watching.specs.Watches.{hits_of}
-use Rattle.run_points.specs.declared.point.Point.{Point}
+use Rattle.past_harts.specs.declared.point.Point.{Point}
 use Rattle.round_steps.specs.declared.told.Told.{Told}
 use Rattle.round_steps.specs.Places.{round_places}
 use Rattle.round_steps.specs.Points.{break_point, earliest, first_in, hit_point, last_in, later, latest, next_point_of, or_else, points_of, previous_point_of, sooner}
-use Rattle.run_points.specs.Points.{point_before}
+use Rattle.past_harts.specs.Points.{point_before}
 
 -- ---- how many rounds were done
 

@@ -8,16 +8,16 @@ use Rattle.run_settings.specs.declared.settings.Format.TheVariants.{Elf, Flat}
 use Rattle.machine.specs.Untraced.{IsUntraced}
 use Rattle.moments.specs.Sights.{Sight}
 use Rattle.round_schedule.specs.declared.event.Phase.TheVariants.{Parallel}
-use Rattle.run_points.specs.declared.point.Point.{Point}
-use Rattle.run_points.specs.declared.point.Side.TheVariants.{Break}
-use Rattle.run_points.specs.Moments.{moment_in, place_in}
+use Rattle.past_harts.specs.declared.point.Point.{Point}
+use Rattle.past_harts.specs.declared.point.Side.TheVariants.{Break}
+use Rattle.past_harts.specs.Moments.{moment_in, place_in}
 use Rattle.watching.specs.declared.watchpoint.WatchKind.{WatchKind}
 use Rattle.watching.specs.declared.watchpoint.WatchKind.TheVariants.{Changes, Reads, Accesses}
 use Rattle.watching.specs.declared.watchpoint.Watchpoint.{Watchpoint}
-use Rattle.walking.specs.Stops.{is_one_of}
+use Rattle.moments.specs.Stops.{is_one_of}
 use Rattle.gdb_replies.specs.declared.stop_reply.Reason.{Reason}
 use Rattle.gdb_replies.specs.declared.stop_reply.Reason.TheVariants.{AccessWatch, HardwareBreakpoint, ReadWatch, Step, Watch}
-use Rattle.gdb_sights.specs.Told.{reason_of}
+use Rattle.gdb_talk.specs.Told.{reason_of}
 use Rattle.shown_harts.specs.Shown.{seen}
 use Rattle.gdb_runs.specs.declared.debugged.Debugged.{Debugged}
 use Rattle.gdb_runs.specs.declared.session.Session.{Session}

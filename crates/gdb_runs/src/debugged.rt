@@ -10,7 +10,7 @@ use hart_step::Hart;
 use host_io::RunError;
 use machine::UntracedMachine;
 use pages::Range;
-use run_points::Point;
+use past_harts::Point;
 use std::sync::Wait;
 use std::thread::Threads;
 use timelines::Timeline;

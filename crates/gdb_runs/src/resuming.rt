@@ -9,7 +9,7 @@ ghost use Rattle.gdb_runs.specs.Sessions.{IsReady, IsWithin, OfRun, named, or_ha
 use crate::debugged::Debugged;
 use crate::session::{Session, Standing, start_of};
 use gdb_replies::Reason;
-use gdb_sights::reason_of;
+use gdb_talk::reason_of;
 use hart_step::Hart;
 use host_io::RunError;
 use round_steps::{Told, WatchKind, Watchpoint};

@@ -4,9 +4,9 @@ ghost use Rattle.gdb_runs.specs.Standings.{at_goal, moved, stays};
 ghost use Rattle.gdb_runs.specs.Sessions.{start_of};
 
 use gdb_replies::Reason;
+use past_harts::{Moment, Place, Point, Side};
 use round_schedule::Phase;
 use round_steps::Watchpoint;
-use run_points::{Moment, Place, Point, Side};
 use std::alloc::Global;
 
 /// gdb's number of the signal that is none.

@@ -9,7 +9,7 @@ use Rattle.gdb_requests.specs.declared.command.Command.TheVariants as commands
 use Rattle.gdb_requests.specs.declared.request.Request.{Request}
 use Rattle.gdb_requests.specs.declared.request.Request.TheVariants as requests
 use Rattle.gdb_replies.specs.CommandTexts.{hits_text}
-use Rattle.gdb_sights.specs.declared.look.Look.{Look}
+use Rattle.gdb_talk.specs.declared.look.Look.{Look}
 use Rattle.gdb_runs.specs.Sessions.{Recorded, State}
 use Rattle.gdb_runs.specs.declared.session.Standing.{Standing}
 use Rattle.gdb_session.specs.Answers.{Answered, Answers, AnswersBy, Replied, Resumes, command_text, reply_at, with_hits}

@@ -6,8 +6,8 @@ use Rattle.gdb_packets.specs.Writing.{packet_text}
 use Rattle.gdb_requests.specs.declared.command.Command.{Command}
 use Rattle.gdb_requests.specs.declared.command.Command.TheVariants as commands
 use Rattle.gdb_requests.specs.declared.request.Request.TheVariants as requests
-use Rattle.run_points.specs.declared.point.Point.{Point}
-use Rattle.run_points.specs.Points.{same_moment}
+use Rattle.past_harts.specs.declared.point.Point.{Point}
+use Rattle.past_harts.specs.Points.{same_moment}
 use Rattle.gdb_runs.specs.declared.debugged.Debugged.{Debugged}
 use Rattle.gdb_resumes.specs.declared.goals.Goal.{Goal}
 use Rattle.gdb_resumes.specs.declared.goals.Goal.TheVariants as goals

@@ -32,9 +32,9 @@ use Rattle.gdb_events.specs.Output.{output_answer}
 use Rattle.gdb_events.specs.Events.{event_answer, event_packet}
 use Rattle.gdb_answers.specs.Files.{file_answer}
 use Rattle.gdb_events.specs.Reserved.{reservations_answer}
-use Rattle.run_points.specs.declared.point.Point.{Point}
-use Rattle.run_points.specs.Moments.{is_before}
-use Rattle.run_points.specs.Points.{same_moment}
+use Rattle.past_harts.specs.declared.point.Point.{Point}
+use Rattle.past_harts.specs.Moments.{is_before}
+use Rattle.past_harts.specs.Points.{same_moment}
 use Rattle.gdb_resumes.specs.declared.goals.Goal.{Goal}
 use Rattle.gdb_resumes.specs.declared.goals.Goal.TheVariants as goals
 use Rattle.gdb_runs.specs.declared.session.Standing.{Standing}

@@ -18,7 +18,7 @@ use gdb_resumes::{Goal, goal_at_place, goal_at_round};
 use gdb_runs::{Debugged, Session, Standing};
 use host_io::{RunError, Sink};
 use pages::OutOfMemory;
-use run_points::Point;
+use past_harts::Point;
 use std::alloc::Global;
 use std::sync::Wait;
 use std::thread::Threads;

@@ -19,7 +19,7 @@ use gdb_events::{
 use gdb_replies::{Reason, Reply, Window, command_help, target_description, write_reply};
 use gdb_requests::{Command, IMAGE_NAME, Request};
 use gdb_runs::{Debugged, Standing};
-use gdb_sights::Look;
+use gdb_talk::Look;
 use host_io::{RunError, Sink};
 use std::alloc::Global;
 use std::sync::Wait;

@@ -4,7 +4,7 @@ use Rattle.std.specs.Prelude.{IfOk}
 use Rattle.std.proofs.lemmas.Result.{IfOk-weaker}
 use Rattle.watching.specs.declared.watchpoint.Way.{Way}
 use Rattle.watching.specs.declared.watchpoint.Way.TheVariants.{On, Back}
-use Rattle.run_points.specs.declared.point.Point.{Point}
+use Rattle.past_harts.specs.declared.point.Point.{Point}
 use Rattle.round_steps.specs.declared.told.Told.{Told}
 use Rattle.gdb_runs.specs.declared.session.Standing.{Standing}
 use Rattle.gdb_runs.specs.Wanted.{Finds, all_told, only_of, watched_of}

@@ -4,13 +4,13 @@ use Rattle.hart_step.specs.declared.hart.Hart.{Hart}
 use Rattle.hart_step.specs.Numbers.{plus}
 use Rattle.watching.specs.declared.watchpoint.Way.{Way}
 use Rattle.watching.specs.declared.watchpoint.Way.TheVariants.{On, Back}
-use Rattle.run_points.specs.declared.moment.Moment.{Moment}
-use Rattle.run_points.specs.declared.point.Point.{Point}
-use Rattle.run_points.specs.declared.point.Side.{Side}
-use Rattle.run_points.specs.declared.point.Side.TheVariants.{RivalAfter, Break, Rival}
+use Rattle.past_harts.specs.declared.moment.Moment.{Moment}
+use Rattle.past_harts.specs.declared.point.Point.{Point}
+use Rattle.past_harts.specs.declared.point.Side.{Side}
+use Rattle.past_harts.specs.declared.point.Side.TheVariants.{RivalAfter, Break, Rival}
 use Rattle.round_steps.specs.declared.told.Told.{Told}
-use Rattle.run_points.specs.Moments.{is_before}
-use Rattle.run_points.specs.Points.{point_before, same_moment, is_behind_move}
+use Rattle.past_harts.specs.Moments.{is_before}
+use Rattle.past_harts.specs.Points.{point_before, same_moment, is_behind_move}
 use Rattle.gdb_replies.specs.declared.stop_reply.Reason.{Reason}
 use Rattle.gdb_replies.specs.declared.stop_reply.Reason.TheVariants.{Begin, End, Step, Watch}
 use Rattle.gdb_runs.specs.declared.session.Standing.{Standing}

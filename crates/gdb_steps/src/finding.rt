@@ -8,8 +8,8 @@ ghost use Rattle.gdb_runs.specs.Sessions.{IsReady, IsWithin, OfRun, state_of};
 
 use gdb_runs::{Debugged, Session, Standing, all_told, find, tell};
 use host_io::RunError;
+use past_harts::Point;
 use round_steps::Told;
-use run_points::Point;
 use std::alloc::Global;
 use std::sync::Wait;
 use std::thread::Threads;

@@ -1,6 +1,6 @@
 -- Breakpoints that come and go.
 use Rattle.std.specs.Prelude.{ℕ, ◌==◌, Bool, not, if◌then◌else◌, List, [], ◌∷◌, ◌++◌, filter}
-use Rattle.walking.specs.Stops.{is_one_of}
+use Rattle.moments.specs.Stops.{is_one_of}
 
 -- the addresses with this one
 abbrev pub with_one : List ℕ → ℕ → List ℕ

@@ -1,11 +1,15 @@
-//! What a debugger's sessions have in common, whatever they look at: what is asked for by what was said, breakpoints that come and go,
-//! and what is said where memory is wanting.
+//! What a debugger's sessions have in common, whatever they look at: what is asked for by what was said, breakpoints that come and go, what
+//! is told of a hart at a moment, and what is said where memory is wanting.
 #![tactic(auto)]
 
 mod asking;
+mod look;
 mod saying;
 mod stops;
+mod told;
 
 pub use asking::{asked_by, has_left};
+pub use look::Look;
 pub use saying::{ask, refuse, refuse_each, refuse_lost};
 pub use stops::{add_stop, remove_stop};
+pub use told::{note_of, reason_of, registers_of, stop_reply_of};

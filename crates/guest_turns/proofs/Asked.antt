@@ -28,7 +28,7 @@ use Rattle.hart_rounds.specs.declared.hart_end.HartEnd.{HartEnd}
 use Rattle.guest_turns.specs.declared.asked_turn.TurnPlace.{TurnPlace}
 use Rattle.guest_turns.specs.Asked.{found_by, found_in, seen_at}
 use Rattle.moments.specs.Sights.{Sight, part_sights, sight_after, sights_of, turn_start}
-use Rattle.moments.proofs.Asked.{no_sight, seen_in_part, seen_in_turn, shorter_end, turn_bytes}
+use Rattle.moments.proofs.AskedPast.{no_sight, seen_in_part, seen_in_turn, shorter_end, turn_bytes}
 use Rattle.moments.proofs.Past.{harts_in, sights_past}
 use Rattle.guest_rounds.specs.Guests.{Shared}
 use Rattle.guest_rounds.specs.HartEnds.{AreEndsOf, IsEndOf}

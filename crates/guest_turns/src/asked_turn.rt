@@ -11,9 +11,9 @@ ghost use Rattle.guest_rounds.specs.HartEnds.{AreFit, AreEndsOf, turns_of, waits
 use guest_rounds::{Crew, commit, make_turn_room, turns_needed};
 use hart_rounds::HartEnd;
 use hart_step::Hart;
+use moments::Sight;
 use pages::OutOfMemory;
 use round_schedule::MOST_HARTS;
-use seeing::Sight;
 use serial_phase::{SharedState, Turn, take_turn};
 use std::thread::Threads;
 

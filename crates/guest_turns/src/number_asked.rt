@@ -17,13 +17,13 @@ ghost use Rattle.guest_turns.specs.NumberAsked.{TellsAsking};
 ghost use Rattle.round_schedule.specs.Bounds.{AreWorkers};
 
 use crate::asked_turn::turn_of;
-use asking_turn::take_asking_turn;
 use guest_rounds::{Crew, GuestState, HalfRound, commit, make_turn_room, turns_needed};
 use hart_rounds::HartEnd;
 use pages::OutOfMemory;
 use parallel_phase::Open;
 use round_planner::Plan;
 use round_schedule::MOST_HARTS;
+use run_loops::take_asking_turn;
 use serial_phase::{SharedState, Turn};
 use std::sync::Wait;
 use std::thread::Threads;

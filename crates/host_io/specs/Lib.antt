@@ -1,3 +1,4 @@
 pub mod Taken
 pub mod Given
 pub mod RunErrors
+pub mod Writes

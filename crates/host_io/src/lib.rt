@@ -1,4 +1,5 @@
-//! What a run takes from the host and gives to it: sources of bytes, sinks of text, and why a run, an image or a plan is refused.
+//! What a run takes from the host and gives to it: sources of bytes, sinks of text, what a call that answers leaves of its sink, and why a
+//! run, an image or a plan is refused.
 #![tactic(auto)]
 
 mod adapters;

@@ -3,7 +3,7 @@ ghost use Rattle.std.specs.Prelude.{⊤};
 use crate::saving::{save, write_to};
 use host_io::{ReadSource, RunError, read_all};
 use past_commands::PastFiles;
-use program_world::{FileFault, FileText, Files};
+use program_files::{FileFault, FileText, Files};
 use std::fs::{self, File};
 use std::io::{self, Read};
 

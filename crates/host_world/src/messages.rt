@@ -1,4 +1,4 @@
-use program_world::Messages;
+use program_files::Messages;
 use std::fmt::Display;
 
 /// Standard error.

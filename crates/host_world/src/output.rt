@@ -1,7 +1,7 @@
 ghost use Rattle.std.specs.Prelude.{◌≡◌, ◌++◌, ⊤, [], ◌∷◌, false, IfErr, IfOk};
 
 use host_io::{History, RunError, Sink, SinkFault};
-use program_world::Output;
+use program_files::Output;
 use std::io::{self, BufWriter, ErrorKind, Printer, Write};
 
 /// Standard output, with a buffer.

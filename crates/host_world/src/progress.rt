@@ -6,7 +6,7 @@ use fence_finder::FenceObserver;
 use hunter::{HuntObserver, ShrinkObserver};
 use machine::{Observer, UntracedMachine};
 use plan_hunt::{Row, are_well};
-use program_world::ProgressLine;
+use program_files::ProgressLine;
 use std::time::Instant;
 
 /// How many plans the first block of a hunt has, where it is told how far that is.

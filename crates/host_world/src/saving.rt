@@ -1,7 +1,7 @@
 //! Texts in files: a file holds a whole one, or what it held before.
 
 use host_io::{RunError, WriteSink};
-use program_world::FileText;
+use program_files::FileText;
 use std::fs::{self, File};
 use std::io::{self, BufWriter, Write};
 

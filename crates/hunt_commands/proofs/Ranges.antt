@@ -8,12 +8,12 @@ use Rattle.std.proofs.Math.Seq.{drop-append_seam, take-append_seam}
 use Rattle.std.specs.List.{list_any}
 use Rattle.command_line.specs.declared.settings.Bytes.{Bytes}
 use Rattle.command_line.specs.declared.settings.Search.{Search}
-use Rattle.elf_symbols.specs.declared.object.Object.{Object}
+use Rattle.elf_loader.specs.declared.object.Object.{Object}
 use Rattle.hunt_commands.specs.Settings.{HasRanges, IsNamed, names_of}
 use Rattle.hunter.specs.Hunts.{has_bad_range, is_bad_range}
 use Rattle.hunter.specs.declared.settings.HuntSettings.{HuntSettings}
 use Rattle.hunt_table.specs.Names.{name_of}
-use Rattle.named_bytes.specs.Naming.{IsFaultOf, by_address, by_name, first_missing, is_outside, named_in, names_outside, objects_in, one_object, seen_range, seen_ranges, with_object}
+use Rattle.program_files.specs.Naming.{IsFaultOf, by_address, by_name, first_missing, is_outside, named_in, names_outside, objects_in, one_object, seen_range, seen_ranges, with_object}
 
 -- what a fault that isn't there says
 no_fault : (b : Bool) (image : List ℕ) (m : Option (List ℕ)) → IsFaultOf b image m None → (b ≡ false) × (m ≡ None)

@@ -13,7 +13,7 @@ use Rattle.hunter.specs.Hunts.{IsHuntReason, IsHunted, IsImageCause, hunt_fault}
 use Rattle.hunter.specs.declared.error.HuntError.{HuntError}
 use Rattle.hunter.specs.declared.error.HuntError.TheVariants as hunting
 use Rattle.hunter.specs.declared.settings.HuntSettings.{HuntSettings}
-use Rattle.named_bytes.specs.declared.fault.NamingFault.{NamingFault}
+use Rattle.program_files.specs.declared.fault.NamingFault.{NamingFault}
 use Rattle.plan_hunt.specs.declared.row.Row.{Row}
 use Rattle.program_files.specs.Asked.{IsProgramOf}
 use Rattle.program_files.specs.Failures.{IsFileFailure}

@@ -7,7 +7,7 @@ use Rattle.hunt_commands.specs.declared.merge_failure.MergeFailure.TheVariants a
 use Rattle.hunt_table.specs.Refusals.{merge_number}
 use Rattle.hunt_table.specs.declared.merge_error.MergeError.{MergeError}
 use Rattle.hunt_table.specs.declared.merge_error.MergeError.TheVariants as merging
-use Rattle.named_bytes.specs.Naming.{naming_number}
+use Rattle.program_files.specs.Naming.{naming_number}
 use Rattle.program_files.specs.Failures.{failure_number as run_number}
 use Rattle.program_files.specs.declared.failure.RunFailure.TheVariants as runs
 use Rattle.weak_hunter.specs.Refusals.{weak_hunt_number}

@@ -4,8 +4,8 @@ use Rattle.command_line.specs.declared.settings.Program.{Program}
 use Rattle.command_line.specs.declared.settings.Search.{Search}
 use Rattle.hunter.specs.declared.settings.HuntSettings.{HuntSettings}
 use Rattle.run_settings.specs.declared.settings.Format.TheVariants.{Elf, Flat}
-use Rattle.named_bytes.specs.Naming.{IsNaming, by_address, by_name, objects_in}
-use Rattle.named_bytes.specs.declared.fault.NamingFault.{NamingFault}
+use Rattle.program_files.specs.Naming.{IsNaming, by_address, by_name, objects_in}
+use Rattle.program_files.specs.declared.fault.NamingFault.{NamingFault}
 
 -- the settings have what the line says of the program, and the seed
 pub record IsOfProgram (program : Program) (seed : ℕ) (s : HuntSettings) : Type 0 where

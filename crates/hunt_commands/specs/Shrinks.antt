@@ -6,8 +6,8 @@ use Rattle.hunt_commands.specs.Settings.{HasNumbers, HasRanges}
 use Rattle.hunt_commands.specs.declared.failure.HuntFailure.{HuntFailure}
 use Rattle.hunter.specs.Hunts.{ends_under, family_of, shrink_fault}
 use Rattle.hunter.specs.declared.settings.HuntSettings.{HuntSettings}
-use Rattle.plan_family.specs.Families.{family_plan}
-use Rattle.plan_shrink.specs.Steps.{IsShrunk}
+use Rattle.round_planner.specs.Families.{family_plan}
+use Rattle.plan_hunt.specs.Steps.{IsShrunk}
 use Rattle.program_files.specs.Asked.{IsProgramOf}
 use Rattle.round_planner.specs.PlanText.{plan_text}
 use Rattle.round_planner.specs.Quotas.{Planned}

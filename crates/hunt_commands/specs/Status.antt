@@ -4,8 +4,8 @@ use Rattle.command_line.specs.declared.settings.FailOn.{FailOn}
 use Rattle.command_line.specs.declared.settings.FailOn.TheVariants.{Bad, Differ, Never}
 use Rattle.hunter.specs.Hunts.{all_end_well, is_one_exit}
 use Rattle.plan_hunt.specs.declared.row.Row.{Row}
-use Rattle.program_world.specs.declared.exit_status.ExitStatus.{ExitStatus}
-use Rattle.program_world.specs.declared.exit_status.ExitStatus.TheVariants.{Done, Doubtful}
+use Rattle.program_files.specs.declared.exit_status.ExitStatus.{ExitStatus}
+use Rattle.program_files.specs.declared.exit_status.ExitStatus.TheVariants.{Done, Doubtful}
 
 -- a hunt with this table is doubtful: there are several endings or one without an exit, or a bad one
 abbrev pub is_doubtful : FailOn → List Row → Bool

@@ -7,8 +7,7 @@ ghost use Rattle.weak_hunter.specs.declared.error.WeakHuntError.TheVariants.{Hun
 
 use host_io::RunError;
 use hunter::HuntError;
-use named_bytes::NamingFault;
-use program_files::RunFailure;
+use program_files::{NamingFault, RunFailure};
 use std::alloc::AllocError;
 use std::fmt::{self, Display, Formatter, Write};
 use weak_hunter::WeakHuntError;

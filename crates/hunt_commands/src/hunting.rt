@@ -11,10 +11,10 @@ use crate::status::hunt_status;
 use crate::tabling::write_rows;
 use crate::weak_hunts::WeakHunts;
 use command_line::Hunt;
-use named_bytes::NamedBytes;
 use plan_hunt::{HuntObserver, Row};
-use program_files::{ProgramFiles, read_program};
-use program_world::{ExitStatus, Files, Messages, Output, ProgressLine};
+use program_files::{
+    ExitStatus, Files, Messages, NamedBytes, Output, ProgramFiles, ProgressLine, read_program,
+};
 use std::alloc::Global;
 use std::sync::Wait;
 use std::thread::Threads;

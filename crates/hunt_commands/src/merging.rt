@@ -1,14 +1,14 @@
 ghost use Rattle.std.specs.Prelude.{◌≡◌, ◌⊎◌, ◌++◌, IfErr, IfOk, OnErr, OnOk};
 ghost use Rattle.host_io.specs.Taken.{BeganText};
 ghost use Rattle.hunt_commands.specs.Merges.{AskedMerge, EndsMerge, IsFirstApartAt, IsMergeEnd, SetMerge, merged_text};
-ghost use Rattle.program_world.specs.declared.exit_status.ExitStatus.TheVariants as statuses;
+ghost use Rattle.program_files.specs.declared.exit_status.ExitStatus.TheVariants as statuses;
 
 use crate::merge_failure::MergeFailure;
 use crate::neighbours::{Apart, first_apart};
 use crate::table_files::{TableFile, tables_in_order, texts_of};
 use command_line::Merge;
 use hunt_table::merge;
-use program_world::{ExitStatus, Files, Output};
+use program_files::{ExitStatus, Files, Output};
 use std::alloc::{AllocError, Global};
 
 /// Joins the tables of some files, whose order doesn't matter, and prints the table of all their plans.

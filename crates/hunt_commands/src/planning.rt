@@ -3,14 +3,13 @@ ghost use Rattle.host_io.specs.Taken.{BeganText};
 ghost use Rattle.host_io.specs.declared.error.RunError.TheVariants as refusals;
 ghost use Rattle.hunt_commands.specs.Plans.{EndsPlan, has_bad_harts, IsAskedPlan};
 ghost use Rattle.program_files.specs.declared.failure.RunFailure.TheVariants as failures;
-ghost use Rattle.program_world.specs.declared.exit_status.ExitStatus.TheVariants as statuses;
+ghost use Rattle.program_files.specs.declared.exit_status.ExitStatus.TheVariants as statuses;
 
 use crate::repeating::tell_plan;
 use command_line::Plan;
 use host_io::{RunError, put_all};
-use plan_family::Family;
-use program_files::{AskedPlan, RunFailure, family_plan};
-use program_world::{ExitStatus, Messages, Output};
+use program_files::{AskedPlan, ExitStatus, Messages, Output, RunFailure, family_plan};
+use round_planner::Family;
 use round_schedule::MOST_HARTS;
 use std::alloc::Global;
 

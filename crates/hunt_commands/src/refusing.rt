@@ -11,8 +11,8 @@ ghost use Rattle.weak_hunter.specs.declared.error.WeakHuntError.TheVariants.{Hun
 use crate::failure::HuntFailure;
 use hunter::{HuntError, HuntSettings, check_guest, check_hunt};
 use machine::load;
-use named_bytes::NamingFault;
 use pages::MOST_PAGES;
+use program_files::NamingFault;
 use std::alloc::Global;
 use weak_hunter::WeakHuntError;
 

@@ -3,7 +3,7 @@
 
 use command_line::{Hunt, Plan, Program, Shrink};
 use plan_hunt::{HartEnding, Row};
-use program_world::Messages;
+use program_files::Messages;
 use std::alloc::{AllocError, Global};
 
 /// Says on standard error, for each ending of a table, the line that runs the program by its first plan, or that writes its first

@@ -1,12 +1,11 @@
 ghost use Rattle.std.specs.Prelude.{◌≡◌, [], IfOk, false};
 ghost use Rattle.hunt_commands.specs.Settings.{HasNumbers, IsOfProgram, names_of};
-ghost use Rattle.named_bytes.specs.Naming.{IsNaming, named_in, seen_ranges};
+ghost use Rattle.program_files.specs.Naming.{IsNaming, named_in, seen_ranges};
 
 use command_line::{Bytes, Program, Search};
 use hunt_table::Header;
 use hunter::HuntSettings;
-use named_bytes::{NamedBytes, named_bytes, seen_ranges};
-use program_files::{ProgramFiles, format_of};
+use program_files::{NamedBytes, ProgramFiles, format_of, named_bytes, seen_ranges};
 use std::alloc::{AllocError, Global};
 
 /// The bytes that are looked at when a run ends.

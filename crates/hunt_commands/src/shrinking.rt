@@ -2,7 +2,7 @@ ghost use Rattle.std.specs.Prelude.{◌≡◌, ◌⊎◌, ◌++◌, IfErr, IfOk,
 ghost use Rattle.host_io.specs.Taken.{BeganText};
 ghost use Rattle.hunt_commands.specs.Asked.{IsFileEnd};
 ghost use Rattle.hunt_commands.specs.Shrinks.{AskedShrink, EndsShrink, IsShrinkEnd, SetShrink, shrunk_text};
-ghost use Rattle.program_world.specs.declared.exit_status.ExitStatus.TheVariants as statuses;
+ghost use Rattle.program_files.specs.declared.exit_status.ExitStatus.TheVariants as statuses;
 ghost use Rattle.round_planner.specs.PlanText.{plan_text};
 
 use crate::failure::HuntFailure;
@@ -12,9 +12,9 @@ use crate::settings::{named_in, settings_of};
 use command_line::Shrink;
 use host_io::put_all;
 use hunter::{ShrinkObserver, shrink};
-use named_bytes::NamedBytes;
-use program_files::{ProgramFiles, read_program};
-use program_world::{ExitStatus, Files, Messages, Output, ProgressLine};
+use program_files::{
+    ExitStatus, Files, Messages, NamedBytes, Output, ProgramFiles, ProgressLine, read_program,
+};
 use round_planner::Plan;
 use std::alloc::Global;
 use std::sync::Wait;

@@ -4,7 +4,7 @@ ghost use Rattle.hunt_commands.specs.Status.{hunt_status, is_doubtful};
 use command_line::FailOn;
 use hunter::{all_end_well, is_one_exit};
 use plan_hunt::Row;
-use program_world::ExitStatus;
+use program_files::ExitStatus;
 
 /// The exit status of a hunt with this table.
 pub fn hunt_status(fail_on: FailOn, rows: &[Row]) -> ExitStatus

@@ -5,8 +5,7 @@ ghost use Rattle.hunt_commands.specs.Merges.{AreRead, AreTables, HoldsTable, IsR
 use crate::merge_failure::MergeFailure;
 use host_io::RunError;
 use hunt_table::{ReadError, Table, read_table};
-use program_files::read_file;
-use program_world::Files;
+use program_files::{Files, read_file};
 use std::alloc::{AllocError, Global};
 
 /// A table, and the file that has it.

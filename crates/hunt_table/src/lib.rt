@@ -20,4 +20,4 @@ pub use read_error::ReadError;
 pub use reading::read_table;
 pub use seen_range::{SeenRange, are_same_ranges};
 pub use table::Table;
-pub use writing::{add_output, add_ranges, add_table, write_seen, write_table};
+pub use writing::{add_output, add_ranges, add_table, write_table};

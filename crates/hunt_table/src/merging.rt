@@ -4,7 +4,7 @@ ghost use Rattle.std.specs.Prelude.{◌≡◌, ◌⊎◌, Err, IfErr, IfOk};
 ghost use Rattle.host_io.specs.declared.error.RunError.TheVariants as refusals;
 ghost use Rattle.hunt_table.specs.Merging.{AreApart, AreMerged, IsFirstNoTable, IsMergedText};
 ghost use Rattle.hunt_table.specs.declared.merge_error.MergeError.TheVariants.{Apart, NotATable, Run};
-ghost use Rattle.text_writes.specs.Writes.{WritesAnswer};
+ghost use Rattle.host_io.specs.Writes.{WritesAnswer};
 
 use crate::merge_error::MergeError;
 use crate::merging::appending::{append, are_few, harts_of};

@@ -2,11 +2,10 @@ mod endings;
 
 ghost use Rattle.std.specs.Prelude.{◌≡◌, ◌<◌, ◌++◌, Err, OnOk};
 ghost use Rattle.host_io.specs.Taken.{WritesText};
-ghost use Rattle.hunt_table.specs.Text.{endings_text, header_text, plans_front, plans_line, seen_line, table_text, table_text_by, weak_word};
+ghost use Rattle.hunt_table.specs.Text.{endings_text, header_text, plans_front, plans_line, table_text, table_text_by, weak_word};
 
 use crate::header::Header;
-use crate::seen_range::SeenRange;
-use crate::writing::endings::{EndingForm, add_ending, add_range};
+use crate::writing::endings::{EndingForm, add_ending};
 pub use endings::{add_output, add_ranges};
 use host_io::{RunError, Sink, put_all};
 use pages::OutOfMemory;
@@ -31,25 +30,6 @@ pub fn write_table<S: Sink>(
 {
     let mut line = Line::new(alloc);
     add_table(&mut line, true, header, rows)?;
-    put_all(out, line.as_bytes())
-}
-
-/// Writes the line of a range of memory that holds these bytes.
-///
-/// # Errors
-///
-/// As `write_table`.
-pub fn write_seen<S: Sink>(
-    alloc: Global,
-    range: &SeenRange,
-    bytes: &[u8],
-    out: &mut S,
-) -> Result<(), RunError>
-    ensures writes { WritesText (seen_line range.now bytes.now) (S.took out.old) (S.failures out.old) result (S.took out.new) (S.failures out.new) }
-    ensures memory { result ≡ Err RunError.OutOfMemory → S.took out.new ≡ S.took out.old }
-{
-    let mut line = Line::new(alloc);
-    add_range(&mut line, range, bytes)?;
     put_all(out, line.as_bytes())
 }
 

@@ -13,13 +13,13 @@ use Rattle.machine.specs.Machine.{Running, after_rounds, opening}
 use Rattle.run_settings.specs.Settings.{image_of}
 use Rattle.machine.specs.Untraced.{IsUntraced, Untraced}
 use Rattle.round_planner.specs.Quotas.{Planned}
-use Rattle.plan_family.specs.Families.{family_plan}
+use Rattle.round_planner.specs.Families.{family_plan}
 use Rattle.plan_hunt.specs.Endings.{Ended, ended}
 use Rattle.plan_hunt.specs.declared.hart_ending.HartEnding.{HartEnding}
 use Rattle.plan_hunt.specs.declared.hart_ending.HartEnding.TheVariants.{Stopped}
 use Rattle.plan_hunt.specs.Tables.{IsTable}
 use Rattle.plan_hunt.specs.declared.row.Row.{Row}
-use Rattle.plan_shrink.specs.Steps.{IsShrunk}
+use Rattle.plan_hunt.specs.Steps.{IsShrunk}
 use Rattle.hunter.specs.Hunts.{IsHunted, ended_of, ending_by, ends_after, ends_from, ends_under, family_of, run_endings, seen_of}
 use Rattle.hunter.specs.declared.settings.HuntSettings.{HuntSettings}
 

@@ -14,8 +14,8 @@ use Rattle.loop_finder.specs.Finding.{is_round}
 use Rattle.machine.specs.Machine.{Running, after_rounds, opening}
 use Rattle.run_settings.specs.Settings.{StandsIn, image_of}
 use Rattle.round_planner.specs.Quotas.{Planned}
-use Rattle.plan_family.specs.declared.family.Family.{Family}
-use Rattle.plan_family.specs.Families.{family_plan}
+use Rattle.round_planner.specs.declared.family.Family.{Family}
+use Rattle.round_planner.specs.Families.{family_plan}
 use Rattle.plan_hunt.specs.Endings.{Ended, ended, ends_well}
 use Rattle.plan_hunt.specs.declared.hart_ending.HartEnding.{HartEnding}
 use Rattle.plan_hunt.specs.declared.hart_ending.HartEnding.TheVariants.{Loops, Runs, Stopped}

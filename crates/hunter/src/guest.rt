@@ -14,10 +14,8 @@ use hunt_table::SeenRange;
 use loop_finder::run_or_loop;
 use machine::{UntracedMachine, load};
 use pages::OutOfMemory;
-use plan_family::Family;
-use plan_hunt::{Ending, HartEnding, Runs};
-use plan_shrink::PlanRuns;
-use round_planner::Plan;
+use plan_hunt::{Ending, HartEnding, PlanRuns, Runs};
+use round_planner::{Family, Plan};
 use std::alloc::Global;
 use std::sync::Wait;
 use std::thread::Threads;
@@ -33,7 +31,7 @@ pub(crate) struct Guest<'a> {
 }
 
 impl Runs for Guest<'_> {
-    ghost use Rattle.plan_family.specs.Families.{family_plan};
+    ghost use Rattle.round_planner.specs.Families.{family_plan};
     ghost use Rattle.hunter.specs.Hunts.{ends_from, family_of};
 
     ghost ends = { λ g n. ends_from g.settings.now g.image g.input.now (family_plan (family_of g.settings.now) n) };

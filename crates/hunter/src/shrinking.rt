@@ -1,8 +1,8 @@
 ghost use Rattle.std.specs.Prelude.{◌≡◌, ◌⊎◌, Err, IfErr, IfOk, None, Some, false};
 ghost use Rattle.host_io.specs.declared.load_error.LoadError.{LoadError as ImageCause};
 ghost use Rattle.host_io.specs.declared.error.RunError.TheVariants as refusals;
-ghost use Rattle.plan_family.specs.Families.{family_plan};
-ghost use Rattle.plan_shrink.specs.Steps.{IsShrunk};
+ghost use Rattle.round_planner.specs.Families.{family_plan};
+ghost use Rattle.plan_hunt.specs.Steps.{IsShrunk};
 ghost use Rattle.hunter.specs.Hunts.{IsHuntReason, IsImageCause, ends_from, ends_under, family_of, has_bad_range, shrink_fault};
 ghost use Rattle.hunter.specs.declared.error.HuntError.{HuntError as Refusal};
 ghost use Rattle.hunter.specs.declared.error.HuntError.TheVariants.{Run};
@@ -11,9 +11,8 @@ use crate::error::HuntError;
 use crate::guest::Guest;
 use crate::settings::{HuntSettings, check_ranges, check_shrink};
 use pages::OutOfMemory;
-use plan_family::serial_budget;
-use plan_shrink::ShrinkObserver;
-use round_planner::Plan;
+use plan_hunt::ShrinkObserver;
+use round_planner::{Plan, serial_budget};
 use std::alloc::Global;
 use std::sync::Wait;
 use std::thread::Threads;
@@ -66,7 +65,7 @@ fn shrunk<O: ShrinkObserver, R: Threads + Wait + Sync>(
 {
     let family = guest.family();
     let rows = family.rows_of(guest.alloc, number)?;
-    plan_shrink::shrink(
+    plan_hunt::shrink(
         rt,
         guest.alloc,
         guest,

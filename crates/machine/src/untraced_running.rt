@@ -19,10 +19,10 @@ use crate::untraced::UntracedMachine;
 use guest_rounds::{Crew, EventKeeper, NoTrace};
 use hart_rounds::HartEnd;
 use host_io::RunError;
+use lasting_workers::instructions_done;
 use pages::OutOfMemory;
 use parallel_phase::Gate;
 use round_schedule::MOST_WORKERS;
-use round_work::instructions_done;
 use std::sync::Wait;
 use std::thread::Threads;
 

@@ -1,5 +1,5 @@
 //! Tests of the machine by whole guest programs, and of what is copied and kept of a run, through the public calls of the crates
-//! `machine`, `noted_runs` and `replayer`.
+//! `machine`, `past_harts` and `replayer`.
 #![tactic(auto)]
 
 #[cfg(test)]

@@ -7,7 +7,7 @@ use crate::harness::{ASKED, flat, on_machine};
 use crate::images::{CROSSED_AND_FENCED, RESERVED, RESERVED_PLAN, SHARED_COUNTERS, TURNS};
 use host_io::RunError;
 use machine::{Machine, Observer, Settings, Trace, UntracedMachine, prepare_untraced};
-use noted_runs::run_noting;
+use past_harts::run_noting;
 use std::alloc::Global;
 use std::sync::Wait;
 use std::thread::Threads;

@@ -5,3 +5,9 @@ pub mod ProgramOrder
 pub mod RoundOrder
 pub mod Runs
 pub mod Rvwmo
+pub mod Dependencies
+pub mod Registers
+pub mod WiderRule
+pub mod Checking
+pub mod CheckingAtomic
+pub mod CheckingProgram

@@ -5,8 +5,7 @@ use crate::made::Made::{
     TotalFence,
 };
 use crate::made::{Row, events_of, trace_of};
-use memory_order::Order;
-use order_checker::check_order;
+use memory_order::{Order, check_order};
 use pages::Piece;
 use std::alloc::Global;
 use std::test::Fail;

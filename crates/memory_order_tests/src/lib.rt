@@ -1,5 +1,5 @@
 //! Tests of traces, of the order by rounds, and of the checker, through the public calls of the crates
-//! `trace`, `memory_order` and `order_checker`.
+//! `trace` and `memory_order`.
 #![tactic(auto)]
 
 #[cfg(test)]

@@ -6,8 +6,7 @@ ghost use Rattle.trace.specs.Traced.{HasForm};
 
 use crate::made::Made::{Conditional, Fence, Load, Reserve, Store};
 use crate::made::{BOTH, Row, trace_of};
-use memory_order::{is_operation, memory_order};
-use order_checker::check_order;
+use memory_order::{check_order, is_operation, memory_order};
 use pages::Piece;
 use pages::Width::W8;
 use rv64_decode::FenceMode;

@@ -3,4 +3,11 @@ pub mod Seen
 pub mod Past
 pub mod Mine
 pub mod Ends
-pub mod Asked
+pub mod AskedPast
+pub mod Loaded
+pub mod Parts
+pub mod Walked
+pub mod HitsFound
+pub mod PcsFound
+pub mod Passed
+pub mod QuietRuns

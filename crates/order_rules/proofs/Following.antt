@@ -7,11 +7,11 @@ use Rattle.rv64_decode.specs.declared.instruction.Instr.TheVariants.{Ecall}
 use Rattle.round_schedule.specs.declared.event.Event.{Event}
 use Rattle.round_schedule.specs.Positions.{ProgramBefore, event}
 use Rattle.memory_order.proofs.Facts.{or_cases, or_left, or_right}
-use Rattle.dependencies.specs.declared.registers.Registers.{Registers}
-use Rattle.dependencies.specs.Dependencies.{AddressDependency, AnyDependency, ControlDependency, DataDependency, Depends, IsSourceRegister, destination_at, registers_at}
-use Rattle.dependencies.specs.Registers.{registers_of}
-use Rattle.dependencies.proofs.Steps.{Carried_on, depends_earlier, depends_register, stays_down, stays_up, new_down, new_here, new_up}
-use Rattle.order_checker.proofs.Sourcing.{same_number}
+use Rattle.memory_order.specs.declared.registers.Registers.{Registers}
+use Rattle.memory_order.specs.Dependencies.{AddressDependency, AnyDependency, ControlDependency, DataDependency, Depends, IsSourceRegister, destination_at, registers_at}
+use Rattle.memory_order.specs.Registers.{registers_of}
+use Rattle.memory_order.proofs.Steps.{Carried_on, depends_earlier, depends_register, stays_down, stays_up, new_down, new_here, new_up}
+use Rattle.memory_order.proofs.Sourcing.{same_number}
 use Rattle.order_rules.specs.declared.dependents.Dependents.{Dependents}
 use Rattle.order_rules.specs.Dependents.{AreDependents, AreRegisters, any_source, dependents_after, is_dependent, marked}
 use Rattle.order_rules.specs.Orders.{AddressedBetween}

@@ -3,7 +3,7 @@ use Rattle.std.proofs.Common.{◌≡◌, ℕ, ◌-◌, ◌+◌, ◌<◌, ◌≤�
 use Rattle.rv64_decode.specs.declared.instruction.Instr.{Instr}
 use Rattle.round_schedule.specs.declared.event.Event.{Event}
 use Rattle.memory_order.specs.Rvwmo.{Rule, acquired, both-annotated, dependent, different-writes, fenced, overlapping-store, paired, released, returns-atomic}
-use Rattle.dependencies.specs.Dependencies.{DependencyRule, by-address, by-address-between, by-control, by-data, by-forwarding}
+use Rattle.memory_order.specs.Dependencies.{DependencyRule, by-address, by-address-between, by-control, by-data, by-forwarding}
 use Rattle.order_rules.specs.declared.rule.OrderRule.{OrderRule}
 use Rattle.order_rules.specs.declared.rule.OrderRule.TheVariants.{OverlappingStore, DifferentWrites, ReturnsAtomic, Fenced, Acquired, Released, BothAnnotated, Paired, ByAddress, ByData, ByControl, ByForwarding, ByAddressBetween}
 use Rattle.order_rules.specs.Orders.{Asks, IsOrderedBy, dependency_rule, rule_of}

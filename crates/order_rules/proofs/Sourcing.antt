@@ -8,9 +8,9 @@ use Rattle.memory_order.specs.Orders.{ListsOperations, order_position}
 use Rattle.memory_order.specs.Rvwmo.{IsSource, MaySee}
 use Rattle.memory_order.proofs.Placing.{position_of_contained}
 use Rattle.memory_order.proofs.Sources.{store_at}
-use Rattle.order_checker.specs.Checking.{IsMax, source_at, source_of}
-use Rattle.order_checker.proofs.Sourcing.{load_within}
-use Rattle.order_checker.proofs.Valuing.{source_listed}
+use Rattle.memory_order.specs.Checking.{IsMax, source_at, source_of}
+use Rattle.memory_order.proofs.Sourcing.{load_within}
+use Rattle.memory_order.proofs.Valuing.{source_listed}
 use Rattle.order_rules.specs.Orders.{HasSources}
 
 -- the index of a load in the order is one of the list

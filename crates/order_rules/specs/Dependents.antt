@@ -3,8 +3,8 @@ use Rattle.std.specs.Prelude.{◌≡◌, ℕ, ◌<◌, ◌==◌, ◌&&◌, ◌||
 use Rattle.rv64_decode.specs.declared.instruction.Instr.{Instr}
 use Rattle.round_schedule.specs.declared.event.Event.{Event}
 use Rattle.round_schedule.specs.Positions.{event}
-use Rattle.dependencies.specs.declared.registers.Registers.{Registers}
-use Rattle.dependencies.specs.Dependencies.{AddressDependency, AnyDependency, Depends, registers_at}
+use Rattle.memory_order.specs.declared.registers.Registers.{Registers}
+use Rattle.memory_order.specs.Dependencies.{AddressDependency, AnyDependency, Depends, registers_at}
 use Rattle.order_rules.specs.declared.dependents.Dependents.{Dependents}
 
 abbrev pub is_dependent : Dependents → ℕ → Bool

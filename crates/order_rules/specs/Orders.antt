@@ -7,10 +7,10 @@ use Rattle.round_schedule.specs.Accesses.{is_sc}
 use Rattle.round_schedule.specs.Positions.{ProgramBefore, event, reads_at, writes_at}
 use Rattle.trace.specs.Traced.{HasForm}
 use Rattle.memory_order.specs.Orders.{ListsOperations, order_position}
-use Rattle.order_checker.specs.Checking.{AreSources, IsRanking}
+use Rattle.memory_order.specs.Checking.{AreSources, IsRanking}
 use Rattle.memory_order.specs.Operations.{covers, fence_orders, is_acquire, is_amo, is_release, is_store}
 use Rattle.memory_order.specs.Rvwmo.{IsPaired, IsSource, MaySee, Rule, acquired, both-annotated, dependent, different-writes, fenced, overlapping-store, paired, released, returns-atomic}
-use Rattle.dependencies.specs.Dependencies.{AddressDependency, ControlDependency, DataDependency, DependencyRule, by-address, by-address-between, by-control, by-data, by-forwarding}
+use Rattle.memory_order.specs.Dependencies.{AddressDependency, ControlDependency, DataDependency, DependencyRule, by-address, by-address-between, by-control, by-data, by-forwarding}
 use Rattle.order_rules.specs.declared.rule.OrderRule.{OrderRule}
 use Rattle.order_rules.specs.Rules.{number_of}
 use Rattle.order_rules.specs.declared.rule.OrderRule.TheVariants.{OverlappingStore, DifferentWrites, ReturnsAtomic, Fenced, Acquired, Released, BothAnnotated, Paired, ByAddress, ByData, ByControl, ByForwarding, ByAddressBetween}

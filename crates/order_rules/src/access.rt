@@ -6,7 +6,7 @@ ghost use Rattle.trace.specs.Traced.{HasForm};
 ghost use Rattle.round_schedule.specs.Accesses.{is_lr, is_sc, reads, writes};
 ghost use Rattle.memory_order.specs.Operations.{covers, fence_orders, is_acquire, is_amo, is_lr_or_sc, is_normal};
 
-use order_checker::event_at;
+use memory_order::event_at;
 use round_schedule::{Access, Event};
 use rv64_decode::FenceMode;
 

@@ -12,7 +12,7 @@ use crate::depending::{
     depends_by_address, depends_by_control, depends_by_data, forwards, is_addressed_between,
 };
 use crate::rule::{OrderRule, RULES};
-use order_checker::{Sources, event_at, is_release};
+use memory_order::{Sources, event_at, is_release};
 use round_schedule::{Access, Event};
 use rv64_decode::Instr;
 

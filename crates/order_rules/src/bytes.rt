@@ -10,7 +10,7 @@ ghost use Rattle.order_rules.specs.Orders.{AreRanked, Differs, DiffersAt, HasSou
 
 use crate::access::{covers, is_same_hart, reads_at, writes_at};
 use crate::sources::source_of;
-use order_checker::{Sources, event_at};
+use memory_order::{Sources, event_at};
 use round_schedule::{Access, Event};
 
 /// Whether two accesses have a byte in common.

@@ -1,11 +1,10 @@
 ghost use Rattle.std.specs.Prelude.{◌≡◌, ◌==◌, ◌+◌, ◌<◌, ◌≤◌, All, if◌then◌else◌, length};
 ghost use Rattle.trace.specs.Traced.{HasForm};
 ghost use Rattle.round_schedule.specs.Positions.{event};
-ghost use Rattle.dependencies.specs.Dependencies.{has_failed};
+ghost use Rattle.memory_order.specs.Dependencies.{has_failed};
 ghost use Rattle.order_rules.specs.Dependents.{AreDependents, AreRegisters, any_source, dependents_after, is_dependent, marked};
 
-use dependencies::{Registers, used_registers};
-use order_checker::event_at;
+use memory_order::{Registers, event_at, used_registers};
 use round_schedule::{Access, Event};
 use rv64_decode::{Instr, Reg};
 

@@ -4,14 +4,13 @@ ghost use Rattle.std.specs.Prelude.{◌≡◌, ◌↔◌, ◌<◌, All, IsTrue, 
 ghost use Rattle.trace.specs.Traced.{HasForm};
 ghost use Rattle.round_schedule.specs.Positions.{ProgramBefore};
 ghost use Rattle.memory_order.specs.Orders.{order_position};
-ghost use Rattle.dependencies.specs.Dependencies.{AddressDependency, ControlDependency, DataDependency};
+ghost use Rattle.memory_order.specs.Dependencies.{AddressDependency, ControlDependency, DataDependency};
 ghost use Rattle.order_rules.specs.Orders.{AddressedBetween, AreRanked, DependsBefore, Forwards, ForwardsAt, HasSources};
 
 use crate::access::{is_same_hart, reads_at};
 use crate::dependents::{dependents_before, is_dependent};
 use crate::sources::source_of;
-use dependencies::used_registers;
-use order_checker::{Sources, event_at};
+use memory_order::{Sources, event_at, used_registers};
 use round_schedule::Event;
 use rv64_decode::Instr;
 

@@ -2,7 +2,7 @@ ghost use Rattle.std.specs.Prelude.{◌≡◌};
 ghost use Rattle.order_rules.specs.Rules.{number_of};
 
 /// The rules of preserved program order (manual, section 14.1.3), in the manual's order.
-#[derive(Clone, Copy, Debug, PartialEq, Eq)]
+#[derive(Clone, Copy, PartialEq, Eq)]
 pub enum OrderRule {
     OverlappingStore,
     DifferentWrites,

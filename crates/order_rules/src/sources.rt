@@ -4,7 +4,7 @@ ghost use Rattle.memory_order.specs.Orders.{order_position};
 ghost use Rattle.memory_order.specs.Rvwmo.{IsSource};
 ghost use Rattle.order_rules.specs.Orders.{AreRanked, HasSources};
 
-use order_checker::{Sources, listed, position_of, source_at};
+use memory_order::{Sources, listed, position_of, source_at};
 use round_schedule::Event;
 
 /// The index of the store that the byte at an address is from, where the event at `reader` reads it: that of the latest among those

@@ -3,16 +3,16 @@ use Rattle.std.proofs.Common.{◌≡◌, ℕ, zero, suc, ◌<◌, List, [], ◌�
 use Rattle.atomic_table.specs.Seated.{TableId}
 use Rattle.hart_rounds.specs.Ends.{round_at}
 use Rattle.hart_rounds.specs.Starts.{Start}
-use Rattle.round_lock.specs.declared.hart_round.HartRound.{HartRound}
-use Rattle.round_lock.specs.declared.book_start.BookStart.{Ghosts}
-use Rattle.round_lock.specs.Histories.{Complete, harts_of}
-use Rattle.round_lock.specs.Known.{Collected, Known, fresh_seats}
-use Rattle.round_lock.specs.Lists.{Each}
-use Rattle.round_lock.specs.Rounds.{IsTable, hart_of, seat_of}
-use Rattle.round_lock.proofs.Lists.{each_map, has_from_times}
-use Rattle.round_lock.proofs.Moves.{found}
-use Rattle.round_lock.proofs.Using.{IsFresh, all_fresh}
-use Rattle.parallel_phase.specs.Seats.{IsReady}
+use Rattle.parallel_phase.specs.declared.claimed_round.HartRound.{HartRound}
+use Rattle.parallel_phase.specs.declared.book_start.BookStart.{Ghosts}
+use Rattle.parallel_phase.specs.Histories.{Complete, harts_of}
+use Rattle.parallel_phase.specs.Known.{Collected, Known, fresh_seats}
+use Rattle.parallel_phase.specs.Lists.{Each}
+use Rattle.parallel_phase.specs.Rounds.{IsTable, hart_of, seat_of}
+use Rattle.parallel_phase.proofs.Lists.{each_map, has_from_times}
+use Rattle.parallel_phase.proofs.Moves.{found}
+use Rattle.parallel_phase.proofs.Using.{IsFresh, all_fresh}
+use Rattle.parallel_phase.specs.Ready.{IsReady}
 
 module _ {A : Type 0} where
   each_index : (P : A → Type 0) (xs : List A) (k : ℕ) (d : A) → Each P xs → k < length xs → P (slice_index_or xs k d)

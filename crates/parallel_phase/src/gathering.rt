@@ -1,11 +1,15 @@
 ghost use Rattle.std.specs.Prelude.{◌≡◌, ◌≤◌, IfOk};
-ghost use Rattle.round_lock.specs.Rounds.{IsTable};
+ghost use Rattle.parallel_phase.specs.Rounds.{IsTable};
 ghost use Rattle.round_schedule.specs.Bounds.{AreWorkers};
 
+use crate::book::RoundBook;
+use crate::book_start::BookStart;
+use crate::claimed_round::HartRound;
 use crate::gate::Gate;
+use crate::gathered::Gathered;
 use crate::working::work_all;
+use hart_rounds::RoundStart;
 use pages::OutOfMemory;
-use round_lock::{BookStart, Gathered, HartRound, RoundBook, RoundStart};
 use std::sync::Wait;
 use std::thread::Threads;
 

@@ -1,9 +1,11 @@
 ghost use Rattle.std.specs.Prelude.{◌≡◌, ◌<◌, length, IfOk};
-ghost use Rattle.round_lock.specs.Rounds.{ticket_of};
+ghost use Rattle.parallel_phase.specs.Rounds.{ticket_of};
 
-use hart_rounds::round_from;
+use crate::book_start::BookStart;
+use crate::claimed_round::HartRound;
+use crate::ticket::Ticket;
+use hart_rounds::{RoundStart, round_from};
 use pages::OutOfMemory;
-use round_lock::{BookStart, HartRound, RoundStart, Ticket};
 
 /// Does the round of a ticket's hart, on the memory of the start that its book was opened with.
 ///

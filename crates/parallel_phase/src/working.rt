@@ -1,13 +1,17 @@
 //! What one worker does, and all of them.
 
 ghost use Rattle.std.specs.Prelude.{◌≡◌, ◌<◌, length, All};
-ghost use Rattle.round_lock.specs.Rounds.{harts_put};
-ghost use Rattle.parallel_phase.specs.Seats.{IsReady};
+ghost use Rattle.parallel_phase.specs.Rounds.{harts_put};
+ghost use Rattle.parallel_phase.specs.Ready.{IsReady};
 
 use crate::beside::{Work, work_on_each};
+use crate::book::RoundBook;
+use crate::book_start::BookStart;
+use crate::claimed_round::HartRound;
 use crate::gate::Gate;
 use crate::rounds::hart_round;
-use round_lock::{BookStart, HartRound, RoundBook, RoundStart, Seat};
+use crate::seat::Seat;
+use hart_rounds::RoundStart;
 use std::sync::Wait;
 use std::thread::Threads;
 

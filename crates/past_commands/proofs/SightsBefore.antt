@@ -3,8 +3,8 @@ use Rattle.std.proofs.Common.{◌≡◌, ◌∙◌, ◌+◌, ◌-◌, ◌*◌, �
 use Rattle.std.proofs.lemmas.Bool.{cases_lt}
 use Rattle.std.proofs.lemmas.List.Elements.{All-cons}
 use Rattle.elf_loader.specs.Image.{Loaded}
-use Rattle.event_pcs.proofs.RoundsAt.{after_last, from_before}
-use Rattle.event_pcs.specs.Pcs.{hart_at}
+use Rattle.run_events.proofs.RoundsAt.{after_last, from_before}
+use Rattle.run_events.specs.Pcs.{hart_at}
 use Rattle.hart_step.proofs.Soundness.{counts_done}
 use Rattle.hart_step.specs.Console.{ConsoleState}
 use Rattle.hart_step.specs.Words.{words_of}

@@ -10,13 +10,13 @@ use Rattle.past_commands.specs.declared.question.Question.{Question}
 use Rattle.past_commands.specs.declared.question.Question.TheVariants as questions
 use Rattle.past_commands.specs.declared.telling.Told.{Told}
 use Rattle.past_commands.specs.declared.telling.Told.TheVariants as tells
-use Rattle.program_world.specs.declared.exit_status.ExitStatus.{ExitStatus}
-use Rattle.program_world.specs.declared.exit_status.ExitStatus.TheVariants as statuses
+use Rattle.program_files.specs.declared.exit_status.ExitStatus.{ExitStatus}
+use Rattle.program_files.specs.declared.exit_status.ExitStatus.TheVariants as statuses
 use Rattle.replayer.specs.Past.{DidSoMany, IsCountAt, IsStateBefore, sight_at}
 use Rattle.replayer.specs.declared.verdict.Verdict.{Verdict}
 use Rattle.replayer.specs.declared.verdict.Verdict.TheVariants.{Differs, Same}
 use Rattle.report_lines.specs.Text.{hart_text}
-use Rattle.seeing.specs.Bytes.{bytes_from}
+use Rattle.moments.specs.Bytes.{bytes_from}
 
 -- the line of a word and a number
 abbrev pub number_line : List ℕ → ℕ → List ℕ

@@ -16,7 +16,7 @@ use Rattle.execution_commands.specs.Verdicts.{is_allowed}
 use Rattle.past_commands.specs.Checks.{IsCheckAnswer}
 use Rattle.past_commands.specs.Questions.{IsSeeing, ranges_seen}
 use Rattle.past_commands.specs.declared.answer.Answer.{Answer}
-use Rattle.program_world.specs.declared.exit_status.ExitStatus.TheVariants.{Done}
+use Rattle.program_files.specs.declared.exit_status.ExitStatus.TheVariants.{Done}
 use Rattle.round_schedule.specs.Bounds.{AreWorkers}
 use Rattle.report_lines.specs.Text.{hart_text}
 use Rattle.trace.specs.Traced.{opening_at}

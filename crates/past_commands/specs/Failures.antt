@@ -5,7 +5,7 @@ use Rattle.execution_commands.specs.declared.failure.ExecutionFailure.{Execution
 use Rattle.execution_commands.specs.declared.failure.ExecutionFailure.TheVariants as executions
 use Rattle.execution_file.specs.Refusals.{cause_number}
 use Rattle.host_io.specs.declared.error.RunError.TheVariants as refusals
-use Rattle.named_bytes.specs.Naming.{IsMissing, IsNoObject, first_missing, naming_number}
+use Rattle.program_files.specs.Naming.{IsMissing, IsNoObject, first_missing, naming_number}
 use Rattle.past_commands.specs.declared.failure.PastFailure.{PastFailure}
 use Rattle.past_commands.specs.declared.failure.PastFailure.TheVariants.{Naming, NoExecution, NoRounds, Run, Unread}
 use Rattle.program_files.specs.Failures.{failure_number as run_number}

@@ -2,8 +2,8 @@
 use Rattle.std.specs.Prelude.{ℕ, Bool, true, false, List, map, Option, Some, None}
 use Rattle.command_line.specs.declared.settings.Replay.{Replay}
 use Rattle.hunt_table.specs.declared.seen_range.SeenRange.{SeenRange}
-use Rattle.named_bytes.specs.Naming.{IsNaming, named_in, seen_ranges}
-use Rattle.named_bytes.specs.declared.fault.NamingFault.{NamingFault}
+use Rattle.program_files.specs.Naming.{IsNaming, named_in, seen_ranges}
+use Rattle.program_files.specs.declared.fault.NamingFault.{NamingFault}
 use Rattle.past_commands.specs.declared.question.Question.{Question}
 use Rattle.past_commands.specs.declared.question.Question.TheVariants.{Before, Count, Within}
 

@@ -6,8 +6,8 @@ use Rattle.execution_file.specs.Grammar.{IsExecution}
 use Rattle.execution_file.specs.Recorded.{Recorded as Executed}
 use Rattle.host_io.specs.declared.error.RunError.{RunError}
 use Rattle.host_io.specs.declared.error.RunError.TheVariants as refusals
-use Rattle.named_bytes.specs.Naming.{IsMissing, first_missing}
-use Rattle.named_bytes.specs.declared.fault.NamingFault.{NamingFault}
+use Rattle.program_files.specs.Naming.{IsMissing, first_missing}
+use Rattle.program_files.specs.declared.fault.NamingFault.{NamingFault}
 use Rattle.past_commands.specs.Failures.{IsNoExecution, IsUnnamed, out_of_memory}
 use Rattle.past_commands.specs.Past.{EndsReading, HoldsPast}
 use Rattle.past_commands.specs.Questions.{IsSeeing}

@@ -10,7 +10,7 @@ use Rattle.past_commands.specs.declared.past.Past.{Past}
 use Rattle.past_commands.specs.declared.past.Past.TheVariants.{Execution, Recording}
 use Rattle.past_commands.specs.declared.question.Question.{Question}
 use Rattle.past_commands.specs.declared.telling.Told.{Told}
-use Rattle.program_world.specs.declared.exit_status.ExitStatus.TheVariants.{Done}
+use Rattle.program_files.specs.declared.exit_status.ExitStatus.TheVariants.{Done}
 use Rattle.recording.specs.Recorded.{Recorded}
 use Rattle.round_schedule.specs.Bounds.{AreWorkers}
 use Rattle.replayer.specs.Replayed.{IsPlanFor, IsVerdict, start_of}

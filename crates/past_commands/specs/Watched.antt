@@ -6,8 +6,8 @@ use Rattle.host_io.specs.declared.error.RunError.TheVariants.{OutOfMemory, SinkF
 use Rattle.past_commands.specs.Answers.{number_line}
 use Rattle.past_commands.specs.declared.watched.Watched.{Watched}
 use Rattle.past_commands.specs.declared.watched.Watched.TheVariants.{Hits, Refused}
-use Rattle.program_world.specs.declared.exit_status.ExitStatus.{ExitStatus}
-use Rattle.program_world.specs.declared.exit_status.ExitStatus.TheVariants.{Done}
+use Rattle.program_files.specs.declared.exit_status.ExitStatus.{ExitStatus}
+use Rattle.program_files.specs.declared.exit_status.ExitStatus.TheVariants.{Done}
 use Rattle.report_lines.specs.Text.{event_text}
 use Rattle.round_schedule.specs.declared.event.Event.{Event}
 use Rattle.trace_events.specs.Located.{located_text}

@@ -2,14 +2,14 @@
 use Rattle.std.specs.Prelude.{◌≡◌, ℕ, ◌-◌, ◌^◌, Bool, true, false, List, [], ◌∷◌, ◌++◌, filter, map, min, slice_get, slice_index, unwrap_or, Option, Some, None}
 use Rattle.command_line.specs.declared.settings.Bytes.{Bytes}
 use Rattle.command_line.specs.declared.settings.Watch.{Watch}
-use Rattle.event_pcs.specs.Pcs.{pc_before}
+use Rattle.run_events.specs.Pcs.{pc_before}
 use Rattle.execution_file.specs.Grammar.{IsExecution}
 use Rattle.execution_file.specs.Recorded.{Recorded as Executed}
 use Rattle.execution_scripts.specs.Findings.{IsFound, guest_in}
 use Rattle.execution_scripts.specs.declared.checking.Checked.{Checked}
 use Rattle.execution_views.specs.Touched.{positions_sought}
 use Rattle.machine.specs.Machine.{Running}
-use Rattle.named_bytes.specs.Naming.{first_missing, objects_in}
+use Rattle.program_files.specs.Naming.{first_missing, objects_in}
 use Rattle.pages.specs.declared.access.Range.{Range}
 use Rattle.execution_commands.specs.Verdicts.{is_allowed}
 use Rattle.past_commands.specs.Checks.{IsCheckAnswer}
@@ -20,7 +20,7 @@ use Rattle.past_commands.specs.declared.watched.Hits.{Hits as Found}
 use Rattle.past_commands.specs.declared.watched.Watched.{Watched}
 use Rattle.past_commands.specs.declared.watched.Watched.TheVariants.{Hits, Refused}
 use Rattle.recording.specs.Recorded.{Recorded}
-use Rattle.run_hits.specs.Hits.{is_chosen, of_rounds}
+use Rattle.run_events.specs.Hits.{is_chosen, of_rounds}
 use Rattle.round_schedule.specs.Bounds.{AreWorkers}
 use Rattle.replayer.specs.Replayed.{IsPlanFor, hits_of, start_of}
 use Rattle.round_planner.specs.Quotas.{Planned}

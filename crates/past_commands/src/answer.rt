@@ -3,7 +3,7 @@ ghost use Rattle.std.specs.Prelude.{◌≡◌, IfOk};
 ghost use Rattle.past_commands.specs.Answers.{number_line, verdict_status, verdict_text};
 
 use pages::OutOfMemory;
-use program_world::ExitStatus;
+use program_files::ExitStatus;
 use replayer::Verdict;
 use report_lines::{Line, count_line};
 use std::alloc::Global;

@@ -7,9 +7,8 @@ ghost use Rattle.program_files.specs.declared.failure.RunFailure.TheVariants as 
 use execution_commands::ExecutionFailure;
 use execution_file::Cause;
 use host_io::RunError;
-use named_bytes::NamingFault;
 use pages::OutOfMemory;
-use program_files::RunFailure;
+use program_files::{NamingFault, RunFailure};
 use recording::ReadError;
 use std::alloc::{AllocError, AllocFailed};
 use std::fmt::{self, Display, Formatter, Write};

@@ -1,6 +1,6 @@
 ghost use Rattle.std.specs.Prelude.{ℕ, List, IfOk};
 
-use program_world::{FileFault, Files};
+use program_files::{FileFault, Files};
 
 /// Files that hold recordings or executions, told apart by what they begin with.
 pub trait PastFiles: Files {

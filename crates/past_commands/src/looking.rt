@@ -14,9 +14,8 @@ use execution_commands::is_allowed;
 use execution_file::ExecutionFile;
 use execution_scripts::{Before, Checked, HartStep, Moment, bytes_at, check_file, moment_of};
 use hunt_table::{SeenRange, add_ranges};
-use named_bytes::{NamedBytes, named_bytes, seen_ranges};
 use pages::OutOfMemory;
-use program_world::ExitStatus;
+use program_files::{ExitStatus, NamedBytes, named_bytes, seen_ranges};
 use report_lines::{Line, hart_lines};
 use std::alloc::Global;
 

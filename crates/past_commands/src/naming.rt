@@ -1,14 +1,13 @@
 //! The bytes of guest memory whose accesses are looked at.
 ghost use Rattle.std.specs.Prelude.{◌≡◌, ◌++◌, IfErr, IfOk, None, map};
-ghost use Rattle.named_bytes.specs.Naming.{first_missing, objects_in};
+ghost use Rattle.program_files.specs.Naming.{first_missing, objects_in};
 ghost use Rattle.past_commands.specs.Failures.{IsNotNamed, IsUnnamed};
 ghost use Rattle.past_commands.specs.Watches.{as_range, at_address, names_watched, watched_bytes};
 
 use crate::failure::PastFailure;
 use command_line::{Bytes, Watch};
-use named_bytes::{is_in_memory, no_object, one_object};
 use pages::{OutOfMemory, Range};
-use program_world::Messages;
+use program_files::{Messages, is_in_memory, no_object, one_object};
 use std::alloc::{AllocError, Global};
 
 /// The bytes that a line watches: those that it names by addresses, and those of objects of the image.

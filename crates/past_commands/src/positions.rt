@@ -14,7 +14,7 @@ use command_line::Watch;
 use execution_commands::is_allowed;
 use execution_file::ExecutionFile;
 use execution_scripts::{Checked, check_file, positions_sought};
-use program_world::Messages;
+use program_files::Messages;
 use round_schedule::Event;
 use std::alloc::{AllocError, Global};
 

@@ -2,7 +2,7 @@ ghost use Rattle.past_commands.specs.Refused.{IsRefusedFor};
 
 use crate::failure::PastFailure;
 use machine::Unobserved;
-use named_bytes::NamingFault;
+use program_files::NamingFault;
 use recording::Recording;
 use replayer::{Rounds, watch_rounds};
 use std::alloc::Global;

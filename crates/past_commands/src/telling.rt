@@ -4,7 +4,7 @@ ghost use Rattle.past_commands.specs.Answers.{IsTold, all_bytes, sight_text, tol
 ghost use Rattle.replayer.specs.Refusals.{RefusedInOrder};
 ghost use Rattle.replayer.specs.Replayed.{IsPlanFor, start_of};
 ghost use Rattle.round_planner.specs.Quotas.{Planned};
-ghost use Rattle.seeing.specs.Bytes.{bytes_from};
+ghost use Rattle.moments.specs.Bytes.{bytes_from};
 
 use crate::answer::{number_line, word_line};
 use crate::placing::sight_before;

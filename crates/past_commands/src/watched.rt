@@ -5,7 +5,7 @@ ghost use Rattle.past_commands.specs.Watched.{Prints, hit_line, hits_lines, hits
 
 use crate::answer::{Answer, number_line};
 use host_io::{RunError, Sink, put_all};
-use program_world::ExitStatus;
+use program_files::ExitStatus;
 use replayer::Hit;
 use report::write_event;
 use std::alloc::Global;

@@ -19,7 +19,7 @@ use crate::watched::{Hits, Watched, print_watched};
 use command_line::{Bytes, Watch};
 use host_io::RunError;
 use machine::Observer;
-use program_world::{ExitStatus, Messages, Output, ProgressLine};
+use program_files::{ExitStatus, Messages, Output, ProgressLine};
 use recording::Recording;
 use replayer::{Hit, Rounds, choose, pcs_before, watch_rounds};
 use std::alloc::Global;

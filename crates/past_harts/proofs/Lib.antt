@@ -1,1 +1,2 @@
 pub mod NextRounds
+pub mod Begun

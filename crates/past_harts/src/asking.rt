@@ -15,9 +15,9 @@ use hart_rounds::LogForm;
 use hart_step::Hart;
 use host_io::RunError;
 use machine::{Machine, MachineFields, UntracedMachine};
+use moments::Sight;
 use parallel_phase::Open;
 use round_schedule::MOST_WORKERS;
-use seeing::Sight;
 use std::sync::Wait;
 use std::thread::Threads;
 

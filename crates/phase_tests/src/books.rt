@@ -1,14 +1,14 @@
-//! Books, through the public calls of the crate `round_lock`: of harts that may do no instruction, so that each round leaves its hart as it was.
+//! Books, through the public calls of the crate `parallel_phase`: of harts that may do no instruction, so that each round leaves its hart as it was.
 
 ghost use Rattle.std.specs.Prelude.{◌≡◌, [], ◌∷◌, ◌++◌, IfOk, IfSome, length};
 ghost use Rattle.hart_step.specs.DecodedCode.{Shows};
-ghost use Rattle.round_lock.specs.Lists.{has};
-ghost use Rattle.round_lock.specs.Rounds.{harts_put, ticket_of};
+ghost use Rattle.parallel_phase.specs.Lists.{has};
+ghost use Rattle.parallel_phase.specs.Rounds.{harts_put, ticket_of};
 
 use hart_rounds::HartEnd;
 use hart_step::{DecodedCode, Hart};
 use pages::{OutOfMemory, Pages};
-use round_lock::{BookStart, Gathered, HartRound, RoundBook, RoundStart, Seat, Ticket};
+use parallel_phase::{BookStart, Gathered, HartRound, RoundBook, RoundStart, Seat, Ticket};
 use std::alloc::Global;
 use std::marker::Brand;
 use std::process::Abort;

@@ -1,4 +1,4 @@
-//! Tests of the three phases of a round and of the book that its workers share, through the public calls of the crates `round_lock`,
+//! Tests of the three phases of a round and of the book that its workers share, through the public calls of the crates `parallel_phase`,
 //! `hart_rounds`, `commit_phase` and `serial_phase`.
 #![tactic(auto)]
 

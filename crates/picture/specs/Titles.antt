@@ -4,7 +4,7 @@ use Rattle.std.specs.Fmt.{decimal}
 use Rattle.round_schedule.specs.declared.event.Event.{Event}
 use Rattle.round_schedule.specs.Accesses.{place_of}
 use Rattle.report_lines.specs.Text.{hex}
-use Rattle.elf_symbols.specs.Offsets.{NamedOffset, as_offset}
+use Rattle.elf_loader.specs.Offsets.{NamedOffset, as_offset}
 use Rattle.picture.specs.declared.site.Site.{Site}
 
 -- what is known of an event beside the trace: the pc of its instruction, and the object that it touched: its name, and how far from its first byte

@@ -1,4 +1,4 @@
-use elf_symbols::SymbolOffset;
+use elf_loader::SymbolOffset;
 
 /// What is known of an event beside the trace.
 #[derive(Clone, Copy)]

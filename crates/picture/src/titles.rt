@@ -1,11 +1,11 @@
 //! Titles of boxes, which a viewer shows where it is pointed at.
 
 ghost use Rattle.std.specs.Prelude.{◌≡◌, ◌++◌, OnOk, map, option_map, take};
-ghost use Rattle.elf_symbols.specs.Offsets.{as_offset};
+ghost use Rattle.elf_loader.specs.Offsets.{as_offset};
 ghost use Rattle.picture.specs.Titles.{escape, escaped, object_text, offset_text, part_text, pc_text, title_text, told, told_at};
 
 use crate::site::Site;
-use elf_symbols::SymbolOffset;
+use elf_loader::SymbolOffset;
 use pages::OutOfMemory;
 use report_lines::Line;
 use round_schedule::Event;

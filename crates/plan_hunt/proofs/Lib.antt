@@ -4,3 +4,7 @@ pub mod Joined
 pub mod Same
 pub mod Slots
 pub mod Unique
+pub mod Accepted
+pub mod Numbered
+pub mod Sizes
+pub mod Passes

@@ -1,14 +1,22 @@
-//! The endings of a guest's runs under many plans: which there are, how often each comes, and the first plan that leads there.
+//! The endings of a guest's runs under many plans: which there are, how often each comes, the first plan that leads there, and a smaller one
+//! that does, found by single steps.
 #![tactic(auto)]
 
 mod adding;
 mod block;
+mod changing;
+mod draft;
 mod ending;
 mod hart_ending;
 mod joining;
 mod observing;
+mod plan_runs;
 mod row;
 mod runs;
+mod shrink_observing;
+mod shrinking;
+mod size;
+mod step;
 mod tabulating;
 mod working;
 
@@ -16,6 +24,10 @@ pub use ending::Ending;
 pub use hart_ending::{HartEnding, are_well};
 pub use joining::join;
 pub use observing::{HuntObserver, UnobservedHunt};
+pub use plan_runs::PlanRuns;
 pub use row::Row;
 pub use runs::Runs;
+pub use shrink_observing::{ShrinkObserver, UnobservedShrink};
+pub use shrinking::shrink;
+pub use step::{Change, Step, Way};
 pub use tabulating::{block_size, tables_are_unique, tabulate};

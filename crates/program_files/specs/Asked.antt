@@ -9,7 +9,7 @@ use Rattle.host_io.specs.declared.error.RunError.TheVariants as refusals
 use Rattle.run_settings.specs.Settings.{IsPlan, IsReason, RefusedInOrder, settings_fault}
 use Rattle.run_settings.specs.declared.settings.Format.TheVariants.{Elf, Flat}
 use Rattle.run_settings.specs.declared.settings.Settings.{Settings}
-use Rattle.plan_family.specs.Families.{family_plan}
+use Rattle.round_planner.specs.Families.{family_plan}
 use Rattle.program_files.specs.Failures.{IsFileFailure, Tells}
 use Rattle.program_files.specs.declared.failure.RunFailure.{RunFailure}
 use Rattle.program_files.specs.declared.failure.RunFailure.TheVariants.{Refused}

@@ -3,8 +3,8 @@ use Rattle.std.specs.Prelude.{◌≡◌, ℕ, ⊤, Result, Ok, Err}
 use Rattle.host_io.specs.RunErrors.{number_of}
 use Rattle.host_io.specs.declared.error.RunError.{RunError}
 use Rattle.host_io.specs.declared.error.RunError.TheVariants as refusals
-use Rattle.program_world.specs.declared.files.FileFault.{FileFault}
-use Rattle.program_world.specs.declared.files.FileFault.TheVariants as faults
+use Rattle.program_files.specs.declared.files.FileFault.{FileFault}
+use Rattle.program_files.specs.declared.files.FileFault.TheVariants as faults
 use Rattle.program_files.specs.declared.failure.RunFailure.{RunFailure}
 use Rattle.program_files.specs.declared.failure.RunFailure.TheVariants.{File, Plan, Refused}
 

@@ -1,2 +1,4 @@
 pub mod Asked
 pub mod Failures
+pub mod Naming
+pub mod Status

@@ -3,9 +3,9 @@ ghost use Rattle.host_io.specs.declared.error.RunError.TheVariants as refusals;
 ghost use Rattle.program_files.specs.Failures.{failure_number};
 ghost use Rattle.program_files.specs.declared.failure.RunFailure.TheVariants as failures;
 
+use crate::files::FileFault;
 use crate::plan_lines::BadLine;
 use host_io::RunError;
-use program_world::FileFault;
 use std::alloc::{AllocError, AllocFailed};
 use std::fmt::{self, Display, Formatter, Write};
 

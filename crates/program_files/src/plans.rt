@@ -4,13 +4,13 @@ ghost use Rattle.program_files.specs.Asked.{IsFamilyPlan, IsPlanChosen};
 ghost use Rattle.program_files.specs.Failures.{IsFileFailure, IsTold};
 
 use crate::failure::RunFailure;
+use crate::files::Files;
 use crate::plan_lines::bad_line;
 use crate::reading::read_file;
 use command_line::PlanChoice;
 use host_io::RunError;
 use pages::OutOfMemory;
-use plan_family::Family;
-use program_world::Files;
+use round_planner::Family;
 use round_schedule::MOST_HARTS;
 use std::alloc::Global;
 

@@ -4,10 +4,10 @@ ghost use Rattle.program_files.specs.Asked.{IsImageOf, IsProgramOf};
 ghost use Rattle.program_files.specs.Failures.{IsFileFailure};
 
 use crate::failure::RunFailure;
+use crate::files::{FileFault, Files};
 use command_line::Program;
 use host_io::RunError;
 use pages::MOST_PAGES;
-use program_world::{FileFault, Files};
 use std::alloc::Global;
 
 /// One byte more than a flat image can have that fits into guest memory.

@@ -3,10 +3,10 @@ ghost use Rattle.program_files.specs.Asked.{IsGiven};
 ghost use Rattle.program_files.specs.Failures.{IsFileFailure};
 
 use crate::failure::RunFailure;
+use crate::files::Files;
 use crate::plans::{AskedPlan, plan_of};
 use crate::reading::{ProgramFiles, read_program};
 use command_line::Run;
-use program_world::Files;
 use std::alloc::Global;
 
 /// What a run reads of files.

@@ -7,7 +7,7 @@ use Rattle.round_schedule.specs.Positions.{event}
 use Rattle.memory_order.specs.Orders.{ListsOperations, order_position}
 use Rattle.memory_order.specs.Operations.{is_operation}
 use Rattle.memory_order.proofs.Sources.{one_position}
-use Rattle.dependencies.specs.Dependencies.{DependencyRule}
+use Rattle.memory_order.specs.Dependencies.{DependencyRule}
 use Rattle.rule_checker.specs.Violations.{IsFirstViolation, PreservedAt}
 use Rattle.order_rules.specs.declared.rule.OrderRule.{OrderRule}
 use Rattle.order_rules.specs.Orders.{IsFirstRule, NoneAsks, rule_of}

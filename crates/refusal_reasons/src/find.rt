@@ -3,7 +3,7 @@ ghost use Rattle.trace.specs.Traced.{HasForm, opening_at};
 ghost use Rattle.rv64_decode.specs.declared.instruction.Instr.{Instr};
 ghost use Rattle.memory_order.specs.Orders.{ListsOperations};
 ghost use Rattle.memory_order.specs.Rvwmo.{MeetsRvwmoBy};
-ghost use Rattle.dependencies.specs.Dependencies.{DependencyRule};
+ghost use Rattle.memory_order.specs.Dependencies.{DependencyRule};
 ghost use Rattle.order_rules.specs.Orders.{AreRanked};
 ghost use Rattle.refusal_reasons.specs.Reasons.{IsTrueOf};
 
@@ -12,8 +12,7 @@ use crate::pairs::find_broken;
 use crate::refusal::Refusal;
 use crate::torn::find_torn;
 use crate::values::find_wrong;
-use memory_order::Order;
-use order_checker::positions;
+use memory_order::{Order, positions};
 use pages::OutOfMemory;
 use round_schedule::Event;
 use rule_checker::sources_of_loads;

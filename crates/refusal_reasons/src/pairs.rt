@@ -1,14 +1,13 @@
 ghost use Rattle.std.specs.Prelude.{◌≡◌, ◌↔◌, ◌<◌, IfOk, IsTrue, MatchOption, length};
 ghost use Rattle.memory_order.specs.Orders.{order_position};
 ghost use Rattle.memory_order.specs.Rvwmo.{PreservedOrderBy};
-ghost use Rattle.dependencies.specs.Dependencies.{DependencyRule};
+ghost use Rattle.memory_order.specs.Dependencies.{DependencyRule};
 ghost use Rattle.rule_checker.specs.Violations.{IsFirstViolation, PreservedAt};
 ghost use Rattle.order_rules.specs.Orders.{AreRanked, HasSources, IsFirstRule};
 ghost use Rattle.order_rules.specs.declared.rule.OrderRule.{OrderRule};
 ghost use Rattle.refusal_reasons.specs.Reasons.{IsBroken, IsFirstBroken, IsFirstBrokenAt, IsTurned, NoneBrokenAt};
 
-use memory_order::is_operation;
-use order_checker::{Sources, position_of};
+use memory_order::{Sources, is_operation, position_of};
 use order_rules::{OrderRule, first_rule};
 use pages::OutOfMemory;
 use round_schedule::Event;

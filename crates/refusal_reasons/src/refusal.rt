@@ -3,7 +3,7 @@ use order_rules::OrderRule;
 /// Why RVWMO refuses what was done, in an order of its memory operations.
 ///
 /// Indexes are those of events, counted from 0.
-#[derive(Clone, Copy, Debug, PartialEq, Eq)]
+#[derive(Clone, Copy, PartialEq, Eq)]
 pub enum Refusal {
     /// At this position the order has the index of no memory operation.
     NoOperation {

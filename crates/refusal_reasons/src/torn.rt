@@ -3,11 +3,11 @@ ghost use Rattle.round_schedule.specs.Positions.{event};
 ghost use Rattle.memory_order.specs.Operations.{is_store};
 ghost use Rattle.memory_order.specs.Orders.{order_position};
 ghost use Rattle.memory_order.specs.Rvwmo.{AtomicityAxiom, IsPaired, IsUndisturbed};
-ghost use Rattle.order_checker.specs.Checking.{AreReserved};
+ghost use Rattle.memory_order.specs.Checking.{AreReserved};
 ghost use Rattle.order_rules.specs.Orders.{AreRanked, HasSources};
 ghost use Rattle.refusal_reasons.specs.Reasons.{AtomicFor, IsTorn, AreUndisturbed, LiesBetween};
 
-use order_checker::{Sources, event_at, last_reserved, listed, paired, position_of};
+use memory_order::{Sources, event_at, last_reserved, listed, paired, position_of};
 use order_rules::{source_of, writes};
 use pages::OutOfMemory;
 use round_schedule::Event;

@@ -6,7 +6,7 @@ ghost use Rattle.memory_order.specs.Rvwmo.{LoadValueAxiom};
 ghost use Rattle.order_rules.specs.Orders.{AreRanked, HasSources};
 ghost use Rattle.refusal_reasons.specs.Reasons.{IsRight, IsWrong, IsRightLoad};
 
-use order_checker::{Sources, event_at};
+use memory_order::{Sources, event_at};
 use order_rules::source_of;
 use round_schedule::Event;
 use trace::Trace;

@@ -16,7 +16,7 @@ use Rattle.round_planner.specs.Quotas.{quotas_of}
 use Rattle.hart_step.specs.Words.{words_of}
 use Rattle.machine.specs.Machine.{Running, after_rounds}
 use Rattle.machine.proofs.Repeated.{more_rounds}
-use Rattle.run_hits.specs.Hits.{is_within}
+use Rattle.run_events.specs.Hits.{is_within}
 use Rattle.replayer.proofs.Counted.{round_counted, rounds_after}
 
 -- they are all of later rounds than this one

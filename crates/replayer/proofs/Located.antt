@@ -5,7 +5,7 @@ use Rattle.round_schedule.specs.declared.event.Event.{Event}
 use Rattle.machine.specs.Machine.{Running, after_rounds}
 use Rattle.machine.specs.Untraced.{IsUntraced, Untraced}
 use Rattle.machine.proofs.Repeated.{no_rounds}
-use Rattle.event_pcs.specs.Pcs.{IsAfterRounds}
+use Rattle.run_events.specs.Pcs.{IsAfterRounds}
 
 pub at_start : (m : Running) (u v : Untraced) → v ≡ u → u.rounds ≡ 0 → IsUntraced m u → IsUntraced (after_rounds v.rounds m) v
 at_start m u v same none i =

@@ -4,7 +4,7 @@ use Rattle.round_planner.specs.Quotas.{quotas_of}
 use Rattle.hart_step.specs.Words.{words_of}
 use Rattle.machine.specs.Machine.{Running, after_rounds}
 use Rattle.moments.specs.Sights.{sight_after}
-use Rattle.event_pcs.proofs.RoundsAt.{is_low, is_not}
+use Rattle.run_events.proofs.RoundsAt.{is_low, is_not}
 use Rattle.replayer.specs.Past.{sight_at}
 
 pub no_sight_first : (rounds : ℕ) (m : Running) (round hart count : ℕ) → round ≡ 0 → None ≡ sight_at rounds m round hart count

@@ -11,10 +11,10 @@ use Rattle.machine.proofs.Walked.{none_done}
 use Rattle.round_schedule.specs.Past.{hart_after}
 use Rattle.round_planner.specs.Quotas.{quotas_of}
 use Rattle.hart_step.specs.Words.{words_of}
-use Rattle.event_pcs.specs.Pcs.{hart_at}
+use Rattle.run_events.specs.Pcs.{hart_at}
 use Rattle.replayer.specs.Past.{Begins, IsBefore, IsRoundOf, IsStateBefore}
 use Rattle.replayer.specs.Visits.{HasSought, IsBehind, IsSoFar}
-use Rattle.event_pcs.proofs.RoundsAt.{after_last, from_before}
+use Rattle.run_events.proofs.RoundsAt.{after_last, from_before}
 use Rattle.replayer.proofs.RoundCount.{OneRound, hart_in, none_before, one_round, reads_after}
 
 abbrev there : Hart → Option Hart

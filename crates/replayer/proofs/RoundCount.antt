@@ -13,11 +13,11 @@ use Rattle.machine.specs.Untraced.{IsUntraced, Untraced}
 use Rattle.machine.specs.Walks.{HasDone}
 use Rattle.machine.proofs.Repeated.{next_round}
 use Rattle.machine.proofs.Walked.{none_done}
-use Rattle.event_pcs.specs.Pcs.{hart_at}
+use Rattle.run_events.specs.Pcs.{hart_at}
 use Rattle.replayer.specs.Past.{Begins, IsBefore, IsCountAt}
 use Rattle.replayer.specs.Visits.{HasCounted, IsRead}
 use Rattle.replayer.proofs.Counted.{harts_after, rounds_after}
-use Rattle.event_pcs.proofs.RoundsAt.{from_before}
+use Rattle.run_events.proofs.RoundsAt.{from_before}
 use Rattle.replayer.proofs.PastDone.{Past, past_rises}
 
 -- ---- places of a list

@@ -5,7 +5,7 @@ use Rattle.round_planner.specs.Quotas.{quotas_of}
 use Rattle.hart_step.specs.Words.{words_of}
 use Rattle.hart_step.specs.declared.hart.Hart.{Hart}
 use Rattle.machine.specs.Machine.{Running, after_rounds}
-use Rattle.event_pcs.specs.Pcs.{hart_at}
+use Rattle.run_events.specs.Pcs.{hart_at}
 
 -- a hart after the first `count` instructions that it did in a round of the run of so many rounds from m, serial ones counted, and memory as it saw it
 -- there; the first round is round 1

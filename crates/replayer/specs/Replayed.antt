@@ -12,7 +12,7 @@ use Rattle.recording.specs.Recorded.{Checkpoint, Recorded}
 use Rattle.replayer.specs.declared.verdict.Verdict.{Verdict}
 use Rattle.replayer.specs.declared.verdict.Verdict.TheVariants.{Same, Differs}
 use Rattle.kept_states.specs.Summaries.{checkpoint_of, checkpoints_of_rounds}
-use Rattle.run_hits.specs.Hits.{hits}
+use Rattle.run_events.specs.Hits.{hits}
 
 abbrev pub format_of : ℕ → Format
 format_of n = if n == 1 then Flat else Elf

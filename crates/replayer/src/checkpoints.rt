@@ -5,7 +5,7 @@ ghost use Rattle.machine.specs.Machine.{Running, after_rounds};
 ghost use Rattle.machine.specs.Untraced.{IsUntraced};
 ghost use Rattle.recording.specs.Grammar.{is_due};
 ghost use Rattle.replayer.specs.Checkpoints.{AreCheckpoints, IsOpened, checkpoints_of, checkpoint_machine};
-ghost use Rattle.event_pcs.specs.Pcs.{hart_at};
+ghost use Rattle.run_events.specs.Pcs.{hart_at};
 ghost use Rattle.round_schedule.specs.Bounds.{AreNoWorkers, AreWorkers};
 ghost use Rattle.replayer.specs.Refusals.{RefusedInOrder};
 ghost use Rattle.replayer.specs.Replayed.{IsPlanFor, IsVerdict};

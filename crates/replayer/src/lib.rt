@@ -14,8 +14,8 @@ mod watching;
 
 pub use checkpoints::Replay;
 pub use counting::count_at;
-pub use event_pcs::pcs_of_run;
 pub use locating::pcs_before;
+pub use moments::Sight;
 pub use opened::settings_of;
 pub use past::{sight_at, state_at};
 pub use placing::state_before;
@@ -23,7 +23,6 @@ pub use recorder::{record, record_observed, record_with};
 pub use recording::{Cause, ReadError, Recording, migrate, read_recording, write_recording};
 pub use replaying::{replay, replay_observed};
 pub use round_schedule::Event as Hit;
-pub use run_hits::{Rounds, choose};
-pub use seeing::Sight;
+pub use run_events::{Rounds, choose, pcs_of_run};
 pub use verdict::Verdict;
 pub use watching::{watch, watch_rounds};

@@ -1,14 +1,14 @@
 ghost use Rattle.std.specs.Prelude.{◌≡◌, IfOk, map};
-ghost use Rattle.event_pcs.specs.Pcs.{pc_before};
+ghost use Rattle.run_events.specs.Pcs.{pc_before};
 ghost use Rattle.round_planner.specs.Quotas.{Planned};
 ghost use Rattle.replayer.specs.Refusals.{RefusedInOrder};
 ghost use Rattle.replayer.specs.Replayed.{IsPlanFor, start_of};
 
 use crate::opened::opened_untraced;
-use event_pcs::pcs_of_run;
 use host_io::RunError;
 use recording::Recording;
 use round_schedule::Event;
+use run_events::pcs_of_run;
 use std::alloc::Global;
 use std::sync::Wait;
 use std::thread::Threads;

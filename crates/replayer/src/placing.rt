@@ -1,7 +1,7 @@
 ghost use Rattle.std.specs.Prelude.{◌≡◌, ℕ, ◌≤◌, ◌<◌, ◌⊎◌, None, IfOk, IfErr};
 ghost use Rattle.round_planner.specs.Quotas.{Planned};
 ghost use Rattle.host_io.specs.declared.error.RunError.TheVariants as refusals;
-ghost use Rattle.event_pcs.specs.Pcs.{hart_at};
+ghost use Rattle.run_events.specs.Pcs.{hart_at};
 ghost use Rattle.machine.specs.Machine.{Running, after_rounds};
 ghost use Rattle.machine.specs.Untraced.{IsUntraced};
 ghost use Rattle.replayer.specs.Past.{Begins, IsRoundOf, IsStateBefore};

@@ -1,6 +1,6 @@
 ghost use Rattle.std.specs.Prelude.{◌≡◌, IfOk};
 ghost use Rattle.round_planner.specs.Quotas.{Planned};
-ghost use Rattle.run_hits.specs.Hits.{of_rounds};
+ghost use Rattle.run_events.specs.Hits.{of_rounds};
 ghost use Rattle.replayer.specs.Refusals.{RefusedInOrder};
 ghost use Rattle.replayer.specs.Replayed.{IsPlanFor, hits_of, start_of};
 
@@ -10,7 +10,7 @@ use machine::{Observer, Unobserved};
 use pages::Range;
 use recording::Recording;
 use round_schedule::Event;
-use run_hits::{Rounds, Sought, hits_of_run};
+use run_events::{Rounds, Sought, hits_of_run};
 use std::alloc::Global;
 use std::sync::Wait;
 use std::thread::Threads;

@@ -3,3 +3,4 @@ pub mod Found
 pub mod Texts
 pub mod Told
 pub mod Unique
+pub mod Rows

@@ -4,3 +4,5 @@ pub mod PlanText
 pub mod Quotas
 pub mod Reading
 pub mod Rows
+pub mod Draws
+pub mod Families

@@ -14,19 +14,19 @@ use Rattle.machine.specs.Untraced.{AreAdded, IsUntraced, Untraced}
 use Rattle.machine.proofs.Repeated.{more_rounds}
 use Rattle.moments.specs.Moves.{events_left, moves_of}
 use Rattle.moments.proofs.Left.{moves_leave}
-use Rattle.walking.specs.declared.asked.Asked.{Asked}
+use Rattle.moments.specs.declared.asked.Asked.{Asked}
 use Rattle.watching.specs.declared.watchpoint.Watchpoint.{Watchpoint}
-use Rattle.run_points.specs.declared.point.Point.{Point}
+use Rattle.past_harts.specs.declared.point.Point.{Point}
 use Rattle.round_steps.specs.declared.told.Told.{Told}
 use Rattle.watching.specs.declared.hits.Hit.{Hit}
 use Rattle.watching.specs.declared.watchpoint.Way.{Way}
 use Rattle.watching.specs.declared.watchpoint.Way.TheVariants.{On, Back}
 use Rattle.watching.specs.Watches.{hits_of}
-use Rattle.run_points.specs.declared.place.Place.{Place}
+use Rattle.past_harts.specs.declared.place.Place.{Place}
 use Rattle.round_steps.specs.Places.{round_places}
 use Rattle.round_steps.specs.Searching.{FindsNearest}
 use Rattle.round_steps.specs.Points.{break_point, earliest, first_in, hit_point, ends, last_in, later, latest, nearest_in, nearest_point_of, nearest_told, next_point_of, or_else, points_of, previous_point_of, sooner}
-use Rattle.run_points.specs.Points.{point_before}
+use Rattle.past_harts.specs.Points.{point_before}
 
 -- ---- on the way on
 

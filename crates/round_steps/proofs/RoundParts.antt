@@ -11,12 +11,12 @@ use Rattle.round_planner.specs.Quotas.{Planned, quota_of, quotas_of}
 use Rattle.hart_step.specs.declared.hart.Hart.{Hart}
 use Rattle.hart_step.specs.Buffered.{Overlay, seen_through}
 use Rattle.machine.specs.Machine.{Running}
-use Rattle.walking.specs.Hits.{harts_in_part, hits_from}
-use Rattle.walking.specs.Stops.{sight_of}
-use Rattle.walking.specs.declared.asked.Asked.{Asked}
-use Rattle.run_points.specs.declared.place.Place.{Place}
-use Rattle.run_points.specs.Begun.{Begun}
-use Rattle.run_points.proofs.Begun.{got}
+use Rattle.moments.specs.Hits.{harts_in_part, hits_from}
+use Rattle.moments.specs.Stops.{sight_of}
+use Rattle.moments.specs.declared.asked.Asked.{Asked}
+use Rattle.past_harts.specs.declared.place.Place.{Place}
+use Rattle.past_harts.specs.Begun.{Begun}
+use Rattle.past_harts.proofs.Begun.{got}
 use Rattle.round_steps.specs.Places.{parallel_places, part_counts, part_places, past_at, serial_places, turn_at, turn_comes, turn_of, turn_places, turns_of}
 
 get_or-append_seam_at : {A : Type 0} (xs : List A) (x : A) (i : ℕ) (d : A) → i ≡ length xs → get_or (xs ++ x ∷ []) i d ≡ x

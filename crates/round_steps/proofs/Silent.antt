@@ -5,14 +5,14 @@ use Rattle.round_schedule.specs.declared.event.Phase.TheVariants.{Parallel, Seri
 use Rattle.hart_step.specs.declared.hart.Hart.{Hart}
 use Rattle.machine.specs.Machine.{Running}
 use Rattle.moments.specs.Moves.{Move}
-use Rattle.walking.specs.declared.asked.Asked.{Asked}
-use Rattle.walking.specs.Hits.{hits_from, is_moment, tells}
+use Rattle.moments.specs.declared.asked.Asked.{Asked}
+use Rattle.moments.specs.Hits.{hits_from, is_moment, tells}
 use Rattle.watching.specs.declared.hits.Hit.{Hit}
 use Rattle.watching.specs.declared.watchpoint.Watchpoint.{Watchpoint}
 use Rattle.watching.specs.declared.watchpoint.Way.{Way}
 use Rattle.watching.specs.Watches.{access_hits, beside, hits_after, hits_of}
-use Rattle.run_points.specs.declared.place.Place.{Place}
-use Rattle.run_points.specs.Begun.{Begun, begun_of}
+use Rattle.past_harts.specs.declared.place.Place.{Place}
+use Rattle.past_harts.specs.Begun.{Begun, begun_of}
 use Rattle.round_steps.specs.Places.{parallel_places, part_counts, part_of, part_places, past_at, places, round_places, serial_places, turn_of, turn_places}
 
 abbrev pub IsSilent : Asked → Type 0

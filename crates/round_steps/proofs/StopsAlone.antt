@@ -11,8 +11,8 @@ use Rattle.machine.specs.Untraced.{IsUntraced, Untraced}
 use Rattle.machine.proofs.Repeated.{more_rounds, next_round}
 use Rattle.round_schedule.proofs.PastEnds.{past_ends}
 use Rattle.moments.proofs.Past.{part_is}
-use Rattle.walking.specs.declared.asked.Asked.{Asked}
-use Rattle.walking.specs.Hits.{hits_from, is_moment, tells}
+use Rattle.moments.specs.declared.asked.Asked.{Asked}
+use Rattle.moments.specs.Hits.{hits_from, is_moment, tells}
 use Rattle.moments.specs.Moves.{moves_of}
 use Rattle.watching.specs.declared.hits.Hit.{Hit}
 use Rattle.watching.specs.declared.watchpoint.Watchpoint.{Watchpoint}
@@ -20,13 +20,13 @@ use Rattle.watching.specs.declared.watchpoint.Way.{Way}
 use Rattle.watching.specs.declared.watchpoint.Way.TheVariants.{On, Back}
 use Rattle.watching.specs.Watches.{hits_of}
 use Rattle.round_schedule.specs.declared.event.Phase.TheVariants.{Parallel, Serial}
-use Rattle.run_points.specs.declared.place.Place.{Place}
-use Rattle.run_points.specs.declared.point.Point.{Point}
+use Rattle.past_harts.specs.declared.place.Place.{Place}
+use Rattle.past_harts.specs.declared.point.Point.{Point}
 use Rattle.round_steps.specs.declared.told.Told.{Told}
-use Rattle.run_points.specs.Begun.{begun_of}
+use Rattle.past_harts.specs.Begun.{begun_of}
 use Rattle.round_steps.specs.Places.{parallel_places, part_counts, part_of, part_places, past_at, places, round_places, serial_places, turn_at, turn_comes, turn_of, turn_places}
 use Rattle.round_steps.specs.Points.{break_point, earliest, first_in, hit_point, last_in, latest, next_point_of, or_else, points_of, previous_point_of}
-use Rattle.run_points.specs.Points.{point_before}
+use Rattle.past_harts.specs.Points.{point_before}
 use Rattle.round_steps.specs.Searching.{FindsFirst, FindsLast, FindsNearest}
 use Rattle.round_steps.specs.Stopping.{NoNewStop, tells_anew}
 use Rattle.round_steps.proofs.GoingOn.{GoOn, last_of_part, none_comes_long, part_goes, part_is_left, past_goes, stays_long}

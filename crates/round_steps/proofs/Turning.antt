@@ -3,9 +3,9 @@ use Rattle.std.proofs.Common.{◌≡◌, ℕ, suc, ◌+◌, ◌<◌, ◌≤◌, 
 use Rattle.std.proofs.lemmas.List.{drop_all, drop_more}
 use Rattle.round_schedule.specs.declared.event.Phase.TheVariants.{Serial}
 use Rattle.hart_step.specs.declared.hart.Hart.{Hart}
-use Rattle.walking.specs.Hits.{hits_from, is_moment}
-use Rattle.run_points.specs.declared.place.Place.{Place}
-use Rattle.run_points.specs.Moments.{place_in}
+use Rattle.moments.specs.Hits.{hits_from, is_moment}
+use Rattle.past_harts.specs.declared.place.Place.{Place}
+use Rattle.past_harts.specs.Moments.{place_in}
 use Rattle.round_steps.specs.Places.{places}
 
 -- what is told of the turn's rest: of these harts, of which the first has this count, those from c on

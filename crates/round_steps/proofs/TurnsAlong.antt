@@ -14,10 +14,10 @@ use Rattle.moments.proofs.Past.{part_is}
 use Rattle.machine.specs.Machine.{Running}
 use Rattle.guest_turns.specs.TurnHarts.{turns_in_round}
 use Rattle.guest_turns.proofs.TurnHartsAsked.{turns_end}
-use Rattle.walking.specs.Hits.{hits_from, tells}
-use Rattle.walking.specs.declared.asked.Asked.{Asked}
-use Rattle.run_points.specs.declared.place.Place.{Place}
-use Rattle.run_points.specs.Begun.{begun_of}
+use Rattle.moments.specs.Hits.{hits_from, tells}
+use Rattle.moments.specs.declared.asked.Asked.{Asked}
+use Rattle.past_harts.specs.declared.place.Place.{Place}
+use Rattle.past_harts.specs.Begun.{begun_of}
 use Rattle.round_steps.specs.Places.{ends_stopped, part_of, past_at, places, serial_places, turn_at, turn_comes, turn_of, turn_places, turns_of}
 
 abbrev there : {X : Type 0} → X → Option X

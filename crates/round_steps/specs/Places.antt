@@ -8,11 +8,11 @@ use Rattle.round_planner.specs.Quotas.{quotas_of}
 use Rattle.hart_step.specs.declared.hart.Hart.{Hart}
 use Rattle.hart_step.specs.Words.{words_of}
 use Rattle.machine.specs.Machine.{Running}
-use Rattle.walking.specs.declared.asked.Asked.{Asked}
-use Rattle.walking.specs.Hits.{harts_in_part, hits_from, tells}
-use Rattle.run_points.specs.declared.place.Place.{Place}
-use Rattle.run_points.specs.Moments.{place_in}
-use Rattle.run_points.specs.Begun.{Begun, begun_of}
+use Rattle.moments.specs.declared.asked.Asked.{Asked}
+use Rattle.moments.specs.Hits.{harts_in_part, hits_from, tells}
+use Rattle.past_harts.specs.declared.place.Place.{Place}
+use Rattle.past_harts.specs.Moments.{place_in}
+use Rattle.past_harts.specs.Begun.{Begun, begun_of}
 
 abbrev pub places : Phase → ℕ → List ℕ → List Place
 places p i cs = map (place_in p i) cs

@@ -7,19 +7,19 @@ use Rattle.hart_step.specs.Numbers.{minus, plus}
 use Rattle.hart_step.specs.Words.{words_of}
 use Rattle.machine.specs.Machine.{Running, after_rounds}
 use Rattle.moments.specs.Moves.{moves_of}
-use Rattle.walking.specs.declared.asked.Asked.{Asked}
+use Rattle.moments.specs.declared.asked.Asked.{Asked}
 use Rattle.watching.specs.declared.hits.Hit.{Hit}
 use Rattle.watching.specs.declared.watchpoint.Watchpoint.{Watchpoint}
 use Rattle.watching.specs.declared.watchpoint.Way.{Way}
 use Rattle.watching.specs.declared.watchpoint.Way.TheVariants.{On, Back}
 use Rattle.watching.specs.Watches.{hits_of}
-use Rattle.run_points.specs.declared.place.Place.{Place}
-use Rattle.run_points.specs.declared.point.Point.{Point}
-use Rattle.run_points.specs.declared.point.Side.{Side}
-use Rattle.run_points.specs.declared.point.Side.TheVariants.{After, RivalAfter, Break, Rival, Access}
+use Rattle.past_harts.specs.declared.place.Place.{Place}
+use Rattle.past_harts.specs.declared.point.Point.{Point}
+use Rattle.past_harts.specs.declared.point.Side.{Side}
+use Rattle.past_harts.specs.declared.point.Side.TheVariants.{After, RivalAfter, Break, Rival, Access}
 use Rattle.round_steps.specs.declared.told.Told.{Told}
-use Rattle.run_points.specs.Moments.{moment_in}
-use Rattle.run_points.specs.Points.{point_before}
+use Rattle.past_harts.specs.Moments.{moment_in}
+use Rattle.past_harts.specs.Points.{point_before}
 use Rattle.round_steps.specs.Places.{round_places}
 
 -- the earliest of some, and the latest

@@ -1,8 +1,8 @@
 -- Of which harts something is told when some rounds are done, and wasn't before.
 use Rattle.std.specs.Prelude.{◌≡◌, ℕ, ◌&&◌, not, Bool, false, is_some, List, slice_get, Option, Some, None}
 use Rattle.hart_step.specs.declared.hart.Hart.{Hart}
-use Rattle.walking.specs.declared.asked.Asked.{Asked}
-use Rattle.walking.specs.Hits.{tells}
+use Rattle.moments.specs.declared.asked.Asked.{Asked}
+use Rattle.moments.specs.Hits.{tells}
 
 -- hart i ran as the first, and something is told of it as the second
 abbrev pub tells_anew : Asked → ℕ → Option Hart → Option Hart → Bool

@@ -10,8 +10,8 @@ mod stops_alone;
 mod told;
 mod turn;
 
+pub use moments::Asked;
 pub use point_search::nearest;
 pub use points::Telling;
 pub use told::Told;
-pub use walking::Asked;
 pub use watching::{WatchKind, Watchpoint};

@@ -2,8 +2,8 @@ ghost use Rattle.std.specs.Prelude.{◌≡◌, ◌++◌, ◌∷◌, [], OnOk, if
 ghost use Rattle.round_steps.specs.Places.{places};
 
 use pages::OutOfMemory;
+use past_harts::Place;
 use round_schedule::Phase;
-use run_points::Place;
 
 /// Adds a place, where it is told.
 pub(crate) fn note(found: &mut Vec<Place>, told: bool, place: Place) -> Result<(), OutOfMemory>

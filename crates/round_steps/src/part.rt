@@ -1,17 +1,17 @@
 ghost use Rattle.std.specs.Prelude.{◌≡◌, ◌++◌, ◌||◌, ◌==◌, if◌then◌else◌, is_some, IfOk, OnOk, Some, None};
 ghost use Rattle.round_schedule.specs.declared.event.Phase.TheVariants.{Parallel};
 ghost use Rattle.hart_step.specs.DecodedCode.{Shows};
-ghost use Rattle.walking.specs.Hits.{harts_in_part, tells};
-ghost use Rattle.walking.specs.Quiet.{AreQuiet};
-ghost use Rattle.walking.specs.Stops.{sight_of};
+ghost use Rattle.moments.specs.Hits.{harts_in_part, tells};
+ghost use Rattle.moments.specs.Quiet.{AreQuiet};
+ghost use Rattle.moments.specs.Stops.{sight_of};
 ghost use Rattle.round_steps.specs.Places.{part_counts, places, turn_comes};
 
 use crate::noting::add_places;
 use hart_step::{Buffered, DecodedCode, Hart};
+use moments::{Asked, hits_in_part};
 use pages::{OutOfMemory, Pages};
+use past_harts::Place;
 use round_schedule::Phase;
-use run_points::Place;
-use walking::{Asked, hits_in_part};
 
 /// A hart before a round.
 #[derive(Clone, Copy)]

@@ -3,7 +3,7 @@ ghost use Rattle.host_io.specs.declared.error.RunError.TheVariants as refusals;
 ghost use Rattle.hart_step.specs.declared.hart.Hart.{Hart};
 ghost use Rattle.machine.specs.Machine.{Running};
 ghost use Rattle.machine.specs.Untraced.{IsUntraced};
-ghost use Rattle.walking.specs.Hits.{tells};
+ghost use Rattle.moments.specs.Hits.{tells};
 ghost use Rattle.round_steps.specs.Points.{ends, nearest_told, or_else};
 ghost use Rattle.round_steps.specs.Searching.{FindsNearest};
 ghost use Rattle.round_schedule.specs.Bounds.{AreWorkers};
@@ -13,12 +13,12 @@ use crate::stops_alone::{asks_of_stops_alone, have_no_new_stop, nothing_asked};
 use crate::told::{Told, earliest_behind, latest_before};
 use host_io::RunError;
 use machine::UntracedMachine;
+use moments::Asked;
 use pages::Range;
-use run_points::Point;
+use past_harts::Point;
 use std::mem::swap;
 use std::sync::Wait;
 use std::thread::Threads;
-use walking::Asked;
 use watching::{Watchpoint, Way};
 
 /// The nearest point one way at which something is told in the next rounds of a run: the earliest one behind another point, or the latest

@@ -7,7 +7,7 @@ ghost use Rattle.machine.specs.Untraced.{IsAfter, IsUntraced};
 ghost use Rattle.round_planner.specs.Quotas.{quotas_of};
 ghost use Rattle.hart_step.specs.declared.hart.Hart.{Hart};
 ghost use Rattle.hart_step.specs.Words.{words_of};
-ghost use Rattle.walking.specs.Hits.{tells};
+ghost use Rattle.moments.specs.Hits.{tells};
 ghost use Rattle.round_steps.specs.Places.{round_places};
 ghost use Rattle.moments.specs.Moves.{moves_of};
 ghost use Rattle.watching.specs.Watches.{hits_of};
@@ -19,14 +19,13 @@ use crate::told::Told;
 use hart_step::Hart;
 use host_io::RunError;
 use machine::UntracedMachine;
-use noted_runs::run_noting;
+use moments::Asked;
 use pages::{OutOfMemory, Range};
-use run_points::{Moment, Place, Point, Side};
+use past_harts::{Moment, Place, Point, Side, run_noting};
 use std::alloc::Global;
 use std::sync::Wait;
 use std::thread::Threads;
 use trace::Trace;
-use walking::Asked;
 use watching::{Hit, Watchpoint, Way, hits_in_round, save};
 
 /// What a debugger is told.

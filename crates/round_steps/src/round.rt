@@ -9,11 +9,11 @@ use crate::part::{Before, add_part};
 use crate::turn::add_turns;
 use host_io::RunError;
 use machine::UntracedMachine;
+use moments::{Asked, quiet_lengths};
 use pages::{OutOfMemory, Range};
-use run_points::{Place, code_of_run};
+use past_harts::{Place, code_of_run};
 use std::sync::Wait;
 use std::thread::Threads;
-use walking::{Asked, quiet_lengths};
 
 /// What the parts of the parallel phase of a round came to.
 #[derive(Drop)]

@@ -3,12 +3,12 @@
 ghost use Rattle.std.specs.Prelude.{◌≡◌, ℕ, false, is_some, length, true};
 ghost use Rattle.std.specs.Option.{option_map};
 ghost use Rattle.hart_step.specs.declared.hart.Hart.{Hart};
-ghost use Rattle.walking.specs.Hits.{tells};
+ghost use Rattle.moments.specs.Hits.{tells};
 ghost use Rattle.round_steps.specs.Stopping.{NoNewStop, tells_anew};
 
 use hart_step::Hart;
+use moments::Asked;
 use std::alloc::Global;
-use walking::Asked;
 
 /// Whether nothing is told of a hart that runs.
 pub(crate) fn asks_of_stops_alone(asked: &Asked) -> bool

@@ -1,8 +1,8 @@
 ghost use Rattle.std.specs.Prelude.{◌≡◌, filter, if◌then◌else◌, None};
 ghost use Rattle.round_steps.specs.Points.{earliest, latest, later, sooner};
-ghost use Rattle.run_points.specs.Points.{point_before};
+ghost use Rattle.past_harts.specs.Points.{point_before};
 
-use run_points::Point;
+use past_harts::Point;
 
 /// What is told at a point.
 #[derive(Clone, Copy)]

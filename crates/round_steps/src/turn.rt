@@ -5,21 +5,20 @@ ghost use Rattle.host_io.specs.declared.error.RunError.TheVariants as refusals;
 ghost use Rattle.round_schedule.specs.declared.event.Phase.TheVariants.{Serial};
 ghost use Rattle.machine.specs.Machine.{Running};
 ghost use Rattle.machine.specs.Untraced.{IsUntraced};
-ghost use Rattle.walking.specs.Hits.{hits_from, tells};
-ghost use Rattle.run_points.specs.Begun.{begun_of};
+ghost use Rattle.moments.specs.Hits.{hits_from, tells};
+ghost use Rattle.past_harts.specs.Begun.{begun_of};
 ghost use Rattle.round_steps.specs.Places.{places, serial_places, turns_of};
 
 use crate::noting::note;
 use hart_step::Hart;
 use host_io::RunError;
 use machine::UntracedMachine;
+use moments::Asked;
 use pages::OutOfMemory;
-use past_harts::harts_in_turns;
+use past_harts::{Place, harts_in_turns};
 use round_schedule::Phase;
-use run_points::Place;
 use std::sync::Wait;
 use std::thread::Threads;
-use walking::Asked;
 
 /// Adds the places of the serial turns of the next round of a run, of which each comes after so many instructions of its hart, where it
 /// does. The turns are done once, all together, and not at all where none comes. It may wait.

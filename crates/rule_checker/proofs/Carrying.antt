@@ -13,13 +13,13 @@ use Rattle.memory_order.specs.Orders.{ListsOperations, order_position}
 use Rattle.memory_order.specs.Rvwmo.{IsSource, MaySee}
 use Rattle.memory_order.proofs.Placing.{position_of_contained}
 use Rattle.memory_order.proofs.Sources.{store_at}
-use Rattle.dependencies.specs.declared.registers.Registers.{Registers}
-use Rattle.dependencies.specs.Dependencies.{AddressDependency, AnyDependency, DataDependency, DependencyRule, Depends, IsSourceRegister, RespectsAt, by-address, by-address-between, by-control, by-data, by-forwarding, destination_at, registers_at}
-use Rattle.dependencies.proofs.Steps.{Carried_on, depends_earlier, depends_hart, depends_register, stays_down, stays_up, new_down, new_here, new_up}
+use Rattle.memory_order.specs.declared.registers.Registers.{Registers}
+use Rattle.memory_order.specs.Dependencies.{AddressDependency, AnyDependency, DataDependency, DependencyRule, Depends, IsSourceRegister, RespectsAt, by-address, by-address-between, by-control, by-data, by-forwarding, destination_at, registers_at}
+use Rattle.memory_order.proofs.Steps.{Carried_on, depends_earlier, depends_hart, depends_register, stays_down, stays_up, new_down, new_here, new_up}
 use Rattle.rule_checker.specs.declared.carried.Carried.{Carried}
-use Rattle.order_checker.specs.Checking.{IsMax}
+use Rattle.memory_order.specs.Checking.{IsMax}
 use Rattle.rule_checker.specs.CarriedBounds.{AllowedBy, AreOperands, AreRegisters, MayForwardAll, carried_after, destination_with, none_carried, operand_bound, result_bound, sources_bound}
-use Rattle.order_checker.proofs.Bounding.{below_max, max_alike, max_below, max_join, max_join_if, max_none, max_one}
+use Rattle.memory_order.proofs.Bounding.{below_max, max_alike, max_below, max_join, max_join_if, max_none, max_one}
 
 -- ---- registers
 

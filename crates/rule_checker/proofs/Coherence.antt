@@ -10,11 +10,11 @@ use Rattle.memory_order.specs.Operations.{covers, is_amo, is_operation, is_plain
 use Rattle.memory_order.specs.Orders.{ListsOperations, order_position}
 use Rattle.memory_order.specs.Rvwmo.{IsSource, MaySee}
 use Rattle.memory_order.proofs.Sources.{load_at, one_position, store_at}
-use Rattle.order_checker.specs.Checking.{Earlier, IsMax}
+use Rattle.memory_order.specs.Checking.{Earlier, IsMax}
 use Rattle.rule_checker.specs.Bytes.{RespectsBytesAt, IsForwarded, MayLoad, RuleByByte, byte-atomic, byte-different, byte-overlap}
-use Rattle.order_checker.proofs.Bounding.{below_max, earlier_none, earlier_step, max_below, max_join_if, max_none}
+use Rattle.memory_order.proofs.Bounding.{below_max, earlier_none, earlier_step, max_below, max_join_if, max_none}
 use Rattle.rule_checker.proofs.Carrying.{bound_of_source, listed_at, source_of_bound, split_place}
-use Rattle.order_checker.proofs.Sourcing.{same_number}
+use Rattle.memory_order.proofs.Sourcing.{same_number}
 
 -- ---- along the program
 

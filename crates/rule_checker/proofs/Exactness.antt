@@ -9,7 +9,7 @@ use Rattle.round_schedule.specs.Positions.{event}
 use Rattle.memory_order.specs.Operations.{is_operation, is_store}
 use Rattle.memory_order.specs.Orders.{ListsOperations, order_position}
 use Rattle.memory_order.specs.Rvwmo.{AtomicityAxiom, IsPaired, LoadValueAxiom, MeetsRvwmoBy, PreservedOrderBy, Rule, acquired, both-annotated, dependent, different-writes, fenced, overlapping-store, paired, released, returns-atomic}
-use Rattle.dependencies.specs.Dependencies.{DependencyRule, RespectsAt}
+use Rattle.memory_order.specs.Dependencies.{DependencyRule, RespectsAt}
 use Rattle.rule_checker.specs.Bytes.{RespectsBytesAt, RuleByByte, byte-atomic, byte-different, byte-overlap}
 use Rattle.rule_checker.specs.Kinds.{RespectsKindsAt, RuleByKind, kind-acquired, kind-annotated, kind-fenced, kind-released}
 use Rattle.rule_checker.specs.Violations.{RespectsPairAt, PreservedAt}

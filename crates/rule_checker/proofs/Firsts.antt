@@ -7,7 +7,7 @@ use Rattle.round_schedule.specs.Positions.{event}
 use Rattle.memory_order.specs.Operations.{is_operation}
 use Rattle.memory_order.specs.Rvwmo.{PreservedOrderBy}
 use Rattle.memory_order.proofs.Facts.{store_is_operation}
-use Rattle.dependencies.specs.Dependencies.{DependencyRule, RespectsAt}
+use Rattle.memory_order.specs.Dependencies.{DependencyRule, RespectsAt}
 use Rattle.rule_checker.specs.Bytes.{RespectsBytesAt}
 use Rattle.rule_checker.specs.Kinds.{RespectsKindsAt}
 use Rattle.rule_checker.specs.Violations.{IsFirstViolation, RespectsAll, RespectsPairAt, PreservedAt, earliest}

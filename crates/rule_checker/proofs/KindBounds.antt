@@ -10,10 +10,10 @@ use Rattle.round_schedule.specs.Positions.{event}
 use Rattle.memory_order.specs.Operations.{fence_orders, is_acquire, is_operation, is_release}
 use Rattle.memory_order.proofs.Facts.{load_is_operation, store_is_operation}
 use Rattle.rule_checker.specs.declared.annotated.KindBounds.{KindBounds}
-use Rattle.order_checker.specs.Checking.{Earlier, IsMax}
+use Rattle.memory_order.specs.Checking.{Earlier, IsMax}
 use Rattle.rule_checker.specs.Kinds.{AllowedByKind, RespectsKindsAt, RuleByKind, is_annotated, kind-acquired, kind-annotated, kind-fenced, kind-released, kinds_after, loads_loads, loads_stores, no_kinds}
-use Rattle.order_checker.specs.CheckingProgram.{orders_loads, orders_stores}
-use Rattle.order_checker.proofs.Bounding.{below_max, earlier_none, earlier_step, max_alike, max_below, max_join_if, max_none}
+use Rattle.memory_order.specs.CheckingProgram.{orders_loads, orders_stores}
+use Rattle.memory_order.proofs.Bounding.{below_max, earlier_none, earlier_step, max_alike, max_below, max_join_if, max_none}
 
 -- ---- what fences order
 

@@ -7,10 +7,10 @@ use Rattle.round_schedule.specs.Accesses.{stores}
 use Rattle.round_schedule.specs.Positions.{event, reads_at}
 use Rattle.hart_step.specs.Registers.{reg, set_reg}
 use Rattle.memory_order.specs.Operations.{is_operation}
-use Rattle.dependencies.specs.declared.registers.Registers.{Registers}
-use Rattle.dependencies.specs.Dependencies.{AddressDependency, DataDependency, has_failed}
+use Rattle.memory_order.specs.declared.registers.Registers.{Registers}
+use Rattle.memory_order.specs.Dependencies.{AddressDependency, DataDependency, has_failed}
 use Rattle.rule_checker.specs.declared.carried.Carried.{Carried}
-use Rattle.order_checker.specs.Checking.{IsMax}
+use Rattle.memory_order.specs.Checking.{IsMax}
 
 -- the greatest bound of an instruction's address and data, and of all its source registers
 abbrev pub operand_bound : Carried → Registers → ℕ

@@ -7,7 +7,7 @@ use Rattle.round_schedule.specs.Accesses.{loads, stores}
 use Rattle.round_schedule.specs.Positions.{ProgramBefore, event}
 use Rattle.memory_order.specs.Operations.{fence_orders, is_acquire, is_operation, is_release}
 use Rattle.rule_checker.specs.declared.annotated.KindBounds.{KindBounds}
-use Rattle.order_checker.specs.CheckingProgram.{orders_loads, orders_stores}
+use Rattle.memory_order.specs.CheckingProgram.{orders_loads, orders_stores}
 
 -- a fence that orders loads before loads, and one that orders loads before stores
 abbrev pub loads_loads : Access → Bool

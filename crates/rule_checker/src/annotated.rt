@@ -2,13 +2,13 @@ ghost use Rattle.std.specs.Prelude.{◌≡◌, ◌↔◌, All, IsTrue, IfOk, Mat
 ghost use Rattle.trace.specs.Traced.{HasForm};
 ghost use Rattle.memory_order.specs.Operations.{is_acquire};
 ghost use Rattle.memory_order.specs.Orders.{order_position};
-ghost use Rattle.order_checker.specs.Checking.{IsRanking};
+ghost use Rattle.memory_order.specs.Checking.{IsRanking};
 ghost use Rattle.rule_checker.specs.Kinds.{AllowedByKind, RespectsKinds, RespectsKindsAt, is_annotated, kinds_after, loads_loads, loads_stores};
 ghost use Rattle.rule_checker.specs.Violations.{IsFirstViolation};
 
-use memory_order::is_operation;
-use order_checker::{
-    event_at, is_release, of_hart, orders_loads, orders_stores, position_of, raised, set_of_hart,
+use memory_order::{
+    event_at, is_operation, is_release, of_hart, orders_loads, orders_stores, position_of, raised,
+    set_of_hart,
 };
 use pages::OutOfMemory;
 use round_schedule::{Access, Event};

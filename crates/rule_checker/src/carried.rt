@@ -2,15 +2,16 @@ ghost use Rattle.std.specs.Prelude.{◌≡◌, ◌<◌, ◌↔◌, All, IsTrue, 
 ghost use Rattle.trace.specs.Traced.{HasForm};
 ghost use Rattle.memory_order.specs.Orders.{ListsOperations, order_position};
 ghost use Rattle.memory_order.specs.Rvwmo.{MaySee};
-ghost use Rattle.dependencies.specs.Dependencies.{RespectsDependencies, RespectsAt, has_failed};
+ghost use Rattle.memory_order.specs.Dependencies.{RespectsDependencies, RespectsAt, has_failed};
 ghost use Rattle.hart_step.specs.Registers.{reg, set_reg};
-ghost use Rattle.order_checker.specs.Checking.{AreSources, IsRanking, source_of};
+ghost use Rattle.memory_order.specs.Checking.{AreSources, IsRanking, source_of};
 ghost use Rattle.rule_checker.specs.CarriedBounds.{AllowedBy, AreRegisters, MayForward, MayForwardAll, carried_after, operand_bound, sources_bound};
 ghost use Rattle.rule_checker.specs.Violations.{IsFirstViolation};
 
-use dependencies::{Registers, used_registers};
-use memory_order::is_operation;
-use order_checker::{Sources, event_at, of_hart, position_of, set_of_hart, source_at};
+use memory_order::{
+    Registers, Sources, event_at, is_operation, of_hart, position_of, set_of_hart, source_at,
+    used_registers,
+};
 use pages::OutOfMemory;
 use round_schedule::{Access, Event};
 use rv64_decode::{Instr, Reg};

@@ -2,13 +2,12 @@ ghost use Rattle.std.specs.Prelude.{◌≡◌, ◌↔◌, All, IfOk, IsTrue, len
 ghost use Rattle.trace.specs.Traced.{HasForm, opening_at};
 ghost use Rattle.memory_order.specs.Orders.{ListsOperations, order_position};
 ghost use Rattle.memory_order.specs.Rvwmo.{AtomicityAxiom, LoadValueAxiom, MeetsRvwmoBy, PreservedOrderBy};
-ghost use Rattle.dependencies.specs.Dependencies.{DependencyRule};
-ghost use Rattle.order_checker.specs.Checking.{IsRanking};
+ghost use Rattle.memory_order.specs.Dependencies.{DependencyRule};
+ghost use Rattle.memory_order.specs.Checking.{IsRanking};
 
 use crate::own::sources_of_loads;
 use crate::violation::first_violation;
-use memory_order::Order;
-use order_checker::{loads_are_right, pairs_are_atomic, positions};
+use memory_order::{Order, loads_are_right, pairs_are_atomic, positions};
 use pages::OutOfMemory;
 use round_schedule::Event;
 use rv64_decode::Instr;

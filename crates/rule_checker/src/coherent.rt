@@ -4,14 +4,13 @@ ghost use Rattle.trace.specs.Traced.{HasForm};
 ghost use Rattle.memory_order.specs.Operations.{covers, is_operation};
 ghost use Rattle.memory_order.specs.Orders.{ListsOperations, order_position};
 ghost use Rattle.memory_order.specs.Rvwmo.{MaySee};
-ghost use Rattle.order_checker.specs.Checking.{AreSources, IsRanking, bound, source_at, source_of};
+ghost use Rattle.memory_order.specs.Checking.{AreSources, IsRanking, bound, source_at, source_of};
 ghost use Rattle.rule_checker.specs.Bytes.{RespectsBytesAt, IsForwarded, RespectsBytes, MayLoad, MayLoadByte};
 ghost use Rattle.rule_checker.specs.Violations.{IsFirstViolation};
 
-use memory_order::is_operation;
-use order_checker::{
-    Bounds, Sources, bounds_at, event_at, is_plain_store, listed, may_store, position_of,
-    raise_bytes, raise_to, source_at,
+use memory_order::{
+    Bounds, Sources, bounds_at, event_at, is_operation, is_plain_store, listed, may_store,
+    position_of, raise_bytes, raise_to, source_at,
 };
 use pages::OutOfMemory;
 use round_schedule::{Access, Event};

@@ -5,9 +5,9 @@ ghost use Rattle.round_schedule.specs.Accesses.{address_of, bytes_of, loads, rea
 ghost use Rattle.trace.specs.Traced.{HasForm};
 ghost use Rattle.memory_order.specs.Orders.{ListsOperations, order_position};
 ghost use Rattle.memory_order.specs.Rvwmo.{MaySee};
-ghost use Rattle.order_checker.specs.Checking.{AreSources, IsRanking, OwnWrite, bound, row_of, source_at};
+ghost use Rattle.memory_order.specs.Checking.{AreSources, IsRanking, OwnWrite, bound, row_of, source_at};
 
-use order_checker::{Bounds, Sources, all_sources, bounds_at, event_at, position_of, raise_bytes};
+use memory_order::{Bounds, Sources, all_sources, bounds_at, event_at, position_of, raise_bytes};
 use pages::OutOfMemory;
 use round_schedule::{Access, Event};
 use std::alloc::Global;

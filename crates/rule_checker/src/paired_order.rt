@@ -1,10 +1,10 @@
 ghost use Rattle.std.specs.Prelude.{◌<◌, ◌↔◌, All, IsTrue, IfOk, MatchOption, length};
 ghost use Rattle.trace.specs.Traced.{HasForm};
 ghost use Rattle.memory_order.specs.Orders.{order_position};
-ghost use Rattle.order_checker.specs.Checking.{AreReserved, IsRanking};
+ghost use Rattle.memory_order.specs.Checking.{AreReserved, IsRanking};
 ghost use Rattle.rule_checker.specs.Violations.{IsFirstViolation, RespectsAll, RespectsPairAt};
 
-use order_checker::{event_at, last_reserved, paired, position_of};
+use memory_order::{event_at, last_reserved, paired, position_of};
 use pages::OutOfMemory;
 use round_schedule::Event;
 use std::alloc::Global;

@@ -4,15 +4,15 @@ ghost use Rattle.std.specs.Prelude.{◌≡◌, All, IfOk, MatchOption, length};
 ghost use Rattle.trace.specs.Traced.{HasForm};
 ghost use Rattle.memory_order.specs.Orders.{ListsOperations, order_position};
 ghost use Rattle.memory_order.specs.Rvwmo.{MaySee, PreservedOrderBy};
-ghost use Rattle.dependencies.specs.Dependencies.{DependencyRule};
-ghost use Rattle.order_checker.specs.Checking.{AreSources, IsRanking};
+ghost use Rattle.memory_order.specs.Dependencies.{DependencyRule};
+ghost use Rattle.memory_order.specs.Checking.{AreSources, IsRanking};
 ghost use Rattle.rule_checker.specs.Violations.{IsFirstViolation, PreservedAt, earliest};
 
 use crate::annotated::first_by_kind;
 use crate::carried::first_by_dependency;
 use crate::coherent::first_by_byte;
 use crate::paired_order::first_by_pair;
-use order_checker::Sources;
+use memory_order::Sources;
 use pages::OutOfMemory;
 use round_schedule::Event;
 use rv64_decode::Instr;

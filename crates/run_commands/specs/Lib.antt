@@ -1,1 +1,4 @@
 pub mod Printed
+pub mod Failures
+pub mod Reading
+pub mod Made

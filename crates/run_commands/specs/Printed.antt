@@ -12,8 +12,8 @@ use Rattle.emulation.specs.declared.showing.ShownState.TheVariants as parts
 use Rattle.machine.specs.Runs.{after_run}
 use Rattle.run_settings.specs.Settings.{IsPlan}
 use Rattle.run_settings.specs.declared.settings.Settings.{Settings}
-use Rattle.program_world.specs.declared.exit_status.ExitStatus.{ExitStatus}
-use Rattle.program_world.specs.declared.exit_status.ExitStatus.TheVariants.{Done, Doubtful}
+use Rattle.program_files.specs.declared.exit_status.ExitStatus.{ExitStatus}
+use Rattle.program_files.specs.declared.exit_status.ExitStatus.TheVariants.{Done, Doubtful}
 use Rattle.round_planner.specs.Quotas.{Planned}
 
 -- what is shown of the run, by --show and --no-trace; none is the whole report

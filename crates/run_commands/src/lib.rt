@@ -1,10 +1,19 @@
-//! The commands that run a guest program once and print the run: `run` and `order`.
+//! The commands that run a guest program once: `run` and `order` print the run, `record` writes it to a file, and `migrate` a recording.
 #![tactic(auto)]
 
+mod failure;
 mod looping;
+mod making;
+mod migrating;
 mod ordering;
+mod reading;
 mod running;
+mod saving;
 mod shown;
 
+pub use failure::RecordFailure;
+pub use making::record_command;
+pub use migrating::migrate_command;
 pub use ordering::order_command;
+pub use reading::read_recording_of;
 pub use running::run_command;

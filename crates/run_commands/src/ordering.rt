@@ -2,13 +2,14 @@ ghost use Rattle.std.specs.Prelude.{◌≡◌, ◌⊎◌, ◌++◌, ℕ, List, I
 ghost use Rattle.emulation.specs.OrderedRun.{IsOrderOfRun, ordered_text};
 ghost use Rattle.host_io.specs.Taken.{BeganText};
 ghost use Rattle.program_files.specs.Asked.{AskedRun, EndsFor, RefusedSetRun, SetRun};
-ghost use Rattle.program_world.specs.declared.exit_status.ExitStatus.TheVariants as statuses;
+ghost use Rattle.program_files.specs.declared.exit_status.ExitStatus.TheVariants as statuses;
 
 use command_line::Run;
 use emulation::order_run;
 use machine::{Observed, Observer};
-use program_files::{RunFailure, RunFiles, read_run, settings_of};
-use program_world::{ExitStatus, Files, Output, ProgressLine};
+use program_files::{
+    ExitStatus, Files, Output, ProgressLine, RunFailure, RunFiles, read_run, settings_of,
+};
 use std::alloc::Global;
 use std::sync::Wait;
 use std::thread::Threads;

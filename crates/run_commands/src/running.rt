@@ -7,7 +7,7 @@ ghost use Rattle.machine.specs.Runs.{after_run};
 ghost use Rattle.program_files.specs.Asked.{AskedRun, EndsFor, RefusedSetRun, SetRun};
 ghost use Rattle.program_files.specs.declared.failure.RunFailure.TheVariants as failures;
 ghost use Rattle.run_commands.specs.Printed.{IsPrinted, printed_text, run_status};
-ghost use Rattle.text_writes.specs.Writes.{IsFaultOr, WritesAnswer};
+ghost use Rattle.host_io.specs.Writes.{IsFaultOr, WritesAnswer};
 
 use crate::looping::tell_loops;
 use crate::shown::{run_status, shown_of};
@@ -15,8 +15,10 @@ use command_line::{Print, Shown};
 use emulation::{RunEnd, report_run, show_run};
 use host_io::RunError;
 use machine::{GuestFiles, Observed, Observer, Settings};
-use program_files::{RunFailure, RunFiles, guest_files, read_run, settings_of};
-use program_world::{ExitStatus, Files, Messages, Output, ProgressLine};
+use program_files::{
+    ExitStatus, Files, Messages, Output, ProgressLine, RunFailure, RunFiles, guest_files, read_run,
+    settings_of,
+};
 use std::alloc::Global;
 use std::sync::Wait;
 use std::thread::Threads;

@@ -3,7 +3,7 @@ ghost use Rattle.run_commands.specs.Printed.{run_status, shown_of};
 
 use command_line::{Print, Shown};
 use emulation::RunEnd;
-use program_world::ExitStatus;
+use program_files::ExitStatus;
 
 /// What of a run the line asks for, where it isn't the whole report.
 pub(crate) fn shown_of(asked: &Print<'_>) -> Option<emulation::ShownState>

@@ -3,3 +3,4 @@ pub mod Forgetting
 pub mod Returning
 pub mod ReservationsTied
 pub mod Words
+pub mod Turns

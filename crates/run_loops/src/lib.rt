@@ -1,12 +1,17 @@
-//! Runs that are back where they were after an earlier round, and so never end.
+//! Runs that are back where they were after an earlier round, and so never end; and whether the hart of a serial turn asks for the number of
+//! the round, on which that depends.
 //!
 //! The laws are the contracts of functions that do nothing.
 #![tactic(auto)]
+
+mod turn;
 
 ghost use Rattle.run_loops.specs.Asking.{AskingByReservations};
 ghost use Rattle.run_loops.specs.Decided.{AlikeIsDecided, EarlierGoesRound, GoingRoundComesBack};
 ghost use Rattle.run_loops.specs.Forgetting.{CountsAreForgotten};
 ghost use Rattle.run_loops.specs.Returning.{LaterComesBack, RunsComeBack, RunsGoRound};
+
+pub use turn::take_asking_turn;
 
 /// No instruction looks at how many its hart has done; and but for the call for the number of the round, none looks at that.
 pub fn counts_are_forgotten()

@@ -11,10 +11,10 @@ use Rattle.hart_step.specs.Rounds.{Leaves}
 use Rattle.hart_step.specs.Words.{words_of}
 use Rattle.machine.specs.Machine.{Running}
 use Rattle.machine.specs.Untraced.{IsUntraced, Untraced}
-use Rattle.run_points.specs.declared.place.Place.{Place}
-use Rattle.run_points.specs.Begun.{Begun, begun_of}
+use Rattle.past_harts.specs.declared.place.Place.{Place}
+use Rattle.past_harts.specs.Begun.{Begun, begun_of}
 use Rattle.shown_harts.specs.OwnParts.{own_stores, stores_by, waits_at, waits_by}
-use Rattle.run_points.proofs.Begun.{begun_by, begun_same}
+use Rattle.past_harts.proofs.Begun.{begun_by, begun_same}
 
 abbrev LeavesThrough : Overlay → ℕ → Hart → Hart → List Access → Bool → Overlay → Type 0
 LeavesThrough v quota h g log w x =

@@ -8,13 +8,13 @@ use Rattle.hart_step.specs.declared.hart.Hart.{Hart}
 use Rattle.machine.specs.Machine.{Running, after_round, after_rounds}
 use Rattle.machine.specs.Untraced.{IsUntraced, Untraced}
 use Rattle.moments.specs.Sights.{Sight}
-use Rattle.run_points.specs.declared.place.Place.{Place}
-use Rattle.run_points.specs.Begun.{Begun, begun_of}
-use Rattle.run_points.specs.declared.point.Side.{Side}
-use Rattle.run_points.specs.Moments.{phase_number}
+use Rattle.past_harts.specs.declared.place.Place.{Place}
+use Rattle.past_harts.specs.Begun.{Begun, begun_of}
+use Rattle.past_harts.specs.declared.point.Side.{Side}
+use Rattle.past_harts.specs.Moments.{phase_number}
 use Rattle.shown_harts.specs.Shown.{behind_move, beside, beside_part, beside_turn, end_of_part, hart_beside, hart_of, mover, shown_at, shown_at_point}
-use Rattle.run_points.specs.Points.{is_behind_move}
-use Rattle.run_points.proofs.Begun.{begun_by, begun_same, got}
+use Rattle.past_harts.specs.Points.{is_behind_move}
+use Rattle.past_harts.proofs.Begun.{begun_by, begun_same, got}
 
 another_hart : (m : Running) (p : Place) (i : ℕ) (h : Hart) → (i ≡ p.hart → ⊥) → slice_get m.state.harts i ≡ Some h → shown_at m p i ≡ beside p.phase m p i h
 another_hart m p i h ne e = let t : nat_eq i p.hart ≡ false = grind (arith, nat_tests) in rw (t, e) refl

@@ -10,9 +10,9 @@ use Rattle.round_schedule.specs.Schedule.{HartRound, hart_round_of}
 use Rattle.hart_step.specs.declared.hart.Hart.{Hart}
 use Rattle.hart_step.specs.Words.{words_of}
 use Rattle.machine.specs.Machine.{Running, after_rounds}
-use Rattle.run_points.specs.declared.place.Place.{Place}
-use Rattle.run_points.specs.declared.point.Point.{Point}
-use Rattle.run_points.specs.Begun.{Begun, begun_of}
+use Rattle.past_harts.specs.declared.place.Place.{Place}
+use Rattle.past_harts.specs.declared.point.Point.{Point}
+use Rattle.past_harts.specs.Begun.{Begun, begun_of}
 
 -- its part of at most n instructions
 abbrev pub part_within : Begun → ℕ → Hart → HartRound Hart

@@ -10,12 +10,12 @@ use Rattle.hart_step.specs.declared.hart.Hart.{Hart}
 use Rattle.hart_step.specs.Words.{words_of}
 use Rattle.machine.specs.Machine.{Running, after_round, after_rounds}
 use Rattle.moments.specs.Sights.{Sight, part_sights, sight_after}
-use Rattle.run_points.specs.declared.place.Place.{Place}
-use Rattle.run_points.specs.declared.point.Point.{Point}
-use Rattle.run_points.specs.declared.point.Side.{Side}
-use Rattle.run_points.specs.Moments.{phase_number}
-use Rattle.run_points.specs.Points.{is_behind_move}
-use Rattle.run_points.specs.Begun.{Begun, begun_of}
+use Rattle.past_harts.specs.declared.place.Place.{Place}
+use Rattle.past_harts.specs.declared.point.Point.{Point}
+use Rattle.past_harts.specs.declared.point.Side.{Side}
+use Rattle.past_harts.specs.Moments.{phase_number}
+use Rattle.past_harts.specs.Points.{is_behind_move}
+use Rattle.past_harts.specs.Begun.{Begun, begun_of}
 
 -- hart h before the round
 abbrev pub start_of : Begun → Hart → Sight Hart

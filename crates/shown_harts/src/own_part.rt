@@ -9,8 +9,8 @@ ghost use Rattle.shown_harts.specs.OwnParts.{allowed, store_of, stores_among, st
 use hart_step::{Buffered, Hart, hart_round};
 use machine::UntracedMachine;
 use pages::{OutOfMemory, Range, Store};
+use past_harts::{Place, code_of_run};
 use round_schedule::{Access, Phase};
-use run_points::{Place, code_of_run};
 use std::alloc::Global;
 
 /// What a hart has done of its part of the parallel phase.

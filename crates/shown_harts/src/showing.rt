@@ -6,19 +6,18 @@ ghost use Rattle.hart_step.specs.Words.{words_of};
 ghost use Rattle.moments.specs.Sights.{part_sights};
 ghost use Rattle.machine.specs.Machine.{Running, after_round};
 ghost use Rattle.machine.specs.Untraced.{IsUntraced};
-ghost use Rattle.run_points.specs.Moments.{phase_number};
+ghost use Rattle.past_harts.specs.Moments.{phase_number};
 ghost use Rattle.shown_harts.specs.Shown.{behind_move, beside_part, beside_turn, end_of_part, hart_beside, mover, shown_at, shown_at_point};
-ghost use Rattle.run_points.specs.Points.{is_behind_move};
+ghost use Rattle.past_harts.specs.Points.{is_behind_move};
 
 use crate::own_part::quota_of;
 use hart_step::Hart;
 use host_io::RunError;
 use machine::UntracedMachine;
+use moments::Sight;
 use pages::{OutOfMemory, Range};
-use past_harts::sight_after;
+use past_harts::{Place, Side, code_of_run, phase_number, sight_after};
 use round_schedule::Phase;
-use run_points::{Place, Side, code_of_run, phase_number};
-use seeing::Sight;
 use std::sync::Wait;
 use std::thread::Threads;
 

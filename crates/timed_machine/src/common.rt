@@ -1,8 +1,7 @@
-use access_times::{History, Promise};
+use access_times::{History, Memory, Promise};
 use departures::{Deed, Departure, Draws, Listed, Record, Way};
 use execution::ScriptedStep;
 use pages::OutOfMemory;
-use serial_memory::Memory;
 
 /// What the harts have in common.
 pub(crate) struct Common {

@@ -6,7 +6,7 @@ use crate::stepping::{Advance, count, ended, scripted};
 use crate::timed_hart::{TimedHart, Timing};
 use access_times::{Bytes, MOST_HELD, Operation, shift_of};
 use departures::{Deed, Departure, Way};
-use dependencies::Registers;
+use memory_order::Registers;
 use pages::{OutOfMemory, Store};
 use round_schedule::{Access, Stepped};
 

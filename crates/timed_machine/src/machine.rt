@@ -4,11 +4,10 @@ use crate::common::Common;
 use crate::holding::{Ripe, put_ripe};
 use crate::stepping::{Advance, step};
 use crate::timed_hart::TimedHart;
-use access_times::History;
+use access_times::{History, Memory};
 use departures::{Departure, Draws, Listed, Record};
 use hart_step::Hart;
 use pages::{OutOfMemory, Pages};
-use serial_memory::Memory;
 use serial_phase::SharedState;
 use std::alloc::Global;
 

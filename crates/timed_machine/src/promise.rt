@@ -10,7 +10,7 @@ use access_times::{
     Bytes, Kind, Maker, Operation, Promise, PutStore, Stage, operation_of, shift_of,
 };
 use departures::{Deed, Departure, Way};
-use dependencies::{Registers, used_registers};
+use memory_order::{Registers, used_registers};
 use pages::{OutOfMemory, Store};
 use round_schedule::{Access, Stepped};
 use rv64_decode::Instr;

@@ -7,7 +7,7 @@ use crate::stepping::{Advance, count, ended, scripted};
 use crate::timed_hart::TimedHart;
 use access_times::{Bytes, HeldStore, Kind, Maker, Operation};
 use departures::{Deed, Departure, Way};
-use dependencies::Registers;
+use memory_order::Registers;
 use pages::{OutOfMemory, Store};
 use round_schedule::{Access, Stepped};
 

@@ -7,11 +7,11 @@ use Rattle.machine.proofs.Repeated.{more_rounds}
 use Rattle.round_steps.specs.Searching.{FindsNearest}
 use Rattle.timelines.specs.Timelines.{IsThere}
 use Rattle.round_steps.proofs.Searching.{begins_there}
-use Rattle.walking.specs.declared.asked.Asked.{Asked}
+use Rattle.moments.specs.declared.asked.Asked.{Asked}
 use Rattle.watching.specs.declared.watchpoint.Watchpoint.{Watchpoint}
 use Rattle.watching.specs.declared.watchpoint.Way.{Way}
 use Rattle.watching.specs.declared.watchpoint.Way.TheVariants.{On, Back}
-use Rattle.run_points.specs.declared.point.Point.{Point}
+use Rattle.past_harts.specs.declared.point.Point.{Point}
 use Rattle.round_steps.specs.declared.told.Told.{Told}
 
 pub from_start : (m : Running) (start u : Untraced) → IsUntraced m start → start.rounds ≡ 0 → u ≡ start → IsUntraced (after_rounds u.rounds m) u

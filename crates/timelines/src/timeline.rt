@@ -10,10 +10,10 @@ ghost use Rattle.round_schedule.specs.Bounds.{AreWorkers};
 
 use host_io::RunError;
 use machine::UntracedMachine;
+use moments::Sight;
 use pages::Range;
+use past_harts::Point;
 use round_steps::{Telling, Told, nearest};
-use run_points::Point;
-use seeing::Sight;
 use shown_harts::{OwnPart, part_at, shown_at_side};
 use std::marker::Model;
 use std::sync::Wait;

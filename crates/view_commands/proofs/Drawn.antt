@@ -4,7 +4,7 @@ use Rattle.command_line.specs.declared.settings.Draw.{Draw}
 use Rattle.execution_commands.specs.Checks.{CheckedText}
 use Rattle.execution_commands.specs.Verdicts.{IsVerdictText, is_allowed, verdict_status}
 use Rattle.execution_file.specs.Recorded.{Recorded}
-use Rattle.program_world.specs.declared.exit_status.ExitStatus.{ExitStatus}
+use Rattle.program_files.specs.declared.exit_status.ExitStatus.{ExitStatus}
 use Rattle.program_files.proofs.Begun.{whole}
 use Rattle.view_commands.specs.Drawings.{BeginsFound, DrawsBy, DrawsExecution, IsAskable, IsBegunBy, IsCheckedEnd, IsExecutionEnd, PrintsFound}
 use Rattle.view_commands.specs.declared.failure.DrawFailure.{DrawFailure}

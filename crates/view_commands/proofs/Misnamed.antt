@@ -4,7 +4,7 @@ use Rattle.command_line.specs.declared.settings.Draw.{Draw}
 use Rattle.host_io.specs.declared.error.RunError.{RunError}
 use Rattle.run_settings.specs.Settings.{IsPlan, RefusedInOrder, settings_fault}
 use Rattle.run_settings.specs.declared.settings.Settings.{Settings}
-use Rattle.named_bytes.specs.declared.fault.NamingFault.{NamingFault}
+use Rattle.program_files.specs.declared.fault.NamingFault.{NamingFault}
 use Rattle.program_files.specs.Asked.{HasSettings}
 use Rattle.round_planner.specs.Quotas.{Planned}
 use Rattle.view_commands.specs.Drawings.{IsMisnamed}

@@ -11,12 +11,12 @@ use Rattle.host_io.specs.Taken.{BeganText}
 use Rattle.host_io.specs.declared.error.RunError.TheVariants as refusals
 use Rattle.host_io.specs.declared.load_error.LoadError.{LoadError as ImageCause}
 use Rattle.run_settings.specs.Settings.{IsImageCause, settings_fault}
-use Rattle.named_bytes.specs.declared.fault.NamingFault.{NamingFault}
+use Rattle.program_files.specs.declared.fault.NamingFault.{NamingFault}
 use Rattle.program_files.specs.Asked.{IsGiven, RefusedSetRun, SetRun}
 use Rattle.program_files.specs.Failures.{IsFileFailure}
 use Rattle.program_files.specs.declared.failure.RunFailure.TheVariants as runs
-use Rattle.program_world.specs.declared.exit_status.ExitStatus.{ExitStatus}
-use Rattle.program_world.specs.declared.exit_status.ExitStatus.TheVariants.{Done}
+use Rattle.program_files.specs.declared.exit_status.ExitStatus.{ExitStatus}
+use Rattle.program_files.specs.declared.exit_status.ExitStatus.TheVariants.{Done}
 use Rattle.view_commands.specs.Views.{IsNamed, SetDraw, drawn_text}
 use Rattle.view_commands.specs.declared.failure.DrawFailure.{DrawFailure}
 use Rattle.view_commands.specs.declared.failure.DrawFailure.TheVariants as failures

@@ -3,7 +3,7 @@ use Rattle.std.specs.Prelude.{ℕ}
 use Rattle.execution_commands.specs.declared.failure.ExecutionFailure.{ExecutionFailure}
 use Rattle.execution_commands.specs.declared.failure.ExecutionFailure.TheVariants as executions
 use Rattle.execution_file.specs.Refusals.{cause_number}
-use Rattle.named_bytes.specs.Naming.{naming_number}
+use Rattle.program_files.specs.Naming.{naming_number}
 use Rattle.program_files.specs.Failures.{failure_number as run_number}
 use Rattle.view_commands.specs.declared.failure.DrawFailure.{DrawFailure}
 use Rattle.view_commands.specs.declared.failure.DrawFailure.TheVariants.{Naming, NoExecution, NoRounds, Run}

@@ -3,8 +3,8 @@ use Rattle.std.specs.Prelude.{◌≡◌, ◌-◌, ◌^◌, List, Option, map, un
 use Rattle.command_line.specs.declared.settings.Bytes.{Bytes}
 use Rattle.command_line.specs.declared.settings.Draw.{Draw}
 use Rattle.drawing.specs.Drawn.{picture_after}
-use Rattle.named_bytes.specs.Naming.{IsNaming, named_in}
-use Rattle.named_bytes.specs.declared.fault.NamingFault.{NamingFault}
+use Rattle.program_files.specs.Naming.{IsNaming, named_in}
+use Rattle.program_files.specs.declared.fault.NamingFault.{NamingFault}
 use Rattle.pages.specs.declared.access.Range.{Range}
 use Rattle.picture.specs.declared.view.View.{View}
 use Rattle.program_files.specs.Asked.{SetRun}

@@ -5,7 +5,7 @@ ghost use Rattle.execution_file.specs.Views.{as_recorded};
 ghost use Rattle.host_io.specs.declared.error.RunError.TheVariants as refusals;
 ghost use Rattle.view_commands.specs.Drawings.{BeginsFound, DrawsExecution, IsAskable, IsBegunExecution, IsCheckedEnd, IsExecutionEnd, IsUnasked, PrintsFound};
 ghost use Rattle.view_commands.specs.Views.{IsNamed};
-ghost use Rattle.program_world.specs.declared.exit_status.ExitStatus.TheVariants.{Done};
+ghost use Rattle.program_files.specs.declared.exit_status.ExitStatus.TheVariants.{Done};
 
 use crate::failure::DrawFailure;
 use crate::ranges::access_ranges;
@@ -16,10 +16,9 @@ use execution_picture::{ExecutionScene, write_execution_picture};
 use execution_scripts::{Checked, ExecutionFile, check_file, positions_sought};
 use host_io::{RunError, Sink};
 use machine::Format;
-use named_bytes::{NamedBytes, named_bytes};
 use pages::OutOfMemory;
 use picture::Site;
-use program_world::ExitStatus;
+use program_files::{ExitStatus, NamedBytes, named_bytes};
 use std::alloc::Global;
 
 /// Prints a picture of the execution that a text says, or what is found of it, where RVWMO doesn't allow it.

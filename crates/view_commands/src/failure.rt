@@ -7,8 +7,7 @@ ghost use Rattle.view_commands.specs.declared.failure.DrawFailure.TheVariants as
 use execution_commands::ExecutionFailure;
 use execution_scripts::Cause;
 use host_io::RunError;
-use named_bytes::NamingFault;
-use program_files::RunFailure;
+use program_files::{NamingFault, RunFailure};
 use std::alloc::AllocError;
 use std::fmt::{self, Display, Formatter, Write};
 

@@ -10,10 +10,11 @@ use crate::ranges::access_ranges;
 use command_line::Draw;
 use drawing::{View, draw_run};
 use machine::{Observed, Observer, prepare};
-use named_bytes::{NamedBytes, NamingFault, named_bytes};
 use pages::Range;
-use program_files::{RunFailure, RunFiles, guest_files, settings_of};
-use program_world::{ExitStatus, Output, ProgressLine};
+use program_files::{
+    ExitStatus, NamedBytes, NamingFault, Output, ProgressLine, RunFailure, RunFiles, guest_files,
+    named_bytes, settings_of,
+};
 use std::alloc::Global;
 use std::sync::Wait;
 use std::thread::Threads;

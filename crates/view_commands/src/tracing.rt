@@ -2,13 +2,15 @@ ghost use Rattle.std.specs.Prelude.{◌≡◌, ◌⊎◌, ◌++◌, IfErr, IfOk,
 ghost use Rattle.drawing.specs.Drawn.{trace_events_after};
 ghost use Rattle.host_io.specs.Taken.{BeganText};
 ghost use Rattle.program_files.specs.Asked.{AskedRun, EndsFor, RefusedSetRun, SetRun};
-ghost use Rattle.program_world.specs.declared.exit_status.ExitStatus.TheVariants as statuses;
+ghost use Rattle.program_files.specs.declared.exit_status.ExitStatus.TheVariants as statuses;
 
 use command_line::Run;
 use drawing::trace_run;
 use machine::{Observed, Observer};
-use program_files::{RunFailure, RunFiles, guest_files, read_run, settings_of};
-use program_world::{ExitStatus, Files, Output, ProgressLine};
+use program_files::{
+    ExitStatus, Files, Output, ProgressLine, RunFailure, RunFiles, guest_files, read_run,
+    settings_of,
+};
 use std::alloc::Global;
 use std::sync::Wait;
 use std::thread::Threads;

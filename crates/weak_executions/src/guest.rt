@@ -3,7 +3,7 @@ ghost use Rattle.std.specs.Prelude.{◌≤◌, length};
 use crate::opening::{Opening, shared};
 use departures::{Departure, Draws, EarlyStores, Record, Stream};
 use pages::OutOfMemory;
-use plan_family::Family;
+use round_planner::Family;
 use round_schedule::MOST_HARTS;
 use std::alloc::Global;
 use timed_machine::{Bounds, TimedMachine};

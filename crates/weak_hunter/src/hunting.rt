@@ -6,7 +6,7 @@ ghost use Rattle.hunter.specs.Hunts.{IsHunt, IsImageCause, has_bad_range, hunt_f
 ghost use Rattle.hunter.specs.declared.error.HuntError.{HuntError as Refusal};
 ghost use Rattle.hunter.specs.declared.settings.HuntSettings.{HuntSettings as AskedFor};
 ghost use Rattle.hunter.specs.declared.error.HuntError.TheVariants as hunting;
-ghost use Rattle.text_writes.specs.Writes.{IsFaultOr, WritesAnswer};
+ghost use Rattle.host_io.specs.Writes.{IsFaultOr, WritesAnswer};
 ghost use Rattle.weak_hunter.specs.WeakHunts.{IsTabled, IsWeakHuntText, IsWeakReason, IsWeaklyHunted};
 ghost use Rattle.weak_hunter.specs.declared.error.WeakHuntError.TheVariants.{Hunt};
 

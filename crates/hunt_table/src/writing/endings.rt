@@ -128,7 +128,7 @@ fn add_range_front(line: &mut Line, address: u32, length: u32) -> Result<(), Out
 
 /// Adds the line of a range.
 #[tactic(auto, unfolding(crate::specs::Text::seen_line))]
-pub(crate) fn add_range(line: &mut Line, range: &SeenRange, bytes: &[u8]) -> Result<(), OutOfMemory>
+fn add_range(line: &mut Line, range: &SeenRange, bytes: &[u8]) -> Result<(), OutOfMemory>
     ensures { OnOk result (line.new ≡ line.old ++ seen_line range.now bytes.now) }
 {
     add_range_front(line, range.address, range.length)?;

@@ -1,7 +1,7 @@
 use Rattle.std.proofs.Common.{◌≡◌, ◌⊎◌, ◌∙◌, ◌<◌, ◌≤◌, ℕ, List, ap, arith, map, refl, slice_index, subst, sym, ⊎_elim}
 use Rattle.std.proofs.lemmas.Result.{err_from_is_err_and}
 use Rattle.round_schedule.specs.declared.event.Event.{Event}
-use Rattle.text_writes.proofs.Answered.{of_text, refused_first}
+use Rattle.host_io.proofs.Answered.{of_text, refused_first}
 use Rattle.trace.specs.Traced.{opening_at}
 use Rattle.machine.specs.Machine.{Running, after_rounds}
 use Rattle.machine.specs.Untraced.{IsUntraced, Untraced}

@@ -1,6 +1,6 @@
 use Rattle.std.proofs.Common.{inr, refl}
 use Rattle.std.proofs.lemmas.Result.{err_from_is_err_and}
-use Rattle.text_writes.proofs.Answered.{refused_first}
+use Rattle.host_io.proofs.Answered.{refused_first}
 use Rattle.drawing.proofs.drawing.draw_rounds.Goals as goal
 
 pub draw_machine-result-requires-clause-run : goal.draw_machine-result-requires-clause-run

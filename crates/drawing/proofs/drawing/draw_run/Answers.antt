@@ -3,7 +3,7 @@ use Rattle.std.proofs.lemmas.Result.{err_from_is_err_and}
 use Rattle.machine.specs.Machine.{Running}
 use Rattle.machine.specs.Untraced.{IsUntraced}
 use Rattle.run_settings.specs.Settings.{IsReason, settings_fault}
-use Rattle.text_writes.proofs.Answered.{fault_or, in_words, refused_first}
+use Rattle.host_io.proofs.Answered.{fault_or, in_words, refused_first}
 use Rattle.drawing.specs.Drawn.{picture_of}
 use Rattle.drawing.proofs.drawing.draw_run.Goals as goal
 

@@ -2,7 +2,7 @@ use Rattle.std.proofs.Common.{◌∙◌, ◌≤◌, List, ap, length, map, sym, 
 use Rattle.std.proofs.lemmas.List.{length-map}
 use Rattle.std.proofs.lemmas.List.Elements.{All-same, All-weaker}
 use Rattle.round_schedule.specs.declared.event.Event.{Event}
-use Rattle.event_pcs.specs.Pcs.{IsAfterRounds, pc_before}
+use Rattle.run_events.specs.Pcs.{IsAfterRounds, pc_before}
 use Rattle.drawing.specs.Drawn.{told_of}
 use Rattle.drawing.proofs.sites.sites_of.Goals as goal
 

@@ -1,5 +1,5 @@
 use Rattle.std.proofs.lemmas.Result.{err_from_is_err_and}
-use Rattle.text_writes.proofs.Answered.{answered, refused_too}
+use Rattle.host_io.proofs.Answered.{answered, refused_too}
 use Rattle.emulation.proofs.InOrder.{answered_in_order, refused_in_order}
 use Rattle.emulation.proofs.emulation.emulate.Goals as goal
 

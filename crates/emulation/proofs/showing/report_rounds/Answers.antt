@@ -3,7 +3,7 @@ use Rattle.std.proofs.lemmas.Result.{err_from_is_err_and}
 use Rattle.emulation.specs.Showing.{end_of}
 use Rattle.machine.specs.Machine.{Running}
 use Rattle.report.specs.Report.{report_of}
-use Rattle.text_writes.proofs.Answered.{answered, by_writing, cut_off, refused_first}
+use Rattle.host_io.proofs.Answered.{answered, by_writing, cut_off, refused_first}
 use Rattle.emulation.proofs.showing.report_rounds.Goals as goal
 
 pub returns-in_err-run_visited-clause-writes : goal.returns-in_err-run_visited-clause-writes

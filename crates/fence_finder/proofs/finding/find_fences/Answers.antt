@@ -3,7 +3,7 @@ use Rattle.std.proofs.lemmas.Result.{err_from_is_err_and}
 use Rattle.host_io.specs.declared.error.RunError.{RunError}
 use Rattle.hunter.specs.Hunts.{hunt_fault}
 use Rattle.hunter.specs.declared.error.HuntError.TheVariants.{Run}
-use Rattle.text_writes.proofs.Answered.{answered, by_writing_as, cut_off, fault_in, refused_first}
+use Rattle.host_io.proofs.Answered.{answered, by_writing_as, cut_off, fault_in, refused_first}
 use Rattle.weak_hunter.specs.WeakHunts.{IsWeakReason}
 use Rattle.weak_hunter.specs.declared.error.WeakHuntError.TheVariants.{Hunt}
 use Rattle.fence_finder.proofs.finding.find_fences.Goals as goal

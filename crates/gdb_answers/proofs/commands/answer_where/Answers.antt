@@ -4,7 +4,7 @@ use Rattle.moments.specs.Sights.{Sight}
 use Rattle.hex.specs.Hex.{encode_lower}
 use Rattle.gdb_packets.specs.Writing.{packet_text}
 use Rattle.gdb_replies.specs.CommandTexts.{where_line}
-use Rattle.gdb_sights.specs.Told.{note_of}
+use Rattle.gdb_talk.specs.Told.{note_of}
 use Rattle.gdb_answers.specs.Commands.{where_answer}
 use Rattle.gdb_answers.proofs.commands.answer_where.Goals as goal
 

@@ -1,7 +1,7 @@
 use Rattle.std.proofs.Common.{◌≡◌, ℕ, ◌+◌, ◌++◌, List, ap, sym, subst, ◌∙◌, append_assoc, add-one}
 use Rattle.machine.specs.Machine.{Running}
 use Rattle.machine.specs.Untraced.{IsUntraced}
-use Rattle.run_points.specs.declared.point.Point.{Point}
+use Rattle.past_harts.specs.declared.point.Point.{Point}
 use Rattle.timelines.specs.Timelines.{Line}
 use Rattle.gdb_replies.specs.Replies.{thread_list_begin}
 use Rattle.gdb_answers.specs.Answers.{note_at, thread_entries, thread_entry}

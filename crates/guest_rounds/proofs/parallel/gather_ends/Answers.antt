@@ -3,8 +3,8 @@ use Rattle.hart_step.specs.declared.hart.Hart.{Hart}
 use Rattle.hart_rounds.specs.declared.hart_end.HartEnd.{HartEnd}
 use Rattle.hart_rounds.specs.Ends.{round_at}
 use Rattle.hart_rounds.specs.Starts.{Start}
-use Rattle.round_lock.specs.Rounds.{hart_of}
-use Rattle.round_lock.proofs.Lists.{has_from_times}
+use Rattle.parallel_phase.specs.Rounds.{hart_of}
+use Rattle.parallel_phase.proofs.Lists.{has_from_times}
 use Rattle.guest_rounds.specs.HartEnds.{AreEndsOf}
 use Rattle.guest_rounds.proofs.RoundsOfHarts.{ends_more, is_end_of}
 use Rattle.guest_rounds.proofs.parallel.gather_ends.Goals as goal

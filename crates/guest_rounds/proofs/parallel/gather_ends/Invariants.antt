@@ -1,9 +1,9 @@
 use Rattle.std.proofs.Common.{◌≡◌, ◌<◌, ◌≤◌, ℕ, length, take, true, vec_capacity, vec_len}
 use Rattle.round_schedule.specs.Schedule.{hart_rounds}
 use Rattle.hart_step.specs.Words.{words_of}
-use Rattle.round_lock.specs.Histories.{harts_of}
-use Rattle.round_lock.specs.Lists.{has}
-use Rattle.round_lock.specs.Rounds.{hart_of, seat_of}
+use Rattle.parallel_phase.specs.Histories.{harts_of}
+use Rattle.parallel_phase.specs.Lists.{has}
+use Rattle.parallel_phase.specs.Rounds.{hart_of, seat_of}
 use Rattle.guest_rounds.specs.HartEnds.{AreEndsOf}
 use Rattle.guest_rounds.proofs.parallel.gather_ends.Given as goal
 

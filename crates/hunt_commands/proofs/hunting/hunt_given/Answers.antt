@@ -7,7 +7,7 @@ use Rattle.hunt_commands.proofs.Ranges.{none_bad, ranges_so}
 use Rattle.hunt_commands.proofs.Refused.{fault_so, told_so}
 use Rattle.hunt_commands.proofs.Tables.{table_so}
 use Rattle.hunter.specs.Hunts.{hunt_fault}
-use Rattle.named_bytes.specs.declared.fault.NamingFault.{NamingFault}
+use Rattle.program_files.specs.declared.fault.NamingFault.{NamingFault}
 use Rattle.hunt_commands.proofs.hunting.hunt_given.Goals as goal
 
 pub returns-in-Some-clause-errors : goal.returns-in-Some-clause-errors

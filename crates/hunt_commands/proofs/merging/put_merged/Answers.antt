@@ -1,7 +1,7 @@
 use Rattle.std.proofs.Common.{◌++◌, ◌∙◌, ℕ, List, ap, inl, inr, subst, ⊎_elim}
 use Rattle.host_io.specs.Taken.{BeganText}
 use Rattle.program_files.proofs.Begun.{on_err}
-use Rattle.text_writes.proofs.Answered.{begun}
+use Rattle.host_io.proofs.Answered.{begun}
 use Rattle.hunt_commands.proofs.merging.put_merged.Goals as goal
 
 pub returns-in_err-merge-clause-begun : goal.returns-in_err-merge-clause-begun

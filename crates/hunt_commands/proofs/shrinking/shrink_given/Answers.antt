@@ -4,7 +4,7 @@ use Rattle.hunt_commands.specs.Settings.{IsNamed}
 use Rattle.hunt_commands.proofs.Ranges.{none_bad, ranges_so}
 use Rattle.hunt_commands.proofs.Refused.{fault_so, guest_told_so}
 use Rattle.hunter.specs.Hunts.{shrink_fault}
-use Rattle.named_bytes.specs.declared.fault.NamingFault.{NamingFault}
+use Rattle.program_files.specs.declared.fault.NamingFault.{NamingFault}
 use Rattle.std.proofs.Common.{false}
 use Rattle.hunt_commands.proofs.shrinking.shrink_given.Goals as goal
 

@@ -3,7 +3,7 @@ use Rattle.std.proofs.lemmas.Result.{err_from_is_err_and}
 use Rattle.hunt_table.specs.Text.{table_text}
 use Rattle.hunt_table.specs.declared.merge_error.MergeError.TheVariants.{Run}
 use Rattle.plan_hunt.specs.declared.row.Row.{Row}
-use Rattle.text_writes.proofs.Answered.{answered, by_writing_as, cut_off, refused_first}
+use Rattle.host_io.proofs.Answered.{answered, by_writing_as, cut_off, refused_first}
 use Rattle.hunt_table.proofs.merging.merge.Goals as goal
 
 pub returns-in_err-table-clause-writes : goal.returns-in_err-table-clause-writes

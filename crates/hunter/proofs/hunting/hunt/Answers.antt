@@ -3,7 +3,7 @@ use Rattle.std.proofs.lemmas.Result.{err_from_is_err_and}
 use Rattle.hunt_table.specs.Text.{table_text}
 use Rattle.hunter.specs.Hunts.{IsHuntReason, hunt_fault}
 use Rattle.plan_hunt.specs.declared.row.Row.{Row}
-use Rattle.text_writes.proofs.Answered.{answered, by_writing_as, cut_off, fault_or, refused_first}
+use Rattle.host_io.proofs.Answered.{answered, by_writing_as, cut_off, fault_or, refused_first}
 use Rattle.hunter.specs.declared.error.HuntError.TheVariants.{Run}
 use Rattle.hunter.proofs.hunting.hunt.Goals as goal
 

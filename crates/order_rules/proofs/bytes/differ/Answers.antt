@@ -1,7 +1,7 @@
 use Rattle.std.proofs.Common.{inl, inr, subst, sym}
 use Rattle.memory_order.specs.Orders.{order_position}
 use Rattle.order_rules.specs.Orders.{DiffersAt}
-use Rattle.order_checker.proofs.Bounding.{range_last}
+use Rattle.memory_order.proofs.Bounding.{range_last}
 use Rattle.order_rules.proofs.bytes.differ.Goals as goal
 
 pub loop-k-preserved : goal.loop-k-preserved

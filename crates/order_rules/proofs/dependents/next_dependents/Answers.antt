@@ -1,8 +1,8 @@
 use Rattle.std.proofs.Common.{◌≡◌, if◌then◌else◌, sym, ap, arith, ◌∙◌}
 use Rattle.round_schedule.specs.declared.event.Event.{Event}
 use Rattle.round_schedule.specs.Positions.{event}
-use Rattle.dependencies.specs.declared.registers.Registers.{Registers}
-use Rattle.dependencies.specs.Dependencies.{has_failed, registers_at}
+use Rattle.memory_order.specs.declared.registers.Registers.{Registers}
+use Rattle.memory_order.specs.Dependencies.{has_failed, registers_at}
 use Rattle.order_rules.proofs.Following.{dependents_skip, dependents_step, registers_read}
 use Rattle.order_rules.proofs.dependents.next_dependents.Goals as goal
 

@@ -1,10 +1,10 @@
 use Rattle.std.proofs.Common.{◌≡◌, ◌<◌, List, length, sym, refl, ap, ◌∙◌, subst}
-use Rattle.round_lock.specs.declared.hart_round.HartRound.{HartRound}
-use Rattle.round_lock.specs.Known.{Known}
-use Rattle.round_lock.specs.Lists.{Each}
-use Rattle.round_lock.specs.Rounds.{hart_of}
-use Rattle.round_lock.proofs.Moves.{only_harts}
-use Rattle.round_lock.proofs.Using.{as_many}
+use Rattle.parallel_phase.specs.declared.claimed_round.HartRound.{HartRound}
+use Rattle.parallel_phase.specs.Known.{Known}
+use Rattle.parallel_phase.specs.Lists.{Each}
+use Rattle.parallel_phase.specs.Rounds.{hart_of}
+use Rattle.parallel_phase.proofs.Moves.{only_harts}
+use Rattle.parallel_phase.proofs.Using.{as_many}
 use Rattle.parallel_phase.proofs.Gatherings.{all_ready, each_over, table_of, written_over}
 use Rattle.parallel_phase.proofs.gathering.gather.Goals as goal
 

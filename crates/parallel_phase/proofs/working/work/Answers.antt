@@ -1,5 +1,5 @@
-use Rattle.round_lock.specs.Rounds.{ticket_of}
-use Rattle.round_lock.proofs.Using.{may_put}
+use Rattle.parallel_phase.specs.Rounds.{ticket_of}
+use Rattle.parallel_phase.proofs.Using.{may_put}
 use Rattle.parallel_phase.proofs.working.work.Goals as goal
 
 pub put-requires-clause-claimed : goal.put-requires-clause-claimed

@@ -1,5 +1,5 @@
 use Rattle.std.proofs.Common.{length}
-use Rattle.parallel_phase.specs.Seats.{IsReady}
+use Rattle.parallel_phase.specs.Ready.{IsReady}
 use Rattle.parallel_phase.proofs.working.work.Given as goal
 
 abbrev pub invariant-loop : goal.invariant-loop

@@ -1,5 +1,5 @@
 use Rattle.std.proofs.Common.{◌≡◌, ◌++◌, drop, map}
-use Rattle.named_bytes.specs.Naming.{first_missing, objects_in}
+use Rattle.program_files.specs.Naming.{first_missing, objects_in}
 use Rattle.past_commands.proofs.naming.object_bytes.Given as goal
 
 -- with those of the names that are left, of which the first that is missing is the first of all

@@ -1,6 +1,6 @@
 use Rattle.std.proofs.Common.{◌≡◌, ◌++◌, drop}
 use Rattle.past_commands.specs.Answers.{all_bytes}
-use Rattle.seeing.specs.Bytes.{bytes_from}
+use Rattle.moments.specs.Bytes.{bytes_from}
 use Rattle.past_commands.proofs.telling.bytes_of.Given as goal
 
 -- with those of the ranges that are left

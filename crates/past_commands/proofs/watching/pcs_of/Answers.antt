@@ -1,6 +1,6 @@
 use Rattle.std.proofs.Common.{◌∙◌, Bool, ap, map, sym}
 use Rattle.std.proofs.lemmas.Result.{IfOk-weaker}
-use Rattle.event_pcs.specs.Pcs.{pc_before}
+use Rattle.run_events.specs.Pcs.{pc_before}
 use Rattle.past_commands.proofs.Refusals.{refusal_of}
 use Rattle.past_commands.specs.Watches.{pcs_told}
 use Rattle.replayer.proofs.Begun.{one_plan}

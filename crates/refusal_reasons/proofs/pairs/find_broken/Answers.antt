@@ -1,4 +1,4 @@
-use Rattle.order_checker.proofs.Composing.{at_none, at_some}
+use Rattle.memory_order.proofs.Composing.{at_none, at_some}
 use Rattle.refusal_reasons.proofs.pairs.find_broken.Goals as goal
 
 pub first_broken_at-pair-requires-clause-second : goal.first_broken_at-pair-requires-clause-second

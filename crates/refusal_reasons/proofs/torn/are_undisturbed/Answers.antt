@@ -1,7 +1,7 @@
 use Rattle.std.proofs.Common.{inl, inr, subst}
 use Rattle.memory_order.specs.Orders.{order_position}
 use Rattle.memory_order.specs.Rvwmo.{IsSource, IsUndisturbed}
-use Rattle.order_checker.proofs.Bounding.{range_last}
+use Rattle.memory_order.proofs.Bounding.{range_last}
 use Rattle.refusal_reasons.proofs.Tearing.{undisturbed_for_all}
 use Rattle.refusal_reasons.proofs.torn.are_undisturbed.Goals as goal
 

@@ -2,7 +2,7 @@ use Rattle.std.proofs.Common.{◌-◌, arith, refl, sym}
 use Rattle.machine.specs.Machine.{Running}
 use Rattle.replayer.specs.Replayed.{start_of}
 use Rattle.replayer.proofs.Begun.{begins, harts_of}
-use Rattle.event_pcs.proofs.RoundsAt.{after_last, first_is_1}
+use Rattle.run_events.proofs.RoundsAt.{after_last, first_is_1}
 use Rattle.replayer.proofs.RoundCount.{all_read, count_is, never_less, no_hart, none_counted}
 use Rattle.replayer.proofs.counting.count_at.Goals as goal
 use Rattle.replayer.proofs.counting.count_at.Goals.{then-round-eq0-via-then-round-eq0, then-round-eq0-via-else-round-eq0+then-round-rounds, then-round-eq0-via-else-round-eq0+else-round-rounds+then-hart-harts}

@@ -1,7 +1,7 @@
 use Rattle.std.proofs.Common.{◌≡◌, ◌∙◌, ap, map, refl, ℕ}
 use Rattle.std.proofs.lemmas.Result.{IfOk-weaker}
 use Rattle.machine.specs.Machine.{Running}
-use Rattle.event_pcs.specs.Pcs.{pc_before}
+use Rattle.run_events.specs.Pcs.{pc_before}
 use Rattle.replayer.specs.Replayed.{start_of}
 use Rattle.replayer.proofs.Located.{all_after, at_start}
 use Rattle.replayer.proofs.locating.pcs_before.Goals as goal

@@ -2,7 +2,7 @@ use Rattle.std.proofs.Common.{◌≡◌, ℕ, ◌-◌, ◌∙◌, ap, arith, ⊎
 use Rattle.std.proofs.lemmas.Result.{IfOk-weaker}
 use Rattle.machine.specs.Machine.{after_rounds}
 use Rattle.replayer.specs.Replayed.{start_of}
-use Rattle.event_pcs.proofs.RoundsAt.{first_is_1, after_last, from_before}
+use Rattle.run_events.proofs.RoundsAt.{first_is_1, after_last, from_before}
 use Rattle.replayer.proofs.past.state_at.Goals as goal
 
 pub returns-in-None-clause-hart : goal.returns-in-None-clause-hart

@@ -1,7 +1,7 @@
 use Rattle.std.proofs.Common.{◌∙◌, ap, refl, ℕ}
 use Rattle.std.proofs.lemmas.Result.{IfOk-weaker}
 use Rattle.machine.specs.Machine.{Running, after_rounds}
-use Rattle.run_hits.specs.Hits.{hits}
+use Rattle.run_events.specs.Hits.{hits}
 use Rattle.replayer.specs.Replayed.{start_of}
 use Rattle.replayer.proofs.watching.watch.Goals as goal
 

@@ -1,7 +1,7 @@
 use Rattle.std.proofs.Common.{◌≡◌, ◌∙◌, ◌<◌, ◌≤◌, arith, refl}
 use Rattle.std.proofs.lemmas.Result.{IfOk-weaker}
 use Rattle.machine.specs.Machine.{Running}
-use Rattle.run_hits.specs.Hits.{is_hit}
+use Rattle.run_events.specs.Hits.{is_hit}
 use Rattle.replayer.specs.Replayed.{start_of}
 use Rattle.replayer.proofs.Grown.{within_rounds}
 use Rattle.replayer.proofs.watching.watch_rounds.Goals as goal

@@ -1,4 +1,4 @@
-use Rattle.seeing.proofs.Parts.{shows_through}
+use Rattle.moments.proofs.Parts.{shows_through}
 use Rattle.round_steps.proofs.part.add_part.Goals as goal
 
 pub hits_in_part-requires-clause-shows : goal.hits_in_part-requires-clause-shows

@@ -2,7 +2,7 @@ use Rattle.std.proofs.Common.{◌≡◌, ◌<◌, length, ℕ, List, [], None, s
 use Rattle.hart_step.specs.declared.hart.Hart.{Hart}
 use Rattle.round_schedule.specs.declared.event.Phase.TheVariants.{Parallel}
 use Rattle.round_planner.specs.Quotas.{quotas_of}
-use Rattle.walking.specs.Hits.{harts_in_part, tells}
+use Rattle.moments.specs.Hits.{harts_in_part, tells}
 use Rattle.round_steps.specs.Places.{part_counts, places, turn_comes}
 use Rattle.round_steps.proofs.RoundParts.{no_parts, no_turns, parallel_more, same_part, same_quota, turns_more}
 use Rattle.round_steps.proofs.round.parts_in_round.Goals as goal

@@ -1,6 +1,6 @@
 use Rattle.std.proofs.Common.{◌≡◌}
 use Rattle.round_planner.specs.Quotas.{quotas_of}
-use Rattle.run_points.specs.Begun.{Begun}
+use Rattle.past_harts.specs.Begun.{Begun}
 use Rattle.round_steps.specs.Places.{parallel_places, turns_of}
 use Rattle.round_steps.proofs.round.parts_in_round.Given as goal
 

@@ -1,8 +1,8 @@
 use Rattle.std.proofs.Common.{◌≡◌, ℕ, ◌++◌, length, List, ap, ◌∙◌}
-use Rattle.run_points.specs.Begun.{Begun}
+use Rattle.past_harts.specs.Begun.{Begun}
 use Rattle.round_steps.specs.Places.{parallel_places, serial_places, turns_of}
-use Rattle.run_points.specs.declared.place.Place.{Place}
-use Rattle.run_points.proofs.Begun.{begun_by, begun_same}
+use Rattle.past_harts.specs.declared.place.Place.{Place}
+use Rattle.past_harts.proofs.Begun.{begun_by, begun_same}
 use Rattle.round_steps.proofs.RoundParts.{turns_count}
 use Rattle.round_steps.proofs.round.places_in_round.Goals as goal
 

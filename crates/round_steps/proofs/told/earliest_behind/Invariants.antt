@@ -1,7 +1,7 @@
 use Rattle.std.proofs.Common.{◌≡◌, None, drop, filter}
 use Rattle.round_steps.specs.declared.told.Told.{Told}
 use Rattle.round_steps.specs.Points.{earliest}
-use Rattle.run_points.specs.Points.{point_before}
+use Rattle.past_harts.specs.Points.{point_before}
 use Rattle.round_steps.proofs.told.earliest_behind.Given as goal
 
 abbrev pub invariant-loop-one : goal.invariant-loop-one

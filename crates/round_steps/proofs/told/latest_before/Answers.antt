@@ -1,6 +1,6 @@
 use Rattle.std.proofs.Common.{◌∙◌, arith}
 use Rattle.round_steps.specs.declared.told.Told.{Told}
-use Rattle.run_points.specs.Points.{point_before}
+use Rattle.past_harts.specs.Points.{point_before}
 use Rattle.round_steps.proofs.PointsFound.{all_looked_at, later_noted}
 use Rattle.round_steps.proofs.told.latest_before.Goals as goal
 

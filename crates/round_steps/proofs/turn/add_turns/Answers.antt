@@ -5,10 +5,10 @@ use Rattle.hart_step.specs.declared.hart.Hart.{Hart}
 use Rattle.hart_step.specs.Words.{words_of}
 use Rattle.machine.specs.Untraced.{IsUntraced, Untraced}
 use Rattle.guest_turns.proofs.TurnHartsAsked.{turns_size}
-use Rattle.run_points.specs.Begun.{begun_of}
+use Rattle.past_harts.specs.Begun.{begun_of}
 use Rattle.round_steps.specs.Places.{serial_places, turn_of}
-use Rattle.run_points.specs.declared.place.Place.{Place}
-use Rattle.run_points.proofs.Begun.{got}
+use Rattle.past_harts.specs.declared.place.Place.{Place}
+use Rattle.past_harts.proofs.Begun.{got}
 use Rattle.round_steps.proofs.RoundParts.{serial_first, serial_more, turns_at}
 use Rattle.round_steps.proofs.TurnsAlong.{none_comes, turn_told, turns_along}
 use Rattle.round_steps.proofs.turn.add_turns.Goals as goal

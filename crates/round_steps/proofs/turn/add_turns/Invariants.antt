@@ -1,7 +1,7 @@
 use Rattle.std.proofs.Common.{◌≡◌, ◌++◌, length}
 use Rattle.machine.specs.Machine.{Running}
 use Rattle.machine.specs.Untraced.{IsUntraced}
-use Rattle.run_points.specs.Begun.{begun_of}
+use Rattle.past_harts.specs.Begun.{begun_of}
 use Rattle.round_steps.specs.Places.{serial_places, turns_of}
 use Rattle.round_steps.proofs.turn.add_turns.Given as goal
 

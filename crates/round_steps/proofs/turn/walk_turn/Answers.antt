@@ -1,7 +1,7 @@
 use Rattle.std.proofs.Common.{[], None, get_or, refl, sym, ◌∙◌, arith}
 use Rattle.std.proofs.lemmas.Bool.Decides.{nat_tests}
 use Rattle.hart_step.specs.declared.hart.Hart.{Hart}
-use Rattle.walking.specs.Hits.{tells}
+use Rattle.moments.specs.Hits.{tells}
 use Rattle.round_steps.proofs.Turning.{told_all, told_more, told_whole}
 use Rattle.round_steps.proofs.turn.walk_turn.Goals as goal
 

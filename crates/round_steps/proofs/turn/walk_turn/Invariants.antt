@@ -1,5 +1,5 @@
 use Rattle.std.proofs.Common.{◌≡◌, ◌++◌}
-use Rattle.walking.specs.Hits.{tells}
+use Rattle.moments.specs.Hits.{tells}
 use Rattle.round_steps.proofs.Turning.{told_from}
 use Rattle.round_steps.proofs.turn.walk_turn.Given as goal
 

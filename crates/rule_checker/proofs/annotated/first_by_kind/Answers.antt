@@ -6,7 +6,7 @@ use Rattle.memory_order.specs.Orders.{order_position}
 use Rattle.memory_order.proofs.Facts.{within}
 use Rattle.rule_checker.specs.declared.annotated.KindBounds.{KindBounds}
 use Rattle.rule_checker.specs.Kinds.{RespectsKindsAt, kinds_after, kinds_of, no_kinds}
-use Rattle.order_checker.proofs.Harts.{alike_at_first}
+use Rattle.memory_order.proofs.Harts.{alike_at_first}
 use Rattle.rule_checker.proofs.Firsts.{first_at}
 use Rattle.rule_checker.proofs.KindBounds.{Kinds, allowed_from_kinds, kinds_from_allowed, kinds_none, kinds_step}
 use Rattle.rule_checker.proofs.annotated.first_by_kind.Goals as goal

@@ -6,13 +6,13 @@ use Rattle.round_schedule.specs.Positions.{event}
 use Rattle.memory_order.specs.Operations.{is_operation}
 use Rattle.memory_order.specs.Orders.{order_position}
 use Rattle.memory_order.proofs.Facts.{within}
-use Rattle.dependencies.specs.declared.registers.Registers.{Registers}
-use Rattle.dependencies.specs.Dependencies.{RespectsAt, registers_at}
-use Rattle.dependencies.specs.Registers.{registers_of}
+use Rattle.memory_order.specs.declared.registers.Registers.{Registers}
+use Rattle.memory_order.specs.Dependencies.{RespectsAt, registers_at}
+use Rattle.memory_order.specs.Registers.{registers_of}
 use Rattle.rule_checker.specs.declared.carried.Carried.{Carried}
-use Rattle.order_checker.specs.Checking.{source_of}
+use Rattle.memory_order.specs.Checking.{source_of}
 use Rattle.rule_checker.specs.CarriedBounds.{AreOperands, MayForwardAll, carried_of, none_carried}
-use Rattle.order_checker.proofs.Harts.{alike_at_first}
+use Rattle.memory_order.proofs.Harts.{alike_at_first}
 use Rattle.rule_checker.proofs.Firsts.{first_at}
 use Rattle.rule_checker.proofs.Carrying.{Carries, allowed_from_respected, carries_none, carries_step, forwards_from_respected, respected_from_allowed, operands_step}
 use Rattle.rule_checker.proofs.carried.first_by_dependency.Goals as goal

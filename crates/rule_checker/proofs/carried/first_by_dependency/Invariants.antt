@@ -2,7 +2,7 @@ use Rattle.std.proofs.Common.{◌≡◌, ℕ, ◌<◌, length, true}
 use Rattle.round_schedule.specs.Positions.{event}
 use Rattle.memory_order.specs.Operations.{is_operation}
 use Rattle.memory_order.specs.Orders.{order_position}
-use Rattle.dependencies.specs.Dependencies.{RespectsAt}
+use Rattle.memory_order.specs.Dependencies.{RespectsAt}
 use Rattle.rule_checker.specs.CarriedBounds.{AreOperands, carried_of}
 use Rattle.rule_checker.proofs.Carrying.{Carries}
 use Rattle.rule_checker.proofs.carried.first_by_dependency.Given as goal

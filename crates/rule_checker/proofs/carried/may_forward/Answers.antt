@@ -1,9 +1,9 @@
 use Rattle.std.proofs.Common.{◌+◌, ◌∙◌, ap, arith, inl, inr, subst, sym}
 use Rattle.round_schedule.specs.declared.event.Event.{Event}
-use Rattle.order_checker.specs.Checking.{source_at, source_of}
+use Rattle.memory_order.specs.Checking.{source_at, source_of}
 use Rattle.rule_checker.specs.CarriedBounds.{MayForward}
-use Rattle.order_checker.proofs.Bounding.{range_last}
-use Rattle.order_checker.proofs.Sourcing.{load_within}
+use Rattle.memory_order.proofs.Bounding.{range_last}
+use Rattle.memory_order.proofs.Sourcing.{load_within}
 use Rattle.rule_checker.proofs.carried.may_forward.Goals as goal
 
 pub source_at-source-requires : goal.source_at-source-requires

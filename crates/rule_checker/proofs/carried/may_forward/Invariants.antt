@@ -1,6 +1,6 @@
 use Rattle.std.proofs.Common.{◌≡◌, ℕ, true}
 use Rattle.pages.specs.Memory.{in_range}
-use Rattle.order_checker.specs.Checking.{source_of}
+use Rattle.memory_order.specs.Checking.{source_of}
 use Rattle.rule_checker.specs.CarriedBounds.{MayForward}
 use Rattle.rule_checker.proofs.carried.may_forward.Given as goal
 

@@ -1,8 +1,8 @@
 use Rattle.std.proofs.Common.{IsTrue}
 use Rattle.trace.specs.Traced.{opening_at}
-use Rattle.order_checker.specs.Checking.{source_of}
-use Rattle.order_checker.proofs.Composing.{at_none, at_some}
-use Rattle.order_checker.proofs.Valuing.{left_from_values, values_from_left}
+use Rattle.memory_order.specs.Checking.{source_of}
+use Rattle.memory_order.proofs.Composing.{at_none, at_some}
+use Rattle.memory_order.proofs.Valuing.{left_from_values, values_from_left}
 use Rattle.rule_checker.proofs.check.meets_all.Goals as goal
 
 pub returns-then-not-loads_are_right : goal.returns-then-not-loads_are_right

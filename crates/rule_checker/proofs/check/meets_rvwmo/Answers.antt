@@ -1,6 +1,6 @@
 use Rattle.trace.specs.Traced.{opening_at}
-use Rattle.dependencies.specs.Dependencies.{DependencyRule}
-use Rattle.order_checker.proofs.Composing.{at_some}
+use Rattle.memory_order.specs.Dependencies.{DependencyRule}
+use Rattle.memory_order.proofs.Composing.{at_some}
 use Rattle.rule_checker.proofs.Exactness.{meets_all_whole}
 use Rattle.rule_checker.proofs.check.meets_rvwmo.Goals as goal
 

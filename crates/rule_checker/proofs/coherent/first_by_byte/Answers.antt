@@ -3,11 +3,11 @@ use Rattle.round_schedule.specs.Accesses.{reads, writes}
 use Rattle.memory_order.specs.Operations.{covers, is_operation}
 use Rattle.memory_order.specs.Orders.{order_position}
 use Rattle.memory_order.proofs.Facts.{within}
-use Rattle.order_checker.specs.Checking.{bound, source_at, source_of}
+use Rattle.memory_order.specs.Checking.{bound, source_at, source_of}
 use Rattle.rule_checker.specs.Bytes.{RespectsBytesAt, MayLoad}
 use Rattle.rule_checker.proofs.Firsts.{first_at}
 use Rattle.rule_checker.proofs.Coherence.{bytes_from_tests, load_from_respected, seen_by_step, touched_from_respected, touched_step}
-use Rattle.order_checker.proofs.Sourcing.{load_within}
+use Rattle.memory_order.proofs.Sourcing.{load_within}
 use Rattle.round_schedule.specs.declared.event.Event.{Event}
 use Rattle.rule_checker.proofs.coherent.first_by_byte.Goals as goal
 

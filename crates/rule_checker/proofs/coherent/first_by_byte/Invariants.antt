@@ -2,7 +2,7 @@ use Rattle.std.proofs.Common.{◌≡◌, ℕ, ◌<◌, true}
 use Rattle.round_schedule.specs.Positions.{event}
 use Rattle.memory_order.specs.Operations.{is_operation}
 use Rattle.memory_order.specs.Orders.{order_position}
-use Rattle.order_checker.specs.Checking.{bound}
+use Rattle.memory_order.specs.Checking.{bound}
 use Rattle.rule_checker.specs.Bytes.{RespectsBytesAt}
 use Rattle.rule_checker.proofs.Coherence.{Seen, Touched}
 use Rattle.rule_checker.proofs.coherent.first_by_byte.Given as goal

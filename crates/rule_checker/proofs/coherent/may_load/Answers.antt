@@ -1,10 +1,10 @@
 use Rattle.std.proofs.Common.{◌+◌, ◌%◌, ◌∙◌, slice_index, ap, arith, inl, inr, subst, sym}
 use Rattle.round_schedule.specs.declared.event.Event.{Event}
-use Rattle.order_checker.specs.Checking.{bound, source_at, source_of}
+use Rattle.memory_order.specs.Checking.{bound, source_at, source_of}
 use Rattle.rule_checker.specs.Bytes.{MayLoadByte}
-use Rattle.order_checker.proofs.Bounding.{range_at, range_last}
-use Rattle.order_checker.proofs.Sourcing.{load_within}
-use Rattle.order_checker.proofs.Valuing.{reads_here, source_listed}
+use Rattle.memory_order.proofs.Bounding.{range_at, range_last}
+use Rattle.memory_order.proofs.Sourcing.{load_within}
+use Rattle.memory_order.proofs.Valuing.{reads_here, source_listed}
 use Rattle.rule_checker.proofs.coherent.may_load.Goals as goal
 
 pub source_at-source-requires : goal.source_at-source-requires

@@ -1,6 +1,6 @@
 use Rattle.std.proofs.Common.{◌≡◌, ℕ, true}
 use Rattle.pages.specs.Memory.{in_range}
-use Rattle.order_checker.specs.Checking.{bound, source_of}
+use Rattle.memory_order.specs.Checking.{bound, source_of}
 use Rattle.rule_checker.specs.Bytes.{MayLoadByte}
 use Rattle.rule_checker.proofs.coherent.may_load.Given as goal
 

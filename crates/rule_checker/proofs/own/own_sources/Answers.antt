@@ -4,8 +4,8 @@ use Rattle.round_schedule.specs.Accesses.{reads, writes}
 use Rattle.memory_order.specs.Orders.{order_position}
 use Rattle.memory_order.proofs.Facts.{within}
 use Rattle.memory_order.proofs.Sources.{load_at}
-use Rattle.order_checker.specs.Checking.{bound, source_at, source_of}
-use Rattle.order_checker.proofs.Sourcing.{here_raised, load_within, noted_step, others_stay, own_step}
+use Rattle.memory_order.specs.Checking.{bound, source_at, source_of}
+use Rattle.memory_order.proofs.Sourcing.{here_raised, load_within, noted_step, others_stay, own_step}
 use Rattle.rule_checker.proofs.own.own_sources.Goals as goal
 
 pub note_load-requires-clause-within : goal.note_load-requires-clause-within

@@ -1,7 +1,7 @@
 use Rattle.std.proofs.Common.{◌≡◌, length}
 use Rattle.memory_order.specs.Orders.{order_position}
-use Rattle.order_checker.specs.Checking.{bound, source_of}
-use Rattle.order_checker.proofs.Sourcing.{Noted, OwnStores}
+use Rattle.memory_order.specs.Checking.{bound, source_of}
+use Rattle.memory_order.proofs.Sourcing.{Noted, OwnStores}
 use Rattle.rule_checker.proofs.own.own_sources.Given as goal
 
 abbrev pub invariant-loop-i : goal.invariant-loop-i

@@ -1,7 +1,7 @@
 use Rattle.std.proofs.Common.{◌≡◌, ◌∙◌, Option, MatchOption, ap, subst, sym}
 use Rattle.memory_order.specs.Orders.{order_position}
 use Rattle.memory_order.specs.Rvwmo.{PreservedOrderBy}
-use Rattle.dependencies.specs.Dependencies.{DependencyRule}
+use Rattle.memory_order.specs.Dependencies.{DependencyRule}
 use Rattle.rule_checker.specs.Violations.{IsFirstViolation, PreservedAt, earliest}
 use Rattle.rule_checker.proofs.Firsts.{first_of_parts}
 use Rattle.rule_checker.proofs.violation.first_violation.Goals as goal

@@ -1,6 +1,6 @@
 use Rattle.std.proofs.Common.{◌≡◌, ◌∙◌, None, Option, Some, ap, sym}
 use Rattle.emulation.specs.declared.showing.ShownState.{ShownState}
-use Rattle.text_writes.proofs.Answered.{in_words}
+use Rattle.host_io.proofs.Answered.{in_words}
 use Rattle.run_commands.specs.Printed.{shown_of, text_of}
 use Rattle.run_commands.proofs.running.print_guest.Goals as goal
 

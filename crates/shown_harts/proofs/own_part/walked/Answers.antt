@@ -1,5 +1,5 @@
 use Rattle.std.proofs.Common.{◌≡◌, [], ◌∙◌}
-use Rattle.seeing.proofs.Parts.{shows_through}
+use Rattle.moments.proofs.Parts.{shows_through}
 use Rattle.shown_harts.proofs.OwnPartsDone.{part_left}
 use Rattle.shown_harts.proofs.own_part.walked.Goals as goal
 

@@ -1,5 +1,5 @@
 use Rattle.std.proofs.Common.{◌≡◌, None, Option, inl, inr, refl, subst, ⊎_elim}
-use Rattle.named_bytes.specs.declared.fault.NamingFault.{NamingFault}
+use Rattle.program_files.specs.declared.fault.NamingFault.{NamingFault}
 use Rattle.program_files.proofs.Begun.{on_err}
 use Rattle.view_commands.specs.Views.{IsNamed}
 use Rattle.view_commands.proofs.guests.draw_guest.Goals as goal

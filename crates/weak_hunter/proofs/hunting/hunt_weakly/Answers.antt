@@ -5,7 +5,7 @@ use Rattle.hunt_table.specs.Text.{table_text}
 use Rattle.hunter.specs.Hunts.{hunt_fault}
 use Rattle.hunter.specs.declared.error.HuntError.TheVariants.{Run}
 use Rattle.plan_hunt.specs.declared.row.Row.{Row}
-use Rattle.text_writes.proofs.Answered.{answered, by_writing_as, cut_off, fault_in, refused_first}
+use Rattle.host_io.proofs.Answered.{answered, by_writing_as, cut_off, fault_in, refused_first}
 use Rattle.weak_hunter.specs.WeakHunts.{IsWeakReason}
 use Rattle.weak_hunter.specs.declared.error.WeakHuntError.TheVariants.{Hunt}
 use Rattle.weak_hunter.proofs.hunting.hunt_weakly.Goals as goal

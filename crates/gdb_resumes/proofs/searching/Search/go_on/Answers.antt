@@ -1,7 +1,7 @@
 use Rattle.std.proofs.Common.{◌≡◌, ◌<◌, ℕ, Bool, true, false, ◌&&◌, Option, Some, None, refl, sym, ap, subst, ◌∙◌, arith}
 use Rattle.std.specs.Prelude.{IfSome, if◌then◌else◌}
 use Rattle.machine.specs.Untraced.{IsUntraced, Untraced}
-use Rattle.run_points.specs.declared.point.Point.{Point}
+use Rattle.past_harts.specs.declared.point.Point.{Point}
 use Rattle.round_steps.specs.declared.told.Told.{Told}
 use Rattle.gdb_runs.specs.declared.debugged.Debugged.{Debugged}
 use Rattle.watching.specs.declared.watchpoint.Way.{Way}

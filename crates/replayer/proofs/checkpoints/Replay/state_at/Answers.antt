@@ -3,7 +3,7 @@ use Rattle.std.specs.Prelude.{IfOk}
 use Rattle.hart_step.specs.declared.hart.Hart.{Hart}
 use Rattle.machine.specs.Machine.{after_rounds}
 use Rattle.replayer.specs.Checkpoints.{Opened}
-use Rattle.event_pcs.proofs.RoundsAt.{from_before}
+use Rattle.run_events.proofs.RoundsAt.{from_before}
 use Rattle.replayer.proofs.checkpoints.Replay.state_at.Goals as goal
 
 pub hart_in_round-requires-clause-run : goal.hart_in_round-requires-clause-run

@@ -1,3 +1,0 @@
-pub mod Dependencies
-pub mod Registers
-pub mod WiderRule

@@ -1,8 +1,0 @@
-use Rattle.std.proofs.Common.{◌≡◌, ◌+◌, drop}
-use Rattle.std.specs.List.{prefix_len}
-use Rattle.event_pcs.specs.Parts.{is_of_part}
-use Rattle.event_pcs.proofs.stretches.count_of_part.Given as goal
-
--- so far each is
-abbrev pub invariant-loop-number : goal.invariant-loop-number
-invariant-loop-number l = l.number + prefix_len (is_of_part l.hart) (drop l.number l.events) ≡ prefix_len (is_of_part l.hart) l.events

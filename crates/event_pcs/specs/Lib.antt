@@ -1,2 +1,0 @@
-pub mod Pcs
-pub mod Parts

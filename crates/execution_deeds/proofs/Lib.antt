@@ -1,2 +1,0 @@
-mod Doing
-mod NamedTurns

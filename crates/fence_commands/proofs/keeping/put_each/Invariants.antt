@@ -1,5 +1,0 @@
-use Rattle.fence_commands.proofs.Saved.{Halfway}
-use Rattle.fence_commands.proofs.keeping.put_each.Given as goal
-
-abbrev pub invariant-loop-index : goal.invariant-loop-index
-invariant-loop-index g l = Halfway g.F.Files.was_given l.folder l.executions l.index l.fn.files l.files

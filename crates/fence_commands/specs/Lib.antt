@@ -1,5 +1,0 @@
-pub mod Failures
-pub mod Status
-pub mod Places
-pub mod Saved
-pub mod Asked

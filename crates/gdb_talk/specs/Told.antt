@@ -1,0 +1,50 @@
+-- What a debugger is told of a hart at a moment.
+use Rattle.std.specs.Prelude.{ℕ, ◌+◌, ◌==◌, ◌||◌, false, if◌then◌else◌, List, codes, slice_set, slice_index, Option, Some, None}
+use Rattle.hart_step.specs.declared.hart.Hart.{Hart}
+use Rattle.hart_step.specs.declared.hart.Stop.{Stop}
+use Rattle.moments.specs.Sights.{Sight}
+use Rattle.moments.specs.Stops.{is_one_of}
+use Rattle.past_harts.specs.declared.moment.Moment.{Moment}
+use Rattle.past_harts.specs.Moments.{phase_number}
+use Rattle.gdb_replies.specs.declared.note.ThreadNote.{ThreadNote}
+use Rattle.gdb_replies.specs.declared.registers.Registers.{Registers}
+use Rattle.gdb_replies.specs.declared.stop_reply.Reason.{Reason}
+use Rattle.gdb_replies.specs.declared.stop_reply.Reason.TheVariants.{Breakpoint, Signal, Step}
+use Rattle.gdb_replies.specs.declared.stop_reply.StopReply.{StopReply}
+
+-- the hart's own numbers, of which x0 reads 0, and where in the run it is
+abbrev pub registers_of : Hart → Moment → Registers
+registers_of h at = record { x = slice_set h.x 0 0; pc = h.pc; round = at.rounds + 1; place = h.done; phase = phase_number at.place.phase }
+
+abbrev pub told_stop : Option Stop → Option (ℕ × ℕ)
+told_stop None = None
+told_stop (Some s) = Some (s.code, s.value)
+
+-- what is said of hart i by the hart alone: not whether it waits, and nothing of its stores
+abbrev pub note_of : ℕ → Hart → Moment → ThreadNote
+note_of i h at = record { hart = i; round = at.rounds + 1; phase = at.place.phase; place = h.done; waits = false; uncommitted = 0; stop = told_stop h.stop }
+
+-- gdb's number of the signal that a fault is: 4 for an illegal word, 10 for an address that is no multiple of what it has to be, 5 for EBREAK, and
+-- 11 for what lies outside memory or code, or is a store to code
+abbrev pub signal_of : ℕ → ℕ
+signal_of code =
+    if code == 2 then 4
+    else (if (code == 4) || (code == 5) || (code == 7) then 10
+    else (if code == 10 then 5 else 11))
+
+-- why one stands at a hart: a fault has stopped it, or a breakpoint is at its pc, or a step has ended there; the exit call is no reason
+abbrev pub reason_by_stop : Option Stop → Reason → Reason
+reason_by_stop None other = other
+reason_by_stop (Some s) other = if s.code == 1 then other else Signal (signal_of s.code)
+
+abbrev pub reason_of : List ℕ → Hart → Reason
+reason_of stops h = reason_by_stop h.stop (if is_one_of stops h.pc then Breakpoint else Step)
+
+-- thread i + 1 stands there for a reason
+abbrev pub stop_reply_of : Reason → ℕ → Hart → StopReply
+stop_reply_of why i h = record { reason = why; thread = i + 1; pc = h.pc; sp = slice_index h.x 2; fp = slice_index h.x 8 }
+
+-- what is answered of a hart as it is seen, and `E01` where there is no such hart
+abbrev pub or_missing : Option (Sight Hart) → (Sight Hart → List ℕ) → List ℕ
+or_missing None f = codes "E01"
+or_missing (Some s) f = f s

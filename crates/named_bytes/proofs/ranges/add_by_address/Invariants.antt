@@ -1,7 +1,0 @@
-use Rattle.std.proofs.Common.{◌≡◌, ◌++◌, drop, map}
-use Rattle.named_bytes.specs.Naming.{by_address}
-use Rattle.named_bytes.proofs.ranges.add_by_address.Given as goal
-
--- with those that are left
-abbrev pub invariant-loop-range : goal.invariant-loop-range
-invariant-loop-range l = l.ranges.items ++ map by_address (drop l.range-index l.bytes) ≡ l.fn.ranges.items ++ map by_address l.bytes

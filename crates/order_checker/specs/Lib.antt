@@ -1,3 +1,0 @@
-pub mod Checking
-pub mod CheckingAtomic
-pub mod CheckingProgram

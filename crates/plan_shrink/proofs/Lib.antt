@@ -1,4 +1,0 @@
-pub mod Accepted
-pub mod Numbered
-pub mod Sizes
-pub mod Passes

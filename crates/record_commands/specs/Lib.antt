@@ -1,3 +1,0 @@
-pub mod Failures
-pub mod Reading
-pub mod Made

@@ -1,0 +1,13 @@
+use Rattle.std.proofs.Common.{refl, subst}
+use Rattle.recording.specs.Grammar.{recording}
+use Rattle.recording.specs.Recorded.{Recorded}
+use Rattle.run_commands.proofs.making.record_command.Goals as goal
+
+pub returns-clause-records : goal.returns-clause-records
+returns-clause-records g c =
+    let f = c.in_ok-given.given in
+    let done = c.in_ok-recorded.ensures.records in (
+      record { image = f.program.image.items; input = f.program.input.items; text = f.plan.text.items; budget = f.plan.budget; given = c.in_ok-given.ensures.given; made = done.0 },
+      subst (λ (r : Recorded). g.F.Files.was_given c.args.files.now c.save.new.files c.args.asked.now.out.now (recording.spelled r)) done.1 c.in_ok-save.ensures.given,
+      refl,
+    )

@@ -1,0 +1,37 @@
+-- What `record` and `migrate` write, and why they end without it.
+use Rattle.std.specs.Prelude.{◌⊎◌, ℕ, List}
+use Rattle.command_line.specs.declared.settings.Migrate.{Migrate}
+use Rattle.command_line.specs.declared.settings.Record.{Record}
+use Rattle.run_settings.specs.declared.settings.Settings.{Settings}
+use Rattle.program_files.specs.Asked.{RefusedRun}
+use Rattle.program_files.specs.Failures.{IsFileFailure}
+use Rattle.run_commands.specs.Failures.{IsUnwritten}
+use Rattle.run_commands.specs.Reading.{EndsReading}
+use Rattle.run_commands.specs.declared.failure.RecordFailure.{RecordFailure}
+use Rattle.run_commands.specs.declared.failure.RecordFailure.TheVariants.{Run, Unread, Unwritten}
+use Rattle.recording.specs.Grammar.{recording}
+use Rattle.recording.specs.Recorded.{Recorded}
+use Rattle.replayer.specs.Replayed.{recorded_of}
+use Rattle.round_planner.specs.Quotas.{Planned}
+
+-- the text of the recording of a run, with registers after each round that is a multiple of `every`
+abbrev pub recorded_text : Settings → ℕ → List ℕ → List ℕ → Planned → List ℕ
+recorded_text s every image input plan = recording.spelled (recorded_of s every image input plan)
+
+-- the text of a recording in the newest version
+abbrev pub migrated_text : Recorded → List ℕ
+migrated_text r = recording.spelled (record r { version = 2 })
+
+-- a file of the run can't be read, or the run is refused
+abbrev pub IsUnrecorded : (List ℕ → List ℕ → Type 0) → (List ℕ → ℕ → List ℕ → Type 0) → Record → RecordFailure → Type 0
+IsUnrecorded holds begins asked (Run failure) = IsFileFailure failure ⊎ RefusedRun holds begins asked.run failure
+IsUnrecorded holds begins asked (Unread error) = ⊥
+IsUnrecorded holds begins asked (Unwritten text) = ⊥
+
+-- why `record` ends without a recording: the run isn't recorded, or its recording can't be written
+abbrev pub EndsRecord : (List ℕ → List ℕ → Type 0) → (List ℕ → ℕ → List ℕ → Type 0) → Record → RecordFailure → Type 0
+EndsRecord holds begins asked f = IsUnrecorded holds begins asked f ⊎ IsUnwritten asked.out.now f
+
+-- why `migrate` does: no recording was read, or the new one can't be written
+abbrev pub EndsMigrate : (List ℕ → List ℕ → List ℕ → Type 0) → Migrate → RecordFailure → Type 0
+EndsMigrate marked asked f = EndsReading marked asked.recording.now f ⊎ IsUnwritten asked.out.now f

@@ -1,0 +1,32 @@
+-- Recordings that files hold. `marked` says that bytes are all that the file of a path held, if they begin with a mark, and else a
+-- beginning of it.
+use Rattle.std.specs.Prelude.{ℕ, List, codes}
+use Rattle.program_files.specs.Failures.{IsFileFailure}
+use Rattle.run_commands.specs.declared.failure.RecordFailure.{RecordFailure}
+use Rattle.run_commands.specs.declared.failure.RecordFailure.TheVariants.{Run, Unread, Unwritten}
+use Rattle.recording.specs.Grammar.{IsRecording, reading}
+use Rattle.recording.specs.Recorded.{Recorded}
+use Rattle.recording.specs.Views.{Fails}
+use Rattle.recording.specs.declared.cause.ReadError.{ReadError}
+
+-- what every recording begins with
+abbrev pub recording_mark : List ℕ
+recording_mark = codes "RVDETREC"
+
+-- the file of a path holds this recording
+pub record HoldsRecording (marked : List ℕ → List ℕ → List ℕ → Type 0) (path : List ℕ) (r : Recorded) : Type 0 where
+  pub text : List ℕ
+  pub held : marked path recording_mark text
+  pub is_recording : IsRecording text r
+
+-- it holds none, for this reason
+pub record HoldsNoRecording (marked : List ℕ → List ℕ → List ℕ → Type 0) (path : List ℕ) (e : ReadError) : Type 0 where
+  pub text : List ℕ
+  pub held : marked path recording_mark text
+  pub fails : Fails e (reading text)
+
+-- why no recording was read: the file can't be read, memory was refused, or it holds none
+abbrev pub EndsReading : (List ℕ → List ℕ → List ℕ → Type 0) → List ℕ → RecordFailure → Type 0
+EndsReading marked path (Run failure) = IsFileFailure failure
+EndsReading marked path (Unread error) = HoldsNoRecording marked path error
+EndsReading marked path (Unwritten text) = ⊥

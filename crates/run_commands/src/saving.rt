@@ -1,0 +1,53 @@
+//! Recordings that files are given.
+ghost use Rattle.std.specs.Prelude.{◌≡◌, IfErr, OnOk};
+ghost use Rattle.run_commands.specs.Failures.{IsUnwritten};
+ghost use Rattle.recording.specs.Grammar.{recording};
+
+use crate::failure::RecordFailure;
+use host_io::{RunError, Sink};
+use program_files::{FileText, Files, RunFailure};
+use recording::{Recording, write_recording};
+use std::alloc::Global;
+
+/// A recording, as the text of a file.
+#[derive(Drop)]
+struct RecordingText<'a> {
+    recorded: &'a Recording,
+}
+
+impl FileText for RecordingText<'_> {
+    ghost text = { λ t. recording.spelled t.recorded.now };
+
+    fn write_to<S: Sink>(&self, alloc: Global, out: &mut S) -> Result<(), RunError> {
+        write_recording(alloc, self.recorded, out)
+    }
+}
+
+/// Gives the file of a path the text of a recording, in place of what it held.
+pub(crate) fn save<F: Files>(
+    files: &mut F,
+    alloc: Global,
+    recorded: &Recording,
+    path: &str,
+) -> Result<(), RecordFailure>
+    ensures given { OnOk result (F.was_given files.old files.new path.now (recording.spelled recorded.now)) }
+    ensures errors { IfErr result (IsUnwritten path.now) }
+{
+    match files.replace(path, &RecordingText { recorded }) {
+        Ok(()) => Ok(()),
+        Err(RunError::OutOfMemory) => {
+            Err(RecordFailure::Run(RunFailure::Refused(RunError::OutOfMemory)))
+        }
+        Err(_) => Err(unwritten(alloc, path)),
+    }
+}
+
+/// The failure of a file that can't be made or written.
+fn unwritten(alloc: Global, path: &str) -> RecordFailure
+    ensures { IsUnwritten path.now result }
+{
+    match String::from_str(alloc, path) {
+        Ok(path) => RecordFailure::Unwritten(path),
+        Err(_) => RecordFailure::Run(RunFailure::Refused(RunError::OutOfMemory)),
+    }
+}

@@ -1,0 +1,10 @@
+pub mod RoundsAt
+pub mod StretchByStretch
+pub mod InParts
+pub mod Located
+pub mod TurnPcs
+pub mod Endings
+pub mod Overlaps
+pub mod Joined
+pub mod Seen
+pub mod Walked

@@ -1,0 +1,4 @@
+pub mod Pcs
+pub mod Parts
+pub mod Hits
+pub mod Watched

@@ -1,6 +1,0 @@
-use Rattle.std.proofs.Common.{◌≡◌, ◌++◌, filter}
-use Rattle.run_hits.specs.Hits.{is_hit, of_rounds}
-use Rattle.run_hits.proofs.finding.add_hits_within.Given as goal
-
-abbrev pub invariant-loop-event : goal.invariant-loop-event
-invariant-loop-event l = l.found.items ++ of_rounds l.rounds.first l.rounds.last (filter (is_hit l.ranges) l.event-iterator) ≡ l.fn.found.items ++ of_rounds l.rounds.first l.rounds.last (filter (is_hit l.ranges) l.trace.events)

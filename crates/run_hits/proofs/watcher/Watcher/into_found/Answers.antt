@@ -1,5 +1,0 @@
-use Rattle.run_hits.proofs.Seen.{all_found}
-use Rattle.run_hits.proofs.watcher.Watcher.into_found.Goals as goal
-
-pub returns : goal.returns
-returns g c = λ es seen. all_found g.S.Search.ranges g.S.Search.within c.look_through.new.self.sought _ _ es c.in_ok-look_through.ensures.last (c.look_through.ensures.seen es seen)

@@ -1,5 +1,0 @@
-use Rattle.execution.proofs.Liking.{shows_laid}
-use Rattle.serial_memory.proofs.serving.lay.Goals as goal
-
-pub returns : goal.returns
-returns c = shows_laid c.in_ok-_fault._fault c.args.number _ _ c.in_ok-_fault.ensures.ok

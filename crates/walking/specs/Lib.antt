@@ -1,4 +1,0 @@
-pub mod Stops
-pub mod Hits
-pub mod Pcs
-pub mod Quiet

@@ -1,0 +1,106 @@
+-- The search for missing fences that a line asks for, and why it isn't done. `holds` and `begins` say what files hold, and `finds` that a
+-- search by some settings finds a table, with these executions.
+use Rattle.std.specs.Prelude.{◌≡◌, ◌⊎◌, ℕ, List, map, false, true, Option, Some, None, is_some, option_map}
+use Rattle.command_line.specs.declared.settings.Fences.{Fences}
+use Rattle.execution_file.specs.Views.{as_recorded}
+use Rattle.execution_file.specs.declared.file.ExecutionFile.{ExecutionFile}
+use Rattle.weak_commands.specs.Saved.{IsUnsavedIn}
+use Rattle.weak_commands.specs.Places.{IsAssumed, IsUnplaced}
+use Rattle.weak_commands.specs.declared.failure.FencesFailure.{FencesFailure}
+use Rattle.weak_commands.specs.declared.failure.FencesFailure.TheVariants as failures
+use Rattle.fence_finder.specs.MissingFences.{IsSearched}
+use Rattle.fence_finder.specs.declared.settings.FenceSettings.{FenceSettings}
+use Rattle.fence_table.specs.Accepting.{accepted_in}
+use Rattle.fence_table.specs.declared.accept_error.AcceptError.TheVariants as accepting
+use Rattle.fence_table.specs.declared.fence_table.FenceTable.{FenceTable}
+use Rattle.hunt_commands.specs.Asked.{IsFileEnd, IsRefusedSo}
+use Rattle.hunt_commands.specs.Settings.{HasNumbers, HasRanges}
+use Rattle.hunt_commands.specs.declared.failure.HuntFailure.{HuntFailure}
+use Rattle.hunter.specs.Hunts.{hunt_fault}
+use Rattle.hunter.specs.declared.settings.HuntSettings.{HuntSettings}
+use Rattle.program_files.specs.Asked.{IsInputOf, IsProgramOf}
+
+-- ---- what is searched
+
+-- the words before whose instructions fences are assumed
+abbrev pub words_of : Fences → List (List ℕ)
+words_of asked = map (λ s. s.now) asked.as_if_fence.items
+
+-- the path of the list of places that are accepted, and of the folder that executions are kept in
+abbrev pub accept_of : Fences → Option (List ℕ)
+accept_of asked = option_map (λ s. s.now) asked.accept
+
+abbrev pub keep_of : Fences → Option (List ℕ)
+keep_of asked = option_map (λ s. s.now) asked.keep
+
+-- the settings have what the line says: of the executions, how many steps each has at most, the instructions before which fences are
+-- assumed, the places that the list accepts, and whether executions are kept
+pub record IsAskedSearch (asked : Fences) (accepted image : List ℕ) (s : FenceSettings) : Type 0 where
+  pub numbers : HasNumbers asked.search asked.first asked.plans false s.hunt
+  pub ranges : HasRanges asked.search image s.hunt
+  pub steps : s.steps ≡ asked.steps
+  pub assumed : IsAssumed (words_of asked) s.hunt image s.assumed.items
+  pub is_accepted : accepted_in accepted ≡ Some s.accepted
+  pub keeps : s.keeps ≡ is_some asked.keep
+
+-- a search by what the line says, with this list of places: its settings, its table and the executions that it keeps
+pub record SetSearch (finds : FenceSettings → List ℕ → List ℕ → FenceTable → List ExecutionFile → Type 0)
+    (asked : Fences) (accepted image input : List ℕ) : Type 0 where
+  pub settings : FenceSettings
+  pub table : FenceTable
+  pub executions : List ExecutionFile
+  pub set : IsAskedSearch asked accepted image settings
+  pub searched : IsSearched settings.hunt image input table
+  pub found : finds settings image input table executions
+
+-- the search that a line asks for
+pub record AskedSearch (holds : List ℕ → List ℕ → Type 0) (begins : List ℕ → ℕ → List ℕ → Type 0)
+    (finds : FenceSettings → List ℕ → List ℕ → FenceTable → List ExecutionFile → Type 0) (asked : Fences) : Type 0 where
+  pub image : List ℕ
+  pub input : List ℕ
+  pub accepted : List ℕ
+  pub given : IsProgramOf holds begins asked.search.program image input
+  pub list : IsInputOf holds (accept_of asked) accepted
+  pub made : SetSearch finds asked accepted image input
+
+-- ---- refusals
+
+-- the search is refused as a hunt is, or since an execution isn't confirmed
+pub record IsRefusedSearch (asked : Fences) (image : List ℕ) (f : HuntFailure) : Type 0 where
+  pub settings : HuntSettings
+  pub numbers : HasNumbers asked.search asked.first asked.plans false settings
+  pub refused : IsRefusedSo asked.search true (hunt_fault settings) settings image f
+
+-- a word names no instruction of the image
+pub record IsUnplacedSearch (asked : Fences) (image : List ℕ) (f : FencesFailure) : Type 0 where
+  pub settings : HuntSettings
+  pub numbers : HasNumbers asked.search asked.first asked.plans false settings
+  pub unplaced : IsUnplaced (words_of asked) settings image f
+
+-- why a search in what the files gave ends: memory was refused or the output couldn't be written, the list of places is none, a word names
+-- no instruction, or the search is refused
+abbrev pub IsSearchEnd : Fences → List ℕ → List ℕ → FencesFailure → Type 0
+IsSearchEnd asked accepted image (failures.Hunt failure) = IsFileEnd failure ⊎ IsRefusedSearch asked image failure
+IsSearchEnd asked accepted image (failures.Accept error) = (error ≡ accepting.OutOfMemory) ⊎ (accepted_in accepted ≡ None)
+IsSearchEnd asked accepted image (failures.NoPlace word why) = IsUnplacedSearch asked image (failures.NoPlace word why)
+IsSearchEnd asked accepted image (failures.Unwritten path) = ⊥
+
+-- the search that a line asks for ends so
+pub record EndsSearch (holds : List ℕ → List ℕ → Type 0) (begins : List ℕ → ℕ → List ℕ → Type 0) (asked : Fences) (f : FencesFailure) : Type 0 where
+  pub image : List ℕ
+  pub input : List ℕ
+  pub accepted : List ℕ
+  pub given : IsProgramOf holds begins asked.search.program image input
+  pub list : IsInputOf holds (accept_of asked) accepted
+  pub ends : IsSearchEnd asked accepted image f
+
+-- a file can't be read, memory is refused, or the output can't be written
+abbrev pub IsWorldEnd : FencesFailure → Type 0
+IsWorldEnd (failures.Hunt failure) = IsFileEnd failure
+IsWorldEnd (failures.Accept error) = ⊥
+IsWorldEnd (failures.NoPlace word why) = ⊥
+IsWorldEnd (failures.Unwritten path) = ⊥
+
+-- why the command ends without what it was asked for
+abbrev pub EndsFences : (List ℕ → List ℕ → Type 0) → (List ℕ → ℕ → List ℕ → Type 0) → Fences → FencesFailure → Type 0
+EndsFences holds begins asked f = IsWorldEnd f ⊎ EndsSearch holds begins asked f ⊎ IsUnsavedIn (keep_of asked) f

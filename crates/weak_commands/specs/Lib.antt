@@ -1,0 +1,6 @@
+pub mod Failures
+pub mod Status
+pub mod Places
+pub mod Saved
+pub mod Asked
+pub mod AskedExecutions

@@ -1,0 +1,145 @@
+-- The instructions before which fences are assumed: the words that a line has for them, and what is wrong with one that names none.
+use Rattle.std.specs.Prelude.{◌≡◌, ◌≢◌, ◌⊎◌, ℕ, ◌+◌, ◌-◌, ◌%◌, ◌^◌, ◌==◌, ◌&&◌, nat_le, nat_lt, Bool, true, false, if◌then◌else◌, List, [], ◌∷◌, ◌++◌, codes, length, min, Option, Some, None, Result, Ok, Err, string_bytes}
+use Rattle.std.specs.Char.{is_ascii_hexdigit}
+use Rattle.std.specs.List.{list_all, list_any}
+use Rattle.command_line.specs.Reading.{address_in, number_in}
+use Rattle.elf_loader.specs.Symbols.{function_of, has_other_function, has_symbol_table}
+use Rattle.elf_loader.specs.declared.object.Object.{Object}
+use Rattle.weak_commands.specs.declared.failure.FencesFailure.{FencesFailure}
+use Rattle.weak_commands.specs.declared.failure.FencesFailure.TheVariants as failures
+use Rattle.weak_commands.specs.declared.places.Misplaced.{Misplaced}
+use Rattle.weak_commands.specs.declared.places.Misplaced.TheVariants.{Beyond, NoFunction, NoSymbols, NotCode, Several, Unreadable}
+use Rattle.host_io.specs.declared.error.RunError.TheVariants as refusals
+use Rattle.host_io.specs.declared.load_error.LoadError.{LoadError as ImageCause}
+use Rattle.hunt_commands.specs.declared.failure.HuntFailure.TheVariants as hunts
+use Rattle.hunter.specs.Hunts.{IsImageCause, hunt_fault}
+use Rattle.hunter.specs.declared.settings.HuntSettings.{HuntSettings}
+use Rattle.run_settings.specs.Settings.{image_of}
+use Rattle.pages.specs.declared.access.Range.{Range}
+use Rattle.program_files.specs.declared.failure.RunFailure.TheVariants as runs
+
+-- ---- addresses
+
+-- the 16 digits of an address, as a table prints it
+abbrev pub printed_pc : List ℕ → Option ℕ
+printed_pc word = if (length word == 16) && list_all is_ascii_hexdigit word then number_in 64 16 word else None
+
+abbrev pub readable : Option ℕ → Result ℕ Misplaced
+readable (Some pc) = Ok pc
+readable None = Err Unreadable
+
+abbrev pub first_or : Option ℕ → Option ℕ → Option ℕ
+first_or (Some pc) other = Some pc
+first_or None other = other
+
+-- such an address, or one in another way
+abbrev pub address_of : List ℕ → Result ℕ Misplaced
+address_of word = readable (first_or (printed_pc word) (address_in word))
+
+-- ---- places in functions
+
+-- the address that is so many bytes behind the first one of a function; whether there are several of its name, at different addresses
+abbrev pub behind : ℕ → Object → Bool → Result ℕ Misplaced
+behind offset function true = Err Several
+behind offset function false = if nat_lt offset function.length then Ok (min (function.address + offset) (2 ^ 64 - 1)) else Err Beyond
+
+-- the same of the function that a file has of a name, if it has one
+abbrev pub behind_named : List ℕ → List ℕ → ℕ → Option Object → Result ℕ Misplaced
+behind_named file name offset None = Err NoFunction
+behind_named file name offset (Some function) = behind offset function (has_other_function file name function.address)
+
+abbrev pub place_by : List ℕ → List ℕ → Option ℕ → Bool → Result ℕ Misplaced
+place_by file name None symbols = Err Unreadable
+place_by file name (Some offset) false = Err NoSymbols
+place_by file name (Some offset) true = behind_named file name offset (function_of file name)
+
+-- the address that is as many bytes as the digits say behind the first one of the function of a name
+abbrev pub place_in : List ℕ → List ℕ → List ℕ → Result ℕ Misplaced
+place_in file name digits = place_by file name (number_in 64 16 digits) (has_symbol_table file)
+
+-- ---- words
+
+-- the word is a function, `+0x` and digits; or it has no `+0x`
+abbrev pub IsParted : List ℕ → Option (List ℕ × List ℕ) → Type 0
+IsParted word None = (xs ys : List ℕ) → word ≢ xs ++ (codes "+0x" ++ ys)
+IsParted word (Some parts) = word ≡ parts.0 ++ (codes "+0x" ++ parts.1)
+
+abbrev pub named_by : List ℕ → List ℕ → Option (List ℕ × List ℕ) → Result ℕ Misplaced
+named_by file word None = address_of word
+named_by file word (Some parts) = place_in file parts.0 parts.1
+
+-- the address that the word names, or why it names none
+abbrev pub IsNamed : List ℕ → List ℕ → Result ℕ Misplaced → Type 0
+IsNamed file word named = (parts : Option (List ℕ × List ℕ)) × IsParted word parts × (named ≡ named_by file word parts)
+
+-- ---- code
+
+abbrev pub has_address : ℕ → Range → Bool
+has_address address range = nat_le range.start address && nat_lt (address - range.start) range.len
+
+-- there is an instruction at the address: it is a multiple of 4, and a range of code has it
+abbrev pub is_instruction : List Range → ℕ → Bool
+is_instruction code pc = (pc % 4 == 0) && list_any (has_address pc) code
+
+abbrev pub on_code : List Range → Result ℕ Misplaced → Result ℕ Misplaced
+on_code code (Ok pc) = if is_instruction code pc then Ok pc else Err NotCode
+on_code code (Err why) = Err why
+
+-- the address of the instruction that the word names, or why it names none
+abbrev pub IsInstruction : List ℕ → List Range → List ℕ → Result ℕ Misplaced → Type 0
+IsInstruction file code word found = (named : Result ℕ Misplaced) × IsNamed file word named × (found ≡ on_code code named)
+
+-- ---- several
+
+-- the addresses so far, and one more that isn't among them
+abbrev pub with_pc : List ℕ → ℕ → List ℕ
+with_pc pcs pc = if list_any (λ p. p == pc) pcs then pcs else pcs ++ pc ∷ []
+
+-- the words name these instructions, each of which stands once, behind those that were there before
+abbrev pub AreInstructions : List ℕ → List Range → List (List ℕ) → List ℕ → List ℕ → Type 0
+AreInstructions file code [] before pcs = pcs ≡ before
+AreInstructions file code (word ∷ words) before pcs =
+    (pc : ℕ) × IsInstruction file code word (Ok pc) × AreInstructions file code words (with_pc before pc) pcs
+
+-- of the words this is the first that names none, for this reason
+abbrev pub IsFirstMisplaced : List ℕ → List Range → List (List ℕ) → List ℕ → Misplaced → Type 0
+IsFirstMisplaced file code [] word why = ⊥
+IsFirstMisplaced file code (first ∷ words) word why =
+    ((word ≡ first) × IsInstruction file code first (Err why))
+    ⊎ (((pc : ℕ) × IsInstruction file code first (Ok pc)) × IsFirstMisplaced file code words word why)
+
+-- memory was refused
+abbrev pub IsOutOfMemory : FencesFailure → Type 0
+IsOutOfMemory failure = failure ≡ failures.Hunt (hunts.Run (runs.Refused refusals.OutOfMemory))
+
+-- the failure tells this word and this reason
+abbrev pub TellsPlace : List ℕ → Misplaced → FencesFailure → Type 0
+TellsPlace word why (failures.Hunt failure) = ⊥
+TellsPlace word why (failures.Accept error) = ⊥
+TellsPlace word why (failures.NoPlace text reason) = (string_bytes text ≡ word) × (reason ≡ why)
+TellsPlace word why (failures.Unwritten path) = ⊥
+
+abbrev pub IsNoPlace : List ℕ → Misplaced → FencesFailure → Type 0
+IsNoPlace word why failure = IsOutOfMemory failure ⊎ TellsPlace word why failure
+
+-- one of the words names none, or memory was refused
+abbrev pub IsMisplaced : List ℕ → List Range → List (List ℕ) → FencesFailure → Type 0
+IsMisplaced file code words failure =
+    IsOutOfMemory failure
+    ⊎ ((word : List ℕ) × (why : Misplaced) × IsFirstMisplaced file code words word why × TellsPlace word why failure)
+
+-- ---- the image
+
+-- nothing speaks against the settings, nor against the image
+pub record IsTaken (s : HuntSettings) (file : List ℕ) : Type 0 where
+  pub settings : hunt_fault s ≡ None
+  pub image : (cause : ImageCause) → IsImageCause s file cause → ⊥
+
+-- the words name these instructions of the image. Where it is refused, or the settings are, nothing is said
+abbrev pub IsAssumed : List (List ℕ) → HuntSettings → List ℕ → List ℕ → Type 0
+IsAssumed words s file pcs = IsTaken s file → AreInstructions file (image_of s.format file s.pages).code words [] pcs
+
+-- one of the words names none, where the settings and the image are taken, or memory was refused
+abbrev pub IsUnplaced : List (List ℕ) → HuntSettings → List ℕ → FencesFailure → Type 0
+IsUnplaced words s file failure =
+    IsOutOfMemory failure ⊎ (IsTaken s file × IsMisplaced file (image_of s.format file s.pages).code words failure)

@@ -1,0 +1,41 @@
+-- The files that executions are kept in. `given` says that of two states of the files the one is the other, but that the file of a path
+-- was given a text.
+use Rattle.std.specs.Prelude.{◌≡◌, ◌⊎◌, ℕ, ◌+◌, List, [], ◌∷◌, ◌++◌, codes, Option, Some, None, string_bytes}
+use Rattle.std.specs.Fmt.{decimal}
+use Rattle.execution_file.specs.Grammar.{execution}
+use Rattle.execution_file.specs.Recorded.{Recorded}
+use Rattle.weak_commands.specs.Places.{IsOutOfMemory}
+use Rattle.weak_commands.specs.declared.failure.FencesFailure.{FencesFailure}
+use Rattle.weak_commands.specs.declared.failure.FencesFailure.TheVariants.{Accept, Hunt, NoPlace, Unwritten}
+
+-- the file of a number in a folder
+abbrev pub path_in : List ℕ → ℕ → List ℕ
+path_in folder number = folder ++ (codes "/" ++ (decimal number ++ codes ".execution"))
+
+-- the files of numbers n, n + 1, .. in a folder were given these executions, one after the other, and nothing else was written
+abbrev pub AreGiven : {X : Type 0} → (X → X → List ℕ → List ℕ → Type 0) → List ℕ → ℕ → List Recorded → X → X → Type 0
+AreGiven given folder n [] before after = after ≡ before
+AreGiven {X} given folder n (e ∷ es) before after =
+    (between : X) × given before between (path_in folder n) (execution.spelled e) × AreGiven given folder (n + 1) es between after
+
+-- the executions were kept in files of a folder, from 1 on, once it was made; where there is no folder to keep them in, or none of them,
+-- the files are as they were
+abbrev pub AreSaved : {X : Type 0} → (X → X → List ℕ → List ℕ → Type 0) → Option (List ℕ) → List Recorded → X → X → Type 0
+AreSaved given None es before after = after ≡ before
+AreSaved given (Some folder) [] before after = after ≡ before
+AreSaved {X} given (Some folder) (e ∷ es) before after = (made : X) × AreGiven given folder 1 (e ∷ es) made after
+
+-- a file of the folder couldn't be made or written
+abbrev pub IsUnwrittenIn : List ℕ → FencesFailure → Type 0
+IsUnwrittenIn folder (Hunt failure) = ⊥
+IsUnwrittenIn folder (Accept error) = ⊥
+IsUnwrittenIn folder (NoPlace word why) = ⊥
+IsUnwrittenIn folder (Unwritten path) = (number : ℕ) × (string_bytes path ≡ path_in folder number)
+
+-- that, or memory was refused
+abbrev pub IsUnsaved : List ℕ → FencesFailure → Type 0
+IsUnsaved folder failure = IsOutOfMemory failure ⊎ IsUnwrittenIn folder failure
+
+abbrev pub IsUnsavedIn : Option (List ℕ) → FencesFailure → Type 0
+IsUnsavedIn None failure = ⊥
+IsUnsavedIn (Some folder) failure = IsUnsaved folder failure

@@ -1,0 +1,152 @@
+ghost use Rattle.std.specs.Prelude.{◌≡◌, ◌⊎◌, ◌++◌, IfErr, IfOk, OnErr};
+ghost use Rattle.weak_commands.specs.AskedExecutions.{AskedExecution, EndsExecution, IsAskedFile, IsNumbered, IsRun, IsRunOf, RefusedNumber, number_of};
+ghost use Rattle.execution_file.specs.Grammar.{execution};
+ghost use Rattle.execution_file.specs.Views.{as_recorded};
+ghost use Rattle.host_io.specs.Taken.{BeganText};
+ghost use Rattle.hunt_commands.specs.Asked.{IsFileEnd};
+ghost use Rattle.program_files.specs.Asked.{RefusedRun, RefusedSetRun};
+ghost use Rattle.program_files.specs.Failures.{IsFileFailure};
+ghost use Rattle.program_files.specs.declared.exit_status.ExitStatus.TheVariants as statuses;
+
+use crate::makers::WeakExecutions;
+use command_line::{Execution, Run};
+use execution_scripts::{ExecutionFile, execution_of_run, write_execution};
+use hunt_commands::{HuntFailure, program_settings};
+use machine::Observer;
+use program_files::{
+    ExitStatus, Files, Output, ProgressLine, RunFailure, RunFiles, read_program, read_run,
+    settings_of,
+};
+use std::alloc::Global;
+use std::sync::Wait;
+use std::thread::Threads;
+
+/// Prints an execution of a guest program: that of a number, in which loads come early and stores late, or a run.
+///
+/// # Errors
+///
+/// `Run` where a file can't be read or the output can't be written, and where a run is refused; `Refused` where the execution of a number
+/// is, for the settings and then for the image, or isn't confirmed; the refusal of memory at any time.
+pub fn execution_command<
+    F: Files,
+    O: Output,
+    W: WeakExecutions,
+    P: Observer + ProgressLine,
+    R: Threads + Wait + Sync,
+>(
+    threads: &R,
+    alloc: Global,
+    files: &F,
+    weakly: &W,
+    asked: &Execution<'_>,
+    progress: &mut P,
+    out: &mut O,
+) -> Result<ExitStatus, HuntFailure>
+    // All that was printed is the text of the execution that the line asks for.
+    ensures prints { IfOk result (λ status. (a : AskedExecution (F.holds files.now) (F.begins files.now) W.makes asked.now) ×
+        (O.took out.new ≡ O.took out.old ++ execution.spelled a.file) × O.is_out out.new × (status ≡ statuses.Done)) }
+    // Else nothing was printed, or a beginning of that.
+    ensures begun { OnErr result ((O.took out.new ≡ O.took out.old) ⊎
+        ((a : AskedExecution (F.holds files.now) (F.begins files.now) W.makes asked.now) ×
+        BeganText (O.took out.old) (O.took out.new) (execution.spelled a.file))) }
+    ensures errors { IfErr result (EndsExecution (F.holds files.now) (F.begins files.now) asked.now) }
+{
+    let file = asked_execution(threads, alloc, files, weakly, asked, progress)?;
+    write_execution(alloc, &file, out)?;
+    out.hand_on()?;
+    Ok(ExitStatus::Done)
+}
+
+/// The execution that the line asks for.
+fn asked_execution<
+    F: Files,
+    W: WeakExecutions,
+    P: Observer + ProgressLine,
+    R: Threads + Wait + Sync,
+>(
+    threads: &R,
+    alloc: Global,
+    files: &F,
+    weakly: &W,
+    asked: &Execution<'_>,
+    progress: &mut P,
+) -> Result<ExecutionFile, HuntFailure>
+    ensures asked { IfOk result (λ f. IsAskedFile (F.holds files.now) (F.begins files.now) W.makes asked.now (as_recorded f)) }
+    ensures errors { IfErr result (EndsExecution (F.holds files.now) (F.begins files.now) asked.now) }
+{
+    match number_of(asked) {
+        Some(number) => numbered_execution(alloc, files, weakly, asked, number),
+        None => Ok(run_as_execution(threads, alloc, files, &asked.run, progress)?),
+    }
+}
+
+/// The number of the execution that the line asks for; none where it asks for a run.
+fn number_of(asked: &Execution<'_>) -> Option<u32>
+    ensures { result ≡ number_of asked.now.weak asked.now.run.plan.number }
+{
+    if asked.weak {
+        asked.run.plan.number
+    } else {
+        None
+    }
+}
+
+/// The execution of a number of the guest program, of as many steps at most as the line says.
+fn numbered_execution<F: Files, W: WeakExecutions>(
+    alloc: Global,
+    files: &F,
+    weakly: &W,
+    asked: &Execution<'_>,
+    number: u32,
+) -> Result<ExecutionFile, HuntFailure>
+    ensures numbered { IfOk result (λ f. IsNumbered (F.holds files.now) (F.begins files.now) W.makes asked.now.run asked.now.steps number
+        (as_recorded f)) }
+    ensures errors { IfErr result (λ f. IsFileEnd f ⊎ RefusedNumber (F.holds files.now) (F.begins files.now) asked.now.run number f) }
+{
+    let program = &asked.run.program;
+    let given = read_program(files, alloc, program)?;
+    let settings = program_settings(alloc, program, asked.run.plan.seed);
+    let (image, input) = (given.image.as_slice(), given.input.as_slice());
+    Ok(weakly.execute_weakly(alloc, image, input, &settings, asked.steps, number)?)
+}
+
+/// Runs the guest program, and gives the run as an execution.
+fn run_as_execution<F: Files, P: Observer + ProgressLine, R: Threads + Wait + Sync>(
+    threads: &R,
+    alloc: Global,
+    files: &F,
+    run: &Run<'_>,
+    progress: &mut P,
+) -> Result<ExecutionFile, RunFailure>
+    ensures run { IfOk result (λ f. IsRun (F.holds files.now) (F.begins files.now) run.now (as_recorded f)) }
+    ensures errors { IfErr result (λ f. IsFileFailure f ⊎ RefusedRun (F.holds files.now) (F.begins files.now) run.now f) }
+{
+    let given = read_run(files, alloc, run)?;
+    run_given(threads, alloc, &given, run, progress)
+}
+
+/// Does the same with what the files gave.
+fn run_given<P: Observer + ProgressLine, R: Threads + Wait + Sync>(
+    threads: &R,
+    alloc: Global,
+    given: &RunFiles,
+    run: &Run<'_>,
+    progress: &mut P,
+) -> Result<ExecutionFile, RunFailure>
+    ensures run { IfOk result (λ f. IsRunOf run.now.program given.now.plan.text.items given.now.plan.budget
+        given.now.program.image.items given.now.program.input.items (as_recorded f)) }
+    ensures errors { IfErr result (RefusedSetRun run.now.program given.now.plan.text.items given.now.plan.budget
+        given.now.program.image.items) }
+{
+    let settings = settings_of(&run.program, &given.plan);
+    let made = execution_of_run(
+        threads,
+        alloc,
+        &given.program.image,
+        &given.program.input,
+        &settings,
+        progress,
+    );
+    progress.end();
+    given.plan.explain(alloc, settings.harts, made)
+}

@@ -1,0 +1,147 @@
+ghost use Rattle.std.specs.Prelude.{◌≡◌, ◌⊎◌, ◌++◌, IfErr, IfOk, None, OnErr, map, option_map};
+ghost use Rattle.execution_file.specs.Views.{as_recorded};
+ghost use Rattle.weak_commands.specs.Asked.{AskedSearch, EndsFences, IsSearchEnd, IsWorldEnd, SetSearch, keep_of};
+ghost use Rattle.weak_commands.specs.Saved.{AreSaved};
+ghost use Rattle.weak_commands.specs.Status.{fences_status};
+ghost use Rattle.fence_table.specs.Text.{fences_text};
+ghost use Rattle.host_io.specs.Taken.{BeganText};
+ghost use Rattle.program_files.specs.Asked.{IsInputOf};
+ghost use Rattle.program_files.specs.Failures.{IsFileFailure};
+
+use crate::failure::FencesFailure;
+use crate::keeping::keep;
+use crate::places::instructions_of;
+use crate::searches::FenceSearches;
+use crate::status::fences_status;
+use crate::telling::{tell_missing, tell_running};
+use command_line::Fences;
+use fence_finder::{FenceObserver, FenceSettings, FoundFences};
+use fence_table::Accepted;
+use hunt_commands::{named_in, refused_for, settings_of};
+use program_files::{
+    ExitStatus, Files, Messages, NamedBytes, Output, ProgramFiles, ProgressLine, RunFailure,
+    read_file, read_program,
+};
+use std::alloc::Global;
+use std::sync::Wait;
+use std::thread::Threads;
+
+/// Makes executions of a guest program, and prints at which places fences are missing, as some of these executions show. Those are written
+/// to files of a folder, where the line names one. Standard error says for each missing fence the line that writes its execution.
+///
+/// # Errors
+///
+/// `Hunt` where a file can't be read; `Accept` for the list of places that are accepted; `Hunt` for the settings, then `NoPlace` for the
+/// first word that names no instruction of an image that is taken; `Hunt` for the image, for bytes that can't be looked at, and for an
+/// execution that isn't confirmed; then `Unwritten`, and `Hunt` where the output can't be written; the refusal of memory at any time.
+pub fn fences_command<
+    F: Files,
+    O: Output,
+    M: Messages,
+    W: FenceSearches,
+    P: FenceObserver + ProgressLine,
+    R: Threads + Wait + Sync,
+>(
+    threads: &R,
+    alloc: Global,
+    files: &mut F,
+    searcher: &W,
+    asked: &Fences<'_>,
+    progress: &mut P,
+    out: &mut O,
+    messages: &M,
+) -> Result<ExitStatus, FencesFailure>
+    // All that was printed is the table of the search that the line asks for, of which the status is, and the executions that it keeps were
+    // written to the files of the folder that the line names.
+    ensures searches { IfOk result (λ status. (a : AskedSearch (F.holds files.old) (F.begins files.old) W.finds asked.now) ×
+        (O.took out.new ≡ O.took out.old ++ fences_text a.made.table) × O.is_out out.new ×
+        (status ≡ fences_status asked.now.fail_on a.made.table) ×
+        AreSaved F.was_given (keep_of asked.now) (map as_recorded a.made.executions) files.old files.new) }
+    // Else nothing was printed, or a beginning of such a table.
+    ensures begun { OnErr result ((O.took out.new ≡ O.took out.old) ⊎
+        ((a : AskedSearch (F.holds files.old) (F.begins files.old) W.finds asked.now) ×
+        BeganText (O.took out.old) (O.took out.new) (fences_text a.made.table))) }
+    // Where the line names no folder, no file was written.
+    ensures unasked { asked.now.keep ≡ None → files.new ≡ files.old }
+    ensures errors { IfErr result (EndsFences (F.holds files.old) (F.begins files.old) asked.now) }
+{
+    let given = read_program(files, alloc, &asked.search.program)?;
+    let list = read_list(files, alloc, asked.accept)?;
+    let found = search_given(
+        threads, alloc, searcher, &given, &list, asked, progress, out, messages,
+    )?;
+    keep(files, alloc, asked.keep, &found.executions)?;
+    out.hand_on()?;
+    // What was asked for is out.
+    let _untold = tell_missing(alloc, asked, &found.table.missing, messages);
+    tell_running(asked, &found.table, messages);
+    Ok(fences_status(asked.fail_on, &found.table))
+}
+
+/// The text of the list of places that are accepted; without a file it is empty.
+fn read_list<F: Files>(files: &F, alloc: Global, path: Option<&str>) -> Result<Vec<u8>, RunFailure>
+    ensures list { IfOk result (λ bytes. IsInputOf (F.holds files.now) (option_map (λ s. s.now) path.entry) bytes.items) }
+    ensures errors { IfErr result IsFileFailure }
+{
+    match path {
+        Some(path) => read_file(files, alloc, path),
+        None => Ok(Vec::new(alloc)),
+    }
+}
+
+/// Searches in what the files gave, and prints the table.
+fn search_given<
+    O: Output,
+    M: Messages,
+    W: FenceSearches,
+    P: FenceObserver + ProgressLine,
+    R: Threads + Wait + Sync,
+>(
+    threads: &R,
+    alloc: Global,
+    searcher: &W,
+    files: &ProgramFiles,
+    list: &[u8],
+    asked: &Fences<'_>,
+    progress: &mut P,
+    out: &mut O,
+    messages: &M,
+) -> Result<FoundFences, FencesFailure>
+    ensures searches { IfOk result (λ f. (s : SetSearch W.finds asked.now list.now files.now.image.items files.now.input.items) ×
+        (O.took out.new ≡ O.took out.old ++ fences_text s.table) × (f.table ≡ s.table) × (f.executions.items ≡ s.executions)) }
+    ensures begun { OnErr result ((O.took out.new ≡ O.took out.old) ⊎
+        ((s : SetSearch W.finds asked.now list.now files.now.image.items files.now.input.items) ×
+        BeganText (O.took out.old) (O.took out.new) (fences_text s.table))) }
+    ensures errors { IfErr result (IsSearchEnd asked.now list.now files.now.image.items) }
+{
+    let accepted = Accepted::read(alloc, list)?;
+    let NamedBytes { bytes, fault } = named_in(alloc, &asked.search, files)?;
+    let hunt = settings_of(
+        alloc,
+        &asked.search,
+        &bytes,
+        asked.first,
+        asked.plans,
+        false,
+    )?;
+    let assumed = instructions_of(alloc, &asked.as_if_fence, &hunt, &files.image, messages)?;
+    let settings = FenceSettings {
+        hunt,
+        steps: asked.steps,
+        assumed,
+        accepted,
+        keeps: asked.keep.is_some(),
+    };
+    match fault {
+        Some(fault) => {
+            let hunt = &settings.hunt;
+            Err(FencesFailure::Hunt(refused_for(alloc, &files.image, hunt, fault)))
+        }
+        None => {
+            let (image, input) = (files.image.as_slice(), files.input.as_slice());
+            let answer = searcher.search(threads, alloc, image, input, settings, progress, out);
+            progress.end();
+            Ok(answer?)
+        }
+    }
+}

@@ -1,0 +1,110 @@
+//! Executions that a search for missing fences shows, in files.
+ghost use Rattle.std.specs.Prelude.{◌≡◌, IfErr, IfOk, None, OnOk, Some, map, option_map, string_bytes};
+ghost use Rattle.execution_file.specs.Grammar.{execution};
+ghost use Rattle.execution_file.specs.Views.{as_recorded};
+ghost use Rattle.weak_commands.specs.Saved.{AreGiven, AreSaved, IsUnsaved, IsUnsavedIn, path_in};
+
+use crate::failure::FencesFailure;
+use execution_scripts::{ExecutionFile, write_execution};
+use host_io::{RunError, Sink};
+use program_files::{FileText, Files};
+use std::alloc::{AllocError, Global};
+
+/// An execution, as the text of a file.
+#[derive(Drop)]
+struct ExecutionText<'a> {
+    file: &'a ExecutionFile,
+}
+
+impl FileText for ExecutionText<'_> {
+    ghost text = { λ t. execution.spelled (as_recorded t.file.now) };
+
+    fn write_to<S: Sink>(&self, alloc: Global, out: &mut S) -> Result<(), RunError> {
+        write_execution(alloc, self.file, out)
+    }
+}
+
+/// Writes executions to files of a folder, if there is one to keep them in: the first one to `1.execution`, and so on. The folder is made
+/// where there is none.
+///
+/// # Errors
+///
+/// `Unwritten` with the path of the first file that can't be made or written, and the refusal of memory.
+pub(crate) fn keep<F: Files>(
+    files: &mut F,
+    alloc: Global,
+    folder: Option<&str>,
+    executions: &[ExecutionFile],
+) -> Result<(), FencesFailure>
+    ensures saved { OnOk result (AreSaved F.was_given (option_map (λ s. s.now) folder.entry) (map as_recorded executions.now) files.old files.new) }
+    ensures unasked { folder.entry ≡ None → files.new ≡ files.old }
+    ensures errors { IfErr result (IsUnsavedIn (option_map (λ s. s.now) folder.entry)) }
+{
+    match folder {
+        Some(folder) => keep_in(files, alloc, folder, executions),
+        None => Ok(()),
+    }
+}
+
+/// The same in a folder.
+fn keep_in<F: Files>(
+    files: &mut F,
+    alloc: Global,
+    folder: &str,
+    executions: &[ExecutionFile],
+) -> Result<(), FencesFailure>
+    ensures saved { OnOk result (AreSaved F.was_given (Some folder.now) (map as_recorded executions.now) files.old files.new) }
+    ensures errors { IfErr result (IsUnsaved folder.now) }
+{
+    if executions.is_empty() {
+        return Ok(());
+    }
+    files.make_folder(folder);
+    put_each(files, alloc, folder, executions)
+}
+
+/// Writes executions to files of a folder.
+fn put_each<F: Files>(
+    files: &mut F,
+    alloc: Global,
+    folder: &str,
+    executions: &[ExecutionFile],
+) -> Result<(), FencesFailure>
+    ensures given { OnOk result (AreGiven F.was_given folder.now 1 (map as_recorded executions.now) files.old files.new) }
+    ensures errors { IfErr result (IsUnsaved folder.now) }
+{
+    for index in 0..executions.len() {
+        put(files, alloc, folder, index + 1, &executions[index])?;
+    }
+    Ok(())
+}
+
+/// Writes the execution of a number to its file.
+fn put<F: Files>(
+    files: &mut F,
+    alloc: Global,
+    folder: &str,
+    number: usize,
+    file: &ExecutionFile,
+) -> Result<(), FencesFailure>
+    ensures given { OnOk result (F.was_given files.old files.new (path_in folder.now number) (execution.spelled (as_recorded file.now))) }
+    ensures errors { IfErr result (IsUnsaved folder.now) }
+{
+    let path = path_of(alloc, folder, number)?;
+    if folder.is_empty() {
+        // The path is one in the root folder, which nobody asked for.
+        return Err(FencesFailure::Unwritten(path));
+    }
+    match files.overwrite(&path, &ExecutionText { file }) {
+        Ok(()) => Ok(()),
+        Err(RunError::OutOfMemory) => Err(FencesFailure::from(RunError::OutOfMemory)),
+        Err(_) => Err(FencesFailure::Unwritten(path)),
+    }
+}
+
+/// The path of the file of a number in a folder.
+fn path_of(alloc: Global, folder: &str, number: usize) -> Result<String, AllocError>
+    ensures { IfOk result (λ path. string_bytes path ≡ path_in folder.now number) }
+{
+    format!(in alloc; "{folder}/{number}.execution")
+}

@@ -1,0 +1,20 @@
+//! The commands about executions that RVWMO allows and no run of rounds shows: `execution` prints one, and `fences` looks for the fences that
+//! a guest program lacks.
+#![tactic(auto)]
+
+mod executing;
+mod failure;
+mod fences;
+mod keeping;
+mod makers;
+mod places;
+mod searches;
+mod status;
+mod telling;
+
+pub use executing::execution_command;
+pub use failure::FencesFailure;
+pub use fences::fences_command;
+pub use makers::{WeakExecuter, WeakExecutions};
+pub use places::Misplaced;
+pub use searches::{FenceSearcher, FenceSearches};
