@@ -1,5 +1,5 @@
 /// What a command line asks for.
-#[derive(PartialEq, Eq, Drop)]
+#[derive(Drop)]
 pub enum Command<'a> {
     /// `run IMAGE`: run a guest program, and print what is asked for.
     Run(Print<'a>),
@@ -36,7 +36,7 @@ pub enum Command<'a> {
 }
 
 /// A guest program, and what it is run with. The numbers are as they were given: their ranges are not tested here.
-#[derive(Clone, Copy, PartialEq, Eq, Drop)]
+#[derive(Clone, Copy, Drop)]
 pub struct Program<'a> {
     /// The path of the image.
     pub image: &'a str,
@@ -57,7 +57,7 @@ pub struct Program<'a> {
 }
 
 /// Which plan a run goes by.
-#[derive(Clone, Copy, PartialEq, Eq, Drop)]
+#[derive(Clone, Copy, Drop)]
 pub struct PlanChoice<'a> {
     /// The plan's one row, where no file has the plan.
     pub quota: &'a str,
@@ -74,7 +74,7 @@ pub struct PlanChoice<'a> {
 }
 
 /// One run: the words after `order` and `trace`, and a part of those after `run`, `record`, `draw` and `execution`.
-#[derive(Clone, Copy, PartialEq, Eq, Drop)]
+#[derive(Clone, Copy, Drop)]
 pub struct Run<'a> {
     /// The program that is run.
     pub program: Program<'a>,
@@ -94,7 +94,7 @@ pub enum Shown {
 }
 
 /// The words after `run`.
-#[derive(Clone, Copy, PartialEq, Eq, Drop)]
+#[derive(Clone, Copy, Drop)]
 pub struct Print<'a> {
     /// The run.
     pub run: Run<'a>,
@@ -107,7 +107,7 @@ pub struct Print<'a> {
 }
 
 /// The words after `record`.
-#[derive(Clone, Copy, PartialEq, Eq, Drop)]
+#[derive(Clone, Copy, Drop)]
 pub struct Record<'a> {
     /// The run to record.
     pub run: Run<'a>,
@@ -118,7 +118,7 @@ pub struct Record<'a> {
 }
 
 /// The words after `replay`.
-#[derive(PartialEq, Eq, Drop)]
+#[derive(Drop)]
 pub struct Replay<'a> {
     /// The path of the recording.
     pub recording: &'a str,
@@ -156,7 +156,7 @@ pub struct Replay<'a> {
 }
 
 /// The words after `watch`.
-#[derive(PartialEq, Eq, Drop)]
+#[derive(Drop)]
 pub struct Watch<'a> {
     /// The path of the recording.
     pub recording: &'a str,
@@ -185,7 +185,7 @@ pub struct Watch<'a> {
 }
 
 /// The words after `migrate`.
-#[derive(Clone, Copy, PartialEq, Eq, Drop)]
+#[derive(Clone, Copy, Drop)]
 pub struct Migrate<'a> {
     /// The path of the recording that is read.
     pub recording: &'a str,
@@ -194,14 +194,14 @@ pub struct Migrate<'a> {
 }
 
 /// The words after `gdb`.
-#[derive(Clone, Copy, PartialEq, Eq, Drop)]
+#[derive(Clone, Copy, Drop)]
 pub struct Gdb<'a> {
     /// The path of the recording.
     pub recording: &'a str,
 }
 
 /// The words after `execution`.
-#[derive(Clone, Copy, PartialEq, Eq, Drop)]
+#[derive(Clone, Copy, Drop)]
 pub struct Execution<'a> {
     /// The run.
     pub run: Run<'a>,
@@ -212,14 +212,14 @@ pub struct Execution<'a> {
 }
 
 /// The words after `check`.
-#[derive(Clone, Copy, PartialEq, Eq, Drop)]
+#[derive(Clone, Copy, Drop)]
 pub struct Check<'a> {
     /// The path of the execution.
     pub file: &'a str,
 }
 
 /// A range of bytes in guest memory: the two words after `--see`.
-#[derive(Clone, Copy, PartialEq, Eq, Drop)]
+#[derive(Clone, Copy, Drop)]
 pub struct Bytes {
     /// The address of the first byte.
     pub address: u64,
@@ -228,7 +228,7 @@ pub struct Bytes {
 }
 
 /// Runs of a program by plans of a family: a part of the words after `hunt`, `shrink` and `fences`.
-#[derive(PartialEq, Eq, Drop)]
+#[derive(Drop)]
 pub struct Search<'a> {
     /// The program that is run.
     pub program: Program<'a>,
@@ -241,7 +241,7 @@ pub struct Search<'a> {
 }
 
 /// Which tables of a hunt give another exit status.
-#[derive(Clone, Copy, PartialEq, Eq, Drop)]
+#[derive(Clone, Copy, Drop)]
 pub enum FailOn {
     /// Those with more endings than one, or with one in which a hart didn't exit.
     Differ,
@@ -252,7 +252,7 @@ pub enum FailOn {
 }
 
 /// The words after `hunt`.
-#[derive(PartialEq, Eq, Drop)]
+#[derive(Drop)]
 pub struct Hunt<'a> {
     /// The runs.
     pub search: Search<'a>,
@@ -269,7 +269,7 @@ pub struct Hunt<'a> {
 }
 
 /// Which tables of missing fences give another exit status.
-#[derive(Clone, Copy, PartialEq, Eq, Drop)]
+#[derive(Clone, Copy, Drop)]
 pub enum FencesFailOn {
     /// Those with a missing fence, and those with an ordinary run that failed.
     Missing,
@@ -278,7 +278,7 @@ pub enum FencesFailOn {
 }
 
 /// The words after `fences`.
-#[derive(PartialEq, Eq, Drop)]
+#[derive(Drop)]
 pub struct Fences<'a> {
     /// The executions.
     pub search: Search<'a>,
@@ -299,7 +299,7 @@ pub struct Fences<'a> {
 }
 
 /// The words after `shrink`.
-#[derive(PartialEq, Eq, Drop)]
+#[derive(Drop)]
 pub struct Shrink<'a> {
     /// The runs.
     pub search: Search<'a>,
@@ -308,14 +308,14 @@ pub struct Shrink<'a> {
 }
 
 /// The words after `merge`.
-#[derive(PartialEq, Eq, Drop)]
+#[derive(Drop)]
 pub struct Merge<'a> {
     /// The paths of the tables, in the order of the line.
     pub tables: Vec<&'a str>,
 }
 
 /// The words after `plan`.
-#[derive(Clone, Copy, PartialEq, Eq, Drop)]
+#[derive(Clone, Copy, Drop)]
 pub struct Plan {
     /// The number of the plan.
     pub number: u32,
@@ -326,7 +326,7 @@ pub struct Plan {
 }
 
 /// The words after `draw`.
-#[derive(PartialEq, Eq, Drop)]
+#[derive(Drop)]
 pub struct Draw<'a> {
     /// The run to draw.
     pub run: Run<'a>,
