@@ -4,8 +4,7 @@ use crate::doubleword::shift_of;
 use crate::serving::{lay, serve_next};
 use hart_step::{Buffered, Hart, step};
 use pages::{OutOfMemory, Pages, Store, Width};
-use reservations::Reservations;
-use round_schedule::{MOST_HARTS, Stepped};
+use round_schedule::{MOST_HARTS, Reservations, Stepped};
 use rv64_decode::{Instr, decode};
 use serial_phase::SharedState;
 

@@ -4,7 +4,7 @@ ghost use Rattle.round_schedule.specs.Held.{unless};
 ghost use Rattle.round_schedule.specs.Reservations.{entry};
 ghost use Rattle.store_buffer.specs.Covered.{stores_of};
 
-use reservations::Reservations;
+use round_schedule::Reservations;
 use store_buffer::StoreBuffer;
 
 /// Breaks the reservations of other harts of which the buffer has a byte, if there are some.

@@ -7,8 +7,7 @@ use crate::buffer::break_others;
 use crate::buffered::Buffered;
 use crate::shard::write_all;
 use pages::Pages;
-use reservations::Reservations;
-use round_schedule::MOST_HARTS;
+use round_schedule::{MOST_HARTS, Reservations};
 
 /// Commits the buffers of all harts in hart order: each byte of memory that one of them has is that of the last that has it,
 /// and the reservations of which the buffer of another hart has a byte are gone. Takes no memory.

@@ -7,8 +7,7 @@ use crate::gate::ShardGate;
 use crate::in_turn::break_all;
 use crate::shard::write_all;
 use pages::{MOST_PAGES, Pages, Part};
-use reservations::Reservations;
-use round_schedule::{MOST_HARTS, MOST_WORKERS};
+use round_schedule::{MOST_HARTS, MOST_WORKERS, Reservations};
 use std::thread::{Threads, for_each_chunk_mut, for_each_mut, join_mut};
 
 /// Does what `commit` does, with so many workers.

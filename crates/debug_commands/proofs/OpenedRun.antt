@@ -14,8 +14,8 @@ use Rattle.recording.specs.Recorded.{Recorded}
 use Rattle.replayer.specs.Refusals.{HasImage, HasImageCause, HasPlanCause, HasReason}
 use Rattle.replayer.specs.Replayed.{IsPlanFor, format_of, start_of}
 use Rattle.round_planner.specs.Quotas.{Planned}
-use Rattle.run_settings.specs.Settings.{IsImage, IsImageCause, IsPlan, IsPlanCause, IsReason, RefusedAs, RefusedInOrder, image_for, settings_fault}
-use Rattle.run_settings.specs.declared.settings.Settings.{Settings}
+use Rattle.round_planner.specs.Settings.{IsImage, IsImageCause, IsPlan, IsPlanCause, IsReason, RefusedAs, RefusedInOrder, image_for, settings_fault}
+use Rattle.round_planner.specs.declared.settings.Settings.{Settings}
 
 -- the settings are those of a recording's run
 pub record HasSettings (r : Recorded) (s : Settings) : Type 0 where

@@ -4,7 +4,7 @@ use mathlib.Core.Path.{fun_ext}
 use Rattle.round_schedule.specs.declared.event.Event.{Event}
 use Rattle.hart_step.specs.declared.hart.Hart.{Hart}
 use Rattle.machine.specs.Machine.{Running, after_rounds}
-use Rattle.run_settings.specs.declared.settings.Settings.{Settings}
+use Rattle.round_planner.specs.declared.settings.Settings.{Settings}
 use Rattle.picture.specs.declared.view.View.{View}
 use Rattle.picture.specs.Picture.{Drawn}
 use Rattle.picture.specs.Rows.{events_shown}

@@ -2,7 +2,7 @@
 use Rattle.std.proofs.Common.{◌≡◌, ℕ, zero, suc, ◌+◌, ◌<◌, List, [], ◌∷◌, ◌++◌, length, get_or, map, take, Option, option_map, refl, ap, ◌∙◌, arith}
 use Rattle.std.proofs.lemmas.List.{get_or-map, map-append}
 use Rattle.round_schedule.specs.declared.event.Event.{Event}
-use Rattle.run_settings.specs.declared.settings.Format.{Format}
+use Rattle.round_planner.specs.declared.settings.Format.{Format}
 use Rattle.elf_loader.specs.Offsets.{NamedOffset, as_offset}
 use Rattle.picture.specs.Titles.{Told, told}
 use Rattle.picture.specs.declared.site.Site.{Site}

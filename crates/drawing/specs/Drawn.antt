@@ -11,10 +11,10 @@ use Rattle.picture.specs.declared.view.View.{View}
 use Rattle.trace_events.specs.TraceEvents.{trace_events_text}
 use Rattle.machine.specs.Machine.{Running, after_rounds, opening}
 use Rattle.machine.specs.Runs.{after_run}
-use Rattle.run_settings.specs.Settings.{IsPlan, image_for}
-use Rattle.run_settings.specs.declared.settings.Format.{Format}
-use Rattle.run_settings.specs.declared.settings.Format.TheVariants.{Elf, Flat}
-use Rattle.run_settings.specs.declared.settings.Settings.{Settings}
+use Rattle.round_planner.specs.Settings.{IsPlan, image_for}
+use Rattle.round_planner.specs.declared.settings.Format.{Format}
+use Rattle.round_planner.specs.declared.settings.Format.TheVariants.{Elf, Flat}
+use Rattle.round_planner.specs.declared.settings.Settings.{Settings}
 use Rattle.run_events.specs.Pcs.{pc_before}
 
 -- ---- what is drawn

@@ -5,7 +5,7 @@ ghost use Rattle.machine.specs.Machine.{Running};
 ghost use Rattle.machine.specs.Untraced.{IsUntraced, Untraced};
 ghost use Rattle.machine.specs.Walks.{HasSeenAll};
 ghost use Rattle.round_schedule.specs.Bounds.{AreWorkers};
-ghost use Rattle.run_settings.specs.Settings.{IsReason, RefusedInOrder, settings_fault};
+ghost use Rattle.round_planner.specs.Settings.{IsReason, RefusedInOrder, settings_fault};
 ghost use Rattle.drawing.specs.Drawn.{IsPictureOfRun, before_drawn, last_drawn, picture_of};
 ghost use Rattle.drawing.specs.DrawnRounds.{HasDrawnAll};
 ghost use Rattle.host_io.specs.Writes.{IsFaultOr, WritesAnswer};

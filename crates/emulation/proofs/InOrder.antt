@@ -1,8 +1,8 @@
 -- The order of refusals, where only the answer is another.
 use Rattle.std.proofs.Common.{◌≡◌, Err, List, Ok, Result, ap, inl, inr, ℕ, ⊎_elim}
 use Rattle.host_io.specs.declared.error.RunError.{RunError}
-use Rattle.run_settings.specs.Settings.{RefusedInOrder}
-use Rattle.run_settings.specs.declared.settings.Settings.{Settings}
+use Rattle.round_planner.specs.Settings.{RefusedInOrder}
+use Rattle.round_planner.specs.declared.settings.Settings.{Settings}
 
 as_refused : {X Y : Type 0} (s : Settings) (file : List ℕ) (r : Result X RunError) (r' : Result Y RunError) → ((e : RunError) → r ≡ Err e → r' ≡ Err e) →
     RefusedInOrder s file r → RefusedInOrder s file r'

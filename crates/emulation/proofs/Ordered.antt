@@ -8,9 +8,9 @@ use Rattle.memory_order.specs.RoundOrder.{IsRoundOrder}
 use Rattle.memory_order.specs.Rvwmo.{MeetsRvwmo}
 use Rattle.memory_order.proofs.Meeting.{meets_rvwmo}
 use Rattle.emulation.specs.OrderedRun.{IsOrderOfRun}
-use Rattle.run_settings.specs.Settings.{IsPlan, image_for}
+use Rattle.round_planner.specs.Settings.{IsPlan, image_for}
 use Rattle.machine.specs.Runs.{trace_after}
-use Rattle.run_settings.specs.declared.settings.Settings.{Settings}
+use Rattle.round_planner.specs.declared.settings.Settings.{Settings}
 
 source_same : (t : List Event) (f g : ℕ → ℕ) → ((x : ℕ) → f x ≡ g x) → (x : ℕ) (s : Option ℕ) → source_byte t f x s ≡ source_byte t g x s
 source_same t f g e x None = e x

@@ -4,9 +4,9 @@ use Rattle.round_planner.specs.Quotas.{Planned}
 use Rattle.memory_order.specs.RoundOrder.{IsRoundOrder}
 use Rattle.memory_order.specs.Rvwmo.{MeetsRvwmo}
 use Rattle.report.specs.Order.{order_text}
-use Rattle.run_settings.specs.Settings.{IsPlan, image_for}
+use Rattle.round_planner.specs.Settings.{IsPlan, image_for}
 use Rattle.machine.specs.Runs.{trace_after}
-use Rattle.run_settings.specs.declared.settings.Settings.{Settings}
+use Rattle.round_planner.specs.declared.settings.Settings.{Settings}
 
 -- the indices of the run's memory operations in the order by rounds, which meets RVWMO over the bytes of the image
 pub record IsOrderOfRun (s : Settings) (file input : List ℕ) (plan : Planned) (indices : List ℕ) : Type 0 where

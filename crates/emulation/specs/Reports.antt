@@ -3,8 +3,8 @@ use Rattle.std.specs.Prelude.{◌≡◌, ℕ, List}
 use Rattle.round_planner.specs.Quotas.{Planned}
 use Rattle.report.specs.Report.{report_of}
 use Rattle.machine.specs.Runs.{after_run}
-use Rattle.run_settings.specs.Settings.{IsPlan}
-use Rattle.run_settings.specs.declared.settings.Settings.{Settings}
+use Rattle.round_planner.specs.Settings.{IsPlan}
+use Rattle.round_planner.specs.declared.settings.Settings.{Settings}
 use Rattle.emulation.specs.Showing.{end_of}
 use Rattle.emulation.specs.declared.run_end.RunEnd.{RunEnd}
 

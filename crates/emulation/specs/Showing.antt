@@ -8,8 +8,8 @@ use Rattle.hart_step.specs.Console.{ConsoleState}
 use Rattle.machine.specs.Runs.{after_run}
 use Rattle.report.specs.Shown.{state_text, summary_text}
 use Rattle.round_planner.specs.Quotas.{Planned}
-use Rattle.run_settings.specs.Settings.{IsPlan}
-use Rattle.run_settings.specs.declared.settings.Settings.{Settings}
+use Rattle.round_planner.specs.Settings.{IsPlan}
+use Rattle.round_planner.specs.declared.settings.Settings.{Settings}
 use Rattle.emulation.specs.declared.run_end.RunEnd.{RunEnd}
 use Rattle.emulation.specs.declared.run_end.RunEnd.TheVariants.{Badly, RunsOn, Well}
 use Rattle.emulation.specs.declared.showing.ShownState.{ShownState}

@@ -1,5 +1,5 @@
 ghost use Rattle.host_io.specs.declared.error.RunError.TheVariants as refusals;
-ghost use Rattle.run_settings.specs.Settings.{IsReason, RefusedInOrder, settings_fault};
+ghost use Rattle.round_planner.specs.Settings.{IsReason, RefusedInOrder, settings_fault};
 ghost use Rattle.emulation.specs.Reports.{IsReportAlone};
 ghost use Rattle.host_io.specs.Writes.{IsFaultOr, WritesAnswer};
 

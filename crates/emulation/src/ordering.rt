@@ -3,7 +3,7 @@ ghost use Rattle.host_io.specs.declared.error.RunError.TheVariants as refusals;
 ghost use Rattle.emulation.specs.OrderedRun.{IsOrderText};
 ghost use Rattle.emulation.specs.Visited.{HasSeenRun};
 ghost use Rattle.machine.specs.Untraced.{Untraced};
-ghost use Rattle.run_settings.specs.Settings.{IsReason, RefusedInOrder, settings_fault};
+ghost use Rattle.round_planner.specs.Settings.{IsReason, RefusedInOrder, settings_fault};
 ghost use Rattle.host_io.specs.Writes.{IsFaultOr, WritesAnswer};
 
 use crate::tracing::trace_run;

@@ -2,7 +2,7 @@ ghost use Rattle.std.specs.Prelude.{◌≡◌, ◌⊎◌};
 ghost use Rattle.host_io.specs.Taken.{WritesText};
 ghost use Rattle.host_io.specs.declared.error.RunError.TheVariants as refusals;
 ghost use Rattle.machine.specs.Machine.{Running, after_rounds};
-ghost use Rattle.run_settings.specs.Settings.{IsReason, RefusedInOrder, settings_fault};
+ghost use Rattle.round_planner.specs.Settings.{IsReason, RefusedInOrder, settings_fault};
 ghost use Rattle.emulation.specs.Reports.{IsReport};
 ghost use Rattle.emulation.specs.Showing.{IsShown, end_of, shown_text};
 ghost use Rattle.emulation.specs.Visited.{HasSeenRun};

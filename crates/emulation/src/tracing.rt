@@ -5,7 +5,7 @@ ghost use Rattle.round_schedule.specs.RoundTrace.{IsRoundTrace};
 ghost use Rattle.memory_order.specs.RoundOrder.{IsRoundOrder};
 ghost use Rattle.memory_order.specs.Rvwmo.{MeetsRvwmo};
 ghost use Rattle.trace.specs.Traced.{opening_at};
-ghost use Rattle.run_settings.specs.Settings.{IsPlan, IsReason, RefusedInOrder, image_for, settings_fault};
+ghost use Rattle.round_planner.specs.Settings.{IsPlan, IsReason, RefusedInOrder, image_for, settings_fault};
 ghost use Rattle.emulation.specs.Visited.{HasSeenRun};
 ghost use Rattle.machine.specs.Untraced.{Untraced};
 ghost use Rattle.machine.specs.Runs.{trace_after};

@@ -9,8 +9,7 @@ ghost use Rattle.execution.specs.Executions.{IsLike, IsStep};
 
 use hart_step::{Bus, Hart};
 use pages::{OutOfMemory, Pages, Store, Width};
-use reservations::Reservations;
-use round_schedule::{Span, Stepped};
+use round_schedule::{Reservations, Span, Stepped};
 use rv64_decode::{Instr, decode};
 use serial_phase::{SharedState, serve};
 

@@ -1,8 +1,8 @@
 -- Where nothing is refused before a run, nothing is refused in order.
 use Rattle.std.proofs.Common.{◌≡◌, ◌⊎◌, ℕ, Err, List, Ok, Result, ⊎_elim}
 use Rattle.host_io.specs.declared.error.RunError.{RunError}
-use Rattle.run_settings.specs.Settings.{RefusedAs, RefusedInOrder}
-use Rattle.run_settings.specs.declared.settings.Settings.{Settings}
+use Rattle.round_planner.specs.Settings.{RefusedAs, RefusedInOrder}
+use Rattle.round_planner.specs.declared.settings.Settings.{Settings}
 
 no_refusal : {X : Type 0} (m : X) (e : RunError) → ◌≡◌ {A = Result X RunError} (Ok m) (Err e) → ⊥
 no_refusal m e q = cc

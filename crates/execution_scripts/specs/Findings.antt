@@ -1,8 +1,8 @@
 -- What is found of a file.
 use Rattle.std.specs.Prelude.{◌≡◌, ℕ, if◌then◌else◌, List, length, map, slice_index, Option}
 use Rattle.elf_loader.specs.Image.{Loaded}
-use Rattle.run_settings.specs.declared.settings.Format.TheVariants.{Elf, Flat}
-use Rattle.run_settings.specs.Settings.{image_of}
+use Rattle.round_planner.specs.declared.settings.Format.TheVariants.{Elf, Flat}
+use Rattle.round_planner.specs.Settings.{image_of}
 use Rattle.guest_rounds.specs.Guests.{Guest, opening_guest}
 use Rattle.memory_order.specs.Orders.{ListsOperations}
 use Rattle.execution.specs.Executions.{Standing}

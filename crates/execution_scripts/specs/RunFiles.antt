@@ -1,8 +1,8 @@
 -- The files of runs.
 use Rattle.std.specs.Prelude.{◌≡◌, ℕ, Bool, true, false, List, length}
-use Rattle.run_settings.specs.declared.settings.Format.{Format}
-use Rattle.run_settings.specs.declared.settings.Format.TheVariants.{Elf, Flat}
-use Rattle.run_settings.specs.declared.settings.Settings.{Settings}
+use Rattle.round_planner.specs.declared.settings.Format.{Format}
+use Rattle.round_planner.specs.declared.settings.Format.TheVariants.{Elf, Flat}
+use Rattle.round_planner.specs.declared.settings.Settings.{Settings}
 use Rattle.machine.specs.Machine.{Running}
 use Rattle.execution_file.specs.Recorded.{HartDeeds, Recorded}
 use Rattle.execution_file.specs.Deeds.{deeds}

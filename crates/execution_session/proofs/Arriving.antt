@@ -1,8 +1,8 @@
 -- What a debugger is answered: facts by cases of its request.
 use Rattle.std.proofs.Common.{◌≡◌, ℕ, List, [], ◌++◌, Option, None, Result, Ok, Err, OnOk, refl, subst, sym}
 use Rattle.gdb_packets.specs.Writing.{packet_text}
-use Rattle.gdb_requests.specs.declared.request.Request.{Request}
-use Rattle.gdb_requests.specs.declared.request.Request.TheVariants as requests
+use Rattle.gdb_packets.specs.declared.request.Request.{Request}
+use Rattle.gdb_packets.specs.declared.request.Request.TheVariants as requests
 use Rattle.execution_session.specs.declared.session.Standing.{Standing}
 use Rattle.execution_session.specs.Answers.{Answered, answer_to, fixed_text, moment_text, reply_at, says}
 use Rattle.execution_session.specs.Sessions.{Looked, State}

@@ -2,8 +2,8 @@
 use Rattle.std.proofs.Common.{◌≡◌, inr, ℕ, List, ◌∷◌, ◌++◌, refl}
 use Rattle.gdb_packets.specs.Reads.{TellsBy}
 use Rattle.gdb_packets.specs.Stream.{Told, next_of}
-use Rattle.gdb_requests.specs.declared.request.Request.{Request}
-use Rattle.gdb_requests.specs.declared.request.Request.TheVariants as requests
+use Rattle.gdb_packets.specs.declared.request.Request.{Request}
+use Rattle.gdb_packets.specs.declared.request.Request.TheVariants as requests
 use Rattle.execution_session.specs.Sessions.{Looked, State}
 use Rattle.gdb_talk.proofs.Going.{serves_more}
 use Rattle.gdb_talk.specs.Saying.{refused_text}

@@ -5,8 +5,8 @@ use Rattle.hart_step.specs.declared.hart.Hart.{Hart}
 use Rattle.execution_moments.specs.Shown.{hart_at, view_at}
 use Rattle.execution_views.specs.Moments.{bytes_at}
 use Rattle.gdb_packets.specs.Writing.{packet_text}
-use Rattle.gdb_requests.specs.declared.request.Request.{Request}
-use Rattle.gdb_requests.specs.declared.request.Request.TheVariants as requests
+use Rattle.gdb_packets.specs.declared.request.Request.{Request}
+use Rattle.gdb_packets.specs.declared.request.Request.TheVariants as requests
 use Rattle.gdb_talk.specs.Stops.{with_one, without_one}
 use Rattle.gdb_replies.specs.Description.{target_text}
 use Rattle.gdb_replies.specs.Replies.{features_text, part_of, stop_text}

@@ -13,7 +13,7 @@ use Rattle.hart_step.specs.declared.hart.Stop.{Stop}
 use Rattle.hunter.specs.Hunts.{ending_of_stop}
 use Rattle.hunter.specs.declared.settings.HuntSettings.{HuntSettings}
 use Rattle.guest_rounds.specs.Opening.{opening_harts}
-use Rattle.run_settings.specs.Settings.{image_of}
+use Rattle.round_planner.specs.Settings.{image_of}
 use Rattle.plan_hunt.specs.Endings.{ends_well}
 use Rattle.weak_executions.specs.AllowedEnds.{IsAllowedEnd}
 

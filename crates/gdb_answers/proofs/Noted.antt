@@ -5,12 +5,12 @@ use Rattle.pages.specs.declared.access.Store.{Store}
 use Rattle.hart_step.specs.declared.hart.Hart.{Hart}
 use Rattle.machine.specs.Machine.{Running, after_rounds}
 use Rattle.moments.specs.Sights.{Sight}
-use Rattle.shown_harts.specs.OwnParts.{waits_at, uncommitted}
+use Rattle.timelines.specs.OwnParts.{waits_at, uncommitted}
 use Rattle.past_harts.specs.declared.point.Point.{Point}
 use Rattle.gdb_replies.specs.declared.note.ThreadNote.{ThreadNote}
 use Rattle.gdb_talk.specs.Told.{note_of}
 use Rattle.gdb_answers.specs.Answers.{note_at, note_seen}
-use Rattle.shown_harts.specs.Shown.{seen}
+use Rattle.timelines.specs.Shown.{seen}
 use Rattle.gdb_answers.specs.Stores.{bytes_covered}
 
 noted_by : ThreadNote → Bool → ℕ → Option ThreadNote

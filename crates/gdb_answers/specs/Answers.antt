@@ -8,8 +8,8 @@ use Rattle.moments.specs.Sights.{Sight}
 use Rattle.moments.specs.Bytes.{bytes_from}
 use Rattle.past_harts.specs.declared.moment.Moment.{Moment}
 use Rattle.past_harts.specs.declared.point.Point.{Point}
-use Rattle.shown_harts.specs.OwnParts.{waits_at, uncommitted}
-use Rattle.shown_harts.specs.Shown.{seen}
+use Rattle.timelines.specs.OwnParts.{waits_at, uncommitted}
+use Rattle.timelines.specs.Shown.{seen}
 use Rattle.gdb_replies.specs.Replies.{checksum_text, note_text, part_of, thread_element, thread_list_begin, thread_list_end}
 use Rattle.gdb_replies.specs.Words.{numbers_of, register_text, registers_text}
 use Rattle.gdb_replies.specs.declared.note.ThreadNote.{ThreadNote}

@@ -1,7 +1,7 @@
 -- What a debugger is answered about files: there is the program's image alone, or, where it isn't told, none.
 use Rattle.std.specs.Prelude.{ℕ, ◌==◌, if◌then◌else◌, min, List, length, take, drop, Option, Some, None}
-use Rattle.gdb_requests.specs.declared.file_request.FileRequest.{FileRequest}
-use Rattle.gdb_requests.specs.declared.file_request.FileRequest.TheVariants as requests
+use Rattle.gdb_packets.specs.declared.file_request.FileRequest.{FileRequest}
+use Rattle.gdb_packets.specs.declared.file_request.FileRequest.TheVariants as requests
 use Rattle.gdb_replies.specs.FileReplies.{bytes_text, file_text}
 use Rattle.gdb_replies.specs.declared.file_reply.FileReply.TheVariants.{Done, Failed, Status}
 

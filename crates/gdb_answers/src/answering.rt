@@ -6,7 +6,7 @@ ghost use Rattle.host_io.specs.Taken.{WritesText};
 ghost use Rattle.gdb_packets.specs.Writing.{packet_text};
 ghost use Rattle.gdb_replies.specs.Words.{numbers_of};
 ghost use Rattle.gdb_answers.specs.Answers.{bytes_answer, memory_answer, note_answer, note_at, register_answer, registers_answer};
-ghost use Rattle.shown_harts.specs.Shown.{seen};
+ghost use Rattle.timelines.specs.Shown.{seen};
 ghost use Rattle.round_schedule.specs.Bounds.{AreWorkers};
 
 use crate::noting::note_at;

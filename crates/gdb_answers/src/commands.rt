@@ -9,7 +9,7 @@ ghost use Rattle.gdb_packets.specs.Writing.{packet_text};
 ghost use Rattle.gdb_replies.specs.CommandTexts.{where_line};
 ghost use Rattle.hex.specs.Hex.{encode_lower};
 ghost use Rattle.gdb_answers.specs.Answers.{note_at};
-ghost use Rattle.shown_harts.specs.Shown.{seen};
+ghost use Rattle.timelines.specs.Shown.{seen};
 ghost use Rattle.gdb_answers.specs.Commands.{hart_entry, hart_lines, harts_answer, plan_answer, plan_text, quotas_text, where_answer};
 ghost use Rattle.round_schedule.specs.Bounds.{AreWorkers};
 

@@ -5,8 +5,8 @@ ghost use Rattle.std.specs.Option.{option_map};
 ghost use Rattle.gdb_replies.specs.FileReplies.{file_text};
 ghost use Rattle.gdb_answers.specs.Files.{file_answer, open_answer, opened};
 
+use gdb_packets::FileRequest;
 use gdb_replies::FileReply;
-use gdb_requests::FileRequest;
 
 /// The number of the image, as an open file.
 const IMAGE: u64 = 1;

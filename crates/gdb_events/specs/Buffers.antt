@@ -12,7 +12,7 @@ use Rattle.past_harts.specs.declared.point.Point.{Point}
 use Rattle.gdb_replies.specs.CommandTexts.{store_line}
 use Rattle.gdb_talk.specs.Told.{or_missing}
 use Rattle.gdb_events.specs.Saying.{text_or}
-use Rattle.shown_harts.specs.OwnParts.{uncommitted}
+use Rattle.timelines.specs.OwnParts.{uncommitted}
 
 -- a line for each
 abbrev pub line_of : Store → List ℕ

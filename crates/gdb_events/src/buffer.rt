@@ -7,7 +7,7 @@ ghost use Rattle.host_io.specs.declared.error.RunError.TheVariants as refusals;
 ghost use Rattle.machine.specs.Machine.{Running};
 ghost use Rattle.machine.specs.Untraced.{IsUntraced};
 ghost use Rattle.gdb_packets.specs.Writing.{packet_text};
-ghost use Rattle.shown_harts.specs.Shown.{seen};
+ghost use Rattle.timelines.specs.Shown.{seen};
 ghost use Rattle.gdb_events.specs.Buffers.{buffer_answer, buffer_text, line_of, store_lines};
 ghost use Rattle.round_schedule.specs.Bounds.{AreWorkers};
 

@@ -7,7 +7,7 @@ ghost use Rattle.machine.specs.Machine.{Running};
 ghost use Rattle.machine.specs.Untraced.{IsUntraced};
 ghost use Rattle.past_harts.specs.Points.{is_behind_move};
 ghost use Rattle.gdb_packets.specs.Writing.{packet_text};
-ghost use Rattle.shown_harts.specs.Shown.{seen};
+ghost use Rattle.timelines.specs.Shown.{seen};
 ghost use Rattle.gdb_events.specs.Events.{event_answer, event_packet, event_words, is_step, step_line, step_lines, step_place, step_text};
 ghost use Rattle.round_schedule.specs.Bounds.{AreWorkers};
 

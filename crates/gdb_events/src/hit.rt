@@ -5,7 +5,7 @@ ghost use Rattle.host_io.specs.declared.error.RunError.TheVariants as refusals;
 ghost use Rattle.machine.specs.Machine.{Running};
 ghost use Rattle.machine.specs.Untraced.{IsUntraced};
 ghost use Rattle.gdb_packets.specs.Writing.{packet_text};
-ghost use Rattle.shown_harts.specs.Shown.{seen};
+ghost use Rattle.timelines.specs.Shown.{seen};
 ghost use Rattle.gdb_events.specs.Stops.{stop_answer};
 ghost use Rattle.gdb_events.specs.Events.{event_packet};
 ghost use Rattle.round_schedule.specs.Bounds.{AreWorkers};

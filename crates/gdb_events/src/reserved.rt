@@ -8,7 +8,7 @@ ghost use Rattle.machine.specs.Untraced.{IsAfter, IsUntraced};
 ghost use Rattle.round_schedule.specs.declared.event.Event.{Event};
 ghost use Rattle.round_schedule.specs.Reservations.{Tied};
 ghost use Rattle.gdb_packets.specs.Writing.{packet_text};
-ghost use Rattle.shown_harts.specs.Shown.{seen};
+ghost use Rattle.timelines.specs.Shown.{seen};
 ghost use Rattle.gdb_events.specs.Reserved.{held_lines, is_seen, reservations_answer, reserved_text, seen_events, span_line, trace_at};
 ghost use Rattle.gdb_events.specs.Rounds.{round_events};
 ghost use Rattle.round_schedule.specs.Bounds.{AreWorkers};

@@ -6,3 +6,4 @@ pub mod Framing
 pub mod Going
 pub mod Pieces
 pub mod Written
+pub mod Spelled

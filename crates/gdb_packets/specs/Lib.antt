@@ -4,3 +4,7 @@ pub mod Writing
 pub mod Views
 pub mod Reads
 pub mod Drafts
+pub mod Fields
+pub mod Files
+pub mod Commands
+pub mod Grammar

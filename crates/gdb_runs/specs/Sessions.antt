@@ -3,8 +3,8 @@ use Rattle.std.specs.Prelude.{◌≡◌, ℕ, ◌+◌, ◌<◌, ◌≤◌, ◌^�
 use Rattle.round_schedule.specs.declared.bounds.TheConstants.{MOST_HARTS}
 use Rattle.hart_step.specs.declared.hart.Hart.{Hart}
 use Rattle.machine.specs.Machine.{Running}
-use Rattle.run_settings.specs.declared.settings.Format.{Format}
-use Rattle.run_settings.specs.declared.settings.Format.TheVariants.{Elf, Flat}
+use Rattle.round_planner.specs.declared.settings.Format.{Format}
+use Rattle.round_planner.specs.declared.settings.Format.TheVariants.{Elf, Flat}
 use Rattle.machine.specs.Untraced.{IsUntraced}
 use Rattle.moments.specs.Sights.{Sight}
 use Rattle.round_schedule.specs.declared.event.Phase.TheVariants.{Parallel}
@@ -18,7 +18,7 @@ use Rattle.moments.specs.Stops.{is_one_of}
 use Rattle.gdb_replies.specs.declared.stop_reply.Reason.{Reason}
 use Rattle.gdb_replies.specs.declared.stop_reply.Reason.TheVariants.{AccessWatch, HardwareBreakpoint, ReadWatch, Step, Watch}
 use Rattle.gdb_talk.specs.Told.{reason_of}
-use Rattle.shown_harts.specs.Shown.{seen}
+use Rattle.timelines.specs.Shown.{seen}
 use Rattle.gdb_runs.specs.declared.debugged.Debugged.{Debugged}
 use Rattle.gdb_runs.specs.declared.session.Session.{Session}
 use Rattle.gdb_runs.specs.declared.session.Standing.{Standing}

@@ -4,10 +4,10 @@ use Rattle.std.specs.Prelude.{◌⊎◌, ◌++◌, OnOk}
 use Rattle.std.proofs.lemmas.Result.{on_ok_weaker}
 use Rattle.hex.specs.Hex.{encode_lower}
 use Rattle.gdb_packets.specs.Writing.{packet_text}
-use Rattle.gdb_requests.specs.declared.command.Command.{Command}
-use Rattle.gdb_requests.specs.declared.command.Command.TheVariants as commands
-use Rattle.gdb_requests.specs.declared.request.Request.{Request}
-use Rattle.gdb_requests.specs.declared.request.Request.TheVariants as requests
+use Rattle.gdb_packets.specs.declared.command.Command.{Command}
+use Rattle.gdb_packets.specs.declared.command.Command.TheVariants as commands
+use Rattle.gdb_packets.specs.declared.request.Request.{Request}
+use Rattle.gdb_packets.specs.declared.request.Request.TheVariants as requests
 use Rattle.gdb_replies.specs.CommandTexts.{hits_text}
 use Rattle.gdb_talk.specs.declared.look.Look.{Look}
 use Rattle.gdb_runs.specs.Sessions.{Recorded, State}

@@ -2,8 +2,8 @@
 use Rattle.std.proofs.Common.{◌≡◌, inr, ℕ, List, ◌∷◌, ◌++◌, refl}
 use Rattle.gdb_packets.specs.Reads.{TellsBy}
 use Rattle.gdb_packets.specs.Stream.{Told, next_of}
-use Rattle.gdb_requests.specs.declared.request.Request.{Request}
-use Rattle.gdb_requests.specs.declared.request.Request.TheVariants as requests
+use Rattle.gdb_packets.specs.declared.request.Request.{Request}
+use Rattle.gdb_packets.specs.declared.request.Request.TheVariants as requests
 use Rattle.gdb_runs.specs.declared.debugged.Debugged.{Debugged}
 use Rattle.gdb_runs.specs.Sessions.{OfRun, Recorded, State, recorded_of}
 use Rattle.gdb_runs.proofs.Runs.{of_same}

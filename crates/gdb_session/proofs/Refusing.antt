@@ -1,8 +1,8 @@
 -- The order of refusals, behind what wasn't refused.
 use Rattle.std.proofs.Common.{◌≡◌, Err, List, Ok, Result, ℕ, ⊎_elim}
 use Rattle.host_io.specs.declared.error.RunError.{RunError}
-use Rattle.run_settings.specs.Settings.{RefusedAs, RefusedInOrder}
-use Rattle.run_settings.specs.declared.settings.Settings.{Settings}
+use Rattle.round_planner.specs.Settings.{RefusedAs, RefusedInOrder}
+use Rattle.round_planner.specs.declared.settings.Settings.{Settings}
 
 none : {X : Type 0} (x : X) (e : RunError) → ◌≡◌ {A = Result X RunError} (Ok x) (Err e) → ⊥
 none x e q = cc

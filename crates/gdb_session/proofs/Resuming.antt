@@ -4,7 +4,7 @@ use Rattle.watching.specs.declared.watchpoint.Way.{Way}
 use Rattle.watching.specs.declared.watchpoint.Way.TheVariants.{On, Back}
 use Rattle.gdb_packets.specs.Stream.{Told, Accepted, Again, Interrupt, Packet, Spoilt}
 use Rattle.gdb_packets.specs.Writing.{answer_to}
-use Rattle.gdb_requests.specs.declared.request.Request.{Request}
+use Rattle.gdb_packets.specs.declared.request.Request.{Request}
 use Rattle.gdb_resumes.specs.declared.searching.Search.{Search}
 use Rattle.gdb_runs.specs.declared.session.Standing.{Standing}
 use Rattle.gdb_resumes.specs.Resumes.{Continues, interrupted}

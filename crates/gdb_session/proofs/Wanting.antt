@@ -3,9 +3,9 @@ use Rattle.std.proofs.Common.{◌≡◌, ℕ, ◌<◌, List, ◌++◌, Bool, tru
 use Rattle.std.specs.Prelude.{IfSome, ◌||◌, if◌then◌else◌}
 use Rattle.hex.specs.Hex.{encode_lower}
 use Rattle.gdb_packets.specs.Writing.{packet_text}
-use Rattle.gdb_requests.specs.declared.command.Command.{Command}
-use Rattle.gdb_requests.specs.declared.command.Command.TheVariants as commands
-use Rattle.gdb_requests.specs.declared.request.Request.TheVariants as requests
+use Rattle.gdb_packets.specs.declared.command.Command.{Command}
+use Rattle.gdb_packets.specs.declared.command.Command.TheVariants as commands
+use Rattle.gdb_packets.specs.declared.request.Request.TheVariants as requests
 use Rattle.past_harts.specs.declared.point.Point.{Point}
 use Rattle.past_harts.specs.Points.{same_moment}
 use Rattle.gdb_runs.specs.declared.debugged.Debugged.{Debugged}

@@ -8,13 +8,13 @@ use Rattle.watching.specs.declared.watchpoint.Way.TheVariants.{On, Back}
 use Rattle.gdb_packets.specs.Writing.{packet_text}
 use Rattle.hex.specs.Hex.{encode_lower}
 use Rattle.machine.specs.Machine.{after_rounds}
-use Rattle.gdb_requests.specs.Files.{image_name}
-use Rattle.gdb_requests.specs.declared.command.Command.{Command}
-use Rattle.gdb_requests.specs.declared.command.Command.TheVariants as commands
-use Rattle.gdb_requests.specs.declared.request.Request.{Request}
-use Rattle.gdb_requests.specs.declared.request.Request.TheVariants as requests
-use Rattle.gdb_requests.specs.declared.request.Watch.{Watch}
-use Rattle.gdb_requests.specs.declared.request.Watch.TheVariants as asked
+use Rattle.gdb_packets.specs.Files.{image_name}
+use Rattle.gdb_packets.specs.declared.command.Command.{Command}
+use Rattle.gdb_packets.specs.declared.command.Command.TheVariants as commands
+use Rattle.gdb_packets.specs.declared.request.Request.{Request}
+use Rattle.gdb_packets.specs.declared.request.Request.TheVariants as requests
+use Rattle.gdb_packets.specs.declared.request.Watch.{Watch}
+use Rattle.gdb_packets.specs.declared.request.Watch.TheVariants as asked
 use Rattle.gdb_talk.specs.Stops.{with_one, without_one}
 use Rattle.gdb_replies.specs.Description.{target_text}
 use Rattle.gdb_replies.specs.CommandTexts.{ahead_text, behind_text, elsewhere_text, harts_text, help_text, here_text, hits_text, rounds_text}
@@ -25,7 +25,7 @@ use Rattle.gdb_replies.specs.declared.stop_reply.Reason.{Reason}
 use Rattle.gdb_replies.specs.declared.stop_reply.Reason.TheVariants as reasons
 use Rattle.gdb_answers.specs.Answers.{checksum_answer, memory_answer, note_answer, note_at, register_answer, registers_answer, thread_list_answer}
 use Rattle.gdb_events.specs.Stops.{stop_answer}
-use Rattle.shown_harts.specs.Shown.{seen}
+use Rattle.timelines.specs.Shown.{seen}
 use Rattle.gdb_events.specs.Buffers.{buffer_answer}
 use Rattle.gdb_answers.specs.Commands.{harts_answer, plan_answer, where_answer}
 use Rattle.gdb_events.specs.Output.{output_answer}

@@ -2,8 +2,8 @@
 use Rattle.std.specs.Prelude.{◌≡◌, ◌⊎◌, ℕ, Bool, true, false, List, [], ◌∷◌, ◌++◌, Option, Some, None}
 use Rattle.gdb_packets.specs.Stream.{Told, Accepted, Again, Interrupt, next_of}
 use Rattle.gdb_packets.specs.Writing.{answer_to}
-use Rattle.gdb_requests.specs.declared.request.Request.{Request}
-use Rattle.gdb_requests.specs.declared.request.Request.TheVariants as requests
+use Rattle.gdb_packets.specs.declared.request.Request.{Request}
+use Rattle.gdb_packets.specs.declared.request.Request.TheVariants as requests
 use Rattle.gdb_talk.specs.Asking.{asked_by, ends}
 use Rattle.gdb_talk.specs.Saying.{asks_text, refused_text}
 use Rattle.gdb_talk.specs.Serving.{Served as ServedBy}

@@ -2,7 +2,7 @@
 
 ghost use Rattle.std.specs.Prelude.{◌≡◌, ◌++◌, ℕ, List, Err, IfErr, IfOk, IfSome, OnOk};
 ghost use Rattle.host_io.specs.declared.error.RunError.TheVariants as refusals;
-ghost use Rattle.gdb_requests.specs.declared.request.Request.TheVariants as requests;
+ghost use Rattle.gdb_packets.specs.declared.request.Request.TheVariants as requests;
 ghost use Rattle.gdb_session.specs.Answers.{Answered, Moves, Resumes};
 ghost use Rattle.gdb_runs.specs.Sessions.{IsReady, OfRun, Recorded, state_of};
 
@@ -11,8 +11,8 @@ use crate::hits::set_hits;
 use crate::reading::{is_goto, reply_to, say_stop};
 use crate::selecting::{hart_of_thread, say_done};
 use crate::watchpoints::{add_watch, remove_watch, watch_of};
+use gdb_packets::{Command, Request};
 use gdb_replies::{Reply, write_reply};
-use gdb_requests::{Command, Request};
 use gdb_runs::{Debugged, Session, Standing};
 use gdb_steps::{step, step_alone, step_back, step_in};
 use gdb_talk::{add_stop, remove_stop};

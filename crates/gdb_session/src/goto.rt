@@ -6,14 +6,14 @@ ghost use Rattle.hex.specs.Hex.{encode_lower};
 ghost use Rattle.host_io.specs.Taken.{WritesText};
 ghost use Rattle.gdb_packets.specs.Writing.{packet_text};
 ghost use Rattle.gdb_replies.specs.CommandTexts.{harts_text, rounds_text};
-ghost use Rattle.gdb_requests.specs.declared.request.Request.TheVariants as requests;
+ghost use Rattle.gdb_packets.specs.declared.request.Request.TheVariants as requests;
 ghost use Rattle.gdb_resumes.specs.Goals.{IsGoalWithin};
 ghost use Rattle.gdb_runs.specs.Sessions.{IsReady, OfRun, state_of};
 ghost use Rattle.gdb_session.specs.Answers.{Answered, IsGoal, goal_text, goal_then, is_goto, side_text};
 ghost use Rattle.round_schedule.specs.Bounds.{AreWorkers};
 
+use gdb_packets::Command;
 use gdb_replies::{Reply, add_harts_line, add_rounds_line, write_reply};
-use gdb_requests::Command;
 use gdb_resumes::{Goal, goal_at_place, goal_at_round};
 use gdb_runs::{Debugged, Session, Standing};
 use host_io::{RunError, Sink};

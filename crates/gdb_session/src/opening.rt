@@ -2,7 +2,7 @@ ghost use Rattle.std.specs.Prelude.{◌≡◌, ◌⊎◌, ◌≤◌, ◌+◌, �
 ghost use Rattle.host_io.specs.declared.error.RunError.TheVariants as refusals;
 ghost use Rattle.host_io.specs.declared.load_error.LoadError.{LoadError as ImageCause};
 ghost use Rattle.machine.specs.Machine.{opening};
-ghost use Rattle.run_settings.specs.Settings.{IsImageCause, IsPlan, IsReason, RefusedInOrder, image_for, settings_fault};
+ghost use Rattle.round_planner.specs.Settings.{IsImageCause, IsPlan, IsReason, RefusedInOrder, image_for, settings_fault};
 ghost use Rattle.machine.specs.Untraced.{IsUntraced};
 ghost use Rattle.round_planner.specs.Quotas.{Planned};
 ghost use Rattle.gdb_session.specs.Serving.{begun};

@@ -16,8 +16,8 @@ use gdb_answers::{
 use gdb_events::{
     answer_buffer, answer_event, answer_hit, answer_output, answer_reservations, answer_stop,
 };
+use gdb_packets::{Command, IMAGE_NAME, Request};
 use gdb_replies::{Reason, Reply, Window, command_help, target_description, write_reply};
-use gdb_requests::{Command, IMAGE_NAME, Request};
 use gdb_runs::{Debugged, Standing};
 use gdb_talk::Look;
 use host_io::{RunError, Sink};

@@ -9,8 +9,7 @@ ghost use Rattle.gdb_talk.specs.Asking.{asked_by, ends};
 
 use crate::answering::answer;
 use crate::searching::{begin_search, search_on, stand};
-use gdb_packets::{Item, acknowledge};
-use gdb_requests::Request;
+use gdb_packets::{Item, Request, acknowledge};
 use gdb_resumes::Search;
 use gdb_runs::{Debugged, Session};
 use gdb_talk::{ask, asked_by, has_left, refuse};

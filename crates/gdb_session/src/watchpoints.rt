@@ -6,8 +6,8 @@ ghost use Rattle.host_io.specs.declared.error.RunError.TheVariants as refusals;
 ghost use Rattle.gdb_packets.specs.Writing.{packet_text};
 ghost use Rattle.gdb_session.specs.Answers.{kind_number, kind_of, same_watch, watch_of, with_watch, without_watch};
 
+use gdb_packets::Watch;
 use gdb_replies::{Reply, write_reply};
-use gdb_requests::Watch;
 use host_io::{RunError, Sink};
 use pages::{OutOfMemory, Range};
 use round_steps::{WatchKind, Watchpoint};

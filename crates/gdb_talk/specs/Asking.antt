@@ -1,9 +1,9 @@
 -- What a debugger asks for by what it says, and when it has left.
 use Rattle.std.specs.Prelude.{Bool, true, false, Option, Some, None}
 use Rattle.gdb_packets.specs.Stream.{Told, Accepted, Again, Interrupt, Packet, Spoilt}
-use Rattle.gdb_requests.specs.Grammar.{request_of}
-use Rattle.gdb_requests.specs.declared.request.Request.{Request}
-use Rattle.gdb_requests.specs.declared.request.Request.TheVariants as requests
+use Rattle.gdb_packets.specs.Grammar.{request_of}
+use Rattle.gdb_packets.specs.declared.request.Request.{Request}
+use Rattle.gdb_packets.specs.declared.request.Request.TheVariants as requests
 
 -- what is asked for where the reply to a request is to be told again: what was resumed stands where it stands
 abbrev pub again_of : Request → Request

@@ -2,8 +2,7 @@ ghost use Rattle.std.specs.Prelude.{◌≡◌};
 ghost use Rattle.gdb_packets.specs.Views.{told_in};
 ghost use Rattle.gdb_talk.specs.Asking.{again_of, asked_by, ends};
 
-use gdb_packets::Item;
-use gdb_requests::{Request, request_of};
+use gdb_packets::{Item, Request, request_of};
 
 /// What is asked for: by a packet, or by the wish to be told the reply to the last request again.
 pub fn asked_by(item: &Item, last: Option<Request>) -> Option<Request>

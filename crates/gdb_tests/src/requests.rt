@@ -1,6 +1,6 @@
 //! Requests, as gdb-multiarch 13.1 sends them to a program for RISC-V, and as gdb's manual has them in appendix E.
 
-use gdb_requests::{Command, FileRequest, Request, Watch, request_of};
+use gdb_packets::{Command, FileRequest, Request, Watch, request_of};
 
 /// What is asked of a stop, of threads, of files and of memory.
 static QUESTIONS: [(&[u8], Request); 31] = [

@@ -8,8 +8,7 @@ use crate::crew::Crew;
 use commit_phase::{OpenShards, commit as commit_all, commit_on};
 use hart_rounds::HartEnd;
 use pages::Pages;
-use reservations::Reservations;
-use round_schedule::MOST_HARTS;
+use round_schedule::{MOST_HARTS, Reservations};
 use std::thread::Threads;
 use store_buffer::StoreBuffer;
 

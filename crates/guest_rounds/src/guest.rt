@@ -4,12 +4,10 @@ ghost use Rattle.hart_step.specs.DecodedCode.{Shows};
 
 use crate::opening::opening_harts;
 use crate::spare_lists::SpareLists;
-use decoded_ranges::decode_around;
 use elf_loader::Image;
-use hart_step::{DecodedCode, Hart};
+use hart_step::{DecodedCode, Hart, decode_around};
 use pages::{OutOfMemory, Pages};
-use reservations::Reservations;
-use round_schedule::MOST_HARTS;
+use round_schedule::{MOST_HARTS, Reservations};
 use serial_phase::{Console, SerialLog, SharedState};
 use std::alloc::Global;
 use std::marker::Model;

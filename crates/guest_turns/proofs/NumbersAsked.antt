@@ -14,9 +14,9 @@ use Rattle.hart_step.specs.declared.hart.Hart.{Hart}
 use Rattle.hart_step.specs.Console.{ConsoleState}
 use Rattle.hart_step.specs.Words.{words_of}
 use Rattle.hart_step.proofs.Soundness.{sound}
-use Rattle.run_loops.specs.Asking.{asks_in_round, asks_in_reserving_phase, asks_in_reserving_round, asks_in_reserving_turn}
-use Rattle.run_loops.specs.Forgetting.{asks_number}
-use Rattle.run_loops.proofs.ReservationsTied.{asking_by_reservations}
+use Rattle.serial_phase.specs.Asking.{asks_in_round, asks_in_reserving_phase, asks_in_reserving_round, asks_in_reserving_turn}
+use Rattle.serial_phase.specs.Forgetting.{asks_number}
+use Rattle.serial_phase.proofs.ReservationsTied.{asking_by_reservations}
 use Rattle.serial_phase.specs.Phase.{TakesTurn, turn_done}
 use Rattle.serial_phase.specs.Turns.{Turns}
 use Rattle.serial_phase.specs.declared.shared.SharedState.{SharedState}

@@ -18,8 +18,8 @@ use Rattle.hart_step.specs.Console.{ConsoleState}
 use Rattle.hart_step.specs.SerialStep.{serial_stepped}
 use Rattle.hart_step.specs.Words.{words_of}
 use Rattle.hart_step.proofs.Soundness.{sound}
-use Rattle.run_loops.specs.Asking.{reserving_turn_went}
-use Rattle.run_loops.proofs.Words.{picked, picked_not}
+use Rattle.serial_phase.specs.Asking.{reserving_turn_went}
+use Rattle.serial_phase.proofs.Words.{picked, picked_not}
 use Rattle.serial_phase.specs.Phase.{TakesTurn, turn_done}
 use Rattle.serial_phase.specs.Turns.{Turns}
 use Rattle.serial_phase.specs.UnderWay.{At, Under, reserving_turn_at}

@@ -20,8 +20,8 @@ use Rattle.round_schedule.proofs.PastEnds.{rounds_length}
 use Rattle.round_schedule.proofs.Runs.{events_of-append}
 use Rattle.round_schedule.proofs.ReservingTurns.{serial_by_reservations, turn_size, turn_tied}
 use Rattle.round_schedule.proofs.ReservationsTied.{commit_ties}
-use Rattle.run_loops.specs.Asking.{reserving_turn_went}
-use Rattle.run_loops.proofs.Words.{choose, pair, picked_not}
+use Rattle.serial_phase.specs.Asking.{reserving_turn_went}
+use Rattle.serial_phase.proofs.Words.{choose, pair, picked_not}
 use Rattle.guest_turns.specs.ReservingTurnHarts.{by_reserving_answer, reserving_turns_from, turns_in_reserving_phase}
 use Rattle.guest_turns.specs.TurnHarts.{turns_in_phase, turns_in_round}
 

@@ -6,8 +6,8 @@ use Rattle.round_schedule.specs.Schedule.{HartRound}
 use Rattle.hart_step.specs.declared.hart.Hart.{Hart}
 use Rattle.hart_step.specs.Console.{ConsoleState}
 use Rattle.hart_step.specs.Words.{words_of}
-use Rattle.run_loops.specs.Asking.{asks_in_reserving_phase}
-use Rattle.run_loops.specs.Forgetting.{asks_number}
+use Rattle.serial_phase.specs.Asking.{asks_in_reserving_phase}
+use Rattle.serial_phase.specs.Forgetting.{asks_number}
 use Rattle.serial_phase.specs.declared.shared.SharedState.{SharedState}
 use Rattle.serial_phase.specs.declared.shared.Turn.{Turn}
 use Rattle.hart_rounds.specs.declared.hart_end.HartEnd.{HartEnd}

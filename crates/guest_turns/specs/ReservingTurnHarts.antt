@@ -5,7 +5,7 @@ use Rattle.round_schedule.specs.declared.access.Stepped.{Stepped}
 use Rattle.round_schedule.specs.declared.access.Stepped.TheVariants.{Done, Waits, Stopped}
 use Rattle.round_schedule.specs.Schedule.{HartRound, SerialOutcome, Words}
 use Rattle.round_schedule.specs.ReservingTurn.{ReservingPhase, ReservingTurn, reserving_phase_joined, reserving_turn_next, reserving_turn_of}
-use Rattle.run_loops.specs.Asking.{reserving_turn_went}
+use Rattle.serial_phase.specs.Asking.{reserving_turn_went}
 use Rattle.hart_step.specs.declared.hart.Hart.{Hart}
 use Rattle.hart_step.specs.Console.{ConsoleState}
 use Rattle.hart_step.specs.Room.{HasSpares}

@@ -18,3 +18,4 @@ pub mod Step
 pub mod Stops
 pub mod Waiting
 pub mod Words
+pub mod CodeRanges

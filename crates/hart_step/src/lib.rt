@@ -1,4 +1,4 @@
-//! One instruction of one hart, over any memory bus.
+//! One instruction of one hart, over any memory bus; and which words of memory are decoded beforehand, on which nothing but speed depends.
 #![tactic(auto)]
 
 mod access_log;
@@ -7,6 +7,7 @@ mod answer;
 mod buffered;
 mod bus;
 mod decoded_code;
+mod decoding;
 mod direct;
 mod effects;
 mod hart;
@@ -25,6 +26,7 @@ pub use answer::Answer;
 pub use buffered::Buffered;
 pub use bus::Bus;
 pub use decoded_code::DecodedCode;
+pub use decoding::{MOST_WORDS, decode_around, decode_range};
 pub use effects::{cut_to, sign_extended, stop_code};
 pub use hart::{Hart, Stop};
 pub use laws::{

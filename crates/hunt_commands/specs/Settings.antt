@@ -3,7 +3,7 @@ use Rattle.std.specs.Prelude.{◌≡◌, ◌++◌, ℕ, List, map, Bool, if◌th
 use Rattle.command_line.specs.declared.settings.Program.{Program}
 use Rattle.command_line.specs.declared.settings.Search.{Search}
 use Rattle.hunter.specs.declared.settings.HuntSettings.{HuntSettings}
-use Rattle.run_settings.specs.declared.settings.Format.TheVariants.{Elf, Flat}
+use Rattle.round_planner.specs.declared.settings.Format.TheVariants.{Elf, Flat}
 use Rattle.program_files.specs.Naming.{IsNaming, by_address, by_name, objects_in}
 use Rattle.program_files.specs.declared.fault.NamingFault.{NamingFault}
 

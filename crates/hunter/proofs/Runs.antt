@@ -6,11 +6,11 @@ use Rattle.elf_loader.specs.Image.{Loaded}
 use Rattle.hart_step.specs.declared.hart.Hart.{Hart}
 use Rattle.hart_step.specs.declared.hart.Stop.{Stop}
 use Rattle.hart_step.specs.Console.{ConsoleState}
-use Rattle.run_loops.specs.Forgetting.{uncounted}
+use Rattle.serial_phase.specs.Forgetting.{uncounted}
 use Rattle.hunt_table.specs.declared.seen_range.SeenRange.{SeenRange}
-use Rattle.loop_finder.specs.Finding.{IsLike, is_round, loops_in, some_run}
+use Rattle.hunter.specs.Finding.{IsLike, is_round, loops_in, some_run}
 use Rattle.machine.specs.Machine.{Running, after_rounds, opening}
-use Rattle.run_settings.specs.Settings.{image_of}
+use Rattle.round_planner.specs.Settings.{image_of}
 use Rattle.machine.specs.Untraced.{IsUntraced, Untraced}
 use Rattle.round_planner.specs.Quotas.{Planned}
 use Rattle.round_planner.specs.Families.{family_plan}

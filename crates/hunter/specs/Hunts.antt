@@ -10,9 +10,9 @@ use Rattle.host_io.specs.declared.load_error.LoadError.{LoadError as ImageCause}
 use Rattle.hart_step.specs.declared.hart.Hart.{Hart}
 use Rattle.hart_step.specs.declared.hart.Stop.{Stop}
 use Rattle.host_io.specs.declared.error.RunError.TheVariants as refusals
-use Rattle.loop_finder.specs.Finding.{is_round}
+use Rattle.hunter.specs.Finding.{is_round}
 use Rattle.machine.specs.Machine.{Running, after_rounds, opening}
-use Rattle.run_settings.specs.Settings.{StandsIn, image_of}
+use Rattle.round_planner.specs.Settings.{StandsIn, image_of}
 use Rattle.round_planner.specs.Quotas.{Planned}
 use Rattle.round_planner.specs.declared.family.Family.{Family}
 use Rattle.round_planner.specs.Families.{family_plan}

@@ -2,16 +2,16 @@ ghost use Rattle.std.specs.Prelude.{◌≡◌, ◌⊎◌, ◌+◌, ◌≤◌, �
 ghost use Rattle.host_io.specs.declared.load_error.LoadError.{LoadError as ImageCause};
 ghost use Rattle.host_io.specs.declared.error.RunError.TheVariants as refusals;
 ghost use Rattle.machine.specs.Machine.{Running, opening};
-ghost use Rattle.run_settings.specs.Settings.{image_of};
+ghost use Rattle.round_planner.specs.Settings.{image_of};
 ghost use Rattle.machine.specs.Untraced.{IsUntraced};
 ghost use Rattle.hunter.specs.Hunts.{IsGuest, IsImageCause, ended_of, ending_by, ending_of_stop, family_of, seen_of};
 
+use crate::finding::run_or_loop;
 use crate::settings::HuntSettings;
 use elf_loader::Image;
 use hart_step::{Hart, Stop};
 use host_io::RunError;
 use hunt_table::SeenRange;
-use loop_finder::run_or_loop;
 use machine::{UntracedMachine, load};
 use pages::OutOfMemory;
 use plan_hunt::{Ending, HartEnding, PlanRuns, Runs};

@@ -1,12 +1,12 @@
 ghost use Rattle.std.specs.Prelude.{◌≡◌, None, IfErr, IfOk};
 ghost use Rattle.round_planner.specs.Quotas.{Planned};
 ghost use Rattle.machine.specs.Machine.{opening};
-ghost use Rattle.run_settings.specs.Settings.{IsPlan, IsReason, RefusedInOrder, image_for, settings_fault};
+ghost use Rattle.round_planner.specs.Settings.{IsPlan, IsReason, RefusedInOrder, image_for, settings_fault};
 ghost use Rattle.hunter.specs.Hunts.{run_endings};
 
+use crate::finding::run_or_loop;
 use crate::guest::stops_by;
 use host_io::RunError;
-use loop_finder::run_or_loop;
 use machine::{GuestFiles, Settings, prepare_untraced};
 use plan_hunt::HartEnding;
 use std::alloc::Global;

@@ -2,8 +2,8 @@
 use Rattle.std.specs.Prelude.{ℕ, List}
 use Rattle.round_schedule.specs.declared.event.Event.{Event}
 use Rattle.round_planner.specs.Quotas.{Planned}
-use Rattle.run_settings.specs.declared.settings.Settings.{Settings}
-use Rattle.run_settings.specs.Settings.{image_for}
+use Rattle.round_planner.specs.declared.settings.Settings.{Settings}
+use Rattle.round_planner.specs.Settings.{image_for}
 use Rattle.machine.specs.Machine.{Running, after_rounds, opening}
 
 -- the machine after the rounds of a run, from a file, an input and a plan

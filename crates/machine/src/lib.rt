@@ -18,7 +18,7 @@ pub use observing::{Observed, Observer, Unobserved};
 pub use parallel_phase::{Gate, Open};
 pub use preparing::prepare;
 pub use preparing_untraced::prepare_untraced;
-pub use run_settings::{Format, GuestFiles, Settings, load};
+pub use round_planner::{Format, GuestFiles, Settings, load};
 pub use running::RoundNote;
 pub use trace::Trace;
 pub use untraced::{MachineFields, UntracedMachine};

@@ -1,6 +1,6 @@
 ghost use Rattle.std.specs.Prelude.{◌≡◌, ◌≤◌, None, IfOk, IfErr};
 ghost use Rattle.round_planner.specs.Quotas.{Planned};
-ghost use Rattle.run_settings.specs.Settings.{IsInRange, IsPlan, IsReason, RefusedInOrder, image_for, settings_fault};
+ghost use Rattle.round_planner.specs.Settings.{IsInRange, IsPlan, IsReason, RefusedInOrder, image_for, settings_fault};
 ghost use Rattle.machine.specs.Machine.{opening};
 ghost use Rattle.machine.specs.Untraced.{IsUntraced};
 ghost use Rattle.round_schedule.specs.Bounds.{AreWorkers};
@@ -8,7 +8,7 @@ ghost use Rattle.round_schedule.specs.Bounds.{AreWorkers};
 use crate::preparing::copied;
 use crate::untraced::UntracedMachine;
 use host_io::RunError;
-use run_settings::{Settings, check_settings, load, read_plan};
+use round_planner::{Settings, check_settings, load, read_plan};
 use std::alloc::Global;
 
 /// The machine without a trace that the settings ask for, before the first round.

@@ -16,7 +16,7 @@ use Rattle.hart_step.specs.Words.{words_of}
 use Rattle.hart_step.proofs.Shown.{shows_step}
 use Rattle.moments.specs.Sights.{Sight, next_seen, part_by, part_sights}
 use Rattle.moments.specs.Hits.{Walked, harts_in_part, harts_of, hits_from, is_moment}
-use Rattle.moments.specs.Stops.{sight_of}
+use Rattle.moments.specs.Bytes.{sight_of}
 use Rattle.moments.proofs.Walked.{is_next, suc_left}
 
 abbrev pub rest : List Range → ℕ → Hart → Memory → List Hart

@@ -18,7 +18,7 @@ use Rattle.hart_step.proofs.Shown.{shows_step}
 use Rattle.moments.specs.Sights.{part_by, part_sights}
 use Rattle.moments.specs.Hits.{harts_of}
 use Rattle.moments.specs.Pcs.{ComeInOrder, GoesOn, pc_after, pc_in}
-use Rattle.moments.specs.Stops.{sight_of}
+use Rattle.moments.specs.Bytes.{sight_of}
 use Rattle.moments.proofs.HitsFound.{rest, rest_by, rest_none, rest_stopped, some_rest}
 use Rattle.moments.proofs.Walked.{suc_left}
 

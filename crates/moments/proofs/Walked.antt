@@ -6,7 +6,7 @@ use Rattle.hart_step.specs.declared.hart.Hart.{Hart}
 use Rattle.hart_step.specs.Step.{stepped}
 use Rattle.hart_step.specs.Words.{words_of}
 use Rattle.moments.specs.Sights.{next_seen}
-use Rattle.moments.specs.Stops.{sight_of}
+use Rattle.moments.specs.Bytes.{sight_of}
 
 -- what a hart sees next is what its step leaves
 pub is_next : (code : List Range) (h : Hart) (m : Memory) → m.code ≡ code → next_seen (words_of code) (sight_of h m) ≡ stepped h m

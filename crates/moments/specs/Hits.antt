@@ -8,7 +8,8 @@ use Rattle.pages.specs.Memory.{Memory}
 use Rattle.round_schedule.specs.Past.{last_of}
 use Rattle.moments.specs.Sights.{Sight, part_sights}
 use Rattle.moments.specs.declared.asked.Asked.{Asked}
-use Rattle.moments.specs.Stops.{is_one_of, sight_of}
+use Rattle.moments.specs.Bytes.{sight_of}
+use Rattle.moments.specs.Stops.{is_one_of}
 
 -- any stop but the exit call is a fault
 abbrev pub is_fault : Option Stop → Bool

@@ -7,7 +7,7 @@ use Rattle.round_schedule.specs.Accesses.{place_of}
 use Rattle.hart_step.specs.declared.hart.Hart.{Hart}
 use Rattle.hart_step.specs.DecodedCode.{Shows}
 use Rattle.moments.specs.Hits.{harts_in_part}
-use Rattle.moments.specs.Stops.{sight_of}
+use Rattle.moments.specs.Bytes.{sight_of}
 
 -- the pc of the instruction that it does after so many others; none where it does no more
 abbrev pub pc_after : List Hart → ℕ → Option ℕ

@@ -1,8 +1,7 @@
 ghost use Rattle.std.specs.Prelude.{IfOk};
 ghost use Rattle.hart_step.specs.DecodedCode.{Shows};
 
-use decoded_ranges::decode_range;
-use hart_step::DecodedCode;
+use hart_step::{DecodedCode, decode_range};
 use pages::{OutOfMemory, Pages};
 
 /// The decoded words of the first range of code, so many at most.

@@ -3,7 +3,7 @@ ghost use Rattle.hart_step.specs.DecodedCode.{Shows};
 ghost use Rattle.round_schedule.specs.Past.{last_of};
 ghost use Rattle.moments.specs.Hits.{Walked, harts_in_part, hits_from, tells};
 ghost use Rattle.moments.specs.Quiet.{AreQuiet};
-ghost use Rattle.moments.specs.Stops.{sight_of};
+ghost use Rattle.moments.specs.Bytes.{sight_of};
 
 use crate::asked::Asked;
 use crate::quiet::pass_over;

@@ -2,7 +2,7 @@ ghost use Rattle.std.specs.Prelude.{◌≡◌, ◌≤◌, ◌+◌, ◌++◌, IfO
 ghost use Rattle.hart_step.specs.DecodedCode.{Shows};
 ghost use Rattle.moments.specs.Hits.{harts_in_part};
 ghost use Rattle.moments.specs.Pcs.{ComeInOrder, GoesOn, pc_after, pc_in};
-ghost use Rattle.moments.specs.Stops.{sight_of};
+ghost use Rattle.moments.specs.Bytes.{sight_of};
 
 use crate::stepping::step_by;
 use hart_step::{Bus, DecodedCode, Hart};

@@ -12,7 +12,7 @@ use Rattle.hart_step.specs.declared.hart.Hart.{Hart}
 use Rattle.machine.proofs.Repeated.{next_round, no_rounds}
 use Rattle.guest_rounds.proofs.TraceHolds.{placed_first, placed_more}
 use Rattle.machine.specs.Machine.{Running, after_rounds, opening}
-use Rattle.run_settings.specs.Settings.{image_of}
+use Rattle.round_planner.specs.Settings.{image_of}
 use Rattle.moments.proofs.Past.{harts_in, sights_past}
 use Rattle.moments.specs.Sights.{Sight, sight_after, sights_of}
 use Rattle.past_commands.specs.Answers.{IsSightBefore}

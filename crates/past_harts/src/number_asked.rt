@@ -2,8 +2,8 @@ ghost use Rattle.std.specs.Prelude.{◌≡◌, ◌<◌, ◌+◌, ◌^◌, Err, I
 ghost use Rattle.host_io.specs.declared.error.RunError.TheVariants as refusals;
 ghost use Rattle.round_planner.specs.Quotas.{quotas_of};
 ghost use Rattle.hart_step.specs.Words.{words_of};
-ghost use Rattle.run_loops.specs.Asking.{asks_in_round};
-ghost use Rattle.run_loops.specs.Forgetting.{asks_number};
+ghost use Rattle.serial_phase.specs.Asking.{asks_in_round};
+ghost use Rattle.serial_phase.specs.Forgetting.{asks_number};
 ghost use Rattle.machine.specs.Machine.{Running};
 ghost use Rattle.machine.specs.Untraced.{IsUntraced};
 

@@ -3,8 +3,8 @@ use Rattle.std.proofs.Common.{◌≡◌, ◌⊎◌, ℕ, List, Err, IfErr, IfOk,
 use Rattle.command_line.specs.declared.settings.Program.{Program}
 use Rattle.host_io.specs.declared.error.RunError.{RunError}
 use Rattle.host_io.specs.declared.error.RunError.TheVariants as refusals
-use Rattle.run_settings.specs.Settings.{IsReason, RefusedInOrder, settings_fault}
-use Rattle.run_settings.specs.declared.settings.Settings.{Settings}
+use Rattle.round_planner.specs.Settings.{IsReason, RefusedInOrder, settings_fault}
+use Rattle.round_planner.specs.declared.settings.Settings.{Settings}
 use Rattle.program_files.specs.Asked.{HasSettings, RefusedSetRun}
 use Rattle.program_files.specs.Failures.{IsTold}
 use Rattle.program_files.specs.declared.failure.RunFailure.{RunFailure}

@@ -6,9 +6,9 @@ use Rattle.command_line.specs.declared.settings.Program.{Program}
 use Rattle.command_line.specs.declared.settings.Run.{Run}
 use Rattle.host_io.specs.declared.error.RunError.{RunError}
 use Rattle.host_io.specs.declared.error.RunError.TheVariants as refusals
-use Rattle.run_settings.specs.Settings.{IsPlan, IsReason, RefusedInOrder, settings_fault}
-use Rattle.run_settings.specs.declared.settings.Format.TheVariants.{Elf, Flat}
-use Rattle.run_settings.specs.declared.settings.Settings.{Settings}
+use Rattle.round_planner.specs.Settings.{IsPlan, IsReason, RefusedInOrder, settings_fault}
+use Rattle.round_planner.specs.declared.settings.Format.TheVariants.{Elf, Flat}
+use Rattle.round_planner.specs.declared.settings.Settings.{Settings}
 use Rattle.round_planner.specs.Families.{family_plan}
 use Rattle.program_files.specs.Failures.{IsFileFailure, Tells}
 use Rattle.program_files.specs.declared.failure.RunFailure.{RunFailure}

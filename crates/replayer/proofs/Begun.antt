@@ -10,9 +10,9 @@ use Rattle.host_io.specs.declared.error.RunError.TheVariants as refusals
 use Rattle.elf_loader.specs.Image.{Loaded}
 use Rattle.machine.specs.Machine.{Running, opening}
 use Rattle.machine.specs.Untraced.{IsUntraced, Untraced}
-use Rattle.run_settings.specs.Settings.{IsPlan, IsPlanOf, RefusedAs, StandsIn, image_for, image_of, plan_of}
-use Rattle.run_settings.specs.declared.settings.Format.{Format}
-use Rattle.run_settings.specs.declared.settings.Settings.{Settings}
+use Rattle.round_planner.specs.Settings.{IsPlan, IsPlanOf, RefusedAs, StandsIn, image_for, image_of, plan_of}
+use Rattle.round_planner.specs.declared.settings.Format.{Format}
+use Rattle.round_planner.specs.declared.settings.Settings.{Settings}
 use Rattle.recording.specs.Recorded.{Recorded}
 use Rattle.replayer.specs.Past.{Begins}
 use Rattle.replayer.specs.Refusals.{HasImage, HasImageCause, HasPlanCause}

@@ -2,8 +2,8 @@
 use Rattle.std.proofs.Common.{◌≡◌, ℕ, ◌≤◌, ◌<◌, true, false, Some, None, refl, arith}
 use Rattle.std.specs.Prelude.{◌⊎◌, ◌||◌, nat_lt}
 use Rattle.std.proofs.lemmas.Bool.Decides.{nat_tests}
-use Rattle.run_settings.specs.Settings.{IsInRange, settings_fault}
-use Rattle.run_settings.specs.declared.settings.Settings.{Settings}
+use Rattle.round_planner.specs.Settings.{IsInRange, settings_fault}
+use Rattle.round_planner.specs.declared.settings.Settings.{Settings}
 use Rattle.host_io.specs.declared.error.RunError.TheVariants as refusals
 
 within : (low high n : ℕ) → low ≤ n → n ≤ high → (nat_lt n low || nat_lt high n) ≡ false

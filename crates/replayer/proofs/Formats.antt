@@ -2,7 +2,7 @@
 use Rattle.std.proofs.Common.{◌≡◌, ℕ, false, refl, sym, ap, arith}
 use Rattle.std.specs.Prelude.{◌==◌}
 use Rattle.std.proofs.lemmas.Bool.Decides.{nat_tests}
-use Rattle.run_settings.specs.declared.settings.Format.TheVariants.{Elf, Flat}
+use Rattle.round_planner.specs.declared.settings.Format.TheVariants.{Elf, Flat}
 use Rattle.replayer.specs.Replayed.{format_of}
 
 pub is_flat : (n : ℕ) → n ≡ 1 → Flat ≡ format_of n

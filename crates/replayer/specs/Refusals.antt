@@ -6,7 +6,7 @@ use Rattle.elf_loader.specs.Causes.{IsGood, IsLeast as IsLeastOfImage}
 use Rattle.host_io.specs.declared.load_error.LoadError.{LoadError as ImageCause}
 use Rattle.host_io.specs.declared.error.RunError.{RunError}
 use Rattle.host_io.specs.declared.error.RunError.TheVariants as refusals
-use Rattle.run_settings.specs.Settings.{RefusedAs, StandsIn}
+use Rattle.round_planner.specs.Settings.{RefusedAs, StandsIn}
 use Rattle.recording.specs.Recorded.{Recorded}
 use Rattle.round_schedule.specs.Bounds.{AreNoWorkers, AreWorkers}
 use Rattle.replayer.specs.Replayed.{format_of}

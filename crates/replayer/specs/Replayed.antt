@@ -4,10 +4,10 @@ use Rattle.pages.specs.declared.access.Range.{Range}
 use Rattle.round_schedule.specs.declared.event.Event.{Event}
 use Rattle.round_planner.specs.Quotas.{Planned}
 use Rattle.machine.specs.Machine.{Running, opening, after_rounds}
-use Rattle.run_settings.specs.Settings.{IsPlanOf, image_of}
-use Rattle.run_settings.specs.declared.settings.Format.{Format}
-use Rattle.run_settings.specs.declared.settings.Format.TheVariants.{Elf, Flat}
-use Rattle.run_settings.specs.declared.settings.Settings.{Settings}
+use Rattle.round_planner.specs.Settings.{IsPlanOf, image_of}
+use Rattle.round_planner.specs.declared.settings.Format.{Format}
+use Rattle.round_planner.specs.declared.settings.Format.TheVariants.{Elf, Flat}
+use Rattle.round_planner.specs.declared.settings.Settings.{Settings}
 use Rattle.recording.specs.Recorded.{Checkpoint, Recorded}
 use Rattle.replayer.specs.declared.verdict.Verdict.{Verdict}
 use Rattle.replayer.specs.declared.verdict.Verdict.TheVariants.{Same, Differs}

@@ -1,7 +1,7 @@
 ghost use Rattle.std.specs.Prelude.{◌≡◌, ◌<◌, Some, None, IfOk};
 ghost use Rattle.round_planner.specs.Quotas.{Planned};
 ghost use Rattle.host_io.specs.declared.error.RunError.TheVariants as refusals;
-ghost use Rattle.run_settings.specs.Settings.{settings_fault};
+ghost use Rattle.round_planner.specs.Settings.{settings_fault};
 ghost use Rattle.machine.specs.Untraced.{IsUntraced};
 ghost use Rattle.round_schedule.specs.Bounds.{AreNoWorkers, AreWorkers};
 ghost use Rattle.replayer.specs.Refusals.{RefusedInOrder};

@@ -4,3 +4,4 @@ pub mod Texts
 pub mod Told
 pub mod Unique
 pub mod Rows
+pub mod Good

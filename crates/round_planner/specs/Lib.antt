@@ -6,3 +6,4 @@ pub mod Reading
 pub mod Rows
 pub mod Draws
 pub mod Families
+pub mod Settings

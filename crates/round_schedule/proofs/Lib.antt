@@ -18,3 +18,4 @@ pub mod Rising
 pub mod Runs
 pub mod Stopped
 pub mod ReservationsTied
+pub mod Same

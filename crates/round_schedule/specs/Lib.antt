@@ -15,3 +15,4 @@ pub mod Sound
 pub mod Spans
 pub mod Stopped
 pub mod Reservations
+pub mod Broken

@@ -1,4 +1,5 @@
-//! What a run is: accesses and events, reservations, its bounds, and the schedule of a round over any set of instructions.
+//! What a run is: accesses and events, its bounds, and the schedule of a round over any set of instructions; and the reservations of LR and SC,
+//! a map from harts to the bytes that each has reserved.
 //!
 //! The definitions stand in `specs/`, and speak of any set of instructions; the laws on them are the contracts of `laws`.
 #![tactic(auto)]
@@ -7,6 +8,8 @@ mod access;
 mod bounds;
 mod event;
 mod laws;
+mod overlap;
+mod reservations;
 mod span;
 
 pub use access::{Access, Stepped};
@@ -18,4 +21,5 @@ pub use laws::{
     rounds_preserve, runs_by_reservations, serial_phase_by_reservations, serial_turn_is_longest,
     stopped_runs_pass, traces_are_round_traces,
 };
+pub use reservations::Reservations;
 pub use span::Span;

@@ -12,7 +12,7 @@ use Rattle.hart_step.specs.declared.hart.Hart.{Hart}
 use Rattle.hart_step.specs.Buffered.{Overlay, seen_through}
 use Rattle.machine.specs.Machine.{Running}
 use Rattle.moments.specs.Hits.{harts_in_part, hits_from}
-use Rattle.moments.specs.Stops.{sight_of}
+use Rattle.moments.specs.Bytes.{sight_of}
 use Rattle.moments.specs.declared.asked.Asked.{Asked}
 use Rattle.past_harts.specs.declared.place.Place.{Place}
 use Rattle.past_harts.specs.Begun.{Begun}

@@ -3,7 +3,7 @@ ghost use Rattle.round_schedule.specs.declared.event.Phase.TheVariants.{Parallel
 ghost use Rattle.hart_step.specs.DecodedCode.{Shows};
 ghost use Rattle.moments.specs.Hits.{harts_in_part, tells};
 ghost use Rattle.moments.specs.Quiet.{AreQuiet};
-ghost use Rattle.moments.specs.Stops.{sight_of};
+ghost use Rattle.moments.specs.Bytes.{sight_of};
 ghost use Rattle.round_steps.specs.Places.{part_counts, places, turn_comes};
 
 use crate::noting::add_places;

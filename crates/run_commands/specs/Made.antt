@@ -2,7 +2,7 @@
 use Rattle.std.specs.Prelude.{◌⊎◌, ℕ, List}
 use Rattle.command_line.specs.declared.settings.Migrate.{Migrate}
 use Rattle.command_line.specs.declared.settings.Record.{Record}
-use Rattle.run_settings.specs.declared.settings.Settings.{Settings}
+use Rattle.round_planner.specs.declared.settings.Settings.{Settings}
 use Rattle.program_files.specs.Asked.{RefusedRun}
 use Rattle.program_files.specs.Failures.{IsFileFailure}
 use Rattle.run_commands.specs.Failures.{IsUnwritten}

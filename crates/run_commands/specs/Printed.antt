@@ -10,8 +10,8 @@ use Rattle.emulation.specs.declared.run_end.RunEnd.TheVariants.{Badly, RunsOn, W
 use Rattle.emulation.specs.declared.showing.ShownState.{ShownState}
 use Rattle.emulation.specs.declared.showing.ShownState.TheVariants as parts
 use Rattle.machine.specs.Runs.{after_run}
-use Rattle.run_settings.specs.Settings.{IsPlan}
-use Rattle.run_settings.specs.declared.settings.Settings.{Settings}
+use Rattle.round_planner.specs.Settings.{IsPlan}
+use Rattle.round_planner.specs.declared.settings.Settings.{Settings}
 use Rattle.program_files.specs.declared.exit_status.ExitStatus.{ExitStatus}
 use Rattle.program_files.specs.declared.exit_status.ExitStatus.TheVariants.{Done, Doubtful}
 use Rattle.round_planner.specs.Quotas.{Planned}

@@ -2,7 +2,7 @@ ghost use Rattle.std.specs.Prelude.{◌≡◌, ◌⊎◌, ◌++◌, IfErr, IfOk,
 ghost use Rattle.emulation.specs.Showing.{end_of};
 ghost use Rattle.host_io.specs.Taken.{BeganText};
 ghost use Rattle.host_io.specs.declared.error.RunError.TheVariants as refusals;
-ghost use Rattle.run_settings.specs.Settings.{IsReason, RefusedInOrder, settings_fault};
+ghost use Rattle.round_planner.specs.Settings.{IsReason, RefusedInOrder, settings_fault};
 ghost use Rattle.machine.specs.Runs.{after_run};
 ghost use Rattle.program_files.specs.Asked.{AskedRun, EndsFor, RefusedSetRun, SetRun};
 ghost use Rattle.program_files.specs.declared.failure.RunFailure.TheVariants as failures;

@@ -23,7 +23,7 @@ use Rattle.machine.specs.Untraced.{IsUntraced, Untraced}
 use Rattle.moments.proofs.Past.{part_is}
 use Rattle.moments.specs.Hits.{harts_in_part}
 use Rattle.moments.specs.Pcs.{pc_after, pc_in}
-use Rattle.moments.specs.Stops.{sight_of}
+use Rattle.moments.specs.Bytes.{sight_of}
 use Rattle.run_events.specs.Parts.{is_of_part, is_parallel, part_of, pc_by_phase, pc_in_parts, pc_of_hart}
 use Rattle.run_events.specs.Pcs.{done_by, pc_in_next}
 use Rattle.run_events.proofs.StretchByStretch.{front_passes, same_on}

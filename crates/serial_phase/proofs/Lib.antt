@@ -11,3 +11,9 @@ pub mod TurnStretches
 pub mod PhaseUnderWay
 pub mod ShownCode
 pub mod PlainRun
+pub mod Decided
+pub mod Forgetting
+pub mod Returning
+pub mod ReservationsTied
+pub mod Words
+pub mod Turns

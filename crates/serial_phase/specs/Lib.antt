@@ -6,3 +6,7 @@ pub mod Words
 pub mod Plain
 pub mod Phase
 pub mod UnderWay
+pub mod Asking
+pub mod Decided
+pub mod Forgetting
+pub mod Returning

@@ -7,8 +7,7 @@ use crate::log::SerialLog;
 use crate::shared::SharedState;
 use hart_step::DecodedCode;
 use pages::Pages;
-use reservations::Reservations;
-use round_schedule::MOST_HARTS;
+use round_schedule::{MOST_HARTS, Reservations};
 use std::alloc::Global;
 
 impl SharedState {

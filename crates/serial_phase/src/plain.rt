@@ -9,8 +9,7 @@ ghost use Rattle.serial_phase.specs.Words.{Leaves, answered_reservations};
 
 use crate::shared::SharedState;
 use hart_step::{Hart, step_decoded};
-use reservations::Reservations;
-use round_schedule::{Access, Stepped};
+use round_schedule::{Access, Reservations, Stepped};
 use rv64_decode::Instr;
 
 /// Does an instruction that has no effect of its own in the serial phase, on memory itself. Its

@@ -5,7 +5,7 @@ use crate::console::Console;
 use crate::log::SerialLog;
 use hart_step::DecodedCode;
 use pages::Pages;
-use reservations::Reservations;
+use round_schedule::Reservations;
 
 /// What the harts share in the serial phase of a round.
 pub struct SharedState {

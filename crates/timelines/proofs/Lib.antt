@@ -1,1 +1,3 @@
+pub mod ShownThere
+pub mod OwnPartsDone
 pub mod Stretches

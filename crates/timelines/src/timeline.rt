@@ -2,19 +2,20 @@ ghost use Rattle.std.specs.Prelude.{◌≡◌, ◌≤◌, ◌+◌, ◌-◌, ◌<
 ghost use Rattle.host_io.specs.declared.error.RunError.TheVariants as refusals;
 ghost use Rattle.machine.specs.Machine.{Running, after_rounds};
 ghost use Rattle.machine.specs.Untraced.{IsUntraced, Untraced};
-ghost use Rattle.shown_harts.specs.OwnParts.{own_stores, waits_at};
+ghost use Rattle.timelines.specs.OwnParts.{own_stores, waits_at};
 ghost use Rattle.round_steps.specs.Points.{nearest_point_of, next_point_of, previous_point_of};
-ghost use Rattle.shown_harts.specs.Shown.{seen};
+ghost use Rattle.timelines.specs.Shown.{seen};
 ghost use Rattle.timelines.specs.Timelines.{IsThere};
 ghost use Rattle.round_schedule.specs.Bounds.{AreWorkers};
 
+use crate::own_part::{OwnPart, part_at};
+use crate::showing::shown_at_side;
 use host_io::RunError;
 use machine::UntracedMachine;
 use moments::Sight;
 use pages::Range;
 use past_harts::Point;
 use round_steps::{Telling, Told, nearest};
-use shown_harts::{OwnPart, part_at, shown_at_side};
 use std::marker::Model;
 use std::sync::Wait;
 use std::thread::Threads;

@@ -2,8 +2,8 @@
 use Rattle.std.proofs.Common.{◌≡◌, Err, IfOk, List, None, Ok, Option, Result, Some, refl, ⊎_elim, ℕ}
 use Rattle.command_line.specs.declared.settings.Draw.{Draw}
 use Rattle.host_io.specs.declared.error.RunError.{RunError}
-use Rattle.run_settings.specs.Settings.{IsPlan, RefusedInOrder, settings_fault}
-use Rattle.run_settings.specs.declared.settings.Settings.{Settings}
+use Rattle.round_planner.specs.Settings.{IsPlan, RefusedInOrder, settings_fault}
+use Rattle.round_planner.specs.declared.settings.Settings.{Settings}
 use Rattle.program_files.specs.declared.fault.NamingFault.{NamingFault}
 use Rattle.program_files.specs.Asked.{HasSettings}
 use Rattle.round_planner.specs.Quotas.{Planned}

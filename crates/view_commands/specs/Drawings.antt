@@ -10,7 +10,7 @@ use Rattle.execution_file.specs.Recorded.{Recorded}
 use Rattle.host_io.specs.Taken.{BeganText}
 use Rattle.host_io.specs.declared.error.RunError.TheVariants as refusals
 use Rattle.host_io.specs.declared.load_error.LoadError.{LoadError as ImageCause}
-use Rattle.run_settings.specs.Settings.{IsImageCause, settings_fault}
+use Rattle.round_planner.specs.Settings.{IsImageCause, settings_fault}
 use Rattle.program_files.specs.declared.fault.NamingFault.{NamingFault}
 use Rattle.program_files.specs.Asked.{IsGiven, RefusedSetRun, SetRun}
 use Rattle.program_files.specs.Failures.{IsFileFailure}

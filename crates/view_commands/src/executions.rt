@@ -10,9 +10,8 @@ ghost use Rattle.program_files.specs.declared.exit_status.ExitStatus.TheVariants
 use crate::failure::DrawFailure;
 use crate::ranges::access_ranges;
 use command_line::{Bytes, Draw};
-use drawing::object_touched;
+use drawing::{ExecutionScene, object_touched, write_execution_picture};
 use execution_commands::{is_allowed, put_verdict, read_execution_text};
-use execution_picture::{ExecutionScene, write_execution_picture};
 use execution_scripts::{Checked, ExecutionFile, check_file, positions_sought};
 use host_io::{RunError, Sink};
 use machine::Format;

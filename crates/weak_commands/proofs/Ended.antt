@@ -15,7 +15,7 @@ use Rattle.hunt_commands.specs.declared.failure.HuntFailure.TheVariants as hunts
 use Rattle.hunter.specs.declared.error.HuntError.{HuntError}
 use Rattle.hunter.specs.declared.error.HuntError.TheVariants as hunting
 use Rattle.hunter.specs.declared.settings.HuntSettings.{HuntSettings}
-use Rattle.run_settings.specs.Settings.{image_of}
+use Rattle.round_planner.specs.Settings.{image_of}
 use Rattle.pages.specs.declared.access.Range.{Range}
 use Rattle.program_files.specs.declared.failure.RunFailure.TheVariants as runs
 use Rattle.weak_hunter.specs.WeakHunts.{IsWeakReason}

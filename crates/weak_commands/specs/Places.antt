@@ -14,7 +14,7 @@ use Rattle.host_io.specs.declared.load_error.LoadError.{LoadError as ImageCause}
 use Rattle.hunt_commands.specs.declared.failure.HuntFailure.TheVariants as hunts
 use Rattle.hunter.specs.Hunts.{IsImageCause, hunt_fault}
 use Rattle.hunter.specs.declared.settings.HuntSettings.{HuntSettings}
-use Rattle.run_settings.specs.Settings.{image_of}
+use Rattle.round_planner.specs.Settings.{image_of}
 use Rattle.pages.specs.declared.access.Range.{Range}
 use Rattle.program_files.specs.declared.failure.RunFailure.TheVariants as runs
 

@@ -3,7 +3,7 @@ use Rattle.std.proofs.Common.{◌≡◌, ℕ, List, subst}
 use Rattle.elf_loader.specs.Image.{Loaded}
 use Rattle.hart_step.specs.declared.hart.Hart.{Hart}
 use Rattle.guest_rounds.specs.Opening.{opening_harts}
-use Rattle.run_settings.specs.Settings.{image_of}
+use Rattle.round_planner.specs.Settings.{image_of}
 use Rattle.hunter.specs.declared.settings.HuntSettings.{HuntSettings}
 use Rattle.plan_hunt.specs.declared.row.Row.{Row}
 use Rattle.weak_hunter.specs.WeakHunts.{IsTabled, IsWeaklyHunted}

@@ -4,7 +4,7 @@ use Rattle.std.specs.Global.{Vec}
 use Rattle.elf_loader.specs.Image.{Loaded}
 use Rattle.hart_step.specs.declared.hart.Hart.{Hart}
 use Rattle.guest_rounds.specs.Opening.{opening_harts}
-use Rattle.run_settings.specs.Settings.{image_of}
+use Rattle.round_planner.specs.Settings.{image_of}
 use Rattle.hunt_table.specs.Text.{table_text}
 use Rattle.hunter.specs.Hunts.{IsHuntReason, ending_of_stop}
 use Rattle.hunter.specs.declared.settings.HuntSettings.{HuntSettings}

@@ -5,7 +5,7 @@ ghost use Rattle.pages.specs.Memory.{width_bytes};
 use super::{buffer_of, fits};
 use commit_phase::{ShardGate, commit_on};
 use pages::{OutOfMemory, Pages, Piece, Store, Width};
-use reservations::Reservations;
+use round_schedule::Reservations;
 use std::alloc::Global;
 use std::sync::atomic::AtomicU32;
 use std::sync::atomic::Ordering::SeqCst;

@@ -1,7 +1,7 @@
 use Rattle.std.proofs.Common.{◌≡◌, None, arith}
 use Rattle.debug_commands.proofs.OpenedRun.{HasSettings, refusal_of, run_of}
 use Rattle.debug_commands.proofs.debuggee.opened_run.Goals as goal
-use Rattle.run_settings.specs.Settings.{settings_fault}
+use Rattle.round_planner.specs.Settings.{settings_fault}
 
 pub returns-clause-opens : goal.returns-clause-opens
 returns-clause-opens c =

@@ -2,7 +2,7 @@ use Rattle.std.proofs.Common.{ap, inl, inr, refl, subst, ◌∙◌, ⊎_elim}
 use Rattle.std.proofs.lemmas.Result.{err_from_is_err_and}
 use Rattle.machine.specs.Machine.{Running}
 use Rattle.machine.specs.Untraced.{IsUntraced}
-use Rattle.run_settings.specs.Settings.{IsReason, settings_fault}
+use Rattle.round_planner.specs.Settings.{IsReason, settings_fault}
 use Rattle.host_io.proofs.Answered.{fault_or, in_words, refused_first}
 use Rattle.drawing.specs.Drawn.{picture_of}
 use Rattle.drawing.proofs.drawing.draw_run.Goals as goal

@@ -1,7 +1,7 @@
 use Rattle.std.proofs.Common.{List, ap, inr, refl}
 use Rattle.std.proofs.lemmas.Result.{err_from_is_err_and}
 use Rattle.round_schedule.specs.declared.event.Event.{Event}
-use Rattle.run_settings.specs.Settings.{IsReason, settings_fault}
+use Rattle.round_planner.specs.Settings.{IsReason, settings_fault}
 use Rattle.host_io.proofs.Answered.{fault_or, of_text, refused_first}
 use Rattle.trace_events.specs.TraceEvents.{trace_events_text}
 use Rattle.drawing.proofs.tracing.trace_run.Goals as goal

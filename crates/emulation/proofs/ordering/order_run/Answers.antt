@@ -4,7 +4,7 @@ use Rattle.host_io.proofs.Written.{where_done, where_refused}
 use Rattle.memory_order.proofs.Meeting.{meets_rvwmo}
 use Rattle.report.specs.Order.{order_text}
 use Rattle.round_schedule.specs.declared.event.Event.{Event}
-use Rattle.run_settings.specs.Settings.{IsReason, image_for, settings_fault}
+use Rattle.round_planner.specs.Settings.{IsReason, image_for, settings_fault}
 use Rattle.host_io.proofs.Answered.{fault_or, of_parts, refused_first}
 use Rattle.trace.specs.Traced.{opening_at}
 use Rattle.emulation.proofs.Ordered.{order_of, same_opening}

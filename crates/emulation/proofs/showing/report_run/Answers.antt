@@ -4,7 +4,7 @@ use Rattle.emulation.specs.Showing.{end_of}
 use Rattle.machine.specs.Machine.{Running, after_rounds}
 use Rattle.machine.specs.Untraced.{IsUntraced}
 use Rattle.report.specs.Report.{report_of}
-use Rattle.run_settings.specs.Settings.{IsReason, settings_fault}
+use Rattle.round_planner.specs.Settings.{IsReason, settings_fault}
 use Rattle.host_io.proofs.Answered.{fault_or, in_words, refused_first}
 use Rattle.emulation.proofs.showing.report_run.Goals as goal
 

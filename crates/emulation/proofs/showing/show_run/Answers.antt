@@ -1,6 +1,6 @@
 use Rattle.std.proofs.Common.{inl, inr, refl, ⊎_elim}
 use Rattle.std.proofs.lemmas.Result.{err_from_is_err_and}
-use Rattle.run_settings.specs.Settings.{IsReason, settings_fault}
+use Rattle.round_planner.specs.Settings.{IsReason, settings_fault}
 use Rattle.host_io.proofs.Answered.{fault_or, in_words, refused_first}
 use Rattle.emulation.proofs.showing.show_run.Goals as goal
 

@@ -1,6 +1,6 @@
 use Rattle.std.proofs.Common.{ℕ, List, ap, refl, subst, sym}
 use Rattle.std.proofs.lemmas.Result.{on_ok_weaker}
-use Rattle.gdb_requests.specs.declared.request.Request.TheVariants as requests
+use Rattle.gdb_packets.specs.declared.request.Request.TheVariants as requests
 use Rattle.execution_session.specs.Answers.{Answer, Wrote}
 use Rattle.execution_session.specs.Sessions.{State, looked_at, state_of}
 use Rattle.execution_session.proofs.Arriving.{answered_with, both, nothing_changes}

@@ -1,6 +1,6 @@
 use Rattle.std.proofs.Common.{[], refl, sym, subst, append-nil}
 use Rattle.std.proofs.lemmas.Result.{on_ok_weaker}
-use Rattle.gdb_requests.specs.declared.request.Request.{Request}
+use Rattle.gdb_packets.specs.declared.request.Request.{Request}
 use Rattle.execution_session.specs.Serving.{RepliesTo}
 use Rattle.execution_session.specs.Sessions.{looked_at, state_of}
 use Rattle.execution_session.proofs.Going.{replies_to}

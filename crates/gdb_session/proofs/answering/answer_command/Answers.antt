@@ -1,7 +1,7 @@
 use Rattle.std.proofs.Common.{sym, subst}
 use Rattle.std.proofs.lemmas.Result.{on_ok_weaker}
-use Rattle.gdb_requests.specs.declared.command.Command.{Command}
-use Rattle.gdb_requests.specs.declared.request.Request.TheVariants as requests
+use Rattle.gdb_packets.specs.declared.command.Command.{Command}
+use Rattle.gdb_packets.specs.declared.request.Request.TheVariants as requests
 use Rattle.gdb_runs.specs.Sessions.{recorded_of, state_of}
 use Rattle.gdb_session.specs.Answers.{Answered}
 use Rattle.gdb_session.proofs.Arriving.{both, hits_off, hits_on, replied}

@@ -1,8 +1,8 @@
 use Rattle.std.proofs.Common.{refl}
-use Rattle.gdb_requests.specs.declared.request.Request.TheVariants as requests
+use Rattle.gdb_packets.specs.declared.request.Request.TheVariants as requests
 use Rattle.gdb_talk.specs.declared.look.Look.{Look}
 use Rattle.gdb_answers.specs.Answers.{checksum_answer, memory_answer, register_answer, registers_answer}
-use Rattle.shown_harts.specs.Shown.{seen}
+use Rattle.timelines.specs.Shown.{seen}
 use Rattle.gdb_runs.specs.Sessions.{recorded_of}
 use Rattle.gdb_session.proofs.Arriving.{read_with}
 use Rattle.gdb_session.proofs.reading.read_at.Goals as goal

@@ -1,7 +1,7 @@
 use Rattle.std.proofs.Common.{◌≡◌, ◌++◌, ℕ, Option, refl, subst}
 use Rattle.std.specs.Prelude.{OnOk}
 use Rattle.std.proofs.lemmas.Result.{on_ok_weaker}
-use Rattle.gdb_requests.specs.declared.request.Request.TheVariants as requests
+use Rattle.gdb_packets.specs.declared.request.Request.TheVariants as requests
 use Rattle.gdb_packets.specs.Writing.{packet_text}
 use Rattle.gdb_answers.specs.Answers.{thread_list_answer}
 use Rattle.gdb_session.specs.Answers.{done_or_missing, hart_of_thread, note_text_of, stands_text}

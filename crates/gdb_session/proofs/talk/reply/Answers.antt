@@ -1,6 +1,6 @@
 use Rattle.std.proofs.Common.{[], ◌++◌, ◌∙◌, ap, append-nil, Err, inl, inr, List, refl, subst, sym, ℕ}
 use Rattle.std.proofs.lemmas.Result.{on_ok_weaker}
-use Rattle.gdb_requests.specs.declared.request.Request.{Request}
+use Rattle.gdb_packets.specs.declared.request.Request.{Request}
 use Rattle.gdb_session.specs.Serving.{RepliesTo}
 use Rattle.gdb_talk.specs.Saying.{refused_text}
 use Rattle.gdb_runs.specs.Sessions.{recorded_of, state_of}

@@ -7,8 +7,8 @@ use Rattle.hart_rounds.specs.Starts.{keeps_log}
 use Rattle.hart_rounds.specs.declared.hart_end.HartEnd.{HartEnd}
 use Rattle.guest_rounds.specs.Guests.{Shared, shared_of}
 use Rattle.guest_rounds.specs.HartEnds.{AreEndsOf, AreFit}
-use Rattle.run_loops.specs.Asking.{asks_in_round, asks_in_reserving_phase}
-use Rattle.run_loops.specs.Forgetting.{asks_number}
+use Rattle.serial_phase.specs.Asking.{asks_in_round, asks_in_reserving_phase}
+use Rattle.serial_phase.specs.Forgetting.{asks_number}
 use Rattle.guest_turns.specs.Asked.{ready_for_turns}
 use Rattle.guest_turns.proofs.HalfRounds.{bytes_here, ends_here, fit_here, many_here, rounds_here, tied_here, touches_here}
 use Rattle.guest_turns.proofs.NumbersAsked.{round_asks}

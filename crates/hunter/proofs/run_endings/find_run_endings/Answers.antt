@@ -1,7 +1,7 @@
 use Rattle.std.proofs.Common.{List, map, ap, ◌∙◌}
 use Rattle.hart_step.specs.declared.hart.Hart.{Hart}
 use Rattle.machine.specs.Machine.{Running, opening}
-use Rattle.run_settings.specs.Settings.{image_for}
+use Rattle.round_planner.specs.Settings.{image_for}
 use Rattle.hunter.specs.Hunts.{ending_by}
 use Rattle.hunter.proofs.Runs.{told_so}
 use Rattle.hunter.proofs.run_endings.find_run_endings.Goals as goal

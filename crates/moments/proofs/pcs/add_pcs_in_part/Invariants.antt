@@ -1,7 +1,7 @@
 use Rattle.std.proofs.Common.{◌≡◌, ◌++◌, map, take}
 use Rattle.moments.specs.Hits.{harts_in_part}
 use Rattle.moments.specs.Pcs.{GoesOn, pc_in}
-use Rattle.moments.specs.Stops.{sight_of}
+use Rattle.moments.specs.Bytes.{sight_of}
 use Rattle.moments.proofs.PcsFound.{IsBehind}
 use Rattle.moments.proofs.pcs.add_pcs_in_part.Given as goal
 

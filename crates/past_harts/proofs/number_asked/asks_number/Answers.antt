@@ -1,8 +1,8 @@
 use Rattle.std.proofs.Common.{ap, ◌∙◌, arith}
 use Rattle.round_planner.specs.Quotas.{quotas_of}
 use Rattle.hart_step.specs.Words.{words_of}
-use Rattle.run_loops.specs.Asking.{asks_in_round}
-use Rattle.run_loops.specs.Forgetting.{asks_number}
+use Rattle.serial_phase.specs.Asking.{asks_in_round}
+use Rattle.serial_phase.specs.Forgetting.{asks_number}
 use Rattle.machine.specs.Machine.{Running}
 use Rattle.machine.specs.Untraced.{Untraced}
 use Rattle.past_harts.proofs.NextRounds.{guest_is, tied_guest}

@@ -1,7 +1,7 @@
 use Rattle.std.proofs.Common.{List, ap, inl, inr, refl, subst, ⊎_elim, ℕ, ◌++◌, ◌∙◌}
 use Rattle.host_io.specs.Taken.{BeganText}
 use Rattle.program_files.proofs.Told.{on_value, told_done, told_refusal, told_refused, where_refused}
-use Rattle.run_settings.specs.Settings.{IsReason, settings_fault}
+use Rattle.round_planner.specs.Settings.{IsReason, settings_fault}
 use Rattle.host_io.proofs.Answered.{begun, why_in_range}
 use Rattle.view_commands.proofs.tracing.trace_given.Goals as goal
 

@@ -2,7 +2,7 @@ use Rattle.std.proofs.Common.{◌≡◌, ◌++◌, ℕ, List, Option, sym, subst
 use Rattle.std.specs.Prelude.{OnOk}
 use Rattle.std.proofs.lemmas.Result.{on_ok_weaker}
 use Rattle.gdb_packets.specs.Views.{told_in}
-use Rattle.gdb_requests.specs.declared.request.Request.{Request}
+use Rattle.gdb_packets.specs.declared.request.Request.{Request}
 use Rattle.gdb_runs.specs.Sessions.{recorded_of}
 use Rattle.gdb_session.specs.Serving.{HearsBy, talking}
 use Rattle.gdb_session.proofs.Resuming.{acknowledged}

@@ -2,7 +2,7 @@ use Rattle.std.proofs.Common.{subst, sym}
 use Rattle.machine.specs.Machine.{after_rounds}
 use Rattle.machine.specs.Untraced.{IsUntraced}
 use Rattle.timelines.specs.Timelines.{Line}
-use Rattle.shown_harts.proofs.OwnPartsDone.{stores_there, waits_there}
+use Rattle.timelines.proofs.OwnPartsDone.{stores_there, waits_there}
 use Rattle.timelines.proofs.timeline.Timeline.own_part_at.Goals as goal
 
 pub returns-clause-stores : goal.returns-clause-stores

@@ -1,5 +1,0 @@
-use Rattle.std.proofs.Common.{length}
-use Rattle.gdb_requests.proofs.fields.+number_from.Given as goal
-
-abbrev pub decreases-number_from : goal.decreases-number_from
-decreases-number_from l = length l.text.now

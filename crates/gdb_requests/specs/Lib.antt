@@ -1,4 +1,0 @@
-pub mod Fields
-pub mod Files
-pub mod Commands
-pub mod Grammar

@@ -1,6 +1,0 @@
-pub mod Alike
-pub mod Ends
-pub mod Found
-pub mod Pagewise
-pub mod Rounds
-pub mod Turns

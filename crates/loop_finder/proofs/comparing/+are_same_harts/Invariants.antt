@@ -1,6 +1,0 @@
-use Rattle.std.proofs.Common.{length}
-use Rattle.loop_finder.proofs.comparing.+are_same_harts.Given as goal
-
--- each call has one hart fewer
-abbrev pub decreases-are_same_harts : goal.decreases-are_same_harts
-decreases-are_same_harts l = length l.harts.now

@@ -1,4 +1,0 @@
-pub mod Asking
-pub mod Decided
-pub mod Forgetting
-pub mod Returning

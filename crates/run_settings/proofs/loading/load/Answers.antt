@@ -1,6 +1,0 @@
-use Rattle.run_settings.specs.Settings.{StandsIn}
-use Rattle.run_settings.proofs.Good.{refused_for_memory}
-use Rattle.run_settings.proofs.loading.load.Goals as goal
-
-pub returns-clause-taken : goal.returns-clause-taken
-returns-clause-taken c = refused_for_memory (StandsIn c.args.format c.args.file.now c.args.pages) c.load_as.result c.load_as.ensures.errors

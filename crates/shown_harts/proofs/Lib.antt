@@ -1,2 +1,0 @@
-pub mod ShownThere
-pub mod OwnPartsDone
