@@ -16,8 +16,9 @@ pub {name}_spec : {{M : Type 1}} → statement M
 
 
 def take_by_contract(crate, is_left, path_of):
-    """Takes each function of a crate's folder by its contract, but for those that are left as they are: functions of traits, those of a cycle, and
-    those of which `is_left` says so by the file and the line. `path_of` tells the parts of a function's path below the crate by the same, or none."""
+    """Takes each function of a crate's folder by its contract, but for those that are left as they are: functions of traits, those of a cycle, those
+    of a type with some arguments alone, and those of which `is_left` says so by the file and the line. `path_of` tells the parts of a function's path
+    below the crate by the same, or none."""
     for file in sorted((crate / "src").rglob("*.rt")):
         lines = file.read_text(encoding="utf-8").split("\n")
         spans = [it for it in functions_of(lines) if is_own(lines, it[0]) and not is_left(file, it[0])]
@@ -55,7 +56,7 @@ def is_own(lines, begin):
     """Whether a function is no trait's, and in no cycle of calls that is named above it."""
     if lines[begin].startswith(" "):
         owner = next((lines[it] for it in range(begin, -1, -1) if re.match(r"\S.*\{$", lines[it]) or lines[it] == "{"), "")
-        if not re.match(r"(?:unsafe )?impl\b", owner) or " for " in owner:
+        if not re.match(r"(?:unsafe )?impl\b", owner) or " for " in owner or not is_general(owner):
             return False
     above = begin - 1
     while above >= 0 and re.match(r" *(?:#|///)", lines[above]):
@@ -63,6 +64,20 @@ def is_own(lines, begin):
             return False
         above -= 1
     return True
+
+
+def is_general(owner):
+    """Whether an `impl` is of its type with any arguments: each of them is a parameter or a lifetime of the `impl`. Else the prover names them in the
+    function's path."""
+    head, depth = owner.partition("impl")[2].rpartition("{")[0], 0
+    ends = [0]
+    for at, letter in enumerate(head if head.startswith("<") else ""):
+        depth += (letter == "<") - (letter == ">")
+        if depth == 0:
+            ends.append(at + 1)
+            break
+    parameters, arguments = head[: ends[-1]], head[ends[-1] :].partition(" where ")[0].partition("<")[2]
+    return set(re.findall(r"\w+", arguments)) <= set(re.findall(r"\w+", parameters)) | {"_"}
 
 
 def take_proof(crate, parts):
