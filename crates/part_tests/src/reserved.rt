@@ -1,4 +1,4 @@
-//! Who has reserved what, through the public calls of the crate `reservations`.
+//! Who has reserved what, through the public calls of `Reservations`.
 
 use pages::Width::{W1, W4, W8};
 use round_schedule::Reservations;
