@@ -5,6 +5,7 @@ ghost use Rattle.gdb_packets.specs.Stream.{is_sum_of, told_of};
 ghost use Rattle.gdb_packets.specs.Views.{told_in};
 ghost use Rattle.hex.specs.Hex.{hex_digit_value};
 
+use crate::fields::digit_value;
 use crate::item::Item;
 use crate::payload::{MOST, payload_of};
 use pages::OutOfMemory;
@@ -27,19 +28,6 @@ pub(crate) struct Draft {
     pub(crate) bytes: Vec<u8>,
     pub(crate) sum: u8,
     pub(crate) fate: Fate,
-}
-
-/// The value of a hexadecimal digit.
-fn digit_value(digit: u8) -> Option<u8>
-    ensures value { result ≡ hex_digit_value digit }
-    ensures least { IfSome result (λ v. v < 16) }
-{
-    match digit {
-        b'A'..=b'F' => Some(digit - 55),
-        b'a'..=b'f' => Some(digit - 87),
-        b'0'..=b'9' => Some(digit - 48),
-        _ => None,
-    }
 }
 
 /// Keeps a byte behind these, where there is room for it.

@@ -44,7 +44,7 @@ fn digit_of(value: u8) -> u8
 }
 
 /// The value of a hexadecimal digit.
-fn digit_value(digit: u8) -> Option<u8>
+pub(crate) fn digit_value(digit: u8) -> Option<u8>
     ensures value { result ≡ hex_digit_value digit }
     ensures least { IfSome result (λ v. v < 16) }
 {
