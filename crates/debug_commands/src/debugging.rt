@@ -8,7 +8,7 @@ use command_line::Gdb;
 use execution_commands::put_verdict;
 use gdb_session::serve;
 use gdb_talk::refuse_each;
-use host_io::{RunError, Sink, Source, put_all};
+use host_io::{NumberedRefusal, RunError, Sink, Source, put_all};
 use pages::OutOfMemory;
 use past_commands::{PastFailure, PastFiles};
 use program_files::ExitStatus;

@@ -5,7 +5,7 @@ ghost use Rattle.host_io.specs.declared.error.RunError.TheVariants as refusals;
 ghost use Rattle.program_files.specs.declared.failure.RunFailure.TheVariants as runs;
 
 use execution_scripts::Cause;
-use host_io::RunError;
+use host_io::{NumberedRefusal, RunError};
 use program_files::RunFailure;
 use std::fmt::{self, Display, Formatter, Write};
 
@@ -18,11 +18,10 @@ pub enum ExecutionFailure {
     NoExecution(Cause, usize),
 }
 
-impl ExecutionFailure {
-    /// The number of the refusal.
-    pub fn number(&self) -> u32
-        ensures { result ≡ failure_number self.now }
-    {
+impl NumberedRefusal for ExecutionFailure {
+    ghost refusal_number = { failure_number };
+
+    fn number(&self) -> u32 {
         match self {
             ExecutionFailure::Run(failure) => failure.number(),
             ExecutionFailure::NoExecution(cause, _) => cause.number(),

@@ -4,6 +4,7 @@ ghost use Rattle.host_io.specs.declared.error.RunError.TheVariants as refusals;
 
 use crate::load_error::LoadError;
 use crate::plan_error::PlanError;
+use crate::refusal::NumberedRefusal;
 use thiserror::Error;
 
 /// Why a call was refused.
@@ -66,5 +67,13 @@ impl RunError {
             RunError::BudgetOutOfRange => 55,
             RunError::SourceFailed => 61,
         }
+    }
+}
+
+impl NumberedRefusal for RunError {
+    ghost refusal_number = { number_of };
+
+    fn number(&self) -> u32 {
+        RunError::number(*self)
     }
 }

@@ -7,6 +7,7 @@ mod error;
 mod history;
 mod load_error;
 mod plan_error;
+mod refusal;
 mod sink;
 mod source;
 
@@ -15,5 +16,6 @@ pub use error::RunError;
 pub use history::History;
 pub use load_error::LoadError;
 pub use plan_error::PlanError;
+pub use refusal::NumberedRefusal;
 pub use sink::{Sink, SinkFault, put_all};
 pub use source::{Source, SourceFault, read_all};

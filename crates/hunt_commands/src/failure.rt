@@ -5,7 +5,7 @@ ghost use Rattle.hunt_commands.specs.declared.failure.HuntFailure.TheVariants as
 ghost use Rattle.program_files.specs.declared.failure.RunFailure.TheVariants as runs;
 ghost use Rattle.weak_hunter.specs.declared.error.WeakHuntError.TheVariants.{Hunt};
 
-use host_io::RunError;
+use host_io::{NumberedRefusal, RunError};
 use hunter::HuntError;
 use program_files::{NamingFault, RunFailure};
 use std::alloc::AllocError;
@@ -23,11 +23,10 @@ pub enum HuntFailure {
     Naming(NamingFault),
 }
 
-impl HuntFailure {
-    /// The number of the refusal.
-    pub fn number(&self) -> u32
-        ensures { result ≡ failure_number self.now }
-    {
+impl NumberedRefusal for HuntFailure {
+    ghost refusal_number = { failure_number };
+
+    fn number(&self) -> u32 {
         match self {
             HuntFailure::Run(failure) => failure.number(),
             HuntFailure::Refused(error) => error.number(),

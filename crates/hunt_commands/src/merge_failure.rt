@@ -5,7 +5,7 @@ ghost use Rattle.hunt_commands.specs.declared.merge_failure.MergeFailure.TheVari
 ghost use Rattle.program_files.specs.declared.failure.RunFailure.TheVariants as runs;
 
 use crate::neighbours::Apart;
-use host_io::RunError;
+use host_io::{NumberedRefusal, RunError};
 use hunt_table::MergeError;
 use program_files::RunFailure;
 use std::alloc::{AllocError, AllocFailed};
@@ -24,11 +24,10 @@ pub enum MergeFailure {
     Merge(MergeError),
 }
 
-impl MergeFailure {
-    /// The number of the refusal.
-    pub fn number(&self) -> u32
-        ensures { result ≡ merge_failure_number self.now }
-    {
+impl NumberedRefusal for MergeFailure {
+    ghost refusal_number = { merge_failure_number };
+
+    fn number(&self) -> u32 {
         match self {
             MergeFailure::Run(failure) => failure.number(),
             MergeFailure::NotATable(_) => MergeError::NotATable.number(),

@@ -6,7 +6,7 @@ ghost use Rattle.program_files.specs.declared.failure.RunFailure.TheVariants as 
 
 use execution_commands::ExecutionFailure;
 use execution_file::Cause;
-use host_io::RunError;
+use host_io::{NumberedRefusal, RunError};
 use pages::OutOfMemory;
 use program_files::{NamingFault, RunFailure};
 use recording::ReadError;
@@ -28,11 +28,10 @@ pub enum PastFailure {
     Naming(NamingFault),
 }
 
-impl PastFailure {
-    /// The number of the refusal.
-    pub fn number(&self) -> u32
-        ensures { result ≡ failure_number self.now }
-    {
+impl NumberedRefusal for PastFailure {
+    ghost refusal_number = { failure_number };
+
+    fn number(&self) -> u32 {
         match self {
             PastFailure::Run(failure) => failure.number(),
             PastFailure::Unread(error) => error.number(),

@@ -5,7 +5,7 @@ ghost use Rattle.program_files.specs.declared.failure.RunFailure.TheVariants as 
 
 use crate::files::FileFault;
 use crate::plan_lines::BadLine;
-use host_io::RunError;
+use host_io::{NumberedRefusal, RunError};
 use std::alloc::{AllocError, AllocFailed};
 use std::fmt::{self, Display, Formatter, Write};
 
@@ -20,11 +20,11 @@ pub enum RunFailure {
     File(String, FileFault),
 }
 
-impl RunFailure {
+impl NumberedRefusal for RunFailure {
+    ghost refusal_number = { failure_number };
+
     /// The number of the refusal: that of the run's, 61 for a file that can't be read, and 62 for one that is too large.
-    pub fn number(&self) -> u32
-        ensures { result ≡ failure_number self.now }
-    {
+    fn number(&self) -> u32 {
         match self {
             RunFailure::Refused(error) | RunFailure::Plan(error, _) => error.number(),
             RunFailure::File(_, FileFault::TooLarge) => 62,

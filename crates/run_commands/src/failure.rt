@@ -2,7 +2,7 @@ ghost use Rattle.std.specs.Prelude.{◌≡◌};
 ghost use Rattle.run_commands.specs.Failures.{failure_number};
 ghost use Rattle.run_commands.specs.declared.failure.RecordFailure.TheVariants as failures;
 
-use host_io::RunError;
+use host_io::{NumberedRefusal, RunError};
 use program_files::RunFailure;
 use recording::ReadError;
 use std::fmt::{self, Display, Formatter, Write};
@@ -18,11 +18,10 @@ pub enum RecordFailure {
     Unwritten(String),
 }
 
-impl RecordFailure {
-    /// The number of the refusal.
-    pub fn number(&self) -> u32
-        ensures { result ≡ failure_number self.now }
-    {
+impl NumberedRefusal for RecordFailure {
+    ghost refusal_number = { failure_number };
+
+    fn number(&self) -> u32 {
         match self {
             RecordFailure::Run(failure) => failure.number(),
             RecordFailure::Unread(error) => error.number(),

@@ -6,7 +6,7 @@ ghost use Rattle.view_commands.specs.declared.failure.DrawFailure.TheVariants as
 
 use execution_commands::ExecutionFailure;
 use execution_scripts::Cause;
-use host_io::RunError;
+use host_io::{NumberedRefusal, RunError};
 use program_files::{NamingFault, RunFailure};
 use std::alloc::AllocError;
 use std::fmt::{self, Display, Formatter, Write};
@@ -24,11 +24,10 @@ pub enum DrawFailure {
     Naming(NamingFault),
 }
 
-impl DrawFailure {
-    /// The number of the refusal.
-    pub fn number(&self) -> u32
-        ensures { result ≡ failure_number self.now }
-    {
+impl NumberedRefusal for DrawFailure {
+    ghost refusal_number = { failure_number };
+
+    fn number(&self) -> u32 {
         match self {
             DrawFailure::Run(failure) => failure.number(),
             DrawFailure::NoExecution(cause, _) => cause.number(),

@@ -7,7 +7,7 @@ ghost use Rattle.program_files.specs.declared.failure.RunFailure.TheVariants as 
 
 use crate::places::Misplaced;
 use fence_table::AcceptError;
-use host_io::RunError;
+use host_io::{NumberedRefusal, RunError};
 use hunt_commands::HuntFailure;
 use program_files::RunFailure;
 use std::alloc::{AllocError, AllocFailed};
@@ -27,11 +27,10 @@ pub enum FencesFailure {
     Unwritten(String),
 }
 
-impl FencesFailure {
-    /// The number of the refusal.
-    pub fn number(&self) -> u32
-        ensures { result ≡ failure_number self.now }
-    {
+impl NumberedRefusal for FencesFailure {
+    ghost refusal_number = { failure_number };
+
+    fn number(&self) -> u32 {
         match self {
             FencesFailure::Hunt(failure) => failure.number(),
             FencesFailure::Accept(error) => error.number(),
