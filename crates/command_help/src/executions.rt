@@ -1,10 +1,10 @@
 //! The texts of the subcommands of executions.
 
 /// What `execution` does.
-pub const EXECUTION_ABOUT: &str = "Runs the program in IMAGE, and prints the run as an execution.";
+pub static EXECUTION_ABOUT: &str = "Runs the program in IMAGE, and prints the run as an execution.";
 
 /// What `execution --help` says after the options.
-pub const EXECUTION_AFTER_HELP: &str = "\
+pub static EXECUTION_AFTER_HELP: &str = "\
 Examples:
   dethart execution guest.elf --harts 2 --quota 10 > run.txt
   dethart execution guest.elf --harts 2 --weak --plan-number 3 > weak.txt
@@ -24,10 +24,10 @@ is the line 'error N' on standard error, with the exit status 1.
 Exit status: 0 the execution was printed, 1 a refusal, 2 a bad command line.";
 
 /// What `check` does.
-pub const CHECK_ABOUT: &str = "Says whether the memory model RVWMO allows the execution in FILE.";
+pub static CHECK_ABOUT: &str = "Says whether the memory model RVWMO allows the execution in FILE.";
 
 /// What `check --help` says after the options.
-pub const CHECK_AFTER_HELP: &str = "\
+pub static CHECK_AFTER_HELP: &str = "\
 Example:
   dethart check run.txt
 

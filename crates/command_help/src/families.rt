@@ -1,10 +1,10 @@
 //! The texts of the subcommands that go over plans of a family.
 
 /// What `hunt` does.
-pub const HUNT_ABOUT: &str = "Runs the program in IMAGE by many plans, and prints how it ends.";
+pub static HUNT_ABOUT: &str = "Runs the program in IMAGE by many plans, and prints how it ends.";
 
 /// What `hunt --help` says after the options.
-pub const HUNT_AFTER_HELP: &str = "\
+pub static HUNT_AFTER_HELP: &str = "\
 Examples:
   dethart hunt guest.elf --harts 2
   dethart hunt guest.elf --harts 3 --see 0x20000 8 --see 131088 4
@@ -57,11 +57,11 @@ or, as --fail-on says, 4:
   never   in no case, for slices of a hunt that dethart merge puts together";
 
 /// What `shrink` does.
-pub const SHRINK_ABOUT: &str =
+pub static SHRINK_ABOUT: &str =
     "Looks for a smaller plan by which the program in IMAGE ends the same.";
 
 /// What `shrink --help` says after the options.
-pub const SHRINK_AFTER_HELP: &str = "\
+pub static SHRINK_AFTER_HELP: &str = "\
 Example:
   dethart shrink guest.elf --harts 2 --plan-number 35 > small.txt
 
@@ -80,10 +80,10 @@ dethart run --help lists what each N means.
 Exit status: 0 the plan was printed, 1 a refusal, 2 a bad command line.";
 
 /// What `merge` does.
-pub const MERGE_ABOUT: &str = "Makes one table of endings of those in the files.";
+pub static MERGE_ABOUT: &str = "Makes one table of endings of those in the files.";
 
 /// What `merge --help` says after the options.
-pub const MERGE_AFTER_HELP: &str = "\
+pub static MERGE_AFTER_HELP: &str = "\
 Example:
   dethart hunt guest.elf --harts 2 --first 0 --plans 500 > first.txt
   dethart hunt guest.elf --harts 2 --first 500 --plans 500 > second.txt
@@ -100,10 +100,10 @@ dethart run --help lists what each N means.
 Exit status: 0 the table was printed, 1 a refusal, 2 a bad command line.";
 
 /// What `plan` does.
-pub const PLAN_ABOUT: &str = "Prints plan N of the family that the seed stands for.";
+pub static PLAN_ABOUT: &str = "Prints plan N of the family that the seed stands for.";
 
 /// What `plan --help` says after the options.
-pub const PLAN_AFTER_HELP: &str = "\
+pub static PLAN_AFTER_HELP: &str = "\
 Example:
   dethart plan 35 --harts 2
 

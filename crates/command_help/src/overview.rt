@@ -1,11 +1,11 @@
 //! The texts of `dethart --help`.
 
 /// What `dethart` does.
-pub const ABOUT: &str =
+pub static ABOUT: &str =
     "Runs a RISC-V program (RV64I with M and A) on 1 to 64 harts, the same each time.";
 
 /// What `dethart --help` says after the list of the subcommands.
-pub const AFTER_HELP: &str = "\
+pub static AFTER_HELP: &str = "\
 Examples:
   dethart run guest.elf --harts 4 --quota 1
   dethart order guest.elf --harts 4 --quota 1

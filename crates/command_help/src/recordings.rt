@@ -1,10 +1,10 @@
 //! The texts of the subcommands that read a recording, or an execution.
 
 /// What `replay` does.
-pub const REPLAY_ABOUT: &str = "Does the run in RECORDING again, and says whether it is the same.";
+pub static REPLAY_ABOUT: &str = "Does the run in RECORDING again, and says whether it is the same.";
 
 /// What `replay --help` says after the options.
-pub const REPLAY_AFTER_HELP: &str = "\
+pub static REPLAY_AFTER_HELP: &str = "\
 Examples:
   dethart replay guest.rec
   dethart replay guest.rec --round 12 --hart 3
@@ -49,10 +49,11 @@ command line, 3 another run than the recorded one, or an execution that is
 refused.";
 
 /// What `watch` does.
-pub const WATCH_ABOUT: &str = "Does the run in RECORDING again, and prints accesses to some bytes.";
+pub static WATCH_ABOUT: &str =
+    "Does the run in RECORDING again, and prints accesses to some bytes.";
 
 /// What `watch --help` says after the options.
-pub const WATCH_AFTER_HELP: &str = "\
+pub static WATCH_AFTER_HELP: &str = "\
 Examples:
   dethart watch guest.rec 256 8
   dethart watch guest.rec 0x100 8 --see 0x200 4 --from 10 --to 20
@@ -82,10 +83,10 @@ Exit status: 0 the accesses were printed, 1 a refusal, 2 a bad command line, 3
 an execution that is refused.";
 
 /// What `migrate` does.
-pub const MIGRATE_ABOUT: &str = "Writes the recording in RECORDING anew, in version 2, to OUT.";
+pub static MIGRATE_ABOUT: &str = "Writes the recording in RECORDING anew, in version 2, to OUT.";
 
 /// What `migrate --help` says after the options.
-pub const MIGRATE_AFTER_HELP: &str = "\
+pub static MIGRATE_AFTER_HELP: &str = "\
 Example:
   dethart migrate guest.rec new.rec
 
@@ -98,10 +99,10 @@ dethart run --help lists what each N means.
 Exit status: 0 the recording was written, 1 a refusal, 2 a bad command line.";
 
 /// What `gdb` does.
-pub const GDB_ABOUT: &str = "Serves gdb, which looks at the run or the execution in RECORDING.";
+pub static GDB_ABOUT: &str = "Serves gdb, which looks at the run or the execution in RECORDING.";
 
 /// What `gdb --help` says after the options.
-pub const GDB_AFTER_HELP: &str = "\
+pub static GDB_AFTER_HELP: &str = "\
 Example:
   gdb-multiarch guest.elf -ex 'target remote | dethart gdb guest.rec'
 

@@ -1,10 +1,10 @@
 //! The texts of the subcommands that run a guest program by one plan.
 
 /// What `run` does.
-pub const RUN_ABOUT: &str = "Runs the program in IMAGE, and prints the report.";
+pub static RUN_ABOUT: &str = "Runs the program in IMAGE, and prints the report.";
 
 /// What `run --help` says after the options.
-pub const RUN_AFTER_HELP: &str = "\
+pub static RUN_AFTER_HELP: &str = "\
 Examples:
   dethart run guest.elf --harts 4
   dethart run guest.bin --flat --harts 3 --quota '100 7 1'
@@ -92,11 +92,11 @@ hart runs on, standard error says with --strict, and with --show harts, which
 harts are found to run for ever under this plan ('hart H loops').";
 
 /// What `order` does.
-pub const ORDER_ABOUT: &str =
+pub static ORDER_ABOUT: &str =
     "Runs the program in IMAGE, and prints its memory operations in order.";
 
 /// What `order --help` says after the options.
-pub const ORDER_AFTER_HELP: &str = "\
+pub static ORDER_AFTER_HELP: &str = "\
 Example:
   dethart order guest.elf --harts 4
 
@@ -111,10 +111,10 @@ is the line 'error N' on standard error, with the exit status 1.
 Exit status: 0 the order was printed, 1 a refusal, 2 a bad command line.";
 
 /// What `record` does.
-pub const RECORD_ABOUT: &str = "Runs the program in IMAGE, and writes a recording to OUT.";
+pub static RECORD_ABOUT: &str = "Runs the program in IMAGE, and writes a recording to OUT.";
 
 /// What `record --help` says after the options.
-pub const RECORD_AFTER_HELP: &str = "\
+pub static RECORD_AFTER_HELP: &str = "\
 Examples:
   dethart record guest.elf guest.rec --harts 4
   dethart record guest.elf guest.rec --harts 4 --quota '100 7 1 1' --every 10
@@ -130,10 +130,10 @@ is the line 'error N' on standard error, with the exit status 1.
 Exit status: 0 the recording was written, 1 a refusal, 2 a bad command line.";
 
 /// What `draw` does.
-pub const DRAW_ABOUT: &str = "Runs the program in IMAGE, and prints a picture of the run (SVG).";
+pub static DRAW_ABOUT: &str = "Runs the program in IMAGE, and prints a picture of the run (SVG).";
 
 /// What `draw --help` says after the options.
-pub const DRAW_AFTER_HELP: &str = "\
+pub static DRAW_AFTER_HELP: &str = "\
 Examples:
   dethart draw guest.elf --harts 2 --quota 1 --to 8 > run.svg
   dethart draw guest.elf --harts 2 --see 0x20000 8 > run.svg
@@ -160,11 +160,11 @@ Exit status: 0 the picture was printed, 1 a refusal, 2 a bad command line, 3
 RVWMO doesn't allow the execution.";
 
 /// What `trace` does.
-pub const TRACE_ABOUT: &str =
+pub static TRACE_ABOUT: &str =
     "Runs the program in IMAGE, and prints its trace for a viewer of traces.";
 
 /// What `trace --help` says after the options.
-pub const TRACE_AFTER_HELP: &str = "\
+pub static TRACE_AFTER_HELP: &str = "\
 Example:
   dethart trace guest.elf --harts 2 --as perfetto > run.json
 
