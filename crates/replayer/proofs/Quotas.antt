@@ -54,9 +54,9 @@ low_copies zero q i l = omega arith
 low_copies (suc n) q zero l = l
 low_copies (suc n) q (suc i) l = low_copies n q i l
 
-low_spread : (one : Bool) (harts : ℕ) (row : List ℕ) (i : ℕ) → list_any is_out_of_range row ≡ false → slice_index (if one then replicate harts (slice_index row 0) else row) i ≤ 1000000
-low_spread true harts row i e = low_copies harts (slice_index row 0) i (low_number row 0 e)
-low_spread false harts row i e = low_number row i e
+low_spread : (one : Bool) (harts : ℕ) (quotas : List ℕ) (i : ℕ) → list_any is_out_of_range quotas ≡ false → slice_index (if one then replicate harts (slice_index quotas 0) else quotas) i ≤ 1000000
+low_spread true harts quotas i e = low_copies harts (slice_index quotas 0) i (low_number quotas 0 e)
+low_spread false harts quotas i e = low_number quotas i e
 
 pub low_quotas : (plan : Planned) (harts : ℕ) (text : List ℕ) (rows : List (List (List ℕ))) → plan.rows ≡ numbers_of rows → IsPlanText text rows → (IsLeast harts text QuotaOutOfRange → ⊥) → (n i : ℕ) → slice_index (quotas_of plan n) i ≤ 1000000
 low_quotas plan harts text rows same is none n i =
