@@ -35,7 +35,7 @@ paths = $(call rename,'$(CURDIR)'=.) $(call rename,'$(folder)/'=guest/) $(call r
 
 target = $(if $(SMALL),-g1,-g) $(arch) -mcmodel=medlow -mno-relax -msmall-data-limit=0 -fno-pic -ftls-model=local-exec \
          -fno-stack-protector -fno-asynchronous-unwind-tables -ffunction-sections -fdata-sections $(paths)
-headers = -isystem '$(folder)/pthreads/include' -isystem '$(PICOLIBC)/include' -I'$(folder)'
+headers = $(atomics) -isystem '$(folder)/pthreads/include' -isystem '$(PICOLIBC)/include' -I'$(folder)'
 
 # Calls of stdio that whole_output.c and others put under a lock.
 whole = vfprintf fputs puts fputc putc putchar fwrite fflush vfscanf fgets fgetc getc getchar ungetc fread
@@ -48,8 +48,8 @@ in_place = process libc_locks time streams assertions memset
 parts = threads cancel once mutexes conditions rwlocks barriers spinlocks semaphores keys attributes whole_output whole_flush \
         whole_input system signals unavailable messages small_atomics
 sources = $(addprefix $(kit)/pthreads/source/,kit.h order.h ticket.h whole.h) $(kit)/pthreads/pthreads.mk \
-          $(addprefix $(kit)/pthreads/include/,err.h error.h pthread.h sched.h semaphore.h stdatomic.h stdio.h threads.h time.h unistd.h) \
-          $(kit)/pthreads/include/sys/mman.h $(kit)/dethart.h
+          $(addprefix $(kit)/pthreads/include/,err.h error.h pthread.h sched.h semaphore.h stdio.h threads.h time.h unistd.h) \
+          $(kit)/pthreads/include/sys/mman.h $(kit)/dethart.h $(kit)/atomics/stdatomic.h
 
 # The words of a line, each with a 0 behind it, as data for the assembler.
 arguments = { printf '.globl __kit_arguments\n.type __kit_arguments, @object\n.data\n__kit_arguments:\n'; \
