@@ -1,4 +1,4 @@
-// Conditions: a queue of those that wait. A signal wakes the first, never one that comes later, and nobody wakes without one.
+// Conditions: a queue of those that wait. A signal wakes the first, never one that comes later, and nobody wakes without one, but by spurious.c.
 //
 // A thread waits on its own stack, so the one that wakes it is done with its record before it stores `woken`. By the manual's
 // table A.6: signal is a release store (fence rw,w; sw), the end of the wait an acquire load (lw; fence r,rw), and the queue
@@ -59,7 +59,7 @@ static int await_signal(pthread_cond_t *cond, struct __waiter *waiter, const str
             reason = ECANCELED;
         else if (until && now >= __kit_round_of(until))
             reason = ETIMEDOUT;
-        if (reason) {
+        if (reason || COMES_BACK_ALONE()) {
             if (leave_queue(cond, waiter))
                 return reason;
             while (!waiter->woken) // a signal has it already
