@@ -1,5 +1,5 @@
-mod Carrying
-mod Coherence
-mod Exactness
+pub mod Carrying
+pub mod Coherence
+pub mod Exactness
 mod Firsts
-mod KindBounds
+pub mod KindBounds

@@ -1,0 +1,295 @@
+-- Each hart of an execution that RVWMO allows has a run.
+use Rattle.std.proofs.Common.{◌≡◌, ◌≢◌, ℕ, zero, suc, ◌<◌, ◌==◌, ◌⊎◌, Bool, true, false, if◌then◌else◌, List, [], ◌∷◌, ◌++◌, length, map, get_or, slice_index_or, slice_set, length-set, Option, Some, None, is_some, unwrap_or, refl, sym, ap, ◌∙◌, subst, inl, inr, arith}
+use Rattle.std.proofs.Math.Seq.{get_or-append_seam}
+use Rattle.std.proofs.lemmas.Bool.{cases_eq, eq-eqb, ne_eqb}
+use Rattle.std.proofs.lemmas.List.{append-nil, append_assoc, get_or-set_other, get_or-set_same, get_or_default, length-append, length-map}
+use Rattle.pages.specs.Memory.{Memory}
+use Rattle.rv64_decode.specs.declared.instruction.Instr.{Instr}
+use Rattle.rv64_decode.specs.declared.instruction.Instr.TheVariants.{Ecall}
+use Rattle.round_schedule.specs.declared.access.Access.{Access}
+use Rattle.round_schedule.specs.declared.access.Stepped.TheVariants.{Done}
+use Rattle.round_schedule.specs.declared.event.Event.{Event}
+use Rattle.round_schedule.specs.declared.span.Span.{Span}
+use Rattle.round_schedule.specs.Held.{held_after_own}
+use Rattle.round_schedule.specs.Positions.{event, no_event}
+use Rattle.hart_step.specs.declared.hart.Hart.{Hart}
+use Rattle.hart_step.specs.DecodedCode.{decoded}
+use Rattle.memory_order.specs.Dependencies.{registers_at}
+use Rattle.rule_checker.specs.CarriedBounds.{AreRegisters}
+use Rattle.execution.specs.Executions.{Executes, Goes, IsStep, Standing, Stops, begins, goes, no_access, own_held, stops}
+use Rattle.execution.specs.Progressing.{at_start}
+use Rattle.execution.proofs.Forming.{executes_even}
+use Rattle.execution.proofs.Owning.{own_more}
+use Rattle.execution_checker.specs.Allowed.{Allows}
+use Rattle.all_endings.specs.Endings.{opening_bytes}
+use Rattle.all_endings.specs.Factorizing.{AreMoves, Factor, Factorizes, IsOpenCall, IsUnknown, Lags, StoresLater, comes-to-call, comes-to-end, comes-to-unknown, moves-none, moves-other, moves-own, unknown-address, unknown-target}
+use Rattle.all_endings.specs.HartRuns.{Runs, runs-more, runs-none}
+use Rattle.all_endings.specs.Locality.{Refines}
+use Rattle.all_endings.specs.RunStates.{Move, RunState, moved, run_start}
+use Rattle.all_endings.specs.StoreLists.{stores_of}
+use Rattle.all_endings.proofs.Blocking.{address_later, target_later}
+use Rattle.all_endings.proofs.DecodedRegisters.{all_registers_are}
+use Rattle.all_endings.proofs.Effects.{Did, did-branch, did-call, did-exchange, did-fail, did-jump, did-order, did-put, did-read, did-reserve, did-succeed, did-write, step_did}
+use Rattle.all_endings.proofs.Following.{Follows, Setting, follows_other, list}
+use Rattle.all_endings.proofs.Halting.{stop_rests}
+use Rattle.all_endings.proofs.LoadMoves.{read_moves, reserve_moves}
+use Rattle.all_endings.proofs.Moves.{Blocked, MovesOrBlocks, blocked-address, blocked-call, blocked-target, registers_are}
+use Rattle.all_endings.proofs.OwnSteps.{follows_own}
+use Rattle.all_endings.proofs.PlainMoves.{branch_moves, call_moves, jump_moves, order_moves, put_moves}
+use Rattle.all_endings.proofs.Starting.{runs_start}
+use Rattle.all_endings.proofs.StoreMoves.{exchange_moves, fail_moves, succeed_moves, write_moves}
+
+-- ---- a run so far
+
+pub record Going (s : Setting) (q : Standing) (h : ℕ) (start : Hart) (i : ℕ) (held : Option Span) (k : Hart) : Type 0 where
+  pub moves : List Move
+  pub state : RunState
+  pub runs : Runs s.image h (list s) (opening_bytes s.image) (run_start start) moves state
+  pub are : AreMoves s.n h q s.g i moves
+  pub follows : Follows s h i held state k
+
+pub record Stuck (s : Setting) (q : Standing) (h : ℕ) (start : Hart) : Type 0 where
+  pub index : ℕ
+  pub moves : List Move
+  pub state : RunState
+  pub runs : Runs s.image h (list s) (opening_bytes s.image) (run_start start) moves state
+  pub are : AreMoves s.n h q s.g index moves
+  pub breaks : (IsUnknown s.image state × StoresLater s.n h q s.g index) ⊎ IsOpenCall s.image state
+
+known_start : (x : List ℕ) (r : ℕ) → r < length x → is_some (get_or (map (λ v. Some v) x) r None) ≡ true
+known_start [] r l = absurd (omega (arith, l))
+known_start (v ∷ x) zero l = refl
+known_start (v ∷ x) (suc r) l = known_start x r (omega (arith, l))
+
+pub follows_start : (s : Setting) (h : ℕ) (start : Hart) → length start.x ≡ 32 → Follows s h 0 None (run_start start) start
+follows_start s h start size = record {
+  lags = runs_start start;
+  small = length-map start.x (λ (v : ℕ). Some v) ∙ size;
+  size = size;
+  known = λ r l low. by_test (r == 0) r l;
+  kinds = refl;
+  carried = refl;
+  touched = λ x. refl;
+  seen = λ b x u l here reads source. omega arith;
+  own = λ x. λ v l here wet. omega (arith, l);
+  holds = refl;
+  reserving = λ span is. absurd (cc);
+}
+  where
+    by_test : (b : Bool) (r : ℕ) → r < 32 → is_some (if b then Some 0 else get_or (map (λ v. Some v) start.x) r None) ≡ true
+    by_test true r l = refl
+    by_test false r l = known_start start.x r (omega (arith, l, size))
+
+-- ---- a step of the hart itself
+
+step_moves : (s : Setting) (h i : ℕ) (held : Option Span) (a : RunState) (k j : Hart) (instr : Instr) (access : Option Access) → Follows s h i held a k → (event s.t i).hart ≡ h →
+    slice_index_or s.is i Ecall ≡ instr → Did s.image held k j instr access → (event s.t i).access ≡ unwrap_or access no_access → MovesOrBlocks s h i a k j instr
+step_moves s h i held a k j instr access f here inst (did-put rd v is g) e = put_moves s h i held a k j instr f here inst rd v e is g
+step_moves s h i held a k j instr access f here inst (did-jump rd target is even g) e = jump_moves s h i held a k j instr f here inst rd target e is even g
+step_moves s h i held a k j instr access f here inst (did-branch taken target is even g) e = branch_moves s h i held a k j instr f here inst taken target e is even g
+step_moves s h i held a k j instr access f here inst (did-read rd x v w signed is safe fill g) e = read_moves s h i held a k j instr f here inst rd x v w signed e is safe fill g
+step_moves s h i held a k j instr access f here inst (did-write x v w is safe g) e = write_moves s h i held a k j instr f here inst x v w e is safe g
+step_moves s h i held a k j instr access f here inst (did-order before after mode is g) e = order_moves s h i held a k j instr f here inst before after mode e is g
+step_moves s h i held a k j instr access f here inst (did-reserve rd x v w o is safe fill g) e = reserve_moves s h i held a k j instr f here inst rd x v w o e is safe fill g
+step_moves s h i held a k j instr access f here inst (did-fail rd x v w o is safe g) e = fail_moves s h i held a k j instr f here inst rd x v w o e is safe g
+step_moves s h i held a k j instr access f here inst (did-succeed rd x v w o is safe holds g) e = succeed_moves s h i held a k j instr f here inst rd x v w o e is safe holds g
+step_moves s h i held a k j instr access f here inst (did-exchange rd x old w m o is safe fill g) e = exchange_moves s h i held a k j instr f here inst rd x old w m o e is safe fill g
+step_moves s h i held a k j instr access f here inst (did-call answer is nonzero g) e = call_moves s h i held a k j instr f here inst answer e is nonzero g
+
+harts_stay : (image : Memory) (p q : Standing) → Executes image p q → length q.harts ≡ length p.harts
+harts_stay image p q (begins _) = refl
+harts_stay image p q (goes i _ u _ x z) = ap length z.harts ∙ length-set u.harts i z.after ∙ harts_stay image p u x
+harts_stay image p q (stops i _ u _ x z) = ap length z.harts ∙ length-set u.harts i z.after ∙ harts_stay image p u x
+
+-- an execution, an order, how many stores are known, a hart and what it began as
+module _ (image : Memory) (q : Standing) (g : List ℕ) (n : ℕ) (fit : (i : ℕ) → AreRegisters (registers_at q.instructions i)) (meets : Allows (opening_bytes image) q g)
+    (many : length (stores_of n q.events g) ≡ n) (h : ℕ) (first : Hart) where
+  abbrev the : Setting
+  the = record { image = image; is = q.instructions; t = q.events; g = g; n = n; fit = fit; meets = meets; many = many }
+
+  abbrev On : ℕ → Option Span → Hart → Type 0
+  On i held k = Stuck the q h first ⊎ Going the q h first i held k
+
+  own_step : (i : ℕ) (held : Option Span) (k j : Hart) (instr : Instr) (w : Going the q h first i held k) → (event q.events i).hart ≡ h → slice_index_or q.instructions i Ecall ≡ instr →
+      decoded image k.pc ≡ Some instr → MovesOrBlocks the h i w.state k j instr → On (suc i) (held_after_own (event q.events i).access held) j
+  own_step i held k j instr w here inst decodes next = elim next [
+    | inl m ↦ inr (record {
+      moves = w.moves ++ m.move ∷ [];
+      state = moved h (list the) w.state m.move;
+      runs = runs-more (run_start first) w.state w.moves m.move w.runs (at ∙ ap (λ (x : Instr). Some x) (sym m.instruction)) m.acts m.stands;
+      are = moves-own i w.moves m.move w.are here (record { instruction = m.instruction ∙ sym inst; access = m.matches.access; time = m.matches.passed });
+      follows = follows_own the h i w.state k j m.move m.matches held w.follows;
+    })
+    | inr b ↦ inl (record { index = i; moves = w.moves; state = w.state; runs = w.runs; are = w.are; breaks = blocked b })
+  ]
+    where
+      at : decoded image w.state.pc ≡ Some instr
+      at = ap (decoded image) w.follows.lags.pc ∙ decodes
+
+      blocked : Blocked the i w.state instr → (IsUnknown image w.state × StoresLater n h q g i) ⊎ IsOpenCall image w.state
+      blocked (blocked-target steers unknown late dry) =
+          inl (unknown-target instr at steers unknown, target_later the h i held w.state k instr w.follows here (registers_are the i instr inst) steers late dry)
+      blocked (blocked-address unknown late) =
+          inl (unknown-address instr at unknown, address_later the h i held w.state k instr w.follows here (registers_are the i instr inst) late)
+      blocked (blocked-call ecall unknown) = inr (at ∙ ap (λ (x : Instr). Some x) ecall, unknown)
+
+  on_other : (i : ℕ) (held : Option Span) (k : Hart) → (event q.events i).hart ≢ h → On i held k → On (suc i) held k
+  on_other i held k other on = elim on [
+    | inl stuck ↦ inl stuck
+    | inr w ↦ inr (record { moves = w.moves; state = w.state; runs = w.runs; are = moves-other i w.moves w.are other; follows = follows_other the h i held w.state k other w.follows })
+  ]
+
+  on_own : (i : ℕ) (held : Option Span) (k j : Hart) (instr : Instr) (access : Option Access) → (event q.events i).hart ≡ h → slice_index_or q.instructions i Ecall ≡ instr →
+      decoded image k.pc ≡ Some instr → Did image held k j instr access → (event q.events i).access ≡ unwrap_or access no_access → On i held k →
+      On (suc i) (held_after_own (event q.events i).access held) j
+  on_own i held k j instr access here inst decodes did e on = elim on [
+    | inl stuck ↦ inl stuck
+    | inr w ↦ own_step i held k j instr w here inst decodes (step_moves the h i held w.state k j instr access w.follows here inst did e)
+  ]
+
+  on_stopped : (i : ℕ) (held : Option Span) (k j : Hart) → (j.x ≡ k.x) × (j.pc ≡ k.pc) → On i held k → On i held j
+  on_stopped i held k j same on = elim on [
+    | inl stuck ↦ inl stuck
+    | inr w ↦ inr (record {
+      moves = w.moves;
+      state = w.state;
+      runs = w.runs;
+      are = w.are;
+      follows = record {
+        lags = record { pc = w.follows.lags.pc ∙ sym same.1; registers = subst (Refines w.state.registers) (sym same.0) w.follows.lags.registers };
+        small = w.follows.small;
+        size = ap length same.0 ∙ w.follows.size;
+        known = w.follows.known;
+        kinds = w.follows.kinds;
+        carried = w.follows.carried;
+        touched = w.follows.touched;
+        seen = w.follows.seen;
+        own = w.follows.own;
+        holds = w.follows.holds;
+        reserving = w.follows.reserving;
+      };
+    })
+  ]
+
+  -- ---- along the execution
+
+  abbrev hart_of : Standing → Hart
+  hart_of p = get_or p.harts h first
+
+  abbrev After : Standing → Type 0
+  After p = On (length p.events) (own_held h p.events) (hart_of p)
+
+  same_place : (p u : Standing) → length p.events ≡ length u.events → own_held h p.events ≡ own_held h u.events → hart_of p ≡ hart_of u → After u → After p
+  same_place p u l o k on =
+      subst (λ (i : ℕ). On i (own_held h p.events) (hart_of p)) (sym l)
+      (subst (λ (y : Option Span). On (length u.events) y (hart_of p)) (sym o) (subst (λ (y : Hart). On (length u.events) (own_held h u.events) y) (sym k) on))
+
+  next_place : (p u : Standing) (e : Event) (held : Option Span) (j : Hart) → p.events ≡ u.events ++ e ∷ [] → own_held h p.events ≡ held → hart_of p ≡ j → On (suc (length u.events)) held j → After p
+  next_place p u e held j is o k on =
+      let l : length p.events ≡ suc (length u.events) = let a = ap length is ∙ length-append u.events (e ∷ []) in omega (arith, a) in
+      subst (λ (i : ℕ). On i (own_held h p.events) (hart_of p)) (sym l)
+      (subst (λ (y : Option Span). On (suc (length u.events)) y (hart_of p)) (sym o) (subst (λ (y : Hart). On (suc (length u.events)) held y) (sym k) on))
+
+  one_goes : (i : ℕ) (u p : Standing) (rest : List Event) (more : List Instr) → q.events ≡ p.events ++ rest → q.instructions ≡ p.instructions ++ more → length u.instructions ≡ length u.events →
+      h < length u.harts → Goes image i u p → After u → After p
+  one_goes i u p rest more es is even small z on = elim (cases_eq i h) [
+    | inr other ↦ next_place p u z.event (own_held h u.events) (hart_of u) z.events
+        (ap (own_held h) z.events ∙ own_more h None u.events z.event ∙ leave (z.event.hart == h) _ _ (ne_eqb z.event.hart h (λ e. other (sym z.event_of.hart ∙ e))))
+        (ap (λ (hs : List Hart). get_or hs h first) z.harts ∙ get_or-set_other u.harts i h z.after first (λ e. other (sym e)))
+        (on_other (length u.events) (own_held h u.events) (hart_of u) (λ e. other (sym z.event_of.hart ∙ sym hart_is ∙ e)) on)
+    | inl here ↦
+        let before : z.before ≡ hart_of u = z.there ∙ get_or_default u.harts i z.before first z.within ∙ ap (λ (y : ℕ). get_or u.harts y first) here in
+        let did : Did image (own_held h u.events) z.before z.after z.instruction z.access =
+        step_did image p.round (own_held h u.events) u.console p.console z.before z.after z.access z.instruction
+        (subst (λ (y : ℕ). IsStep image p.round (own_held y u.events) u.console p.console z.before z.after (Done z.access)) here z.step) z.decodes in
+        next_place p u z.event (held_after_own (event q.events (length u.events)).access (own_held h u.events)) z.after z.events
+        (ap (own_held h) z.events ∙ own_more h None u.events z.event ∙ take (z.event.hart == h) _ _ (eq-eqb z.event.hart h (z.event_of.hart ∙ here))
+        ∙ ap (λ (y : Event). held_after_own y.access (own_held h u.events)) (sym event_is))
+        (ap (λ (hs : List Hart). get_or hs h first) z.harts ∙ ap (λ (y : ℕ). get_or (slice_set u.harts y z.after) h first) here ∙ get_or-set_same u.harts h z.after first small)
+        (on_own (length u.events) (own_held h u.events) (hart_of u) z.after z.instruction z.access (hart_is ∙ z.event_of.hart ∙ here) inst_is
+        (ap (λ (y : Hart). decoded image y.pc) (sym before) ∙ z.decodes)
+        (subst (λ (y : Hart). Did image (own_held h u.events) y z.after z.instruction z.access) before did)
+        (ap (λ (y : Event). y.access) event_is ∙ z.event_of.access) on)
+  ]
+    where
+      leave : {A : Type 0} (b : Bool) (x y : A) → b ≡ false → (if b then x else y) ≡ y
+      leave true x y e = absurd (cc)
+      leave false x y e = refl
+
+      take : {A : Type 0} (b : Bool) (x y : A) → b ≡ true → (if b then x else y) ≡ x
+      take true x y e = refl
+      take false x y e = absurd (cc)
+
+      event_is : event q.events (length u.events) ≡ z.event
+      event_is =
+          ap (λ (t : List Event). event t (length u.events)) (es ∙ ap (λ (t : List Event). t ++ rest) z.events ∙ append_assoc u.events (z.event ∷ []) rest)
+          ∙ get_or-append_seam u.events z.event rest no_event
+
+      hart_is : (event q.events (length u.events)).hart ≡ z.event.hart
+      hart_is = ap (λ (y : Event). y.hart) event_is
+
+      inst_is : slice_index_or q.instructions (length u.events) Ecall ≡ z.instruction
+      inst_is =
+          ap (λ (y : ℕ). slice_index_or q.instructions y Ecall) (sym even)
+          ∙ ap (λ (t : List Instr). slice_index_or t (length u.instructions) Ecall) (is ∙ ap (λ (t : List Instr). t ++ more) z.instructions ∙ append_assoc u.instructions (z.instruction ∷ []) more)
+          ∙ get_or-append_seam u.instructions z.instruction more Ecall
+
+  one_stops : (i : ℕ) (u p : Standing) → h < length u.harts → Stops image i u p → After u → After p
+  one_stops i u p small z on = elim (cases_eq i h) [
+    | inr other ↦ same_place p u (ap length z.events) (ap (own_held h) z.events)
+        (ap (λ (hs : List Hart). get_or hs h first) z.harts ∙ get_or-set_other u.harts i h z.after first (λ e. other (sym e))) on
+    | inl here ↦
+        let before : z.before ≡ hart_of u = z.there ∙ get_or_default u.harts i z.before first z.within ∙ ap (λ (y : ℕ). get_or u.harts y first) here in
+        let rests = stop_rests image p.round (own_held i u.events) u.console p.console z.before z.after z.code z.step in
+        let after : hart_of p ≡ z.after = ap (λ (hs : List Hart). get_or hs h first) z.harts ∙ ap (λ (y : ℕ). get_or (slice_set u.harts y z.after) h first) here ∙ get_or-set_same u.harts h z.after first small in
+        let on_after = on_stopped (length u.events) (own_held h u.events) (hart_of u) z.after (rests.0 ∙ ap (λ (y : Hart). y.x) before, rests.1 ∙ ap (λ (y : Hart). y.pc) before) on in
+        subst (λ (y : ℕ). On y (own_held h p.events) (hart_of p)) (sym (ap length z.events))
+        (subst (λ (y : Option Span). On (length u.events) y (hart_of p)) (sym (ap (own_held h) z.events)) (subst (λ (y : Hart). On (length u.events) (own_held h u.events) y) (sym after) on_after))
+  ]
+
+  walk : (start p : Standing) → Executes image start p → After start → length start.instructions ≡ length start.events → h < length start.harts →
+      (rest : List Event) (more : List Instr) → q.events ≡ p.events ++ rest → q.instructions ≡ p.instructions ++ more → After p
+  walk start p (begins _) on even small rest more es is = on
+  walk start p (goes i _ u _ x z) on even small rest more es is =
+      one_goes i u p rest more es is (executes_even image start u x even) (subst (λ (y : ℕ). h < y) (sym (harts_stay image start u x)) small) z
+      (walk start u x on even small (z.event ∷ rest) (z.instruction ∷ more)
+      (es ∙ ap (λ (t : List Event). t ++ rest) z.events ∙ append_assoc u.events (z.event ∷ []) rest)
+      (is ∙ ap (λ (t : List Instr). t ++ more) z.instructions ∙ append_assoc u.instructions (z.instruction ∷ []) more))
+  walk start p (stops i _ u _ x z) on even small rest more es is =
+      one_stops i u p (subst (λ (y : ℕ). h < y) (sym (harts_stay image start u x)) small) z
+      (walk start u x on even small rest more (es ∙ ap (λ (t : List Event). t ++ rest) z.events) (is ∙ ap (λ (t : List Instr). t ++ more) z.instructions))
+
+  factor_of : (k : Hart) → k ≡ get_or q.harts h k → h < length q.harts → After q → Factor image n h q g first k
+  factor_of k at small on = elim on [
+    | inl w ↦ record {
+      index = w.index;
+      moves = w.moves;
+      state = w.state;
+      runs = w.runs;
+      are_moves = w.are;
+      comes_to = elim w.breaks [ inl b ↦ comes-to-unknown b.0 b.1 | inr b ↦ comes-to-call b ];
+    }
+    | inr w ↦ record {
+      index = length q.events;
+      moves = w.moves;
+      state = w.state;
+      runs = w.runs;
+      are_moves = w.are;
+      comes_to = comes-to-end refl (subst (Lags w.state) (get_or_default q.harts h first k small ∙ sym at) w.follows.lags);
+    }
+  ]
+
+pub factorizes : Factorizes
+factorizes image hs c q g e meets n h first k many small at size here =
+    let fit = all_registers_are image hs c q e in
+    let stay : length q.harts ≡ length hs = harts_stay image (at_start hs c) q e in
+    let begun : Going (the image q g n fit meets many h first) q h first 0 None first = record {
+      moves = [];
+      state = run_start first;
+      runs = runs-none (run_start first);
+      are = moves-none;
+      follows = follows_start (the image q g n fit meets many h first) h first size;
+    } in
+    factor_of image q g n fit meets many h first k here (omega (arith, small, stay))
+    (walk image q g n fit meets many h first (at_start hs c) q e
+    (inr (subst (λ (y : Hart). Going (the image q g n fit meets many h first) q h first 0 None y) at begun)) refl small [] [] (sym (append-nil q.events)) (sym (append-nil q.instructions)))

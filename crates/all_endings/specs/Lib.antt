@@ -1,0 +1,9 @@
+pub mod Decoded
+pub mod Endings
+pub mod Factorizing
+pub mod HartRuns
+pub mod Locality
+pub mod RunStates
+pub mod Sources
+pub mod StoreLists
+pub mod Times

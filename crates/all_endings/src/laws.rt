@@ -1,0 +1,86 @@
+//! Laws of the definitions, each the contract of a function that does nothing.
+
+ghost use Rattle.all_endings.specs.Decoded.{RegistersAreRegisters};
+ghost use Rattle.all_endings.specs.Endings.{EndsAreLast};
+ghost use Rattle.all_endings.specs.Sources.{LoadsReadInTime, PreservedInTime, SeenStays};
+ghost use Rattle.all_endings.specs.StoreLists.{StoresStandAtTimes};
+ghost use Rattle.all_endings.specs.Times.{OperationsStandInTime};
+ghost use Rattle.all_endings.specs.Factorizing.{Factorizes, RunsStartThere};
+ghost use Rattle.all_endings.specs.Locality.{ActionIsLocal, ActionIsLocalButData, DestinationsAreWritten, FilledActs, SetsRefine, StepIsLocal};
+
+/// Two register files that agree on an instruction's source registers give one action.
+pub fn actions_are_local()
+    ensures { ActionIsLocal }
+{}
+
+/// Where they agree on its address, and on what it computes from, the actions differ at most in the number that is stored.
+pub fn actions_are_local_but_data()
+    ensures { ActionIsLocalButData }
+{}
+
+/// Beside ECALL, the register that an action writes is the destination that dependencies see.
+pub fn destinations_are_written()
+    ensures { DestinationsAreWritten }
+{}
+
+/// Harts that agree on an instruction's source registers take one step: one answer, the same stores, the same number for the same register.
+pub fn steps_are_local()
+    ensures { StepIsLocal }
+{}
+
+/// Over registers some of which are unknown, an instruction whose sources are known acts as over any registers that refine them.
+pub fn known_sources_act()
+    ensures { FilledActs }
+{}
+
+/// A number, or an unknown one, that is put into a register keeps that the registers refine.
+pub fn writes_keep_refining()
+    ensures { SetsRefine }
+{}
+
+/// In each execution that RVWMO allows, each operation stands, in times, where the bounds of its hart's earlier ones let it: by the
+/// rules 1, 4 to 7, 9 to 11 and 13 (manual, section 14.1.3), however many stores are known.
+pub fn operations_stand_in_time()
+    ensures { OperationsStandInTime }
+{}
+
+/// Where every hart has stopped, no step is left.
+pub fn ends_are_last()
+    ensures { EndsAreLast }
+{}
+
+/// A store of an order stands in the list of stores at its time, and stands before a load's time just where it stands before the load.
+pub fn stores_stand_at_times()
+    ensures { StoresStandAtTimes }
+{}
+
+/// A hart's run against a list of stores begins where the hart does.
+pub fn runs_start_there()
+    ensures { RunsStartThere }
+{}
+
+/// Each of the thirteen rules of preserved program order (manual, section 14.1.3) is a lower bound for a time.
+pub fn rules_bound_times()
+    ensures { PreservedInTime }
+{}
+
+/// A byte of a load that is not LATER is the hart's own last store's, where that stands behind the load, and else that of the last store before
+/// the load's time in the list.
+pub fn loads_read_in_time()
+    ensures { LoadsReadInTime }
+{}
+
+/// Where a load has read a store, a later one of its hart reads that one or a later one.
+pub fn what_was_seen_stays()
+    ensures { SeenStays }
+{}
+
+/// The registers of every instruction of an execution are registers.
+pub fn registers_are_registers()
+    ensures { RegistersAreRegisters }
+{}
+
+/// Each hart of an execution that RVWMO allows has a run against the first stores of the order.
+pub fn harts_have_runs()
+    ensures { Factorizes }
+{}

@@ -1,0 +1,11 @@
+//! What it is that a table has the ending of every execution of an image, and the laws towards a search that says so.
+#![tactic(auto)]
+
+mod laws;
+
+pub use laws::{
+    actions_are_local, actions_are_local_but_data, destinations_are_written, ends_are_last,
+    harts_have_runs, known_sources_act, loads_read_in_time, operations_stand_in_time,
+    registers_are_registers, rules_bound_times, runs_start_there, steps_are_local,
+    stores_stand_at_times, what_was_seen_stays, writes_keep_refining,
+};
