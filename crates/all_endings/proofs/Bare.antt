@@ -3,7 +3,7 @@ use Rattle.std.proofs.Common.{◌≡◌, ℕ, ◌||◌, Bool, Option, Some, None
 use Rattle.round_schedule.specs.declared.access.Access.{Access}
 use Rattle.round_schedule.specs.declared.access.Access.TheVariants.{Load, Store, LoadReserved, StoreConditional, Atomic, Fence}
 use Rattle.round_schedule.specs.declared.span.Span.{Span}
-use Rattle.round_schedule.specs.Accesses.{address_of, is_lr, is_sc, loads, stores, writes}
+use Rattle.round_schedule.specs.Accesses.{address_of, bytes_of, is_lr, is_sc, loads, stores, writes}
 use Rattle.round_schedule.specs.Held.{held_after_own}
 use Rattle.memory_order.specs.declared.registers.Registers.{Registers}
 use Rattle.memory_order.specs.Operations.{covers, is_amo}
@@ -58,6 +58,15 @@ address_bare (StoreConditional w o p y None) = refl
 address_bare (StoreConditional w o p y (Some v)) = refl
 address_bare (Atomic w o p y r v) = refl
 address_bare (Fence d e m p) = refl
+
+pub bytes_bare : (a : Access) → bytes_of (bare a) ≡ bytes_of a
+bytes_bare (Load w p y r) = refl
+bytes_bare (Store w p y v) = refl
+bytes_bare (LoadReserved w o p y r) = refl
+bytes_bare (StoreConditional w o p y None) = refl
+bytes_bare (StoreConditional w o p y (Some v)) = refl
+bytes_bare (Atomic w o p y r v) = refl
+bytes_bare (Fence d e m p) = refl
 
 pub lr_bare : (a : Access) → is_lr (bare a) ≡ is_lr a
 lr_bare (Load w p y r) = refl

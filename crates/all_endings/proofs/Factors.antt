@@ -1,8 +1,8 @@
 -- Each hart of an execution that RVWMO allows has a run.
-use Rattle.std.proofs.Common.{◌≡◌, ◌≢◌, ℕ, zero, suc, ◌<◌, ◌==◌, ◌⊎◌, Bool, true, false, if◌then◌else◌, List, [], ◌∷◌, ◌++◌, length, map, get_or, slice_index_or, slice_set, length-set, Option, Some, None, is_some, unwrap_or, refl, sym, ap, ◌∙◌, subst, inl, inr, arith}
+use Rattle.std.proofs.Common.{◌≡◌, ◌≢◌, ℕ, zero, suc, ◌<◌, ◌≤◌, ◌==◌, ◌⊎◌, Bool, true, false, if◌then◌else◌, List, [], ◌∷◌, ◌++◌, length, map, get_or, slice_index_or, slice_set, length-set, Option, Some, None, is_some, unwrap_or, refl, sym, ap, ◌∙◌, subst, inl, inr, arith, Contains}
 use Rattle.std.proofs.Math.Seq.{get_or-append_seam}
-use Rattle.std.proofs.lemmas.Bool.{cases_eq, eq-eqb, ne_eqb}
-use Rattle.std.proofs.lemmas.List.{append-nil, append_assoc, get_or-set_other, get_or-set_same, get_or_default, length-append, length-map}
+use Rattle.std.proofs.lemmas.Bool.{cases_lt, cases_eq, eq-eqb, ne_eqb}
+use Rattle.std.proofs.lemmas.List.{append-nil, append_assoc, get_or-set_other, get_or-set_same, get_or_append_left, get_or_default, length-append, length-map}
 use Rattle.pages.specs.Memory.{Memory}
 use Rattle.rv64_decode.specs.declared.instruction.Instr.{Instr}
 use Rattle.rv64_decode.specs.declared.instruction.Instr.TheVariants.{Ecall}
@@ -10,10 +10,13 @@ use Rattle.round_schedule.specs.declared.access.Access.{Access}
 use Rattle.round_schedule.specs.declared.access.Stepped.TheVariants.{Done}
 use Rattle.round_schedule.specs.declared.event.Event.{Event}
 use Rattle.round_schedule.specs.declared.span.Span.{Span}
+use Rattle.round_schedule.specs.Accesses.{stores}
 use Rattle.round_schedule.specs.Held.{held_after_own}
 use Rattle.round_schedule.specs.Positions.{event, no_event}
 use Rattle.hart_step.specs.declared.hart.Hart.{Hart}
 use Rattle.hart_step.specs.DecodedCode.{decoded}
+use Rattle.hart_step.specs.Console.{ConsoleState}
+use Rattle.memory_order.specs.Operations.{is_store}
 use Rattle.memory_order.specs.Dependencies.{registers_at}
 use Rattle.rule_checker.specs.CarriedBounds.{AreRegisters}
 use Rattle.execution.specs.Executions.{Executes, Goes, IsStep, Standing, Stops, begins, goes, no_access, own_held, stops}
@@ -25,15 +28,18 @@ use Rattle.all_endings.specs.Endings.{opening_bytes}
 use Rattle.all_endings.specs.Factorizing.{AreMoves, Factor, Factorizes, IsOpenCall, IsUnknown, Lags, StoresLater, comes-to-call, comes-to-end, comes-to-unknown, moves-none, moves-other, moves-own, unknown-address, unknown-target}
 use Rattle.all_endings.specs.HartRuns.{Runs, runs-more, runs-none}
 use Rattle.all_endings.specs.Locality.{Refines}
-use Rattle.all_endings.specs.RunStates.{Move, RunState, moved, run_start}
-use Rattle.all_endings.specs.StoreLists.{stores_of}
+use Rattle.all_endings.specs.Offering.{Offers}
+use Rattle.all_endings.specs.RunStates.{Move, RunState, bare, moved, run_start}
+use Rattle.all_endings.specs.StoreLists.{Stored, stores_of, told}
+use Rattle.all_endings.proofs.Bare.{stores_bare}
 use Rattle.all_endings.proofs.Blocking.{address_later, target_later}
 use Rattle.all_endings.proofs.DecodedRegisters.{all_registers_are}
 use Rattle.all_endings.proofs.Effects.{Did, did-branch, did-call, did-exchange, did-fail, did-jump, did-order, did-put, did-read, did-reserve, did-succeed, did-write, step_did}
-use Rattle.all_endings.proofs.Following.{Follows, Setting, follows_other, list}
+use Rattle.all_endings.proofs.Following.{Follows, Setting, follows_other, list, not_it, time}
 use Rattle.all_endings.proofs.Halting.{stop_rests}
 use Rattle.all_endings.proofs.LoadMoves.{read_moves, reserve_moves}
 use Rattle.all_endings.proofs.Moves.{Blocked, MovesOrBlocks, blocked-address, blocked-call, blocked-target, registers_are}
+use Rattle.all_endings.proofs.Offers.{step_offers}
 use Rattle.all_endings.proofs.OwnSteps.{follows_own}
 use Rattle.all_endings.proofs.PlainMoves.{branch_moves, call_moves, jump_moves, order_moves, put_moves}
 use Rattle.all_endings.proofs.Starting.{runs_start}
@@ -41,20 +47,87 @@ use Rattle.all_endings.proofs.StoreMoves.{exchange_moves, fail_moves, succeed_mo
 
 -- ---- a run so far
 
+-- a run on which a store was offered
+pub record Offered (s : Setting) (h : ℕ) (start : Hart) (moves : List Move) (next : Stored) : Type 0 where
+  pub before : List Move
+  pub at : RunState
+  pub leads : Runs s.image h (list s) (opening_bytes s.image) (run_start start) before at
+  pub offers : Offers s.image h (list s) (opening_bytes s.image) at next
+  pub rest : List Move
+  pub joined : moves ≡ before ++ rest
+
+abbrev pub Paid : List Move → ℕ → Type 0
+Paid moves k = (v : Move) × Contains moves v × (stores v.access ≡ true) × (v.time ≡ k)
+
+-- of the stores that hart h did before an index the first ones are done, and the next one was offered
+pub record SoFar (s : Setting) (h : ℕ) (start : Hart) (i : ℕ) (moves : List Move) : Type 0 where
+  pub paid : (w : ℕ) → w < i → (event s.t w).hart ≡ h → is_store (event s.t w) ≡ true → time s w < s.n → Paid moves (time s w)
+  pub offered : (w : ℕ) → w < i → (event s.t w).hart ≡ h → is_store (event s.t w) ≡ true → time s w ≡ s.n → Offered s h start moves (told (event s.t w))
+
 pub record Going (s : Setting) (q : Standing) (h : ℕ) (start : Hart) (i : ℕ) (held : Option Span) (k : Hart) : Type 0 where
   pub moves : List Move
   pub state : RunState
   pub runs : Runs s.image h (list s) (opening_bytes s.image) (run_start start) moves state
   pub are : AreMoves s.n h q s.g i moves
   pub follows : Follows s h i held state k
+  pub so_far : SoFar s h start i moves
 
 pub record Stuck (s : Setting) (q : Standing) (h : ℕ) (start : Hart) : Type 0 where
   pub index : ℕ
+  pub within : index ≤ length s.t
   pub moves : List Move
   pub state : RunState
   pub runs : Runs s.image h (list s) (opening_bytes s.image) (run_start start) moves state
   pub are : AreMoves s.n h q s.g index moves
+  pub so_far : SoFar s h start index moves
   pub breaks : (IsUnknown s.image state × StoresLater s.n h q s.g index) ⊎ IsOpenCall s.image state
+
+contains_more : (vs ws : List Move) (v : Move) → Contains vs v → Contains (vs ++ ws) v
+contains_more vs ws v c = (c.0, (let l = c.1 in let m = length-append vs ws in omega (arith, l, m)), get_or_append_left vs ws v c.0 c.1 ∙ c.2)
+
+contains_last : (vs : List Move) (v : Move) → Contains (vs ++ v ∷ []) v
+contains_last vs v = (length vs, (let m = length-append vs (v ∷ []) in omega (arith, m)), get_or-append_seam vs v [] v)
+
+paid_more : (vs ws : List Move) (k : ℕ) → Paid vs k → Paid (vs ++ ws) k
+paid_more vs ws k p = (p.0, contains_more vs ws p.0 p.1, p.2, p.3)
+
+offered_more : (s : Setting) (h : ℕ) (start : Hart) (vs ws : List Move) (next : Stored) → Offered s h start vs next → Offered s h start (vs ++ ws) next
+offered_more s h start vs ws next o = record {
+  before = o.before;
+  at = o.at;
+  leads = o.leads;
+  offers = o.offers;
+  rest = o.rest ++ ws;
+  joined = ap (λ (us : List Move). us ++ ws) o.joined ∙ append_assoc o.before o.rest ws;
+}
+
+so_far_other : (s : Setting) (h : ℕ) (start : Hart) (i : ℕ) (vs : List Move) → (event s.t i).hart ≢ h → SoFar s h start i vs → SoFar s h start (suc i) vs
+so_far_other s h start i vs other f = record {
+  paid = λ w l here store early. f.paid w (not_it s h i w other l here) here store early;
+  offered = λ w l here store now. f.offered w (not_it s h i w other l here) here store now;
+}
+
+so_far_own : (s : Setting) (h : ℕ) (start : Hart) (i : ℕ) (vs : List Move) (v : Move) (a : RunState) → v.access ≡ bare (event s.t i).access →
+    (stores (event s.t i).access ≡ true → time s i < s.n → v.time ≡ time s i) →
+    (is_store (event s.t i) ≡ true → time s i ≡ s.n → Offers s.image h (list s) (opening_bytes s.image) a (told (event s.t i))) →
+    Runs s.image h (list s) (opening_bytes s.image) (run_start start) vs a → SoFar s h start i vs → SoFar s h start (suc i) (vs ++ v ∷ [])
+so_far_own s h start i vs v a e listed offers runs f = record {
+  paid = λ w l here store early. elim (cases_lt w i) [
+    | inl k ↦ paid_more vs (v ∷ []) (time s w) (f.paid w k here store early)
+    | inr k ↦ let same : i ≡ w = omega (arith, k, l) in subst (λ (j : ℕ). Paid (vs ++ v ∷ []) (time s j)) same (new (ap (λ (j : ℕ). is_store (event s.t j)) same ∙ store) (subst (λ (j : ℕ). time s j < s.n) (sym same) early))
+  ];
+  offered = λ w l here store now. elim (cases_lt w i) [
+    | inl k ↦ offered_more s h start vs (v ∷ []) (told (event s.t w)) (f.offered w k here store now)
+    | inr k ↦ let same : i ≡ w = omega (arith, k, l) in subst (λ (j : ℕ). Offered s h start (vs ++ v ∷ []) (told (event s.t j))) same
+        (offer (ap (λ (j : ℕ). is_store (event s.t j)) same ∙ store) (ap (λ (j : ℕ). time s j) same ∙ now))
+  ];
+}
+  where
+    new : is_store (event s.t i) ≡ true → time s i < s.n → Paid (vs ++ v ∷ []) (time s i)
+    new store early = (v, contains_last vs v, ap stores e ∙ stores_bare (event s.t i).access ∙ store, listed store early)
+
+    offer : is_store (event s.t i) ≡ true → time s i ≡ s.n → Offered s h start (vs ++ v ∷ []) (told (event s.t i))
+    offer store now = record { before = vs; at = a; leads = runs; offers = offers store now; rest = v ∷ []; joined = refl }
 
 known_start : (x : List ℕ) (r : ℕ) → r < length x → is_some (get_or (map (λ v. Some v) x) r None) ≡ true
 known_start [] r l = absurd (omega (arith, l))
@@ -96,7 +169,7 @@ step_moves s h i held a k j instr access f here inst (did-succeed rd x v w o is 
 step_moves s h i held a k j instr access f here inst (did-exchange rd x old w m o is safe fill g) e = exchange_moves s h i held a k j instr f here inst rd x old w m o e is safe fill g
 step_moves s h i held a k j instr access f here inst (did-call answer is nonzero g) e = call_moves s h i held a k j instr f here inst answer e is nonzero g
 
-harts_stay : (image : Memory) (p q : Standing) → Executes image p q → length q.harts ≡ length p.harts
+pub harts_stay : (image : Memory) (p q : Standing) → Executes image p q → length q.harts ≡ length p.harts
 harts_stay image p q (begins _) = refl
 harts_stay image p q (goes i _ u _ x z) = ap length z.harts ∙ length-set u.harts i z.after ∙ harts_stay image p u x
 harts_stay image p q (stops i _ u _ x z) = ap length z.harts ∙ length-set u.harts i z.after ∙ harts_stay image p u x
@@ -104,23 +177,25 @@ harts_stay image p q (stops i _ u _ x z) = ap length z.harts ∙ length-set u.ha
 -- an execution, an order, how many stores are known, a hart and what it began as
 module _ (image : Memory) (q : Standing) (g : List ℕ) (n : ℕ) (fit : (i : ℕ) → AreRegisters (registers_at q.instructions i)) (meets : Allows (opening_bytes image) q g)
     (many : length (stores_of n q.events g) ≡ n) (h : ℕ) (first : Hart) where
-  abbrev the : Setting
+  abbrev pub the : Setting
   the = record { image = image; is = q.instructions; t = q.events; g = g; n = n; fit = fit; meets = meets; many = many }
 
-  abbrev On : ℕ → Option Span → Hart → Type 0
+  abbrev pub On : ℕ → Option Span → Hart → Type 0
   On i held k = Stuck the q h first ⊎ Going the q h first i held k
 
-  own_step : (i : ℕ) (held : Option Span) (k j : Hart) (instr : Instr) (w : Going the q h first i held k) → (event q.events i).hart ≡ h → slice_index_or q.instructions i Ecall ≡ instr →
-      decoded image k.pc ≡ Some instr → MovesOrBlocks the h i w.state k j instr → On (suc i) (held_after_own (event q.events i).access held) j
-  own_step i held k j instr w here inst decodes next = elim next [
+  own_step : (i : ℕ) (held : Option Span) (k j : Hart) (instr : Instr) (w : Going the q h first i held k) → i ≤ length q.events → (event q.events i).hart ≡ h → slice_index_or q.instructions i Ecall ≡ instr →
+      decoded image k.pc ≡ Some instr → MovesOrBlocks the h i w.state k j instr →
+      (is_store (event q.events i) ≡ true → time the i ≡ n → Offers image h (list the) (opening_bytes image) w.state (told (event q.events i))) → On (suc i) (held_after_own (event q.events i).access held) j
+  own_step i held k j instr w small here inst decodes next offers = elim next [
     | inl m ↦ inr (record {
       moves = w.moves ++ m.move ∷ [];
       state = moved h (list the) w.state m.move;
       runs = runs-more (run_start first) w.state w.moves m.move w.runs (at ∙ ap (λ (x : Instr). Some x) (sym m.instruction)) m.acts m.stands;
       are = moves-own i w.moves m.move w.are here (record { instruction = m.instruction ∙ sym inst; access = m.matches.access; time = m.matches.passed });
       follows = follows_own the h i w.state k j m.move m.matches held w.follows;
+      so_far = so_far_own the h first i w.moves m.move w.state m.matches.access m.matches.listed offers w.runs w.so_far;
     })
-    | inr b ↦ inl (record { index = i; moves = w.moves; state = w.state; runs = w.runs; are = w.are; breaks = blocked b })
+    | inr b ↦ inl (record { index = i; within = small; moves = w.moves; state = w.state; runs = w.runs; are = w.are; so_far = w.so_far; breaks = blocked b })
   ]
     where
       at : decoded image w.state.pc ≡ Some instr
@@ -136,15 +211,16 @@ module _ (image : Memory) (q : Standing) (g : List ℕ) (n : ℕ) (fit : (i : �
   on_other : (i : ℕ) (held : Option Span) (k : Hart) → (event q.events i).hart ≢ h → On i held k → On (suc i) held k
   on_other i held k other on = elim on [
     | inl stuck ↦ inl stuck
-    | inr w ↦ inr (record { moves = w.moves; state = w.state; runs = w.runs; are = moves-other i w.moves w.are other; follows = follows_other the h i held w.state k other w.follows })
+    | inr w ↦ inr (record { moves = w.moves; state = w.state; runs = w.runs; are = moves-other i w.moves w.are other; follows = follows_other the h i held w.state k other w.follows; so_far = so_far_other the h first i w.moves other w.so_far })
   ]
 
-  on_own : (i : ℕ) (held : Option Span) (k j : Hart) (instr : Instr) (access : Option Access) → (event q.events i).hart ≡ h → slice_index_or q.instructions i Ecall ≡ instr →
+  on_own : (i : ℕ) (held : Option Span) (k j : Hart) (instr : Instr) (access : Option Access) → i ≤ length q.events → (event q.events i).hart ≡ h → slice_index_or q.instructions i Ecall ≡ instr →
       decoded image k.pc ≡ Some instr → Did image held k j instr access → (event q.events i).access ≡ unwrap_or access no_access → On i held k →
       On (suc i) (held_after_own (event q.events i).access held) j
-  on_own i held k j instr access here inst decodes did e on = elim on [
+  on_own i held k j instr access small here inst decodes did e on = elim on [
     | inl stuck ↦ inl stuck
-    | inr w ↦ own_step i held k j instr w here inst decodes (step_moves the h i held w.state k j instr access w.follows here inst did e)
+    | inr w ↦ own_step i held k j instr w small here inst decodes (step_moves the h i held w.state k j instr access w.follows here inst did e)
+        (λ store now. step_offers the h i held w.state k j instr w.follows here inst (ap (decoded image) w.follows.lags.pc ∙ decodes) now store access did e)
   ]
 
   on_stopped : (i : ℕ) (held : Option Span) (k j : Hart) → (j.x ≡ k.x) × (j.pc ≡ k.pc) → On i held k → On i held j
@@ -168,15 +244,16 @@ module _ (image : Memory) (q : Standing) (g : List ℕ) (n : ℕ) (fit : (i : �
         holds = w.follows.holds;
         reserving = w.follows.reserving;
       };
+      so_far = w.so_far;
     })
   ]
 
   -- ---- along the execution
 
-  abbrev hart_of : Standing → Hart
+  abbrev pub hart_of : Standing → Hart
   hart_of p = get_or p.harts h first
 
-  abbrev After : Standing → Type 0
+  abbrev pub After : Standing → Type 0
   After p = On (length p.events) (own_held h p.events) (hart_of p)
 
   same_place : (p u : Standing) → length p.events ≡ length u.events → own_held h p.events ≡ own_held h u.events → hart_of p ≡ hart_of u → After u → After p
@@ -206,7 +283,7 @@ module _ (image : Memory) (q : Standing) (g : List ℕ) (n : ℕ) (fit : (i : �
         (ap (own_held h) z.events ∙ own_more h None u.events z.event ∙ take (z.event.hart == h) _ _ (eq-eqb z.event.hart h (z.event_of.hart ∙ here))
         ∙ ap (λ (y : Event). held_after_own y.access (own_held h u.events)) (sym event_is))
         (ap (λ (hs : List Hart). get_or hs h first) z.harts ∙ ap (λ (y : ℕ). get_or (slice_set u.harts y z.after) h first) here ∙ get_or-set_same u.harts h z.after first small)
-        (on_own (length u.events) (own_held h u.events) (hart_of u) z.after z.instruction z.access (hart_is ∙ z.event_of.hart ∙ here) inst_is
+        (on_own (length u.events) (own_held h u.events) (hart_of u) z.after z.instruction z.access inside (hart_is ∙ z.event_of.hart ∙ here) inst_is
         (ap (λ (y : Hart). decoded image y.pc) (sym before) ∙ z.decodes)
         (subst (λ (y : Hart). Did image (own_held h u.events) y z.after z.instruction z.access) before did)
         (ap (λ (y : Event). y.access) event_is ∙ z.event_of.access) on)
@@ -219,6 +296,13 @@ module _ (image : Memory) (q : Standing) (g : List ℕ) (n : ℕ) (fit : (i : �
       take : {A : Type 0} (b : Bool) (x y : A) → b ≡ true → (if b then x else y) ≡ x
       take true x y e = refl
       take false x y e = absurd (cc)
+
+      inside : length u.events ≤ length q.events
+      inside =
+          let a = ap length (es ∙ ap (λ (t : List Event). t ++ rest) z.events) in
+          let b = length-append (u.events ++ z.event ∷ []) rest in
+          let c = length-append u.events (z.event ∷ []) in
+          omega (arith, a, b, c)
 
       event_is : event q.events (length u.events) ≡ z.event
       event_is =
@@ -279,17 +363,24 @@ module _ (image : Memory) (q : Standing) (g : List ℕ) (n : ℕ) (fit : (i : �
     }
   ]
 
-pub factorizes : Factorizes
-factorizes image hs c q g e meets n h first k many small at size here =
+-- along all of an execution
+pub all_along : (image : Memory) (hs : List Hart) (c : ConsoleState) (q : Standing) (g : List ℕ) (e : Executes image (at_start hs c) q) (meets : Allows (opening_bytes image) q g)
+    (n h : ℕ) (first : Hart) (many : length (stores_of n q.events g) ≡ n) → h < length hs → first ≡ get_or hs h first → length first.x ≡ 32 →
+    After image q g n (all_registers_are image hs c q e) meets many h first q
+all_along image hs c q g e meets n h first many small at size =
     let fit = all_registers_are image hs c q e in
-    let stay : length q.harts ≡ length hs = harts_stay image (at_start hs c) q e in
     let begun : Going (the image q g n fit meets many h first) q h first 0 None first = record {
       moves = [];
       state = run_start first;
       runs = runs-none (run_start first);
       are = moves-none;
       follows = follows_start (the image q g n fit meets many h first) h first size;
+      so_far = record { paid = λ w l wh store early. absurd (omega (arith, l)); offered = λ w l wh store now. absurd (omega (arith, l)) };
     } in
-    factor_of image q g n fit meets many h first k here (omega (arith, small, stay))
-    (walk image q g n fit meets many h first (at_start hs c) q e
-    (inr (subst (λ (y : Hart). Going (the image q g n fit meets many h first) q h first 0 None y) at begun)) refl small [] [] (sym (append-nil q.events)) (sym (append-nil q.instructions)))
+    walk image q g n fit meets many h first (at_start hs c) q e
+    (inr (subst (λ (y : Hart). Going (the image q g n fit meets many h first) q h first 0 None y) at begun)) refl small [] [] (sym (append-nil q.events)) (sym (append-nil q.instructions))
+
+pub factorizes : Factorizes
+factorizes image hs c q g e meets n h first k many small at size here =
+    let stay : length q.harts ≡ length hs = harts_stay image (at_start hs c) q e in
+    factor_of image q g n (all_registers_are image hs c q e) meets many h first k here (omega (arith, small, stay)) (all_along image hs c q g e meets n h first many small at size)

@@ -20,7 +20,7 @@ use Rattle.rule_checker.specs.declared.carried.Carried.{Carried}
 use Rattle.all_endings.specs.Endings.{opening_bytes}
 use Rattle.all_endings.specs.Factorizing.{Lags}
 use Rattle.all_endings.specs.RunStates.{OwnByte, RunState}
-use Rattle.all_endings.specs.StoreLists.{place_behind, stores_of}
+use Rattle.all_endings.specs.StoreLists.{Stored, place_behind, stores_of}
 use Rattle.all_endings.specs.Times.{carried_before, kinds_before, stores_before, time_after, time_of, touched_before}
 use Rattle.all_endings.proofs.SourceRegisters.{IsKnown}
 use Rattle.all_endings.proofs.StoreLists.{store_counts}
@@ -42,7 +42,7 @@ after s i = time_after s.n s.t s.g i
 abbrev pub time : Setting → ℕ → ℕ
 time s i = time_of s.n s.t s.g i
 
-abbrev pub list : Setting → List Event
+abbrev pub list : Setting → List Stored
 list s = stores_of s.n s.t s.g
 
 abbrev pub place : Setting → Option ℕ → ℕ
@@ -148,7 +148,7 @@ skip : {A : Type 0} (b : Bool) (x y : A) → b ≡ false → (if b then x else y
 skip true x y e = absurd (cc)
 skip false x y e = refl
 
-not_it : (s : Setting) (h i v : ℕ) → (event s.t i).hart ≢ h → v < suc i → (event s.t v).hart ≡ h → v < i
+pub not_it : (s : Setting) (h i v : ℕ) → (event s.t i).hart ≢ h → v < suc i → (event s.t v).hart ≡ h → v < i
 not_it s h i v other l here = elim (cases_lt v i) [
   | inl k ↦ k
   | inr k ↦ let e : i ≡ v = omega (arith, k, l) in absurd (other (ap (λ (j : ℕ). (event s.t j).hart) e ∙ here))

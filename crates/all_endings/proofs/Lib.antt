@@ -1,5 +1,6 @@
 mod Bare
 mod Blocking
+mod Closing
 mod DecodedRegisters
 mod Effects
 mod Endings
@@ -9,6 +10,7 @@ mod Halting
 mod LoadMoves
 mod Locality
 mod Moves
+mod Offers
 mod OwnSteps
 mod Pairs
 mod PlainMoves

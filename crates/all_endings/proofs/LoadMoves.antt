@@ -20,7 +20,7 @@ use Rattle.memory_order.specs.Operations.{is_operation}
 use Rattle.memory_order.specs.Dependencies.{has_failed}
 use Rattle.memory_order.specs.Registers.{registers_of}
 use Rattle.all_endings.specs.Endings.{opening_bytes}
-use Rattle.all_endings.specs.HartRuns.{Acts, IsReadable, gets-later, reads, reserves}
+use Rattle.all_endings.specs.HartRuns.{Acts, IsPlaced, IsReadable, gets-later, reads, reserves}
 use Rattle.all_endings.specs.Locality.{written_register}
 use Rattle.all_endings.specs.RunStates.{Move, RunState, answers_to, bare, behind, operates}
 use Rattle.all_endings.proofs.Following.{Follows, Setting, after, after_other, list, time, time_small}
@@ -66,7 +66,7 @@ module _ (s : Setting) (h i : ℕ) (held : Option Span) (a : RunState) (k j : Ha
   is_one = ap (λ (p : Bool). p || stores (event s.t i).access) loads_it
 
   known_moves : (result : Option ℕ) (number next : ℕ) → is_some result ≡ true → ((m : ℕ) → result ≡ Some m → number ≡ m) → j.x ≡ set_reg k.x (answers_to instr) number → next ≡ j.pc →
-      Acts s.image h (list s) (opening_bytes s.image) a (load_of s i instr result next) → Moves s h i a k j instr
+      Acts s.image h (list s) (opening_bytes s.image) (IsPlaced h (list s)) a (load_of s i instr result next) → Moves s h i a k j instr
   known_moves result number next given got changes to doing = record {
     move = load_of s i instr result next;
     instruction = refl;
@@ -77,6 +77,7 @@ module _ (s : Setting) (h i : ℕ) (held : Option Span) (a : RunState) (k j : Ha
       registers = registers_are s i instr inst;
       access = refl;
       passed = behind_other s i (load_of s i instr result next) refl no_store refl;
+      listed = λ store l. refl;
       next = to;
       number = number;
       result = got;
@@ -89,7 +90,7 @@ module _ (s : Setting) (h i : ℕ) (held : Option Span) (a : RunState) (k j : Ha
   }
 
   late_moves : (number next : ℕ) → s.n < time s i → j.x ≡ set_reg k.x (answers_to instr) number → next ≡ j.pc →
-      Acts s.image h (list s) (opening_bytes s.image) a (late_of s i instr next) → Moves s h i a k j instr
+      Acts s.image h (list s) (opening_bytes s.image) (IsPlaced h (list s)) a (late_of s i instr next) → Moves s h i a k j instr
   late_moves number next late changes to doing =
       let flat = after_other s i no_store in
       let at : behind (list s) (late_of s i instr next) ≡ after s i = behind_other s i (late_of s i instr next) refl no_store refl in record {
@@ -102,6 +103,7 @@ module _ (s : Setting) (h i : ℕ) (held : Option Span) (a : RunState) (k j : Ha
           registers = registers_are s i instr inst;
           access = refl;
           passed = at;
+          listed = λ store l. refl;
           next = to;
           number = number;
           result = λ m q. absurd (not_both m None refl q);

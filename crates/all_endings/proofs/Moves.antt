@@ -11,7 +11,7 @@ use Rattle.memory_order.specs.Dependencies.{registers_at}
 use Rattle.memory_order.specs.Registers.{registers_of}
 use Rattle.rule_checker.specs.CarriedBounds.{AreRegisters, sources_bound}
 use Rattle.all_endings.specs.Endings.{opening_bytes}
-use Rattle.all_endings.specs.HartRuns.{Acts, Stands}
+use Rattle.all_endings.specs.HartRuns.{Acts, IsPlaced, Stands}
 use Rattle.all_endings.specs.Locality.{Knows, KnowsButData, filled, view, without_data, written_register}
 use Rattle.all_endings.specs.RunStates.{Move, RunState, answers_to, operates}
 use Rattle.all_endings.proofs.Following.{Setting, list}
@@ -22,7 +22,7 @@ use Rattle.all_endings.proofs.OwnSteps.{Matches}
 pub record Moves (s : Setting) (h i : ℕ) (a : RunState) (k j : Hart) (instr : Instr) : Type 0 where
   pub move : Move
   pub instruction : move.instruction ≡ instr
-  pub acts : Acts s.image h (list s) (opening_bytes s.image) a move
+  pub acts : Acts s.image h (list s) (opening_bytes s.image) (IsPlaced h (list s)) a move
   pub stands : operates move ≡ true → Stands a move
   pub matches : Matches s h i a k j move
 

@@ -28,7 +28,7 @@ use Rattle.all_endings.specs.Locality.{Refines, set_view, view}
 use Rattle.all_endings.specs.RunStates.{Move, OwnByte, RunState, answers_to, bare, behind, moved, operates}
 use Rattle.all_endings.specs.Times.{kinds_before, timed, touched_before}
 use Rattle.all_endings.proofs.Bare.{address_bare, atomic_bare, carried_bare, covers_bare, held_bare, kinds_bare, loads_bare, lr_bare, stores_bare, writes_bare}
-use Rattle.all_endings.proofs.Following.{Follows, OwnIs, Reserving, Setting, Source, after, carried_at_index, list, place}
+use Rattle.all_endings.proofs.Following.{Follows, OwnIs, Reserving, Setting, Source, after, carried_at_index, list, place, time}
 use Rattle.all_endings.proofs.Locality.{set_refines}
 use Rattle.all_endings.proofs.Seen.{seen_stays}
 use Rattle.all_endings.proofs.SourceRegisters.{IsKnown}
@@ -40,6 +40,7 @@ pub record Matches (s : Setting) (h i : ℕ) (a : RunState) (k j : Hart) (v : Mo
   pub registers : registers_of v.instruction ≡ registers_at s.is i
   pub access : v.access ≡ bare (event s.t i).access
   pub passed : behind (list s) v ≡ after s i
+  pub listed : stores (event s.t i).access ≡ true → time s i < s.n → v.time ≡ time s i
   pub next : v.next ≡ j.pc
   pub number : ℕ
   pub result : (m : ℕ) → v.result ≡ Some m → number ≡ m

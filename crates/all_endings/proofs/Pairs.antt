@@ -4,10 +4,9 @@ use Rattle.std.proofs.lemmas.Bool.{and_parts, cases_lt}
 use Rattle.pages.specs.Memory.{in_range, width_bytes}
 use Rattle.round_schedule.specs.declared.access.Access.{Access}
 use Rattle.round_schedule.specs.declared.access.Access.TheVariants.{Load, Store, LoadReserved, StoreConditional, Atomic, Fence}
-use Rattle.round_schedule.specs.declared.event.Event.{Event}
 use Rattle.round_schedule.specs.declared.span.Span.{Span}
-use Rattle.round_schedule.specs.Accesses.{address_of, bytes_of, is_lr, is_sc, loads, stores, writes}
-use Rattle.round_schedule.specs.Positions.{event, no_event, reads_at, writes_at}
+use Rattle.round_schedule.specs.Accesses.{address_of, bytes_of, is_lr, is_sc, loads, stores}
+use Rattle.round_schedule.specs.Positions.{event, reads_at, writes_at}
 use Rattle.memory_order.specs.Operations.{covers, is_store}
 use Rattle.memory_order.specs.Orders.{order_position}
 use Rattle.memory_order.specs.Rvwmo.{IsPaired, IsUndisturbed, paired}
@@ -16,12 +15,17 @@ use Rattle.memory_order.proofs.Placing.{position_of_contained}
 use Rattle.all_endings.specs.Endings.{opening_bytes}
 use Rattle.all_endings.specs.HartRuns.{IsUnbroken}
 use Rattle.all_endings.specs.RunStates.{Move, RunState, bare}
+use Rattle.all_endings.specs.StoreLists.{Stored, has_byte, no_store, told}
 use Rattle.all_endings.specs.Times.{stores_before}
 use Rattle.all_endings.proofs.Bare.{covers_bare}
 use Rattle.all_endings.proofs.Following.{Reserving, Setting, after_store, list, place, time}
 use Rattle.all_endings.proofs.Sources.{once_at, place_of_time, preserved_in_time}
 use Rattle.all_endings.proofs.StoreLists.{stands_at}
 use Rattle.all_endings.proofs.Times.{timed_rises}
+
+both_true : (p q : Bool) → p ≡ true → q ≡ true → (p && q) ≡ true
+both_true true q e d = d
+both_true false q e d = absurd (cc)
 
 lr_loads : (y : Access) → is_lr y ≡ true → loads y ≡ true
 lr_loads (Load w p x r) e = cc
@@ -83,11 +87,11 @@ module _ (s : Setting) (h i : ℕ) (a : RunState) (span : Span) (pair : Reservin
         let w : ℕ = get_or s.g f.0 0 in
         let w_at : order_position s.g (get_or s.g f.0 0) ≡ f.0 = once_at s.g f.0 f.2 s.meets.lists.once in
         let before : order_position s.g (get_or s.g f.0 0) < order_position s.g i = let l = f.1 in omega (arith, w_at, l) in
-        let is : get_or (list s) p no_event ≡ event s.t (get_or s.g f.0 0) =
-        get_or-take s.n (map (λ (j : ℕ). event s.t j) (filter (λ (j : ℕ). is_store (event s.t j)) s.g)) p no_event (omega (arith, m, within, low))
-        ∙ ap (λ (j : ℕ). get_or (map (λ (j : ℕ). event s.t j) (filter (λ (j : ℕ). is_store (event s.t j)) s.g)) j no_event) (sym f.4) ∙ stands_at s.t s.g f.0 f.2 f.3 in
-        let w_wet : writes_at s.t (get_or s.g f.0 0) x ≡ true = ap (λ (y : Event). writes y.access x) (sym is) ∙ wet in
-        let w_other : (event s.t (get_or s.g f.0 0)).hart ≢ (event s.t i).hart = λ q. other (ap (λ (y : Event). y.hart) is ∙ q ∙ here) in
+        let is : get_or (list s) p no_store ≡ told (event s.t (get_or s.g f.0 0)) =
+        get_or-take s.n (map (λ (j : ℕ). told (event s.t j)) (filter (λ (j : ℕ). is_store (event s.t j)) s.g)) p no_store (omega (arith, m, within, low))
+        ∙ ap (λ (j : ℕ). get_or (map (λ (j : ℕ). told (event s.t j)) (filter (λ (j : ℕ). is_store (event s.t j)) s.g)) j no_store) (sym f.4) ∙ stands_at s.t s.g f.0 f.2 f.3 in
+        let w_wet : writes_at s.t (get_or s.g f.0 0) x ≡ true = both_true (is_store (event s.t (get_or s.g f.0 0))) (has_byte (told (event s.t (get_or s.g f.0 0))) x) f.3 (ap (λ (y : Stored). has_byte y x) (sym is) ∙ wet) in
+        let w_other : (event s.t (get_or s.g f.0 0)).hart ≢ (event s.t i).hart = λ q. other (ap (λ (y : Stored). y.hart) is ∙ q ∙ here) in
         let w_time : time s (get_or s.g f.0 0) ≡ p =
         let k : stores_before s.t s.g (order_position s.g (get_or s.g f.0 0)) ≡ p = ap (stores_before s.t s.g) w_at ∙ f.4 in
         omega (arith, k, within, low, m) in

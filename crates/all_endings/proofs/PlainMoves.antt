@@ -22,7 +22,7 @@ use Rattle.memory_order.specs.Registers.{registers_of}
 use Rattle.rule_checker.specs.CarriedBounds.{AreRegisters, destination_with, result_bound, sources_bound}
 use Rattle.execution.specs.Executions.{no_access}
 use Rattle.all_endings.specs.Endings.{opening_bytes}
-use Rattle.all_endings.specs.HartRuns.{Acts, branches, calls, jumps, orders, puts, puts-unknown}
+use Rattle.all_endings.specs.HartRuns.{Acts, IsPlaced, branches, calls, jumps, orders, puts, puts-unknown}
 use Rattle.all_endings.specs.Locality.{Knows, filled, view, written_register}
 use Rattle.all_endings.specs.RunStates.{Move, RunState, answers_to, bare, behind, operates}
 use Rattle.all_endings.proofs.Following.{Follows, Setting, after, list, time}
@@ -76,7 +76,7 @@ IsGiven s a v = (is_some v.result ≡ true) ⊎
 
 pub idle_moves : (s : Setting) (h i : ℕ) (held : Option Span) (a : RunState) (k j : Hart) (instr : Instr) (y : Access) (result : Option ℕ) (number next : ℕ) → (event s.t i).hart ≡ h →
     slice_index_or s.is i Ecall ≡ instr → (event s.t i).access ≡ y → IsIdle y → ((m : ℕ) → result ≡ Some m → number ≡ m) → j.x ≡ set_reg k.x (answers_to instr) number → next ≡ j.pc →
-    IsGiven s a (idle_of s i instr result next) → Acts s.image h (list s) (opening_bytes s.image) a (idle_of s i instr result next) → Moves s h i a k j instr
+    IsGiven s a (idle_of s i instr result next) → Acts s.image h (list s) (opening_bytes s.image) (IsPlaced h (list s)) a (idle_of s i instr result next) → Moves s h i a k j instr
 idle_moves s h i held a k j instr y result number next here inst e idle got changes to given doing = record {
   move = idle_of s i instr result next;
   instruction = refl;
@@ -89,6 +89,7 @@ idle_moves s h i held a k j instr y result number next here inst e idle got chan
     registers = registers_are s i instr inst;
     access = refl;
     passed = behind_other s i (idle_of s i instr result next) refl (ap stores e ∙ idle.1) refl;
+    listed = λ store l. let dry : stores (event s.t i).access ≡ false = ap stores e ∙ idle.1 in absurd (cc);
     next = to;
     number = number;
     result = got;

@@ -1,9 +1,9 @@
 -- What a load reads, in times.
-use Rattle.std.proofs.Common.{◌≡◌, ◌≢◌, ℕ, zero, suc, ◌+◌, ◌<◌, ◌≤◌, ◌↔◌, ◌⊎◌, ◌||◌, Bool, true, false, if◌then◌else◌, List, [], ◌∷◌, length, map, filter, get_or, get_or-take, Option, Some, None, refl, sym, ap, ◌∙◌, subst, inl, inr, arith}
+use Rattle.std.proofs.Common.{◌≡◌, ◌≢◌, ℕ, zero, suc, ◌+◌, ◌<◌, ◌≤◌, ◌↔◌, ◌⊎◌, ◌&&◌, ◌||◌, Bool, true, false, if◌then◌else◌, List, [], ◌∷◌, length, map, filter, get_or, get_or-take, Option, Some, None, refl, sym, ap, ◌∙◌, subst, inl, inr, arith}
 use Rattle.std.proofs.lemmas.Bool.{and_parts, cases_Bool, cases_lt}
 use Rattle.round_schedule.specs.declared.event.Event.{Event}
-use Rattle.round_schedule.specs.Accesses.{is_sc, byte_read, byte_written, writes}
-use Rattle.round_schedule.specs.Positions.{ProgramBefore, event, no_event, source_byte, writes_at}
+use Rattle.round_schedule.specs.Accesses.{is_sc, byte_read}
+use Rattle.round_schedule.specs.Positions.{ProgramBefore, event, source_byte, writes_at}
 use Rattle.memory_order.specs.Operations.{is_amo, is_operation, is_store}
 use Rattle.memory_order.specs.Orders.{order_position}
 use Rattle.memory_order.specs.Rvwmo.{IsSource, Rule, dependent, overlapping-store, returns-atomic}
@@ -15,7 +15,7 @@ use Rattle.std.specs.List.{AllPairs}
 use Rattle.memory_order.proofs.Facts.{store_is_operation}
 use Rattle.memory_order.proofs.Placing.{position_found, position_of_contained}
 use Rattle.memory_order.proofs.Sources.{load_at}
-use Rattle.all_endings.specs.StoreLists.{byte_at, last_place, stores_of}
+use Rattle.all_endings.specs.StoreLists.{Stored, byte_at, byte_in, has_byte, last_place, no_store, stores_of, told}
 use Rattle.all_endings.specs.Sources.{IsRemembered, IsForwarded, LoadsReadInTime, PreservedInTime}
 use Rattle.all_endings.specs.Times.{carried_before, stores_before, time_after, time_of, timed}
 use Rattle.all_endings.proofs.StoreLists.{stands_at, store_counts, stores_stand}
@@ -28,26 +28,26 @@ preserved_in_time is t opening g meets n a b oa ob before rule =
 
 -- ---- the last of the first stores that writes a byte
 
-last_is : (m : List Event) (x T p : ℕ) → p < T → writes (get_or m p no_event).access x ≡ true →
-    ((j : ℕ) → p < j → j < T → writes (get_or m j no_event).access x ≡ true → ⊥) → last_place m x T ≡ suc p
+last_is : (m : List Stored) (x T p : ℕ) → p < T → has_byte (get_or m p no_store) x ≡ true →
+    ((j : ℕ) → p < j → j < T → has_byte (get_or m j no_store) x ≡ true → ⊥) → last_place m x T ≡ suc p
 last_is m x zero p l w none = absurd (omega (arith, l))
-last_is m x (suc T) p l w none = by_test (writes (get_or m T no_event).access x) refl (λ k. last_is m x T p k w (λ j a b. none j a (omega (arith, b))))
+last_is m x (suc T) p l w none = by_test (has_byte (get_or m T no_store) x) refl (λ k. last_is m x T p k w (λ j a b. none j a (omega (arith, b))))
   where
-    by_test : (b : Bool) → writes (get_or m T no_event).access x ≡ b → (p < T → last_place m x T ≡ suc p) → (if b then suc T else last_place m x T) ≡ suc p
+    by_test : (b : Bool) → has_byte (get_or m T no_store) x ≡ b → (p < T → last_place m x T ≡ suc p) → (if b then suc T else last_place m x T) ≡ suc p
     by_test true e rest = elim (cases_lt p T) [
       | inl k ↦ absurd (none T k (omega arith) e)
       | inr k ↦ omega (arith, k, l)
     ]
     by_test false e rest = elim (cases_lt p T) [
       | inl k ↦ rest k
-      | inr k ↦ let s : p ≡ T = omega (arith, k, l) in let w : writes (get_or m T no_event).access x ≡ true = ap (λ i. writes (get_or m i no_event).access x) (sym s) ∙ w in absurd (cc)
+      | inr k ↦ let s : p ≡ T = omega (arith, k, l) in let w : has_byte (get_or m T no_store) x ≡ true = ap (λ i. has_byte (get_or m i no_store) x) (sym s) ∙ w in absurd (cc)
     ]
 
-none_is : (m : List Event) (x T : ℕ) → ((j : ℕ) → j < T → writes (get_or m j no_event).access x ≡ true → ⊥) → last_place m x T ≡ 0
+none_is : (m : List Stored) (x T : ℕ) → ((j : ℕ) → j < T → has_byte (get_or m j no_store) x ≡ true → ⊥) → last_place m x T ≡ 0
 none_is m x zero none = refl
-none_is m x (suc T) none = by_test (writes (get_or m T no_event).access x) refl (none_is m x T (λ j l. none j (omega (arith, l))))
+none_is m x (suc T) none = by_test (has_byte (get_or m T no_store) x) refl (none_is m x T (λ j l. none j (omega (arith, l))))
   where
-    by_test : (b : Bool) → writes (get_or m T no_event).access x ≡ b → last_place m x T ≡ 0 → (if b then suc T else last_place m x T) ≡ 0
+    by_test : (b : Bool) → has_byte (get_or m T no_store) x ≡ b → last_place m x T ≡ 0 → (if b then suc T else last_place m x T) ≡ 0
     by_test true e rest = absurd (none T (omega arith) e)
     by_test false e rest = rest
 
@@ -90,6 +90,10 @@ once_at g k l once =
       ]
     ]
 
+both : (p q : Bool) → p ≡ true → q ≡ true → (p && q) ≡ true
+both true q e d = d
+both false q e d = absurd (cc)
+
 -- ---- a load
 
 pub loads_read : LoadsReadInTime
@@ -100,7 +104,7 @@ loads_read is t opening g fit meets n b x read known =
     pos : ℕ → ℕ
     pos = order_position g
 
-    m : List Event
+    m : List Stored
     m = stores_of n t g
 
     T : ℕ
@@ -120,13 +124,13 @@ loads_read is t opening g fit meets n b x read known =
     compare w wr = (stores_stand t g meets.lists n w (storing w wr)).1 b known
 
     -- a place below the load's time has a store that stands before the load in the order
-    store_below : (j : ℕ) → j < T → writes (get_or m j no_event).access x ≡ true → (k : ℕ) × (k < pos b) × (stores_before t g k ≡ j) × (writes_at t (get_or g k 0) x ≡ true)
+    store_below : (j : ℕ) → j < T → has_byte (get_or m j no_store) x ≡ true → (k : ℕ) × (k < pos b) × (stores_before t g k ≡ j) × (writes_at t (get_or g k 0) x ≡ true)
     store_below j l wr =
         let f = place_of_time t g (pos b) j (omega (arith, l)) in
-        let at : get_or m j no_event ≡ event t (get_or g f.0 0) =
-        get_or-take n (map (λ i. event t i) (filter (λ i. is_store (event t i)) g)) j no_event (omega (arith, l, known))
-        ∙ ap (λ i. get_or (map (λ i. event t i) (filter (λ i. is_store (event t i)) g)) i no_event) (sym f.4) ∙ stands_at t g f.0 f.2 f.3 in
-        (f.0, f.1, f.4, sym (ap (λ (e : Event). writes e.access x) at) ∙ wr)
+        let at : get_or m j no_store ≡ told (event t (get_or g f.0 0)) =
+        get_or-take n (map (λ i. told (event t i)) (filter (λ i. is_store (event t i)) g)) j no_store (omega (arith, l, known))
+        ∙ ap (λ i. get_or (map (λ i. told (event t i)) (filter (λ i. is_store (event t i)) g)) i no_store) (sym f.4) ∙ stands_at t g f.0 f.2 f.3 in
+        (f.0, f.1, f.4, both (is_store (event t (get_or g f.0 0))) (has_byte (told (event t (get_or g f.0 0))) x) f.3 (sym (ap (λ (e : Stored). has_byte e x) at) ∙ wr))
 
     -- the store at a position of the order is at that position
     found : (k : ℕ) → k < pos b → pos b < length g → order_position g (get_or g k 0) ≡ k
@@ -156,9 +160,9 @@ loads_read is t opening g fit meets n b x read known =
       | inl l ↦
           let after = (compare w source.0.0).0 l in
           let counts : time_after n t g w ≡ suc (time_of n t g w) = after_store w (storing w source.0.0) (omega (arith, after, known)) in
-          let at : get_or m (time_of n t g w) no_event ≡ event t w = (stores_stand t g meets.lists n w (storing w source.0.0)).0 (omega (arith, after, counts, known)) in
+          let at : get_or m (time_of n t g w) no_store ≡ told (event t w) = (stores_stand t g meets.lists n w (storing w source.0.0)).0 (omega (arith, after, counts, known)) in
           let last : last_place m x T ≡ suc (time_of n t g w) =
-          last_is m x T (time_of n t g w) (omega (arith, after, counts)) (ap (λ (e : Event). writes e.access x) at ∙ source.0.0)
+          last_is m x T (time_of n t g w) (omega (arith, after, counts)) (ap (λ (e : Stored). has_byte e x) at ∙ (and_parts (is_store (event t w)) _ source.0.0).1)
           (λ j above below wr.
           let f = store_below j below wr in
           let e = found f.0 f.1 inside in
@@ -170,7 +174,7 @@ loads_read is t opening g fit meets n b x read known =
           inr (record {
             past = λ v own. let p = source.1 v (own.0, inr own.1) in (compare v own.0).0 (omega (arith, p, l));
             place = last ∙ sym counts;
-            byte = byte ∙ sym (ap (byte_at m opening x) last ∙ ap (λ (e : Event). byte_written e.access x) at);
+            byte = byte ∙ sym (ap (byte_at m opening x) last ∙ ap (λ (e : Stored). byte_in e x) at);
           })
       | inr l ↦ inl (
         w,

@@ -4,10 +4,9 @@ use Rattle.std.proofs.lemmas.Bool.Decides.{nat_tests}
 use Rattle.pages.specs.declared.access.Width.{Width}
 use Rattle.pages.specs.Memory.{byte_of, in_range, width_bytes}
 use Rattle.round_schedule.specs.declared.access.Access.{Access}
-use Rattle.round_schedule.specs.declared.event.Event.{Event}
 use Rattle.round_schedule.specs.declared.span.Span.{Span}
 use Rattle.round_schedule.specs.Accesses.{address_of, byte_read, byte_written, bytes_of, is_given, is_sc, loads, number_or_zero, read_of, stores, written_of}
-use Rattle.round_schedule.specs.Positions.{ProgramBefore, event, no_event, reads_at, writes_at}
+use Rattle.round_schedule.specs.Positions.{ProgramBefore, event, reads_at, writes_at}
 use Rattle.hart_step.specs.declared.hart.Hart.{Hart}
 use Rattle.hart_step.specs.Registers.{reg}
 use Rattle.hart_step.specs.Step.{width_bits}
@@ -23,9 +22,9 @@ use Rattle.rule_checker.specs.declared.carried.Carried.{Carried}
 use Rattle.all_endings.specs.Endings.{opening_bytes}
 use Rattle.all_endings.specs.HartRuns.{Gets, IsListed, IsPast, IsRead, Stands, forwarded, gets, remembered}
 use Rattle.all_endings.specs.RunStates.{Move, OwnByte, RunState, bare, behind, operates}
-use Rattle.all_endings.specs.StoreLists.{last_place}
+use Rattle.all_endings.specs.StoreLists.{Stored, last_place, no_store, told}
 use Rattle.all_endings.specs.Times.{StandsInTime, kinds_before, touched_before}
-use Rattle.all_endings.proofs.Bare.{carried_allow_bare, covers_bare, kinds_allow_bare, stores_bare}
+use Rattle.all_endings.proofs.Bare.{address_bare, bytes_bare, carried_allow_bare, covers_bare, kinds_allow_bare, stores_bare}
 use Rattle.all_endings.proofs.Following.{Follows, OwnIs, OwnLast, Setting, Source, after, after_other, after_store, carried_at_index, list, place, time, time_small}
 use Rattle.all_endings.proofs.OwnSteps.{operates_as}
 use Rattle.all_endings.proofs.Seen.{same_place}
@@ -38,7 +37,7 @@ use Rattle.all_endings.proofs.Times.{stand_in_time}
 stores_as : (s : Setting) (i : ℕ) (v : Move) (b : Bool) → v.access ≡ bare (event s.t i).access → stores (event s.t i).access ≡ b → stores v.access ≡ b
 stores_as s i v b e st = ap stores e ∙ stores_bare (event s.t i).access ∙ st
 
-behind_by : (m : List Event) (v : Move) (b : Bool) → stores v.access ≡ b → behind m v ≡ min (if b then v.time + 1 else v.time) (length m + 1)
+behind_by : (m : List Stored) (v : Move) (b : Bool) → stores v.access ≡ b → behind m v ≡ min (if b then v.time + 1 else v.time) (length m + 1)
 behind_by m v b e = ap (λ (c : Bool). min (if c then v.time + 1 else v.time) (length m + 1)) e
 
 pub behind_other : (s : Setting) (i : ℕ) (v : Move) → v.access ≡ bare (event s.t i).access → stores (event s.t i).access ≡ false → v.time ≡ time s i → behind (list s) v ≡ after s i
@@ -123,6 +122,17 @@ data_in_time s h i held a k f here store =
     ap (λ (y : ℕ). reg (carried_at_index s y i).registers (registers_at s.is i).value) here in
     let c : reg a.carried.registers (registers_at s.is i).value ≡ reg (carried_at_index s h i).registers (registers_at s.is i).value =
     ap (λ (y : Carried). reg y.registers (registers_at s.is i).value) f.carried in
+    omega (arith, b, q, c)
+
+-- rule 9: an address that is looked at is known
+pub address_in_time : (s : Setting) (h i : ℕ) (held : Option Span) (a : RunState) (k : Hart) → Follows s h i held a k → (event s.t i).hart ≡ h → is_operation (event s.t i) ≡ true →
+    reg a.carried.registers (registers_at s.is i).address ≤ time s i
+address_in_time s h i held a k f here op =
+    let b = (in_time s i op).carried.0 in
+    let q : reg (carried_at_index s (event s.t i).hart i).registers (registers_at s.is i).address ≡ reg (carried_at_index s h i).registers (registers_at s.is i).address =
+    ap (λ (y : ℕ). reg (carried_at_index s y i).registers (registers_at s.is i).address) here in
+    let c : reg a.carried.registers (registers_at s.is i).address ≡ reg (carried_at_index s h i).registers (registers_at s.is i).address =
+    ap (λ (y : Carried). reg y.registers (registers_at s.is i).address) f.carried in
     omega (arith, b, q, c)
 
 -- ---- loads
@@ -229,13 +239,21 @@ gets_known s h i address number w held a k v f here at bytes reading fits known 
 
 -- ---- stores
 
+pub stored_number : (y : Access) → stores y ≡ true → written_of y ≡ Some (number_or_zero (written_of y))
+stored_number y store = by_number (written_of y) store
+  where
+    by_number : (o : Option ℕ) → is_given o ≡ true → o ≡ Some (number_or_zero o)
+    by_number None e = absurd (cc)
+    by_number (Some m) e = refl
+
 -- a store at a time that is known is that of the list
 pub listed : (s : Setting) (h i : ℕ) (v : Move) → (event s.t i).hart ≡ h → is_store (event s.t i) ≡ true → v.access ≡ bare (event s.t i).access → v.written ≡ written_of (event s.t i).access →
     v.time ≡ time s i → time s i < s.n → IsListed h (list s) v
 listed s h i v here store e number t l =
-    let at : get_or (list s) v.time no_event ≡ event s.t i = ap (λ (y : ℕ). get_or (list s) y no_event) t ∙ (stores_stand s.t s.g s.meets.lists s.n i store).0 l in record {
+    let at : get_or (list s) v.time no_store ≡ told (event s.t i) = ap (λ (y : ℕ). get_or (list s) y no_store) t ∙ (stores_stand s.t s.g s.meets.lists s.n i store).0 l in record {
       within = (let m = s.many in omega (arith, m, l, t));
-      hart = ap (λ (y : Event). y.hart) at ∙ here;
-      access = ap (λ (y : Event). bare y.access) at ∙ sym e;
-      number = ap (λ (y : Event). written_of y.access) at ∙ sym number;
+      hart = ap (λ (y : Stored). y.hart) at ∙ here;
+      address = ap (λ (y : Stored). y.address) at ∙ sym (ap address_of e ∙ address_bare (event s.t i).access);
+      bytes = ap (λ (y : Stored). y.bytes) at ∙ sym (ap bytes_of e ∙ bytes_bare (event s.t i).access);
+      number = number ∙ stored_number (event s.t i).access store ∙ ap (λ (y : Stored). Some y.number) (sym at);
     }

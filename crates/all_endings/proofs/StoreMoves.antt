@@ -36,17 +36,17 @@ use Rattle.all_endings.proofs.SourceRegisters.{data_known, fits, most_known, reg
 use Rattle.all_endings.proofs.StepTimes.{behind_later, behind_listed, data_in_time, gets_known, listed, source_at, source_is, stands}
 
 -- the number that is stored, before it is cut
-abbrev number_in : Action → ℕ → ℕ
+abbrev pub number_in : Action → ℕ → ℕ
 number_in (Write a w v) d = v
 number_in (Conditional rd a w v o) d = v
 number_in _ d = d
 
 -- it is that of the data register
-data_is : (instr : Instr) (x : List ℕ) (pc : ℕ) → number_in (action instr x pc) (reg x (registers_of instr).value) ≡ reg x (registers_of instr).value
+pub data_is : (instr : Instr) (x : List ℕ) (pc : ℕ) → number_in (action instr x pc) (reg x (registers_of instr).value) ≡ reg x (registers_of instr).value
 data_is Ecall x pc = refl
 data_is _ x pc = refl
 
-abbrev store_of : Setting → ℕ → Instr → ℕ → Option ℕ → Option ℕ → (ℕ → ℕ) → ℕ → Move
+abbrev pub store_of : Setting → ℕ → Instr → ℕ → Option ℕ → Option ℕ → (ℕ → ℕ) → ℕ → Move
 store_of s i instr t result written source next = record {
   instruction = instr;
   access = bare (event s.t i).access;
@@ -69,7 +69,7 @@ module _ (s : Setting) (h i : ℕ) (held : Option Span) (a : RunState) (k j : Ha
   changed rd number b g is other at = ap (λ (q : Hart). q.x) g ∙ ap (λ (d : ℕ). set_reg k.x d number) (sym at ∙ writes_to instr k.x k.pc b is other)
 
   -- what the data register holds is known, or depends on what is LATER
-  data_cases : (number : ℕ) → number ≡ reg k.x (registers_of instr).value →
+  pub data_cases : (number : ℕ) → number ≡ reg k.x (registers_of instr).value →
       (view a.registers (registers_of instr).value ≡ Some number) ⊎ ((view a.registers (registers_of instr).value ≡ None) × (s.n < reg a.carried.registers (registers_of instr).value))
   data_cases number is = by_view (view a.registers (registers_of instr).value) refl
     where
@@ -85,7 +85,7 @@ module _ (s : Setting) (h i : ℕ) (held : Option Span) (a : RunState) (k j : Ha
       by_view (Some d) at = inl (at ∙ ap (λ (v : ℕ). Some v) (sym (follows.lags.registers (registers_of instr).value d at) ∙ sym is))
 
   -- a store among the first ones has known data
-  not_late : is_store (event s.t i) ≡ true → time s i < s.n → s.n < reg a.carried.registers (registers_of instr).value → ⊥
+  pub not_late : is_store (event s.t i) ≡ true → time s i ≤ s.n → s.n < reg a.carried.registers (registers_of instr).value → ⊥
   not_late store early late =
       let b = data_in_time s h i held a k follows here store in
       let q : reg a.carried.registers (registers_of instr).value ≡ reg a.carried.registers (registers_at s.is i).value =
@@ -116,7 +116,7 @@ module _ (s : Setting) (h i : ℕ) (held : Option Span) (a : RunState) (k j : Ha
         IsGiven s a (store_of s i instr t result written source (plus a.pc 4)) →
         (written ≡ written_of (event s.t i).access) ⊎ ((written ≡ None) × ((s.n < operand_bound a.carried (registers_of instr)) ⊎ (is_amo (event s.t i).access ≡ true))) →
         ((x : ℕ) (u : Option ℕ) → reads_at s.t i x ≡ true → Source s i x u → (source x ≡ place s u) ⊎ ((s.n < after s i) × (source x ≡ 0))) →
-        Acts s.image h (list s) (opening_bytes s.image) a (store_of s i instr t result written source (plus a.pc 4)) → Moves s h i a k j instr
+        Acts s.image h (list s) (opening_bytes s.image) (IsPlaced h (list s)) a (store_of s i instr t result written source (plus a.pc 4)) → Moves s h i a k j instr
     store_moves number got changes next given puts reads doing = record {
       move = store_of s i instr t result written source (plus a.pc 4);
       instruction = refl;
@@ -128,6 +128,7 @@ module _ (s : Setting) (h i : ℕ) (held : Option Span) (a : RunState) (k j : Ha
         registers = registers_are s i instr inst;
         access = refl;
         passed = passes;
+        listed = λ wet l. elim times [ inl early ↦ early.0 | inr late ↦ (let m = late.1 in absurd (omega (arith, l, m))) ];
         next = next;
         number = number;
         result = got;
@@ -161,7 +162,7 @@ module _ (s : Setting) (h i : ℕ) (held : Option Span) (a : RunState) (k j : Ha
   in_place number store known = elim known [
     | inl e ↦ inl e
     | inr late ↦ inr (elim (cases_lt (time s i) s.n) [
-      | inl early ↦ absurd (not_late store early late.1)
+      | inl early ↦ absurd (not_late store (omega (arith, early)) late.1)
       | inr l ↦ l
     ])
   ]
@@ -258,7 +259,7 @@ module _ (s : Setting) (h i : ℕ) (held : Option Span) (a : RunState) (k j : Ha
       early_exchange early most =
           let value : is_some (view a.registers (registers_of instr).value) ≡ true = elim data_or [
             | inl some ↦ some
-            | inr late ↦ absurd (not_late store early late.1)
+            | inr late ↦ absurd (not_late store (omega (arith, early)) late.1)
           ] in
           let all : Knows (registers_of instr) a.registers = record { but_data = most; value = value } in
           let times : ((time s i ≡ time s i) × (time s i < s.n)) ⊎ ((time s i ≡ s.n + 1) × (s.n ≤ time s i)) = inl (refl, early) in

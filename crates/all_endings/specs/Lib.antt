@@ -3,6 +3,7 @@ pub mod Endings
 pub mod Factorizing
 pub mod HartRuns
 pub mod Locality
+pub mod Offering
 pub mod RunStates
 pub mod Sources
 pub mod StoreLists

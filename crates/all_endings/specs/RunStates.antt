@@ -6,7 +6,6 @@ use Rattle.rv64_decode.specs.declared.instruction.Instr.{Instr}
 use Rattle.rv64_decode.specs.declared.instruction.Instr.TheVariants.{Ecall}
 use Rattle.round_schedule.specs.declared.access.Access.{Access}
 use Rattle.round_schedule.specs.declared.access.Access.TheVariants.{Load, Store, LoadReserved, StoreConditional, Atomic, Fence}
-use Rattle.round_schedule.specs.declared.event.Event.{Event}
 use Rattle.round_schedule.specs.declared.span.Span.{Span}
 use Rattle.round_schedule.specs.Accesses.{address_of, is_lr, is_sc, loads, stores, writes}
 use Rattle.round_schedule.specs.Held.{held_after_own}
@@ -19,7 +18,7 @@ use Rattle.rule_checker.specs.declared.annotated.KindBounds.{KindBounds}
 use Rattle.rule_checker.specs.declared.carried.Carried.{Carried}
 use Rattle.execution.specs.Progressing.{step_event}
 use Rattle.all_endings.specs.Locality.{set_view}
-use Rattle.all_endings.specs.StoreLists.{later}
+use Rattle.all_endings.specs.StoreLists.{Stored, later}
 
 -- the last store of the hart to a byte
 pub record OwnByte : Type 0 where
@@ -91,7 +90,7 @@ pub record Move : Type 0 where
 abbrev pub operates : Move → Bool
 operates v = loads v.access || stores v.access
 
-abbrev pub behind : List Event → Move → ℕ
+abbrev pub behind : List Stored → Move → ℕ
 behind m v = min (if stores v.access then v.time + 1 else v.time) (later m)
 
 -- the register that it writes: an ECALL's answer is in x10
@@ -100,7 +99,7 @@ answers_to Ecall = 10
 answers_to i = (registers_of i).destination
 
 -- what a move of hart h leaves
-abbrev pub moved : ℕ → List Event → RunState → Move → RunState
+abbrev pub moved : ℕ → List Stored → RunState → Move → RunState
 moved h m a v = record {
   pc = v.next;
   registers = set_view a.registers (answers_to v.instruction) v.result;

@@ -2,6 +2,7 @@
 
 ghost use Rattle.all_endings.specs.Decoded.{RegistersAreRegisters};
 ghost use Rattle.all_endings.specs.Endings.{EndsAreLast};
+ghost use Rattle.all_endings.specs.Offering.{ClosedListsHaveAll};
 ghost use Rattle.all_endings.specs.Sources.{LoadsReadInTime, PreservedInTime, SeenStays};
 ghost use Rattle.all_endings.specs.StoreLists.{StoresStandAtTimes};
 ghost use Rattle.all_endings.specs.Times.{OperationsStandInTime};
@@ -83,4 +84,9 @@ pub fn registers_are_registers()
 /// Each hart of an execution that RVWMO allows has a run against the first stores of the order.
 pub fn harts_have_runs()
     ensures { Factorizes }
+{}
+
+/// Lists of stores that are closed under the stores that may come next have the first stores of each order that RVWMO allows.
+pub fn closed_lists_have_all()
+    ensures { ClosedListsHaveAll }
 {}

@@ -1,0 +1,224 @@
+-- Closed lists have the first stores of each order that RVWMO allows.
+use Rattle.std.proofs.Common.{◌≡◌, ◌≢◌, ℕ, zero, suc, ◌+◌, ◌<◌, ◌≤◌, ◌==◌, Bool, true, false, cond, if◌then◌else◌, List, [], ◌∷◌, ◌++◌, length, map, filter, take, get_or, get_or-take, count_by, refl, sym, ap, ◌∙◌, subst, inl, inr, arith}
+use Rattle.std.specs.List.{AllPairs}
+use Rattle.std.proofs.Math.Seq.{get_or-append_seam, take-suc}
+use Rattle.std.proofs.lemmas.Bool.{cases_Bool, cases_lt, cases_eq, eq-eqb, ne_eqb}
+use Rattle.std.proofs.lemmas.List.{get_or_append_left, length-append, length-take, take_all}
+use Rattle.std.proofs.lemmas.List.Sums.{count_by_more_no, count_by_more_yes}
+use Rattle.pages.specs.Memory.{Memory}
+use Rattle.round_schedule.specs.declared.event.Event.{Event}
+use Rattle.round_schedule.specs.Positions.{event, no_event}
+use Rattle.hart_step.specs.declared.hart.Hart.{Hart}
+use Rattle.hart_step.specs.Console.{ConsoleState}
+use Rattle.memory_order.specs.Operations.{is_store}
+use Rattle.memory_order.specs.Orders.{order_position}
+use Rattle.memory_order.proofs.Facts.{store_is_operation, within}
+use Rattle.execution.specs.Executions.{Executes, Standing, begins, goes, stops}
+use Rattle.execution.specs.Progressing.{at_start}
+use Rattle.execution_checker.specs.Allowed.{Allows}
+use Rattle.all_endings.specs.Endings.{opening_bytes}
+use Rattle.all_endings.specs.Factorizing.{AreMoves, moves-none, moves-other, moves-own}
+use Rattle.all_endings.specs.HartRuns.{Runs}
+use Rattle.all_endings.specs.Offering.{AreShort, ClosedListsHaveAll, HaveRegisters, IsClosed, IsOffered, Pays}
+use Rattle.all_endings.specs.RunStates.{Move, RunState, run_start}
+use Rattle.all_endings.specs.StoreLists.{Stored, all_stores, no_store, stores_of, told}
+use Rattle.all_endings.specs.Times.{stores_before, time_of}
+use Rattle.all_endings.proofs.DecodedRegisters.{all_registers_are}
+use Rattle.all_endings.proofs.Factors.{SoFar, all_along, harts_stay, the}
+use Rattle.all_endings.proofs.Following.{Setting, list, time}
+use Rattle.all_endings.proofs.Sources.{once_at, place_of_time}
+use Rattle.all_endings.proofs.StoreLists.{stands_at}
+
+-- ---- the stores of an order
+
+counted : (t : List Event) (a : ℕ) (g : List ℕ) (b : Bool) → stores_before t g (length g) ≡ length (all_stores t g) →
+    (if b then 1 else 0) + stores_before t g (length g) ≡ length (map (λ i. told (event t i)) (cond b (a ∷ filter (λ i. is_store (event t i)) g) (filter (λ i. is_store (event t i)) g)))
+counted t a g true e = omega (arith, e)
+counted t a g false e = omega (arith, e)
+
+pub stores_counted : (t : List Event) (g : List ℕ) → stores_before t g (length g) ≡ length (all_stores t g)
+stores_counted t [] = refl
+stores_counted t (a ∷ g) = counted t a g (is_store (event t a)) (stores_counted t g)
+
+-- the store at a place
+pub record StoreAt (t : List Event) (g : List ℕ) (n : ℕ) : Type 0 where
+  pub index : ℕ
+  pub stores : is_store (event t index) ≡ true
+  pub position : stores_before t g (order_position g index) ≡ n
+  pub told : get_or (all_stores t g) n no_store ≡ told (event t index)
+
+pub store_at : (t : List Event) (g : List ℕ) (n : ℕ) → AllPairs (λ a b. a ≢ b) g → n < length (all_stores t g) → StoreAt t g n
+store_at t g n once l =
+    let c = stores_counted t g in
+    let f = place_of_time t g (length g) n (omega (arith, c, l)) in record {
+      index = get_or g f.0 0;
+      stores = f.3;
+      position = ap (stores_before t g) (once_at g f.0 f.2 once) ∙ f.4;
+      told = ap (λ (k : ℕ). get_or (all_stores t g) k no_store) (sym f.4) ∙ stands_at t g f.0 f.2 f.3;
+    }
+
+-- ---- harts and counts
+
+pub harts_within : (image : Memory) (p q : Standing) → Executes image p q → ((i : ℕ) → i < length p.events → (event p.events i).hart < length p.harts) →
+    (i : ℕ) → i < length q.events → (event q.events i).hart < length q.harts
+harts_within image p q (begins _) each i l = each i l
+harts_within image p q (goes j _ u _ x z) each i l =
+    let stay = harts_stay image p u x in
+    let set : length q.harts ≡ length u.harts = harts_stay image u q (goes j u u q (begins u) z) in
+    let size = ap length z.events ∙ length-append u.events (z.event ∷ []) in
+    elim (cases_lt i (length u.events)) [
+      | inl before ↦
+          let e : event q.events i ≡ event u.events i = ap (λ (t : List Event). event t i) z.events ∙ get_or_append_left u.events (z.event ∷ []) no_event i before in
+          let r = harts_within image p u x each i before in
+          let h : (event q.events i).hart ≡ (event u.events i).hart = ap (λ (y : Event). y.hart) e in
+          omega (arith, r, h, set)
+      | inr here ↦
+          let at : i ≡ length u.events = omega (arith, here, l, size) in
+          let e : event q.events i ≡ z.event = ap (λ (t : List Event). event t i) z.events ∙ ap (λ (k : ℕ). event (u.events ++ z.event ∷ []) k) at ∙ get_or-append_seam u.events z.event [] no_event in
+          let h : (event q.events i).hart ≡ j = ap (λ (y : Event). y.hart) e ∙ z.event_of.hart in
+          let w = z.within in
+          omega (arith, h, w, set)
+    ]
+harts_within image p q (stops j _ u _ x z) each i l =
+    let set : length q.harts ≡ length u.harts = harts_stay image u q (stops j u u q (begins u) z) in
+    let r = harts_within image p u x each i (let k = ap length z.events in omega (arith, l, k)) in
+    let h : (event q.events i).hart ≡ (event u.events i).hart = ap (λ (t : List Event). (event t i).hart) z.events in
+    omega (arith, r, h, set)
+
+-- how many events hart h has before an index
+abbrev done_by : ℕ → List Event → ℕ → ℕ
+done_by h t zero = 0
+done_by h t (suc i) = (if (event t i).hart == h then 1 else 0) + done_by h t i
+
+done_counts : (h : ℕ) (t : List Event) (i : ℕ) → i ≤ length t → done_by h t i ≡ count_by (λ (v : Event). v.hart == h) (take i t)
+done_counts h t zero l = refl
+done_counts h t (suc i) l = elim (cases_Bool ((event t i).hart == h)) [
+  | inl own ↦
+      let r = done_counts h t i (omega (arith, l)) in
+      let m = count_by_more_yes (λ (v : Event). v.hart == h) t i no_event (omega (arith, l)) own in
+      let e : i + 1 ≡ suc i = omega arith in
+      let n : count_by (λ (v : Event). v.hart == h) (take (suc i) t) ≡ count_by (λ (v : Event). v.hart == h) (take i t) + 1 = ap (λ (k : ℕ). count_by (λ (v : Event). v.hart == h) (take k t)) (sym e) ∙ m in
+      let d : done_by h t (suc i) ≡ 1 + done_by h t i = ap (λ (b : Bool). (if b then 1 else 0) + done_by h t i) own in
+      omega (arith, r, n, d)
+  | inr other ↦
+      let r = done_counts h t i (omega (arith, l)) in
+      let m = count_by_more_no (λ (v : Event). v.hart == h) t i no_event (omega (arith, l)) other in
+      let e : i + 1 ≡ suc i = omega arith in
+      let n : count_by (λ (v : Event). v.hart == h) (take (suc i) t) ≡ count_by (λ (v : Event). v.hart == h) (take i t) = ap (λ (k : ℕ). count_by (λ (v : Event). v.hart == h) (take k t)) (sym e) ∙ m in
+      let d : done_by h t (suc i) ≡ 0 + done_by h t i = ap (λ (b : Bool). (if b then 1 else 0) + done_by h t i) other in
+      omega (arith, r, n, d)
+]
+
+done_rises : (h : ℕ) (t : List Event) (i k : ℕ) → i ≤ k → done_by h t i ≤ done_by h t k
+done_rises h t i zero l = let e : i ≡ 0 = omega (arith, l) in subst (λ (j : ℕ). done_by h t i ≤ done_by h t j) e (omega arith)
+done_rises h t i (suc k) l = elim (cases_eq i (suc k)) [
+  | inl e ↦ subst (λ (j : ℕ). done_by h t i ≤ done_by h t j) e (omega arith)
+  | inr other ↦ let r = done_rises h t i k (omega (arith, l, other)) in omega (arith, r)
+]
+
+done_few : (h : ℕ) (t : List Event) (i : ℕ) → i ≤ length t → done_by h t i ≤ count_by (λ (v : Event). v.hart == h) t
+done_few h t i l =
+    let r = done_rises h t i (length t) l in
+    let c = done_counts h t (length t) (omega arith) in
+    let a : count_by (λ (v : Event). v.hart == h) (take (length t) t) ≡ count_by (λ (v : Event). v.hart == h) t = ap (λ (u : List Event). count_by (λ (v : Event). v.hart == h) u) (take_all (length t) t (omega arith)) in
+    omega (arith, r, c, a)
+
+moves_counted : (n h : ℕ) (q : Standing) (g : List ℕ) (i : ℕ) (vs : List Move) → AreMoves n h q g i vs → length vs ≡ done_by h q.events i
+moves_counted n h q g _ _ moves-none = refl
+moves_counted n h q g _ vs (moves-other i _ m other) =
+    let r = moves_counted n h q g i vs m in
+    let d : done_by h q.events (suc i) ≡ 0 + done_by h q.events i = ap (λ (b : Bool). (if b then 1 else 0) + done_by h q.events i) (ne_eqb (event q.events i).hart h other) in
+    omega (arith, r, d)
+moves_counted n h q g _ _ (moves-own i vs v m here at) =
+    let r = moves_counted n h q g i vs m in
+    let l = length-append vs (v ∷ []) in
+    let d : done_by h q.events (suc i) ≡ 1 + done_by h q.events i = ap (λ (b : Bool). (if b then 1 else 0) + done_by h q.events i) (eq-eqb (event q.events i).hart h here) in
+    omega (arith, r, d, l)
+
+pub moves_few : (k n h : ℕ) (q : Standing) (g : List ℕ) (i : ℕ) (vs : List Move) → AreShort k q → i ≤ length q.events → AreMoves n h q g i vs → length vs ≤ k
+moves_few k n h q g i vs short l m =
+    let c = moves_counted n h q g i vs m in
+    let d = done_few h q.events i l in
+    let s = short h in
+    omega (arith, c, d, s)
+
+hart_in : (hs : List Hart) (h : ℕ) → h < length hs → (start : Hart) × (start ≡ get_or hs h start)
+hart_in [] h l = absurd (omega (arith, l))
+hart_in (x ∷ hs) zero l = (x, refl)
+hart_in (x ∷ hs) (suc h) l = hart_in hs h (omega (arith, l))
+
+-- ---- the next store
+
+-- what a run has done and what it was offered, up to an index from which its hart stores nothing among these
+module _ (s : Setting) (k h i : ℕ) (start : Hart) (moves : List Move) (state : RunState) (runs : Runs s.image h (list s) (opening_bytes s.image) (run_start start) moves state)
+    (short : length moves ≤ k) (so_far : SoFar s h start i moves) (rest_later : (b : ℕ) → i ≤ b → (event s.t b).hart ≡ h → is_store (event s.t b) ≡ true → s.n < time s b) where
+  before_it : (w : ℕ) → (event s.t w).hart ≡ h → is_store (event s.t w) ≡ true → time s w ≤ s.n → w < i
+  before_it w here store l = elim (cases_lt w i) [
+    | inl k ↦ k
+    | inr k ↦ let r = rest_later w k here store in absurd (omega (arith, r, l))
+  ]
+
+  pub pays_all : Pays h (list s) moves
+  pays_all p l here =
+      let m = s.many in
+      let total = length-take s.n (all_stores s.t s.g) in
+      let f = store_at s.t s.g p s.meets.lists.once (omega (arith, m, l, total)) in
+      let is : get_or (list s) p no_store ≡ told (event s.t f.index) = get_or-take s.n (all_stores s.t s.g) p no_store (omega (arith, m, l)) ∙ f.told in
+      let h_is : (event s.t f.index).hart ≡ h = ap (λ (y : Stored). y.hart) (sym is) ∙ here in
+      let pos = f.position in
+      let t_is : time s f.index ≡ p = omega (arith, pos, m, l) in
+      let paid = so_far.paid f.index (before_it f.index h_is f.stores (omega (arith, t_is, m, l))) h_is f.stores (omega (arith, t_is, m, l)) in
+      (paid.0, paid.1, paid.2, paid.3 ∙ t_is)
+
+  pub is_offered : (w : ℕ) → (event s.t w).hart ≡ h → is_store (event s.t w) ≡ true → time s w ≡ s.n → IsOffered k s.image h (list s) (opening_bytes s.image) start (told (event s.t w))
+  is_offered w here store now =
+      let o = so_far.offered w (before_it w here store (omega (arith, now))) here store now in record {
+        before = o.before;
+        at = o.at;
+        leads = o.leads;
+        offers = o.offers;
+        rest = o.rest;
+        state = state;
+        runs = subst (λ (vs : List Move). Runs s.image h (list s) (opening_bytes s.image) (run_start start) vs state) o.joined runs;
+        pays = subst (Pays h (list s)) o.joined pays_all;
+        short = (let l = ap length o.joined in omega (arith, l, short));
+      }
+
+-- the stores of each length, one after another
+module _ (k : ℕ) (image : Memory) (hs : List Hart) (c : ConsoleState) (is_node : List Stored → Bool) (sized : HaveRegisters hs) (closed : IsClosed k image hs is_node)
+    (q : Standing) (g : List ℕ) (e : Executes image (at_start hs c) q) (meets : Allows (opening_bytes image) q g) (short : AreShort k q) where
+  next_node : (n h w : ℕ) (start : Hart) → length (stores_of n q.events g) ≡ n → is_node (stores_of n q.events g) ≡ true → h < length hs → start ≡ get_or hs h start →
+      (event q.events w).hart ≡ h → is_store (event q.events w) ≡ true → time_of n q.events g w ≡ n → is_node (stores_of n q.events g ++ told (event q.events w) ∷ []) ≡ true
+  next_node n h w start many node small at here store now =
+      closed.grows (stores_of n q.events g) h start (told (event q.events w)) node small at
+      (elim (all_along image hs c q g e meets n h start many small at (sized h start small at)) [
+        | inr going ↦
+            is_offered the_setting k h (length q.events) start going.moves going.state going.runs (moves_few k n h q g (length q.events) going.moves short (omega arith) going.are) going.so_far
+            (λ b l wh wet. let p = within q.events b (store_is_operation (event q.events b) wet) in absurd (omega (arith, l, p))) w here store now
+        | inl stuck ↦ elim stuck.breaks [
+          | inl unknown ↦
+              is_offered the_setting k h stuck.index start stuck.moves stuck.state stuck.runs (moves_few k n h q g stuck.index stuck.moves short stuck.within stuck.are) stuck.so_far unknown.1 w here store now
+          | inr call ↦ absurd (closed.calls (stores_of n q.events g) h start node small at stuck.moves stuck.state (moves_few k n h q g stuck.index stuck.moves short stuck.within stuck.are) stuck.runs call)
+        ]
+      ])
+    where
+      the_setting : Setting
+      the_setting = the image q g n (all_registers_are image hs c q e) meets many h start
+
+  nodes_all : (n : ℕ) → n ≤ length (all_stores q.events g) → is_node (stores_of n q.events g) ≡ true
+  nodes_all zero l = closed.begins
+  nodes_all (suc n) l =
+      let many : length (stores_of n q.events g) ≡ n = let t = length-take n (all_stores q.events g) in omega (arith, t, l) in
+      let f = store_at q.events g n meets.lists.once (omega (arith, l)) in
+      let w_in = within q.events f.index (store_is_operation (event q.events f.index) f.stores) in
+      let stay = harts_stay image (at_start hs c) q e in
+      let small = harts_within image (at_start hs c) q e (λ i l. absurd (omega (arith, l))) f.index w_in in
+      let start = hart_in hs (event q.events f.index).hart (omega (arith, small, stay)) in
+      let pos = f.position in
+      let now : time_of n q.events g f.index ≡ n = omega (arith, pos) in
+      let grown = next_node n (event q.events f.index).hart f.index start.0 many (nodes_all n (omega (arith, l))) (omega (arith, small, stay)) start.1 refl f.stores now in
+      subst (λ (m : List Stored). is_node m ≡ true) (sym (take-suc (all_stores q.events g) n no_store (omega (arith, l)) ∙ ap (λ (y : Stored). stores_of n q.events g ++ y ∷ []) f.told)) grown
+
+pub closed_have_all : ClosedListsHaveAll
+closed_have_all k image hs c is_node sized closed q g e meets short n many =
+    nodes_all k image hs c is_node sized closed q g e meets short n (let t = length-take n (all_stores q.events g) in omega (arith, t, many))
