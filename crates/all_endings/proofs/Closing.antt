@@ -1,15 +1,16 @@
 -- Closed lists have the first stores of each order that RVWMO allows.
-use Rattle.std.proofs.Common.{◌≡◌, ◌≢◌, ℕ, zero, suc, ◌+◌, ◌<◌, ◌≤◌, ◌==◌, Bool, true, false, cond, if◌then◌else◌, List, [], ◌∷◌, ◌++◌, length, map, filter, take, get_or, get_or-take, count_by, refl, sym, ap, ◌∙◌, subst, inl, inr, arith}
+use Rattle.std.proofs.Common.{◌≡◌, ◌≢◌, ℕ, zero, suc, ◌+◌, ◌<◌, ◌≤◌, ◌==◌, Bool, true, false, cond, if◌then◌else◌, List, [], ◌∷◌, ◌++◌, length, map, filter, take, get_or, get_or-take, count_by, refl, sym, ap, ◌∙◌, subst, inl, inr, arith, ◌*◌, nat_lt}
+use Rattle.std.proofs.Math.Nat.{mul-suc}
 use Rattle.std.specs.List.{AllPairs}
 use Rattle.std.proofs.Math.Seq.{get_or-append_seam, take-suc}
-use Rattle.std.proofs.lemmas.Bool.{cases_Bool, cases_lt, cases_eq, eq-eqb, ne_eqb}
+use Rattle.std.proofs.lemmas.Bool.{cases_Bool, cases_lt, cases_eq, eq-eqb, ne_eqb, le-ltb, lt-ltb}
 use Rattle.std.proofs.lemmas.List.{get_or_append_left, length-append, length-take, take_all}
 use Rattle.std.proofs.lemmas.List.Sums.{count_by_more_no, count_by_more_yes}
 use Rattle.pages.specs.Memory.{Memory}
 use Rattle.round_schedule.specs.declared.event.Event.{Event}
 use Rattle.round_schedule.specs.Positions.{event, no_event}
 use Rattle.hart_step.specs.declared.hart.Hart.{Hart}
-use Rattle.hart_step.specs.Console.{ConsoleState}
+use Rattle.hart_step.specs.Console.{ConsoleState, output_room}
 use Rattle.memory_order.specs.Operations.{is_store}
 use Rattle.memory_order.specs.Orders.{order_position}
 use Rattle.memory_order.proofs.Facts.{store_is_operation, within}
@@ -17,9 +18,9 @@ use Rattle.execution.specs.Executions.{Executes, Standing, begins, goes, stops}
 use Rattle.execution.specs.Progressing.{at_start}
 use Rattle.execution_checker.specs.Allowed.{Allows}
 use Rattle.all_endings.specs.Endings.{opening_bytes}
-use Rattle.all_endings.specs.Factorizing.{AreMoves, moves-none, moves-other, moves-own}
+use Rattle.all_endings.specs.Factorizing.{AreMoves, moves-none, moves-other, moves-own, HasRoom}
 use Rattle.all_endings.specs.HartRuns.{Runs}
-use Rattle.all_endings.specs.Offering.{AreShort, ClosedListsHaveAll, HaveRegisters, IsClosed, IsOffered, Pays}
+use Rattle.all_endings.specs.Offering.{AreShort, ClosedListsHaveAll, AreFresh, IsClosed, IsOffered, Pays}
 use Rattle.all_endings.specs.RunStates.{Move, RunState, run_start}
 use Rattle.all_endings.specs.StoreLists.{Stored, all_stores, no_store, stores_of, told}
 use Rattle.all_endings.specs.Times.{stores_before, time_of}
@@ -85,10 +86,13 @@ harts_within image p q (stops j _ u _ x z) each i l =
     let h : (event q.events i).hart ≡ (event u.events i).hart = ap (λ (t : List Event). (event t i).hart) z.events in
     omega (arith, r, h, set)
 
+abbrev one : Bool → ℕ
+one b = if b then 1 else 0
+
 -- how many events hart h has before an index
 abbrev done_by : ℕ → List Event → ℕ → ℕ
 done_by h t zero = 0
-done_by h t (suc i) = (if (event t i).hart == h then 1 else 0) + done_by h t i
+done_by h t (suc i) = one ((event t i).hart == h) + done_by h t i
 
 done_counts : (h : ℕ) (t : List Event) (i : ℕ) → i ≤ length t → done_by h t i ≡ count_by (λ (v : Event). v.hart == h) (take i t)
 done_counts h t zero l = refl
@@ -98,14 +102,14 @@ done_counts h t (suc i) l = elim (cases_Bool ((event t i).hart == h)) [
       let m = count_by_more_yes (λ (v : Event). v.hart == h) t i no_event (omega (arith, l)) own in
       let e : i + 1 ≡ suc i = omega arith in
       let n : count_by (λ (v : Event). v.hart == h) (take (suc i) t) ≡ count_by (λ (v : Event). v.hart == h) (take i t) + 1 = ap (λ (k : ℕ). count_by (λ (v : Event). v.hart == h) (take k t)) (sym e) ∙ m in
-      let d : done_by h t (suc i) ≡ 1 + done_by h t i = ap (λ (b : Bool). (if b then 1 else 0) + done_by h t i) own in
+      let d : done_by h t (suc i) ≡ 1 + done_by h t i = ap (λ (b : Bool). one b + done_by h t i) own in
       omega (arith, r, n, d)
   | inr other ↦
       let r = done_counts h t i (omega (arith, l)) in
       let m = count_by_more_no (λ (v : Event). v.hart == h) t i no_event (omega (arith, l)) other in
       let e : i + 1 ≡ suc i = omega arith in
       let n : count_by (λ (v : Event). v.hart == h) (take (suc i) t) ≡ count_by (λ (v : Event). v.hart == h) (take i t) = ap (λ (k : ℕ). count_by (λ (v : Event). v.hart == h) (take k t)) (sym e) ∙ m in
-      let d : done_by h t (suc i) ≡ 0 + done_by h t i = ap (λ (b : Bool). (if b then 1 else 0) + done_by h t i) other in
+      let d : done_by h t (suc i) ≡ 0 + done_by h t i = ap (λ (b : Bool). one b + done_by h t i) other in
       omega (arith, r, n, d)
 ]
 
@@ -127,12 +131,12 @@ moves_counted : (n h : ℕ) (q : Standing) (g : List ℕ) (i : ℕ) (vs : List M
 moves_counted n h q g _ _ moves-none = refl
 moves_counted n h q g _ vs (moves-other i _ m other) =
     let r = moves_counted n h q g i vs m in
-    let d : done_by h q.events (suc i) ≡ 0 + done_by h q.events i = ap (λ (b : Bool). (if b then 1 else 0) + done_by h q.events i) (ne_eqb (event q.events i).hart h other) in
+    let d : done_by h q.events (suc i) ≡ 0 + done_by h q.events i = ap (λ (b : Bool). one b + done_by h q.events i) (ne_eqb (event q.events i).hart h other) in
     omega (arith, r, d)
 moves_counted n h q g _ _ (moves-own i vs v m here at) =
     let r = moves_counted n h q g i vs m in
     let l = length-append vs (v ∷ []) in
-    let d : done_by h q.events (suc i) ≡ 1 + done_by h q.events i = ap (λ (b : Bool). (if b then 1 else 0) + done_by h q.events i) (eq-eqb (event q.events i).hart h here) in
+    let d : done_by h q.events (suc i) ≡ 1 + done_by h q.events i = ap (λ (b : Bool). one b + done_by h q.events i) (eq-eqb (event q.events i).hart h here) in
     omega (arith, r, d, l)
 
 pub moves_few : (k n h : ℕ) (q : Standing) (g : List ℕ) (i : ℕ) (vs : List Move) → AreShort k q → i ≤ length q.events → AreMoves n h q g i vs → length vs ≤ k
@@ -141,6 +145,64 @@ moves_few k n h q g i vs short l m =
     let d = done_few h q.events i l in
     let s = short h in
     omega (arith, c, d, s)
+
+-- how many events the harts below a number have before an index
+abbrev below_by : ℕ → List Event → ℕ → ℕ
+below_by m t zero = 0
+below_by m t (suc i) = one (nat_lt (event t i).hart m) + below_by m t i
+
+one_or : (x m : ℕ) → one (nat_lt x (suc m)) ≡ one (nat_lt x m) + one (x == m)
+one_or x m = elim (cases_lt x m) [
+  | inl l ↦
+      let a : one (nat_lt x (suc m)) ≡ 1 = ap (λ (b : Bool). one b) (lt-ltb x (suc m) (omega (arith, l))) in
+      let b : one (nat_lt x m) ≡ 1 = ap (λ (b : Bool). one b) (lt-ltb x m l) in
+      let c : one (x == m) ≡ 0 = ap (λ (b : Bool). one b) (ne_eqb x m (λ e. omega (arith, l, e))) in
+      omega (arith, a, b, c)
+  | inr l ↦ elim (cases_eq x m) [
+    | inl e ↦
+        let a : one (nat_lt x (suc m)) ≡ 1 = ap (λ (b : Bool). one b) (lt-ltb x (suc m) (omega (arith, e))) in
+        let b : one (nat_lt x m) ≡ 0 = ap (λ (b : Bool). one b) (le-ltb x m l) in
+        let c : one (x == m) ≡ 1 = ap (λ (b : Bool). one b) (eq-eqb x m e) in
+        omega (arith, a, b, c)
+    | inr other ↦
+        let a : one (nat_lt x (suc m)) ≡ 0 = ap (λ (b : Bool). one b) (le-ltb x (suc m) (omega (arith, l, other))) in
+        let b : one (nat_lt x m) ≡ 0 = ap (λ (b : Bool). one b) (le-ltb x m l) in
+        let c : one (x == m) ≡ 0 = ap (λ (b : Bool). one b) (ne_eqb x m other) in
+        omega (arith, a, b, c)
+  ]
+]
+
+below_more : (m : ℕ) (t : List Event) (i : ℕ) → below_by (suc m) t i ≡ below_by m t i + done_by m t i
+below_more m t zero = omega arith
+below_more m t (suc i) = let r = below_more m t i in let o = one_or (event t i).hart m in omega (arith, r, o)
+
+below_none : (t : List Event) (i : ℕ) → below_by 0 t i ≡ 0
+below_none t zero = refl
+below_none t (suc i) =
+    let a : one (nat_lt (event t i).hart 0) ≡ 0 = ap (λ (b : Bool). one b) (le-ltb (event t i).hart 0 (omega arith)) in
+    let r = below_none t i in
+    omega (arith, a, r)
+
+below_all : (m : ℕ) (t : List Event) (i : ℕ) → ((j : ℕ) → j < i → (event t j).hart < m) → below_by m t i ≡ i
+below_all m t zero each = refl
+below_all m t (suc i) each =
+    let a : one (nat_lt (event t i).hart m) ≡ 1 = ap (λ (b : Bool). one b) (lt-ltb (event t i).hart m (each i (omega arith))) in
+    let r = below_all m t i (λ j l. each j (omega (arith, l))) in
+    omega (arith, a, r)
+
+below_few : (k m : ℕ) (t : List Event) → ((h : ℕ) → count_by (λ (v : Event). v.hart == h) t ≤ k) → below_by m t (length t) ≤ k * m
+below_few k zero t few = let n = below_none t (length t) in omega (arith, n)
+below_few k (suc m) t few =
+    let r = below_few k m t few in
+    let d = done_few m t (length t) (omega arith) in
+    let f = few m in
+    let b = below_more m t (length t) in
+    let p : k * suc m ≡ k * m + k = mul-suc k m in
+    omega (arith, r, d, f, b, p)
+
+-- no more events than k of each hart
+pub events_few : (k m : ℕ) (t : List Event) → ((h : ℕ) → count_by (λ (v : Event). v.hart == h) t ≤ k) → ((j : ℕ) → j < length t → (event t j).hart < m) → length t ≤ k * m
+events_few k m t few each = let a = below_all m t (length t) each in let b = below_few k m t few in omega (arith, a, b)
 
 hart_in : (hs : List Hart) (h : ℕ) → h < length hs → (start : Hart) × (start ≡ get_or hs h start)
 hart_in [] h l = absurd (omega (arith, l))
@@ -185,13 +247,20 @@ module _ (s : Setting) (k h i : ℕ) (start : Hart) (moves : List Move) (state :
       }
 
 -- the stores of each length, one after another
-module _ (k : ℕ) (image : Memory) (hs : List Hart) (c : ConsoleState) (is_node : List Stored → Bool) (sized : HaveRegisters hs) (closed : IsClosed k image hs is_node)
+module _ (k : ℕ) (image : Memory) (hs : List Hart) (c : ConsoleState) (is_node : List Stored → Bool) (sized : AreFresh hs) (enough : length c.output + k * length hs ≤ output_room) (closed : IsClosed k image hs is_node)
     (q : Standing) (g : List ℕ) (e : Executes image (at_start hs c) q) (meets : Allows (opening_bytes image) q g) (short : AreShort k q) where
+  pub has_room : HasRoom c q
+  has_room =
+      let stay = harts_stay image (at_start hs c) q e in
+      let few = events_few k (length q.harts) q.events short (harts_within image (at_start hs c) q e (λ i l. absurd (omega (arith, l)))) in
+      let same : k * length q.harts ≡ k * length hs = ap (λ (m : ℕ). k * m) stay in
+      omega (arith, few, same, enough)
+
   next_node : (n h w : ℕ) (start : Hart) → length (stores_of n q.events g) ≡ n → is_node (stores_of n q.events g) ≡ true → h < length hs → start ≡ get_or hs h start →
       (event q.events w).hart ≡ h → is_store (event q.events w) ≡ true → time_of n q.events g w ≡ n → is_node (stores_of n q.events g ++ told (event q.events w) ∷ []) ≡ true
   next_node n h w start many node small at here store now =
       closed.grows (stores_of n q.events g) h start (told (event q.events w)) node small at
-      (elim (all_along image hs c q g e meets n h start many small at (sized h start small at)) [
+      (elim (all_along image hs c q g e meets has_room n h start many small at (sized h start small at)) [
         | inr going ↦
             is_offered the_setting k h (length q.events) start going.moves going.state going.runs (moves_few k n h q g (length q.events) going.moves short (omega arith) going.are) going.so_far
             (λ b l wh wet. let p = within q.events b (store_is_operation (event q.events b) wet) in absurd (omega (arith, l, p))) w here store now
@@ -203,9 +272,9 @@ module _ (k : ℕ) (image : Memory) (hs : List Hart) (c : ConsoleState) (is_node
       ])
     where
       the_setting : Setting
-      the_setting = the image q g n (all_registers_are image hs c q e) meets many h start
+      the_setting = the image q g n (all_registers_are image hs c q e) meets many h start (length c.output) has_room
 
-  nodes_all : (n : ℕ) → n ≤ length (all_stores q.events g) → is_node (stores_of n q.events g) ≡ true
+  pub nodes_all : (n : ℕ) → n ≤ length (all_stores q.events g) → is_node (stores_of n q.events g) ≡ true
   nodes_all zero l = closed.begins
   nodes_all (suc n) l =
       let many : length (stores_of n q.events g) ≡ n = let t = length-take n (all_stores q.events g) in omega (arith, t, l) in
@@ -220,5 +289,5 @@ module _ (k : ℕ) (image : Memory) (hs : List Hart) (c : ConsoleState) (is_node
       subst (λ (m : List Stored). is_node m ≡ true) (sym (take-suc (all_stores q.events g) n no_store (omega (arith, l)) ∙ ap (λ (y : Stored). stores_of n q.events g ++ y ∷ []) f.told)) grown
 
 pub closed_have_all : ClosedListsHaveAll
-closed_have_all k image hs c is_node sized closed q g e meets short n many =
-    nodes_all k image hs c is_node sized closed q g e meets short n (let t = length-take n (all_stores q.events g) in omega (arith, t, many))
+closed_have_all k image hs c is_node sized enough closed q g e meets short n many =
+    nodes_all k image hs c is_node sized enough closed q g e meets short n (let t = length-take n (all_stores q.events g) in omega (arith, t, many))

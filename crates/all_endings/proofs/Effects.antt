@@ -1,6 +1,8 @@
 -- What an instruction that goes on did: the hart afterwards and its access, by the class of its action.
-use Rattle.std.proofs.Common.{◌≡◌, ◌≢◌, ℕ, ◌+◌, ◌^◌, ◌%◌, ◌==◌, ◌<◌, Bool, true, false, if◌then◌else◌, nat_le, List, [], length, All, is_ok, Option, Some, None, Result, Ok, Err, refl, sym, ap, ◌∙◌, subst, inl, inr, arith}
-use Rattle.std.proofs.lemmas.Bool.{and_parts, eq-eqb, eqb-true}
+use Rattle.std.proofs.Common.{◌≡◌, ◌≢◌, ℕ, ◌+◌, ◌^◌, ◌%◌, ◌==◌, ◌<◌, Bool, true, false, if◌then◌else◌, nat_le, List, [], length, All, is_ok, Option, Some, None, Result, Ok, Err, refl, sym, ap, ◌∙◌, subst, inl, inr, arith, nat_lt, ◌++◌, ◌∷◌, slice_index}
+use Rattle.rv64_decode.specs.declared.instruction.Instr.TheVariants.{Ecall}
+use Rattle.std.proofs.lemmas.List.{append-nil}
+use Rattle.std.proofs.lemmas.Bool.{and_parts, eq-eqb, eqb-true, ne_eqb}
 use Rattle.pages.specs.declared.access.Fault.{Fault}
 use Rattle.pages.specs.declared.access.Fault.TheVariants.{LoadMisaligned, LoadOutside, StoreMisaligned, StoreOutside, StoreToCode}
 use Rattle.pages.specs.declared.access.Range.{Range}
@@ -19,7 +21,7 @@ use Rattle.round_schedule.specs.declared.span.Span.{Span}
 use Rattle.round_schedule.specs.Schedule.{SerialOutcome}
 use Rattle.hart_step.specs.declared.hart.Hart.{Hart}
 use Rattle.hart_step.specs.DecodedCode.{decoded, instr_in}
-use Rattle.hart_step.specs.Console.{ConsoleState}
+use Rattle.hart_step.specs.Console.{ConsoleState, Answered, all_ones, output_room}
 use Rattle.hart_step.specs.Effect.{Action, Put, Jump, Branch, Read, Write, Order, Halt, Reserve, Conditional, Exchange, Call, action}
 use Rattle.hart_step.specs.Forms.{Fills, Formed}
 use Rattle.hart_step.specs.Numbers.{sx}
@@ -29,7 +31,7 @@ use Rattle.hart_step.specs.Step.{by_instr, by_word, cut, extended_to, next_pc, r
 use Rattle.hart_step.proofs.Formation.{has_forms}
 use Rattle.execution.specs.Executions.{IsLike, IsStep, MayHold}
 use Rattle.execution.proofs.Answering.{decoded_like}
-use Rattle.all_endings.specs.HartRuns.{IsReadable, IsWritable}
+use Rattle.all_endings.specs.HartRuns.{IsReadable, IsWritable, IsAnswer}
 
 -- hart h does instruction i, and becomes g; own is the reservation that its own LRs and SCs left it
 pub data Did (image : Memory) (own : Option Span) (h g : Hart) (i : Instr) : Option Access → Type 0 where
@@ -51,7 +53,7 @@ pub data Did (image : Memory) (own : Option Span) (h g : Hart) (i : Instr) : Opt
       own ≡ Some (record { address = a; width = w }) → g ≡ went_on h rd 0 (next_pc h) → Did image own h g i (Some (StoreConditional w o h.done a (Some (cut w v))))
   did-exchange : (rd a old : ℕ) (w : Width) (f : ℕ → ℕ) (o : AcquireRelease) → action i h.x h.pc ≡ Exchange rd a w f o → IsWritable image a w → Fills w old →
       g ≡ went_on h rd (sx (width_bits w) old) (next_pc h) → Did image own h g i (Some (Atomic w o h.done a old (f old)))
-  did-call : (answer : ℕ) → action i h.x h.pc ≡ Call → reg h.x 17 ≢ 0 → g ≡ went_on h 10 answer (next_pc h) → Did image own h g i None
+  did-call : (answer : ℕ) → action i h.x h.pc ≡ Call → reg h.x 17 ≢ 0 → IsAnswer (reg h.x 17) answer → g ≡ went_on h 10 answer (next_pc h) → Did image own h g i None
 
 -- ---- memory like the image's
 
@@ -100,9 +102,61 @@ reserved_is own (Some s) a w (inr same) e =
     sym same ∙ ap (λ (x : ℕ). Some (record { address = x; width = s.width })) (eqb-true s.address a p.0)
     ∙ ap (λ (x : Width). Some (record { address = a; width = x })) (width_same s.width w (eqb-true (width_bytes s.width) (width_bytes w) p.1))
 
+-- ---- calls
+
+leave_it : {A : Type 0} (b : Bool) (x y : A) → b ≡ false → (if b then x else y) ≡ y
+leave_it true x y e = absurd (cc)
+leave_it false x y e = refl
+
+take_it : {A : Type 0} (b : Bool) (x y : A) → b ≡ true → (if b then x else y) ≡ x
+take_it true x y e = refl
+take_it false x y e = absurd (cc)
+
+answer_is : (n number argument : ℕ) (c : ConsoleState) → nat_lt (length c.output) output_room ≡ true → IsAnswer number (answered n number argument c).value
+answer_is n number argument c room = (
+  λ one. ap (λ (r : Answered). r.value) (take_it (number == 1) _ _ (eq-eqb number 1 one) ∙ take_it (nat_lt (length c.output) output_room) _ _ room),
+  λ a b d. ap (λ (r : Answered). r.value) (leave_it (number == 1) _ _ (ne_eqb number 1 a) ∙ leave_it (number == 2) _ _ (ne_eqb number 2 b) ∙ leave_it (number == 3) _ _ (ne_eqb number 3 d)),
+)
+
+-- what an instruction puts out, where there is room
+abbrev pub put_in : Instr → List ℕ → List ℕ
+put_in Ecall x = if reg x 17 == 1 then reg x 10 % 2 ^ 8 ∷ [] else []
+put_in i x = []
+
+abbrev pub put_at : ConsoleState → Instr → List ℕ → List ℕ
+put_at c i x = if nat_lt (length c.output) output_room then put_in i x else []
+
+none_put : (b : Bool) (o : List ℕ) → o ≡ o ++ (if b then [] else [])
+none_put true o = sym (append-nil o)
+none_put false o = sym (append-nil o)
+
+abbrev answered_by : (one room two three more : Bool) (n argument : ℕ) (c : ConsoleState) → Answered
+answered_by one room two three more n argument c =
+    if one then (if room then record { value = 0; console = record c { output = c.output ++ (argument % 2 ^ 8) ∷ [] } } else record { value = all_ones; console = c })
+    else (if two then (if more then record { value = slice_index c.input c.place; console = record c { place = c.place + 1 } } else record { value = all_ones; console = c })
+    else (if three then record { value = n; console = c } else record { value = all_ones; console = c }))
+
+by_puts : (one room two three more : Bool) (n argument : ℕ) (c : ConsoleState) →
+    (answered_by one room two three more n argument c).console.output ≡ c.output ++ (if room then (if one then argument % 2 ^ 8 ∷ [] else []) else [])
+by_puts true true two three more n argument c = refl
+by_puts true false two three more n argument c = sym (append-nil c.output)
+by_puts false true true three true n argument c = sym (append-nil c.output)
+by_puts false true true three false n argument c = sym (append-nil c.output)
+by_puts false true false true more n argument c = sym (append-nil c.output)
+by_puts false true false false more n argument c = sym (append-nil c.output)
+by_puts false false true three true n argument c = sym (append-nil c.output)
+by_puts false false true three false n argument c = sym (append-nil c.output)
+by_puts false false false true more n argument c = sym (append-nil c.output)
+by_puts false false false false more n argument c = sym (append-nil c.output)
+
+call_puts : (n number argument : ℕ) (c : ConsoleState) →
+    (answered n number argument c).console.output ≡ c.output ++ (if nat_lt (length c.output) output_room then (if number == 1 then argument % 2 ^ 8 ∷ [] else []) else [])
+call_puts n number argument c = by_puts (number == 1) (nat_lt (length c.output) output_room) (number == 2) (number == 3) (nat_lt c.place (length c.input)) n argument c
+
 -- ---- classes
 
-module _ (image m : Memory) (n : ℕ) (own held : Option Span) (c : ConsoleState) (h g : Hart) (i : Instr) (access : Option Access) (like : IsLike image m) (may : MayHold own held) where
+module _ (image m : Memory) (n : ℕ) (own held : Option Span) (c : ConsoleState) (h g : Hart) (i : Instr) (access : Option Access) (like : IsLike image m) (may : MayHold own held)
+    (room : nat_lt (length c.output) output_room ≡ true) where
   -- of an outcome with this answer and this hart
   abbrev Told : SerialOutcome Hart ConsoleState → Type 0
   Told o = ((a : Access) → access ≡ Some a → Formed (length m.bytes) a) → o.answer ≡ Done access → g ≡ o.hart → Did image own h g i access
@@ -152,7 +206,7 @@ module _ (image m : Memory) (n : ℕ) (own held : Option Span) (c : ConsoleState
       Told (if b then record { answer = Stopped 1; hart = stopped_with h 1 (reg h.x 10); stores = []; console = c } else returned h (answered n (reg h.x 17) (reg h.x 10) c))
   call_told true is t form e s = cc
   call_told false is t form e s =
-      give None e (did-call (answered n (reg h.x 17) (reg h.x 10) c).value is (λ z. let f : (reg h.x 17 == 0) ≡ true = eq-eqb (reg h.x 17) 0 z in cc) s)
+      give None e (did-call (answered n (reg h.x 17) (reg h.x 10) c).value is (λ z. let f : (reg h.x 17 == 0) ≡ true = eq-eqb (reg h.x 17) 0 z in cc) (answer_is n (reg h.x 17) (reg h.x 10) c room) s)
 
   told : (x : Action) → action i h.x h.pc ≡ x → Told (served x n h m c held)
   told (Put rd v) is form e s = give None e (did-put rd v is s)
@@ -186,10 +240,30 @@ form_of m n h c r bytes access e a same =
     (has_forms m.code).serial_forms n h m.bytes c r a bytes (e ∙ ap (λ (x : Option Access). Done x) same)
 
 pub step_did : (image : Memory) (n : ℕ) (own : Option Span) (c d : ConsoleState) (h g : Hart) (access : Option Access) (i : Instr) → IsStep image n own c d h g (Done access) → decoded image h.pc ≡ Some i →
-    Did image own h g i access
-step_did image n own c d h g access i s known =
+    nat_lt (length c.output) output_room ≡ true → Did image own h g i access
+step_did image n own c d h g access i s known room =
     let is = served_is image s.seen n h c s.held i s.like known in
-    told image s.seen n own s.held c h g i access s.like s.may_hold (action i h.x h.pc) refl
+    told image s.seen n own s.held c h g i access s.like s.may_hold room (action i h.x h.pc) refl
     (form_of s.seen n h c s.held s.bytes access s.answers)
     (ap (λ (o : SerialOutcome Hart ConsoleState). o.answer) (sym is) ∙ s.answers)
     (s.hart ∙ ap (λ (o : SerialOutcome Hart ConsoleState). o.hart) is)
+
+-- ---- the console
+
+called_puts : (b : Bool) (n : ℕ) (h : Hart) (c : ConsoleState) (access : Option Access) →
+    (if b then record { answer = Stopped 1; hart = stopped_with h 1 (reg h.x 10); stores = []; console = c } else returned h (answered n (reg h.x 17) (reg h.x 10) c)).answer ≡ Done access →
+    (if b then record { answer = Stopped 1; hart = stopped_with h 1 (reg h.x 10); stores = []; console = c } else returned h (answered n (reg h.x 17) (reg h.x 10) c)).console.output ≡ c.output ++ put_at c Ecall h.x
+called_puts true n h c access e = absurd (cc)
+called_puts false n h c access e = call_puts n (reg h.x 17) (reg h.x 10) c
+
+instr_puts : (m : Memory) (n : ℕ) (h : Hart) (c : ConsoleState) (r : Option Span) (i : Instr) (access : Option Access) → (served (action i h.x h.pc) n h m c r).answer ≡ Done access →
+    (served (action i h.x h.pc) n h m c r).console.output ≡ c.output ++ put_at c i h.x
+instr_puts m n h c r Ecall access e = called_puts (reg h.x 17 == 0) n h c access e
+instr_puts m n h c r _ access e = none_put (nat_lt (length c.output) output_room) c.output
+
+pub step_puts : (image : Memory) (n : ℕ) (own : Option Span) (c d : ConsoleState) (h g : Hart) (access : Option Access) (i : Instr) → IsStep image n own c d h g (Done access) → decoded image h.pc ≡ Some i →
+    d.output ≡ c.output ++ put_at c i h.x
+step_puts image n own c d h g access i s known =
+    let is = served_is image s.seen n h c s.held i s.like known in
+    ap (λ (k : ConsoleState). k.output) s.console ∙ ap (λ (o : SerialOutcome Hart ConsoleState). o.console.output) is
+    ∙ instr_puts s.seen n h c s.held i access (ap (λ (o : SerialOutcome Hart ConsoleState). o.answer) (sym is) ∙ s.answers)

@@ -9,6 +9,7 @@ mod Following
 mod Halting
 mod LoadMoves
 mod Locality
+mod Memories
 mod Moves
 mod Offers
 mod OwnSteps
@@ -21,4 +22,5 @@ mod Starting
 mod StepTimes
 mod StoreLists
 mod StoreMoves
+mod Tables
 mod Times

@@ -130,4 +130,4 @@ module _ (s : Setting) (h i : ℕ) (held : Option Span) (a : RunState) (k j : Ha
   step_offers access (did-fail rd x v w o is safe g) e = absurd (dry (StoreConditional w o k.done x None) e refl)
   step_offers access (did-succeed rd x v w o is safe holds g) e = succeed_offer rd x v w o e is safe holds
   step_offers access (did-exchange rd x old w m o is safe fill g) e = exchange_offer rd x old w m o e is safe fill
-  step_offers access (did-call answer is nonzero g) e = absurd (dry no_access e refl)
+  step_offers access (did-call answer is nonzero answered g) e = absurd (dry no_access e refl)

@@ -1,5 +1,5 @@
 -- Moves without memory operations: what computes, jumps and branches, fences and calls.
-use Rattle.std.proofs.Common.{◌≡◌, ◌≢◌, ℕ, ◌%◌, ◌<◌, ◌||◌, ◌⊎◌, Bool, true, false, if◌then◌else◌, List, slice_index_or, Option, Some, None, is_some, refl, sym, ap, ◌∙◌, inl, inr}
+use Rattle.std.proofs.Common.{◌≡◌, ◌≢◌, ℕ, ◌%◌, ◌<◌, ◌||◌, ◌⊎◌, Bool, true, false, if◌then◌else◌, List, slice_index_or, Option, Some, None, is_some, refl, sym, ap, ◌∙◌, inl, inr, subst}
 use Rattle.std.proofs.lemmas.Bool.{and_parts}
 use Rattle.rv64_decode.specs.declared.instruction.Instr.{Instr}
 use Rattle.rv64_decode.specs.declared.instruction.Instr.TheVariants.{Ecall}
@@ -22,7 +22,7 @@ use Rattle.memory_order.specs.Registers.{registers_of}
 use Rattle.rule_checker.specs.CarriedBounds.{AreRegisters, destination_with, result_bound, sources_bound}
 use Rattle.execution.specs.Executions.{no_access}
 use Rattle.all_endings.specs.Endings.{opening_bytes}
-use Rattle.all_endings.specs.HartRuns.{Acts, IsPlaced, branches, calls, jumps, orders, puts, puts-unknown}
+use Rattle.all_endings.specs.HartRuns.{Acts, IsPlaced, branches, calls, jumps, orders, puts, puts-unknown, IsAnswer}
 use Rattle.all_endings.specs.Locality.{Knows, filled, view, written_register}
 use Rattle.all_endings.specs.RunStates.{Move, RunState, answers_to, bare, behind, operates}
 use Rattle.all_endings.proofs.Following.{Follows, Setting, after, list, time}
@@ -178,8 +178,8 @@ module _ (s : Setting) (h i : ℕ) (held : Option Span) (a : RunState) (k j : Ha
       (changed 0 0 (next_pc k) (Order before after mode) g is (λ q. cc) refl) (following ∙ pc_is 0 0 (next_pc k) g) (inl refl)
       (orders before after mode (acts_all instr a k follows.lags.pc refines all ∙ is) (ap bare e) refl))
 
-  pub call_moves : (answer : ℕ) → (event s.t i).access ≡ no_access → action instr k.x k.pc ≡ Call → reg k.x 17 ≢ 0 → j ≡ went_on k 10 answer (next_pc k) → MovesOrBlocks s h i a k j instr
-  call_moves answer e is nonzero g =
+  pub call_moves : (answer : ℕ) → (event s.t i).access ≡ no_access → action instr k.x k.pc ≡ Call → reg k.x 17 ≢ 0 → IsAnswer (reg k.x 17) answer → j ≡ went_on k 10 answer (next_pc k) → MovesOrBlocks s h i a k j instr
+  call_moves answer e is nonzero answered g =
       let ecall : instr ≡ Ecall = calls_only instr k.x k.pc (ap is_call is) in
       by_number (view a.registers 17) refl ecall
     where
@@ -187,4 +187,4 @@ module _ (s : Setting) (h i : ℕ) (held : Option Span) (a : RunState) (k j : Ha
       by_number None at ecall = inr (blocked-call ecall at)
       by_number (Some number) at ecall = inl (idle_moves s h i held a k j instr no_access (Some answer) answer (plus a.pc 4) here inst e no_access_idle (some_value answer)
           (ap (λ (q : Hart). q.x) g ∙ ap (λ (y : Instr). set_reg k.x (answers_to y) answer) (sym ecall)) (following ∙ pc_is 10 answer (next_pc k) g) (inl refl)
-          (calls number answer ecall at (λ z. nonzero (refines 17 number at ∙ z)) (ap bare e) refl refl))
+          (calls number answer ecall at (λ z. nonzero (refines 17 number at ∙ z)) (subst (λ (m : ℕ). IsAnswer m answer) (refines 17 number at) answered) (ap bare e) refl refl))

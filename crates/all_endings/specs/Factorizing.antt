@@ -1,12 +1,12 @@
 -- What an execution is to each of its harts: a run against the first stores of the order.
-use Rattle.std.specs.Prelude.{◌≡◌, ◌≢◌, ℕ, suc, ◌<◌, ◌≤◌, true, List, [], ◌∷◌, ◌++◌, length, slice_index_or, Some, None}
+use Rattle.std.specs.Prelude.{◌≡◌, ◌≢◌, ℕ, suc, ◌<◌, ◌≤◌, true, List, [], ◌∷◌, ◌++◌, length, slice_index_or, Some, None, ◌+◌}
 use Rattle.pages.specs.Memory.{Memory}
 use Rattle.rv64_decode.specs.declared.instruction.Instr.{Instr}
 use Rattle.rv64_decode.specs.declared.instruction.Instr.TheVariants.{Ecall}
 use Rattle.round_schedule.specs.Positions.{event}
 use Rattle.hart_step.specs.declared.hart.Hart.{Hart}
 use Rattle.hart_step.specs.DecodedCode.{decoded}
-use Rattle.hart_step.specs.Console.{ConsoleState}
+use Rattle.hart_step.specs.Console.{ConsoleState, output_room}
 use Rattle.memory_order.specs.Operations.{is_store}
 use Rattle.memory_order.specs.Registers.{registers_of}
 use Rattle.execution.specs.Executions.{Executes, Standing}
@@ -70,10 +70,19 @@ pub record Factor (image : Memory) (n h : ℕ) (q : Standing) (g : List ℕ) (s 
   pub are_moves : AreMoves n h q g index moves
   pub comes_to : ComesTo image n h q g k index state
 
+-- a hart as it begins: it has 32 registers, and runs
+pub record IsFresh (s : Hart) : Type 0 where
+  pub registers : length s.x ≡ 32
+  pub runs : s.stop ≡ None
+
+-- the console has room for a byte of each instruction
+abbrev pub HasRoom : ConsoleState → Standing → Type 0
+HasRoom c q = length c.output + length q.events ≤ output_room
+
 -- each hart of an execution that RVWMO allows has a run against the first n stores of the order, whose moves are what the hart did, at
 -- the times that the order gives
 abbrev pub Factorizes : Type 0
 Factorizes =
-    (image : Memory) (hs : List Hart) (c : ConsoleState) (q : Standing) (g : List ℕ) → Executes image (at_start hs c) q → Allows (opening_bytes image) q g →
-    (n h : ℕ) (s k : Hart) → length (stores_of n q.events g) ≡ n → h < length hs → s ≡ slice_index_or hs h s → length s.x ≡ 32 →
+    (image : Memory) (hs : List Hart) (c : ConsoleState) (q : Standing) (g : List ℕ) → Executes image (at_start hs c) q → Allows (opening_bytes image) q g → HasRoom c q →
+    (n h : ℕ) (s k : Hart) → length (stores_of n q.events g) ≡ n → h < length hs → s ≡ slice_index_or hs h s → IsFresh s →
     k ≡ slice_index_or q.harts h k → Factor image n h q g s k

@@ -1,5 +1,6 @@
 -- One hart's run against a list of stores. Beside each bound is the manual's rule (section 14.1.3) that it is kept for.
 use Rattle.std.specs.Prelude.{◌≡◌, ◌≢◌, ℕ, ◌+◌, ◌^◌, ◌%◌, ◌<◌, ◌≤◌, ◌⊎◌, Bool, true, false, if◌then◌else◌, List, [], ◌∷◌, ◌++◌, length, slice_index_or, is_ok, option_map, Option, Some, None}
+use Rattle.hart_step.specs.Console.{all_ones}
 use Rattle.pages.specs.declared.access.Width.{Width}
 use Rattle.pages.specs.Memory.{Memory, byte_of, loaded, store_fault, width_bytes}
 use Rattle.rv64_decode.specs.declared.instruction.Instr.TheVariants.{Ecall}
@@ -86,6 +87,10 @@ IsReadable image address w = is_ok (loaded image address w) ≡ true
 abbrev pub IsWritable : Memory → ℕ → Width → Type 0
 IsWritable image address w = store_fault image address w ≡ None
 
+-- the answer of a call: 0 where a byte is put out; what is taken in, and the number of the round, are left open; else 2^64 - 1
+abbrev pub IsAnswer : ℕ → ℕ → Type 0
+IsAnswer number answer = (number ≡ 1 → answer ≡ 0) × (number ≢ 1 → number ≢ 2 → number ≢ 3 → answer ≡ all_ones)
+
 -- what an instruction that goes on does, where a store has its place. An unknown branch, indirect jump, address or number of a call has no move
 pub data Acts (image : Memory) (h : ℕ) (m : List Stored) (opening : ℕ → ℕ) (HasPlace : Move → Type 0) (a : RunState) (v : Move) : Type 0 where
   puts : (rd n : ℕ) → KnowsAll a v → acts a v ≡ Put rd n → v.access ≡ no_access → v.result ≡ Some n → v.next ≡ plus a.pc 4 → Acts image h m opening HasPlace a v
@@ -119,8 +124,8 @@ pub data Acts (image : Memory) (h : ℕ) (m : List Stored) (opening : ℕ → �
   exchanges-unknown : (rd address : ℕ) (w : Width) (ordering : AcquireRelease) → KnowsMost a v → data_of a v ≡ None →
       without_data (acts a v) ≡ Exchange rd address w (λ old. 0) ordering → IsWritable image address w → v.access ≡ Atomic w ordering 0 address 0 0 →
       Gets m opening a v address w None → v.result ≡ None → v.written ≡ None → v.next ≡ plus a.pc 4 → Acts image h m opening HasPlace a v
-  -- a call that goes on; its answer is left open
-  calls : (number answer : ℕ) → v.instruction ≡ Ecall → view a.registers 17 ≡ Some number → number ≢ 0 → v.access ≡ no_access → v.result ≡ Some answer →
+  -- a call that goes on
+  calls : (number answer : ℕ) → v.instruction ≡ Ecall → view a.registers 17 ≡ Some number → number ≢ 0 → IsAnswer number answer → v.access ≡ no_access → v.result ≡ Some answer →
       v.next ≡ plus a.pc 4 → Acts image h m opening HasPlace a v
 
 -- an operation stands where the bounds let it

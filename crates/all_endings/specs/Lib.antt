@@ -1,10 +1,12 @@
 pub mod Decoded
 pub mod Endings
 pub mod Factorizing
+pub mod Halting
 pub mod HartRuns
 pub mod Locality
 pub mod Offering
 pub mod RunStates
 pub mod Sources
 pub mod StoreLists
+pub mod Tables
 pub mod Times

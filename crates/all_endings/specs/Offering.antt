@@ -1,17 +1,17 @@
 -- The stores that may come next: what a list of stores can be followed by.
-use Rattle.std.specs.Prelude.{◌≡◌, ℕ, ◌<◌, ◌≤◌, ◌==◌, Bool, true, List, [], ◌∷◌, ◌++◌, length, slice_index_or, count_by, Contains, Some}
+use Rattle.std.specs.Prelude.{◌≡◌, ℕ, ◌<◌, ◌≤◌, ◌==◌, Bool, true, List, [], ◌∷◌, ◌++◌, length, slice_index_or, count_by, Contains, Some, ◌+◌, ◌*◌}
 use Rattle.pages.specs.Memory.{Memory}
 use Rattle.round_schedule.specs.declared.event.Event.{Event}
 use Rattle.round_schedule.specs.Accesses.{address_of, bytes_of}
 use Rattle.round_schedule.specs.Accesses.{stores as writing}
 use Rattle.hart_step.specs.declared.hart.Hart.{Hart}
 use Rattle.hart_step.specs.DecodedCode.{decoded}
-use Rattle.hart_step.specs.Console.{ConsoleState}
+use Rattle.hart_step.specs.Console.{ConsoleState, output_room}
 use Rattle.execution.specs.Executions.{Executes, Standing}
 use Rattle.execution.specs.Progressing.{at_start}
 use Rattle.execution_checker.specs.Allowed.{Allows}
 use Rattle.all_endings.specs.Endings.{opening_bytes}
-use Rattle.all_endings.specs.Factorizing.{IsOpenCall}
+use Rattle.all_endings.specs.Factorizing.{IsOpenCall, IsFresh}
 use Rattle.all_endings.specs.HartRuns.{Acts, Runs, Stands}
 use Rattle.all_endings.specs.RunStates.{Move, RunState, run_start}
 use Rattle.all_endings.specs.StoreLists.{Stored, no_store, stores_of}
@@ -60,9 +60,9 @@ pub record IsClosed (k : ℕ) (image : Memory) (hs : List Hart) (is_node : List 
   pub calls : (m : List Stored) (h : ℕ) (start : Hart) → is_node m ≡ true → h < length hs → start ≡ slice_index_or hs h start →
       KnowsCalls k image h m (opening_bytes image) start
 
--- each hart has 32 registers, and no hart did more than k instructions
-abbrev pub HaveRegisters : List Hart → Type 0
-HaveRegisters hs = (h : ℕ) (start : Hart) → h < length hs → start ≡ slice_index_or hs h start → length start.x ≡ 32
+-- each hart is as it begins, and no hart did more than k instructions
+abbrev pub AreFresh : List Hart → Type 0
+AreFresh hs = (h : ℕ) (start : Hart) → h < length hs → start ≡ slice_index_or hs h start → IsFresh start
 
 abbrev pub AreShort : ℕ → Standing → Type 0
 AreShort k q = (h : ℕ) → count_by (λ (v : Event). v.hart == h) q.events ≤ k
@@ -70,6 +70,6 @@ AreShort k q = (h : ℕ) → count_by (λ (v : Event). v.hart == h) q.events ≤
 -- closed lists have the first n stores of each order that RVWMO allows of an execution
 abbrev pub ClosedListsHaveAll : Type 0
 ClosedListsHaveAll =
-    (k : ℕ) (image : Memory) (hs : List Hart) (c : ConsoleState) (is_node : List Stored → Bool) → HaveRegisters hs → IsClosed k image hs is_node →
+    (k : ℕ) (image : Memory) (hs : List Hart) (c : ConsoleState) (is_node : List Stored → Bool) → AreFresh hs → length c.output + k * length hs ≤ output_room → IsClosed k image hs is_node →
     (q : Standing) (g : List ℕ) → Executes image (at_start hs c) q → Allows (opening_bytes image) q g → AreShort k q →
     (n : ℕ) → length (stores_of n q.events g) ≡ n → is_node (stores_of n q.events g) ≡ true

@@ -1,6 +1,6 @@
 -- What a hart's run against a list of stores keeps: what is read LATER is unknown, and all that RVWMO asks of an operation is a lower
 -- bound for its time. Beside each bound is the manual's rule (section 14.1.3) that it is kept for.
-use Rattle.std.specs.Prelude.{ℕ, ◌+◌, ◌-◌, ◌&&◌, ◌||◌, Bool, min, max, if◌then◌else◌, List, map, option_map, Option, Some, None}
+use Rattle.std.specs.Prelude.{ℕ, ◌+◌, ◌-◌, ◌&&◌, ◌||◌, Bool, min, max, if◌then◌else◌, List, map, option_map, Option, Some, None, [], ◌∷◌, ◌++◌, ◌%◌, ◌^◌, ◌==◌}
 use Rattle.pages.specs.Memory.{byte_of}
 use Rattle.rv64_decode.specs.declared.instruction.Instr.{Instr}
 use Rattle.rv64_decode.specs.declared.instruction.Instr.TheVariants.{Ecall}
@@ -17,7 +17,7 @@ use Rattle.rule_checker.specs.Kinds.{kinds_after, no_kinds}
 use Rattle.rule_checker.specs.declared.annotated.KindBounds.{KindBounds}
 use Rattle.rule_checker.specs.declared.carried.Carried.{Carried}
 use Rattle.execution.specs.Progressing.{step_event}
-use Rattle.all_endings.specs.Locality.{set_view}
+use Rattle.all_endings.specs.Locality.{set_view, view}
 use Rattle.all_endings.specs.StoreLists.{Stored, later}
 
 -- the last store of the hart to a byte
@@ -48,6 +48,8 @@ pub record RunState : Type 0 where
   pub held : Option Span
   pub reserved : ℕ
   pub sources : ℕ → ℕ
+  -- what it has put out, byte by byte
+  pub output : List (Option ℕ)
 
 abbrev pub run_start : Hart → RunState
 run_start h = record {
@@ -61,6 +63,7 @@ run_start h = record {
   held = None;
   reserved = 0;
   sources = λ x. 0;
+  output = [];
 }
 
 -- an access without its numbers, and without how many instructions its hart had done before
@@ -98,6 +101,15 @@ abbrev pub answers_to : Instr → ℕ
 answers_to Ecall = 10
 answers_to i = (registers_of i).destination
 
+-- what an instruction puts out: an ECALL, by its number, the low byte of its argument
+abbrev pub put_byte : Option ℕ → Option ℕ → List (Option ℕ)
+put_byte None argument = []
+put_byte (Some number) argument = if number == 1 then option_map (λ n. n % 2 ^ 8) argument ∷ [] else []
+
+abbrev pub puts_out : List (Option ℕ) → Instr → List (Option ℕ)
+puts_out v Ecall = put_byte (view v 17) (view v 10)
+puts_out v i = []
+
 -- what a move of hart h leaves
 abbrev pub moved : ℕ → List Stored → RunState → Move → RunState
 moved h m a v = record {
@@ -118,4 +130,5 @@ moved h m a v = record {
   held = held_after_own v.access a.held;
   reserved = (if is_lr v.access then behind m v else a.reserved);
   sources = (if is_lr v.access then v.source else a.sources);
+  output = a.output ++ puts_out a.registers v.instruction;
 }

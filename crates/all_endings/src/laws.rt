@@ -5,6 +5,7 @@ ghost use Rattle.all_endings.specs.Endings.{EndsAreLast};
 ghost use Rattle.all_endings.specs.Offering.{ClosedListsHaveAll};
 ghost use Rattle.all_endings.specs.Sources.{LoadsReadInTime, PreservedInTime, SeenStays};
 ghost use Rattle.all_endings.specs.StoreLists.{StoresStandAtTimes};
+ghost use Rattle.all_endings.specs.Tables.{ClosedTablesAreWhole};
 ghost use Rattle.all_endings.specs.Times.{OperationsStandInTime};
 ghost use Rattle.all_endings.specs.Factorizing.{Factorizes, RunsStartThere};
 ghost use Rattle.all_endings.specs.Locality.{ActionIsLocal, ActionIsLocalButData, DestinationsAreWritten, FilledActs, SetsRefine, StepIsLocal};
@@ -89,4 +90,10 @@ pub fn harts_have_runs()
 /// Lists of stores that are closed under the stores that may come next have the first stores of each order that RVWMO allows.
 pub fn closed_lists_have_all()
     ensures { ClosedListsHaveAll }
+{}
+
+/// If lists of stores are closed, and a table has the endings over them, then it has the ending of every execution that RVWMO allows of at
+/// most so many instructions a hart.
+pub fn closed_tables_are_whole()
+    ensures { ClosedTablesAreWhole }
 {}
