@@ -9,6 +9,7 @@ mod Following
 mod Halting
 mod LoadMoves
 mod Locality
+mod Lowering
 mod Memories
 mod Moves
 mod Offers

@@ -69,15 +69,15 @@ at_own h k old F = elim (cases_eq h k) [
 
 -- ---- rules 4 to 7
 
-record KindsBelow (f : ℕ → ℕ) (d b : KindBounds) : Type 0 where
-  loads : d.loads ≤ f b.loads
-  stores : d.stores ≤ f b.stores
-  acquires : d.acquires ≤ f b.acquires
-  annotated : d.annotated ≤ f b.annotated
-  load_load : d.load_load ≤ f b.load_load
-  load_store : d.load_store ≤ f b.load_store
-  store_load : d.store_load ≤ f b.store_load
-  store_store : d.store_store ≤ f b.store_store
+pub record KindsBelow (f : ℕ → ℕ) (d b : KindBounds) : Type 0 where
+  pub loads : d.loads ≤ f b.loads
+  pub stores : d.stores ≤ f b.stores
+  pub acquires : d.acquires ≤ f b.acquires
+  pub annotated : d.annotated ≤ f b.annotated
+  pub load_load : d.load_load ≤ f b.load_load
+  pub load_store : d.load_store ≤ f b.load_store
+  pub store_load : d.store_load ≤ f b.store_load
+  pub store_store : d.store_store ≤ f b.store_store
 
 none_below : (f : ℕ → ℕ) → KindsBelow f no_kinds no_kinds
 none_below f = record {
@@ -91,7 +91,7 @@ none_below f = record {
   store_store = omega arith;
 }
 
-kinds_below_after : (f : ℕ → ℕ) → Rises f → (d b : KindBounds) (a : Access) (o : Bool) (m next : ℕ) → m ≤ f next → KindsBelow f d b →
+pub kinds_below_after : (f : ℕ → ℕ) → Rises f → (d b : KindBounds) (a : Access) (o : Bool) (m next : ℕ) → m ≤ f next → KindsBelow f d b →
     KindsBelow f (kinds_after d a o m) (kinds_after b a o next)
 kinds_below_after f rises d b a o m next l x = record {
   loads = raised_below f rises (loads a) d.loads m b.loads next x.loads l;
@@ -104,7 +104,7 @@ kinds_below_after f rises d b a o m next l x = record {
   store_store = raised_below f rises (orders_stores a) d.store_store d.stores b.store_store b.stores x.store_store x.stores;
 }
 
-allowed_below : (f : ℕ → ℕ) → Rises f → (d b : KindBounds) (a : Access) (p : ℕ) → KindsBelow f d b → AllowedByKind b a p → AllowedByKind d a (f p)
+pub allowed_below : (f : ℕ → ℕ) → Rises f → (d b : KindBounds) (a : Access) (p : ℕ) → KindsBelow f d b → AllowedByKind b a p → AllowedByKind d a (f p)
 allowed_below f rises d b a p x allowed = (
   under d.acquires b.acquires x.acquires allowed.0,
   λ h. (under d.load_load b.load_load x.load_load (allowed.1 h).0, under d.store_load b.store_load x.store_load (allowed.1 h).1),
@@ -200,7 +200,7 @@ set_below f xs ys d v w r lx ly l k was = elim (cases_eq r d) [
     zero_of : r ≡ d → d ≡ 0 → r ≡ 0
     zero_of a b = a ∙ b
 
-carried_below_after : (f : ℕ → ℕ) → Rises f → (d c : Carried) (x : Registers) (e : Event) (m next : ℕ) → AreRegisters x → m ≤ f next → CarriedBelow f d c →
+pub carried_below_after : (f : ℕ → ℕ) → Rises f → (d c : Carried) (x : Registers) (e : Event) (m next : ℕ) → AreRegisters x → m ≤ f next → CarriedBelow f d c →
     CarriedBelow f (carried_after d x e m) (carried_after c x e next)
 carried_below_after f rises d c x e m next fit l k = record {
   small = set_length d.registers (destination_with x e.access) (result_bound d x (is_operation e) m) ∙ k.small;
@@ -211,7 +211,7 @@ carried_below_after f rises d c x e m next fit l k = record {
   addressed = joined_below f rises d.addressed (reg d.registers x.address) c.addressed (reg c.registers x.address) k.addressed (k.registers x.address fit.address);
 }
 
-may_below : (f : ℕ → ℕ) → Rises f → (d c : Carried) (x : Registers) (a : Access) (p : ℕ) → AreRegisters x → CarriedBelow f d c → AllowedBy c x a p → AllowedBy d x a (f p)
+pub may_below : (f : ℕ → ℕ) → Rises f → (d c : Carried) (x : Registers) (a : Access) (p : ℕ) → AreRegisters x → CarriedBelow f d c → AllowedBy c x a p → AllowedBy d x a (f p)
 may_below f rises d c x a p fit k allowed = (
   under (reg d.registers x.address) (reg c.registers x.address) (k.registers x.address fit.address) allowed.0,
   λ s. (

@@ -4,6 +4,7 @@ pub mod Factorizing
 pub mod Halting
 pub mod HartRuns
 pub mod Locality
+pub mod Lowering
 pub mod Offering
 pub mod RunStates
 pub mod Sources

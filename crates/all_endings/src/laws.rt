@@ -2,6 +2,7 @@
 
 ghost use Rattle.all_endings.specs.Decoded.{RegistersAreRegisters};
 ghost use Rattle.all_endings.specs.Endings.{EndsAreLast};
+ghost use Rattle.all_endings.specs.Lowering.{LowerStatesDoAsMuch};
 ghost use Rattle.all_endings.specs.Offering.{ClosedListsHaveAll};
 ghost use Rattle.all_endings.specs.Sources.{LoadsReadInTime, PreservedInTime, SeenStays};
 ghost use Rattle.all_endings.specs.StoreLists.{StoresStandAtTimes};
@@ -96,4 +97,9 @@ pub fn closed_lists_have_all()
 /// most so many instructions a hart.
 pub fn closed_tables_are_whole()
     ensures { ClosedTablesAreWhole }
+{}
+
+/// What a state of a run can do, each one can whose bounds are at most its own.
+pub fn lower_states_do_as_much()
+    ensures { LowerStatesDoAsMuch }
 {}
