@@ -6,5 +6,6 @@ pub mod Slots
 pub mod Unique
 pub mod Accepted
 pub mod Numbered
+pub mod Extents
 pub mod Sizes
 pub mod Passes

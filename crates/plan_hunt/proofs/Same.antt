@@ -1,5 +1,5 @@
 -- What `==` says of the endings of harts.
-use Rattle.std.proofs.Common.{◌≡◌, Bool, List, refl, ap, rules}
+use Rattle.std.proofs.Common.{◌≡◌, Bool, List, rules}
 use Rattle.std.specs.Bool.{Decides}
 use Rattle.std.proofs.lemmas.Slice.Eq.{slice_eq-Decides}
 use Rattle.plan_hunt.specs.declared.hart_ending.HartEnding.{HartEnding}

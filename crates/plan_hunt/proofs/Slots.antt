@@ -1,5 +1,6 @@
 -- What is in the slots, as workers' endings are put there and as they are taken.
-use Rattle.std.proofs.Common.{◌≡◌, ℕ, zero, suc, ◌+◌, ◌<◌, ◌≤◌, inl, inr, List, [], ◌∷◌, ◌++◌, length, get_or, set, All, Option, Some, None, IfSome, refl, sym, ◌∙◌, ap, subst, arith}
+use Rattle.std.proofs.Common.{◌≡◌, ℕ, zero, suc, ◌+◌, ◌<◌, ◌≤◌, inl, inr, List, [], ◌∷◌, ◌++◌, length, get_or, set, take, drop, All, Option, Some, None, IfSome, refl, sym, ◌∙◌, ap, subst, arith, append-nil}
+use Rattle.std.proofs.Math.Seq.{drop-length, take-length}
 use Rattle.std.specs.List.{Any}
 use Rattle.std.proofs.lemmas.Bool.{cases_eq, cases_lt}
 use Rattle.std.proofs.lemmas.List.{get_or-set_other, get_or-set_same, get_or_append_left, length-set, length-append}
@@ -89,3 +90,21 @@ slots_taken ends first slots i s = λ k e at. elim (cases_eq k i) [
     set_past [] j l = refl
     set_past (x ∷ xs) zero l = absurd (omega (arith, l))
     set_past (x ∷ xs) (suc j) l = ap (λ (ys : Slots). x ∷ ys) (set_past xs j (omega (arith, l)))
+
+-- what is written back over all slots
+pub written : (n : ℕ) (new old : Slots) → n ≡ length old → length new ≡ length old → take n (new ++ drop (length new) old) ≡ new
+written n new old long same =
+    ap (λ (k : ℕ). take n (new ++ drop k old)) same ∙ ap (λ (rest : Slots). take n (new ++ rest)) (drop-length old)
+    ∙ ap (take n) (append-nil new) ∙ ap (λ (k : ℕ). take k new) (long ∙ sym same) ∙ take-length new
+
+head_and : {X : Type 0} (P : X → Type 0) (y : X) (ys : List X) → P y → All P ys → All P (y ∷ ys)
+head_and P y ys p q zero d l = p
+head_and P y ys p q (suc i) d l = q i d (omega (arith, l))
+
+-- the last of some items, and those before it
+pub split_last : {X : Type 0} (P : X → Type 0) (all before : List X) (x : X) → all ≡ before ++ x ∷ [] → All P all → All P before × P x
+split_last {X = X} P all before x e h = parts before (subst (All P) e h)
+  where
+    parts : (xs : List X) → All P (xs ++ x ∷ []) → All P xs × P x
+    parts [] k = (λ i d l. absurd (omega (arith, l)), k 0 x (omega arith))
+    parts (y ∷ ys) k = let rest = parts ys (λ i d l. k (suc i) d (omega (arith, l))) in (head_and P y ys (k 0 y (omega arith)) rest.0, rest.1)

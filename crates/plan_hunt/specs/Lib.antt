@@ -2,6 +2,7 @@ pub mod Adding
 pub mod Endings
 pub mod Joining
 pub mod Tables
+pub mod Extents
 pub mod Working
 pub mod Numbers
 pub mod Steps

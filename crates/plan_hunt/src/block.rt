@@ -1,12 +1,16 @@
-ghost use Rattle.std.specs.Prelude.{◌≡◌, ◌+◌, ◌<◌, ◌^◌, [], All, IfOk, IfSome, None, OnOk, length};
-ghost use Rattle.plan_hunt.specs.Tables.{IsTable};
+ghost use Rattle.std.specs.Prelude.{◌≡◌, ◌+◌, ◌<◌, ◌≤◌, ◌^◌, [], All, IfOk, IfSome, None, OnOk, false, length};
+ghost use Rattle.plan_hunt.specs.Extents.{IsTally};
 ghost use Rattle.plan_hunt.specs.Working.{AreSlots, IsFound};
 ghost use denote.Param.Send.{IsSync};
 
 use crate::adding::add;
 use crate::ending::Ending;
-use crate::row::Row;
+use crate::extent::Extent;
+use crate::observing::HuntObserver;
 use crate::runs::Runs;
+use crate::tabulating::next_block;
+use crate::tally::Tally;
+use crate::task::Task;
 use crate::working::{Found, put, work};
 use pages::OutOfMemory;
 use std::alloc::Global;
@@ -14,55 +18,50 @@ use std::sync::Wait;
 use std::sync::atomic::AtomicU64;
 use std::thread::{self, Threads};
 
-/// Some of the plans from a first one on: so many, after those that are done.
-#[derive(Clone, Copy)]
-pub(crate) struct Block {
-    pub first: u32,
-    pub done: u32,
-    pub count: u32,
-}
-
-/// Adds the endings of a block's plans to the table of the plans before them.
-pub(crate) fn tabulate_block<Q: Runs + Sync, R: Threads + Wait + Sync>(
+/// Adds the endings of the next block's plans to the table of the plans before them.
+pub(crate) fn tabulate_block<Q: Runs + Sync, O: HuntObserver + Sync, R: Threads + Wait + Sync>(
     rt: &R,
     alloc: Global,
     runs: &Q,
-    block: Block,
+    extent: Extent,
     workers: u32,
-    rows: &mut Vec<Row>,
+    observer: &O,
+    tally: &mut Tally,
 ) -> Result<(), OutOfMemory>
-    requires few { block.first + (block.done + block.count) < 2 ^ 32 }
-    requires table { IsTable (Q.ends runs.now) block.first block.done rows.old.items }
-    ensures { OnOk result (IsTable (Q.ends runs.now) block.first (block.done +
-        block.count) rows.new.items) }
+    requires few { extent.first + extent.most < 2 ^ 32 }
+    requires more { tally.old.done < extent.most }
+    requires going { tally.old.is_over ≡ false }
+    requires tally { IsTally (Q.ends runs.now) extent tally.old.is_over tally.old.done tally.old.rows.items }
+    ensures tally { OnOk result (IsTally (Q.ends runs.now) extent tally.new.is_over
+        tally.new.done tally.new.rows.items) }
+    ensures more { OnOk result (tally.new.is_over ≡ false → tally.old.done < tally.new.done) }
 {
-    let mut slots = found(
-        rt,
-        alloc,
-        runs,
-        block.first + block.done,
-        block.count,
-        workers,
-    )?;
-    finish(rt, runs, block, &mut slots, rows)
+    let task = Task {
+        first: extent.first + tally.done,
+        count: next_block(observer, extent, tally.done, &tally.rows),
+        extent,
+        rows: &tally.rows,
+        observer,
+    };
+    let mut slots = found(rt, alloc, runs, &task, workers)?;
+    finish(rt, runs, extent, observer, &mut slots, tally)
 }
 
-/// The endings that workers find, a slot for each plan from `first` on. A slot is empty where they left the plan out.
-fn found<Q: Runs + Sync, R: Threads + Wait + Sync>(
+/// The endings that workers find, a slot for each plan of a block. A slot is empty where they left the plan out.
+fn found<Q: Runs + Sync, O: HuntObserver + Sync, R: Threads + Wait + Sync>(
     rt: &R,
     alloc: Global,
     runs: &Q,
-    first: u32,
-    count: u32,
+    task: &Task<'_, O>,
     workers: u32,
 ) -> Result<Vec<Option<Ending>>, OutOfMemory>
-    requires few { first + count < 2 ^ 32 }
-    ensures count { IfOk result (λ v. length v.items ≡ count) }
-    ensures slots { IfOk result (λ v. AreSlots (Q.ends runs.now) first v.items) }
+    requires few { task.now.first + task.now.count < 2 ^ 32 }
+    ensures count { IfOk result (λ v. length v.items ≡ task.now.count) }
+    ensures slots { IfOk result (λ v. AreSlots (Q.ends runs.now) task.now.first v.items) }
 {
-    let mut slots = empty_slots(alloc, count)?;
+    let mut slots = empty_slots(alloc, task.count)?;
     let mut seats = empty_seats(alloc, workers)?;
-    search(rt, runs, first, count, &mut seats);
+    search(rt, runs, task, &mut seats);
     while let Some(found) = seats.pop() {
         put(&mut slots, found);
     }
@@ -97,17 +96,16 @@ fn empty_seats(alloc: Global, workers: u32) -> Result<Vec<Vec<Found>>, OutOfMemo
 }
 
 /// Has as many workers as there are seats run plans.
-fn search<Q: Runs + Sync, R: Threads + Wait + Sync>(
+fn search<Q: Runs + Sync, O: HuntObserver + Sync, R: Threads + Wait + Sync>(
     rt: &R,
     runs: &Q,
-    first: u32,
-    count: u32,
+    task: &Task<'_, O>,
     seats: &mut [Vec<Found>],
 )
     requires sync { IsSync R.row }
-    requires few { first + count < 2 ^ 32 }
-    requires found { All (λ s. All (IsFound (Q.ends runs.now) first) s.items) seats.old }
-    ensures { All (λ s. All (IsFound (Q.ends runs.now) first) s.items) seats.new }
+    requires few { task.now.first + task.now.count < 2 ^ 32 }
+    requires found { All (λ s. All (IsFound (Q.ends runs.now) task.now.first) s.items) seats.old }
+    ensures { All (λ s. All (IsFound (Q.ends runs.now) task.now.first) s.items) seats.new }
 {
     let next = AtomicU64::new(0);
     let workers = seats.len().max(1);
@@ -116,33 +114,71 @@ fn search<Q: Runs + Sync, R: Threads + Wait + Sync>(
         seats,
         workers,
         &|_, found: &mut Vec<Found>|
-            requires { IsSync R.row × (first + count < 2 ^ 32) ×
-                All (IsFound (Q.ends runs.now) first) found.now.items }
-            ensures { All (IsFound (Q.ends runs.entry.now) first) found.exit.now.items }
-        { work(rt, runs, first, count, &next, found) },
+            requires { IsSync R.row × (task.now.first + task.now.count < 2 ^ 32) ×
+                All (IsFound (Q.ends runs.now) task.now.first) found.now.items }
+            ensures { All (IsFound (Q.ends runs.entry.now) task.entry.now.first) found.exit.now.items }
+        { work(rt, runs, task, &next, found) },
     );
 }
 
-/// Tabulates the endings in the slots, in the order of the plans, and runs the plans whose slots are empty.
-fn finish<Q: Runs, R: Threads + Wait + Sync>(
+/// Adds the endings in the slots to the table, in the order of the plans, up to the one with which the hunt is over. The plans whose slots
+/// are empty are run, as long as there is time.
+fn finish<Q: Runs, O: HuntObserver, R: Threads + Wait + Sync>(
     rt: &R,
     runs: &Q,
-    block: Block,
+    extent: Extent,
+    observer: &O,
     slots: &mut [Option<Ending>],
-    rows: &mut Vec<Row>,
+    tally: &mut Tally,
 ) -> Result<(), OutOfMemory>
     requires sync { IsSync R.row }
-    requires few { block.first + (block.done + length slots.old) < 2 ^ 32 }
-    requires slots { AreSlots (Q.ends runs.now) (block.first + block.done) slots.old }
-    requires table { IsTable (Q.ends runs.now) block.first block.done rows.old.items }
-    ensures { OnOk result (IsTable (Q.ends runs.now) block.first (block.done +
-        length slots.old) rows.new.items) }
+    requires few { extent.first + extent.most < 2 ^ 32 }
+    requires some { 1 ≤ length slots.old }
+    requires slots { AreSlots (Q.ends runs.now) (extent.first + tally.old.done) slots.old }
+    requires within { tally.old.done + length slots.old ≤ extent.most }
+    requires going { tally.old.is_over ≡ false }
+    requires tally { IsTally (Q.ends runs.now) extent tally.old.is_over tally.old.done tally.old.rows.items }
+    ensures tally { OnOk result (IsTally (Q.ends runs.now) extent tally.new.is_over
+        tally.new.done tally.new.rows.items) }
+    ensures more { OnOk result (tally.new.is_over ≡ false → tally.old.done < tally.new.done) }
 {
     for index in 0..slots.len() {
-        let number = block.first + (block.done + index as u32);
-        let ending = ending_of(rt, runs, number, slots[index].take())?;
-        add(rows, number, ending)?;
+        let found = slots[index].take();
+        if found.is_none() && extent.is_out_of_time(observer, tally.done) {
+            tally.is_over = true;
+            return Ok(());
+        }
+        add_next(rt, runs, extent, found, tally)?;
+        if tally.is_over {
+            return Ok(());
+        }
     }
+    Ok(())
+}
+
+/// Adds the ending of the next plan, which is run where it was not found.
+fn add_next<Q: Runs, R: Threads + Wait + Sync>(
+    rt: &R,
+    runs: &Q,
+    extent: Extent,
+    found: Option<Ending>,
+    tally: &mut Tally,
+) -> Result<(), OutOfMemory>
+    requires sync { IsSync R.row }
+    requires few { extent.first + extent.most < 2 ^ 32 }
+    requires more { tally.old.done < extent.most }
+    requires going { tally.old.is_over ≡ false }
+    requires found { IfSome found (λ e. e ≡ Q.ends runs.now (extent.first + tally.old.done)) }
+    requires tally { IsTally (Q.ends runs.now) extent tally.old.is_over tally.old.done tally.old.rows.items }
+    ensures tally { OnOk result (IsTally (Q.ends runs.now) extent tally.new.is_over
+        tally.new.done tally.new.rows.items) }
+    ensures more { OnOk result (tally.new.done ≡ tally.old.done + 1) }
+{
+    let number = extent.first + tally.done;
+    let ending = ending_of(rt, runs, number, found)?;
+    tally.is_over = extent.until.is_over_with(&tally.rows, &ending);
+    add(&mut tally.rows, number, ending)?;
+    tally.done += 1;
     Ok(())
 }
 

@@ -1,10 +1,13 @@
-ghost use Rattle.std.specs.Prelude.{◌+◌, ◌<◌, ◌≤◌, ◌^◌, IfOk};
-ghost use Rattle.plan_hunt.specs.Tables.{IsTable, TablesAreUnique};
+ghost use Rattle.std.specs.Prelude.{◌≡◌, ◌+◌, ◌<◌, ◌≤◌, ◌^◌, IfOk};
+ghost use Rattle.plan_hunt.specs.Extents.{IsTableOf};
+ghost use Rattle.plan_hunt.specs.Tables.{TablesAreUnique};
 
-use crate::block::{Block, tabulate_block};
+use crate::block::tabulate_block;
+use crate::extent::{Extent, Until};
 use crate::observing::HuntObserver;
 use crate::row::Row;
 use crate::runs::Runs;
+use crate::tally::Tally;
 use pages::OutOfMemory;
 use std::alloc::Global;
 use std::sync::Wait;
@@ -19,39 +22,43 @@ pub fn tables_are_unique()
     ensures { TablesAreUnique }
 {}
 
-/// The table of the endings of `count` plans from `first` on, found by workers that run plans at the same time.
+/// The table of the endings of a hunt's plans, found by workers that run plans at the same time.
 ///
 /// Which worker runs which plan makes no difference. A worker that is refused memory ends, and the calling thread does what
-/// was left. The observer looks on between two blocks of plans, in which the workers wait for each other.
+/// was left. Between two blocks of plans the workers wait for each other.
 ///
 /// # Errors
 ///
 /// `OutOfMemory` where the calling thread was refused memory too.
-pub fn tabulate<Q: Runs + Sync, O: HuntObserver, R: Threads + Wait + Sync>(
+pub fn tabulate<Q: Runs + Sync, O: HuntObserver + Sync, R: Threads + Wait + Sync>(
     rt: &R,
     alloc: Global,
     runs: &Q,
-    first: u32,
-    count: u32,
+    extent: Extent,
     workers: u32,
-    observer: &mut O,
-) -> Result<Vec<Row>, OutOfMemory>
-    requires few { first + count < 2 ^ 32 }
+    observer: &O,
+) -> Result<Tally, OutOfMemory>
+    requires few { extent.first + extent.most < 2 ^ 32 }
     requires workers { 1 ≤ workers }
-    ensures { IfOk result (λ rows. IsTable (Q.ends runs.now) first count rows.items) }
+    ensures { IfOk result (λ t. IsTableOf (Q.ends runs.now) extent t.done t.rows.items) }
 {
-    let mut rows = Vec::new(alloc);
-    let mut done = 0;
-    while done < count {
-        let block = Block {
-            first,
-            done,
-            count: block_size(observer.before_block(done, &rows), count - done),
-        };
-        tabulate_block(rt, alloc, runs, block, workers, &mut rows)?;
-        done += block.count;
+    let mut tally = Tally::new(alloc);
+    while tally.done < extent.most && !tally.is_over {
+        tabulate_block(rt, alloc, runs, extent, workers, observer, &mut tally)?;
     }
-    Ok(rows)
+    Ok(tally)
+}
+
+/// How many plans are in the next block. A hunt for another ending than that of the first plan does this plan alone first.
+pub fn next_block<O: HuntObserver>(observer: &O, extent: Extent, done: u32, rows: &[Row]) -> u32
+    requires { done < extent.most }
+    ensures some { 1 ≤ result }
+    ensures few { done + result ≤ extent.most }
+{
+    if done == 0 && extent.until == Until::Differ {
+        return 1;
+    }
+    block_size(observer.before_block(done, rows), extent.most - done)
 }
 
 /// How many plans are in a block for which so many are asked, where so many are left.

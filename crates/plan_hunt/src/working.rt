@@ -3,9 +3,11 @@ ghost use Rattle.plan_hunt.specs.Working.{AreFilled, IsFound};
 ghost use denote.Param.Send.{IsSync};
 
 use crate::ending::Ending;
+use crate::observing::HuntObserver;
 use crate::runs::Runs;
+use crate::task::Task;
 use std::sync::Wait;
-use std::sync::atomic::{AtomicU64, Ordering};
+use std::sync::atomic::AtomicU64;
 use std::thread::Threads;
 
 /// The ending of a plan, which is told by its index among the plans of the hunt.
@@ -15,29 +17,28 @@ pub(crate) struct Found {
     pub ending: Ending,
 }
 
-/// Claims plans and runs them until none is left, or until memory is refused. Which plans one worker gets is left to the race.
-pub(crate) fn work<Q: Runs, R: Threads + Wait + Sync>(
+/// Claims plans and runs them until there is none to be claimed, or until memory is refused. Which plans one worker gets is left to the
+/// race.
+pub(crate) fn work<Q: Runs, O: HuntObserver, R: Threads + Wait + Sync>(
     rt: &R,
     runs: &Q,
-    first: u32,
-    count: u32,
+    task: &Task<'_, O>,
     next: &AtomicU64,
     found: &mut Vec<Found>,
 )
     requires sync { IsSync R.row }
-    requires few { first + count < 2 ^ 32 }
-    requires found { All (IsFound (Q.ends runs.now) first) found.old.items }
-    ensures { All (IsFound (Q.ends runs.now) first) found.new.items }
+    requires few { task.now.first + task.now.count < 2 ^ 32 }
+    requires found { All (IsFound (Q.ends runs.now) task.now.first) found.old.items }
+    ensures { All (IsFound (Q.ends runs.now) task.now.first) found.new.items }
 {
-    for _ in 0..count {
-        let index = next.fetch_add(1, Ordering::SeqCst);
-        if index >= u64::from(count) {
-            return;
-        }
-        let index = index as u32;
-        let Ok(ending) = runs.run(rt, first + index) else {
+    for _ in 0..task.count {
+        let Some(index) = task.claim(next) else {
             return;
         };
+        let Ok(ending) = runs.run(rt, task.first + index) else {
+            return;
+        };
+        task.note(next, &ending);
         if found.push(Found { index, ending }).is_err() {
             return;
         }

@@ -1,11 +1,13 @@
-use Rattle.std.proofs.Common.{◌+◌}
-use Rattle.plan_hunt.specs.Tables.{IsTable}
+use Rattle.std.proofs.Common.{◌≡◌, ◌+◌, false}
+use Rattle.plan_hunt.specs.Extents.{IsTally}
 use Rattle.plan_hunt.specs.Working.{AreSlots}
 use Rattle.plan_hunt.proofs.block.finish.Given as goal
 
 -- the table of the plans so far, and the slots
 abbrev pub invariant-loop-index : goal.invariant-loop-index
 invariant-loop-index g l = record {
-  table : IsTable (g.Q.Runs.ends l.runs) l.block.first (l.block.done + l.index) l.rows.items;
-  slots : AreSlots (g.Q.Runs.ends l.runs) (l.block.first + l.block.done) l.slots;
+  done : l.tally.done ≡ l.initial.tally.done + l.index;
+  going : l.tally.is_over ≡ false;
+  tally : IsTally (g.Q.Runs.ends l.runs) l.extent l.tally.is_over l.tally.done l.tally.rows.items;
+  slots : AreSlots (g.Q.Runs.ends l.runs) (l.extent.first + l.initial.tally.done) l.slots;
 }

@@ -5,9 +5,9 @@ use Rattle.plan_hunt.proofs.block.found.Given as goal
 -- what is in the slots so far, and in the seats that are left
 abbrev pub invariant-loop-found : goal.invariant-loop-found
 invariant-loop-found g l = record {
-  count : length l.slots.items ≡ l.count;
-  slots : AreSlots (g.Q.Runs.ends l.runs) l.first l.slots.items;
-  seats : All (λ s. All (IsFound (g.Q.Runs.ends l.runs) l.first) s.items) l.seats.items;
+  count : length l.slots.items ≡ l.task.count;
+  slots : AreSlots (g.Q.Runs.ends l.runs) l.task.first l.slots.items;
+  seats : All (λ s. All (IsFound (g.Q.Runs.ends l.runs) l.task.first) s.items) l.seats.items;
 }
 
 abbrev pub decreases-loop-found : goal.decreases-loop-found

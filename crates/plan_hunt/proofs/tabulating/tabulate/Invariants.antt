@@ -1,13 +1,10 @@
-use Rattle.std.proofs.Common.{◌≤◌, ◌-◌}
-use Rattle.plan_hunt.specs.Tables.{IsTable}
+use Rattle.std.proofs.Common.{◌-◌, if◌then◌else◌}
+use Rattle.plan_hunt.specs.Extents.{IsTally}
 use Rattle.plan_hunt.proofs.tabulating.tabulate.Given as goal
 
 -- the table of the plans that are done
-abbrev pub invariant-loop-done : goal.invariant-loop-done
-invariant-loop-done g l = record {
-  done : l.done ≤ l.count;
-  table : IsTable (g.Q.Runs.ends l.runs) l.first l.done l.rows.items;
-}
+abbrev pub invariant-loop-tally : goal.invariant-loop-tally
+invariant-loop-tally g l = IsTally (g.Q.Runs.ends l.runs) l.extent l.tally.is_over l.tally.done l.tally.rows.items
 
-abbrev pub decreases-loop-done : goal.decreases-loop-done
-decreases-loop-done g l = l.count - l.done
+abbrev pub decreases-loop-tally : goal.decreases-loop-tally
+decreases-loop-tally g l = if l.tally.is_over then 0 else l.extent.most - l.tally.done
