@@ -278,7 +278,13 @@ fn writes_table(alloc: Global, text: &[u8]) -> bool {
     let Ok(table) = read_table(alloc, text) else {
         return false;
     };
-    let write = |tray: &mut Tray| write_table(alloc, &table.header, &table.rows, tray);
+    let write = |tray: &mut Tray| write_table(
+        alloc,
+        &table.header,
+        table.header.count,
+        &table.rows,
+        tray,
+    );
     writes(alloc, text, &STRIDES, &write)
 }
 

@@ -78,9 +78,8 @@ pub record IsMerged (t : Table) (ts : List Table) (w : Table) : Type 0 where
 abbrev pub AreMerged : List (Vec ℕ) → Table → Type 0
 AreMerged texts w = (t : Table) × (ts : List Table) × AreTexts texts (t ∷ ts) × IsMerged t ts w
 
--- the text is that of the table that the tables of these texts are merged to
-pub record IsMergedText (texts : List (Vec ℕ)) (text : List ℕ) : Type 0 where
-  pub table : Table
+-- the tables of these texts are merged to the table, and this is its text
+pub record IsMergedText (texts : List (Vec ℕ)) (table : Table) (text : List ℕ) : Type 0 where
   pub merged : AreMerged texts table
   pub is_text : text ≡ table_text table.header table.rows.items
 

@@ -118,6 +118,10 @@ table_text_by marked h rows =
 abbrev pub table_text : Header → List Row → List ℕ
 table_text h rows = table_text_by true h rows
 
+-- what was asked for, of so many plans
+abbrev pub with_count : Header → ℕ → Header
+with_count h n = record h { count = n }
+
 -- it is the text of a table, in one of the two forms
 abbrev pub IsTextOf : Header → List Row → List ℕ → Type 0
 IsTextOf h rows text = (text ≡ table_text h rows) ⊎ (text ≡ table_text_by false h rows)

@@ -36,16 +36,16 @@ fn merged(alloc: Global, texts: &[Vec<u8>]) -> Result<Table, MergeError>
     Ok(whole)
 }
 
-/// Merges the tables of slices of one hunt, given by their texts in the order of their plans, and writes the table of all
-/// the plans.
+/// Merges the tables of slices of one hunt, given by their texts in the order of their plans, writes the table of all
+/// the plans, and answers it.
 ///
 /// # Errors
 ///
 /// Of the texts in their order, the first that is not a table, `NotATable`, or does not adjoin those before it, `Apart`;
 /// `OutOfMemory`; `SinkFailed`. Only where the sink failed is anything out: a beginning of the table.
-pub fn merge<S: Sink>(alloc: Global, texts: &[Vec<u8>], out: &mut S) -> Result<(), MergeError>
-    // The sink takes the table that the tables are merged to.
-    ensures writes { WritesAnswer S.took S.failures (λ _. IsMergedText texts.now)
+pub fn merge<S: Sink>(alloc: Global, texts: &[Vec<u8>], out: &mut S) -> Result<Table, MergeError>
+    // The sink takes the text of the table that the tables are merged to.
+    ensures writes { WritesAnswer S.took S.failures (IsMergedText texts.now)
         (λ e. (e ≡ NotATable) ⊎ (e ≡ Apart) ⊎ (e ≡ Run refusals.OutOfMemory))
         (Run refusals.OutOfMemory) (Run refusals.SinkFailed) out.old out.new result }
     // Where memory is refused, it took nothing.
@@ -55,6 +55,6 @@ pub fn merge<S: Sink>(alloc: Global, texts: &[Vec<u8>], out: &mut S) -> Result<(
     ensures apart { result ≡ Err Apart → AreApart texts.now }
 {
     let table = merged(alloc, texts)?;
-    write_table(alloc, &table.header, &table.rows, out)?;
-    Ok(())
+    write_table(alloc, &table.header, table.header.count, &table.rows, out)?;
+    Ok(table)
 }

@@ -69,7 +69,8 @@ fn is_text_of(alloc: Global, text: &[u8], marked: bool, table: &Table) -> Result
         (text.now ≡ table_text_by marked table.now.header table.now.rows.items)) }
 {
     let mut line = Line::new(alloc);
-    add_table(&mut line, marked, &table.header, &table.rows)?;
+    let header = &table.header;
+    add_table(&mut line, marked, header, header.count, &table.rows)?;
     Ok(is_same(text, line.as_bytes()))
 }
 

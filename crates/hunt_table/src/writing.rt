@@ -2,7 +2,7 @@ mod endings;
 
 ghost use Rattle.std.specs.Prelude.{◌≡◌, ◌<◌, ◌++◌, Err, OnOk};
 ghost use Rattle.host_io.specs.Taken.{WritesText};
-ghost use Rattle.hunt_table.specs.Text.{endings_text, header_text, plans_front, plans_line, table_text, table_text_by, weak_word};
+ghost use Rattle.hunt_table.specs.Text.{endings_text, header_text, plans_front, plans_line, table_text, table_text_by, weak_word, with_count};
 
 use crate::header::Header;
 use crate::writing::endings::{EndingForm, add_ending};
@@ -13,7 +13,8 @@ use plan_hunt::Row;
 use report_lines::Line;
 use std::alloc::Global;
 
-/// Writes the table of a hunt as text. The text is made as a whole before any of it is put.
+/// Writes the table of a hunt as text: of so many plans, from the header's first one on. The text is made as a whole before any of it is
+/// put.
 ///
 /// # Errors
 ///
@@ -22,18 +23,19 @@ use std::alloc::Global;
 pub fn write_table<S: Sink>(
     alloc: Global,
     header: &Header,
+    count: u32,
     rows: &[Row],
     out: &mut S,
 ) -> Result<(), RunError>
-    ensures writes { WritesText (table_text header.now rows.now) (S.took out.old) (S.failures out.old) result (S.took out.new) (S.failures out.new) }
+    ensures writes { WritesText (table_text (with_count header.now count) rows.now) (S.took out.old) (S.failures out.old) result (S.took out.new) (S.failures out.new) }
     ensures memory { result ≡ Err RunError.OutOfMemory → S.took out.new ≡ S.took out.old }
 {
     let mut line = Line::new(alloc);
-    add_table(&mut line, true, header, rows)?;
+    add_table(&mut line, true, header, count, rows)?;
     put_all(out, line.as_bytes())
 }
 
-/// Adds the text of a table to a line, with bad endings marked or without.
+/// Adds the text of a table of so many plans to a line, with bad endings marked or without.
 ///
 /// # Errors
 ///
@@ -43,11 +45,13 @@ pub fn add_table(
     line: &mut Line,
     marked: bool,
     header: &Header,
+    count: u32,
     rows: &[Row],
 ) -> Result<(), OutOfMemory>
-    ensures { OnOk result (line.new ≡ line.old ++ table_text_by marked header.now rows.now) }
+    ensures { OnOk result (line.new ≡
+        line.old ++ table_text_by marked (with_count header.now count) rows.now) }
 {
-    add_header(line, header, rows.len() as u64)?;
+    add_header(line, header, count, rows.len() as u64)?;
     add_endings(line, marked, header, rows)?;
     line.text("end\n")
 }
@@ -64,11 +68,11 @@ fn add_plans_front(line: &mut Line, first: u32, count: u32) -> Result<(), OutOfM
 
 /// Adds the line of the plans.
 #[tactic(auto, unfolding(crate::specs::Text::plans_line))]
-fn add_plans_line(line: &mut Line, header: &Header) -> Result<(), OutOfMemory>
+fn add_plans_line(line: &mut Line, header: &Header, count: u32) -> Result<(), OutOfMemory>
     ensures { OnOk result (line.new ≡ line.old ++
-        plans_line header.now.is_weak header.now.seed header.now.first header.now.count) }
+        plans_line header.now.is_weak header.now.seed header.now.first count) }
 {
-    add_plans_front(line, header.first, header.count)?;
+    add_plans_front(line, header.first, count)?;
     line.text(" seed ")?;
     line.decimal(header.seed)?;
     add_weak_word(line, header.is_weak)?;
@@ -77,12 +81,12 @@ fn add_plans_line(line: &mut Line, header: &Header) -> Result<(), OutOfMemory>
 
 /// Adds the lines of the plans and of the number of endings.
 #[tactic(auto, unfolding(crate::specs::Text::header_text))]
-fn add_header(line: &mut Line, header: &Header, endings: u64) -> Result<(), OutOfMemory>
+fn add_header(line: &mut Line, header: &Header, count: u32, endings: u64) -> Result<(), OutOfMemory>
     ensures { OnOk result (line.new ≡
         line.old ++ header_text header.now.is_weak header.now.seed header.now.first
-        header.now.count endings) }
+        count endings) }
 {
-    add_plans_line(line, header)?;
+    add_plans_line(line, header, count)?;
     line.text("endings ")?;
     line.decimal(endings)?;
     line.text("\n")

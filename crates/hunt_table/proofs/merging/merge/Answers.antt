@@ -27,10 +27,10 @@ returns-in_err-write_table-clause-writes g c =
     let w = c.in_err-write_table.ensures.writes in
     let t = c.in_ok-table.table in
     let same = ap (λ (rows : List Row). table_text t.header rows) c.deref.ensures.value in
-    rw (p.1, p.2) (cut_off _ tt _ (by_writing_as Run _ _ _ _ _ _ w) (record { table = t; merged = c.in_ok-table.ensures.merged; is_text = same }) w.begun)
+    rw (p.1, p.2) (cut_off _ t _ (by_writing_as Run _ _ _ _ _ _ w) (record { merged = c.in_ok-table.ensures.merged; is_text = same }) w.begun)
 
 pub returns-clause-writes : goal.returns-clause-writes
 returns-clause-writes g c =
     let t = c.in_ok-table.table in
     let same = ap (λ (rows : List Row). table_text t.header rows) c.deref.ensures.value in
-    answered tt _ (record { table = t; merged = c.in_ok-table.ensures.merged; is_text = same }) c.in_ok-write_table.ensures.writes.ok
+    answered t _ (record { merged = c.in_ok-table.ensures.merged; is_text = same }) c.in_ok-write_table.ensures.writes.ok
