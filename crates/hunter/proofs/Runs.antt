@@ -17,10 +17,10 @@ use Rattle.round_planner.specs.Families.{family_plan}
 use Rattle.plan_hunt.specs.Endings.{Ended, ended}
 use Rattle.plan_hunt.specs.declared.hart_ending.HartEnding.{HartEnding}
 use Rattle.plan_hunt.specs.declared.hart_ending.HartEnding.TheVariants.{Stopped}
-use Rattle.plan_hunt.specs.Tables.{IsTable}
+use Rattle.plan_hunt.specs.Extents.{IsTableOf}
 use Rattle.plan_hunt.specs.declared.row.Row.{Row}
 use Rattle.plan_hunt.specs.Steps.{IsShrunk}
-use Rattle.hunter.specs.Hunts.{IsHunted, ended_of, ending_by, ends_after, ends_from, ends_under, family_of, run_endings, seen_of}
+use Rattle.hunter.specs.Hunts.{IsHunted, ended_of, ending_by, ends_after, ends_from, ends_under, extent_of, family_of, run_endings, seen_of}
 use Rattle.hunter.specs.declared.settings.HuntSettings.{HuntSettings}
 
 head_is : {X : Type 0} (x y : X) (xs ys : List X) → x ∷ xs ≡ y ∷ ys → (x ≡ y) × (xs ≡ ys)
@@ -86,13 +86,13 @@ ends_so s image input p u v ranges l r is loops like same h =
     subst (λ (x : Ended). IfOk r (λ e. e ≡ x)) is_so (h there like.is)
 
 -- the table of the runs of a guest that was loaded from a file is the table of the file's hunt
-pub hunted_so : (s t : HuntSettings) (file input u : List ℕ) (image : Loaded) (rows : List Row) → t ≡ s → u ≡ input → image ≡ image_of s.format file s.pages →
-    IsTable (λ n. ends_from t image u (family_plan (family_of t) n)) s.header.first s.header.count rows → IsHunted s file input rows
+pub hunted_so : (s t : HuntSettings) (file input u : List ℕ) (image : Loaded) (k : ℕ) (rows : List Row) → t ≡ s → u ≡ input → image ≡ image_of s.format file s.pages →
+    IsTableOf (λ n. ends_from t image u (family_plan (family_of t) n)) (extent_of s) k rows → IsHunted s file input k rows
 unfolding ends_after ends_under
-hunted_so s t file input u image rows asked fed loaded h =
-    subst (λ (i : Loaded). IsTable (λ n. ends_from s i input (family_plan (family_of s) n)) s.header.first s.header.count rows) loaded
-    (subst (λ (x : List ℕ). IsTable (λ n. ends_from s image x (family_plan (family_of s) n)) s.header.first s.header.count rows) fed
-    (subst (λ (r : HuntSettings). IsTable (λ n. ends_from r image u (family_plan (family_of r) n)) s.header.first s.header.count rows) asked h))
+hunted_so s t file input u image k rows asked fed loaded h =
+    subst (λ (i : Loaded). IsTableOf (λ n. ends_from s i input (family_plan (family_of s) n)) (extent_of s) k rows) loaded
+    (subst (λ (x : List ℕ). IsTableOf (λ n. ends_from s image x (family_plan (family_of s) n)) (extent_of s) k rows) fed
+    (subst (λ (r : HuntSettings). IsTableOf (λ n. ends_from r image u (family_plan (family_of r) n)) (extent_of s) k rows) asked h))
 
 -- and a plan that its runs are shrunk to is one that the file's runs are shrunk to
 pub shrunk_so : (s t : HuntSettings) (file input u : List ℕ) (image : Loaded) (n : ℕ) (p : Planned) → t ≡ s → u ≡ input → image ≡ image_of s.format file s.pages →

@@ -2,7 +2,6 @@
 use Rattle.std.specs.Prelude.{◌≡◌, ◌⊎◌, ℕ, ◌+◌, ◌*◌, ◌-◌, ◌^◌, ◌<◌, ◌≤◌, ◌==◌, ◌&&◌, ◌||◌, length, nat_lt, if◌then◌else◌, Bool, true, false, List, [], ◌∷◌, ◌++◌, map, take, drop, Option, Some, None}
 use Rattle.pages.specs.declared.pages.TheConstants.{MOST_PAGES}
 use Rattle.round_schedule.specs.declared.bounds.TheConstants.{MOST_HARTS, MOST_WORKERS}
-use Rattle.std.specs.Global.{Vec}
 use Rattle.std.specs.List.{list_all, list_any}
 use Rattle.elf_loader.specs.Causes.{IsLeast as IsLeastOfImage}
 use Rattle.elf_loader.specs.Image.{Loaded}
@@ -19,9 +18,11 @@ use Rattle.round_planner.specs.Families.{family_plan}
 use Rattle.plan_hunt.specs.Endings.{Ended, ended, ends_well}
 use Rattle.plan_hunt.specs.declared.hart_ending.HartEnding.{HartEnding}
 use Rattle.plan_hunt.specs.declared.hart_ending.HartEnding.TheVariants.{Loops, Runs, Stopped}
-use Rattle.plan_hunt.specs.Tables.{IsTable}
+use Rattle.plan_hunt.specs.Extents.{IsTableOf}
+use Rattle.plan_hunt.specs.declared.extent.Extent.{Extent}
 use Rattle.plan_hunt.specs.declared.row.Row.{Row}
-use Rattle.hunt_table.specs.Text.{table_text}
+use Rattle.plan_hunt.specs.declared.tally.Tally.{Tally}
+use Rattle.hunt_table.specs.Text.{table_text, with_count}
 use Rattle.hunt_table.specs.declared.seen_range.SeenRange.{SeenRange}
 use Rattle.hunter.specs.declared.error.HuntError.{HuntError}
 use Rattle.hunter.specs.declared.error.HuntError.TheVariants.{Run, PlansOutOfRange, SeenOutside}
@@ -117,14 +118,18 @@ ends_under s file input = ends_from s (image_of s.format file s.pages) input
 unfoldable pub ends_after : HuntSettings → List ℕ → List ℕ → ℕ → Ended
 ends_after s file input n = ends_under s file input (family_plan (family_of s) n)
 
--- the rows are the table of the hunt
-abbrev pub IsHunted : HuntSettings → List ℕ → List ℕ → List Row → Type 0
-IsHunted s file input rows = IsTable (ends_after s file input) s.header.first s.header.count rows
+-- how far the hunt goes
+abbrev pub extent_of : HuntSettings → Extent
+extent_of s = record { first = s.header.first; most = s.header.count; until = s.until; is_timed = s.is_timed }
 
--- the rows are that table, and this is its text
-pub record IsHuntText (s : HuntSettings) (file input : List ℕ) (rows : Vec Row) (text : List ℕ) : Type 0 where
-  pub table : IsHunted s file input rows.items
-  pub is_text : text ≡ table_text s.header rows.items
+-- the rows are the table of the hunt, which is over after so many plans
+abbrev pub IsHunted : HuntSettings → List ℕ → List ℕ → ℕ → List Row → Type 0
+IsHunted s file input n rows = IsTableOf (ends_after s file input) (extent_of s) n rows
+
+-- it is that table, and this is its text
+pub record IsHuntText (s : HuntSettings) (file input : List ℕ) (t : Tally) (text : List ℕ) : Type 0 where
+  pub table : IsHunted s file input t.done t.rows.items
+  pub is_text : text ≡ table_text (with_count s.header t.done) t.rows.items
 
 abbrev pub has_exited : HartEnding → Bool
 has_exited Runs = false

@@ -12,26 +12,26 @@ use crate::guest::Guest;
 use crate::settings::{HuntSettings, check_hunt, check_ranges};
 use host_io::Sink;
 use hunt_table::write_table;
-use plan_hunt::{HartEnding, HuntObserver, Row, are_well, tabulate};
+use plan_hunt::{HartEnding, HuntObserver, Row, Tally, are_well, tabulate};
 use std::alloc::Global;
 use std::sync::Wait;
 use std::thread::Threads;
 
-/// The table of the endings that a guest's runs under the plans come to. The image is loaded once. The observer looks on
-/// between two blocks of plans.
+/// The table of the endings that a guest's runs under the plans come to, of as many plans as are done when the hunt is over. The image is
+/// loaded once.
 ///
 /// # Errors
 ///
 /// The refusals of the settings, then of the image, then of the ranges; `OutOfMemory`. No plan of a family is refused.
-pub fn tabulate_hunt<O: HuntObserver, R: Threads + Wait + Sync>(
+pub fn tabulate_hunt<O: HuntObserver + Sync, R: Threads + Wait + Sync>(
     rt: &R,
     alloc: Global,
     image: &[u8],
     input: &[u8],
     settings: &HuntSettings,
-    observer: &mut O,
-) -> Result<Vec<Row>, HuntError>
-    ensures table { IfOk result (λ rows. IsHunted settings.now image.now input.now rows.items) }
+    observer: &O,
+) -> Result<Tally, HuntError>
+    ensures table { IfOk result (λ t. IsHunted settings.now image.now input.now t.done t.rows.items) }
     ensures settings { (e : Refusal) → hunt_fault settings.now ≡ Some e → result ≡ Err e }
     ensures errors { hunt_fault settings.now ≡ None →
         IfErr result (λ e. IsHuntReason settings.now image.now e) }
@@ -47,8 +47,7 @@ pub fn tabulate_hunt<O: HuntObserver, R: Threads + Wait + Sync>(
         rt,
         alloc,
         &guest,
-        settings.header.first,
-        settings.header.count,
+        settings.extent(),
         settings.workers,
         observer,
     )?)
@@ -100,25 +99,24 @@ pub fn all_end_well(rows: &[Row]) -> bool
     true
 }
 
-/// Runs a guest under the plans of a hunt, writes the table of the endings that they lead to, and answers its rows. The
-/// observer looks on between two blocks of plans.
+/// Runs a guest under the plans of a hunt until that is over, writes the table of the endings that they lead to, and answers it.
 ///
 /// # Errors
 ///
 /// The refusals of the settings, then of the image, then of the ranges; `OutOfMemory`; `SinkFailed`. Nothing is written before
 /// all runs are done.
-pub fn hunt<S: Sink, O: HuntObserver, R: Threads + Wait + Sync>(
+pub fn hunt<S: Sink, O: HuntObserver + Sync, R: Threads + Wait + Sync>(
     rt: &R,
     alloc: Global,
     image: &[u8],
     input: &[u8],
     settings: &HuntSettings,
-    observer: &mut O,
+    observer: &O,
     out: &mut S,
-) -> Result<Vec<Row>, HuntError>
+) -> Result<Tally, HuntError>
     // The text says of no ending that it was checked.
     requires { settings.now.header.is_weak ≡ false }
-    // The rows are the table of the runs that the definitions name, and the sink takes its text.
+    // It is the table of the runs that the definitions name, and the sink takes its text.
     ensures writes { WritesAnswer S.took S.failures (IsHuntText settings.now image.now input.now)
         (IsFaultOr (hunt_fault settings.now) (IsHuntReason settings.now image.now))
         (Run refusals.OutOfMemory) (Run refusals.SinkFailed) out.old out.new result }
@@ -132,7 +130,7 @@ pub fn hunt<S: Sink, O: HuntObserver, R: Threads + Wait + Sync>(
     // No hunt looks at a range that is empty, or not all in memory.
     ensures ranges { IfOk result (λ _. has_bad_range settings.now ≡ false) }
 {
-    let rows = tabulate_hunt(rt, alloc, image, input, settings, observer)?;
-    write_table(alloc, &settings.header, &rows, out)?;
-    Ok(rows)
+    let tally = tabulate_hunt(rt, alloc, image, input, settings, observer)?;
+    write_table(alloc, &settings.header, tally.done, &tally.rows, out)?;
+    Ok(tally)
 }

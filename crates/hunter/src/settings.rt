@@ -1,6 +1,6 @@
 ghost use Rattle.std.specs.Prelude.{◌≡◌, IfOk, IfErr, None, Some, false, true};
 ghost use Rattle.std.specs.List.{list_any};
-ghost use Rattle.hunter.specs.Hunts.{IsGuest, IsHunt, has_bad_range, hunt_fault, is_bad_range, shrink_fault};
+ghost use Rattle.hunter.specs.Hunts.{IsGuest, IsHunt, extent_of, has_bad_range, hunt_fault, is_bad_range, shrink_fault};
 ghost use Rattle.hunter.specs.declared.error.HuntError.TheVariants.{SeenOutside};
 
 use crate::error::HuntError;
@@ -8,6 +8,7 @@ use host_io::RunError;
 use hunt_table::{Header, SeenRange};
 use machine::Format;
 use pages::MOST_PAGES;
+use plan_hunt::{Extent, Until};
 use round_schedule::{MOST_HARTS, MOST_WORKERS};
 
 /// What a hunt is asked for.
@@ -25,6 +26,24 @@ pub struct HuntSettings {
     pub workers: u32,
     /// The plans, and what is looked at when a run ends.
     pub header: Header,
+    /// With which ending the hunt is over before its last plan.
+    pub until: Until,
+    /// Whether the hunt has only so much time. Its observer says whether there is some left.
+    pub is_timed: bool,
+}
+
+impl HuntSettings {
+    /// How far the hunt goes.
+    pub fn extent(&self) -> Extent
+        ensures { result ≡ extent_of self.now }
+    {
+        Extent {
+            first: self.header.first,
+            most: self.header.count,
+            until: self.until,
+            is_timed: self.is_timed,
+        }
+    }
 }
 
 /// Whether a range is empty, or has a byte outside memory of so many pages.
