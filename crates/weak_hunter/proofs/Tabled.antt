@@ -1,5 +1,5 @@
 -- The table of one more ending.
-use Rattle.std.proofs.Common.{◌≡◌, ◌≢◌, ℕ, zero, suc, ◌+◌, ◌^◌, ◌<◌, ◌≤◌, nat_lt, Bool, true, false, if◌then◌else◌, inl, inr, List, [], ◌∷◌, ◌++◌, All, length, get_or, take, refl, sym, ◌∙◌, ap, subst, arith}
+use Rattle.std.proofs.Common.{◌≡◌, ◌↔◌, IsTrue, ℕ, zero, suc, ◌+◌, ◌^◌, ◌<◌, ◌≤◌, nat_lt, Bool, true, false, if◌then◌else◌, inl, inr, List, [], ◌∷◌, ◌++◌, All, length, get_or, take, refl, sym, ◌∙◌, ap, subst, arith}
 use Rattle.std.specs.Bool.{OnTrue}
 use Rattle.std.specs.List.{Any}
 use Rattle.std.proofs.lemmas.List.{take_more}
@@ -10,7 +10,11 @@ use Rattle.plan_hunt.specs.Endings.{Ended, ended}
 use Rattle.plan_hunt.specs.Joining.{JoinIsTable}
 use Rattle.plan_hunt.specs.Tables.{IsCount, IsRow, IsTable}
 use Rattle.plan_hunt.specs.declared.row.Row.{Row}
-use Rattle.weak_hunter.specs.WeakHunts.{IsSomeTable}
+use Rattle.plan_hunt.specs.Extents.{IsSought, NoneSought, start_of}
+use Rattle.plan_hunt.specs.declared.extent.Extent.{Extent}
+use Rattle.plan_hunt.specs.declared.extent.Until.{Until}
+use Rattle.plan_hunt.proofs.Extents.{ends_so, going, out_of_time, stands_next}
+use Rattle.weak_hunter.specs.WeakHunts.{IsSomeTable, IsSomeTally}
 
 -- the same endings at the numbers of a table
 Agree : (ℕ → Ended) → (ℕ → Ended) → ℕ → ℕ → Type 0
@@ -47,17 +51,27 @@ table_by f g first n rows h t = record {
   rising = t.rising;
 }
 
+none_by : (until : Until) (f g : ℕ → Ended) (first n : ℕ) → Agree f g first n → NoneSought until f first n → NoneSought until g first n
+unfolding Agree
+none_by until f g first n h none i low high sought =
+    none i low high (subst (λ (e : Ended). IsSought until e (f i)) (sym (h first (omega arith) (omega (arith, low, high))))
+    (subst (IsSought until (g first)) (sym (h i low high)) sought))
+
 -- ---- tables of no ending and of one
 
-pub no_endings : (first : ℕ) → IsSomeTable first 0 []
-no_endings first = record {
+pub no_endings : (x : Extent) (rows : List Row) → rows ≡ [] → IsSomeTally x false 0 rows
+no_endings x rows none = subst (λ (rs : List Row). IsSomeTally x false 0 rs) (sym none) (record {
   ends = λ _. ended [] [] [];
-  table = record {
-    each = λ k d l. absurd (omega (arith, l));
-    complete = λ i low high. absurd (omega (arith, low, high));
-    rising = λ i j d l m. absurd (omega (arith, m));
+  tally = record {
+    table = record {
+      each = λ k d l. absurd (omega (arith, l));
+      complete = λ i low high. absurd (omega (arith, low, high));
+      rising = λ i j d l m. absurd (omega (arith, m));
+    };
+    few = omega arith;
+    stands = λ i low high sought. absurd (omega (arith, low, high));
   };
-}
+})
 
 one_item : (P : Row → Type 0) (x : Row) → P x → All P (x ∷ [])
 one_item P x p zero d l = p
@@ -98,20 +112,32 @@ agrees_behind : (ends : ℕ → Ended) (first n : ℕ) (e : Ended) → Agree (λ
 unfolding Agree
 agrees_behind ends first n e i low high = ap (λ (t : Bool). if t then ends i else e) (sym (beyond i (first + n) low))
 
-pub next_ending : (first n : ℕ) (rows others new : List Row) (e : Ended) → others ≡ row e (first + n) 1 ∷ [] → first + (n + 1) < 2 ^ 32 → IsSomeTable first n rows →
-    JoinIsTable rows others new → IsSomeTable first (n + 1) new
-next_ending first n rows others new e one few t joins =
-    let fs : ℕ → Ended = and_then t.ends (first + n) e in
-    let behind : IsTable fs (first + n) 1 (row e (first + n) 1 ∷ []) = table_by (λ _. e) fs (first + n) 1 (row e (first + n) 1 ∷ []) (agrees_behind t.ends first n e) (one_table e (first + n)) in
+pub next_ending : (b was : Bool) (x : Extent) (n : ℕ) (rows others new : List Row) (e : Ended) → was ≡ false → others ≡ row e (x.first + n) 1 ∷ [] → x.first + x.most < 2 ^ 32 →
+    n < x.most → (IsTrue b ↔ IsSought x.until (start_of rows e) e) → IsSomeTally x was n rows → JoinIsTable rows others new → IsSomeTally x b (n + 1) new
+next_ending b was x n rows others new e on one few more answer t joins =
+    let at : ℕ = x.first + n in
+    let fs : ℕ → Ended = and_then t.ends at e in
+    let agrees = agrees_before t.ends x.first n e in
+    let before : IsTable fs x.first n rows = table_by t.ends fs x.first n rows agrees t.tally.table in
+    let behind : IsTable fs at 1 (row e at 1 ∷ []) = table_by (λ _. e) fs at 1 (row e at 1 ∷ []) (agrees_behind t.ends x.first n e) (one_table e at) in
+    let none : NoneSought x.until fs x.first n = none_by x.until t.ends fs x.first n agrees (going was x t.ends n on t.tally.stands) in
     record {
       ends = fs;
-      table =
-          joins fs first n 1 (table_by t.ends fs first n rows (agrees_before t.ends first n e) t.table)
-          (subst (λ (rs : List Row). IsTable fs (first + n) 1 rs) (sym one) behind) (omega (arith, few));
+      tally = record {
+        table = joins fs x.first n 1 before (subst (λ (rs : List Row). IsTable fs at 1 rs) (sym one) behind) (omega (arith, few, more));
+        few = omega (arith, more);
+        stands = stands_next b x fs n rows e before (at_end t.ends x.first n e) answer none;
+      };
     }
+  where
+    at_end : (ends : ℕ → Ended) (first n : ℕ) (e : Ended) → e ≡ and_then ends (first + n) e (first + n)
+    at_end ends first n e = ap (λ (t : Bool). if t then ends (first + n) else e) (sym (beyond (first + n) (first + n) (omega arith)))
 
-pub as_one : (first m n : ℕ) (rows : List Row) → m ≡ n → IsSomeTable first m rows → IsSomeTable first n rows
-as_one first m n rows e t = subst (λ (k : ℕ). IsSomeTable first k rows) e t
+pub no_time : (was : Bool) (x : Extent) (n : ℕ) (rows : List Row) → was ≡ false → (x.is_timed ≡ true) × (1 ≤ n) → IsSomeTally x was n rows → IsSomeTally x true n rows
+no_time was x n rows on h t = record { ends = t.ends; tally = out_of_time x t.ends n rows was on h t.tally }
+
+pub ends_here : (b : Bool) (x : Extent) (n : ℕ) (rows : List Row) → (b ≡ false → n ≡ x.most) → IsSomeTally x b n rows → IsSomeTable x n rows
+ends_here b x n rows all t = record { ends = t.ends; table = ends_so b x t.ends n rows all t.tally }
 
 -- ---- what is confirmed
 

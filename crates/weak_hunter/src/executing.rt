@@ -4,9 +4,9 @@ use crate::guest::Guest;
 use crate::looking::seen_of;
 use hunter::ending_of_stop;
 use pages::OutOfMemory;
-use plan_hunt::{Ending, HartEnding};
+use plan_hunt::{Ending, HartEnding, HuntObserver, Task};
 use std::alloc::Global;
-use std::sync::atomic::{AtomicU64, Ordering};
+use std::sync::atomic::AtomicU64;
 use std::thread::{self, Threads};
 use timed_machine::TimedMachine;
 
@@ -17,28 +17,27 @@ struct Found {
     ending: Ending,
 }
 
-/// The endings of `count` executions from number `first` on, found by workers that make executions at the same time, a slot for each
-/// number. A slot is empty where they left the execution out, for want of memory.
+/// The endings of a block of executions, found by workers that make executions at the same time, a slot for each number. A slot is empty
+/// where they left the execution out.
 ///
 /// # Errors
 ///
 /// `OutOfMemory` alone.
-pub(crate) fn execute_block<R: Threads + Sync>(
+pub(crate) fn execute_block<O: HuntObserver + Sync, R: Threads + Sync>(
     rt: &R,
     guest: &Guest<'_>,
-    first: u32,
-    count: u32,
+    task: &Task<'_, O>,
     workers: u32,
 ) -> Result<Vec<Option<Ending>>, OutOfMemory>
-    requires few { first + count < 2 ^ 32 }
-    ensures { IfOk result (λ v. length v.items ≡ count) }
+    requires few { task.now.first + task.now.count < 2 ^ 32 }
+    ensures { IfOk result (λ v. length v.items ≡ task.now.count) }
 {
     let next = AtomicU64::new(0);
     let work = |_worker: usize|
-        requires { first + count < 2 ^ 32 }
-    { work(guest, first, count, &next) };
+        requires { task.now.first + task.now.count < 2 ^ 32 }
+    { work(guest, task, &next) };
     let lists = thread::map_indices(rt, guest.alloc, workers as usize, &work)?;
-    filled_slots(guest.alloc, count, lists)
+    filled_slots(guest.alloc, task.count, lists)
 }
 
 /// A slot for each execution, with what was found in it.
@@ -77,31 +76,24 @@ fn put(slots: &mut [Option<Ending>], found: Vec<Found>) {
     }
 }
 
-/// Claims executions of a block and makes them until none is left, or until memory is refused.
-fn work(guest: &Guest<'_>, first: u32, count: u32, next: &AtomicU64) -> Vec<Found>
-    requires { first + count < 2 ^ 32 }
+/// Claims executions of a block and makes them until there is none to be claimed, or until memory is refused.
+fn work<O: HuntObserver>(guest: &Guest<'_>, task: &Task<'_, O>, next: &AtomicU64) -> Vec<Found>
+    requires { task.now.first + task.now.count < 2 ^ 32 }
 {
     let mut found = Vec::new(guest.alloc);
-    for _ in 0..count {
-        let index = next.fetch_add(1, Ordering::SeqCst);
-        if index >= u64::from(count) {
+    for _ in 0..task.count {
+        let Some(index) = task.claim(next) else {
             break;
-        }
-        if !find(guest, first, index as u32, &mut found) {
+        };
+        let Ok(ending) = executed(guest, task.first + index) else {
+            break;
+        };
+        task.note(next, &ending);
+        if found.push(Found { index, ending }).is_err() {
             break;
         }
     }
     found
-}
-
-/// Finds the ending of the execution at an index of a block. False: memory is refused.
-fn find(guest: &Guest<'_>, first: u32, index: u32, found: &mut Vec<Found>) -> bool
-    requires { first + index < 2 ^ 32 }
-{
-    match executed(guest, first + index) {
-        Ok(ending) => found.push(Found { index, ending }).is_ok(),
-        Err(_) => false,
-    }
 }
 
 /// The ending of the execution of a number.

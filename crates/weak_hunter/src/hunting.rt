@@ -2,7 +2,7 @@ ghost use Rattle.std.specs.Prelude.{◌≡◌, ◌⊎◌, ◌≤◌, Err, IfErr,
 ghost use Rattle.elf_loader.specs.Image.{Loaded};
 ghost use Rattle.host_io.specs.declared.load_error.LoadError.{LoadError as ImageCause};
 ghost use Rattle.host_io.specs.declared.error.RunError.TheVariants as refusals;
-ghost use Rattle.hunter.specs.Hunts.{IsHunt, IsImageCause, has_bad_range, hunt_fault};
+ghost use Rattle.hunter.specs.Hunts.{IsHunt, IsImageCause, extent_of, has_bad_range, hunt_fault};
 ghost use Rattle.hunter.specs.declared.error.HuntError.{HuntError as Refusal};
 ghost use Rattle.hunter.specs.declared.settings.HuntSettings.{HuntSettings as AskedFor};
 ghost use Rattle.hunter.specs.declared.error.HuntError.TheVariants as hunting;
@@ -20,33 +20,32 @@ use host_io::Sink;
 use hunt_table::write_table;
 use hunter::{HuntSettings, check_hunt, check_ranges};
 use machine::load;
-use plan_hunt::{HuntObserver, Row};
+use plan_hunt::{HuntObserver, Tally};
 use std::alloc::Global;
 use std::sync::Wait;
 use std::thread::Threads;
 use weak_executions::{Opening, WeakGuest};
 
-/// Makes a guest's executions of the numbers that a hunt names, of so many steps each, writes the table of the endings that they lead to, and answers its
-/// rows. The first execution of each ending was put to the checker of executions. The observer looks on between two blocks of
-/// executions.
+/// Makes a guest's executions of the numbers that a hunt names, of so many steps each, until the hunt is over, writes the table of the
+/// endings that they lead to, and answers it. The first execution of each ending was put to the checker of executions.
 ///
 /// # Errors
 ///
 /// The refusals of the settings, then of the image, then of the ranges; `OutOfMemory`; `Unconfirmed` where the checker doesn't find
 /// the ending of an execution as it was made, or RVWMO doesn't allow that execution; `SinkFailed`. Nothing is written before all
 /// executions are made and checked.
-pub fn hunt_weakly<S: Sink, O: HuntObserver, R: Threads + Wait + Sync>(
+pub fn hunt_weakly<S: Sink, O: HuntObserver + Sync, R: Threads + Wait + Sync>(
     rt: &R,
     alloc: Global,
     image: &[u8],
     input: &[u8],
     settings: &HuntSettings,
     steps: u32,
-    observer: &mut O,
+    observer: &O,
     out: &mut S,
-) -> Result<Vec<Row>, WeakHuntError>
+) -> Result<Tally, WeakHuntError>
     requires weak { settings.now.header.is_weak ≡ true }
-    // The rows are the table of endings each of which RVWMO allows, and the sink takes its text.
+    // It is the table of endings each of which RVWMO allows, and the sink takes its text.
     ensures writes { WritesAnswer S.took S.failures (IsWeakHuntText settings.now image.now input.now)
         (IsFaultOr (option_map Hunt (hunt_fault settings.now)) (IsWeakReason settings.now image.now))
         (Hunt (hunting.Run refusals.OutOfMemory)) (Hunt (hunting.Run refusals.SinkFailed)) out.old out.new result }
@@ -62,22 +61,22 @@ pub fn hunt_weakly<S: Sink, O: HuntObserver, R: Threads + Wait + Sync>(
     // No hunt looks at a range that is empty, or not all in memory.
     ensures ranges { IfOk result (λ _. has_bad_range settings.now ≡ false) }
 {
-    let rows = tabulate_weakly(rt, alloc, image, input, settings, steps, observer)?;
-    write_table(alloc, &settings.header, &rows, out)?;
-    Ok(rows)
+    let tally = tabulate_weakly(rt, alloc, image, input, settings, steps, observer)?;
+    write_table(alloc, &settings.header, tally.done, &tally.rows, out)?;
+    Ok(tally)
 }
 
 /// The table of a weak hunt. The image is loaded once.
-fn tabulate_weakly<O: HuntObserver, R: Threads + Wait + Sync>(
+fn tabulate_weakly<O: HuntObserver + Sync, R: Threads + Wait + Sync>(
     rt: &R,
     alloc: Global,
     image: &[u8],
     input: &[u8],
     settings: &HuntSettings,
     steps: u32,
-    observer: &mut O,
-) -> Result<Vec<Row>, WeakHuntError>
-    ensures table { IfOk result (λ rows. IsWeaklyHunted settings.now image.now input.now rows.items) }
+    observer: &O,
+) -> Result<Tally, WeakHuntError>
+    ensures table { IfOk result (λ t. IsWeaklyHunted settings.now image.now input.now t.done t.rows.items) }
     ensures settings { (e : Refusal) → hunt_fault settings.now ≡ Some e → result ≡ Err (Hunt e) }
     ensures errors { hunt_fault settings.now ≡ None →
         IfErr result (λ e. IsWeakReason settings.now image.now e) }
@@ -96,23 +95,23 @@ fn tabulate_weakly<O: HuntObserver, R: Threads + Wait + Sync>(
         input,
         harts: &harts,
     };
-    let rows = table_of(rt, alloc, opening, settings, steps, observer)?;
-    Ok(rows)
+    let tally = table_of(rt, alloc, opening, settings, steps, observer)?;
+    Ok(tally)
 }
 
 /// The table of the executions that begin so, each ending of which was confirmed.
-fn table_of<O: HuntObserver, R: Threads + Wait + Sync>(
+fn table_of<O: HuntObserver + Sync, R: Threads + Wait + Sync>(
     rt: &R,
     alloc: Global,
     opening: Opening<'_>,
     settings: &HuntSettings,
     steps: u32,
-    observer: &mut O,
-) -> Result<Vec<Row>, WeakHuntError>
+    observer: &O,
+) -> Result<Tally, WeakHuntError>
     requires hunt { IsHunt settings.now }
     requires harts { length opening.harts.now ≡ settings.now.harts }
-    ensures table { IfOk result (λ rows. IsTabled opening.entry.image.now opening.entry.input.now
-        opening.entry.harts.now settings.now.header.first settings.now.header.count rows.items) }
+    ensures table { IfOk result (λ t. IsTabled opening.entry.image.now opening.entry.input.now
+        opening.entry.harts.now (extent_of settings.now) t.done t.rows.items) }
     ensures errors { (s : AskedFor) (file : List ℕ) → IfErr result (λ e. IsWeakReason s file e) }
 {
     let header = &settings.header;
@@ -122,14 +121,7 @@ fn table_of<O: HuntObserver, R: Threads + Wait + Sync>(
         maker: WeakGuest::new(alloc, opening, header.seed, bounds_of(settings, steps)),
         ranges: &header.ranges,
     };
-    let rows = tabulate(
-        rt,
-        &guest,
-        header.first,
-        header.count,
-        settings.workers,
-        observer,
-    )?;
-    confirm(&guest, &rows)?;
-    Ok(rows)
+    let tally = tabulate(rt, &guest, settings.extent(), settings.workers, observer)?;
+    confirm(&guest, &tally.rows)?;
+    Ok(tally)
 }

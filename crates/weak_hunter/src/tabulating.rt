@@ -1,57 +1,91 @@
-ghost use Rattle.std.specs.Prelude.{◌≡◌, ◌+◌, ◌<◌, ◌≤◌, ◌^◌, [], ◌∷◌, IfOk, OnOk, length};
+ghost use Rattle.std.specs.Prelude.{◌≡◌, ◌+◌, ◌<◌, ◌≤◌, ◌^◌, [], ◌∷◌, IfOk, OnOk, false, length};
 ghost use Rattle.plan_hunt.specs.Adding.{row};
-ghost use Rattle.weak_hunter.specs.WeakHunts.{IsSomeTable};
+ghost use Rattle.weak_hunter.specs.WeakHunts.{IsSomeTable, IsSomeTally};
 
 use crate::executing::{execute_block, executed};
 use crate::guest::Guest;
 use pages::OutOfMemory;
-use plan_hunt::{Ending, HuntObserver, Row, block_size, join};
+use plan_hunt::{Ending, Extent, HuntObserver, Row, Tally, Task, join, next_block};
 use std::alloc::Global;
 use std::thread::Threads;
 
-/// The table of the endings of `count` executions from number `first` on. The observer looks on between two blocks of them.
+/// The table of the endings of a hunt's executions, of as many as are made when the hunt is over.
 ///
 /// # Errors
 ///
 /// `OutOfMemory` alone.
-pub(crate) fn tabulate<O: HuntObserver, R: Threads + Sync>(
+pub(crate) fn tabulate<O: HuntObserver + Sync, R: Threads + Sync>(
     rt: &R,
     guest: &Guest<'_>,
-    first: u32,
-    count: u32,
+    extent: Extent,
     workers: u32,
-    observer: &mut O,
-) -> Result<Vec<Row>, OutOfMemory>
-    requires { first + count < 2 ^ 32 }
-    ensures { IfOk result (λ rows. IsSomeTable first count rows.items) }
+    observer: &O,
+) -> Result<Tally, OutOfMemory>
+    requires { extent.first + extent.most < 2 ^ 32 }
+    ensures { IfOk result (λ t. IsSomeTable extent t.done t.rows.items) }
 {
-    let mut rows = Vec::new(guest.alloc);
-    let mut done = 0;
-    while done < count {
-        let size = block_size(observer.before_block(done, &rows), count - done);
-        let mut slots = execute_block(rt, guest, first + done, size, workers)?;
-        add_endings(guest, &mut rows, first, done, &mut slots)?;
-        done += size;
+    let mut tally = Tally::new(guest.alloc);
+    while tally.done < extent.most && !tally.is_over {
+        tabulate_block(rt, guest, extent, workers, observer, &mut tally)?;
     }
-    Ok(rows)
+    Ok(tally)
 }
 
-/// Adds to the table of the first `done` endings those that follow. What the slots leave out is made here.
-fn add_endings(
+/// Adds the endings of the next block's executions to the table of those before them.
+fn tabulate_block<O: HuntObserver + Sync, R: Threads + Sync>(
+    rt: &R,
     guest: &Guest<'_>,
-    rows: &mut Vec<Row>,
-    first: u32,
-    done: u32,
-    slots: &mut [Option<Ending>],
+    extent: Extent,
+    workers: u32,
+    observer: &O,
+    tally: &mut Tally,
 ) -> Result<(), OutOfMemory>
-    requires few { first + (done + length slots.old) < 2 ^ 32 }
-    requires table { IsSomeTable first done rows.old.items }
-    ensures { OnOk result (IsSomeTable first (done + length slots.old) rows.new.items) }
+    requires few { extent.first + extent.most < 2 ^ 32 }
+    requires more { tally.old.done < extent.most }
+    requires going { tally.old.is_over ≡ false }
+    requires tally { IsSomeTally extent tally.old.is_over tally.old.done tally.old.rows.items }
+    ensures tally { OnOk result (IsSomeTally extent tally.new.is_over tally.new.done tally.new.rows.items) }
+    ensures more { OnOk result (tally.new.is_over ≡ false → tally.old.done < tally.new.done) }
+{
+    let task = Task {
+        first: extent.first + tally.done,
+        count: next_block(observer, extent, tally.done, &tally.rows),
+        extent,
+        rows: &tally.rows,
+        observer,
+    };
+    let mut slots = execute_block(rt, guest, &task, workers)?;
+    add_endings(guest, extent, observer, &mut slots, tally)
+}
+
+/// Adds the endings in the slots to the table, up to the one with which the hunt is over. What the slots leave out is made here, as long as
+/// there is time.
+fn add_endings<O: HuntObserver>(
+    guest: &Guest<'_>,
+    extent: Extent,
+    observer: &O,
+    slots: &mut [Option<Ending>],
+    tally: &mut Tally,
+) -> Result<(), OutOfMemory>
+    requires few { extent.first + extent.most < 2 ^ 32 }
+    requires some { 1 ≤ length slots.old }
+    requires within { tally.old.done + length slots.old ≤ extent.most }
+    requires going { tally.old.is_over ≡ false }
+    requires tally { IsSomeTally extent tally.old.is_over tally.old.done tally.old.rows.items }
+    ensures tally { OnOk result (IsSomeTally extent tally.new.is_over tally.new.done tally.new.rows.items) }
+    ensures more { OnOk result (tally.new.is_over ≡ false → tally.old.done < tally.new.done) }
 {
     for index in 0..slots.len() {
-        let before = done + index as u32;
-        let ending = ending_in(guest, slots[index].take(), first + before)?;
-        add_ending(guest.alloc, rows, first, before, ending)?;
+        let made = slots[index].take();
+        if made.is_none() && extent.is_out_of_time(observer, tally.done) {
+            tally.is_over = true;
+            return Ok(());
+        }
+        let ending = ending_in(guest, made, extent.first + tally.done)?;
+        add_ending(guest.alloc, extent, ending, tally)?;
+        if tally.is_over {
+            return Ok(());
+        }
     }
     Ok(())
 }
@@ -67,17 +101,21 @@ fn ending_in(guest: &Guest<'_>, slot: Option<Ending>, number: u32) -> Result<End
 /// Adds the next ending.
 fn add_ending(
     alloc: Global,
-    rows: &mut Vec<Row>,
-    first: u32,
-    done: u32,
+    extent: Extent,
     ending: Ending,
+    tally: &mut Tally,
 ) -> Result<(), OutOfMemory>
-    requires few { first + (done + 1) < 2 ^ 32 }
-    requires table { IsSomeTable first done rows.old.items }
-    ensures { OnOk result (IsSomeTable first (done + 1) rows.new.items) }
+    requires few { extent.first + extent.most < 2 ^ 32 }
+    requires more { tally.old.done < extent.most }
+    requires going { tally.old.is_over ≡ false }
+    requires tally { IsSomeTally extent tally.old.is_over tally.old.done tally.old.rows.items }
+    ensures tally { OnOk result (IsSomeTally extent tally.new.is_over tally.new.done tally.new.rows.items) }
+    ensures more { OnOk result (tally.new.done ≡ tally.old.done + 1) }
 {
-    let one = row_of(alloc, ending, first + done)?;
-    join(rows, one)?;
+    tally.is_over = extent.until.is_over_with(&tally.rows, &ending);
+    let one = row_of(alloc, ending, extent.first + tally.done)?;
+    join(&mut tally.rows, one)?;
+    tally.done += 1;
     Ok(())
 }
 

@@ -1,11 +1,7 @@
-use Rattle.std.proofs.Common.{List, arith, subst, sym}
-use Rattle.plan_hunt.specs.declared.row.Row.{Row}
-use Rattle.weak_hunter.specs.WeakHunts.{IsSomeTable}
 use Rattle.weak_hunter.proofs.Tabled.{no_endings}
 use Rattle.weak_hunter.proofs.tabulating.tabulate.Goals as goal
 
-pub loop-done-init : goal.loop-done-init
-loop-done-init g c = record {
-  done = omega arith;
-  table = subst (λ (rows : List Row). IsSomeTable c.args.first 0 rows) (sym c.new-rows.ensures.items) (no_endings c.args.first);
-}
+pub loop-tally-init : goal.loop-tally-init
+loop-tally-init g c =
+    let t = c.new-tally.ensures in
+    rw (t.is_over, t.done) (no_endings c.args.extent c.new-tally.result.rows.items t.rows)
