@@ -41,9 +41,16 @@ early and stores early or late, in place of plans. The first line ends in
 execution. There, 'running' says that the limit of rounds was reached, or that
 of --steps, which counts those of all harts.
 
+--until bad ends the hunt with the first plan by which a hart runs on, was
+stopped by a fault or exited with another value than 0, and --until differ with
+the first whose ending is another than that of plan FIRST. With --seconds N no
+plan is begun after N seconds. The table is that of the plans from FIRST on that
+were done then, without a gap, and its first line has their COUNT.
+
 Standard error has for each ending the line that runs the program by its first
 plan, with all options that matter; with --weak, dethart execution --weak:
   ending K: dethart run IMAGE .. --rounds 10000 --plan-number PLAN --seed S
+With --progress it has 'found ' and the same line as soon as an ending is known.
 
 A refusal is the line 'error N' on standard error, with the exit status 1;
 dethart run --help lists what each N means.
@@ -54,6 +61,7 @@ or, as --fail-on says, 4:
           exit
   bad     by some plan a hart runs on, was stopped by a fault or exited with
           another value than 0
+  differ,bad  one of the two
   never   in no case, for slices of a hunt that dethart merge puts together";
 
 /// What `shrink` does.
@@ -92,12 +100,14 @@ Example:
 Each TABLE is what dethart hunt or dethart merge printed, of one program with
 the same options. They may be given in any order; the plans of each have to go
 on where those of another one end. What is printed is the table of one hunt over
-all these plans.
+all these plans. Standard error has for each ending the line that runs the
+program so, with IMAGE for its file, and says where a hart loops or runs on.
 
 A refusal is the line 'error N' on standard error, with the exit status 1;
 dethart run --help lists what each N means.
 
-Exit status: 0 the table was printed, 1 a refusal, 2 a bad command line.";
+Exit status: 1 a refusal, 2 a bad command line. Where the table was printed, 0
+or, as --fail-on says, 4: dethart hunt --help has the words.";
 
 /// What `plan` does.
 pub static PLAN_ABOUT: &str = "Prints plan N of the family that the seed stands for.";

@@ -33,7 +33,7 @@ COMMAND and dethart version print the same as --help, COMMAND --help and
 Exit status: 0 what was asked for was printed or written, 1 a refusal (error N),
 2 a bad command line, 3 dethart replay found another run than the recorded one,
 or dethart check an execution that is none or that RVWMO doesn't allow, 4
-dethart hunt found more endings than one, or one in which not all harts
-exited (--fail-on says when else), or dethart run --strict found a hart that
-didn't exit with value 0, or dethart fences found a fault that no fence mends,
+dethart hunt or merge found more endings than one, or one in which a hart
+didn't exit with value 0 (--fail-on says when else), or dethart run --strict
+found such a hart, or dethart fences found a fault that no fence mends,
 or harts that run on, 5 dethart fences found a missing fence.";

@@ -18,6 +18,8 @@ use Rattle.command_line.specs.declared.settings.Fences.{Fences}
 use Rattle.command_line.specs.declared.settings.FencesFailOn.{FencesFailOn}
 use Rattle.command_line.specs.declared.settings.FencesFailOn.TheVariants as fences_fail_on
 use Rattle.command_line.specs.declared.settings.Hunt.{Hunt}
+use Rattle.command_line.specs.declared.settings.HuntUntil.{HuntUntil}
+use Rattle.command_line.specs.declared.settings.HuntUntil.TheVariants as until
 use Rattle.command_line.specs.declared.settings.Merge.{Merge}
 use Rattle.command_line.specs.declared.settings.Gdb.{Gdb}
 use Rattle.command_line.specs.declared.settings.Migrate.{Migrate}
@@ -107,11 +109,21 @@ shown_in text = if bytes_eq text (codes "report") then Some shown.Report
 abbrev pub shown_given : List Row → Option Shown
 shown_given rows = option_and_then shown_in (first_of (codes "show") rows)
 
--- the word after --fail-on says which endings give another exit status
+-- the words after --fail-on, joined by a comma, say which endings give another exit status
 abbrev pub fail_on_in : Text → Option FailOn
 fail_on_in text = if bytes_eq text (codes "differ") then Some fail_on.Differ
     else if bytes_eq text (codes "bad") then Some fail_on.Bad
+    else if bytes_eq text (codes "differ,bad") || bytes_eq text (codes "bad,differ") then Some fail_on.Either
     else if bytes_eq text (codes "never") then Some fail_on.Never else None
+
+-- the word after --until says with which ending a hunt is over
+abbrev pub until_in : Text → Option HuntUntil
+until_in text = if bytes_eq text (codes "bad") then Some until.Bad
+    else if bytes_eq text (codes "differ") then Some until.Differ else None
+
+-- what `hunt` is given after --until
+abbrev pub until_given : List Row → Option HuntUntil
+until_given rows = option_and_then until_in (first_of (codes "until") rows)
 
 -- what `hunt` is given after --fail-on
 abbrev pub fail_on_given : List Row → Option FailOn
@@ -232,7 +244,9 @@ pub record HoldsHunt (rows : List Row) (hunt : Hunt) : Type 0 where
   pub search : HoldsSearch rows hunt.search
   pub plans : hunt.plans ≡ number_or 1000 (one_of (codes "plans") rows)
   pub first : hunt.first ≡ number_or 0 (one_of (codes "first") rows)
-  pub fail_on : hunt.fail_on ≡ unwrap_or (fail_on_given rows) fail_on.Differ
+  pub fail_on : hunt.fail_on ≡ unwrap_or (fail_on_given rows) fail_on.Either
+  pub until : hunt.until ≡ until_given rows
+  pub seconds : hunt.seconds ≡ number_given 32 (one_of (codes "seconds") rows)
   pub weak : hunt.weak ≡ is_set (codes "weak") rows
   pub steps : hunt.steps ≡ number_or 100000000 (one_of (codes "steps") rows)
 
@@ -252,6 +266,7 @@ pub record HoldsShrink (rows : List Row) (shrink : Shrink) : Type 0 where
 
 pub record HoldsMerge (rows : List Row) (merge : Merge) : Type 0 where
   pub tables : map (λ s. s.now) merge.tables.items ≡ texts_given (codes "table") rows
+  pub fail_on : merge.fail_on ≡ unwrap_or (fail_on_given rows) fail_on.Either
 
 pub record HoldsPlan (rows : List Row) (plan : Plan) : Type 0 where
   pub number : plan.number ≡ number_or 0 (one_of (codes "number") rows)

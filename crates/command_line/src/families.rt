@@ -1,13 +1,15 @@
 //! What the matches of the subcommands that go over plans of a family say.
-ghost use Rattle.std.specs.Prelude.{◌≡◌, IfOk};
+ghost use Rattle.std.specs.Prelude.{◌≡◌, IfOk, unwrap_or};
 ghost use Rattle.clap.specs.Words.{found_of, rows_of};
-ghost use Rattle.command_line.specs.Reading.{HoldsHunt, HoldsMerge, HoldsPlan, HoldsSearch, HoldsShrink, fail_on_given, fail_on_in};
+ghost use Rattle.command_line.specs.Reading.{HoldsHunt, HoldsMerge, HoldsPlan, HoldsSearch, HoldsShrink, fail_on_given, fail_on_in, until_given, until_in};
+ghost use Rattle.command_line.specs.Faults.{has_bad_until};
+ghost use Rattle.command_line.specs.declared.settings.FailOn.TheVariants as fail_on;
 
 use crate::given::is_set;
-use crate::numbers::{number_of, wide_number_of};
+use crate::numbers::{number_given, number_of, wide_number_of};
 use crate::runs::program_of;
 use crate::seen::{seen_of, texts_of};
-use crate::settings::{FailOn, Hunt, Merge, Plan, Search, Shrink};
+use crate::settings::{FailOn, Hunt, HuntUntil, Merge, Plan, Search, Shrink};
 use clap::ArgMatches;
 use std::alloc::{AllocError, Global};
 
@@ -37,10 +39,19 @@ pub(crate) fn hunt_of<'a>(alloc: Global, matches: &ArgMatches<'a>) -> Result<Hun
         search,
         plans: number_of(matches, "plans", 1000),
         first: number_of(matches, "first", 0),
-        fail_on: fail_on_given(matches).unwrap_or(FailOn::Differ),
+        fail_on: fail_on_of(matches),
+        until: until_given(matches),
+        seconds: number_given(matches, "seconds"),
         weak: is_set(matches, "weak"),
         steps: number_of(matches, "steps", 100000000),
     })
+}
+
+/// Which endings `--fail-on` of `hunt` and `merge` says.
+fn fail_on_of(matches: &ArgMatches<'_>) -> FailOn
+    ensures { result ≡ unwrap_or (fail_on_given (rows_of (found_of matches.now))) fail_on.Either }
+{
+    fail_on_given(matches).unwrap_or(FailOn::Either)
 }
 
 /// What `hunt` is given after `--fail-on`.
@@ -53,7 +64,40 @@ fn fail_on_given(matches: &ArgMatches<'_>) -> Option<FailOn>
     }
 }
 
-/// Which endings the word after `--fail-on` of `hunt` says.
+/// What `hunt` is given after `--until`.
+fn until_given(matches: &ArgMatches<'_>) -> Option<HuntUntil>
+    ensures { result ≡ until_given (rows_of (found_of matches.now)) }
+{
+    match matches.get_str("until") {
+        Some(text) => until_in(text),
+        None => None,
+    }
+}
+
+/// Which ending the word after `--until` of `hunt` says.
+fn until_in(text: &str) -> Option<HuntUntil>
+    ensures { result ≡ until_in text.now }
+{
+    if text == "bad" {
+        Some(HuntUntil::Bad)
+    } else if text == "differ" {
+        Some(HuntUntil::Differ)
+    } else {
+        None
+    }
+}
+
+/// Whether the matches have a word after `--until` that says no ending.
+pub(crate) fn has_bad_until(matches: &ArgMatches<'_>) -> bool
+    ensures { result ≡ has_bad_until (rows_of (found_of matches.now)) }
+{
+    match matches.get_str("until") {
+        Some(text) => until_in(text).is_none(),
+        None => false,
+    }
+}
+
+/// Which endings the words after `--fail-on` of `hunt` say.
 pub(crate) fn fail_on_in(text: &str) -> Option<FailOn>
     ensures { result ≡ fail_on_in text.now }
 {
@@ -61,6 +105,8 @@ pub(crate) fn fail_on_in(text: &str) -> Option<FailOn>
         Some(FailOn::Differ)
     } else if text == "bad" {
         Some(FailOn::Bad)
+    } else if text == "differ,bad" || text == "bad,differ" {
+        Some(FailOn::Either)
     } else if text == "never" {
         Some(FailOn::Never)
     } else {
@@ -87,7 +133,8 @@ pub(crate) fn merge_of<'a>(alloc: Global, matches: &ArgMatches<'a>) -> Result<Me
     ensures { IfOk result (HoldsMerge (rows_of (found_of matches.now))) }
 {
     let tables = texts_of(alloc, matches, "table")?;
-    Ok(Merge { tables })
+    let fail_on = fail_on_of(matches);
+    Ok(Merge { tables, fail_on })
 }
 
 /// What the matches of `plan` say.

@@ -16,6 +16,7 @@ pub use asking::asked_by_options;
 pub use numbers::address_in;
 pub use parsing::parse_line;
 pub use settings::{
-    Bytes, Check, Command, Draw, Execution, FailOn, Fences, FencesFailOn, Gdb, Hunt, Merge,
-    Migrate, Plan, PlanChoice, Print, Program, Record, Replay, Run, Search, Shown, Shrink, Watch,
+    Bytes, Check, Command, Draw, Execution, FailOn, Fences, FencesFailOn, Gdb, Hunt, HuntUntil,
+    Merge, Migrate, Plan, PlanChoice, Print, Program, Record, Replay, Run, Search, Shown, Shrink,
+    Watch,
 };

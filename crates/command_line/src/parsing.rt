@@ -6,7 +6,7 @@ ghost use Rattle.command_line.specs.Faults.{has_bad_address, has_bad_word, has_n
 ghost use Rattle.command_line.specs.Reading.{HoldsCheck, HoldsGdb, HoldsLine, HoldsMigrate, HoldsNamed, HoldsReplay, HoldsWatch, IsSubcommand, address_given, asks_of_a_hart, is_unread};
 
 use crate::contradictions::contradiction;
-use crate::families::{hunt_of, merge_of, plan_of, shrink_of};
+use crate::families::{has_bad_until, hunt_of, merge_of, plan_of, shrink_of};
 use crate::fences::{fences_of, has_bad_fail_on};
 use crate::given::{is_given, is_set};
 use crate::numbers::{address_in, number_given, number_of, wide_given, wide_number_of};
@@ -30,7 +30,11 @@ const BAD_BYTES: &str =
 const BAD_SHOW: &str = "invalid value for '--show <WHAT>': it is report, output or harts";
 
 /// What is said of a WHAT after `--fail-on` that is none.
-const BAD_FAIL_ON: &str = "invalid value for '--fail-on <WHAT>': it is differ, bad or never";
+const BAD_FAIL_ON: &str =
+    "invalid value for '--fail-on <WHAT>': it is differ, bad, differ,bad or never";
+
+/// What is said of a WHAT after `--until` that is none.
+const BAD_UNTIL: &str = "invalid value for '--until <WHAT>': it is bad or differ";
 
 /// What is said of a WHAT after `--fail-on` of `fences` that is none.
 const BAD_FENCES_FAIL_ON: &str = "invalid value for '--fail-on <WHAT>': it is missing or never";
@@ -184,6 +188,8 @@ fn bad_word(name: &str, matches: &ArgMatches<'_>) -> Option<&'static str>
         Some(BAD_SHOW)
     } else if has_bad_fail_on(name, matches) {
         Some(bad_fail_on(name))
+    } else if has_bad_until(matches) {
+        Some(BAD_UNTIL)
     } else if has_bad_form(matches) {
         Some(BAD_FORM)
     } else {

@@ -247,8 +247,19 @@ pub enum FailOn {
     Differ,
     /// Those with an ending in which a hart runs on, was stopped by a fault, or exited with another value than 0.
     Bad,
+    /// Those with one of the two.
+    Either,
     /// None.
     Never,
+}
+
+/// With which ending a hunt is over before its last plan.
+#[derive(Clone, Copy, Drop)]
+pub enum HuntUntil {
+    /// The first in which a hart runs on, was stopped by a fault, or exited with another value than 0.
+    Bad,
+    /// The first that is another than that of the first plan.
+    Differ,
 }
 
 /// The words after `hunt`.
@@ -262,6 +273,10 @@ pub struct Hunt<'a> {
     pub first: u32,
     /// Which tables give another exit status.
     pub fail_on: FailOn,
+    /// With which ending the hunt is over before its last plan, if with one.
+    pub until: Option<HuntUntil>,
+    /// After how many seconds no plan is begun, if there is such a limit.
+    pub seconds: Option<u32>,
     /// The numbers are those of executions that RVWMO allows, in which loads come early and stores late, and not of plans.
     pub weak: bool,
     /// How many steps an execution has at most. The line gives none where it isn't weak.
@@ -312,6 +327,8 @@ pub struct Shrink<'a> {
 pub struct Merge<'a> {
     /// The paths of the tables, in the order of the line.
     pub tables: Vec<&'a str>,
+    /// Which tables give another exit status.
+    pub fail_on: FailOn,
 }
 
 /// The words after `plan`.

@@ -143,12 +143,18 @@ trace_rules = defaulted_rule (codes "as") (codes "perfetto") ∷ []
 abbrev pub search_rules : List Rule
 search_rules = wide_number_rule (codes "seed") (codes "1") ∷ see_rule ∷ object_rule ∷ []
 
--- which plans of the family these are, and which endings the exit status tells of
+-- which endings the exit status tells of
+abbrev pub fail_on_rule : Rule
+fail_on_rule = defaulted_rule (codes "fail-on") (codes "differ,bad")
+
+-- which plans of the family these are, which endings the exit status tells of, and where the hunt is over before its last plan
 abbrev pub hunt_rules : List Rule
 hunt_rules =
     number_rule (codes "plans") (codes "1000")
     ∷ number_rule (codes "first") (codes "0")
-    ∷ defaulted_rule (codes "fail-on") (codes "differ")
+    ∷ fail_on_rule
+    ∷ text_rule (codes "until")
+    ∷ number_given_rule (codes "seconds")
     ∷ []
 
 -- which executions are looked at for missing fences, and how far, which tables the exit status tells of, where the executions that are told
@@ -174,7 +180,7 @@ shrink_rules = number_wanted_rule (codes "plan-number") ∷ []
 
 -- what `merge` takes
 abbrev pub merge_rules : List Rule
-merge_rules = several_rule (codes "table") ∷ []
+merge_rules = several_rule (codes "table") ∷ fail_on_rule ∷ []
 
 -- what `plan` takes
 abbrev pub family_rules : List Rule

@@ -29,16 +29,25 @@ static SEARCHING: [Argument<'static>; 7] = [
     SAME_OF_OBJECT,
 ];
 
+/// The option `--fail-on WHAT` of a table of endings.
+const FAIL_ON: Argument<'static> = Argument::Defaulted(
+    "fail-on",
+    "WHAT",
+    "differ,bad",
+    "Exit with 4 on: differ, bad or never",
+);
+
 /// Which plans of the family a program is run by.
-static HUNT: [Argument<'static>; 5] = [
+static HUNT: [Argument<'static>; 7] = [
     Argument::Number(NARROW, "plans", "1000", "Plans: 1 to 4294967295"),
     Argument::Number(NARROW, "first", "0", "Number of the first plan"),
-    Argument::Defaulted(
-        "fail-on",
+    FAIL_ON,
+    Argument::Text(
+        "until",
         "WHAT",
-        "differ",
-        "Exit with 4 on: differ, bad or never",
+        "End with the first that ends so: bad or differ",
     ),
+    Argument::NumberGiven(NARROW, "seconds", "Begin no plan after so many seconds"),
     WEAK,
     STEPS,
 ];
@@ -79,11 +88,14 @@ static SHRINK: [Argument<'static>; 1] = [Argument::NumberWanted(
 )];
 
 /// The tables of hunts.
-static MERGE: [Argument<'static>; 1] = [Argument::Several(
-    "table",
-    "TABLE",
-    "A file that dethart hunt or dethart merge printed",
-)];
+static MERGE: [Argument<'static>; 2] = [
+    Argument::Several(
+        "table",
+        "TABLE",
+        "A file that dethart hunt or dethart merge printed",
+    ),
+    FAIL_ON,
+];
 
 /// A plan of the family, and for how many harts.
 static PLAN: [Argument<'static>; 3] = [
