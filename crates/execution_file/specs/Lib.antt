@@ -6,3 +6,4 @@ pub mod Views
 pub mod Refusals
 pub mod Deeds
 pub mod Turns
+pub mod Sorting

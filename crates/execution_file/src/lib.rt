@@ -8,6 +8,7 @@ mod file;
 mod lists;
 mod naming;
 mod numbers;
+mod operations;
 mod parts;
 mod reading;
 mod words;
@@ -15,7 +16,7 @@ mod writing;
 
 pub use cause::{Cause, ReadError, Refusal};
 pub use file::{ExecutionFile, HartDeeds, Turn};
-pub use naming::is_named;
+pub use naming::{Named, order_named, turns_of};
 pub use parts::{are_said, deeds, number_shown};
 pub use reading::{one_execution, read_execution};
 pub use writing::write_execution;

@@ -1,78 +1,70 @@
-//! Whether turns name the memory operations of an order.
+//! Orders of memory operations as turns, and as indexes in the list of events.
 
-ghost use Rattle.std.specs.Prelude.{◌≡◌, ◌↔◌, ◌+◌, ◌<◌, ◌≤◌, ◌^◌, IfOk, MatchOption, length, map, max, true};
+ghost use Rattle.std.specs.Prelude.{◌≡◌, ◌<◌, ℕ, List, [], ◌∷◌, ◌++◌, length, map, slice_index_or, slice_set, IfOk, MatchOption, OnOk};
+ghost use Rattle.round_schedule.specs.declared.event.Event.{Event as EventSeen};
 ghost use Rattle.round_schedule.specs.Positions.{event};
-ghost use Rattle.memory_order.specs.Orders.{ListsOperations};
-ghost use Rattle.memory_order.specs.Checking.{IsRanking};
 ghost use Rattle.execution_file.specs.Views.{turn_view};
-ghost use Rattle.execution_file.specs.Turns.{AreNames};
+ghost use Rattle.execution_file.specs.Turns.{IsNamed, Names};
+ghost use Rattle.execution_file.specs.Sorting.{AreSorted, IsAdded, IsEmpty};
 
 use crate::file::Turn;
-use memory_order::{is_operation_at, of_hart, position_of, positions, set_of_hart};
+use crate::operations::Operations;
+use memory_order::{is_operation, is_operation_at};
 use pages::OutOfMemory;
 use round_schedule::Event;
 use std::alloc::Global;
 
-/// The memory operations of a hart so far, in program order.
-#[derive(Clone, Copy)]
-struct Passed {
-    /// How many there are.
-    count: usize,
-    /// One more than the last position in the order that one of them has; 0 where there is none.
-    latest: usize,
+/// What turns name.
+#[derive(Drop)]
+pub enum Named {
+    /// The memory operations of an order, by their indexes in the list of events.
+    Order(Vec<usize>),
+    /// The turn at this index is the first that names none.
+    NoOperation(usize),
 }
 
-/// Whether turns name an order of the memory operations. Where it leaves some out, or has one twice, the answer means nothing.
+/// The order of memory operations that turns name, one after another: each the operation of its number of its hart, and without one
+/// the hart's first that isn't named yet. An operation may be named twice, or never.
 ///
 /// # Errors
 ///
 /// `OutOfMemory` alone.
-pub fn is_named(
-    alloc: Global,
-    events: &[Event],
-    turns: &[Turn],
-    order: &[usize],
-) -> Result<bool, OutOfMemory>
-    ensures { IfOk result (λ yes. ListsOperations events.now order.now →
-        (yes ≡ true ↔ AreNames (map turn_view turns.now) events.now order.now)) }
+pub fn order_named(alloc: Global, events: &[Event], turns: &[Turn]) -> Result<Named, OutOfMemory>
+    ensures { IfOk result (IsNamed (map turn_view turns.now) events.now) }
 {
-    if turns.len() != order.len() {
-        return Ok(false);
-    }
-    match positions(alloc, events, order)? {
-        Some(ranks) => are_names(alloc, events, turns, order, &ranks),
-        None => Ok(true),
-    }
-}
-
-/// The same, from the position of each event in the order.
-fn are_names(
-    alloc: Global,
-    events: &[Event],
-    turns: &[Turn],
-    order: &[usize],
-    ranks: &[usize],
-) -> Result<bool, OutOfMemory>
-    requires as_many { length turns.now ≡ length order.now }
-    requires ranking { IsRanking events.now order.now ranks.now }
-    ensures { IfOk result (λ yes. yes ≡ true ↔ AreNames (map turn_view turns.now) events.now order.now) }
-{
-    let mut passed = vec![in alloc; Passed {
-        count: 0,
-        latest: 0
-    }; 256]?;
-    for i in 0..events.len() {
-        if is_operation_at(events, i) {
-            let hart = hart_at(events, i);
-            let rank = position_of(events, order, ranks, i);
-            let before = of_hart(&passed, hart);
-            if rank >= turns.len() || !names(&turns[rank], hart, before, rank) {
-                return Ok(false);
-            }
-            set_of_hart(&mut passed, hart, after(before, rank));
+    let mut all = operations_of(alloc, events)?;
+    let mut order = Vec::new(alloc);
+    for number in 0..turns.len() {
+        match take(&mut all, &turns[number]) {
+            Some(index) => order.push(index)?,
+            None => return Ok(Named::NoOperation(number)),
         }
     }
-    Ok(true)
+    Ok(Named::Order(order))
+}
+
+/// Names the operation that a turn names.
+fn take(all: &mut Vec<Operations>, turn: &Turn) -> Option<usize>
+    requires { length all.old.items ≡ 256 }
+    ensures names { (t : List EventSeen) (g : List ℕ) → AreSorted t g all.old.items →
+        MatchOption result ((a : ℕ) → Names (turn_view turn.now) t g a → ⊥)
+        (λ a. Names (turn_view turn.now) t g a × AreSorted t (g ++ a ∷ []) all.new.items) }
+    ensures harts { length all.new.items ≡ 256 }
+{
+    all[usize::from(turn.hart)].take(turn)
+}
+
+/// The memory operations of each hart.
+fn operations_of(alloc: Global, events: &[Event]) -> Result<Vec<Operations>, OutOfMemory>
+    ensures { IfOk result (λ all. AreSorted events.now [] all.items) }
+{
+    let mut all = lists_of(alloc)?;
+    for index in 0..events.len() {
+        if is_operation_at(events, index) {
+            add_operation(&mut all, hart_at(events, index), index)?;
+        }
+    }
+    Ok(all)
 }
 
 /// The hart of an event.
@@ -83,29 +75,85 @@ fn hart_at(events: &[Event], i: usize) -> u8
     events[i].hart
 }
 
-/// Whether a turn names the operation of a hart at a position in the order.
-fn names(turn: &Turn, hart: u8, before: Passed, rank: usize) -> bool
-    ensures { result ≡ true ↔ (turn.now.hart ≡ hart) ×
-        MatchOption turn.now.number (before.latest ≤ rank) (λ n. n ≡ before.count) }
+/// An empty list for each hart.
+fn lists_of(alloc: Global) -> Result<Vec<Operations>, OutOfMemory>
+    ensures harts { IfOk result (λ all. length all.items ≡ 256) }
+    ensures empty { IfOk result (λ all. (h : ℕ) (d : Operations) → h < 256 →
+        IsEmpty (slice_index_or all.items h d)) }
 {
-    if turn.hart != hart {
-        return false;
+    let mut all = Vec::new(alloc);
+    for _hart in 0..256usize {
+        all.push(Operations::new(alloc))?;
     }
-    match turn.number {
-        Some(number) => number == before.count as u64,
-        None => before.latest <= rank,
-    }
+    Ok(all)
 }
 
-/// The same with one more operation, at a position in the order.
-fn after(before: Passed, rank: usize) -> Passed
-    requires few { before.count + 1 < 2 ^ 64 }
-    requires within { rank + 1 < 2 ^ 64 }
-    ensures count { result.count ≡ before.count + 1 }
-    ensures latest { result.latest ≡ max before.latest (rank + 1) }
+/// Adds a hart's memory operation, by its index.
+fn add_operation(all: &mut Vec<Operations>, hart: u8, index: usize) -> Result<(), OutOfMemory>
+    requires { length all.old.items ≡ 256 }
+    ensures { OnOk result ((new : Operations) × (all.new.items ≡ slice_set all.old.items hart new) ×
+        IsAdded index (slice_index_or all.old.items hart new) new) }
 {
-    Passed {
-        count: before.count + 1,
-        latest: before.latest.max(rank + 1),
+    all[usize::from(hart)].add(index)
+}
+
+/// The turns of an order: its harts, and for an operation that isn't the first one left of its hart its number.
+///
+/// # Errors
+///
+/// `OutOfMemory` alone.
+pub fn turns_of(
+    alloc: Global,
+    events: &[Event],
+    order: &[usize],
+) -> Result<Vec<Turn>, OutOfMemory> {
+    let mut all = operations_of(alloc, events)?;
+    let numbers = numbers_of(alloc, events)?;
+    let mut turns = Vec::with_capacity(alloc, order.len())?;
+    for index in order {
+        if let Some(turn) = turn_of(events, &numbers, &mut all, *index) {
+            turns.push(turn)?;
+        }
     }
+    Ok(turns)
+}
+
+/// The turn of the operation at an index, which has this number among those of its hart; it is named.
+fn turn_of(
+    events: &[Event],
+    numbers: &[u64],
+    all: &mut Vec<Operations>,
+    index: usize,
+) -> Option<Turn> {
+    let hart = events.get(index)?.hart;
+    let number = *numbers.get(index)?;
+    let operations = all.get_mut(usize::from(hart))?;
+    let is_first = operations.first_left() as u64 == number;
+    let _index = operations.name(number);
+    Some(Turn {
+        hart,
+        number: if is_first { None } else { Some(number) },
+    })
+}
+
+/// For each event how many memory operations its hart had done before.
+fn numbers_of(alloc: Global, events: &[Event]) -> Result<Vec<u64>, OutOfMemory> {
+    let mut counts = vec![in alloc; 0u64; 256]?;
+    let mut numbers = Vec::with_capacity(alloc, events.len())?;
+    for event in events {
+        numbers.push(number_of(&mut counts, event))?;
+    }
+    Ok(numbers)
+}
+
+/// How many memory operations the hart of an event had done before, which is counted with them.
+fn number_of(counts: &mut [u64], event: &Event) -> u64 {
+    let Some(count) = counts.get_mut(usize::from(event.hart)) else {
+        return 0;
+    };
+    let number = *count;
+    if is_operation(event) {
+        *count = number.wrapping_add(1);
+    }
+    number
 }

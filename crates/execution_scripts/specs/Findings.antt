@@ -1,10 +1,9 @@
 -- What is found of a file.
-use Rattle.std.specs.Prelude.{◌≡◌, ℕ, if◌then◌else◌, List, length, map, slice_index, Option}
+use Rattle.std.specs.Prelude.{◌≡◌, ◌≢◌, ◌⊎◌, ℕ, if◌then◌else◌, List, length, map, slice_index, Option}
 use Rattle.elf_loader.specs.Image.{Loaded}
 use Rattle.round_planner.specs.declared.settings.Format.TheVariants.{Elf, Flat}
 use Rattle.round_planner.specs.Settings.{image_of}
 use Rattle.guest_rounds.specs.Guests.{Guest, opening_guest}
-use Rattle.memory_order.specs.Orders.{ListsOperations}
 use Rattle.execution.specs.Executions.{Standing}
 use Rattle.execution.specs.declared.step.ScriptedStep.{ScriptedStep}
 use Rattle.execution.specs.Progressing.{at_start}
@@ -15,10 +14,13 @@ use Rattle.execution_views.specs.Walks.{AreSights}
 use Rattle.trace.specs.Traced.{opening_at}
 use Rattle.execution_file.specs.Recorded.{HartDeeds, Recorded, Turn}
 use Rattle.execution_file.specs.Deeds.{deeds}
-use Rattle.execution_file.specs.Turns.{AreNames}
+use Rattle.execution_file.specs.Turns.{AreNames, NamesNone}
 use Rattle.execution_scripts.specs.declared.checking.Checked.{Checked}
 use Rattle.execution_scripts.specs.declared.checking.Finding.{Finding}
 use Rattle.execution_scripts.specs.declared.checking.Finding.TheVariants.{Fault, Judged}
+use Rattle.execution_scripts.specs.declared.fault.Misfit.TheVariants.{Otherwise, NoOperation}
+use Rattle.execution_scripts.specs.declared.said.Said.{Said}
+use Rattle.execution_scripts.specs.declared.said.Said.TheVariants as said
 
 -- the image of a file
 abbrev pub image_in : Recorded → Loaded
@@ -32,10 +34,17 @@ guest_in r = opening_guest (image_in r) r.input (length r.harts)
 abbrev pub start_of : Guest → Standing
 start_of g = at_start g.harts g.shared.console
 
--- the harts do what is said of them: so many steps, these numbers read, and these ends. Where the order g has each memory operation
--- once, the turns name it
-abbrev pub IsAsSaid : List HartDeeds → List Turn → Standing → List ℕ → Type 0
-IsAsSaid parts turns q g = (parts ≡ deeds q.harts q.events) × (ListsOperations q.events g → AreNames turns q.events g)
+-- the harts do what is said of them: so many steps, these numbers read, and these ends; and the turns name the order g of their memory
+-- operations
+pub record IsAsSaid (parts : List HartDeeds) (turns : List Turn) (q : Standing) (g : List ℕ) : Type 0 where
+  pub harts : parts ≡ deeds q.harts q.events
+  pub order : AreNames turns q.events g
+
+-- the order that a file says of an execution; or why it says another one: a hart did otherwise, or a turn names no operation
+abbrev pub IsSaid : List HartDeeds → List Turn → Standing → Said → Type 0
+IsSaid parts turns q (said.Order g) = IsAsSaid parts turns q g.0.items
+IsSaid parts turns q (said.Fault f) =
+    ((f.misfit ≡ Otherwise) × (parts ≢ deeds q.harts q.events)) ⊎ ((f.misfit ≡ NoOperation) × (index : ℕ) × NamesNone turns q.events index)
 
 -- a verdict is on the execution of a guest that a script leads to, in an order of its memory operations; both are as is said; and what is
 -- seen is seen on the way of this execution

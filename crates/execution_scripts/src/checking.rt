@@ -1,21 +1,21 @@
-ghost use Rattle.std.specs.Prelude.{◌≡◌, ◌≢◌, ◌≤◌, [], if◌then◌else◌, length, IfOk, true};
+ghost use Rattle.std.specs.Prelude.{◌≡◌, ◌≢◌, ◌≤◌, [], All, if◌then◌else◌, length, IfOk};
 ghost use Rattle.guest_rounds.specs.Guests.{opening_guest};
-ghost use Rattle.trace.specs.Traced.{opening_at};
-ghost use Rattle.execution_checker.specs.Allowed.{IsVerdict};
+ghost use Rattle.trace.specs.Traced.{HasForm, opening_at};
+ghost use Rattle.execution_checker.specs.Allowed.{IsJudged as Judges, IsVerdict};
 ghost use Rattle.execution_checker.specs.declared.verdict.Verdict.{Verdict};
 ghost use Rattle.execution_file.specs.Views.{as_recorded};
 ghost use Rattle.execution_views.specs.Walks.{AreSights};
 ghost use Rattle.execution_scripts.specs.Findings.{IsAsSaid, IsFound, guest_in, image_in};
 ghost use Rattle.execution_scripts.specs.declared.checking.Finding.TheVariants.{Judged};
 
-use crate::fault::{Fault, Halt, Misfit};
+use crate::fault::{Fault, Halt};
 use crate::following::Follower;
 use crate::opening::open_execution;
-use crate::ordering::order_of;
+use crate::said::{Said, order_said, otherwise};
 use elf_loader::Image;
 use execution_checker::{Execution, ScriptedStep, Verdict};
-use execution_file::{ExecutionFile, are_said, deeds, is_named};
-use execution_views::{HartStep, Sights, check_seen};
+use execution_file::ExecutionFile;
+use execution_views::{HartStep, Sights, follow_seen};
 use host_io::RunError;
 use machine::{Format, load};
 use memory_order::Order;
@@ -54,8 +54,7 @@ pub struct Checked {
 ///
 /// The verdict is on the script and the execution that are handed back: on the file's image and its input, from its harts at the
 /// entry. In this execution each hart does as many steps as the file says, reads the file's numbers, and ends as the file says; and
-/// the order is the one that the file's turns name, where it has each memory operation once. That the calls stand in the file's order is
-/// no part of the contract.
+/// the order is the one that the file's turns name, whatever it has. That the calls stand in the file's order is no part of the contract.
 ///
 /// # Errors
 ///
@@ -116,11 +115,11 @@ fn check_over(
     ensures { IfOk result (λ c. IsFound (opening_guest image file.now.input.items harts) (as_recorded file.now).harts (as_recorded file.now).order asked c.finding c) }
 {
     let mut follower = Follower::open(alloc, &image, &file.input, &file.harts)?;
-    match order_followed(alloc, file, &mut follower) {
-        Ok(order) => {
+    match follower.follow(&file.calls) {
+        Ok(()) => {
             // The checker follows the script anew: what was followed here is as large, and is let go.
             let script = follower.into_script();
-            judge(alloc, file, image, script, order, harts, asked)
+            judge(alloc, file, image, script, harts, asked)
         }
         Err(halt) => halted(alloc, image, follower, halt),
     }
@@ -152,23 +151,12 @@ fn halted(
     })
 }
 
-/// Follows what a file says. The order that its turns name.
-fn order_followed(
-    alloc: Global,
-    file: &ExecutionFile,
-    follower: &mut Follower<'_>,
-) -> Result<Order, Halt> {
-    follower.follow(&file.calls)?;
-    order_of(alloc, follower.events(), file.harts.len(), &file.order)
-}
-
-/// Follows the script anew, by the checker.
+/// Follows the script anew, and judges what it leads to.
 fn judge(
     alloc: Global,
     file: &ExecutionFile,
     image: Image,
     script: Vec<ScriptedStep>,
-    order: Order,
     harts: u32,
     asked: Option<HartStep>,
 ) -> Result<Checked, RunError>
@@ -177,15 +165,12 @@ fn judge(
 {
     let mut execution = open_execution(alloc, &image, &file.input, harts)?;
     let opening = Trace::new(alloc, image.into_pieces());
-    let (finding, sights) = find(
-        alloc,
-        file,
-        &mut execution,
-        &script,
-        &opening,
-        &order,
-        asked,
-    )?;
+    let found = find(alloc, file, &mut execution, &script, &opening, asked)?;
+    let Found {
+        finding,
+        order,
+        sights,
+    } = found;
     Ok(Checked {
         finding,
         execution,
@@ -196,57 +181,70 @@ fn judge(
     })
 }
 
-/// What the checker finds of a script and an order, where nothing is done yet, and what is seen on the way.
+/// What is found of a script.
+#[derive(Drop)]
+struct Found {
+    finding: Finding,
+    /// The order that the file's turns name.
+    order: Order,
+    sights: Sights,
+}
+
+/// What is found of a script, where nothing is done yet.
 fn find(
     alloc: Global,
     file: &ExecutionFile,
     execution: &mut Execution,
     script: &[ScriptedStep],
     opening: &Trace,
-    order: &Order,
     asked: Option<HartStep>,
-) -> Result<(Finding, Sights), OutOfMemory>
+) -> Result<Found, OutOfMemory>
     requires no_instructions { execution.old.standing.instructions ≡ [] }
     requires no_events { execution.old.standing.events ≡ [] }
-    ensures verdict { IfOk result (λ f. (v : Verdict) → f.0 ≡ Judged v → IsVerdict v execution.old.memory
-        (opening_at opening.now.opening) script.now order.now.0.items execution.old.standing execution.new.standing) }
-    ensures as_said { IfOk result (λ f. (v : Verdict) → f.0 ≡ Judged v → IsAsSaid (as_recorded file.now).harts
-        (as_recorded file.now).order execution.new.standing order.now.0.items) }
-    ensures sights { IfOk result (λ f. AreSights execution.old.memory execution.old.standing execution.new.standing asked f.1) }
+    ensures verdict { IfOk result (λ f. (v : Verdict) → f.finding ≡ Judged v → IsVerdict v execution.old.memory
+        (opening_at opening.now.opening) script.now f.order.0.items execution.old.standing execution.new.standing) }
+    ensures as_said { IfOk result (λ f. (v : Verdict) → f.finding ≡ Judged v → IsAsSaid (as_recorded file.now).harts
+        (as_recorded file.now).order execution.new.standing f.order.0.items) }
+    ensures sights { IfOk result (λ f. AreSights execution.old.memory execution.old.standing execution.new.standing asked f.sights) }
 {
-    let (verdict, sights) = check_seen(alloc, execution, script, opening, order, asked)?;
-    let as_said = is_as_said(alloc, file, execution, order)?;
-    Ok((finding_of(verdict, as_said), sights))
-}
-
-/// What is found where a verdict is on what the file says, or on something else.
-fn finding_of(verdict: Verdict, as_said: bool) -> Finding
-    ensures { (v : Verdict) → result ≡ Judged v → (v ≡ verdict) × (as_said ≡ true) }
-{
-    if !as_said {
-        return Finding::Fault(Fault {
-            hart: 0,
-            step: 0,
-            misfit: Misfit::Otherwise,
-        });
+    execution.is_small();
+    let (broken, sights) = follow_seen(alloc, execution, script, asked)?;
+    match broken {
+        Some(_) => Ok(Found {
+            finding: Finding::Fault(otherwise()),
+            order: Order(Vec::new(alloc)),
+            sights,
+        }),
+        None => {
+            let (finding, order) = judge_said(alloc, file, execution, opening)?;
+            Ok(Found {
+                finding,
+                order,
+                sights,
+            })
+        }
     }
-    Finding::Judged(verdict)
 }
 
-/// Whether the harts of an execution did what a file says of them, and its turns name an order of their memory operations.
-fn is_as_said(
+/// What is found of an execution, and the order that the file's turns name.
+fn judge_said(
     alloc: Global,
     file: &ExecutionFile,
     execution: &Execution,
-    order: &Order,
-) -> Result<bool, OutOfMemory>
-    ensures { IfOk result (λ yes. yes ≡ true → IsAsSaid (as_recorded file.now).harts (as_recorded file.now).order
-        execution.now.standing order.now.0.items) }
+    opening: &Trace,
+) -> Result<(Finding, Order), OutOfMemory>
+    requires formed { All HasForm execution.now.standing.events }
+    requires along { length execution.now.standing.instructions ≡ length execution.now.standing.events }
+    ensures verdict { IfOk result (λ f. (v : Verdict) → f.0 ≡ Judged v →
+        Judges v (opening_at opening.now.opening) execution.now.standing f.1.0.items) }
+    ensures as_said { IfOk result (λ f. (v : Verdict) → f.0 ≡ Judged v → IsAsSaid (as_recorded file.now).harts
+        (as_recorded file.now).order execution.now.standing f.1.0.items) }
 {
-    let named = is_named(alloc, execution.events(), &file.order, &order.0)?;
-    if !named {
-        return Ok(false);
+    match order_said(alloc, file, execution)? {
+        Said::Order(order) => {
+            let verdict = execution_checker::judge(alloc, execution, opening, &order)?;
+            Ok((Finding::Judged(verdict), order))
+        }
+        Said::Fault(fault) => Ok((Finding::Fault(fault), Order(Vec::new(alloc)))),
     }
-    let did = deeds(alloc, execution.harts(), execution.events())?;
-    Ok(are_said(&file.harts, &did))
 }

@@ -250,11 +250,6 @@ impl<'a> Follower<'a> {
         }
     }
 
-    /// What was done, in the order of the steps.
-    pub(crate) fn events(&self) -> &[Event] {
-        self.execution.events()
-    }
-
     /// All that the file says: first the calls in their order, and then the harts, one after another.
     pub(crate) fn follow(&mut self, calls: &[Turn]) -> Result<(), Halt> {
         for turn in calls {

@@ -6,9 +6,9 @@ mod checking;
 mod fault;
 mod following;
 mod opening;
-mod ordering;
 mod paces;
 mod running;
+mod said;
 mod scripted;
 
 pub use checking::{Checked, Finding, check_file};
@@ -22,4 +22,5 @@ pub use execution_views::{
 pub use fault::{Fault, Misfit};
 pub use opening::open_execution;
 pub use running::execution_of_run;
+pub use said::{Said, order_said};
 pub use scripted::{ScriptedGuest, execution_of_script};

@@ -11,10 +11,9 @@ ghost use Rattle.execution_scripts.specs.RunFiles.{IsFileOf, IsFileWith, is_flat
 use crate::calls::{add_call, forget_plain};
 use crate::fault::Halt;
 use crate::following::Follower;
-use crate::ordering::turns_of;
 use crate::paces::Paces;
 use elf_loader::Image;
-use execution_file::{ExecutionFile, HartDeeds, Turn, deeds};
+use execution_file::{ExecutionFile, HartDeeds, Turn, deeds, turns_of};
 use host_io::RunError;
 use machine::{Format, Machine, Observer, Settings, load, prepare};
 use memory_order::memory_order;
@@ -136,7 +135,7 @@ fn order_by_rounds(
     events: &[Event],
 ) -> Result<Vec<Turn>, OutOfMemory> {
     let order = memory_order(alloc, machine.trace())?;
-    turns_of(alloc, events, machine.harts().len(), &order)
+    turns_of(alloc, events, &order.0)
 }
 
 /// A run as an execution.

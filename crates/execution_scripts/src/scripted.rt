@@ -4,10 +4,9 @@ ghost use Rattle.execution_scripts.specs.RunFiles.{IsFileFor};
 
 use crate::calls::{add_call, call_number, forget_plain, taken_at};
 use crate::opening::open_execution;
-use crate::ordering::turns_of;
 use crate::running::{copied, is_flat};
 use execution_checker::{Execution, ScriptedStep};
-use execution_file::{ExecutionFile, Turn, deeds};
+use execution_file::{ExecutionFile, Turn, deeds, turns_of};
 use host_io::RunError;
 use machine::{Format, load};
 use memory_order::Order;
@@ -81,7 +80,7 @@ fn file_of(
 {
     let calls = calls_of(alloc, execution, script)?;
     let harts = deeds(alloc, execution.harts(), execution.events())?;
-    let order = turns_of(alloc, execution.events(), guest.harts as usize, order)?;
+    let order = turns_of(alloc, execution.events(), &order.0)?;
     let (image, input) = copied(alloc, guest.image, guest.input)?;
     Ok(ExecutionFile {
         flat: is_flat(guest.format),

@@ -2,15 +2,14 @@
 //! sees it, and the operations of the order that touch some bytes.
 #![tactic(auto)]
 
-mod check;
 mod laws;
 mod moment;
 mod sights;
 mod touched;
 mod walk;
 
-pub use check::check_seen;
 pub use laws::loads_read_what_is_seen;
 pub use moment::{Moment, bytes_at, moment_of};
 pub use sights::{Before, HartStep, Sights};
 pub use touched::positions_sought;
+pub use walk::follow_seen;

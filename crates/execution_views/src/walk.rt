@@ -100,13 +100,13 @@ fn take_noted(
     }
 }
 
-/// Follows a script, as far as its harts have next steps: the index of the step whose hart has none, and why it has none; and what is
-/// seen on the way.
+/// Follows a script, as `follow` does, and what is seen on the way that it leads: the pc of each instruction, and a step of a hart, where
+/// one is asked for.
 ///
 /// # Errors
 ///
 /// `OutOfMemory` alone.
-pub(crate) fn walk(
+pub fn follow_seen(
     alloc: Global,
     execution: &mut Execution,
     script: &[ScriptedStep],

@@ -2,7 +2,7 @@ use Rattle.std.specs.Prelude.{take}
 use Rattle.execution.specs.Executions.{IsLike}
 use Rattle.execution_checker.specs.Allowed.{Follows}
 use Rattle.execution_views.specs.Walks.{AreNotes}
-use Rattle.execution_views.proofs.walk.walk.Given as goal
+use Rattle.execution_views.proofs.walk.follow_seen.Given as goal
 
 abbrev pub invariant-loop-index : goal.invariant-loop-index
 invariant-loop-index l = record {

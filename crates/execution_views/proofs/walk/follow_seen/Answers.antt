@@ -3,7 +3,7 @@ use Rattle.execution.proofs.Answering.{like_itself}
 use Rattle.execution_checker.specs.Allowed.{follows-none}
 use Rattle.execution_checker.proofs.Followed.{at_none, followed, followed_on}
 use Rattle.execution_views.proofs.Noting.{nothing_noted}
-use Rattle.execution_views.proofs.walk.walk.Goals as goal
+use Rattle.execution_views.proofs.walk.follow_seen.Goals as goal
 
 pub loop-index-init : goal.loop-index-init
 loop-index-init c = record {
