@@ -13,6 +13,9 @@ import rules  # noqa: E402
 # No file of the checks has harts that do more steps: one that would is passed over.
 MOST_STEPS = 10_000
 
+# The harts of a file do so many steps together at most.
+MOST_STEPS_SAID = 2**24
+
 
 class TooLong(Exception):
     """The harts of a file may do more steps than are tried here."""
@@ -132,10 +135,13 @@ class Reader:
         return Part(steps, code, value, self.listed(lambda: self.number(ALL_ONES)))
 
     def parts(self):
-        count, found = self.number(ALL_ONES), []
+        began, count, found = self.at, self.number(ALL_ONES), []
         self.word(b"\n")
         while len(found) < count:
             found.append(self.part(len(found)))
+        if sum(part.steps for part in found) > MOST_STEPS_SAID:
+            self.at = began
+            self.refuse(89)
         return found
 
     def file(self):
@@ -237,7 +243,9 @@ class Execution:
                 state.stop = stopped.args
             code, *value = state.stop
             if (code, value) != (part.code, [] if part.value is None else [part.value]):
-                self.misfit(hart, f"the hart stops here with code {code} and value {value[0] if value else 0}")
+                what = "exits" if value else "stops"
+                end = " ".join(["stop", *map(str, [code, *value])])
+                self.misfit(hart, f"the hart {what} here, and its line has another end than '{end}'")
         if self.said(hart) is not None:
             self.misfit(hart, "the hart is done, and its line has more numbers")
 

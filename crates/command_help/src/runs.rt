@@ -84,6 +84,7 @@ A refusal is the line 'error N' on standard error, with the exit status 1:
   86  execution: text is left after its parts
   87  an execution that dethart made of its number is refused: a fault of dethart
   88  execution: it is asked about rounds, and has none
+  89  execution: its harts do more than 16777216 steps together
 
 Exit status: 0 what was asked for was printed, 1 a refusal, 2 a bad command
 line, and with --strict 4 where a hart runs on, was stopped by a fault or exited

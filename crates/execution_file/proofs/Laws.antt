@@ -1,13 +1,13 @@
 -- What is read of a part is spelled so, and what is spelled so is read.
-use Rattle.std.proofs.Common.{◌≡◌, ℕ, zero, suc, ◌+◌, ◌-◌, ◌*◌, ◌/◌, ◌%◌, ◌^◌, ◌<◌, ◌≤◌, Bool, true, false, cond, leb, ltb, eqb, ◌&&◌, ◌||◌, List, [], ◌∷◌, ◌++◌, length, Option, Some, None, Result, Ok, Err, refl, sym, ap, subst, ◌∙◌, append_assoc, arith, length-append}
+use Rattle.std.proofs.Common.{◌≡◌, ℕ, zero, suc, ◌+◌, ◌*◌, ◌/◌, ◌%◌, ◌^◌, ◌<◌, Bool, true, false, cond, leb, eqb, ◌&&◌, List, [], ◌∷◌, ◌++◌, length, Option, Some, None, Result, Ok, Err, refl, sym, ap, subst, ◌∙◌, append_assoc, arith, length-append}
 use Rattle.std.specs.Prelude.{codes}
 use Rattle.std.specs.Fmt.{decimal}
 use Rattle.std.proofs.lemmas.Bool.Decides.{nat_tests}
 use Rattle.execution_file.specs.declared.cause.Cause.{Cause}
 use Rattle.execution_file.specs.declared.cause.Cause.TheVariants.{Cut, Malformed, OutOfRange}
 use Rattle.execution_file.specs.declared.cause.Refusal.{Refusal}
-use Rattle.execution_file.specs.Numerals.{is_digit, digits_at, after_digits, is_numeral, value_of}
-use Rattle.execution_file.specs.Formats.{Format, ◌>>=◌, ◌&◌, refused, taken_word, begun_or, ended, no_number, number, hex_digit, is_hex, hex_value, taken_byte, byte, seen, HaveEach, spelled_each, taken_each, each, items_of, with_count, counted, HaveAll, spelled_list, taken_list, listed, HasGiven, spelled_after, taken_after, after, broken}
+use Rattle.execution_file.specs.Numerals.{digits_at, after_digits, is_numeral, value_of}
+use Rattle.execution_file.specs.Formats.{Format, ◌>>=◌, ◌&◌, refused, taken_word, begun_or, ended, no_number, number, hex_digit, is_hex, hex_value, taken_byte, byte, seen, HaveEach, spelled_each, taken_each, each, items_of, with_count, counted, HaveAll, spelled_list, taken_list, listed, HasGiven, spelled_after, taken_after, after, broken, taken_limited, limited}
 use Rattle.execution_file.proofs.Numerals.{all_digits, digits_split, front_digits, front_after, numeral_is, decimal_numeral, decimal_digits, decimal_value}
 
 pub bind_ok : {A B : Type 0} (r : Result A Refusal) (f : A → Result B Refusal) (y : B) → (r >>= f) ≡ Ok y → (x : A) × (r ≡ Ok x) × (f x ≡ Ok y)
@@ -310,6 +310,18 @@ after_again c f l (Some x) rest h p = rw (eqb_same c, l.again x rest h p.other) 
 
 pub after_lawful : {A : Type 0} {P : List ℕ → Type 0} (c : ℕ) (f : Format A) → Lawful P f → Lawful (Without c f P) (after c f)
 after_lawful c f l = record { takes = after_takes c f l; again = after_again c f l }
+
+pub limited_lawful : {A : Type 0} {P : List ℕ → Type 0} (test : A → Bool) (cause : Cause) (f : Format A) → Lawful P f → Lawful P (limited test cause f)
+unfolding taken_limited
+limited_lawful test cause f l = record {
+  takes = λ bs z e.
+      let a = bind_ok (f.taken bs) (λ x. cond (test x.0) (Ok x) (refused cause bs)) z e in
+      let x = a.0 in
+      let g = pass_ok (test x.0) (Ok x) (refused cause bs) z a.2 (no_ok cause bs z) in
+      let t = l.takes bs x a.1 in
+      subst (λ w. (f.Has w.0 × (test w.0 ≡ true)) × (bs ≡ f.spelled w.0 ++ w.1)) (ok_is x z g.1) ((t.0, g.0), t.1);
+  again = λ x rest h p. rw (l.again x rest h.0 p, h.1) refl;
+}
 
 pub broken_lawful : {A : Type 0} (b : Bool) (f : Format A) → Lawful Any f → Lawful Any (broken b f)
 broken_lawful true f l = ended_lawful f (codes "\n") l (λ rest. tt)

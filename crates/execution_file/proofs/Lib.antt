@@ -6,3 +6,4 @@ pub mod Written
 pub mod WordLoops
 mod Doing
 mod NamedTurns
+mod Steps

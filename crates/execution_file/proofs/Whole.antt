@@ -1,19 +1,18 @@
 -- The laws of whole executions.
-use Rattle.std.proofs.Common.{◌≡◌, ℕ, ◌-◌, ◌^◌, ◌<◌, Bool, true, false, eqb, leb, List, [], ◌∷◌, ◌++◌, length, Option, Some, None, Result, Ok, Err, refl, sym, ap, subst, ◌∙◌, arith, lit<}
+use Rattle.std.proofs.Common.{◌≡◌, ℕ, ◌-◌, ◌^◌, Bool, true, false, eqb, leb, List, [], ◌++◌, length, Option, Some, None, Result, Ok, Err, refl, sym, ap, subst, ◌∙◌, arith, lit<}
 use Rattle.std.proofs.lemmas.Bool.Decides.{nat_tests}
 use Rattle.std.proofs.lemmas.Bool.{eqb-true}
 use Rattle.std.proofs.lemmas.List.{append-nil, nil_from_length}
 use Rattle.std.specs.Prelude.{codes, IfOk}
 use Rattle.std.specs.Fmt.{decimal}
-use Rattle.execution_file.specs.declared.cause.Cause.TheVariants.{NotAnExecution, Version, Cut, Malformed, TextLeft}
+use Rattle.execution_file.specs.declared.cause.Cause.TheVariants.{NotAnExecution, Version, Cut, Malformed, TextLeft, TooManySteps}
 use Rattle.execution_file.specs.declared.cause.Refusal.{Refusal}
 use Rattle.execution_file.specs.declared.cause.ReadError.{ReadError}
-use Rattle.execution_file.specs.Numerals.{digits_at}
-use Rattle.execution_file.specs.Formats.{Format, refused, byte, listed, spelled_after}
-use Rattle.execution_file.specs.Recorded.{Turn, HartDeeds, Recorded}
-use Rattle.execution_file.specs.Grammar.{small, word, double, flag, flag_of, number_of_flag, is_line_end, bytes, hart_turn, turn_from, turn_fields, hart_lines, hart_from, hart_fields, recorded_from, recorded_fields, execution, whole, reading, IsExecution}
+use Rattle.execution_file.specs.Formats.{refused, byte, listed, spelled_after}
+use Rattle.execution_file.specs.Recorded.{Recorded}
+use Rattle.execution_file.specs.Grammar.{small, word, double, flag, flag_of, number_of_flag, is_line_end, bytes, hart_turn, turn_from, turn_fields, hart_lines, hart_from, hart_fields, are_few_steps, harts_lines, recorded_from, recorded_fields, execution, whole, reading, IsExecution}
 use Rattle.execution_file.specs.Views.{Gives}
-use Rattle.execution_file.proofs.Laws.{Any, NoDigit, Without, Lawful, bind_ok, pass_ok, no_ok, ok_is, begun_lawful, number_lawful, byte_lawful, pair_lawful, seen_lawful, counted_lawful, listed_lawful, after_lawful, broken_lawful}
+use Rattle.execution_file.proofs.Laws.{Any, NoDigit, Without, Lawful, bind_ok, pass_ok, no_ok, ok_is, begun_lawful, number_lawful, byte_lawful, pair_lawful, seen_lawful, counted_lawful, listed_lawful, after_lawful, broken_lawful, limited_lawful}
 
 pub small_lawful : Lawful NoDigit small
 small_lawful = number_lawful 255 (lit< tt)
@@ -71,6 +70,9 @@ hart_lawful i = begun_lawful Cut Malformed (codes "hart " ++ decimal i) _ (seen_
     (λ x y rest p. refl))
     (λ x h. refl) (λ y. refl))
 
+pub harts_lawful : Lawful Any harts_lines
+harts_lawful = limited_lawful are_few_steps TooManySteps _ (counted_lawful (2 ^ 64 - 1) _ (lit< tt) (λ n k. hart_lawful k))
+
 -- ---- executions
 
 pub execution_lawful : Lawful Any execution
@@ -79,7 +81,7 @@ execution_lawful = begun_lawful NotAnExecution NotAnExecution (codes "execution 
     pair_lawful _ _ (begun_lawful Cut Malformed (codes "\npages ") word word_lawful) (λ pages.
     pair_lawful _ _ (begun_lawful Cut Malformed (codes "\nimage ") bytes bytes_lawful) (λ image.
     pair_lawful _ _ (begun_lawful Cut Malformed (codes "input ") bytes bytes_lawful) (λ input.
-    pair_lawful _ _ (begun_lawful Cut Malformed (codes "harts ") _ (counted_lawful (2 ^ 64 - 1) _ (lit< tt) (λ n k. hart_lawful k))) (λ harts.
+    pair_lawful _ _ (begun_lawful Cut Malformed (codes "harts ") harts_lines harts_lawful) (λ harts.
     pair_lawful _ _ (begun_lawful Cut Malformed (codes "calls") (listed hart_turn) turns_lawful) (λ calls.
     begun_lawful Cut Malformed (codes "order") (listed hart_turn) turns_lawful)
     (λ x y rest p. tt))

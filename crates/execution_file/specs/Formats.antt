@@ -100,6 +100,14 @@ seen to from f = record {
   taken = λ bs. f.taken bs >>= λ x. Ok (to x.0, x.1);
 }
 
+-- ---- the values of a format that pass a test; another one is refused where it begins
+
+unfoldable pub taken_limited : {A : Type 0} → (A → Bool) → Cause → Format A → List ℕ → Result (A × List ℕ) Refusal
+taken_limited test cause f bs = f.taken bs >>= λ x. if test x.0 then Ok x else refused cause bs
+
+abbrev pub limited : {A : Type 0} → (A → Bool) → Cause → Format A → Format A
+limited test cause f = record { Has = λ x. f.Has x × (test x ≡ true); spelled = f.spelled; taken = taken_limited test cause f }
+
 -- ---- a line that says how many values there are, and then values 0, 1, .. of them
 
 abbrev pub HaveEach : {A : Type 0} → ℕ → ℕ → (ℕ → Format A) → List A → Type 0

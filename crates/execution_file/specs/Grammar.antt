@@ -1,10 +1,11 @@
 -- The text of an execution: lines that end with LF, with decimal numbers, and bytes in hexadecimal, 32 of them a line.
-use Rattle.std.specs.Prelude.{◌≡◌, ℕ, ◌+◌, ◌-◌, ◌^◌, ◌%◌, ◌==◌, ◌||◌, Bool, true, false, if◌then◌else◌, List, [], ◌++◌, length, codes, Option, Result, Ok}
+use Rattle.std.specs.Prelude.{◌≡◌, ℕ, ◌+◌, ◌-◌, ◌^◌, ◌%◌, ◌==◌, ◌||◌, Bool, if◌then◌else◌, nat_le, List, ◌++◌, length, codes, Option, Result, Ok}
 use Rattle.std.specs.Fmt.{decimal}
-use Rattle.execution_file.specs.declared.cause.Cause.TheVariants.{NotAnExecution, Version, TextLeft}
+use Rattle.execution_file.specs.declared.cause.Cause.TheVariants.{NotAnExecution, Version, TextLeft, TooManySteps}
 use Rattle.execution_file.specs.declared.cause.Refusal.{Refusal}
-use Rattle.execution_file.specs.Formats.{Format, ◌>>=◌, ◌&◌, refused, taken_word, begun_or, begun, ended, number, byte, seen, counted, listed, after, broken}
-use Rattle.execution_file.specs.Recorded.{Turn, HartDeeds, Recorded}
+use Rattle.execution_file.specs.declared.file.TheConstants.{MOST_STEPS}
+use Rattle.execution_file.specs.Formats.{Format, ◌>>=◌, ◌&◌, refused, taken_word, begun_or, begun, number, byte, seen, counted, limited, listed, after, broken}
+use Rattle.execution_file.specs.Recorded.{Turn, HartDeeds, Recorded, steps_of}
 
 -- numbers of 8, 32 and 64 bits
 abbrev pub small : Format ℕ
@@ -59,6 +60,13 @@ hart_lines i = begun (codes "hart " ++ decimal i) (seen hart_from hart_fields
     after 32 double & λ value.
     begun (codes "\nread") (listed double)))
 
+-- how many harts there are, and then the lines of each. They do few steps together
+abbrev pub are_few_steps : List HartDeeds → Bool
+are_few_steps hs = nat_le (steps_of hs) MOST_STEPS
+
+abbrev pub harts_lines : Format (List HartDeeds)
+harts_lines = limited are_few_steps TooManySteps (counted (2 ^ 64 - 1) (λ n i. hart_lines i))
+
 -- an execution
 abbrev pub Fields : Type 0
 Fields = Bool × (ℕ × (List ℕ × (List ℕ × (List HartDeeds × (List Turn × List Turn)))))
@@ -87,7 +95,7 @@ execution = begun_or NotAnExecution NotAnExecution (codes "execution ") (begun_o
     begun (codes "\npages ") word & λ pages.
     begun (codes "\nimage ") bytes & λ image.
     begun (codes "input ") bytes & λ input.
-    begun (codes "harts ") (counted (2 ^ 64 - 1) (λ n i. hart_lines i)) & λ harts.
+    begun (codes "harts ") harts_lines & λ harts.
     begun (codes "calls") (listed hart_turn) & λ calls.
     begun (codes "order") (listed hart_turn))))
 

@@ -1,5 +1,5 @@
 -- An execution, as a file holds it.
-use Rattle.std.specs.Prelude.{ℕ, Bool, List, Option}
+use Rattle.std.specs.Prelude.{ℕ, ◌+◌, Bool, List, [], ◌∷◌, Option}
 
 -- a hart, and in an order which one of its accesses, or in calls which round answers it
 pub record Turn : Type 0 where
@@ -13,6 +13,11 @@ pub record HartDeeds : Type 0 where
   pub code : ℕ
   pub value : Option ℕ
   pub reads : List ℕ
+
+-- how many instructions harts do together
+abbrev pub steps_of : List HartDeeds → ℕ
+steps_of [] = 0
+steps_of (h ∷ hs) = h.steps + steps_of hs
 
 pub record Recorded : Type 0 where
   pub flat : Bool

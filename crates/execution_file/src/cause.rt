@@ -26,6 +26,9 @@ pub enum Cause {
     /// All parts are there, and text is left.
     #[error("text is left after the execution")]
     TextLeft,
+    /// The harts do more steps together than an execution may have.
+    #[error("the harts of the execution do more than 16777216 steps together")]
+    TooManySteps,
 }
 
 impl Cause {
@@ -40,6 +43,7 @@ impl Cause {
             Cause::Malformed => 84,
             Cause::OutOfRange => 85,
             Cause::TextLeft => 86,
+            Cause::TooManySteps => 89,
         }
     }
 }
@@ -65,7 +69,7 @@ pub enum ReadError {
 }
 
 impl ReadError {
-    /// The number of the refusal, as the program prints it: 81 to 86 for the text, and 20 for memory.
+    /// The number of the refusal, as the program prints it: 81 to 86 and 89 for the text, and 20 for memory.
     pub fn number(self) -> u32
         ensures { result ≡ refusal_number self }
     {

@@ -1,3 +1,6 @@
+/// How many steps the harts of an execution may do together: what is kept of them takes some 2 GB.
+pub const MOST_STEPS: u64 = 1 << 24;
+
 /// A hart's turn: at its next access or call, or at one of a number.
 #[derive(Clone, Copy)]
 pub struct Turn {

@@ -15,7 +15,7 @@ mod words;
 mod writing;
 
 pub use cause::{Cause, ReadError, Refusal};
-pub use file::{ExecutionFile, HartDeeds, Turn};
+pub use file::{ExecutionFile, HartDeeds, MOST_STEPS, Turn};
 pub use naming::{Named, order_named, turns_of};
 pub use parts::{are_said, deeds, number_shown};
 pub use reading::{one_execution, read_execution};

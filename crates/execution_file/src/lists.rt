@@ -1,11 +1,11 @@
 ghost use Rattle.std.specs.Prelude.{◌≡◌, ◌++◌, ◌-◌, ◌^◌, codes, map};
 ghost use Rattle.std.specs.Fmt.{decimal};
-ghost use Rattle.execution_file.specs.Grammar.{double, hart_lines, hart_turn};
+ghost use Rattle.execution_file.specs.Grammar.{are_few_steps, double, hart_lines, hart_turn, harts_lines};
 ghost use Rattle.execution_file.specs.Formats.{counted, each, listed, taken_word};
 ghost use Rattle.execution_file.specs.Views.{Gives, hart_view, turn_view};
 
 use crate::cause::{Cause, ReadError};
-use crate::file::{HartDeeds, Turn};
+use crate::file::{HartDeeds, MOST_STEPS, Turn};
 use crate::numbers::{number_after, number_at};
 use crate::words::{refused, word_at};
 use itoa::write_digits;
@@ -106,7 +106,34 @@ fn hart_at(alloc: Global, bytes: &[u8], index: u64) -> Result<(HartDeeds, &[u8])
 }
 
 /// The number of harts, and what each does, and what follows them.
+#[tactic(auto, unfolding(crate::specs::Formats::taken_limited))]
 pub(crate) fn harts_at(alloc: Global, bytes: &[u8]) -> Result<(Vec<HartDeeds>, &[u8]), ReadError>
+    ensures { Gives (λ x. (map hart_view x.0.items, x.1.now)) result (harts_lines.taken bytes.now) }
+{
+    let (harts, rest) = counted_harts_at(alloc, bytes)?;
+    if !are_few_steps(&harts) {
+        return Err(refused(Cause::TooManySteps, bytes));
+    }
+    Ok((harts, rest))
+}
+
+/// Whether harts do no more steps together than an execution may have.
+fn are_few_steps(harts: &[HartDeeds]) -> bool
+    ensures { result ≡ are_few_steps (map hart_view harts.now) }
+{
+    let mut left = MOST_STEPS;
+    for i in 0..harts.len() {
+        let steps = harts[i].steps;
+        if steps > left {
+            return false;
+        }
+        left -= steps;
+    }
+    true
+}
+
+/// The same, however many steps they do.
+fn counted_harts_at(alloc: Global, bytes: &[u8]) -> Result<(Vec<HartDeeds>, &[u8]), ReadError>
     ensures { Gives (λ x. (map hart_view x.0.items, x.1.now)) result
         ((counted (2 ^ 64 - 1) (λ n i. hart_lines i)).taken bytes.now) }
 {

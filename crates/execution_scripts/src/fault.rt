@@ -25,13 +25,17 @@ pub enum Misfit {
     /// The hart doesn't stop after so many steps.
     #[error("the hart doesn't stop here")]
     RunsOn,
-    /// The hart stops otherwise than it is said.
-    #[error("the hart stops here with code {code} and value {value}")]
+    /// The hart exits with another value than it is said, or isn't said to exit.
+    #[error("the hart exits here, and its line has another end than 'stop 1 {value}'")]
+    OtherExit {
+        /// The value of the exit call.
+        value: u64,
+    },
+    /// The hart is stopped otherwise than it is said.
+    #[error("the hart stops here, and its line has another end than 'stop {code}'")]
     OtherStop {
         /// The stop code.
         code: u8,
-        /// The value of the exit call.
-        value: u64,
     },
     /// A hart that runs on is said to stop with a value.
     #[error("the hart is to run on, and its line has the value of an exit call")]

@@ -236,7 +236,11 @@ impl<'a> Follower<'a> {
                 if code == part.code && of_exit == part.value {
                     return Ok(());
                 }
-                Err(self.fault(hart, Misfit::OtherStop { code, value }))
+                let misfit = match of_exit {
+                    Some(value) => Misfit::OtherExit { value },
+                    None => Misfit::OtherStop { code },
+                };
+                Err(self.fault(hart, misfit))
             }
             None => Err(self.fault(hart, Misfit::RunsOn)),
         }
