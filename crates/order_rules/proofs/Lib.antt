@@ -1,3 +1,4 @@
 mod Following
+mod Going
 pub mod Naming
 pub mod Sourcing

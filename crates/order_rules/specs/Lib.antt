@@ -1,3 +1,4 @@
+pub mod Behind
 pub mod Dependents
 pub mod Orders
 pub mod Rules

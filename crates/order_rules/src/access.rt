@@ -108,7 +108,7 @@ fn is_any(a: bool, b: bool, c: bool, d: bool) -> bool
     a || b || c || d
 }
 
-fn is_normal(mode: FenceMode) -> bool
+pub(crate) fn is_normal(mode: FenceMode) -> bool
     ensures { result ≡ is_normal mode }
 {
     match mode {

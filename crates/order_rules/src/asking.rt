@@ -42,7 +42,7 @@ pub fn first_rule(
     None
 }
 
-fn asks(
+pub(crate) fn asks(
     rule: OrderRule,
     instructions: &[Instr],
     events: &[Event],

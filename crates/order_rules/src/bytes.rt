@@ -71,12 +71,13 @@ fn differ_at(
     if !both_read(events, a, b, x) {
         return false;
     }
-    if !is_unstored_between(events, a, b, x) {
-        return false;
-    }
+    // Two loads mostly have one source, and what lies between may be long.
     let first = source_of(events, order, ranks, sources, a, x);
     let second = source_of(events, order, ranks, sources, b, x);
-    are_apart(first, second)
+    if !are_apart(first, second) {
+        return false;
+    }
+    is_unstored_between(events, a, b, x)
 }
 
 /// Whether both events read the byte at an address.

@@ -78,7 +78,7 @@ fn are_same(k: usize, i: usize) -> bool
 }
 
 /// Registers are registers.
-fn are_registers(x: &Registers)
+pub(crate) fn are_registers(x: &Registers)
     ensures { AreRegisters x.now }
 {
     let _address = x.address.index();
@@ -88,7 +88,7 @@ fn are_registers(x: &Registers)
 }
 
 /// The destination register of an instruction that left an access; an SC that failed has none.
-fn destination_of(used: &Registers, access: &Access) -> Reg
+pub(crate) fn destination_of(used: &Registers, access: &Access) -> Reg
     ensures { result ≡ (if has_failed access.now then 0 else used.now.destination) }
 {
     if matches!(*access, Access::StoreConditional { written: None, .. }) {

@@ -3,8 +3,10 @@
 
 mod access;
 mod asking;
+mod behind;
 mod between;
 mod bytes;
+mod candidates;
 mod dependents;
 mod depending;
 mod rule;
@@ -12,5 +14,6 @@ mod sources;
 
 pub use access::writes;
 pub use asking::first_rule;
+pub use candidates::find_candidates;
 pub use rule::OrderRule;
 pub use sources::source_of;
