@@ -24,8 +24,8 @@ use trace::Trace;
 ///
 /// It looks first at what the order lists, then for two operations of a hart that break a rule of preserved program order, then for
 /// a byte that a load did not get from its source, and then for an LR and an SC with another hart's store between. Each is found in a
-/// time nearly in line with the events, but for the first of the two operations: of those that the order has behind the second,
-/// each is compared with all between.
+/// time nearly in line with the events, but for two loads of a byte from different stores: of those what lies between is looked at, up
+/// to a store of their hart.
 ///
 /// # Errors
 ///

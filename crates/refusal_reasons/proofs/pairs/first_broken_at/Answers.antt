@@ -3,6 +3,9 @@ use Rattle.memory_order.proofs.Facts.{within}
 use Rattle.refusal_reasons.proofs.Breaking.{first_of_all, unbroken}
 use Rattle.refusal_reasons.proofs.pairs.first_broken_at.Goals as goal
 
+pub find_candidates-requires-clause-within : goal.find_candidates-requires-clause-within
+find_candidates-requires-clause-within c = within c.args.events.now c.args.second c.requires.second.operation
+
 pub find_broken_at-requires-clause-within : goal.find_broken_at-requires-clause-within
 find_broken_at-requires-clause-within c = within c.args.events.now c.args.second c.requires.second.operation
 
