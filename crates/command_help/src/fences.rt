@@ -27,7 +27,7 @@ missing. What is printed is
   unnamed N first NUMBER
   running N first NUMBER
   accepted N first NUMBER
-  missing K fence P,S plans N first NUMBER
+  missing K fence P,S plans N first NUMBER tried N before PC
   between PC NAME
   and PC NAME
   moved hart H OPERATION at PC NAME before hart H OPERATION at PC NAME
@@ -42,13 +42,15 @@ after --rounds rounds, and nothing is known of what they do later: so it is of a
 program that never ends. A hart that fails before is found there too. The lines
 from 'missing' to 'execution' are there for each missing fence, that of most
 numbers first: a fence P,S between the instructions at the two PCs, of r for
-loads and w for stores, would forbid the execution that is told. 'moved' has the
-operation that is early (before) or late (behind), and one of another hart that
-it moved past. After 'ends otherwise' there are the lines 'see' and 'output' of
-dethart hunt. 'stuck' says no more than that harts still run after ten times the
-steps of any ordinary run. RVWMO allows each execution that is told: the checker
-of dethart check accepted it. Standard error has for each, but with
---as-if-fence, the line that prints all that its number does:
+loads and w for stores, would forbid the execution that is told. 'tried' says by
+how many executions, made as if this fence stood before PC: none of them failed
+at the place, as some did with each weaker one. 'moved' has the operation that
+is early (before) or late (behind), and one of another hart that it moved past.
+After 'ends otherwise' there are the lines 'see' and 'output' of dethart hunt.
+'stuck' says no more than that harts still run after ten times the steps of any
+ordinary run. RVWMO allows each execution that is told: the checker of dethart
+check accepted it. Standard error has for each, but with --as-if-fence, the line
+that prints all that its number does:
   missing K: dethart execution IMAGE .. --weak --plan-number NUMBER --seed S
 
 --keep DIR writes execution K to DIR/K.execution, for dethart check, replay,
@@ -56,9 +58,10 @@ watch and draw. --accept FILE has two words a line, as hart_main+0x3c or as a
 PC: the instructions between which a fence is known to be missing. What fails
 there isn't told, but counted as 'accepted'. --as-if-fence PC asks whether a
 fence is enough: the program is run as if a fence rw,rw stood before the
-instruction at PC. Given several times, it asks whether fences at all of these
-places are. PC is 16 digits or FUNCTION+0xOFFSET, as the table has it, or any
-address: hexadecimal after 0x, or decimal without leading zeros.
+instruction at PC, and with PC=P,S as if a fence P,S did. Given several times,
+it asks whether fences at all of these places are. PC is 16 digits or
+FUNCTION+0xOFFSET, as the table has it, or any address: hexadecimal after 0x, or
+decimal without leading zeros.
 
 A refusal is the line 'error N' on standard error, with the exit status 1;
 dethart run --help lists what each N means.

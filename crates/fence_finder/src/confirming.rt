@@ -5,7 +5,7 @@ use crate::faults::failure_found;
 use crate::guest::Guest;
 use execution_scripts::{ExecutionFile, ScriptedGuest, execution_of_script};
 use fence_search::{Departing, Found, Weakness};
-use fence_table::{Failure, Missing, NamedGap, Shown};
+use fence_table::{Failure, Missing, NamedGap, Shown, TriedFence};
 use pages::OutOfMemory;
 use timed_machine::TimedMachine;
 use weak_executions::{Verdict, check_by};
@@ -22,13 +22,14 @@ pub(crate) struct Confirmed {
 pub(crate) fn confirm(
     guest: &Guest<'_>,
     gap: NamedGap,
+    fence: TriedFence,
     weakness: &Weakness,
 ) -> Result<Option<Confirmed>, OutOfMemory>
     ensures { IfOk result (λ found. IfSome found (λ c. IsShown guest.now.opening.image.now
         guest.now.opening.input.now guest.now.opening.harts.now c.missing.failure)) }
 {
     let machine = made_again(guest, &weakness.shown)?;
-    let confirmed = confirm_by(guest, gap, weakness, &machine);
+    let confirmed = confirm_by(guest, gap, fence, weakness, &machine);
     drop(machine);
     confirmed
 }
@@ -37,6 +38,7 @@ pub(crate) fn confirm(
 fn confirm_by(
     guest: &Guest<'_>,
     gap: NamedGap,
+    fence: TriedFence,
     weakness: &Weakness,
     machine: &TimedMachine,
 ) -> Result<Option<Confirmed>, OutOfMemory>
@@ -45,7 +47,7 @@ fn confirm_by(
 {
     match failure_of(guest, &weakness.shown, machine)? {
         Some(failure) => {
-            let missing = told_of(guest, gap, weakness, failure)?;
+            let missing = told_of(guest, gap, fence, weakness, failure)?;
             let execution = file_of(guest, &weakness.shown, machine)?;
             Ok(Some(Confirmed { missing, execution }))
         }
@@ -58,7 +60,7 @@ fn made_again(guest: &Guest<'_>, shown: &Found) -> Result<TimedMachine, OutOfMem
     let departing = Departing::Listed(&shown.departures);
     guest
         .maker
-        .execute(shown.number, departing, true, shown.steps)
+        .execute(shown.number, departing, true, shown.span)
 }
 
 /// How a machine's execution fails, where RVWMO allows it.
@@ -86,6 +88,7 @@ fn failure_of(
 fn told_of(
     guest: &Guest<'_>,
     gap: NamedGap,
+    fence: TriedFence,
     weakness: &Weakness,
     failure: Failure,
 ) -> Result<Missing, OutOfMemory>
@@ -94,13 +97,14 @@ fn told_of(
     let shown = &weakness.shown;
     Ok(Missing {
         gap,
+        fence,
         numbers: weakness.numbers,
         moved: guest.moved(weakness)?,
         failure,
         shown: Shown {
             number: shown.number,
             departures: u32::try_from(shown.departures.len()).unwrap_or(u32::MAX),
-            steps: shown.steps,
+            steps: shown.span.all,
             operations: shown.operations,
         },
     })

@@ -15,7 +15,7 @@ use crate::findings::Findings;
 use crate::guest::Guest;
 use crate::settings::FenceSettings;
 use execution_scripts::ExecutionFile;
-use fence_search::{FenceGuest, FenceObserver, Reach, search_fences};
+use fence_search::{Compared, FenceGuest, FenceObserver, Numbers, Reach, search_fences};
 use fence_table::{FenceTable, write_fences};
 use guest_rounds::opening_harts;
 use host_io::Sink;
@@ -34,6 +34,8 @@ pub struct FoundFences {
     pub table: FenceTable,
     /// The execution that shows each missing fence, where they were to be kept.
     pub executions: Vec<ExecutionFile>,
+    /// With what of ordinary runs the executions were compared.
+    pub compared: Compared,
 }
 
 /// Makes a guest's executions of the numbers that the settings name, looks for what those fail by that fail, and writes at which gaps
@@ -95,6 +97,7 @@ fn told(findings: Findings, settings: FenceSettings) -> FoundFences
             ranges: settings.into_ranges(),
         },
         executions: findings.executions,
+        compared: findings.compared,
     }
 }
 
@@ -146,6 +149,11 @@ fn findings_of<O: FenceObserver, R: Threads + Wait + Sync>(
     ensures errors { (s : AskedFor) (file : List ℕ) → IfErr result (λ e. IsWeakReason s file e) }
 {
     let hunt = &settings.hunt;
+    let numbers = Numbers {
+        first: hunt.header.first,
+        count: hunt.header.count,
+        workers: hunt.workers,
+    };
     let guest = Guest {
         alloc,
         file,
@@ -162,11 +170,11 @@ fn findings_of<O: FenceObserver, R: Threads + Wait + Sync>(
             &hunt.header.ranges,
             &settings.assumed,
         ),
+        numbers,
     };
-    let (first, count) = (hunt.header.first, hunt.header.count);
-    let found = search_fences(rt, &guest.maker, first, count, hunt.workers, observer)?;
+    let found = search_fences(rt, &guest.maker, numbers, observer)?;
     if let Some(number) = found.unconfirmed {
         return Err(WeakHuntError::Unconfirmed(number));
     }
-    Findings::of(&guest, &found)
+    Findings::of(rt, &guest, &found)
 }

@@ -8,9 +8,10 @@ ghost use Rattle.weak_hunter.specs.declared.error.WeakHuntError.TheVariants.{Hun
 use crate::confirming::{Confirmed, confirm};
 use crate::guest::Guest;
 use execution_scripts::ExecutionFile;
-use fence_search::{Search, Weakness};
-use fence_table::{Missing, Tally};
+use fence_search::{Compared, Search, Weakness};
+use fence_table::{Missing, Tally, TriedFence};
 use pages::OutOfMemory;
+use std::thread::Threads;
 use weak_hunter::WeakHuntError;
 
 /// What a search found, as far as the checker of executions confirms it.
@@ -28,6 +29,8 @@ pub(crate) struct Findings {
     pub missing: Vec<Missing>,
     /// The executions that show them, where they are kept.
     pub executions: Vec<ExecutionFile>,
+    /// With what of ordinary runs the executions were compared.
+    pub compared: Compared,
 }
 
 /// The numbers of two tallies that have none in common.
@@ -47,7 +50,11 @@ impl Findings {
     /// # Errors
     ///
     /// `Unconfirmed` with the number of the first one that the checker doesn't allow, or that it finds to end otherwise; `OutOfMemory`.
-    pub(crate) fn of(guest: &Guest<'_>, search: &Search) -> Result<Findings, WeakHuntError>
+    pub(crate) fn of<R: Threads + Sync>(
+        rt: &R,
+        guest: &Guest<'_>,
+        search: &Search,
+    ) -> Result<Findings, WeakHuntError>
         ensures shown { IfOk result (λ f. AreShown guest.now.opening.image.now guest.now.opening.input.now
             guest.now.opening.harts.now f.missing.items) }
         ensures errors { IfErr result (λ e. (e ≡ Hunt (hunting.Run refusals.OutOfMemory)) ⊎
@@ -60,21 +67,27 @@ impl Findings {
             accepted: Tally { plans: 0, first: 0 },
             missing: Vec::new(guest.alloc),
             executions: Vec::new(guest.alloc),
+            compared: search.compared(),
         };
-        findings.add_all(guest, &search.weaknesses)?;
+        findings.add_all(rt, guest, search)?;
         Ok(findings)
     }
 
     /// Adds missing fences, where none was added before.
-    fn add_all(&mut self, guest: &Guest<'_>, weaknesses: &[Weakness]) -> Result<(), WeakHuntError>
+    fn add_all<R: Threads + Sync>(
+        &mut self,
+        rt: &R,
+        guest: &Guest<'_>,
+        search: &Search,
+    ) -> Result<(), WeakHuntError>
         requires { self.old.missing.items ≡ [] }
         ensures shown { OnOk result (AreShown guest.now.opening.image.now guest.now.opening.input.now
             guest.now.opening.harts.now self.new.missing.items) }
         ensures errors { IfErr result (λ e. (e ≡ Hunt (hunting.Run refusals.OutOfMemory)) ⊎
             ((n : ℕ) × (e ≡ Unconfirmed n))) }
     {
-        for weakness in weaknesses {
-            if !self.add(guest, weakness)? {
+        for weakness in &search.weaknesses {
+            if !self.add(rt, guest, search, weakness)? {
                 return Err(WeakHuntError::Unconfirmed(weakness.shown.number));
             }
         }
@@ -82,7 +95,13 @@ impl Findings {
     }
 
     /// Adds a missing fence, if the checker of executions allows the execution that shows it. Says whether it does.
-    fn add(&mut self, guest: &Guest<'_>, weakness: &Weakness) -> Result<bool, OutOfMemory>
+    fn add<R: Threads + Sync>(
+        &mut self,
+        rt: &R,
+        guest: &Guest<'_>,
+        search: &Search,
+        weakness: &Weakness,
+    ) -> Result<bool, OutOfMemory>
         requires { AreShown guest.now.opening.image.now guest.now.opening.input.now
             guest.now.opening.harts.now self.old.missing.items }
         ensures { IfOk result (λ yes. OnTrue yes (AreShown guest.now.opening.image.now
@@ -93,7 +112,12 @@ impl Findings {
             self.accepted = joined(self.accepted, weakness.numbers);
             return Ok(true);
         }
-        let Some(confirmed) = confirm(guest, gap, weakness)? else {
+        let fence = TriedFence {
+            kind: search.fence_at(rt, &guest.maker, weakness, guest.numbers)?,
+            pc: weakness.pc(),
+            executions: guest.numbers.count,
+        };
+        let Some(confirmed) = confirm(guest, gap, fence, weakness)? else {
             return Ok(false);
         };
         self.put(confirmed)?;

@@ -1,7 +1,7 @@
-ghost use Rattle.std.specs.Prelude.{◌≤◌, length};
+ghost use Rattle.std.specs.Prelude.{◌≤◌, ◌+◌, ◌<◌, ◌^◌, length};
 
 use crate::settings::FenceSettings;
-use fence_search::FenceGuest;
+use fence_search::{FenceGuest, Numbers};
 use std::alloc::Global;
 use weak_executions::Opening;
 
@@ -16,5 +16,8 @@ pub(crate) struct Guest<'a> {
     pub opening: Opening<'a>,
     /// What makes the executions.
     pub maker: FenceGuest<'a>,
+    /// Which of them.
+    pub numbers: Numbers,
     ghost few: { length opening.harts.now ≤ 64 },
+    ghost below: { numbers.first + numbers.count < 2 ^ 32 },
 }

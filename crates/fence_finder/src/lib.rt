@@ -10,6 +10,6 @@ mod guest;
 mod settings;
 mod sites;
 
-pub use fence_search::{FenceObserver, UnobservedSearch};
+pub use fence_search::{Compared, FenceObserver, UnobservedSearch};
 pub use finding::{FoundFences, find_fences};
 pub use settings::FenceSettings;

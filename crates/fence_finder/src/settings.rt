@@ -3,6 +3,7 @@ ghost use Rattle.std.specs.Prelude.{◌≡◌};
 use fence_table::Accepted;
 use hunt_table::SeenRange;
 use hunter::HuntSettings;
+use timed_machine::AssumedFence;
 
 /// What a search for missing fences is asked for.
 #[derive(Drop)]
@@ -11,8 +12,8 @@ pub struct FenceSettings {
     pub hunt: HuntSettings,
     /// How many steps an execution has at most.
     pub steps: u32,
-    /// Before the instructions of which addresses a full fence is assumed.
-    pub assumed: Vec<u64>,
+    /// Which fences are assumed.
+    pub assumed: Vec<AssumedFence>,
     /// Gaps of which is known that a fence is missing there.
     pub accepted: Accepted,
     /// Whether the executions that are shown are kept.

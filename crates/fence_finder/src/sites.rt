@@ -27,7 +27,6 @@ impl Guest<'_> {
     /// The gap of a missing fence.
     pub(crate) fn gap(&self, weakness: &Weakness) -> Result<NamedGap, OutOfMemory> {
         Ok(NamedGap {
-            fence: weakness.fence,
             earlier: self.site(weakness.earlier)?,
             later: self.site(weakness.later)?,
         })

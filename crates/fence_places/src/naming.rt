@@ -90,10 +90,7 @@ pub fn moves_of(alloc: Global, record: &Record, order: &[usize]) -> Result<Moves
         ranks: ranks_of(alloc, order)?,
         shared: SharedBytes::of(alloc, record.deeds())?,
     };
-    let mut moves = Moves {
-        moves: Vec::new(alloc),
-        gaps: Vec::new(alloc),
-    };
+    let mut moves = Moves::none(alloc);
     for departure in record.departures() {
         ranked.add_move(alloc, departure, &mut moves)?;
     }
@@ -291,6 +288,14 @@ impl Ranked<'_> {
 }
 
 impl Moves {
+    /// Nothing moved.
+    pub fn none(alloc: Global) -> Moves {
+        Moves {
+            moves: Vec::new(alloc),
+            gaps: Vec::new(alloc),
+        }
+    }
+
     /// Adds an operation that moved past another one, with the gaps between it and the farthest access that it crossed.
     fn add(
         &mut self,

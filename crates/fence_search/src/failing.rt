@@ -16,12 +16,14 @@ pub enum Failing {
 /// What comes of an execution.
 #[derive(Clone, Copy)]
 pub(crate) enum Judgement {
-    /// It ends as it has to, or it is none.
+    /// It ends as it has to.
     Well,
     /// It fails.
     Fails(Failing),
     /// It is cut off while a hart runs, and whether that one would go on for ever can't be told.
     Cut,
+    /// It is none: a store came early that its hart didn't do.
+    Void,
 }
 
 impl Failing {

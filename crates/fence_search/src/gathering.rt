@@ -1,8 +1,8 @@
 //! Gaps at which fences forbid all executions that fail.
 
 use crate::trying::Found;
-use fence_places::{Gap, Move, Sides};
-use fence_table::{FenceKind, Side, Tally};
+use fence_places::{Gap, Move};
+use fence_table::Tally;
 use pages::OutOfMemory;
 use std::alloc::Global;
 use std::mem;
@@ -13,8 +13,8 @@ pub struct Weakness {
     pub earlier: u64,
     /// The address of the instruction behind it.
     pub later: u64,
-    /// The fence.
-    pub fence: FenceKind,
+    /// Where a fence forbids these executions.
+    pub(crate) spot: Spot,
     /// The numbers of these executions.
     pub numbers: Tally,
     /// Of these executions one in which an operation moved past just the two instructions, if there is one; of several one with the fewest
@@ -22,6 +22,8 @@ pub struct Weakness {
     pub shown: Found,
     /// The operation that the fence would have kept in it.
     pub moved: Move,
+    /// The other ones.
+    pub(crate) others: Vec<Found>,
 }
 
 // By hand, so that a proof has one step for it wherever one is dropped, in this crate and above.
@@ -30,22 +32,24 @@ impl Drop for Weakness {
         let Weakness {
             earlier: _,
             later: _,
-            fence: _,
+            spot: _,
             numbers: _,
             shown,
             moved: _,
+            others,
         } = self;
         drop(shown);
+        drop(others);
     }
 }
 
 /// Where a fence may stand.
 #[derive(Clone, Copy, PartialEq, Eq, PartialOrd, Ord)]
-enum Spot {
-    /// Right behind the instruction at an address.
-    Behind(u64),
-    /// Right before it.
+pub(crate) enum Spot {
+    /// Right before the instruction at an address.
     Before(u64),
+    /// Right behind it.
+    Behind(u64),
     /// Anywhere between two instructions.
     Between(u64, u64),
 }
@@ -194,7 +198,7 @@ fn better(best: Option<Candidate>, other: Option<Candidate>) -> Option<Candidate
 
 impl Found {
     /// The nearest gap that a spot is in.
-    fn nearest(&self, spot: Spot) -> Option<Gap> {
+    pub(crate) fn nearest(&self, spot: Spot) -> Option<Gap> {
         let mut nearest: Option<Gap> = None;
         for gap in &self.moves.gaps {
             let is_nearer = match nearest {
@@ -232,7 +236,7 @@ impl Found {
             Some(gap) => gap.distance,
             None => u32::MAX,
         };
-        (distance, self.departures.len(), self.steps, self.number)
+        (distance, self.departures.len(), self.span.all, self.number)
     }
 }
 
@@ -261,7 +265,7 @@ fn weakness_at(
     hit: Vec<Found>,
 ) -> Result<Option<Weakness>, OutOfMemory> {
     match elected(gaps_of(alloc, &hit, spot)?) {
-        Some(between) => Ok(told_at(between, fence_at(spot, &hit), numbers_of(&hit), hit)),
+        Some(between) => Ok(told_at(spot, between, hit)),
         None => Ok(None),
     }
 }
@@ -279,26 +283,9 @@ fn numbers_of(founds: &[Found]) -> Tally {
     tally
 }
 
-/// The fence at a spot that forbids these executions.
-fn fence_at(spot: Spot, founds: &[Found]) -> FenceKind {
-    let mut before = Sides::ALL;
-    let mut after = Sides::ALL;
-    for found in founds {
-        if let Some(gap) = found.nearest(spot) {
-            before = before.and(gap.before);
-            after = after.and(gap.after);
-        }
-    }
-    FenceKind {
-        before: side_before(before),
-        after: side_after(after),
-    }
-}
-
-/// The execution that is shown at a spot.
-fn shown_at(spot: Spot, founds: Vec<Found>) -> Option<Found> {
-    let mut founds = founds;
-    let index = index_shown(spot, &founds);
+/// The execution that is shown at a spot, which is taken away from these.
+fn shown_at(spot: Spot, founds: &mut Vec<Found>) -> Option<Found> {
+    let index = index_shown(spot, founds);
     if index < founds.len() {
         Some(founds.swap_remove(index))
     } else {
@@ -317,40 +304,21 @@ fn index_shown(spot: Spot, founds: &[Found]) -> usize {
     best
 }
 
-/// A gap with what is told of it, where a fence forbids these executions.
-fn told_at(spot: Spot, fence: FenceKind, numbers: Tally, hit: Vec<Found>) -> Option<Weakness> {
-    let shown = shown_at(spot, hit)?;
-    match shown.gap_at(spot) {
+/// What is told of a spot where a fence forbids these executions, and of the gap in it that most have.
+fn told_at(spot: Spot, between: Spot, hit: Vec<Found>) -> Option<Weakness> {
+    let numbers = numbers_of(&hit);
+    let mut others = hit;
+    let shown = shown_at(between, &mut others)?;
+    match shown.gap_at(between) {
         Some((gap, moved)) => Some(Weakness {
             earlier: gap.earlier,
             later: gap.later,
-            fence,
+            spot,
             numbers,
             moved,
             shown,
+            others,
         }),
         None => None,
-    }
-}
-
-/// What a fence has to keep before it, where each of these is enough: loads sooner than stores, and both where neither is.
-fn side_before(sides: Sides) -> Side {
-    if sides.loads {
-        Side::Loads
-    } else if sides.stores {
-        Side::Stores
-    } else {
-        Side::Both
-    }
-}
-
-/// What it has to keep behind it: stores sooner than loads.
-fn side_after(sides: Sides) -> Side {
-    if sides.stores {
-        Side::Stores
-    } else if sides.loads {
-        Side::Loads
-    } else {
-        Side::Both
     }
 }

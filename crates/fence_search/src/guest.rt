@@ -1,11 +1,12 @@
 ghost use Rattle.std.specs.Prelude.{◌≤◌, length};
 
 use crate::departing::Departing;
+use crate::state::runs_on;
 use departures::Departure;
 use hunt_table::SeenRange;
 use pages::OutOfMemory;
 use std::alloc::Global;
-use timed_machine::{Bounds, TimedMachine};
+use timed_machine::{AssumedFence, Bounds, TimedMachine};
 use weak_executions::{Opening, WeakGuest};
 
 /// How far the executions of a search go at most.
@@ -14,6 +15,15 @@ pub struct Reach {
     pub rounds: u32,
     /// Steps of all harts together.
     pub steps: u32,
+}
+
+/// How many steps an execution takes.
+#[derive(Clone, Copy)]
+pub struct Span {
+    /// By the plan of its number, at most.
+    pub own: u64,
+    /// In all, at most: where a hart still runs then, it goes on by the plan of the next number, and nothing departs any more.
+    pub all: u64,
 }
 
 impl Reach {
@@ -32,24 +42,28 @@ impl Reach {
 pub struct FenceGuest<'a> {
     pub(crate) alloc: Global,
     pub(crate) opening: Opening<'a>,
+    seed: u64,
     pub(crate) maker: WeakGuest<'a>,
     /// How far an execution goes.
     pub(crate) bounds: Bounds,
     /// The bytes that are looked at when one ends.
     pub(crate) ranges: &'a [SeenRange],
+    /// Which fences are assumed.
+    pub(crate) fences: &'a [AssumedFence],
+    ghost some: { 1 ≤ length opening.harts.now },
     ghost few: { length opening.harts.now ≤ 64 },
 }
 
 impl<'a> FenceGuest<'a> {
     /// A guest whose executions go through so many rounds and steps at most, by the plans and the departures of a seed. Of each, these
-    /// ranges are looked at when it ends. A full fence is assumed before the instructions at the addresses of `fences`.
+    /// ranges are looked at when it ends. The fences of `fences` are assumed.
     pub fn new(
         alloc: Global,
         opening: Opening<'a>,
         seed: u64,
         reach: Reach,
         ranges: &'a [SeenRange],
-        fences: &'a [u64],
+        fences: &'a [AssumedFence],
     ) -> FenceGuest<'a>
         requires some { 1 ≤ length opening.harts.now }
         requires few { length opening.harts.now ≤ 64 }
@@ -58,9 +72,29 @@ impl<'a> FenceGuest<'a> {
         FenceGuest {
             alloc,
             opening,
+            seed,
             maker: WeakGuest::new(alloc, opening, seed, bounds).with_fences(fences),
             bounds,
             ranges,
+            fences,
+        }
+    }
+
+    /// The same guest with these fences in place of those that are assumed.
+    pub(crate) fn assuming<'b>(&self, fences: &'b [AssumedFence]) -> FenceGuest<'b>
+    where
+        'a: 'b,
+    {
+        FenceGuest {
+            alloc: self.alloc,
+            opening: self.opening,
+            seed: self.seed,
+            maker: WeakGuest::new(self.alloc, self.opening, self.seed, self.bounds).with_fences(
+                fences,
+            ),
+            bounds: self.bounds,
+            ranges: self.ranges,
+            fences,
         }
     }
 
@@ -76,6 +110,22 @@ impl<'a> FenceGuest<'a> {
     ///
     /// `OutOfMemory` alone.
     pub fn execute(
+        &self,
+        number: u32,
+        departing: Departing<'_>,
+        is_recorded: bool,
+        span: Span,
+    ) -> Result<TimedMachine, OutOfMemory> {
+        let steps = span.own.min(span.all);
+        let mut machine = self.begun(number, departing, is_recorded, steps)?;
+        match self.go_on(&mut machine, number, span.all) {
+            Ok(()) => Ok(machine),
+            Err(error) => Err(error),
+        }
+    }
+
+    /// The machine after the execution of a number with these departures, by its own plan.
+    fn begun(
         &self,
         number: u32,
         departing: Departing<'_>,
@@ -101,14 +151,19 @@ impl<'a> FenceGuest<'a> {
         }
     }
 
-    /// Goes on by the plan of a number, until a hart stops otherwise than by exit 0, or until so many steps are taken in all.
-    pub(crate) fn go_on(
+    /// Where a hart of an execution runs, it goes on by the plan of the next number and without departures, until a hart stops otherwise
+    /// than by exit 0, or until so many steps are taken in all.
+    fn go_on(
         &self,
         machine: &mut TimedMachine,
         number: u32,
         steps: u64,
     ) -> Result<(), OutOfMemory> {
-        let rows = self.maker.rows(number)?;
+        if machine.steps() >= steps || machine.is_void() || !runs_on(machine, self.harts()) {
+            return Ok(());
+        }
+        machine.depart(Vec::new(self.alloc));
+        let rows = self.maker.rows(number.wrapping_add(1))?;
         machine.run_within(&rows, self.bounds(steps))
     }
 }

@@ -1,13 +1,17 @@
-//! What runs without departures come to.
+//! What runs without departures come to, and what comes of executions beside them.
+ghost use Rattle.std.specs.Prelude.{◌≡◌, ◌≢◌, option_map};
+ghost use Rattle.std.specs.Bool.{OnTrue};
+ghost use Rattle.fence_search.specs.Well.{IsExpected, IsWell};
+ghost use Rattle.fence_search.specs.declared.failing.Judgement.TheVariants.{Well};
 
 use crate::departing::Departing;
 use crate::failing::{Failing, Judgement};
-use crate::guest::FenceGuest;
-use hart_step::Stop;
+use crate::guest::{FenceGuest, Span};
+use crate::state::{ending_of, first_failed};
 use pages::OutOfMemory;
+use plan_hunt::{Ending, are_well};
 use std::alloc::Global;
 use timed_machine::TimedMachine;
-use weak_hunter::seen_of;
 
 /// How many runs without departures say what is ordinary.
 const RUNS: u32 = 12;
@@ -29,42 +33,27 @@ pub(crate) struct Ordinary {
     pub output: Option<Vec<u8>>,
     /// The bytes that are looked at, likewise.
     pub seen: Option<Vec<u8>>,
-    /// How many steps an execution may take.
+    /// How many steps an execution may take by its own plan.
     pub steps: u64,
-    /// After how many steps one that runs on is taken to do so for ever. Nothing says that where no ordinary run ends, or where no
-    /// execution goes so far.
+    /// After how many steps one that runs on is followed by another plan, and if it runs on by that too is taken to do so for ever. Nothing
+    /// says that where no ordinary run ends, or where no execution goes so far.
     pub hangs_after: Option<u64>,
 }
 
-/// How far an execution has come.
-#[derive(Clone, Copy)]
-pub(crate) enum State {
-    /// This hart stopped so, which is otherwise than by exit 0.
-    Failed(u8, Stop),
-    /// No hart did, and one runs.
-    Runs,
-    /// Each hart exited with 0.
-    Ended,
+/// How many steps an execution takes at most that is followed by another plan after so many.
+fn with_another_plan(steps: u64) -> u64 {
+    steps.saturating_mul(2).saturating_add(LAST_STEPS)
 }
 
-/// How far so many harts have come.
-pub(crate) fn state_of(machine: &TimedMachine, harts: usize) -> State {
-    let mut state = State::Ended;
-    for number in 0..harts.min(64) {
-        let stop = match machine.hart(number) {
-            Some(hart) => hart.stop,
-            None => None,
-        };
-        match stop {
-            None => state = State::Runs,
-            Some(stop) => {
-                if stop.code != 1 || stop.value != 0 {
-                    return State::Failed(number as u8, stop);
-                }
-            }
-        }
-    }
-    state
+/// What the executions of a search are compared with.
+#[derive(Clone, Copy)]
+pub struct Compared {
+    /// Whether each hart of each ordinary run exits with 0. Else nothing is compared.
+    pub ends_well: bool,
+    /// Whether what is put out is compared: all ordinary runs put out the same.
+    pub output: bool,
+    /// The same of the bytes that are looked at.
+    pub seen: bool,
 }
 
 /// Keeps the bytes of the first run, and forgets them where those of another run are others.
@@ -76,7 +65,7 @@ fn agree(
 ) -> Result<(), OutOfMemory> {
     if run == 0 {
         *agreed = Some(Vec::from_slice(alloc, bytes)?);
-    } else if differs(agreed, bytes) {
+    } else if !is_expected(agreed, bytes) {
         *agreed = None;
     }
     Ok(())
@@ -109,7 +98,7 @@ fn make_run(
     ordinary: &mut Ordinary,
     number: u32,
 ) -> Result<u64, OutOfMemory> {
-    let machine = guest.execute(number, Departing::NONE, false, guest.bounds.steps)?;
+    let machine = guest.execute(number, Departing::NONE, false, ordinary.own_span())?;
     let steps = add_run(guest, ordinary, number, &machine);
     drop(machine);
     steps
@@ -122,15 +111,14 @@ fn add_run(
     number: u32,
     machine: &TimedMachine,
 ) -> Result<u64, OutOfMemory> {
-    let seen = seen_of(guest.alloc, machine.pages(), guest.ranges)?;
-    agree(guest.alloc, number, &mut ordinary.output, machine.output())?;
-    agree(guest.alloc, number, &mut ordinary.seen, &seen)?;
-    match state_of(machine, guest.harts()) {
-        State::Ended => Ok(machine.steps()),
-        _ => {
-            ordinary.ends_well = false;
-            Ok(0)
-        }
+    let ending = ending_of(guest, machine)?;
+    agree(guest.alloc, number, &mut ordinary.output, ending.output())?;
+    agree(guest.alloc, number, &mut ordinary.seen, ending.seen())?;
+    if are_well(ending.stops()) {
+        Ok(machine.steps())
+    } else {
+        ordinary.ends_well = false;
+        Ok(0)
     }
 }
 
@@ -144,26 +132,39 @@ impl Ordinary {
         let hanging = longest
             .saturating_mul(MOST_TIMES)
             .saturating_add(MORE_STEPS);
-        if longest > 0 && hanging <= self.steps {
+        if longest > 0 && with_another_plan(hanging) <= self.steps {
             self.steps = hanging;
             self.hangs_after = Some(hanging);
         }
     }
 
-    /// What comes of an execution of which each hart exited with 0.
-    fn judgement_of_ended(
-        &self,
-        guest: &FenceGuest<'_>,
-        machine: &TimedMachine,
-    ) -> Result<Judgement, OutOfMemory> {
-        if differs(&self.output, machine.output()) {
-            return Ok(Judgement::Fails(Failing::Output));
+    /// What the executions are compared with.
+    pub(crate) fn compared(&self) -> Compared {
+        Compared {
+            ends_well: self.ends_well,
+            output: self.output.is_some(),
+            seen: self.seen.is_some(),
         }
-        let seen = seen_of(guest.alloc, machine.pages(), guest.ranges)?;
-        if differs(&self.seen, &seen) {
-            return Ok(Judgement::Fails(Failing::Seen));
+    }
+
+    /// The steps of an execution by its own plan.
+    pub(crate) fn own_span(&self) -> Span {
+        Span {
+            own: self.steps,
+            all: self.steps,
         }
-        Ok(Judgement::Well)
+    }
+
+    /// The same, and as many by another plan, where that tells what hangs from what only takes longer.
+    pub(crate) fn whole_span(&self) -> Span {
+        let all = match self.hangs_after {
+            Some(_) => with_another_plan(self.steps),
+            None => self.steps,
+        };
+        Span {
+            own: self.steps,
+            all,
+        }
     }
 
     /// How the execution of a number with these departures seems to fail, if it does: one that runs on is taken to do so by any plan.
@@ -177,13 +178,27 @@ impl Ordinary {
         number: u32,
         departing: Departing<'_>,
     ) -> Result<Option<Failing>, OutOfMemory> {
-        let machine = guest.execute(number, departing, false, self.steps)?;
-        let judgement = self.judgement_now(guest, &machine);
-        drop(machine);
-        match judgement? {
+        match self.judgement_within(guest, number, departing, self.own_span())? {
             Judgement::Fails(failing) => Ok(Some(failing)),
             Judgement::Cut if self.hangs_after.is_some() => Ok(Some(Failing::Stuck)),
-            Judgement::Cut | Judgement::Well => Ok(None),
+            Judgement::Cut | Judgement::Well | Judgement::Void => Ok(None),
+        }
+    }
+
+    /// How it fails, if it does.
+    ///
+    /// # Errors
+    ///
+    /// `OutOfMemory` alone.
+    pub(crate) fn failing(
+        &self,
+        guest: &FenceGuest<'_>,
+        number: u32,
+        departing: Departing<'_>,
+    ) -> Result<Option<Failing>, OutOfMemory> {
+        match self.judgement(guest, number, departing)? {
+            Judgement::Fails(failing) => Ok(Some(failing)),
+            Judgement::Cut | Judgement::Well | Judgement::Void => Ok(None),
         }
     }
 
@@ -198,72 +213,72 @@ impl Ordinary {
         number: u32,
         departing: Departing<'_>,
     ) -> Result<Judgement, OutOfMemory> {
-        let mut machine = guest.execute(number, departing, false, self.steps)?;
-        let judgement = self.judgement_of(guest, &mut machine, number);
+        self.judgement_within(guest, number, departing, self.whole_span())
+    }
+
+    /// The same of an execution of so many steps.
+    fn judgement_within(
+        &self,
+        guest: &FenceGuest<'_>,
+        number: u32,
+        departing: Departing<'_>,
+        span: Span,
+    ) -> Result<Judgement, OutOfMemory> {
+        let machine = guest.execute(number, departing, false, span)?;
+        let judgement = self.judgement_of(guest, &machine);
         drop(machine);
         judgement
     }
 
-    /// What comes of the execution of a number that a machine has made so far.
+    /// What comes of an execution that a machine has made.
     fn judgement_of(
-        &self,
-        guest: &FenceGuest<'_>,
-        machine: &mut TimedMachine,
-        number: u32,
-    ) -> Result<Judgement, OutOfMemory> {
-        let judgement = self.judgement_now(guest, machine)?;
-        match judgement {
-            Judgement::Cut => match self.hangs_after {
-                Some(steps) => self.running(guest, machine, number, steps),
-                None => Ok(judgement),
-            },
-            _ => Ok(judgement),
-        }
-    }
-
-    /// What comes of an execution that goes no further.
-    fn judgement_now(
         &self,
         guest: &FenceGuest<'_>,
         machine: &TimedMachine,
     ) -> Result<Judgement, OutOfMemory> {
         if machine.is_void() {
-            return Ok(Judgement::Well);
+            return Ok(Judgement::Void);
         }
-        match state_of(machine, guest.harts()) {
-            State::Failed(hart, stop) => Ok(Judgement::Fails(Failing::Stopped(hart, stop))),
-            State::Ended => self.judgement_of_ended(guest, machine),
-            State::Runs => Ok(Judgement::Cut),
-        }
+        Ok(self.judged(&ending_of(guest, machine)?, machine.steps()))
     }
 
-    /// What comes of an execution that runs on, by another plan and without further departures: it hangs where it still runs after so
-    /// many steps.
-    fn running(
-        &self,
-        guest: &FenceGuest<'_>,
-        machine: &mut TimedMachine,
-        number: u32,
-        hanging: u64,
-    ) -> Result<Judgement, OutOfMemory> {
-        machine.depart(Vec::new(guest.alloc));
-        let steps = machine
-            .steps()
-            .saturating_add(self.steps)
-            .saturating_add(LAST_STEPS);
-        guest.go_on(machine, number.wrapping_add(1), steps)?;
-        match state_of(machine, guest.harts()) {
-            State::Runs if machine.steps() >= hanging => Ok(Judgement::Fails(Failing::Stuck)),
-            State::Runs => Ok(Judgement::Cut),
-            State::Ended | State::Failed(_, _) => Ok(Judgement::Well),
+    /// What comes of an execution that has come to this ending after so many steps.
+    fn judged(&self, ending: &Ending, steps: u64) -> Judgement
+        ensures { result ≡ Well → IsWell (option_map (λ v. v.items) self.now.output)
+            (option_map (λ v. v.items) self.now.seen) ending.now }
+    {
+        if !are_well(ending.stops()) {
+            return match first_failed(ending.stops()) {
+                Some((hart, stop)) => Judgement::Fails(Failing::Stopped(hart, stop)),
+                None => self.judged_running(steps),
+            };
+        }
+        if !is_expected(&self.output, ending.output()) {
+            return Judgement::Fails(Failing::Output);
+        }
+        if !is_expected(&self.seen, ending.seen()) {
+            return Judgement::Fails(Failing::Seen);
+        }
+        Judgement::Well
+    }
+
+    /// What comes of an execution of which a hart runs after so many steps.
+    fn judged_running(&self, steps: u64) -> Judgement
+        ensures { result ≢ Well }
+    {
+        match self.hangs_after {
+            Some(hanging) if steps >= hanging => Judgement::Fails(Failing::Stuck),
+            _ => Judgement::Cut,
         }
     }
 }
 
-/// Whether bytes are others than those that are expected, if some are.
-fn differs(expected: &Option<Vec<u8>>, bytes: &[u8]) -> bool {
+/// Whether bytes are those that are expected, where some are.
+fn is_expected(expected: &Option<Vec<u8>>, bytes: &[u8]) -> bool
+    ensures { OnTrue result (IsExpected (option_map (λ v. v.items) expected.now) bytes.now) }
+{
     match expected {
-        Some(expected) => expected.as_slice() != bytes,
-        None => false,
+        Some(expected) => bytes == expected.as_slice(),
+        None => true,
     }
 }

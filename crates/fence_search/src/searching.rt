@@ -2,10 +2,11 @@ ghost use Rattle.std.specs.Prelude.{◌+◌, ◌<◌, ◌^◌, length};
 
 use crate::gathering::{Weakness, fewest_weaknesses};
 use crate::guest::FenceGuest;
-use crate::ordinary::{Ordinary, ordinary_runs};
+use crate::mending::{Numbers, weakest_fence};
+use crate::ordinary::{Compared, Ordinary, ordinary_runs};
 use crate::trying::{Found, Trial, try_number};
 use crate::working::try_block;
-use fence_table::Tally;
+use fence_table::{FenceKind, Tally};
 use pages::OutOfMemory;
 use plan_hunt::block_size;
 use std::thread::Threads;
@@ -51,6 +52,8 @@ pub struct Search {
     pub running: Tally,
     /// The first number of which the checker of executions allows no order.
     pub unconfirmed: Option<u32>,
+    /// What the executions were compared with.
+    pub(crate) runs: Ordinary,
 }
 
 // By hand, so that a proof has one step for it wherever one is dropped, in this crate and above.
@@ -62,8 +65,10 @@ impl Drop for Search {
             unnamed: _,
             running: _,
             unconfirmed: _,
+            runs,
         } = self;
         drop(weaknesses);
+        drop(runs);
     }
 }
 
@@ -77,7 +82,7 @@ struct Trials {
     unconfirmed: Option<u32>,
 }
 
-/// Makes `count` executions of a guest from number `first` on, and says by what those fail that fail. It is the same for any number of
+/// Makes the executions of a guest that have these numbers, and says by what those fail that fail. It is the same for any number of
 /// workers.
 ///
 /// # Errors
@@ -86,24 +91,45 @@ struct Trials {
 pub fn search_fences<O: FenceObserver, R: Threads + Sync>(
     rt: &R,
     guest: &FenceGuest<'_>,
-    first: u32,
-    count: u32,
-    workers: u32,
+    numbers: Numbers,
     observer: &mut O,
 ) -> Result<Search, OutOfMemory>
-    requires { first + count < 2 ^ 32 }
+    requires { numbers.first + numbers.count < 2 ^ 32 }
 {
-    let ordinary = ordinary_runs(guest)?;
-    let trials = try_all(rt, guest, &ordinary, first, count, workers, observer);
-    drop(ordinary);
-    let trials = trials?;
+    let runs = ordinary_runs(guest)?;
+    let trials = try_all(rt, guest, &runs, numbers, observer)?;
     Ok(Search {
         weaknesses: fewest_weaknesses(guest.alloc, trials.founds)?,
         ordinary: trials.ordinary,
         unnamed: trials.unnamed,
         running: trials.running,
         unconfirmed: trials.unconfirmed,
+        runs,
     })
+}
+
+impl Search {
+    /// What the executions were compared with.
+    pub fn compared(&self) -> Compared {
+        self.runs.compared()
+    }
+
+    /// The weakest fence that mends the guest at the place of a weakness: with it none of these numbers fails there any more.
+    ///
+    /// # Errors
+    ///
+    /// `OutOfMemory` alone.
+    pub fn fence_at<R: Threads + Sync>(
+        &self,
+        rt: &R,
+        guest: &FenceGuest<'_>,
+        weakness: &Weakness,
+        numbers: Numbers,
+    ) -> Result<FenceKind, OutOfMemory>
+        requires { numbers.first + numbers.count < 2 ^ 32 }
+    {
+        weakest_fence(rt, guest, &self.runs, weakness, numbers)
+    }
 }
 
 /// What came of these executions.
@@ -111,12 +137,10 @@ fn try_all<O: FenceObserver, R: Threads + Sync>(
     rt: &R,
     guest: &FenceGuest<'_>,
     ordinary: &Ordinary,
-    first: u32,
-    count: u32,
-    workers: u32,
+    numbers: Numbers,
     observer: &mut O,
 ) -> Result<Trials, OutOfMemory>
-    requires { first + count < 2 ^ 32 }
+    requires { numbers.first + numbers.count < 2 ^ 32 }
 {
     let mut trials = Trials {
         founds: Vec::new(guest.alloc),
@@ -126,17 +150,18 @@ fn try_all<O: FenceObserver, R: Threads + Sync>(
         unconfirmed: None,
     };
     let mut done = 0;
-    while done < count {
+    while done < numbers.count {
         let wanted = observer.before_block(done, trials.founds.len());
-        let size = block_size(wanted, count - done);
+        let size = block_size(wanted, numbers.count - done);
+        let first = numbers.first + done;
         add_block(
             rt,
             guest,
             ordinary,
             &mut trials,
-            first + done,
+            first,
             size,
-            workers,
+            numbers.workers,
         )?;
         done += size;
     }

@@ -19,6 +19,8 @@ struct Shortening<'a, 'b> {
     ordinary: &'a Ordinary,
     number: u32,
     failing: Failing,
+    /// Whether an execution is followed by another plan too, past where it is cut off by its own.
+    is_whole: bool,
     /// How many executions may be made yet.
     runs: u32,
 }
@@ -41,8 +43,11 @@ pub(crate) fn shortened(
         ordinary,
         number,
         failing,
+        is_whole: false,
         runs: MOST_RUNS,
     };
+    // Where it seems to hang and doesn't, what it fails by comes after that.
+    shortening.is_whole = !shortening.still_fails(departures)?;
     let mut needed = copied(guest.alloc, departures)?;
     shortening.leave_out_most(&mut needed)?;
     for index in 0..needed.len() {
@@ -59,7 +64,12 @@ impl Shortening<'_, '_> {
         }
         self.runs -= 1;
         let departing = Departing::Listed(departures);
-        match self.ordinary.seeming(self.guest, self.number, departing)? {
+        let failing = if self.is_whole {
+            self.ordinary.failing(self.guest, self.number, departing)?
+        } else {
+            self.ordinary.seeming(self.guest, self.number, departing)?
+        };
+        match failing {
             Some(failing) => Ok(failing.is_like(self.failing)),
             None => Ok(false),
         }

@@ -1,6 +1,6 @@
 use crate::departing::Departing;
 use crate::failing::{Failing, Judgement};
-use crate::guest::{FenceGuest, copied};
+use crate::guest::{FenceGuest, Span, copied};
 use crate::ordinary::Ordinary;
 use crate::shortening::shortened;
 use departures::{Departure, Placing, Record};
@@ -25,7 +25,7 @@ pub struct Found {
     /// By which rule its memory operations are ordered.
     pub placing: Placing,
     /// How many steps it has.
-    pub steps: u64,
+    pub span: Span,
     /// How many memory operations.
     pub operations: u64,
     /// What its departures moved.
@@ -63,6 +63,7 @@ pub(crate) fn try_number(
     match ordinary.judgement(guest, number, Departing::Drawn)? {
         Judgement::Well => Ok(Trial::Well),
         Judgement::Cut => Ok(Trial::Running),
+        Judgement::Void => Ok(Trial::Unconfirmed),
         Judgement::Fails(failing) => look_into(guest, ordinary, number, failing),
     }
 }
@@ -102,26 +103,33 @@ fn look_into_departures(
 ) -> Result<Trial, OutOfMemory> {
     let drawn = drawn_departures(guest, ordinary, number)?;
     let fewer = shortened(guest, ordinary, number, failing, &drawn)?;
-    match failing_with(guest, ordinary, number, &fewer)? {
+    match ordinary.failing(guest, number, Departing::Listed(&fewer))? {
         Some(failing) => explain(guest, ordinary, number, failing, fewer),
         // What seemed to run on for ever may end after all.
-        None => match failing_with(guest, ordinary, number, &drawn)? {
+        None => match ordinary.failing(guest, number, Departing::Listed(&drawn))? {
             Some(failing) => explain(guest, ordinary, number, failing, drawn),
             None => Ok(Trial::Unconfirmed),
         },
     }
 }
 
-/// How the execution of a number fails with these departures, if it does.
-fn failing_with(
+/// What comes of the execution of a number with just these departures, of which all are needed where it fails.
+///
+/// # Errors
+///
+/// `OutOfMemory` alone.
+pub(crate) fn try_departures(
     guest: &FenceGuest<'_>,
     ordinary: &Ordinary,
     number: u32,
     departures: &[Departure],
-) -> Result<Option<Failing>, OutOfMemory> {
-    match ordinary.judgement(guest, number, Departing::Listed(departures))? {
-        Judgement::Fails(failing) => Ok(Some(failing)),
-        Judgement::Cut | Judgement::Well => Ok(None),
+) -> Result<Trial, OutOfMemory> {
+    match ordinary.failing(guest, number, Departing::Listed(departures))? {
+        Some(failing) => {
+            let departures = copied(guest.alloc, departures)?;
+            explain(guest, ordinary, number, failing, departures)
+        }
+        None => Ok(Trial::Well),
     }
 }
 
@@ -131,7 +139,7 @@ fn drawn_departures(
     ordinary: &Ordinary,
     number: u32,
 ) -> Result<Vec<Departure>, OutOfMemory> {
-    let machine = guest.execute(number, Departing::Drawn, true, ordinary.steps)?;
+    let machine = guest.execute(number, Departing::Drawn, true, ordinary.own_span())?;
     let drawn = copied(guest.alloc, departures_of(&machine));
     drop(machine);
     drawn
@@ -163,39 +171,52 @@ fn explain(
     failing: Failing,
     departures: Vec<Departure>,
 ) -> Result<Trial, OutOfMemory> {
-    let machine = guest.execute(number, Departing::Listed(&departures), true, ordinary.steps)?;
-    let trial = match machine.record() {
-        Some(record) => explain_record(guest, &machine, record, number, failing, departures),
-        None => Ok(Trial::Unconfirmed),
+    let span = span_shown(ordinary, failing);
+    let machine = guest.execute(number, Departing::Listed(&departures), true, span)?;
+    let found = Found {
+        number,
+        failing,
+        departures,
+        placing: Placing::AsDone,
+        span: Span {
+            own: span.own,
+            all: machine.steps(),
+        },
+        operations: machine.operations(),
+        moves: Moves::none(guest.alloc),
     };
+    let trial = explain_record(guest, &machine, found);
     drop(machine);
     trial
 }
 
-/// What the execution of a machine that has this record fails by.
+/// The steps of the execution that is shown where one fails so. Of one that hangs those by another plan show nothing more.
+fn span_shown(ordinary: &Ordinary, failing: Failing) -> Span {
+    match failing {
+        Failing::Stuck => ordinary.own_span(),
+        Failing::Stopped(_, _) | Failing::Output | Failing::Seen => ordinary.whole_span(),
+    }
+}
+
+/// What the execution of a machine fails by, of which the order and what moved aren't known yet.
 fn explain_record(
     guest: &FenceGuest<'_>,
     machine: &TimedMachine,
-    record: &Record,
-    number: u32,
-    failing: Failing,
-    departures: Vec<Departure>,
+    found: Found,
 ) -> Result<Trial, OutOfMemory> {
+    let Some(record) = machine.record() else {
+        return Ok(Trial::Unconfirmed);
+    };
     let Some(placing) = placing_of(guest, record)? else {
         return Ok(Trial::Unconfirmed);
     };
     let Some(moves) = telling_moves(guest, record, placing)? else {
         return Ok(Trial::Unnamed);
     };
-    Ok(Trial::Fails(Found {
-        number,
-        failing,
-        departures,
-        placing,
-        steps: machine.steps(),
-        operations: machine.operations(),
-        moves,
-    }))
+    let mut found = found;
+    found.placing = placing;
+    found.moves = moves;
+    Ok(Trial::Fails(found))
 }
 
 /// What the departures of a record moved, where they moved something and the execution is not sequentially consistent.

@@ -11,6 +11,7 @@ use Rattle.hunt_table.specs.declared.seen_range.SeenRange.{SeenRange}
 use Rattle.fence_table.specs.declared.site.Site.{Site}
 use Rattle.fence_table.specs.declared.site.SiteName.{SiteName}
 use Rattle.fence_table.specs.declared.fence_kind.FenceKind.{FenceKind}
+use Rattle.fence_table.specs.declared.fence_kind.TriedFence.{TriedFence}
 use Rattle.fence_table.specs.declared.fence_kind.Side.{Side}
 use Rattle.fence_table.specs.declared.fence_kind.Side.TheVariants.{Loads, Stores, Both}
 use Rattle.fence_table.specs.declared.moved.Direction.{Direction}
@@ -110,13 +111,18 @@ shown_line s =
     two_counts (codes "execution ") s.number (codes " departures ") s.departures
     ++ two_counts (codes " steps ") s.steps (codes " operations ") s.operations ++ codes "\n"
 
--- its number, the fence, and the numbers that fail for want of it
-unfoldable pub missing_line : ℕ → FenceKind → Tally → List ℕ
-missing_line k f t = codes "missing " ++ decimal k ++ fence_words f ++ plans_words t.plans t.first ++ codes "\n"
+-- with how many executions a fence was tried, and before which instruction
+unfoldable pub tried_words : TriedFence → List ℕ
+tried_words f = codes " tried " ++ decimal f.executions ++ codes " before " ++ hex 16 f.pc
+
+-- its number, the fence, the numbers that fail for want of it, and how it was tried
+unfoldable pub missing_line : ℕ → TriedFence → Tally → List ℕ
+missing_line k f t =
+    codes "missing " ++ decimal k ++ fence_words f.kind ++ plans_words t.plans t.first ++ tried_words f ++ codes "\n"
 
 unfoldable pub missing_text : List SeenRange → ℕ → Missing → List ℕ
 missing_text ranges k m =
-    missing_line k m.gap.fence m.numbers ++ gap_text m.gap ++ moved_line m.moved
+    missing_line k m.fence m.numbers ++ gap_text m.gap ++ moved_line m.moved
     ++ failure_text ranges m.failure ++ shown_line m.shown
 
 -- missing fences k, k + 1, ..

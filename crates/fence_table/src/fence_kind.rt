@@ -15,3 +15,13 @@ pub struct FenceKind {
     pub before: Side,
     pub after: Side,
 }
+
+/// A fence that was tried: executions were made as if it stood before an instruction.
+#[derive(Clone, Copy)]
+pub struct TriedFence {
+    pub kind: FenceKind,
+    /// The address of the instruction.
+    pub pc: u64,
+    /// How many executions.
+    pub executions: u32,
+}

@@ -1,11 +1,8 @@
-use crate::fence_kind::FenceKind;
 use crate::site::Site;
 
 /// A gap where a fence is missing: between two instructions of one hart, the first of which is the earlier one in the program.
 #[derive(Drop)]
 pub struct NamedGap {
-    /// The fence that there would have to be.
-    pub fence: FenceKind,
     pub earlier: Site,
     pub later: Site,
 }

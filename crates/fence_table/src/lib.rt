@@ -16,7 +16,7 @@ mod writing;
 pub use accept_error::AcceptError;
 pub use accepted::Accepted;
 pub use failure::Failure;
-pub use fence_kind::{FenceKind, Side};
+pub use fence_kind::{FenceKind, Side, TriedFence};
 pub use fence_table::FenceTable;
 pub use gap::NamedGap;
 pub use missing::{Missing, Shown};

@@ -1,4 +1,5 @@
 use crate::failure::Failure;
+use crate::fence_kind::TriedFence;
 use crate::gap::NamedGap;
 use crate::moved::Moved;
 use crate::tally::Tally;
@@ -19,6 +20,8 @@ pub struct Shown {
 #[derive(Drop)]
 pub struct Missing {
     pub gap: NamedGap,
+    /// The weakest fence with which none of the executions fails there any more.
+    pub fence: TriedFence,
     /// The numbers whose executions fail for want of this fence, and of none that is told before it.
     pub numbers: Tally,
     /// The operation that is out of order across the gap in the execution that is shown.

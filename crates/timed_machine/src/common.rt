@@ -1,3 +1,4 @@
+use crate::assumed::AssumedFence;
 use access_times::{History, Memory, Promise};
 use departures::{Deed, Departure, Draws, Listed, Record, Way};
 use execution::ScriptedStep;
@@ -13,8 +14,8 @@ pub(crate) struct Common {
     pub(crate) listed: Listed,
     /// The store that comes early, if one is listed.
     pub(crate) promise: Option<Promise>,
-    /// Before the instructions of which addresses a full fence is assumed.
-    pub(crate) fences: Vec<u64>,
+    /// Which fences are assumed.
+    pub(crate) fences: Vec<AssumedFence>,
     /// How many memory operations all harts have done.
     pub(crate) operations: u64,
     /// How many steps they have taken.
@@ -49,12 +50,6 @@ impl Drop for Common {
 }
 
 impl Common {
-    /// Whether a full fence is assumed before the instruction at an address.
-    #[inline]
-    pub(crate) fn has_fence_before(&self, pc: u64) -> bool {
-        !self.fences.is_empty() && self.fences.contains(&pc)
-    }
-
     /// How many stores back a hart's load reads at a step, or `None` where it reads the newest.
     #[inline]
     pub(crate) fn old(&mut self, hart: u8, step: u64) -> Option<u32> {

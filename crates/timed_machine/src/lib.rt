@@ -5,6 +5,7 @@
 //! allows it.
 #![tactic(auto)]
 
+mod assumed;
 mod common;
 mod holding;
 mod loading;
@@ -14,4 +15,5 @@ mod stepping;
 mod storing;
 mod timed_hart;
 
+pub use assumed::AssumedFence;
 pub use machine::{Bounds, TimedMachine};

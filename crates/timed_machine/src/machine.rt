@@ -1,5 +1,6 @@
 ghost use Rattle.std.specs.Prelude.{◌≤◌, ◌<◌, length};
 
+use crate::assumed::AssumedFence;
 use crate::common::Common;
 use crate::holding::{Ripe, put_ripe};
 use crate::stepping::{Advance, step};
@@ -117,9 +118,9 @@ impl TimedMachine {
             .is_some_and(|promise| promise.is_fulfilled())
     }
 
-    /// From now on a full fence is assumed before each instruction at one of these addresses, and nowhere else.
-    pub fn assume_fences(&mut self, pcs: Vec<u64>) {
-        self.common.fences = pcs;
+    /// From now on these fences are assumed, and no others.
+    pub fn assume_fences(&mut self, fences: Vec<AssumedFence>) {
+        self.common.fences = fences;
     }
 
     /// A hart, by its number.

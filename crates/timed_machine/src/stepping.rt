@@ -12,7 +12,7 @@ use execution::ScriptedStep;
 use memory_order::{Registers, used_registers};
 use pages::OutOfMemory;
 use round_schedule::Stepped;
-use rv64_decode::{FenceMode, FenceSet, Instr};
+use rv64_decode::{FenceMode, Instr};
 
 /// What came of a hart's next step.
 #[derive(Clone, Copy)]
@@ -27,12 +27,6 @@ pub(crate) enum Advance {
     HasStopped,
 }
 
-/// Loads and stores.
-const ALL: FenceSet = FenceSet {
-    reads: true,
-    writes: true,
-};
-
 /// A hart's next step in a round. Where it is forced, it doesn't wait.
 #[inline]
 pub(crate) fn step(
@@ -41,8 +35,11 @@ pub(crate) fn step(
     round: u32,
     forced: bool,
 ) -> Result<Advance, OutOfMemory> {
-    if common.has_fence_before(hart.state.pc) {
-        hart.timing.pass_fence(ALL, ALL, FenceMode::Normal);
+    for fence in &common.fences {
+        if fence.pc == hart.state.pc {
+            hart.timing
+                .pass_fence(fence.before, fence.after, FenceMode::Normal);
+        }
     }
     if let Some(promise) = common.promise {
         if let Some(advance) = mind(hart, common, promise, round, forced)? {

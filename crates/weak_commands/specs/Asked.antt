@@ -22,7 +22,7 @@ use Rattle.program_files.specs.Asked.{IsInputOf, IsProgramOf}
 
 -- ---- what is searched
 
--- the words before whose instructions fences are assumed
+-- the words of the fences that are assumed
 abbrev pub words_of : Fences → List (List ℕ)
 words_of asked = map (λ s. s.now) asked.as_if_fence.items
 
@@ -33,8 +33,7 @@ accept_of asked = option_map (λ s. s.now) asked.accept
 abbrev pub keep_of : Fences → Option (List ℕ)
 keep_of asked = option_map (λ s. s.now) asked.keep
 
--- the settings have what the line says: of the executions, how many steps each has at most, the instructions before which fences are
--- assumed, the places that the list accepts, and whether executions are kept
+-- the settings have what the line says: of the executions, how many steps each has at most, the fences that are assumed, the places that the list accepts, and whether executions are kept
 pub record IsAskedSearch (asked : Fences) (accepted image : List ℕ) (s : FenceSettings) : Type 0 where
   pub numbers : HasNumbers asked.search asked.first asked.plans false s.hunt
   pub ranges : HasRanges asked.search image s.hunt

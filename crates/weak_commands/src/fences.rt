@@ -10,10 +10,10 @@ ghost use Rattle.program_files.specs.Failures.{IsFileFailure};
 
 use crate::failure::FencesFailure;
 use crate::keeping::keep;
-use crate::places::instructions_of;
+use crate::places::fences_of;
 use crate::searches::FenceSearches;
 use crate::status::fences_status;
-use crate::telling::{tell_missing, tell_running};
+use crate::telling::{tell_compared, tell_missing, tell_running};
 use command_line::Fences;
 use fence_finder::{FenceObserver, FenceSettings, FoundFences};
 use fence_table::Accepted;
@@ -75,6 +75,7 @@ pub fn fences_command<
     // What was asked for is out.
     let _untold = tell_missing(alloc, asked, &found.table.missing, messages);
     tell_running(asked, &found.table, messages);
+    tell_compared(found.compared, messages);
     Ok(fences_status(asked.fail_on, &found.table))
 }
 
@@ -124,7 +125,7 @@ fn search_given<
         asked.plans,
         false,
     )?;
-    let assumed = instructions_of(alloc, &asked.as_if_fence, &hunt, &files.image, messages)?;
+    let assumed = fences_of(alloc, &asked.as_if_fence, &hunt, &files.image, messages)?;
     let settings = FenceSettings {
         hunt,
         steps: asked.steps,

@@ -1,9 +1,9 @@
-//! The instructions before which fences are thought of, as a command line names them.
-ghost use Rattle.std.specs.Prelude.{◌≡◌, ◌≤◌, [], IfErr, IfOk, OnOk, None, Some, map};
+//! The fences that are assumed, as a command line names them.
+ghost use Rattle.std.specs.Prelude.{◌≡◌, ◌≤◌, [], ◌∷◌, ◌++◌, IfErr, IfOk, OnOk, None, Some, map};
 ghost use Rattle.std.specs.Char.{is_ascii_hexdigit};
 ghost use Rattle.std.specs.List.{list_all, list_any};
 ghost use Rattle.command_line.specs.Reading.{number_in};
-ghost use Rattle.weak_commands.specs.Places.{AreInstructions, IsAssumed, IsInstruction, IsMisplaced, IsNamed, IsNoPlace, IsUnplaced, address_of, has_address, is_instruction, on_code, place_in, printed_pc, with_pc};
+ghost use Rattle.weak_commands.specs.Places.{AreFences, IsAssumed, IsFence, IsFenceAt, IsInstruction, IsMisplaced, IsNamed, IsNoPlace, IsOfKind, IsUnplaced, address_of, between, full_before, has_address, is_instruction, on_code, place_in, printed_pc, set_of};
 
 use crate::failure::FencesFailure;
 use command_line::address_in;
@@ -13,9 +13,11 @@ use hunter::{HuntSettings, check_hunt};
 use machine::load;
 use pages::Range;
 use program_files::Messages;
+use rv64_decode::FenceSet;
 use std::alloc::{AllocFailed, Global};
+use timed_machine::AssumedFence;
 
-/// Why a word names no instruction.
+/// Why a word names no fence.
 #[derive(Clone, Copy)]
 pub enum Misplaced {
     /// It is neither an address nor a place in a function.
@@ -30,6 +32,8 @@ pub enum Misplaced {
     Beyond,
     /// There is no instruction at this address.
     NotCode,
+    /// What is behind `=` is no kind of fence.
+    NoKind,
 }
 
 impl Misplaced {
@@ -48,24 +52,26 @@ impl Misplaced {
             }
             Misplaced::Beyond => "the function ends before it",
             Misplaced::NotCode => "the image has no instruction there",
+            Misplaced::NoKind =>
+                "name the kind of fence behind = as assemblers write it, as w,r or rw,w",
         }
     }
 }
 
-/// The addresses of the instructions that words name, each of them once. Settings and an image that are refused for themselves are left
-/// to the search. It is told where two of the words name the same.
+/// The fences that words name. Settings and an image that are refused for themselves are left to the search. It is
+/// told where two of the words name the same instruction.
 ///
 /// # Errors
 ///
 /// `NoPlace` for the first word that names none; the refusal of memory.
-pub(crate) fn instructions_of<M: Messages>(
+pub(crate) fn fences_of<M: Messages>(
     alloc: Global,
     words: &[&str],
     settings: &HuntSettings,
     file: &[u8],
     messages: &M,
-) -> Result<Vec<u64>, FencesFailure>
-    ensures assumed { IfOk result (λ pcs. IsAssumed (map (λ s. s.now) words.now) settings.now file.now pcs.items) }
+) -> Result<Vec<AssumedFence>, FencesFailure>
+    ensures assumed { IfOk result (λ fences. IsAssumed (map (λ s. s.now) words.now) settings.now file.now fences.items) }
     ensures errors { IfErr result (IsUnplaced (map (λ s. s.now) words.now) settings.now file.now) }
 {
     if words.is_empty() {
@@ -75,58 +81,159 @@ pub(crate) fn instructions_of<M: Messages>(
         return Ok(Vec::new(alloc));
     };
     match load(alloc, settings.format, file, settings.pages) {
-        Ok(image) => instructions_in(alloc, words, file, image.code(), messages),
+        Ok(image) => fences_in(alloc, words, file, image.code(), messages),
         Err(RunError::OutOfMemory) => Err(FencesFailure::from(RunError::OutOfMemory)),
         Err(_) => Ok(Vec::new(alloc)),
     }
 }
 
 /// The same in the code of an image.
-fn instructions_in<M: Messages>(
+fn fences_in<M: Messages>(
     alloc: Global,
     words: &[&str],
     file: &[u8],
     code: &[Range],
     messages: &M,
-) -> Result<Vec<u64>, FencesFailure>
-    ensures named { IfOk result (λ pcs. AreInstructions file.now code.now (map (λ s. s.now) words.now) [] pcs.items) }
+) -> Result<Vec<AssumedFence>, FencesFailure>
+    ensures named { IfOk result (λ fences. AreFences file.now code.now (map (λ s. s.now) words.now) [] fences.items) }
     ensures errors { IfErr result (IsMisplaced file.now code.now (map (λ s. s.now) words.now)) }
 {
-    let mut pcs = Vec::new(alloc);
+    let mut fences = Vec::new(alloc);
     for word in words {
-        match instruction_of(file, code, word) {
-            Ok(pc) => add(&mut pcs, pc, word, messages)?,
+        match fence_of(file, code, word) {
+            Ok(fence) => add(&mut fences, fence, word, messages)?,
             Err(why) => return Err(no_place(alloc, word, why)),
         }
     }
-    Ok(pcs)
+    Ok(fences)
 }
 
-/// Adds an address, if it isn't there.
+/// Adds a fence. It is told where one stands before the same instruction.
 fn add<M: Messages>(
-    pcs: &mut Vec<u64>,
-    pc: u64,
+    fences: &mut Vec<AssumedFence>,
+    fence: AssumedFence,
     word: &str,
     messages: &M,
-) -> Result<(), AllocFailed<u64>>
-    ensures { OnOk result (pcs.new.items ≡ with_pc pcs.old.items pc) }
+) -> Result<(), AllocFailed<AssumedFence>>
+    ensures { OnOk result (fences.new.items ≡ fences.old.items ++ fence ∷ []) }
 {
-    if pcs.contains(&pc) {
+    if has_fence_at(fences, fence.pc) {
         messages.tell(format_args!(
             "--as-if-fence {word} names the same instruction as one before it"
         ));
-        return Ok(());
     }
-    pcs.push(pc)
+    fences.push(fence)
 }
 
-/// The failure of a word that names no instruction.
+/// Whether a fence stands before the instruction at an address.
+fn has_fence_at(fences: &[AssumedFence], pc: u64) -> bool {
+    fences.iter().any(|fence| fence.pc == pc)
+}
+
+/// The failure of a word that names no fence.
 fn no_place(alloc: Global, word: &str, why: Misplaced) -> FencesFailure
     ensures { IsNoPlace word.now why result }
 {
     match String::from_str(alloc, word) {
         Ok(word) => FencesFailure::NoPlace(word, why),
         Err(_) => FencesFailure::from(RunError::OutOfMemory),
+    }
+}
+
+/// The fence that a word names: an instruction, and behind `=` the kind of the fence before it, where it isn't a full one.
+fn fence_of(file: &[u8], code: &[Range], word: &str) -> Result<AssumedFence, Misplaced>
+    ensures { IsFence file.now code.now word.now result }
+{
+    match word.split_once("=") {
+        Some((place, kind)) => fence_at(file, code, place, kind),
+        None => full(instruction_of(file, code, word)),
+    }
+}
+
+/// A full fence before an instruction, if there is one.
+fn full(place: Result<u64, Misplaced>) -> Result<AssumedFence, Misplaced>
+    ensures { result ≡ full_before place }
+{
+    let pc = place?;
+    let all = FenceSet {
+        reads: true,
+        writes: true,
+    };
+    Ok(AssumedFence {
+        pc,
+        before: all,
+        after: all,
+    })
+}
+
+/// A fence of the kind that a word names, before the instruction that another one names.
+fn fence_at(file: &[u8], code: &[Range], place: &str, kind: &str) -> Result<AssumedFence, Misplaced>
+    ensures { IsFenceAt file.now code.now place.now kind.now result }
+{
+    of_kind(instruction_of(file, code, place), kind)
+}
+
+/// A fence of the kind that a word names before an instruction, if there is one.
+fn of_kind(place: Result<u64, Misplaced>, kind: &str) -> Result<AssumedFence, Misplaced>
+    ensures { IsOfKind kind.now place result }
+{
+    match kind.split_once(",") {
+        Some((before, after)) => {
+            let first = set_of(before);
+            let second = set_of(after);
+            between(place, first, second)
+        }
+        None => of_no_kind(place),
+    }
+}
+
+/// No fence, since no kind is named.
+fn of_no_kind(place: Result<u64, Misplaced>) -> Result<AssumedFence, Misplaced>
+    ensures { result ≡ between place None None }
+{
+    let _pc = place?;
+    Err(Misplaced::NoKind)
+}
+
+/// A fence before an instruction that keeps these in order, if they are named.
+fn between(
+    place: Result<u64, Misplaced>,
+    before: Option<FenceSet>,
+    after: Option<FenceSet>,
+) -> Result<AssumedFence, Misplaced>
+    ensures { result ≡ between place before after }
+{
+    let pc = place?;
+    match before {
+        Some(before) => match after {
+            Some(after) => Ok(AssumedFence { pc, before, after }),
+            None => Err(Misplaced::NoKind),
+        },
+        None => Err(Misplaced::NoKind),
+    }
+}
+
+/// The loads and stores that a word names, as assemblers write them.
+fn set_of(word: &str) -> Option<FenceSet>
+    ensures { result ≡ set_of word.now }
+{
+    if word == "r" {
+        Some(FenceSet {
+            reads: true,
+            writes: false,
+        })
+    } else if word == "w" {
+        Some(FenceSet {
+            reads: false,
+            writes: true,
+        })
+    } else if word == "rw" {
+        Some(FenceSet {
+            reads: true,
+            writes: true,
+        })
+    } else {
+        None
     }
 }
 

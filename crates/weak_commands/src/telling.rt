@@ -2,6 +2,7 @@
 //! written, or there is no memory for them.
 
 use command_line::Fences;
+use fence_finder::Compared;
 use fence_table::{FenceTable, Missing};
 use hunt_commands::{tell_bounds, weak_line_of};
 use program_files::Messages;
@@ -38,5 +39,21 @@ pub(crate) fn tell_missing<M: Messages>(
 pub(crate) fn tell_running<M: Messages>(asked: &Fences<'_>, table: &FenceTable, messages: &M) {
     if table.running.plans != 0 {
         tell_bounds(asked.steps, asked.search.program.rounds, messages);
+    }
+}
+
+/// Says on standard error what of the executions isn't compared with that of ordinary runs.
+pub(crate) fn tell_compared<M: Messages>(compared: Compared, messages: &M) {
+    if !compared.ends_well {
+        messages.tell(format_args!(
+            "some ordinary runs don't end well, so neither output nor bytes are compared"
+        ));
+        return;
+    }
+    if !compared.output {
+        messages.tell(format_args!("the output of ordinary runs differs, so it isn't compared"));
+    }
+    if !compared.seen {
+        messages.tell(format_args!("the bytes of ordinary runs differ, so they aren't compared"));
     }
 }

@@ -6,7 +6,7 @@ use pages::OutOfMemory;
 use round_planner::Family;
 use round_schedule::MOST_HARTS;
 use std::alloc::Global;
-use timed_machine::{Bounds, TimedMachine};
+use timed_machine::{AssumedFence, Bounds, TimedMachine};
 
 /// How many steps of an execution without departures are looked at for stores that could come early.
 const MOST_STEPS: u64 = 1 << 16;
@@ -22,8 +22,8 @@ pub struct WeakGuest<'a> {
     seed: u64,
     /// How far an execution goes.
     bounds: Bounds,
-    /// Before the instructions of which addresses a full fence is assumed.
-    fences: &'a [u64],
+    /// Which fences are assumed.
+    fences: &'a [AssumedFence],
     ghost some: { 1 ≤ length opening.harts.now },
     ghost few: { length opening.harts.now ≤ 64 },
 }
@@ -43,8 +43,8 @@ impl<'a> WeakGuest<'a> {
         }
     }
 
-    /// The same guest, in which a full fence is assumed before the instructions at some addresses.
-    pub fn with_fences(self, fences: &'a [u64]) -> WeakGuest<'a> {
+    /// The same guest, in which some fences are assumed.
+    pub fn with_fences(self, fences: &'a [AssumedFence]) -> WeakGuest<'a> {
         let mut guest = self;
         guest.fences = fences;
         guest

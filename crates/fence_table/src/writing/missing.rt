@@ -1,9 +1,9 @@
 ghost use Rattle.std.specs.Prelude.{◌≡◌, ◌++◌, OnOk, codes};
-ghost use Rattle.fence_table.specs.Text.{failure_text, missing_line, missing_text, missing_texts, otherwise_text, shown_line, two_counts};
+ghost use Rattle.fence_table.specs.Text.{failure_text, missing_line, missing_text, missing_texts, otherwise_text, shown_line, tried_words, two_counts};
 ghost use Rattle.hunt_table.specs.Text.{plans_words};
 
 use crate::failure::Failure;
-use crate::fence_kind::FenceKind;
+use crate::fence_kind::TriedFence;
 use crate::missing::{Missing, Shown};
 use crate::tally::Tally;
 use crate::writing::gaps::{add_fence, add_gap, add_moved};
@@ -85,20 +85,32 @@ fn add_numbers(line: &mut Line, numbers: Tally) -> Result<(), OutOfMemory>
     line.decimal(u64::from(numbers.first))
 }
 
+/// Adds with how many executions a fence was tried, and before which instruction.
+#[tactic(auto, unfolding(crate::specs::Text::tried_words))]
+fn add_tried(line: &mut Line, fence: TriedFence) -> Result<(), OutOfMemory>
+    ensures { OnOk result (line.new ≡ line.old ++ tried_words fence) }
+{
+    line.text(" tried ")?;
+    line.decimal(u64::from(fence.executions))?;
+    line.text(" before ")?;
+    line.hex(fence.pc, 16)
+}
+
 /// Adds the first line of a missing fence.
 #[tactic(auto, unfolding(crate::specs::Text::missing_line))]
 fn add_front(
     line: &mut Line,
     number: u64,
-    fence: FenceKind,
+    fence: TriedFence,
     numbers: Tally,
 ) -> Result<(), OutOfMemory>
     ensures { OnOk result (line.new ≡ line.old ++ missing_line number fence numbers) }
 {
     line.text("missing ")?;
     line.decimal(number)?;
-    add_fence(line, fence)?;
+    add_fence(line, fence.kind)?;
     add_numbers(line, numbers)?;
+    add_tried(line, fence)?;
     line.text("\n")
 }
 
@@ -113,7 +125,7 @@ fn add_missing(
 ) -> Result<(), OutOfMemory>
     ensures { OnOk result (line.new ≡ line.old ++ missing_text ranges.now number missing.now) }
 {
-    add_front(line, number, missing.gap.fence, missing.numbers)?;
+    add_front(line, number, missing.fence, missing.numbers)?;
     add_gap(alloc, line, &missing.gap)?;
     add_moved(alloc, line, &missing.moved)?;
     add_failure(line, ranges, &missing.failure)?;
