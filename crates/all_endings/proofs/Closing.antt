@@ -213,7 +213,7 @@ hart_in (x ∷ hs) (suc h) l = hart_in hs h (omega (arith, l))
 
 -- what a run has done and what it was offered, up to an index from which its hart stores nothing among these
 module _ (s : Setting) (k h i : ℕ) (start : Hart) (moves : List Move) (state : RunState) (runs : Runs s.image h (list s) (opening_bytes s.image) (run_start start) moves state)
-    (short : length moves ≤ k) (so_far : SoFar s h start i moves) (rest_later : (b : ℕ) → i ≤ b → (event s.t b).hart ≡ h → is_store (event s.t b) ≡ true → s.n < time s b) where
+    (short : length moves ≤ k) (so_far : SoFar s h start i moves state) (rest_later : (b : ℕ) → i ≤ b → (event s.t b).hart ≡ h → is_store (event s.t b) ≡ true → s.n < time s b) where
   before_it : (w : ℕ) → (event s.t w).hart ≡ h → is_store (event s.t w) ≡ true → time s w ≤ s.n → w < i
   before_it w here store l = elim (cases_lt w i) [
     | inl k ↦ k
@@ -241,7 +241,7 @@ module _ (s : Setting) (k h i : ℕ) (start : Hart) (moves : List Move) (state :
         offers = o.offers;
         rest = o.rest;
         state = state;
-        runs = subst (λ (vs : List Move). Runs s.image h (list s) (opening_bytes s.image) (run_start start) vs state) o.joined runs;
+        runs = o.onward;
         pays = subst (Pays h (list s)) o.joined pays_all;
         short = (let l = ap length o.joined in omega (arith, l, short));
       }

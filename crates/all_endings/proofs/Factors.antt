@@ -57,21 +57,22 @@ use Rattle.all_endings.proofs.StoreMoves.{exchange_moves, fail_moves, succeed_mo
 -- ---- a run so far
 
 -- a run on which a store was offered
-pub record Offered (s : Setting) (h : ℕ) (start : Hart) (moves : List Move) (next : Stored) : Type 0 where
+pub record Offered (s : Setting) (h : ℕ) (start : Hart) (moves : List Move) (state : RunState) (next : Stored) : Type 0 where
   pub before : List Move
   pub at : RunState
   pub leads : Runs s.image h (list s) (opening_bytes s.image) (run_start start) before at
   pub offers : Offers s.image h (list s) (opening_bytes s.image) at next
   pub rest : List Move
+  pub onward : Runs s.image h (list s) (opening_bytes s.image) at rest state
   pub joined : moves ≡ before ++ rest
 
 abbrev pub Paid : List Move → ℕ → Type 0
 Paid moves k = (v : Move) × Contains moves v × (stores v.access ≡ true) × (v.time ≡ k)
 
 -- of the stores that hart h did before an index the first ones are done, and the next one was offered
-pub record SoFar (s : Setting) (h : ℕ) (start : Hart) (i : ℕ) (moves : List Move) : Type 0 where
+pub record SoFar (s : Setting) (h : ℕ) (start : Hart) (i : ℕ) (moves : List Move) (state : RunState) : Type 0 where
   pub paid : (w : ℕ) → w < i → (event s.t w).hart ≡ h → is_store (event s.t w) ≡ true → time s w < s.n → Paid moves (time s w)
-  pub offered : (w : ℕ) → w < i → (event s.t w).hart ≡ h → is_store (event s.t w) ≡ true → time s w ≡ s.n → Offered s h start moves (told (event s.t w))
+  pub offered : (w : ℕ) → w < i → (event s.t w).hart ≡ h → is_store (event s.t w) ≡ true → time s w ≡ s.n → Offered s h start moves state (told (event s.t w))
 
 -- the order has no more stores than are known
 abbrev pub Total : Setting → Type 0
@@ -83,7 +84,7 @@ pub record Going (s : Setting) (q : Standing) (h : ℕ) (start : Hart) (i : ℕ)
   pub runs : Runs s.image h (list s) (opening_bytes s.image) (run_start start) moves state
   pub are : AreMoves s.n h q s.g i moves
   pub follows : Follows s h i held state k
-  pub so_far : SoFar s h start i moves
+  pub so_far : SoFar s h start i moves state
   pub output : Total s → state.output ≡ map (λ n. Some n) out
   pub halting : (k.stop ≡ None) ⊎ ((stop : Stop) × (k.stop ≡ Some stop) × Halts s.image state stop)
 
@@ -94,7 +95,7 @@ pub record Stuck (s : Setting) (q : Standing) (h : ℕ) (start : Hart) : Type 0 
   pub state : RunState
   pub runs : Runs s.image h (list s) (opening_bytes s.image) (run_start start) moves state
   pub are : AreMoves s.n h q s.g index moves
-  pub so_far : SoFar s h start index moves
+  pub so_far : SoFar s h start index moves state
   pub known : Total s → KnowsRegisters state
   pub breaks : (IsUnknown s.image state × StoresLater s.n h q s.g index) ⊎ IsOpenCall s.image state
 
@@ -107,34 +108,41 @@ contains_last vs v = (length vs, (let m = length-append vs (v ∷ []) in omega (
 paid_more : (vs ws : List Move) (k : ℕ) → Paid vs k → Paid (vs ++ ws) k
 paid_more vs ws k p = (p.0, contains_more vs ws p.0 p.1, p.2, p.3)
 
-offered_more : (s : Setting) (h : ℕ) (start : Hart) (vs ws : List Move) (next : Stored) → Offered s h start vs next → Offered s h start (vs ++ ws) next
-offered_more s h start vs ws next o = record {
+-- a move more
+abbrev More : Setting → ℕ → RunState → Move → Type 0
+More s h a v =
+    (b : RunState) (vs : List Move) → Runs s.image h (list s) (opening_bytes s.image) b vs a → Runs s.image h (list s) (opening_bytes s.image) b (vs ++ v ∷ []) (moved h (list s) a v)
+
+offered_more : (s : Setting) (h : ℕ) (start : Hart) (vs : List Move) (a : RunState) (v : Move) (next : Stored) → More s h a v → Offered s h start vs a next →
+    Offered s h start (vs ++ v ∷ []) (moved h (list s) a v) next
+offered_more s h start vs a v next more o = record {
   before = o.before;
   at = o.at;
   leads = o.leads;
   offers = o.offers;
-  rest = o.rest ++ ws;
-  joined = ap (λ (us : List Move). us ++ ws) o.joined ∙ append_assoc o.before o.rest ws;
+  rest = o.rest ++ v ∷ [];
+  onward = more o.at o.rest o.onward;
+  joined = ap (λ (us : List Move). us ++ v ∷ []) o.joined ∙ append_assoc o.before o.rest (v ∷ []);
 }
 
-so_far_other : (s : Setting) (h : ℕ) (start : Hart) (i : ℕ) (vs : List Move) → (event s.t i).hart ≢ h → SoFar s h start i vs → SoFar s h start (suc i) vs
-so_far_other s h start i vs other f = record {
+so_far_other : (s : Setting) (h : ℕ) (start : Hart) (i : ℕ) (vs : List Move) (a : RunState) → (event s.t i).hart ≢ h → SoFar s h start i vs a → SoFar s h start (suc i) vs a
+so_far_other s h start i vs a other f = record {
   paid = λ w l here store early. f.paid w (not_it s h i w other l here) here store early;
   offered = λ w l here store now. f.offered w (not_it s h i w other l here) here store now;
 }
 
 so_far_own : (s : Setting) (h : ℕ) (start : Hart) (i : ℕ) (vs : List Move) (v : Move) (a : RunState) → v.access ≡ bare (event s.t i).access →
     (stores (event s.t i).access ≡ true → time s i < s.n → v.time ≡ time s i) →
-    (is_store (event s.t i) ≡ true → time s i ≡ s.n → Offers s.image h (list s) (opening_bytes s.image) a (told (event s.t i))) →
-    Runs s.image h (list s) (opening_bytes s.image) (run_start start) vs a → SoFar s h start i vs → SoFar s h start (suc i) (vs ++ v ∷ [])
-so_far_own s h start i vs v a e listed offers runs f = record {
+    (is_store (event s.t i) ≡ true → time s i ≡ s.n → Offers s.image h (list s) (opening_bytes s.image) a (told (event s.t i))) → More s h a v →
+    Runs s.image h (list s) (opening_bytes s.image) (run_start start) vs a → SoFar s h start i vs a → SoFar s h start (suc i) (vs ++ v ∷ []) (moved h (list s) a v)
+so_far_own s h start i vs v a e listed offers more runs f = record {
   paid = λ w l here store early. elim (cases_lt w i) [
     | inl k ↦ paid_more vs (v ∷ []) (time s w) (f.paid w k here store early)
     | inr k ↦ let same : i ≡ w = omega (arith, k, l) in subst (λ (j : ℕ). Paid (vs ++ v ∷ []) (time s j)) same (new (ap (λ (j : ℕ). is_store (event s.t j)) same ∙ store) (subst (λ (j : ℕ). time s j < s.n) (sym same) early))
   ];
   offered = λ w l here store now. elim (cases_lt w i) [
-    | inl k ↦ offered_more s h start vs (v ∷ []) (told (event s.t w)) (f.offered w k here store now)
-    | inr k ↦ let same : i ≡ w = omega (arith, k, l) in subst (λ (j : ℕ). Offered s h start (vs ++ v ∷ []) (told (event s.t j))) same
+    | inl k ↦ offered_more s h start vs a v (told (event s.t w)) more (f.offered w k here store now)
+    | inr k ↦ let same : i ≡ w = omega (arith, k, l) in subst (λ (j : ℕ). Offered s h start (vs ++ v ∷ []) (moved h (list s) a v) (told (event s.t j))) same
         (offer (ap (λ (j : ℕ). is_store (event s.t j)) same ∙ store) (ap (λ (j : ℕ). time s j) same ∙ now))
   ];
 }
@@ -142,8 +150,8 @@ so_far_own s h start i vs v a e listed offers runs f = record {
     new : is_store (event s.t i) ≡ true → time s i < s.n → Paid (vs ++ v ∷ []) (time s i)
     new store early = (v, contains_last vs v, ap stores e ∙ stores_bare (event s.t i).access ∙ store, listed store early)
 
-    offer : is_store (event s.t i) ≡ true → time s i ≡ s.n → Offered s h start (vs ++ v ∷ []) (told (event s.t i))
-    offer store now = record { before = vs; at = a; leads = runs; offers = offers store now; rest = v ∷ []; joined = refl }
+    offer : is_store (event s.t i) ≡ true → time s i ≡ s.n → Offered s h start (vs ++ v ∷ []) (moved h (list s) a v) (told (event s.t i))
+    offer store now = record { before = vs; at = a; leads = runs; offers = offers store now; rest = v ∷ []; onward = more a [] (runs-none a); joined = refl }
 
 known_start : (x : List ℕ) (r : ℕ) → r < length x → is_some (get_or (map (λ v. Some v) x) r None) ≡ true
 known_start [] r l = absurd (omega (arith, l))
@@ -284,7 +292,8 @@ module _ (image : Memory) (q : Standing) (g : List ℕ) (n : ℕ) (fit : (i : �
       runs = runs-more (run_start first) w.state w.moves m.move w.runs (at ∙ ap (λ (x : Instr). Some x) (sym m.instruction)) m.acts m.stands;
       are = moves-own i w.moves m.move w.are here (record { instruction = m.instruction ∙ sym inst; access = m.matches.access; time = m.matches.passed });
       follows = follows_own the h i w.state k j m.move m.matches held w.follows;
-      so_far = so_far_own the h first i w.moves m.move w.state m.matches.access m.matches.listed offers w.runs w.so_far;
+      so_far = so_far_own the h first i w.moves m.move w.state m.matches.access m.matches.listed offers
+          (λ b vs r. runs-more b w.state vs m.move r (at ∙ ap (λ (x : Instr). Some x) (sym m.instruction)) m.acts m.stands) w.runs w.so_far;
       output = λ total. ap (λ (o : List (Option ℕ)). o ++ puts_out w.state.registers m.move.instruction) (w.output total)
           ∙ ap (λ (y : Instr). map (λ n. Some n) out ++ puts_out w.state.registers y) m.instruction
           ∙ ap (λ (o : List (Option ℕ)). map (λ n. Some n) out ++ o) (puts_of_run instr w.state k w.follows.lags.registers (knows_all the h i held w.state k w.follows total))
@@ -307,7 +316,7 @@ module _ (image : Memory) (q : Standing) (g : List ℕ) (n : ℕ) (fit : (i : �
   on_other : (i : ℕ) (held : Option Span) (out : List ℕ) (k : Hart) → (event q.events i).hart ≢ h → On i held out k → On (suc i) held out k
   on_other i held out k other on = elim on [
     | inl stuck ↦ inl stuck
-    | inr w ↦ inr (record { moves = w.moves; state = w.state; runs = w.runs; are = moves-other i w.moves w.are other; follows = follows_other the h i held w.state k other w.follows; so_far = so_far_other the h first i w.moves other w.so_far; output = w.output; halting = w.halting })
+    | inr w ↦ inr (record { moves = w.moves; state = w.state; runs = w.runs; are = moves-other i w.moves w.are other; follows = follows_other the h i held w.state k other w.follows; so_far = so_far_other the h first i w.moves w.state other w.so_far; output = w.output; halting = w.halting })
   ]
 
   on_own : (i : ℕ) (held : Option Span) (out : List ℕ) (k j : Hart) (instr : Instr) (access : Option Access) → i ≤ length q.events → (event q.events i).hart ≡ h → slice_index_or q.instructions i Ecall ≡ instr →

@@ -2,6 +2,7 @@ mod Bare
 mod Blocking
 mod Closing
 mod DecodedRegisters
+mod Earlier
 mod Effects
 mod Endings
 mod Factors
@@ -25,3 +26,4 @@ mod StoreLists
 mod StoreMoves
 mod Tables
 mod Times
+mod Walking

@@ -1,38 +1,34 @@
 -- What a state can do, each lower one can.
-use Rattle.std.proofs.Common.{◌≡◌, ◌≢◌, ℕ, ◌+◌, ◌<◌, ◌≤◌, ◌&&◌, ◌||◌, max, Bool, true, false, if◌then◌else◌, List, [], ◌∷◌, ◌++◌, length, Option, Some, None, option_map, refl, sym, ap, ◌∙◌, subst, arith}
+use Rattle.std.proofs.Common.{◌≡◌, ℕ, ◌+◌, ◌≤◌, ◌&&◌, max, Bool, true, false, if◌then◌else◌, List, ◌++◌, length, Option, Some, None, option_map, refl, sym, ap, ◌∙◌, subst, arith}
 use Rattle.pages.specs.declared.access.Width.{Width}
 use Rattle.pages.specs.Memory.{Memory}
-use Rattle.rv64_decode.specs.declared.instruction.Instr.{Instr}
-use Rattle.round_schedule.specs.declared.span.Span.{Span}
 use Rattle.round_schedule.specs.Accesses.{is_lr, loads, writes}
 use Rattle.round_schedule.specs.Held.{held_after_own}
 use Rattle.hart_step.specs.DecodedCode.{decoded}
-use Rattle.hart_step.specs.Effect.{Action, action}
+use Rattle.hart_step.specs.Effect.{action}
 use Rattle.hart_step.specs.Numbers.{plus}
 use Rattle.hart_step.specs.Step.{cut}
-use Rattle.hart_step.specs.Registers.{reg}
 use Rattle.memory_order.specs.Operations.{covers}
 use Rattle.memory_order.specs.Registers.{registers_of}
 use Rattle.rule_checker.specs.CarriedBounds.{AreRegisters, operand_bound}
 use Rattle.rule_checker.specs.declared.annotated.KindBounds.{KindBounds}
 use Rattle.rule_checker.specs.declared.carried.Carried.{Carried}
-use Rattle.all_endings.specs.HartRuns.{Acts, Gets, IsPast, IsPlaced, IsRead, KnowsAll, KnowsMost, Runs, Stands, acts, branches, calls, data_of, exchanges, exchanges-unknown, fails, forwarded, gets, gets-later, jumps, orders, puts, puts-unknown, reads, remembered, reserves, runs-more, runs-none, stores, succeeds}
+use Rattle.all_endings.specs.HartRuns.{Acts, Gets, IsPast, IsPlaced, IsRead, KnowsAll, KnowsMost, Runs, Stands, acts, branches, calls, exchanges, exchanges-unknown, fails, forwarded, gets, gets-later, jumps, orders, puts, puts-unknown, reads, remembered, reserves, runs-more, runs-none, stores, succeeds}
 use Rattle.all_endings.specs.Locality.{Knows, KnowsButData, filled, set_view, view, without_data}
 use Rattle.all_endings.specs.Lowering.{CarriedAtMost, IsLower, KindsAtMost, LowerStatesDoAsMuch, OwnAtMost, own-both, own-none}
-use Rattle.all_endings.specs.Offering.{Offers}
 use Rattle.all_endings.specs.RunStates.{Move, OwnByte, RunState, answers_to, behind, moved, operates, puts_out}
 use Rattle.all_endings.specs.StoreLists.{Stored}
 use Rattle.execution.specs.Progressing.{step_event}
 use Rattle.all_endings.proofs.DecodedRegisters.{decoded_fits}
 use Rattle.all_endings.proofs.Times.{CarriedBelow, KindsBelow, allowed_below, carried_below_after, kinds_below_after, may_below, operands_below, Rises}
 
-abbrev same : ℕ → ℕ
+abbrev pub same : ℕ → ℕ
 same x = x
 
-rises : Rises same
+pub rises : Rises same
 rises p q l = l
 
-kinds_below : (a b : KindBounds) → KindsAtMost a b → KindsBelow same a b
+pub kinds_below : (a b : KindBounds) → KindsAtMost a b → KindsBelow same a b
 kinds_below a b k = record {
   loads = k.loads;
   stores = k.stores;
@@ -44,7 +40,7 @@ kinds_below a b k = record {
   store_store = k.store_store;
 }
 
-kinds_most : (a b : KindBounds) → KindsBelow same a b → KindsAtMost a b
+pub kinds_most : (a b : KindBounds) → KindsBelow same a b → KindsAtMost a b
 kinds_most a b k = record {
   loads = k.loads;
   stores = k.stores;
@@ -56,10 +52,10 @@ kinds_most a b k = record {
   store_store = k.store_store;
 }
 
-carried_down : (a b : Carried) → CarriedAtMost a b → CarriedBelow same a b
+pub carried_down : (a b : Carried) → CarriedAtMost a b → CarriedBelow same a b
 carried_down a b k = record { small = k.small; size = k.size; registers = k.registers; steered = k.steered; addressed = k.addressed }
 
-carried_most : (a b : Carried) → CarriedBelow same a b → CarriedAtMost a b
+pub carried_most : (a b : Carried) → CarriedBelow same a b → CarriedAtMost a b
 carried_most a b k = record { small = k.small; size = k.size; registers = k.registers; steered = k.steered; addressed = k.addressed }
 
 -- ---- one move
@@ -116,7 +112,7 @@ module _ (image : Memory) (h : ℕ) (m : List Stored) (opening : ℕ → ℕ) (a
   gets_low address w _ (gets n early fits bytes) = gets n early fits (λ k l. read_low v.time (address + k) _ _ (bytes k l))
   gets_low address w _ (gets-later late none) = gets-later late none
 
-  acts_low : (HasPlace : Move → Type 0) → Acts image h m opening HasPlace b v → Acts image h m opening HasPlace a v
+  pub acts_low : (HasPlace : Move → Type 0) → Acts image h m opening HasPlace b v → Acts image h m opening HasPlace a v
   acts_low P (puts rd n k is e r x) = puts rd n (all k) (acts_same ∙ is) e r (following v.next x)
   acts_low P (puts-unknown rd n k is e r x) = puts-unknown rd n (not_all k) (acts_same ∙ is) e r (following v.next x)
   acts_low P (jumps rd target k is even e r x) = jumps rd target (all k) (acts_same ∙ is) even e (number_at v.result r) x
@@ -137,7 +133,7 @@ module _ (image : Memory) (h : ℕ) (m : List Stored) (opening : ℕ → ℕ) (a
   acts_low P (calls number answer ecall at nonzero answered e r x) = calls number answer ecall (view_same 17 ∙ at) nonzero answered e r (following v.next x)
 
   module _ (fit : AreRegisters (registers_of v.instruction)) where
-    stands_low : Stands b v → Stands a v
+    pub stands_low : Stands b v → Stands a v
     stands_low s = record {
       kinds = allowed_below same rises a.kinds b.kinds v.access v.time (kinds_below a.kinds b.kinds low.kinds) s.kinds;
       carried = may_below same rises a.carried b.carried (registers_of v.instruction) v.access v.time fit (carried_down a.carried b.carried low.carried) s.carried;
@@ -165,7 +161,7 @@ module _ (image : Memory) (h : ℕ) (m : List Stored) (opening : ℕ → ℕ) (a
     kept true f u w x l = omega arith
     kept false f u w x l = l
 
-    moved_low : IsLower (moved h m a v) (moved h m b v)
+    pub moved_low : IsLower (moved h m a v) (moved h m b v)
     moved_low = record {
       pc = refl;
       registers = ap (λ (r : List (Option ℕ)). set_view r (answers_to v.instruction) v.result) low.registers;

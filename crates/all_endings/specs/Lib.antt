@@ -1,4 +1,5 @@
 pub mod Decoded
+pub mod Earlier
 pub mod Endings
 pub mod Factorizing
 pub mod Halting
@@ -11,3 +12,4 @@ pub mod Sources
 pub mod StoreLists
 pub mod Tables
 pub mod Times
+pub mod Walking

@@ -43,7 +43,7 @@ pub record IsOffered (k : ℕ) (image : Memory) (h : ℕ) (m : List Stored) (ope
   pub offers : Offers image h m opening at s
   pub rest : List Move
   pub state : RunState
-  pub runs : Runs image h m opening (run_start start) (before ++ rest) state
+  pub runs : Runs image h m opening at rest state
   pub pays : Pays h m (before ++ rest)
   pub short : length (before ++ rest) ≤ k
 

@@ -1,6 +1,7 @@
 //! Laws of the definitions, each the contract of a function that does nothing.
 
 ghost use Rattle.all_endings.specs.Decoded.{RegistersAreRegisters};
+ghost use Rattle.all_endings.specs.Earlier.{EarlierMovesAreLower};
 ghost use Rattle.all_endings.specs.Endings.{EndsAreLast};
 ghost use Rattle.all_endings.specs.Lowering.{LowerStatesDoAsMuch};
 ghost use Rattle.all_endings.specs.Offering.{ClosedListsHaveAll};
@@ -9,6 +10,7 @@ ghost use Rattle.all_endings.specs.StoreLists.{StoresStandAtTimes};
 ghost use Rattle.all_endings.specs.Tables.{ClosedTablesAreWhole};
 ghost use Rattle.all_endings.specs.Times.{OperationsStandInTime};
 ghost use Rattle.all_endings.specs.Factorizing.{Factorizes, RunsStartThere};
+ghost use Rattle.all_endings.specs.Walking.{WalkedTablesAreWhole};
 ghost use Rattle.all_endings.specs.Locality.{ActionIsLocal, ActionIsLocalButData, DestinationsAreWritten, FilledActs, SetsRefine, StepIsLocal};
 
 /// Two register files that agree on an instruction's source registers give one action.
@@ -102,4 +104,15 @@ pub fn closed_tables_are_whole()
 /// What a state of a run can do, each one can whose bounds are at most its own.
 pub fn lower_states_do_as_much()
     ensures { LowerStatesDoAsMuch }
+{}
+
+/// If places of the harts' runs cover what each move of each of them leads to, and a table has the endings to which places lead, then it has
+/// the ending of every execution that RVWMO allows of at most so many instructions a hart.
+pub fn walked_tables_are_whole()
+    ensures { WalkedTablesAreWhole }
+{}
+
+/// Of moves that do the same the earliest leaves the lowest state: so a load takes the least time at which it reads what it reads.
+pub fn earlier_moves_are_lower()
+    ensures { EarlierMovesAreLower }
 {}
