@@ -26,7 +26,8 @@ raised_to : (c : Bool) (u v : ℕ) → c ≡ true → v ≤ (if c then max u v e
 raised_to true u v e = omega arith
 raised_to false u v e = absurd (cc)
 
-one_rises : (c : Bool) (x : Carried) (r : Registers) (e : Event) (n : ℕ) → (x.steered ≤ (if c then carried_after x r e n else x).steered) × (x.addressed ≤ (if c then carried_after x r e n else x).addressed)
+one_rises : (c : Bool) (x : Carried) (r : Registers) (e : Event) (n : ℕ) →
+    (x.steered ≤ (if c then carried_after x r e n else x).steered) × (x.addressed ≤ (if c then carried_after x r e n else x).addressed)
 one_rises true x r e n = (raised r.steers x.steered (sources_bound x r), omega arith)
 one_rises false x r e n = (omega arith, omega arith)
 

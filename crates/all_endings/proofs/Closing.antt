@@ -213,7 +213,8 @@ hart_in (x ∷ hs) (suc h) l = hart_in hs h (omega (arith, l))
 
 -- what a run has done and what it was offered, up to an index from which its hart stores nothing among these
 module _ (s : Setting) (k h i : ℕ) (start : Hart) (moves : List Move) (state : RunState) (runs : Runs s.image h (list s) (opening_bytes s.image) (run_start start) moves state)
-    (short : length moves ≤ k) (so_far : SoFar s h start i moves state) (rest_later : (b : ℕ) → i ≤ b → (event s.t b).hart ≡ h → is_store (event s.t b) ≡ true → s.n < time s b) where
+    (short : length moves ≤ k) (so_far : SoFar s h start i moves state) (rest_later : (b : ℕ) → i ≤ b → (event s.t b).hart ≡ h → is_store (event s.t b) ≡ true →
+    s.n < time s b) where
   before_it : (w : ℕ) → (event s.t w).hart ≡ h → is_store (event s.t w) ≡ true → time s w ≤ s.n → w < i
   before_it w here store l = elim (cases_lt w i) [
     | inl k ↦ k
@@ -232,7 +233,8 @@ module _ (s : Setting) (k h i : ℕ) (start : Hart) (moves : List Move) (state :
       let paid = so_far.paid f.index (before_it f.index h_is f.stores (omega (arith, t_is, m, l))) h_is f.stores (omega (arith, t_is, m, l)) in
       (paid.0, paid.1, paid.2, paid.3 ∙ t_is)
 
-  pub is_offered : (w : ℕ) → (event s.t w).hart ≡ h → is_store (event s.t w) ≡ true → time s w ≡ s.n → IsOffered k s.image h (list s) (opening_bytes s.image) start (told (event s.t w))
+  pub is_offered : (w : ℕ) → (event s.t w).hart ≡ h → is_store (event s.t w) ≡ true → time s w ≡ s.n →
+      IsOffered k s.image h (list s) (opening_bytes s.image) start (told (event s.t w))
   is_offered w here store now =
       let o = so_far.offered w (before_it w here store (omega (arith, now))) here store now in record {
         before = o.before;

@@ -107,7 +107,8 @@ rows_fit =
     (both_fit rv64m (rv32a ++ rv64a) rv64m_fit
     (both_fit rv32a rv64a rv32a_fit rv64a_fit))))
 
-one_fits : (b : Bool) (j i : Instr) (rest : Option Instr) → AreRegisters (registers_of j) → (rest ≡ Some i → AreRegisters (registers_of i)) → (if b then Some j else rest) ≡ Some i →
+one_fits : (b : Bool) (j i : Instr) (rest : Option Instr) → AreRegisters (registers_of j) → (rest ≡ Some i → AreRegisters (registers_of i)) →
+    (if b then Some j else rest) ≡ Some i →
     AreRegisters (registers_of i)
 one_fits true j i rest this others e = let same : j ≡ i = cc in subst (λ (k : Instr). AreRegisters (registers_of k)) same this
 one_fits false j i rest this others e = others e

@@ -33,7 +33,8 @@ kinds_idle (StoreConditional w o p x (Some v)) b n k e = absurd (cc)
 kinds_idle (Atomic w o p x r v) b n k e = absurd (cc)
 kinds_idle (Fence before after mode p) b n k e = refl
 
-carried_idle : (c : Carried) (x : Registers) (h : ℕ) (y : Access) (n k : ℕ) → (loads y || stores y) ≡ false → carried_after c x (step_event h (Some y)) n ≡ carried_after c x (step_event h (Some y)) k
+carried_idle : (c : Carried) (x : Registers) (h : ℕ) (y : Access) (n k : ℕ) → (loads y || stores y) ≡ false →
+    carried_after c x (step_event h (Some y)) n ≡ carried_after c x (step_event h (Some y)) k
 carried_idle c x h (Load w p z r) n k e = absurd (cc)
 carried_idle c x h (Store w p z v) n k e = absurd (cc)
 carried_idle c x h (LoadReserved w o p z r) n k e = absurd (cc)

@@ -164,15 +164,18 @@ module _ (image m : Memory) (n : ℕ) (own held : Option Span) (c : ConsoleState
   give : (a : Option Access) → Done a ≡ Done access → Did image own h g i a → Did image own h g i access
   give a e d = let same : a ≡ access = cc in subst (λ (x : Option Access). Did image own h g i x) same d
 
-  jump_told : (b : Bool) (rd target : ℕ) → action i h.x h.pc ≡ Jump rd target → (target % 4 == 0) ≡ b → Told (with_console c (if b then record { answer = Done None; hart = went_on h rd (next_pc h) target; stores = [] } else stopped_by h 4))
+  jump_told : (b : Bool) (rd target : ℕ) → action i h.x h.pc ≡ Jump rd target → (target % 4 == 0) ≡ b →
+      Told (with_console c (if b then record { answer = Done None; hart = went_on h rd (next_pc h) target; stores = [] } else stopped_by h 4))
   jump_told true rd target is b form e s = give None e (did-jump rd target is (eqb-true (target % 4) 0 b) s)
   jump_told false rd target is b form e s = cc
 
-  branch_told : (b : Bool) (target : ℕ) → action i h.x h.pc ≡ Branch true target → (target % 4 == 0) ≡ b → Told (with_console c (if b then record { answer = Done None; hart = went_on h 0 (next_pc h) target; stores = [] } else stopped_by h 4))
+  branch_told : (b : Bool) (target : ℕ) → action i h.x h.pc ≡ Branch true target → (target % 4 == 0) ≡ b →
+      Told (with_console c (if b then record { answer = Done None; hart = went_on h 0 (next_pc h) target; stores = [] } else stopped_by h 4))
   branch_told true target is b form e s = give None e (did-branch true target is (λ t. eqb-true (target % 4) 0 b) s)
   branch_told false target is b form e s = cc
 
-  read_told : (rd a : ℕ) (w : Width) (signed : Bool) (r : Result ℕ Fault) → action i h.x h.pc ≡ Read rd a w signed → loaded m a w ≡ r → Told (with_console c (read_by h rd a w signed r))
+  read_told : (rd a : ℕ) (w : Width) (signed : Bool) (r : Result ℕ Fault) → action i h.x h.pc ≡ Read rd a w signed → loaded m a w ≡ r →
+      Told (with_console c (read_by h rd a w signed r))
   read_told rd a w signed (Err f) is l form e s = cc
   read_told rd a w signed (Ok v) is l form e s =
       let same : access ≡ Some (Load w h.done a v) = cc in
@@ -182,7 +185,8 @@ module _ (image m : Memory) (n : ℕ) (own held : Option Span) (c : ConsoleState
   write_told a w v (Some f) is l form e s = cc
   write_told a w v None is l form e s = give (Some (Store w h.done a (cut w v))) e (did-write a v w is (writable_like image m a w like l) s)
 
-  reserve_told : (rd a : ℕ) (w : Width) (o : AcquireRelease) (r : Result ℕ Fault) → action i h.x h.pc ≡ Reserve rd a w o → loaded m a w ≡ r → Told (with_console c (reserved_by h rd a w o r))
+  reserve_told : (rd a : ℕ) (w : Width) (o : AcquireRelease) (r : Result ℕ Fault) → action i h.x h.pc ≡ Reserve rd a w o → loaded m a w ≡ r →
+      Told (with_console c (reserved_by h rd a w o r))
   reserve_told rd a w o (Err f) is l form e s = cc
   reserve_told rd a w o (Ok v) is l form e s =
       let same : access ≡ Some (LoadReserved w o h.done a v) = cc in
@@ -230,16 +234,19 @@ word_is : {A : Type 0} (w : Option ℕ) (i : Instr) (a b : A) (f : Instr → A) 
 word_is None i a b f e = absurd (cc)
 word_is (Some w) i a b f e = instr_is (instr_of w) i b f e
 
-served_is : (image m : Memory) (n : ℕ) (h : Hart) (c : ConsoleState) (r : Option Span) (i : Instr) → IsLike image m → decoded image h.pc ≡ Some i → serial_stepped n h m c r ≡ served (action i h.x h.pc) n h m c r
+served_is : (image m : Memory) (n : ℕ) (h : Hart) (c : ConsoleState) (r : Option Span) (i : Instr) → IsLike image m → decoded image h.pc ≡ Some i →
+    serial_stepped n h m c r ≡ served (action i h.x h.pc) n h m c r
 unfolding serial_stepped decoded
 served_is image m n h c r i like known =
     word_is (fetched m h.pc) i (with_console c (stopped_by h 3)) (with_console c (stopped_by h 2)) (λ j. served (action j h.x h.pc) n h m c r) (decoded_like image m h.pc like ∙ known)
 
-form_of : (m : Memory) (n : ℕ) (h : Hart) (c : ConsoleState) (r : Option Span) → All (λ b. b < 2 ^ 8) m.bytes → (access : Option Access) → (serial_stepped n h m c r).answer ≡ Done access → (a : Access) → access ≡ Some a → Formed (length m.bytes) a
+form_of : (m : Memory) (n : ℕ) (h : Hart) (c : ConsoleState) (r : Option Span) → All (λ b. b < 2 ^ 8) m.bytes → (access : Option Access) →
+    (serial_stepped n h m c r).answer ≡ Done access → (a : Access) → access ≡ Some a → Formed (length m.bytes) a
 form_of m n h c r bytes access e a same =
     (has_forms m.code).serial_forms n h m.bytes c r a bytes (e ∙ ap (λ (x : Option Access). Done x) same)
 
-pub step_did : (image : Memory) (n : ℕ) (own : Option Span) (c d : ConsoleState) (h g : Hart) (access : Option Access) (i : Instr) → IsStep image n own c d h g (Done access) → decoded image h.pc ≡ Some i →
+pub step_did : (image : Memory) (n : ℕ) (own : Option Span) (c d : ConsoleState) (h g : Hart) (access : Option Access) (i : Instr) →
+    IsStep image n own c d h g (Done access) → decoded image h.pc ≡ Some i →
     nat_lt (length c.output) output_room ≡ true → Did image own h g i access
 step_did image n own c d h g access i s known room =
     let is = served_is image s.seen n h c s.held i s.like known in
@@ -256,12 +263,14 @@ called_puts : (b : Bool) (n : ℕ) (h : Hart) (c : ConsoleState) (access : Optio
 called_puts true n h c access e = absurd (cc)
 called_puts false n h c access e = call_puts n (reg h.x 17) (reg h.x 10) c
 
-instr_puts : (m : Memory) (n : ℕ) (h : Hart) (c : ConsoleState) (r : Option Span) (i : Instr) (access : Option Access) → (served (action i h.x h.pc) n h m c r).answer ≡ Done access →
+instr_puts : (m : Memory) (n : ℕ) (h : Hart) (c : ConsoleState) (r : Option Span) (i : Instr) (access : Option Access) →
+    (served (action i h.x h.pc) n h m c r).answer ≡ Done access →
     (served (action i h.x h.pc) n h m c r).console.output ≡ c.output ++ put_at c i h.x
 instr_puts m n h c r Ecall access e = called_puts (reg h.x 17 == 0) n h c access e
 instr_puts m n h c r _ access e = none_put (nat_lt (length c.output) output_room) c.output
 
-pub step_puts : (image : Memory) (n : ℕ) (own : Option Span) (c d : ConsoleState) (h g : Hart) (access : Option Access) (i : Instr) → IsStep image n own c d h g (Done access) → decoded image h.pc ≡ Some i →
+pub step_puts : (image : Memory) (n : ℕ) (own : Option Span) (c d : ConsoleState) (h g : Hart) (access : Option Access) (i : Instr) →
+    IsStep image n own c d h g (Done access) → decoded image h.pc ≡ Some i →
     d.output ≡ c.output ++ put_at c i h.x
 step_puts image n own c d h g access i s known =
     let is = served_is image s.seen n h c s.held i s.like known in

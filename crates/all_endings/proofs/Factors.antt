@@ -111,7 +111,8 @@ paid_more vs ws k p = (p.0, contains_more vs ws p.0 p.1, p.2, p.3)
 -- a move more
 abbrev More : Setting → ℕ → RunState → Move → Type 0
 More s h a v =
-    (b : RunState) (vs : List Move) → Runs s.image h (list s) (opening_bytes s.image) b vs a → Runs s.image h (list s) (opening_bytes s.image) b (vs ++ v ∷ []) (moved h (list s) a v)
+    (b : RunState) (vs : List Move) → Runs s.image h (list s) (opening_bytes s.image) b vs a →
+    Runs s.image h (list s) (opening_bytes s.image) b (vs ++ v ∷ []) (moved h (list s) a v)
 
 offered_more : (s : Setting) (h : ℕ) (start : Hart) (vs : List Move) (a : RunState) (v : Move) (next : Stored) → More s h a v → Offered s h start vs a next →
     Offered s h start (vs ++ v ∷ []) (moved h (list s) a v) next
@@ -282,9 +283,11 @@ module _ (image : Memory) (q : Standing) (g : List ℕ) (n : ℕ) (fit : (i : �
   abbrev pub On : ℕ → Option Span → List ℕ → Hart → Type 0
   On i held out k = Stuck the q h first ⊎ Going the q h first i held out k
 
-  own_step : (i : ℕ) (held : Option Span) (out : List ℕ) (k j : Hart) (instr : Instr) (w : Going the q h first i held out k) → j.stop ≡ None → i ≤ length q.events → (event q.events i).hart ≡ h → slice_index_or q.instructions i Ecall ≡ instr →
+  own_step : (i : ℕ) (held : Option Span) (out : List ℕ) (k j : Hart) (instr : Instr) (w : Going the q h first i held out k) → j.stop ≡ None → i ≤ length q.events →
+      (event q.events i).hart ≡ h → slice_index_or q.instructions i Ecall ≡ instr →
       decoded image k.pc ≡ Some instr → MovesOrBlocks the h i w.state k j instr →
-      (is_store (event q.events i) ≡ true → time the i ≡ n → Offers image h (list the) (opening_bytes image) w.state (told (event q.events i))) → On (suc i) (held_after_own (event q.events i).access held) (out ++ put_in instr k.x) j
+      (is_store (event q.events i) ≡ true → time the i ≡ n → Offers image h (list the) (opening_bytes image) w.state (told (event q.events i))) →
+      On (suc i) (held_after_own (event q.events i).access held) (out ++ put_in instr k.x) j
   own_step i held out k j instr w running small here inst decodes next offers = elim next [
     | inl m ↦ inr (record {
       moves = w.moves ++ m.move ∷ [];
@@ -319,7 +322,8 @@ module _ (image : Memory) (q : Standing) (g : List ℕ) (n : ℕ) (fit : (i : �
     | inr w ↦ inr (record { moves = w.moves; state = w.state; runs = w.runs; are = moves-other i w.moves w.are other; follows = follows_other the h i held w.state k other w.follows; so_far = so_far_other the h first i w.moves w.state other w.so_far; output = w.output; halting = w.halting })
   ]
 
-  on_own : (i : ℕ) (held : Option Span) (out : List ℕ) (k j : Hart) (instr : Instr) (access : Option Access) → i ≤ length q.events → (event q.events i).hart ≡ h → slice_index_or q.instructions i Ecall ≡ instr →
+  on_own : (i : ℕ) (held : Option Span) (out : List ℕ) (k j : Hart) (instr : Instr) (access : Option Access) → i ≤ length q.events → (event q.events i).hart ≡ h →
+      slice_index_or q.instructions i Ecall ≡ instr →
       decoded image k.pc ≡ Some instr → Did image held k j instr access → (event q.events i).access ≡ unwrap_or access no_access → k.stop ≡ None → On i held out k →
       On (suc i) (held_after_own (event q.events i).access held) (out ++ put_in instr k.x) j
   on_own i held out k j instr access small here inst decodes did e running on = elim on [
@@ -378,7 +382,8 @@ module _ (image : Memory) (q : Standing) (g : List ℕ) (n : ℕ) (fit : (i : �
       subst (λ (i : ℕ). On i (own_held h p.events) out (hart_of p)) (sym l)
       (subst (λ (y : Option Span). On (length u.events) y out (hart_of p)) (sym o) (subst (λ (y : Hart). On (length u.events) (own_held h u.events) out y) (sym k) on))
 
-  next_place : (p u : Standing) (e : Event) (held : Option Span) (out more : List ℕ) (j : Hart) → p.events ≡ u.events ++ e ∷ [] → own_held h p.events ≡ held → hart_of p ≡ j → out ≡ more →
+  next_place : (p u : Standing) (e : Event) (held : Option Span) (out more : List ℕ) (j : Hart) → p.events ≡ u.events ++ e ∷ [] → own_held h p.events ≡ held →
+      hart_of p ≡ j → out ≡ more →
       On (suc (length u.events)) held out j → After p more
   next_place p u e held out more j is o k same on =
       let l : length p.events ≡ suc (length u.events) = let a = ap length is ∙ length-append u.events (e ∷ []) in omega (arith, a) in
@@ -386,7 +391,8 @@ module _ (image : Memory) (q : Standing) (g : List ℕ) (n : ℕ) (fit : (i : �
       (subst (λ (y : Option Span). On (suc (length u.events)) y more (hart_of p)) (sym o) (subst (λ (y : Hart). On (suc (length u.events)) held more y) (sym k)
       (subst (λ (y : List ℕ). On (suc (length u.events)) held y j) same on)))
 
-  one_goes : (i : ℕ) (u p : Standing) (rest : List Event) (more : List Instr) (out : List ℕ) → q.events ≡ p.events ++ rest → q.instructions ≡ p.instructions ++ more → length u.instructions ≡ length u.events →
+  one_goes : (i : ℕ) (u p : Standing) (rest : List Event) (more : List Instr) (out : List ℕ) → q.events ≡ p.events ++ rest → q.instructions ≡ p.instructions ++ more →
+      length u.instructions ≡ length u.events →
       h < length u.harts → length u.console.output ≤ base + length u.events → Goes image i u p → After u out →
       After p (out ++ (if i == h then drop (length u.console.output) p.console.output else []))
   one_goes i u p rest more out es is even small bound z on = elim (cases_eq i h) [
@@ -464,7 +470,8 @@ module _ (image : Memory) (q : Standing) (g : List ℕ) (n : ℕ) (fit : (i : �
         (subst (λ (y : Hart). IsStep image p.round (own_held i u.events) u.console p.console y z.after (Stopped z.code)) before z.step) on)
   ]
 
-  walk : (start p : Standing) (e : Executes image start p) → After start [] → length start.instructions ≡ length start.events → length start.events ≡ 0 → length start.console.output ≤ base → h < length start.harts →
+  walk : (start p : Standing) (e : Executes image start p) → After start [] → length start.instructions ≡ length start.events → length start.events ≡ 0 →
+      length start.console.output ≤ base → h < length start.harts →
       (rest : List Event) (more : List Instr) → q.events ≡ p.events ++ rest → q.instructions ≡ p.instructions ++ more → After p (own_output image start p h e)
   walk start p (begins _) on even none put small rest more es is = on
   walk start p (goes i _ u _ x z) on even none put small rest more es is =

@@ -71,7 +71,8 @@ stepped_rests m n h c r code =
     of_word (Rests h code) (fetched m h.pc) (with_console c (stopped_by h 3)) (with_console c (stopped_by h 2)) (λ i. served (action i h.x h.pc) n h m c r)
     (λ e. (refl, refl, refl)) (λ e. (refl, refl, refl)) (λ i. served_rests m (action i h.x h.pc) n h c r code)
 
-pub stop_rests : (image : Memory) (n : ℕ) (own : Option Span) (c d : ConsoleState) (h g : Hart) (code : ℕ) → IsStep image n own c d h g (Stopped code) → (g.x ≡ h.x) × (g.pc ≡ h.pc) × (is_some g.stop ≡ true)
+pub stop_rests : (image : Memory) (n : ℕ) (own : Option Span) (c d : ConsoleState) (h g : Hart) (code : ℕ) → IsStep image n own c d h g (Stopped code) →
+    (g.x ≡ h.x) × (g.pc ≡ h.pc) × (is_some g.stop ≡ true)
 stop_rests image n own c d h g code s =
     let r = stepped_rests s.seen n h c s.held code s.answers in
     (ap (λ (k : Hart). k.x) s.hart ∙ r.0, ap (λ (k : Hart). k.pc) s.hart ∙ r.1, ap (λ (k : Hart). is_some k.stop) s.hart ∙ r.2)

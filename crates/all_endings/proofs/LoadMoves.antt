@@ -65,7 +65,8 @@ module _ (s : Setting) (h i : ℕ) (held : Option Span) (a : RunState) (k j : Ha
   is_one : is_operation (event s.t i) ≡ true
   is_one = ap (λ (p : Bool). p || stores (event s.t i).access) loads_it
 
-  known_moves : (result : Option ℕ) (number next : ℕ) → is_some result ≡ true → ((m : ℕ) → result ≡ Some m → number ≡ m) → j.x ≡ set_reg k.x (answers_to instr) number → next ≡ j.pc →
+  known_moves : (result : Option ℕ) (number next : ℕ) → is_some result ≡ true → ((m : ℕ) → result ≡ Some m → number ≡ m) → j.x ≡ set_reg k.x (answers_to instr) number →
+      next ≡ j.pc →
       Acts s.image h (list s) (opening_bytes s.image) (IsPlaced h (list s)) a (load_of s i instr result next) → Moves s h i a k j instr
   known_moves result number next given got changes to doing = record {
     move = load_of s i instr result next;
@@ -127,7 +128,8 @@ module _ (s : Setting) (h i : ℕ) (held : Option Span) (a : RunState) (k j : Ha
   to : (rd number : ℕ) → j ≡ went_on k rd number (next_pc k) → plus a.pc 4 ≡ j.pc
   to rd number g = ap (λ (p : ℕ). plus p 4) follows.lags.pc ∙ sym (ap (λ (q : Hart). q.pc) g)
 
-  changed : (rd number : ℕ) (b : Action) → j ≡ went_on k rd number (next_pc k) → action instr k.x k.pc ≡ b → b ≢ Call → written_register b ≡ rd → j.x ≡ set_reg k.x (answers_to instr) number
+  changed : (rd number : ℕ) (b : Action) → j ≡ went_on k rd number (next_pc k) → action instr k.x k.pc ≡ b → b ≢ Call → written_register b ≡ rd →
+      j.x ≡ set_reg k.x (answers_to instr) number
   changed rd number b g is other at = ap (λ (q : Hart). q.x) g ∙ ap (λ (d : ℕ). set_reg k.x d number) (sym at ∙ writes_to instr k.x k.pc b is other)
 
   pub read_moves : (rd address v : ℕ) (w : Width) (signed : Bool) → (event s.t i).access ≡ Load w k.done address v → action instr k.x k.pc ≡ Read rd address w signed →
@@ -150,7 +152,8 @@ module _ (s : Setting) (h i : ℕ) (held : Option Span) (a : RunState) (k j : Ha
             ])
       ]
 
-  pub reserve_moves : (rd address v : ℕ) (w : Width) (o : AcquireRelease) → (event s.t i).access ≡ LoadReserved w o k.done address v → action instr k.x k.pc ≡ Reserve rd address w o →
+  pub reserve_moves : (rd address v : ℕ) (w : Width) (o : AcquireRelease) → (event s.t i).access ≡ LoadReserved w o k.done address v →
+      action instr k.x k.pc ≡ Reserve rd address w o →
       IsReadable s.image address w → Fills w v → j ≡ went_on k rd (sx (width_bits w) v) (next_pc k) → MovesOrBlocks s h i a k j instr
   reserve_moves rd address v w o e is readable fill g =
       let parts = and_parts ((registers_of instr).value == 0) (without_others (registers_of instr)) (sym (ap (fits (registers_of instr)) is) ∙ registers_fit instr k.x k.pc) in

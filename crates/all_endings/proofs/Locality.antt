@@ -238,12 +238,14 @@ module _ (h : Hart) (y : List ℕ) (c : ConsoleState) where
   reserve_same rd a w ordering (Err f) = record { answer = refl; stores = refl; console = refl; change = both-stop _ 0 refl refl }
   reserve_same rd a w ordering (Ok v) = record { answer = refl; stores = refl; console = refl; change = both-go _ (next_pc h) refl refl }
 
-  conditional_same : (rd a : ℕ) (w : Width) (v : ℕ) (ordering : AcquireRelease) (holds : Bool) (f : Option Fault) → Same rd (conditional_by h rd a w v ordering holds f) (conditional_by k rd a w v ordering holds f)
+  conditional_same : (rd a : ℕ) (w : Width) (v : ℕ) (ordering : AcquireRelease) (holds : Bool) (f : Option Fault) →
+      Same rd (conditional_by h rd a w v ordering holds f) (conditional_by k rd a w v ordering holds f)
   conditional_same rd a w v ordering holds (Some f) = record { answer = refl; stores = refl; console = refl; change = both-stop _ 0 refl refl }
   conditional_same rd a w v ordering true None = record { answer = refl; stores = refl; console = refl; change = both-go 0 (next_pc h) refl refl }
   conditional_same rd a w v ordering false None = record { answer = refl; stores = refl; console = refl; change = both-go 1 (next_pc h) refl refl }
 
-  exchange_same : (rd a : ℕ) (w : Width) (f : ℕ → ℕ) (ordering : AcquireRelease) (old : ℕ) (fault : Option Fault) → Same rd (exchanged_by h rd a w f ordering old fault) (exchanged_by k rd a w f ordering old fault)
+  exchange_same : (rd a : ℕ) (w : Width) (f : ℕ → ℕ) (ordering : AcquireRelease) (old : ℕ) (fault : Option Fault) →
+      Same rd (exchanged_by h rd a w f ordering old fault) (exchanged_by k rd a w f ordering old fault)
   exchange_same rd a w f ordering old (Some fault) = record { answer = refl; stores = refl; console = refl; change = both-stop _ 0 refl refl }
   exchange_same rd a w f ordering old None = record { answer = refl; stores = refl; console = refl; change = both-go _ (next_pc h) refl refl }
 

@@ -86,7 +86,8 @@ module _ (image : Memory) (h : ℕ) (m : List Stored) (opening : ℕ → ℕ) (a
   past_low _ _ time own-none past = past
   past_low _ _ time (own-both o p place byte atomic needs) past = omega (arith, place, past)
 
-  own_low : (o p : Option OwnByte) (q : OwnByte) → OwnAtMost o p → p ≡ Some q → (u : OwnByte) × (o ≡ Some u) × (u.place ≡ q.place) × (u.byte ≡ q.byte) × (u.atomic ≡ q.atomic) × (u.needs ≤ q.needs)
+  own_low : (o p : Option OwnByte) (q : OwnByte) → OwnAtMost o p → p ≡ Some q →
+      (u : OwnByte) × (o ≡ Some u) × (u.place ≡ q.place) × (u.byte ≡ q.byte) × (u.atomic ≡ q.atomic) × (u.needs ≤ q.needs)
   own_low _ _ q own-none e = absurd (cc)
   own_low _ _ q (own-both o p place byte atomic needs) e =
       let s : p ≡ q = cc in (

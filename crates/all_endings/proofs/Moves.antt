@@ -42,7 +42,8 @@ pub acts_all : (instr : Instr) (a : RunState) (k : Hart) → a.pc ≡ k.pc → (
     action instr (filled a.registers) a.pc ≡ action instr k.x k.pc
 acts_all instr a k pc refines all = ap (action instr (filled a.registers)) pc ∙ (filled_acts instr a.registers k.x k.pc refines).0 all
 
-pub acts_most : (instr : Instr) (a : RunState) (k : Hart) → a.pc ≡ k.pc → ((r n : ℕ) → view a.registers r ≡ Some n → reg k.x r ≡ n) → KnowsButData (registers_of instr) a.registers →
+pub acts_most : (instr : Instr) (a : RunState) (k : Hart) → a.pc ≡ k.pc → ((r n : ℕ) → view a.registers r ≡ Some n → reg k.x r ≡ n) →
+    KnowsButData (registers_of instr) a.registers →
     without_data (action instr (filled a.registers) a.pc) ≡ without_data (action instr k.x k.pc)
 acts_most instr a k pc refines most = ap (λ (p : ℕ). without_data (action instr (filled a.registers) p)) pc ∙ (filled_acts instr a.registers k.x k.pc refines).1 most
 

@@ -93,7 +93,8 @@ module _ (s : Setting) (h i : ℕ) (held : Option Span) (a : RunState) (k j : Ha
       offer (Some 0) (λ x. 0) (stores_it address w m (acts_most instr a k follows.lags.pc follows.lags.registers m ∙ ap without_data is) safe (ap bare e)
       (ap written_of e ∙ sym (ap (λ (o : Option ℕ). option_map (cut w) o) (data_at v (number_is (Write address w v) is)))) placed refl)
 
-  succeed_offer : (rd address v : ℕ) (w : Width) (o : AcquireRelease) → (event s.t i).access ≡ StoreConditional w o k.done address (Some (cut w v)) → action instr k.x k.pc ≡ Conditional rd address w v o →
+  succeed_offer : (rd address v : ℕ) (w : Width) (o : AcquireRelease) → (event s.t i).access ≡ StoreConditional w o k.done address (Some (cut w v)) →
+      action instr k.x k.pc ≡ Conditional rd address w v o →
       IsWritable s.image address w → held ≡ Some (record { address = address; width = w }) → Offers s.image h (list s) (opening_bytes s.image) a (told (event s.t i))
   succeed_offer rd address v w o e is safe holds =
       let m = most (class (Conditional rd address w v o) is) in
@@ -105,7 +106,8 @@ module _ (s : Setting) (h i : ℕ) (held : Option Span) (a : RunState) (k j : Ha
       own (reserved_in_time s h i a (record { address = address; width = w }) pair here sc store) placed
       (unbroken s h i a (record { address = address; width = w }) pair here sc store (next_of (Some 0) (λ x. 0)) (ap address_of e) (ap bytes_of e) refl (inl refl)) refl refl)
 
-  exchange_offer : (rd address old : ℕ) (w : Width) (f : ℕ → ℕ) (o : AcquireRelease) → (event s.t i).access ≡ Atomic w o k.done address old (f old) → action instr k.x k.pc ≡ Exchange rd address w f o →
+  exchange_offer : (rd address old : ℕ) (w : Width) (f : ℕ → ℕ) (o : AcquireRelease) → (event s.t i).access ≡ Atomic w o k.done address old (f old) →
+      action instr k.x k.pc ≡ Exchange rd address w f o →
       IsWritable s.image address w → Fills w old → Offers s.image h (list s) (opening_bytes s.image) a (told (event s.t i))
   exchange_offer rd address old w f o e is safe fill =
       let m = most (class (Exchange rd address w f o) is) in
@@ -119,7 +121,8 @@ module _ (s : Setting) (h i : ℕ) (held : Option Span) (a : RunState) (k j : Ha
   dry : (y : Access) → (event s.t i).access ≡ y → stores y ≡ false → ⊥
   dry y e d = let q : is_store (event s.t i) ≡ false = ap stores e ∙ d in cc
 
-  pub step_offers : (access : Option Access) → Did s.image held k j instr access → (event s.t i).access ≡ unwrap_or access no_access → Offers s.image h (list s) (opening_bytes s.image) a (told (event s.t i))
+  pub step_offers : (access : Option Access) → Did s.image held k j instr access → (event s.t i).access ≡ unwrap_or access no_access →
+      Offers s.image h (list s) (opening_bytes s.image) a (told (event s.t i))
   step_offers access (did-put rd v is g) e = absurd (dry no_access e refl)
   step_offers access (did-jump rd target is even g) e = absurd (dry no_access e refl)
   step_offers access (did-branch taken target is even g) e = absurd (dry no_access e refl)

@@ -160,7 +160,8 @@ module _ (s : Setting) (h i : ℕ) (a : RunState) (k j : Hart) (v : Move) (match
     ];
   }
     where
-      given : (e : Access) → stores e ≡ true → option_map (λ n. byte_of n (x - address_of v.access)) (written_of e) ≡ Some (byte_of (number_or_zero (written_of e)) (x - address_of v.access))
+      given : (e : Access) → stores e ≡ true →
+          option_map (λ n. byte_of n (x - address_of v.access)) (written_of e) ≡ Some (byte_of (number_or_zero (written_of e)) (x - address_of v.access))
       given e st = by_number (written_of e) st
         where
           by_number : (o : Option ℕ) → is_given o ≡ true → option_map (λ n. byte_of n (x - address_of v.access)) o ≡ Some (byte_of (number_or_zero o) (x - address_of v.access))

@@ -66,7 +66,8 @@ module _ (s : Setting) (h i : ℕ) (a : RunState) (span : Span) (pair : Reservin
       let c = after_store s w (and_parts (stores (event s.t w).access) (covers (event s.t w).access x) wet).0 in
       omega (arith, r, c, known)
 
-  covers_both : address_of (event s.t i).access ≡ span.address → bytes_of (event s.t i).access ≡ width_bytes span.width → (x : ℕ) → covers (event s.t i).access x ≡ true → reads_at s.t pair.index x ≡ true
+  covers_both : address_of (event s.t i).access ≡ span.address → bytes_of (event s.t i).access ≡ width_bytes span.width → (x : ℕ) →
+      covers (event s.t i).access x ≡ true → reads_at s.t pair.index x ≡ true
   covers_both address bytes x c =
       let e : covers (event s.t pair.index).access x ≡ covers (event s.t i).access x =
       ap (λ (y : ℕ). in_range y (bytes_of (event s.t pair.index).access) x) (pair.address ∙ sym address) ∙ ap (λ (y : ℕ). in_range (address_of (event s.t i).access) y x) (pair.bytes ∙ sym bytes) in

@@ -74,8 +74,10 @@ IsGiven s a v = (is_some v.result ≡ true) ⊎
     ((answers_to v.instruction ≡ destination_with (registers_of v.instruction) v.access) ×
     (s.n < result_bound a.carried (registers_of v.instruction) (operates v) (behind (list s) v)))
 
-pub idle_moves : (s : Setting) (h i : ℕ) (held : Option Span) (a : RunState) (k j : Hart) (instr : Instr) (y : Access) (result : Option ℕ) (number next : ℕ) → (event s.t i).hart ≡ h →
-    slice_index_or s.is i Ecall ≡ instr → (event s.t i).access ≡ y → IsIdle y → ((m : ℕ) → result ≡ Some m → number ≡ m) → j.x ≡ set_reg k.x (answers_to instr) number → next ≡ j.pc →
+pub idle_moves : (s : Setting) (h i : ℕ) (held : Option Span) (a : RunState) (k j : Hart) (instr : Instr) (y : Access) (result : Option ℕ) (number next : ℕ) →
+    (event s.t i).hart ≡ h →
+    slice_index_or s.is i Ecall ≡ instr → (event s.t i).access ≡ y → IsIdle y → ((m : ℕ) → result ≡ Some m → number ≡ m) → j.x ≡ set_reg k.x (answers_to instr) number →
+    next ≡ j.pc →
     IsGiven s a (idle_of s i instr result next) → Acts s.image h (list s) (opening_bytes s.image) (IsPlaced h (list s)) a (idle_of s i instr result next) → Moves s h i a k j instr
 idle_moves s h i held a k j instr y result number next here inst e idle got changes to given doing = record {
   move = idle_of s i instr result next;
@@ -117,7 +119,8 @@ module _ (s : Setting) (h i : ℕ) (held : Option Span) (a : RunState) (k j : Ha
   following = ap (λ (p : ℕ). plus p 4) follows.lags.pc
 
   -- a number that rd gets, where the rest is known
-  changed : (rd number pc : ℕ) (b : Action) → j ≡ went_on k rd number pc → action instr k.x k.pc ≡ b → (b ≢ Call) → written_register b ≡ rd → j.x ≡ set_reg k.x (answers_to instr) number
+  changed : (rd number pc : ℕ) (b : Action) → j ≡ went_on k rd number pc → action instr k.x k.pc ≡ b → (b ≢ Call) → written_register b ≡ rd →
+      j.x ≡ set_reg k.x (answers_to instr) number
   changed rd number pc b e is other at = ap (λ (g : Hart). g.x) e ∙ ap (λ (d : ℕ). set_reg k.x d number) (sym at ∙ writes_to instr k.x k.pc b is other)
 
   pc_is : (rd number pc : ℕ) → j ≡ went_on k rd number pc → pc ≡ j.pc
@@ -149,7 +152,8 @@ module _ (s : Setting) (h i : ℕ) (held : Option Span) (a : RunState) (k j : Ha
   not_store : (y : Access) → (event s.t i).access ≡ y → stores y ≡ false → is_store (event s.t i) ≡ false
   not_store y e d = ap stores e ∙ d
 
-  pub jump_moves : (rd target : ℕ) → (event s.t i).access ≡ no_access → action instr k.x k.pc ≡ Jump rd target → target % 4 ≡ 0 → j ≡ went_on k rd (next_pc k) target → MovesOrBlocks s h i a k j instr
+  pub jump_moves : (rd target : ℕ) → (event s.t i).access ≡ no_access → action instr k.x k.pc ≡ Jump rd target → target % 4 ≡ 0 → j ≡ went_on k rd (next_pc k) target →
+      MovesOrBlocks s h i a k j instr
   jump_moves rd target e is even g = elim (all_known s.n a.registers a.carried (registers_of instr) fitting follows.known) [
     | inl all ↦ inl (idle_moves s h i held a k j instr no_access (Some (plus a.pc 4)) (next_pc k) target here inst e no_access_idle (λ m q. sym following ∙ some_value (plus a.pc 4) m q)
         (changed rd (next_pc k) target (Jump rd target) g is (λ q. cc) refl) (pc_is rd (next_pc k) target g) (inl refl)
@@ -178,7 +182,8 @@ module _ (s : Setting) (h i : ℕ) (held : Option Span) (a : RunState) (k j : Ha
       (changed 0 0 (next_pc k) (Order before after mode) g is (λ q. cc) refl) (following ∙ pc_is 0 0 (next_pc k) g) (inl refl)
       (orders before after mode (acts_all instr a k follows.lags.pc refines all ∙ is) (ap bare e) refl))
 
-  pub call_moves : (answer : ℕ) → (event s.t i).access ≡ no_access → action instr k.x k.pc ≡ Call → reg k.x 17 ≢ 0 → IsAnswer (reg k.x 17) answer → j ≡ went_on k 10 answer (next_pc k) → MovesOrBlocks s h i a k j instr
+  pub call_moves : (answer : ℕ) → (event s.t i).access ≡ no_access → action instr k.x k.pc ≡ Call → reg k.x 17 ≢ 0 → IsAnswer (reg k.x 17) answer →
+      j ≡ went_on k 10 answer (next_pc k) → MovesOrBlocks s h i a k j instr
   call_moves answer e is nonzero answered g =
       let ecall : instr ≡ Ecall = calls_only instr k.x k.pc (ap is_call is) in
       by_number (view a.registers 17) refl ecall

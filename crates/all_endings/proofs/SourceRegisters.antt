@@ -70,7 +70,8 @@ most_known n v c x fit only k =
     ]
 
 -- and its data is, or depends on what is LATER
-pub data_known : (n : ℕ) (v : List (Option ℕ)) (c : Carried) (x : Registers) → AreRegisters x → IsKnown n v c → (is_some (view v x.value) ≡ true) ⊎ ((view v x.value ≡ None) × (n < reg c.registers x.value))
+pub data_known : (n : ℕ) (v : List (Option ℕ)) (c : Carried) (x : Registers) → AreRegisters x → IsKnown n v c →
+    (is_some (view v x.value) ≡ true) ⊎ ((view v x.value ≡ None) × (n < reg c.registers x.value))
 data_known n v c x fit k = one_known n v c x.value fit.value k
 
 -- all is, or something depends on what is LATER

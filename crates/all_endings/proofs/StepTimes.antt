@@ -48,14 +48,16 @@ behind_other s i v e st at =
     let m = s.many in
     omega (arith, a, b, l, m, at)
 
-pub behind_listed : (s : Setting) (i : ℕ) (v : Move) → v.access ≡ bare (event s.t i).access → stores (event s.t i).access ≡ true → v.time ≡ time s i → time s i < s.n → behind (list s) v ≡ after s i
+pub behind_listed : (s : Setting) (i : ℕ) (v : Move) → v.access ≡ bare (event s.t i).access → stores (event s.t i).access ≡ true → v.time ≡ time s i → time s i < s.n →
+    behind (list s) v ≡ after s i
 behind_listed s i v e st at l =
     let b = behind_by (list s) v true (stores_as s i v true e st) in
     let a = after_store s i st in
     let m = s.many in
     omega (arith, a, b, l, m, at)
 
-pub behind_later : (s : Setting) (i : ℕ) (v : Move) → v.access ≡ bare (event s.t i).access → stores (event s.t i).access ≡ true → v.time ≡ s.n + 1 → s.n ≤ time s i → behind (list s) v ≡ after s i
+pub behind_later : (s : Setting) (i : ℕ) (v : Move) → v.access ≡ bare (event s.t i).access → stores (event s.t i).access ≡ true → v.time ≡ s.n + 1 → s.n ≤ time s i →
+    behind (list s) v ≡ after s i
 behind_later s i v e st at l =
     let b = behind_by (list s) v true (stores_as s i v true e st) in
     let a = after_store s i st in
@@ -217,7 +219,8 @@ within_range a n k l =
 
 -- the number that was read at a time that is known
 pub gets_known : (s : Setting) (h i address number : ℕ) (w : Width) (held : Option Span) (a : RunState) (k : Hart) (v : Move) → Follows s h i held a k → (event s.t i).hart ≡ h →
-    address_of (event s.t i).access ≡ address → bytes_of (event s.t i).access ≡ width_bytes w → read_of (event s.t i).access ≡ Some number → number < 2 ^ width_bits w → time s i ≤ s.n →
+    address_of (event s.t i).access ≡ address → bytes_of (event s.t i).access ≡ width_bytes w → read_of (event s.t i).access ≡ Some number → number < 2 ^ width_bits w →
+    time s i ≤ s.n →
     v.time ≡ time s i → ((x : ℕ) → v.source x ≡ source_at s i x) → Gets (list s) (opening_bytes s.image) a v address w (Some number)
 gets_known s h i address number w held a k v f here at bytes reading fits known t sources = gets number (let m = s.many in omega (arith, m, known, t)) fits (λ j l.
     let x : ℕ = address + j in
@@ -247,7 +250,8 @@ stored_number y store = by_number (written_of y) store
     by_number (Some m) e = refl
 
 -- a store at a time that is known is that of the list
-pub listed : (s : Setting) (h i : ℕ) (v : Move) → (event s.t i).hart ≡ h → is_store (event s.t i) ≡ true → v.access ≡ bare (event s.t i).access → v.written ≡ written_of (event s.t i).access →
+pub listed : (s : Setting) (h i : ℕ) (v : Move) → (event s.t i).hart ≡ h → is_store (event s.t i) ≡ true → v.access ≡ bare (event s.t i).access →
+    v.written ≡ written_of (event s.t i).access →
     v.time ≡ time s i → time s i < s.n → IsListed h (list s) v
 listed s h i v here store e number t l =
     let at : get_or (list s) v.time no_store ≡ told (event s.t i) = ap (λ (y : ℕ). get_or (list s) y no_store) t ∙ (stores_stand s.t s.g s.meets.lists s.n i store).0 l in record {

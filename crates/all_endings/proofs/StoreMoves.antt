@@ -65,7 +65,8 @@ module _ (s : Setting) (h i : ℕ) (held : Option Span) (a : RunState) (k j : Ha
   to : (rd number : ℕ) → j ≡ went_on k rd number (next_pc k) → plus a.pc 4 ≡ j.pc
   to rd number g = ap (λ (p : ℕ). plus p 4) follows.lags.pc ∙ sym (ap (λ (q : Hart). q.pc) g)
 
-  changed : (rd number : ℕ) (b : Action) → j ≡ went_on k rd number (next_pc k) → action instr k.x k.pc ≡ b → b ≢ Call → written_register b ≡ rd → j.x ≡ set_reg k.x (answers_to instr) number
+  changed : (rd number : ℕ) (b : Action) → j ≡ went_on k rd number (next_pc k) → action instr k.x k.pc ≡ b → b ≢ Call → written_register b ≡ rd →
+      j.x ≡ set_reg k.x (answers_to instr) number
   changed rd number b g is other at = ap (λ (q : Hart). q.x) g ∙ ap (λ (d : ℕ). set_reg k.x d number) (sym at ∙ writes_to instr k.x k.pc b is other)
 
   -- what the data register holds is known, or depends on what is LATER
@@ -158,7 +159,8 @@ module _ (s : Setting) (h i : ℕ) (held : Option Span) (a : RunState) (k j : Ha
   run_time = elim (cases_lt (time s i) s.n) [ inl early ↦ (time s i, inl (refl, early)) | inr late ↦ (s.n + 1, inr (refl, late)) ]
 
   in_place : (number : Option ℕ) → is_store (event s.t i) ≡ true →
-      (number ≡ written_of (event s.t i).access) ⊎ ((number ≡ None) × (s.n < reg a.carried.registers (registers_of instr).value)) → (number ≡ written_of (event s.t i).access) ⊎ (s.n ≤ time s i)
+      (number ≡ written_of (event s.t i).access) ⊎ ((number ≡ None) × (s.n < reg a.carried.registers (registers_of instr).value)) →
+      (number ≡ written_of (event s.t i).access) ⊎ (s.n ≤ time s i)
   in_place number store known = elim known [
     | inl e ↦ inl e
     | inr late ↦ inr (elim (cases_lt (time s i) s.n) [
@@ -174,7 +176,8 @@ module _ (s : Setting) (h i : ℕ) (held : Option Span) (a : RunState) (k j : Ha
     | inr late ↦ inr (late.0, inl (let l = late.1 in omega (arith, l)))
   ]
 
-  pub write_moves : (address v : ℕ) (w : Width) → (event s.t i).access ≡ Store w k.done address (cut w v) → action instr k.x k.pc ≡ Write address w v → IsWritable s.image address w →
+  pub write_moves : (address v : ℕ) (w : Width) → (event s.t i).access ≡ Store w k.done address (cut w v) → action instr k.x k.pc ≡ Write address w v →
+      IsWritable s.image address w →
       j ≡ went_on k 0 0 (next_pc k) → MovesOrBlocks s h i a k j instr
   write_moves address v w e is safe g =
       elim (most_known s.n a.registers a.carried (registers_of instr) fitting (sym (ap (fits (registers_of instr)) is) ∙ registers_fit instr k.x k.pc) follows.known) [
@@ -191,7 +194,8 @@ module _ (s : Setting) (h i : ℕ) (held : Option Span) (a : RunState) (k j : Ha
             (in_place (option_map (cut w) (view a.registers (registers_of instr).value)) store puts)) refl))
       ]
 
-  pub fail_moves : (rd address v : ℕ) (w : Width) (o : AcquireRelease) → (event s.t i).access ≡ StoreConditional w o k.done address None → action instr k.x k.pc ≡ Conditional rd address w v o →
+  pub fail_moves : (rd address v : ℕ) (w : Width) (o : AcquireRelease) → (event s.t i).access ≡ StoreConditional w o k.done address None →
+      action instr k.x k.pc ≡ Conditional rd address w v o →
       IsWritable s.image address w → j ≡ went_on k rd 1 (next_pc k) → MovesOrBlocks s h i a k j instr
   fail_moves rd address v w o e is safe g =
       elim (most_known s.n a.registers a.carried (registers_of instr) fitting (sym (ap (fits (registers_of instr)) is) ∙ registers_fit instr k.x k.pc) follows.known) [
@@ -203,7 +207,8 @@ module _ (s : Setting) (h i : ℕ) (held : Option Span) (a : RunState) (k j : Ha
             (fails rd address w o most does safe (ap bare e) refl refl))
       ]
 
-  pub succeed_moves : (rd address v : ℕ) (w : Width) (o : AcquireRelease) → (event s.t i).access ≡ StoreConditional w o k.done address (Some (cut w v)) → action instr k.x k.pc ≡ Conditional rd address w v o →
+  pub succeed_moves : (rd address v : ℕ) (w : Width) (o : AcquireRelease) → (event s.t i).access ≡ StoreConditional w o k.done address (Some (cut w v)) →
+      action instr k.x k.pc ≡ Conditional rd address w v o →
       IsWritable s.image address w → held ≡ Some (record { address = address; width = w }) → j ≡ went_on k rd 0 (next_pc k) → MovesOrBlocks s h i a k j instr
   succeed_moves rd address v w o e is safe holds g =
       elim (most_known s.n a.registers a.carried (registers_of instr) fitting (sym (ap (fits (registers_of instr)) is) ∙ registers_fit instr k.x k.pc) follows.known) [
@@ -232,7 +237,8 @@ module _ (s : Setting) (h i : ℕ) (held : Option Span) (a : RunState) (k j : Ha
 
   -- ---- AMOs
 
-  pub exchange_moves : (rd address old : ℕ) (w : Width) (f : ℕ → ℕ) (o : AcquireRelease) → (event s.t i).access ≡ Atomic w o k.done address old (f old) → action instr k.x k.pc ≡ Exchange rd address w f o →
+  pub exchange_moves : (rd address old : ℕ) (w : Width) (f : ℕ → ℕ) (o : AcquireRelease) → (event s.t i).access ≡ Atomic w o k.done address old (f old) →
+      action instr k.x k.pc ≡ Exchange rd address w f o →
       IsWritable s.image address w → Fills w old → j ≡ went_on k rd (sx (width_bits w) old) (next_pc k) → MovesOrBlocks s h i a k j instr
   exchange_moves rd address old w f o e is safe fill g =
       elim (most_known s.n a.registers a.carried (registers_of instr) fitting (sym (ap (fits (registers_of instr)) is) ∙ registers_fit instr k.x k.pc) follows.known) [

@@ -96,7 +96,8 @@ module _ (k : ℕ) (image : Memory) (h : ℕ) (m : List Stored) (start : Hart) (
   For vs c next = (p : Place) × Contains ps p × ForRun p vs c next
 
   one_more : (vs : List Move) (c : RunState) (v : Move) (next : Option Stored) → length vs < k → decoded image c.pc ≡ Some v.instruction →
-      Acts image h m (opening_bytes image) (IsPlaced h m) c v → (operates v ≡ true → Stands c v) → (p : Place) → Contains ps p → ForRun p vs c next → (q : Place) × Contains ps q × ForRun q (vs ++ v ∷ []) (moved h m c v) next
+      Acts image h m (opening_bytes image) (IsPlaced h m) c v → (operates v ≡ true → Stands c v) → (p : Place) → Contains ps p → ForRun p vs c next →
+      (q : Place) × Contains ps q × ForRun q (vs ++ v ∷ []) (moved h m c v) next
   one_more vs c v next l at doing stand p there f =
       let fit = decoded_fits image c.pc v.instruction at in
       let q = walked.moves p v there (let n = f.count in omega (arith, n, l)) (ap (decoded image) f.state.pc ∙ at) (acts_low image h m (opening_bytes image) p.state c v f.state (IsPlaced h m) doing)
@@ -114,7 +115,8 @@ module _ (k : ℕ) (image : Memory) (h : ℕ) (m : List Stored) (start : Hart) (
         },
       )
 
-  along : (a : RunState) (us : List Move) (next : Option Stored) → (p : Place) → Contains ps p → ForRun p us a next → (vs : List Move) (c : RunState) → Runs image h m (opening_bytes image) a vs c →
+  along : (a : RunState) (us : List Move) (next : Option Stored) → (p : Place) → Contains ps p → ForRun p us a next → (vs : List Move) (c : RunState) →
+      Runs image h m (opening_bytes image) a vs c →
       length us + length vs ≤ k → (q : Place) × Contains ps q × ForRun q (us ++ vs) c next
   along a us next p there f _ _ (runs-none _) short = (p, there, subst (λ (ws : List Move). ForRun p ws a next) (sym (append-nil us)) f)
   along a us next p there f _ _ (runs-more _ c vs v r at doing stand) short =

@@ -70,6 +70,7 @@ AreShort k q = (h : ℕ) → count_by (λ (v : Event). v.hart == h) q.events ≤
 -- closed lists have the first n stores of each order that RVWMO allows of an execution
 abbrev pub ClosedListsHaveAll : Type 0
 ClosedListsHaveAll =
-    (k : ℕ) (image : Memory) (hs : List Hart) (c : ConsoleState) (is_node : List Stored → Bool) → AreFresh hs → length c.output + k * length hs ≤ output_room → IsClosed k image hs is_node →
+    (k : ℕ) (image : Memory) (hs : List Hart) (c : ConsoleState) (is_node : List Stored → Bool) → AreFresh hs → length c.output + k * length hs ≤ output_room →
+    IsClosed k image hs is_node →
     (q : Standing) (g : List ℕ) → Executes image (at_start hs c) q → Allows (opening_bytes image) q g → AreShort k q →
     (n : ℕ) → length (stores_of n q.events g) ≡ n → is_node (stores_of n q.events g) ≡ true
