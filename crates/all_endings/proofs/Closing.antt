@@ -204,7 +204,7 @@ below_few k (suc m) t few =
 pub events_few : (k m : ℕ) (t : List Event) → ((h : ℕ) → count_by (λ (v : Event). v.hart == h) t ≤ k) → ((j : ℕ) → j < length t → (event t j).hart < m) → length t ≤ k * m
 events_few k m t few each = let a = below_all m t (length t) each in let b = below_few k m t few in omega (arith, a, b)
 
-hart_in : (hs : List Hart) (h : ℕ) → h < length hs → (start : Hart) × (start ≡ get_or hs h start)
+pub hart_in : (hs : List Hart) (h : ℕ) → h < length hs → (start : Hart) × (start ≡ get_or hs h start)
 hart_in [] h l = absurd (omega (arith, l))
 hart_in (x ∷ hs) zero l = (x, refl)
 hart_in (x ∷ hs) (suc h) l = hart_in hs h (omega (arith, l))

@@ -2,7 +2,7 @@
 use Rattle.std.proofs.Common.{◌≡◌, ◌≢◌, ℕ, ◌+◌, ◌^◌, ◌%◌, ◌==◌, ◌<◌, Bool, true, false, if◌then◌else◌, nat_le, List, [], length, All, is_ok, Option, Some, None, Result, Ok, Err, refl, sym, ap, ◌∙◌, subst, inl, inr, arith, nat_lt, ◌++◌, ◌∷◌, slice_index}
 use Rattle.rv64_decode.specs.declared.instruction.Instr.TheVariants.{Ecall}
 use Rattle.std.proofs.lemmas.List.{append-nil}
-use Rattle.std.proofs.lemmas.Bool.{and_parts, eq-eqb, eqb-true, ne_eqb}
+use Rattle.std.proofs.lemmas.Bool.{and_parts, eq-eqb, eqb-true, ne_eqb, cond-true, cond-false}
 use Rattle.pages.specs.declared.access.Fault.{Fault}
 use Rattle.pages.specs.declared.access.Fault.TheVariants.{LoadMisaligned, LoadOutside, StoreMisaligned, StoreOutside, StoreToCode}
 use Rattle.pages.specs.declared.access.Range.{Range}
@@ -104,18 +104,10 @@ reserved_is own (Some s) a w (inr same) e =
 
 -- ---- calls
 
-leave_it : {A : Type 0} (b : Bool) (x y : A) → b ≡ false → (if b then x else y) ≡ y
-leave_it true x y e = absurd (cc)
-leave_it false x y e = refl
-
-take_it : {A : Type 0} (b : Bool) (x y : A) → b ≡ true → (if b then x else y) ≡ x
-take_it true x y e = refl
-take_it false x y e = absurd (cc)
-
 answer_is : (n number argument : ℕ) (c : ConsoleState) → nat_lt (length c.output) output_room ≡ true → IsAnswer number (answered n number argument c).value
 answer_is n number argument c room = (
-  λ one. ap (λ (r : Answered). r.value) (take_it (number == 1) _ _ (eq-eqb number 1 one) ∙ take_it (nat_lt (length c.output) output_room) _ _ room),
-  λ a b d. ap (λ (r : Answered). r.value) (leave_it (number == 1) _ _ (ne_eqb number 1 a) ∙ leave_it (number == 2) _ _ (ne_eqb number 2 b) ∙ leave_it (number == 3) _ _ (ne_eqb number 3 d)),
+  λ one. ap (λ (r : Answered). r.value) (cond-true (number == 1) _ _ (eq-eqb number 1 one) ∙ cond-true (nat_lt (length c.output) output_room) _ _ room),
+  λ a b d. ap (λ (r : Answered). r.value) (cond-false (number == 1) _ _ (ne_eqb number 1 a) ∙ cond-false (number == 2) _ _ (ne_eqb number 2 b) ∙ cond-false (number == 3) _ _ (ne_eqb number 3 d)),
 )
 
 -- what an instruction puts out, where there is room

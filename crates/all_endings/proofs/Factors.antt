@@ -10,7 +10,7 @@ use Rattle.memory_order.specs.Orders.{order_position}
 use Rattle.hart_step.specs.Registers.{reg}
 use Rattle.hart_step.specs.declared.hart.Stop.{Stop}
 use Rattle.std.proofs.Math.Seq.{get_or-append_seam}
-use Rattle.std.proofs.lemmas.Bool.{cases_lt, cases_eq, eq-eqb, ne_eqb}
+use Rattle.std.proofs.lemmas.Bool.{cases_lt, cases_eq, eq-eqb, ne_eqb, cond-true, cond-false}
 use Rattle.std.proofs.lemmas.List.{append-nil, append_assoc, get_or-set_other, get_or-set_same, get_or_append_left, get_or_default, length-append, length-map, map-append}
 use Rattle.pages.specs.Memory.{Memory}
 use Rattle.rv64_decode.specs.declared.instruction.Instr.{Instr}
@@ -397,9 +397,9 @@ module _ (image : Memory) (q : Standing) (g : List ℕ) (n : ℕ) (fit : (i : �
       After p (out ++ (if i == h then drop (length u.console.output) p.console.output else []))
   one_goes i u p rest more out es is even small bound z on = elim (cases_eq i h) [
     | inr other ↦ next_place p u z.event (own_held h u.events) out (out ++ (if i == h then drop (length u.console.output) p.console.output else [])) (hart_of u) z.events
-        (ap (own_held h) z.events ∙ own_more h None u.events z.event ∙ leave (z.event.hart == h) _ _ (ne_eqb z.event.hart h (λ e. other (sym z.event_of.hart ∙ e))))
+        (ap (own_held h) z.events ∙ own_more h None u.events z.event ∙ cond-false (z.event.hart == h) _ _ (ne_eqb z.event.hart h (λ e. other (sym z.event_of.hart ∙ e))))
         (ap (λ (hs : List Hart). get_or hs h first) z.harts ∙ get_or-set_other u.harts i h z.after first (λ e. other (sym e)))
-        (sym (append-nil out) ∙ ap (λ (o : List ℕ). out ++ o) (sym (leave (i == h) (drop (length u.console.output) p.console.output) [] (ne_eqb i h other))))
+        (sym (append-nil out) ∙ ap (λ (o : List ℕ). out ++ o) (sym (cond-false (i == h) (drop (length u.console.output) p.console.output) [] (ne_eqb i h other))))
         (on_other (length u.events) (own_held h u.events) out (hart_of u) (λ e. other (sym z.event_of.hart ∙ sym hart_is ∙ e)) on)
     | inl here ↦
         let before : z.before ≡ hart_of u = z.there ∙ get_or_default u.harts i z.before first z.within ∙ ap (λ (y : ℕ). get_or u.harts y first) here in
@@ -407,13 +407,13 @@ module _ (image : Memory) (q : Standing) (g : List ℕ) (n : ℕ) (fit : (i : �
         step_did image p.round (own_held h u.events) u.console p.console z.before z.after z.access z.instruction
         (subst (λ (y : ℕ). IsStep image p.round (own_held y u.events) u.console p.console z.before z.after (Done z.access)) here z.step) z.decodes has_room in
         let puts = step_puts image p.round (own_held i u.events) u.console p.console z.before z.after z.access z.instruction z.step z.decodes
-        ∙ ap (λ (o : List ℕ). u.console.output ++ o) (take (nat_lt (length u.console.output) output_room) (put_in z.instruction z.before.x) [] has_room) in
+        ∙ ap (λ (o : List ℕ). u.console.output ++ o) (cond-true (nat_lt (length u.console.output) output_room) (put_in z.instruction z.before.x) [] has_room) in
         let added : put_in z.instruction (hart_of u).x ≡ (if i == h then drop (length u.console.output) p.console.output else []) =
-        ap (λ (y : Hart). put_in z.instruction y.x) (sym before) ∙ sym (take (i == h) (drop (length u.console.output) p.console.output) [] (eq-eqb i h here)
+        ap (λ (y : Hart). put_in z.instruction y.x) (sym before) ∙ sym (cond-true (i == h) (drop (length u.console.output) p.console.output) [] (eq-eqb i h here)
         ∙ ap (λ (o : List ℕ). drop (length u.console.output) o) puts ∙ drop_length u.console.output (put_in z.instruction z.before.x)) in
         next_place p u z.event (held_after_own (event q.events (length u.events)).access (own_held h u.events)) (out ++ put_in z.instruction (hart_of u).x)
         (out ++ (if i == h then drop (length u.console.output) p.console.output else [])) z.after z.events
-        (ap (own_held h) z.events ∙ own_more h None u.events z.event ∙ take (z.event.hart == h) _ _ (eq-eqb z.event.hart h (z.event_of.hart ∙ here))
+        (ap (own_held h) z.events ∙ own_more h None u.events z.event ∙ cond-true (z.event.hart == h) _ _ (eq-eqb z.event.hart h (z.event_of.hart ∙ here))
         ∙ ap (λ (y : Event). held_after_own y.access (own_held h u.events)) (sym event_is))
         (ap (λ (hs : List Hart). get_or hs h first) z.harts ∙ ap (λ (y : ℕ). get_or (slice_set u.harts y z.after) h first) here ∙ get_or-set_same u.harts h z.after first small)
         (ap (λ (o : List ℕ). out ++ o) added)
@@ -423,14 +423,6 @@ module _ (image : Memory) (q : Standing) (g : List ℕ) (n : ℕ) (fit : (i : �
         (ap (λ (y : Event). y.access) event_is ∙ z.event_of.access) (ap (λ (y : Hart). y.stop) (sym before) ∙ z.step.runs) on)
   ]
     where
-      leave : {A : Type 0} (b : Bool) (x y : A) → b ≡ false → (if b then x else y) ≡ y
-      leave true x y e = absurd (cc)
-      leave false x y e = refl
-
-      take : {A : Type 0} (b : Bool) (x y : A) → b ≡ true → (if b then x else y) ≡ x
-      take true x y e = refl
-      take false x y e = absurd (cc)
-
       below : length u.events < length q.events
       below =
           let a = ap length (es ∙ ap (λ (t : List Event). t ++ rest) z.events) in

@@ -1,6 +1,6 @@
 -- A run that follows a hart of an execution: what its state has to do with what the hart did so far.
 use Rattle.std.proofs.Common.{◌≡◌, ◌≢◌, ℕ, zero, suc, ◌+◌, ◌<◌, ◌≤◌, ◌==◌, ◌&&◌, ◌||◌, ◌⊎◌, max, min, Bool, true, false, if◌then◌else◌, List, [], ◌∷◌, length, get_or, Option, Some, None, refl, sym, ap, ◌∙◌, inl, inr, arith}
-use Rattle.std.proofs.lemmas.Bool.{cases_lt, eqb-true, ne_eqb}
+use Rattle.std.proofs.lemmas.Bool.{cases_lt, eqb-true, ne_eqb, cond-false}
 use Rattle.pages.specs.Memory.{Memory, width_bytes}
 use Rattle.rv64_decode.specs.declared.instruction.Instr.{Instr}
 use Rattle.round_schedule.specs.declared.event.Event.{Event}
@@ -144,10 +144,6 @@ time_small s i = omega arith
 abbrev Other : Setting → ℕ → ℕ → Type 0
 Other s h i = (h == (event s.t i).hart) ≡ false
 
-skip : {A : Type 0} (b : Bool) (x y : A) → b ≡ false → (if b then x else y) ≡ y
-skip true x y e = absurd (cc)
-skip false x y e = refl
-
 pub not_it : (s : Setting) (h i v : ℕ) → (event s.t i).hart ≢ h → v < suc i → (event s.t v).hart ≡ h → v < i
 not_it s h i v other l here = elim (cases_lt v i) [
   | inl k ↦ k
@@ -174,9 +170,9 @@ follows_other s h i held a k other f = record {
   small = f.small;
   size = f.size;
   known = f.known;
-  kinds = f.kinds ∙ sym (skip (h == (event s.t i).hart) (kinds_after (kinds_before (after s) s.t h i) (event s.t i).access (is_operation (event s.t i)) (after s i)) (kinds_before (after s) s.t h i) no);
-  carried = f.carried ∙ sym (skip (h == (event s.t i).hart) (carried_after (carried_at_index s h i) (registers_at s.is i) (event s.t i) (after s i)) (carried_at_index s h i) no);
-  touched = λ x. f.touched x ∙ sym (skip (h == (event s.t i).hart && (is_operation (event s.t i) && covers (event s.t i).access x))
+  kinds = f.kinds ∙ sym (cond-false (h == (event s.t i).hart) (kinds_after (kinds_before (after s) s.t h i) (event s.t i).access (is_operation (event s.t i)) (after s i)) (kinds_before (after s) s.t h i) no);
+  carried = f.carried ∙ sym (cond-false (h == (event s.t i).hart) (carried_after (carried_at_index s h i) (registers_at s.is i) (event s.t i) (after s i)) (carried_at_index s h i) no);
+  touched = λ x. f.touched x ∙ sym (cond-false (h == (event s.t i).hart && (is_operation (event s.t i) && covers (event s.t i).access x))
       (max (touched_before (after s) s.t h x i) (after s i)) (touched_before (after s) s.t h x i) (ap (λ (b : Bool). b && (is_operation (event s.t i) && covers (event s.t i).access x)) no));
   seen = λ b x u l here r source. f.seen b x u (omega (arith, l)) here r source;
   own = λ x. own_other s h i x (a.own x) other (f.own x);

@@ -54,14 +54,6 @@ pub record Matches (s : Setting) (h i : ℕ) (a : RunState) (k j : Hart) (v : Mo
       ((v.written ≡ None) × ((s.n < operand_bound a.carried (registers_of v.instruction)) ⊎ (is_amo (event s.t i).access ≡ true)))
   pub source : (x : ℕ) (u : Option ℕ) → reads_at s.t i x ≡ true → Source s i x u → (v.source x ≡ place s u) ⊎ ((s.n < after s i) × (v.source x ≡ 0))
 
-take_it : {A : Type 0} (b : Bool) (x y : A) → b ≡ true → (if b then x else y) ≡ x
-take_it true x y e = refl
-take_it false x y e = absurd (cc)
-
-leave_it : {A : Type 0} (b : Bool) (x y : A) → b ≡ false → (if b then x else y) ≡ y
-leave_it true x y e = absurd (cc)
-leave_it false x y e = refl
-
 some_same : (a b : Span) → Some a ≡ Some b → a ≡ b
 some_same a b e = ap (λ (o : Option Span). unwrap_or o a) e
 
@@ -242,8 +234,8 @@ module _ (s : Setting) (h i : ℕ) (a : RunState) (k j : Hart) (v : Move) (match
           | inl q ↦ p.none_between y l q here paired
           | inr q ↦ let e : y ≡ i = omega (arith, q, m) in let u : is_lr_or_sc (event s.t i).access ≡ true = ap (λ (z : ℕ). is_lr_or_sc (event s.t z).access) (sym e) ∙ paired in cc
         ];
-        reserved = leave_it (is_lr v.access) (behind (list s) v) a.reserved plain ∙ p.reserved;
-        sources = λ x u r l source. ap (λ (w : ℕ → ℕ). w x) (leave_it (is_lr v.access) v.source a.sources plain) ∙ p.sources x u r l source;
+        reserved = cond-false (is_lr v.access) (behind (list s) v) a.reserved plain ∙ p.reserved;
+        sources = λ x u r l source. ap (λ (w : ℕ → ℕ). w x) (cond-false (is_lr v.access) v.source a.sources plain) ∙ p.sources x u r l source;
       }
 
   reserving_new : (span : Span) → is_lr (event s.t i).access ≡ true → address_of (event s.t i).access ≡ span.address → bytes_of (event s.t i).access ≡ width_bytes span.width →
@@ -257,8 +249,8 @@ module _ (s : Setting) (h i : ℕ) (a : RunState) (k j : Hart) (v : Move) (match
         address = address;
         bytes = bytes;
         none_between = λ y l m here paired. absurd (omega (arith, l, m));
-        reserved = take_it (is_lr v.access) (behind (list s) v) a.reserved is ∙ match.passed;
-        sources = λ x u r l source. ap (λ (w : ℕ → ℕ). w x) (take_it (is_lr v.access) v.source a.sources is) ∙ (elim (match.source x u r source) [
+        reserved = cond-true (is_lr v.access) (behind (list s) v) a.reserved is ∙ match.passed;
+        sources = λ x u r l source. ap (λ (w : ℕ → ℕ). w x) (cond-true (is_lr v.access) v.source a.sources is) ∙ (elim (match.source x u r source) [
           | inl at ↦ at
           | inr late ↦ let q = late.0 in absurd (omega (arith, q, l))
         ]);
@@ -290,7 +282,7 @@ module _ (s : Setting) (h i : ℕ) (a : RunState) (k j : Hart) (v : Move) (match
       ∙ kinds_bare (event s.t i).access (kinds_before (after s) s.t h i) (operates v) (behind (list s) v)
       ∙ ap (λ (b : Bool). kinds_after (kinds_before (after s) s.t h i) (event s.t i).access b (behind (list s) v)) operates_is
       ∙ ap (λ (m : ℕ). kinds_after (kinds_before (after s) s.t h i) (event s.t i).access (is_operation (event s.t i)) m) match.passed
-      ∙ sym (take_it (h == (event s.t i).hart) (kinds_after (kinds_before (after s) s.t h i) (event s.t i).access (is_operation (event s.t i)) (after s i)) (kinds_before (after s) s.t h i) here_it)
+      ∙ sym (cond-true (h == (event s.t i).hart) (kinds_after (kinds_before (after s) s.t h i) (event s.t i).access (is_operation (event s.t i)) (after s i)) (kinds_before (after s) s.t h i) here_it)
 
   carried_step : (held : Option Span) → Follows s h i held a k → (moved h (list s) a v).carried ≡ carried_at_index s h (suc i)
   carried_step held f =
@@ -299,7 +291,7 @@ module _ (s : Setting) (h i : ℕ) (a : RunState) (k j : Hart) (v : Move) (match
       ∙ ap (λ (y : Access). carried_after (carried_at_index s h i) (registers_at s.is i) (step_event h (Some y)) (behind (list s) v)) match.access
       ∙ carried_bare (event s.t i).access (carried_at_index s h i) (registers_at s.is i) h (behind (list s) v)
       ∙ ap (λ (m : ℕ). carried_after (carried_at_index s h i) (registers_at s.is i) (event s.t i) m) match.passed
-      ∙ sym (take_it (h == (event s.t i).hart) (carried_after (carried_at_index s h i) (registers_at s.is i) (event s.t i) (after s i)) (carried_at_index s h i) here_it)
+      ∙ sym (cond-true (h == (event s.t i).hart) (carried_after (carried_at_index s h i) (registers_at s.is i) (event s.t i) (after s i)) (carried_at_index s h i) here_it)
 
   touched_step : (held : Option Span) → Follows s h i held a k → (x : ℕ) → (moved h (list s) a v).touched x ≡ touched_before (after s) s.t h x (suc i)
   touched_step held f x =

@@ -1,5 +1,5 @@
 -- An LR and its SC, in times: rule 8, and the value of atomicity.
-use Rattle.std.proofs.Common.{◌≡◌, ◌≢◌, ℕ, ◌+◌, ◌<◌, ◌≤◌, ◌&&◌, ◌⊎◌, Bool, true, false, get_or, get_or-take, map, filter, Option, Some, None, refl, sym, ap, ◌∙◌, inl, inr, arith}
+use Rattle.std.proofs.Common.{◌≡◌, ◌≢◌, ℕ, ◌+◌, ◌<◌, ◌≤◌, ◌⊎◌, true, get_or, get_or-take, map, filter, Option, Some, None, refl, sym, ap, ◌∙◌, inl, inr, arith}
 use Rattle.std.proofs.lemmas.Bool.{and_parts, cases_lt}
 use Rattle.pages.specs.Memory.{in_range, width_bytes}
 use Rattle.round_schedule.specs.declared.access.Access.{Access}
@@ -19,13 +19,9 @@ use Rattle.all_endings.specs.StoreLists.{Stored, has_byte, no_store, told}
 use Rattle.all_endings.specs.Times.{stores_before}
 use Rattle.all_endings.proofs.Bare.{covers_bare}
 use Rattle.all_endings.proofs.Following.{Reserving, Setting, after_store, list, place, time}
-use Rattle.all_endings.proofs.Sources.{once_at, place_of_time, preserved_in_time}
+use Rattle.all_endings.proofs.Sources.{once_at, place_of_time, preserved_in_time, both}
 use Rattle.all_endings.proofs.StoreLists.{stands_at}
 use Rattle.all_endings.proofs.Times.{timed_rises}
-
-both_true : (p q : Bool) → p ≡ true → q ≡ true → (p && q) ≡ true
-both_true true q e d = d
-both_true false q e d = absurd (cc)
 
 lr_loads : (y : Access) → is_lr y ≡ true → loads y ≡ true
 lr_loads (Load w p x r) e = cc
@@ -72,10 +68,6 @@ module _ (s : Setting) (h i : ℕ) (a : RunState) (span : Span) (pair : Reservin
       let e : covers (event s.t pair.index).access x ≡ covers (event s.t i).access x =
       ap (λ (y : ℕ). in_range y (bytes_of (event s.t pair.index).access) x) (pair.address ∙ sym address) ∙ ap (λ (y : ℕ). in_range (address_of (event s.t i).access) y x) (pair.bytes ∙ sym bytes) in
       both (loads (event s.t pair.index).access) (covers (event s.t pair.index).access x) (lr_loads (event s.t pair.index).access pair.reserves) (e ∙ c)
-    where
-      both : (p q : Bool) → p ≡ true → q ≡ true → (p && q) ≡ true
-      both true q e d = d
-      both false q e d = absurd (cc)
 
   pub unbroken : (v : Move) → address_of (event s.t i).access ≡ span.address → bytes_of (event s.t i).access ≡ width_bytes span.width → v.access ≡ bare (event s.t i).access →
       (v.time ≡ time s i) ⊎ (v.time ≡ s.n + 1) → IsUnbroken h (list s) a v
@@ -91,7 +83,7 @@ module _ (s : Setting) (h i : ℕ) (a : RunState) (span : Span) (pair : Reservin
         let is : get_or (list s) p no_store ≡ told (event s.t (get_or s.g f.0 0)) =
         get_or-take s.n (map (λ (j : ℕ). told (event s.t j)) (filter (λ (j : ℕ). is_store (event s.t j)) s.g)) p no_store (omega (arith, m, within, low))
         ∙ ap (λ (j : ℕ). get_or (map (λ (j : ℕ). told (event s.t j)) (filter (λ (j : ℕ). is_store (event s.t j)) s.g)) j no_store) (sym f.4) ∙ stands_at s.t s.g f.0 f.2 f.3 in
-        let w_wet : writes_at s.t (get_or s.g f.0 0) x ≡ true = both_true (is_store (event s.t (get_or s.g f.0 0))) (has_byte (told (event s.t (get_or s.g f.0 0))) x) f.3 (ap (λ (y : Stored). has_byte y x) (sym is) ∙ wet) in
+        let w_wet : writes_at s.t (get_or s.g f.0 0) x ≡ true = both (is_store (event s.t (get_or s.g f.0 0))) (has_byte (told (event s.t (get_or s.g f.0 0))) x) f.3 (ap (λ (y : Stored). has_byte y x) (sym is) ∙ wet) in
         let w_other : (event s.t (get_or s.g f.0 0)).hart ≢ (event s.t i).hart = λ q. other (ap (λ (y : Stored). y.hart) is ∙ q ∙ here) in
         let w_time : time s (get_or s.g f.0 0) ≡ p =
         let k : stores_before s.t s.g (order_position s.g (get_or s.g f.0 0)) ≡ p = ap (stores_before s.t s.g) w_at ∙ f.4 in

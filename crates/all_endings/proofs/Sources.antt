@@ -90,7 +90,7 @@ once_at g k l once =
       ]
     ]
 
-both : (p q : Bool) → p ≡ true → q ≡ true → (p && q) ≡ true
+pub both : (p q : Bool) → p ≡ true → q ≡ true → (p && q) ≡ true
 both true q e d = d
 both false q e d = absurd (cc)
 

@@ -1,5 +1,5 @@
 -- What a hart did, as the rules, the load value axiom and atomicity have it in times, is what a move may do.
-use Rattle.std.proofs.Common.{◌≡◌, ℕ, ◌+◌, ◌-◌, ◌^◌, ◌<◌, ◌≤◌, ◌&&◌, ◌||◌, min, Bool, true, false, if◌then◌else◌, List, length, get_or, Option, Some, None, refl, sym, ap, ◌∙◌, subst, inl, inr, arith}
+use Rattle.std.proofs.Common.{◌≡◌, ℕ, ◌+◌, ◌-◌, ◌^◌, ◌<◌, ◌≤◌, ◌||◌, min, Bool, true, false, if◌then◌else◌, List, length, get_or, Option, Some, None, refl, sym, ap, ◌∙◌, subst, inl, inr, arith}
 use Rattle.std.proofs.lemmas.Bool.Decides.{nat_tests}
 use Rattle.pages.specs.declared.access.Width.{Width}
 use Rattle.pages.specs.Memory.{byte_of, in_range, width_bytes}
@@ -28,7 +28,7 @@ use Rattle.all_endings.proofs.Bare.{address_bare, bytes_bare, carried_allow_bare
 use Rattle.all_endings.proofs.Following.{Follows, OwnIs, OwnLast, Setting, Source, after, after_other, after_store, carried_at_index, list, place, time, time_small}
 use Rattle.all_endings.proofs.OwnSteps.{operates_as}
 use Rattle.all_endings.proofs.Seen.{same_place}
-use Rattle.all_endings.proofs.Sources.{loads_read}
+use Rattle.all_endings.proofs.Sources.{loads_read, both}
 use Rattle.all_endings.proofs.StoreLists.{stores_stand}
 use Rattle.all_endings.proofs.Times.{stand_in_time}
 
@@ -235,10 +235,6 @@ gets_known s h i address number w held a k v f here at bytes reading fits known 
     (subst (λ (y : ℕ). IsRead (list s) (opening_bytes s.image) a (time s i) (address + j) y (byte_of number j)) (sym (sources (address + j)))
     (subst (λ (y : ℕ). IsRead (list s) (opening_bytes s.image) a (time s i) (address + j) (source_at s i (address + j)) y) byte_is
     (read_byte s h i (address + j) held a k f here r known))))
-  where
-    both : (p q : Bool) → p ≡ true → q ≡ true → (p && q) ≡ true
-    both true q e d = d
-    both false q e d = absurd (cc)
 
 -- ---- stores
 

@@ -1,5 +1,7 @@
 -- Places that are walked cover the runs.
-use Rattle.std.proofs.Common.{◌≡◌, ℕ, zero, suc, ◌+◌, ◌<◌, ◌≤◌, ◌==◌, ◌&&◌, ◌⊎◌, Bool, true, false, List, [], ◌∷◌, ◌++◌, length, get_or, Contains, Option, Some, None, refl, sym, ap, ◌∙◌, subst, inl, inr, arith, is_some}
+use Rattle.std.proofs.Common.{◌≡◌, ℕ, ◌+◌, ◌<◌, ◌≤◌, ◌==◌, ◌&&◌, ◌⊎◌, Bool, true, List, [], ◌∷◌, ◌++◌, length, get_or, Contains, Option, Some, None, sym, ap, ◌∙◌, subst, inl, inr, arith, is_some}
+use Rattle.all_endings.proofs.Closing.{hart_in}
+use Rattle.all_endings.proofs.Sources.{both}
 use Rattle.std.proofs.Math.Seq.{get_or-append_seam}
 use Rattle.std.proofs.lemmas.Bool.{cases_lt, eq-eqb}
 use Rattle.std.proofs.lemmas.List.{append-nil, append_assoc, get_or_append_left, length-append}
@@ -87,10 +89,6 @@ paid_split vs v j p = elim (cases_lt p.1.0 (length vs)) [
       inr (ap (λ (u : Move). writing u.access) same ∙ p.2, ap (λ (u : Move). u.time) same ∙ p.3)
 ]
 
-both_true : (a b : Bool) → a ≡ true → b ≡ true → (a && b) ≡ true
-both_true true b e d = d
-both_true false b e d = absurd (cc)
-
 module _ (k : ℕ) (image : Memory) (h : ℕ) (m : List Stored) (start : Hart) (ps : List Place) (walked : IsWalked k image h m start ps) where
   For : List Move → RunState → Option Stored → Type 0
   For vs c next = (p : Place) × Contains ps p × ForRun p vs c next
@@ -109,7 +107,7 @@ module _ (k : ℕ) (image : Memory) (h : ℕ) (m : List Stored) (start : Hart) (
           count = (let a = q.2.count in let b = f.count in let size = length-append vs (v ∷ []) in omega (arith, a, b, size));
           paid = λ j paid. elim (paid_split vs v j paid) [
             | inl old ↦ q.2.paid j (or_left (p.paid j) (writing v.access && v.time == j) (f.paid j old))
-            | inr new ↦ q.2.paid j (or_right (p.paid j) (writing v.access && v.time == j) (both_true (writing v.access) (v.time == j) new.0 (eq-eqb v.time j new.1)))
+            | inr new ↦ q.2.paid j (or_right (p.paid j) (writing v.access && v.time == j) (both (writing v.access) (v.time == j) new.0 (eq-eqb v.time j new.1)))
           ];
           next = q.2.next ∙ f.next;
         },
@@ -171,11 +169,6 @@ halts_low image a b stop l x = record {
 
 open_low : (image : Memory) (a b : RunState) → IsLower a b → IsOpenCall image b → IsOpenCall image a
 open_low image a b l o = (ap (decoded image) l.pc ∙ o.0, ap (λ (x : List (Option ℕ)). view x 17) l.registers ∙ o.1)
-
-hart_in : (hs : List Hart) (h : ℕ) → h < length hs → (start : Hart) × (start ≡ get_or hs h start)
-hart_in [] h l = absurd (omega (arith, l))
-hart_in (x ∷ hs) zero l = (x, refl)
-hart_in (x ∷ hs) (suc h) l = hart_in hs h (omega (arith, l))
 
 module _ (k : ℕ) (image : Memory) (hs : List Hart) (is_node : List Stored → Bool) (places : List Stored → ℕ → List Place) (walked : AreWalked k image hs is_node places) where
   closed : IsClosed k image hs is_node
