@@ -16,7 +16,7 @@ _dethart() {
     [[ $word == -* && -z $words ]] && case $command in
         run) words='--flat --harts --pages --rounds --workers --input --progress --quota --plan --budget --plan-number --seed --show --no-trace --strict --help' ;;
         order) words='--flat --harts --pages --rounds --workers --input --progress --quota --plan --budget --plan-number --seed --help' ;;
-        record) words='--flat --harts --pages --rounds --workers --input --progress --quota --plan --budget --plan-number --seed --every --help' ;;
+        record) words='--flat --harts --pages --rounds --workers --input --progress --quota --plan --budget --plan-number --seed --every --until-stopped --help' ;;
         replay) words='--workers --progress --every --round --hart --count --how-many --place --see --see-object --help' ;;
         watch) words='--see --see-object --hart --stores --pc --from --to --workers --progress --help' ;;
         migrate) words='--help' ;;

@@ -59,6 +59,7 @@ complete -c dethart -n '__fish_seen_subcommand_from record' -l budget -x -d 'Len
 complete -c dethart -n '__fish_seen_subcommand_from record' -l plan-number -x -d 'By plan N of the family, not by these three'
 complete -c dethart -n '__fish_seen_subcommand_from record' -l seed -x -d 'Which family plan N is of'
 complete -c dethart -n '__fish_seen_subcommand_from record' -l every -x -d 'Registers after each N-th round; 0 never'
+complete -c dethart -n '__fish_seen_subcommand_from record' -l until-stopped -d 'No round after all harts have stopped'
 complete -c dethart -n '__fish_seen_subcommand_from record' -l help -d 'Print help'
 complete -c dethart -n '__fish_seen_subcommand_from replay' -l workers -x -d 'Threads: 1 to 16, same outcome'
 complete -c dethart -n '__fish_seen_subcommand_from replay' -l progress -d 'Say on standard error how far it is'

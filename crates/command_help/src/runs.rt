@@ -119,11 +119,13 @@ pub static RECORD_AFTER_HELP: &str = "\
 Examples:
   dethart record guest.elf guest.rec --harts 4
   dethart record guest.elf guest.rec --harts 4 --quota '100 7 1 1' --every 10
+  dethart record guest.elf guest.rec --harts 4 --rounds 1000000 --until-stopped
 
 Nothing is printed. The recording has what the run was asked for, all but the
 number of workers, and a summary of its state after each round; with --every
 also each register of each hart after the rounds whose numbers are multiples of
-it.
+it. With --until-stopped it ends where all harts have stopped, after --rounds at
+most; without it, standard error says where that was before a half of them.
 
 dethart run --help says what a plan is, and what each error N means: a refusal
 is the line 'error N' on standard error, with the exit status 1.

@@ -74,9 +74,17 @@ number_or default text = unwrap_or (number_given 32 text) default
 abbrev pub wide_number_or : ℕ → Option Text → ℕ
 wide_number_or default text = unwrap_or (number_given 64 text) default
 
+-- the address that the text is has no `0x` before it, and so is in decimal
+abbrev pub is_decimal : Text → Bool
+is_decimal text = not (starts_with nat_eq text (codes "0x"))
+
 -- what `watch` is given as ADDRESS
 abbrev pub address_given : List Row → Option ℕ
 address_given rows = option_and_then address_in (first_of (codes "address") rows)
+
+-- it is in decimal
+abbrev pub address_is_decimal : List Row → Bool
+address_is_decimal rows = option_map_or is_decimal (first_of (codes "address") rows) false
 
 -- all texts of the argument or option, in the order of the line
 abbrev pub texts_given : Text → List Row → List Text
@@ -97,6 +105,7 @@ abbrev pub bytes_of : Text × Text → Bytes
 bytes_of given = record {
   address = unwrap_or (address_in given.0) 0;
   length = unwrap_or (number_in 64 10 given.1) 0;
+  is_decimal = is_decimal given.0;
 }
 
 -- what the word after --show asks for
@@ -187,6 +196,7 @@ pub record HoldsRecord (rows : List Row) (r : Record) : Type 0 where
   pub run : HoldsRun rows r.run
   pub out : r.out.now ≡ unwrap_or (first_of (codes "out") rows) []
   pub every : r.every ≡ number_or 0 (one_of (codes "every") rows)
+  pub until_stopped : r.until_stopped ≡ is_set (codes "until-stopped") rows
 
 -- `replay` is asked of a hart
 abbrev pub asks_of_a_hart : List Row → Bool
@@ -216,6 +226,7 @@ pub record HoldsReplay (rows : List Row) (replay : Replay) : Type 0 where
 pub record HoldsWatch (rows : List Row) (watch : Watch) : Type 0 where
   pub recording : watch.recording.now ≡ unwrap_or (first_of (codes "recording") rows) []
   pub address : watch.address ≡ address_given rows
+  pub is_decimal : watch.is_decimal ≡ address_is_decimal rows
   pub length : watch.length ≡ wide_number_or 0 (one_of (codes "length") rows)
   pub more : watch.more.items ≡ map bytes_of (seen_given rows)
   pub objects : map (λ s. s.now) watch.objects.items ≡ texts_given (codes "see-object") rows

@@ -2,7 +2,7 @@
 ghost use Rattle.std.specs.Prelude.{◌≡◌, ◌≤◌};
 ghost use Rattle.std.specs.Str.Parse.{without_leading_plus};
 ghost use Rattle.clap.specs.Words.{found_of, one_text};
-ghost use Rattle.command_line.specs.Reading.{address_in, has_leading_zero, number_given, number_in, number_or, wide_number_or};
+ghost use Rattle.command_line.specs.Reading.{address_in, has_leading_zero, is_decimal, number_given, number_in, number_or, wide_number_or};
 
 use clap::ArgMatches;
 
@@ -44,6 +44,13 @@ pub fn address_in(text: &str) -> Option<u64>
         None if has_leading_zero(text) => None,
         None => number_in(text, 10),
     }
+}
+
+/// Whether the text of an address is in decimal.
+pub(crate) fn is_decimal(text: &str) -> bool
+    ensures { result ≡ is_decimal text.now }
+{
+    !text.starts_with("0x")
 }
 
 /// Whether the digits begin with a zero and have more after it.

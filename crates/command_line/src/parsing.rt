@@ -1,21 +1,21 @@
 //! What the words of a command line say.
 ghost use Rattle.std.specs.Prelude.{◌≡◌, IfOk, Some, is_some, map};
-ghost use Rattle.clap.specs.Words.{FailsBy, found_of, rows_of, subcommand_of};
+ghost use Rattle.clap.specs.Words.{FailsBy, found_of, kind_of, rows_of, subcommand_of};
 ghost use Rattle.command_options.specs.Options.{dethart_app};
 ghost use Rattle.command_line.specs.Faults.{has_bad_address, has_bad_word, has_no_bytes, line_fault, names_no_bytes, word_fault};
-ghost use Rattle.command_line.specs.Reading.{HoldsCheck, HoldsGdb, HoldsLine, HoldsMigrate, HoldsNamed, HoldsReplay, HoldsWatch, IsSubcommand, address_given, asks_of_a_hart, is_unread};
+ghost use Rattle.command_line.specs.Reading.{HoldsCheck, HoldsGdb, HoldsLine, HoldsMigrate, HoldsNamed, HoldsReplay, HoldsWatch, IsSubcommand, address_given, address_is_decimal, asks_of_a_hart, is_unread};
 
 use crate::contradictions::contradiction;
 use crate::families::{has_bad_until, hunt_of, merge_of, plan_of, shrink_of};
 use crate::fences::{fences_of, has_bad_fail_on};
 use crate::given::{is_given, is_set};
-use crate::numbers::{address_in, number_given, number_of, wide_given, wide_number_of};
+use crate::numbers::{address_in, is_decimal, number_given, number_of, wide_given, wide_number_of};
 use crate::runs::{draw_of, execution_of, has_bad_form, has_bad_show, print_of, record_of, run_of};
 use crate::seen::{has_bad_bytes, seen_of, texts_of};
 use crate::settings::{Check, Command, Gdb, Migrate, Replay, Watch};
 use clap::error::ErrorKind;
 use clap::{ArgMatches, Error};
-use command_options::dethart_command;
+use command_options::{dethart_command, subcommand_named};
 use std::alloc::{AllocError, Global};
 
 /// What is said of an ADDRESS that is none.
@@ -60,13 +60,12 @@ pub fn parse_line<'a>(alloc: Global, words: &'a [&'a str]) -> Result<Command<'a>
     let Some((name, found)) = matches.subcommand() else {
         unreachable!()
     };
-    subcommand_of(alloc, &mut command, name, found)
+    subcommand_of(alloc, name, found)
 }
 
 /// What the matches of the subcommand of this name say, or what is wrong with one of their words.
 fn subcommand_of<'a>(
     alloc: Global,
-    command: &mut clap::Command<'_>,
     name: &str,
     matches: &ArgMatches<'a>,
 ) -> Result<Command<'a>, Error>
@@ -75,12 +74,26 @@ fn subcommand_of<'a>(
     ensures fails { FailsBy (word_fault (Some (name.now, rows_of (found_of matches.now)))) result }
 {
     if let Some(text) = bad_word(name, matches) {
-        return Err(command.error(ErrorKind::ValueValidation, text)?);
+        return Err(error_of(alloc, name, ErrorKind::ValueValidation, text)?);
     }
     if let Some(text) = contradiction(name, matches) {
-        return Err(command.error(ErrorKind::ArgumentConflict, text)?);
+        return Err(error_of(alloc, name, ErrorKind::ArgumentConflict, text)?);
     }
     Ok(command_of(alloc, name, matches)?)
+}
+
+/// An error of a line of the subcommand of this name, with the usage of that.
+fn error_of(
+    alloc: Global,
+    name: &str,
+    kind: ErrorKind,
+    text: &'static str,
+) -> Result<Error, AllocError>
+    ensures { IfOk result (λ error. kind_of error ≡ kind) }
+{
+    let program = format!(in alloc; "dethart {name}")?;
+    let mut command = subcommand_named(alloc, name)?.bin_name(program.as_str())?;
+    command.error(kind, text)
 }
 
 /// What the matches of the subcommand of this name say.
@@ -161,6 +174,7 @@ fn watch_of<'a>(alloc: Global, matches: &ArgMatches<'a>) -> Result<Watch<'a>, Al
     Ok(Watch {
         recording: matches.get_str("recording").unwrap_or(""),
         address: address_given(matches),
+        is_decimal: address_is_decimal(matches),
         length: wide_number_of(matches, "length", 0),
         more,
         objects,
@@ -238,6 +252,16 @@ fn address_given(matches: &ArgMatches<'_>) -> Option<u64>
     match matches.get_str("address") {
         Some(text) => address_in(text),
         None => None,
+    }
+}
+
+/// Whether `watch` is given ADDRESS, in decimal.
+fn address_is_decimal(matches: &ArgMatches<'_>) -> bool
+    ensures { result ≡ address_is_decimal (rows_of (found_of matches.now)) }
+{
+    match matches.get_str("address") {
+        Some(text) => is_decimal(text),
+        None => false,
     }
 }
 

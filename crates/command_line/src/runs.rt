@@ -123,6 +123,7 @@ pub(crate) fn record_of<'a>(matches: &ArgMatches<'a>) -> Record<'a>
         run: run_of(matches),
         out: matches.get_str("out").unwrap_or(""),
         every: number_of(matches, "every", 0),
+        until_stopped: is_set(matches, "until-stopped"),
     }
 }
 

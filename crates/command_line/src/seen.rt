@@ -5,7 +5,7 @@ ghost use Rattle.clap.specs.Words.{found_of, rows_of};
 ghost use Rattle.command_line.specs.Faults.{has_bad_bytes, is_bad_pair};
 ghost use Rattle.command_line.specs.Reading.{bytes_of, pairs, seen_given, texts_given};
 
-use crate::numbers::{address_in, number_in};
+use crate::numbers::{address_in, is_decimal, number_in};
 use crate::settings::Bytes;
 use clap::ArgMatches;
 use std::alloc::{AllocError, Global};
@@ -56,6 +56,7 @@ fn bytes_in(alloc: Global, texts: &[&str]) -> Result<Vec<Bytes>, AllocError>
         seen.push(Bytes {
             address: address_in(address).unwrap_or(0),
             length: number_in(length, 10).unwrap_or(0),
+            is_decimal: is_decimal(address),
         })?;
         rest = after;
     }

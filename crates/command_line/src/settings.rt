@@ -115,6 +115,8 @@ pub struct Record<'a> {
     pub out: &'a str,
     /// The registers are recorded after each round whose number is a multiple of this; 0: never.
     pub every: u32,
+    /// No round is recorded in which no hart runs.
+    pub until_stopped: bool,
 }
 
 /// The words after `replay`.
@@ -162,6 +164,8 @@ pub struct Watch<'a> {
     pub recording: &'a str,
     /// The address of the first byte that is watched, where the line says one.
     pub address: Option<u64>,
+    /// The line says it in decimal.
+    pub is_decimal: bool,
     /// How many bytes are watched from there on.
     pub length: u64,
     /// More bytes that are watched.
@@ -218,13 +222,15 @@ pub struct Check<'a> {
     pub file: &'a str,
 }
 
-/// A range of bytes in guest memory: the two words after `--see`.
+/// A range of bytes in guest memory: the two words after `--see`, or an object.
 #[derive(Clone, Copy, Drop)]
 pub struct Bytes {
     /// The address of the first byte.
     pub address: u64,
     /// How many bytes there are.
     pub length: u64,
+    /// The line says the address, in decimal.
+    pub is_decimal: bool,
 }
 
 /// Runs of a program by plans of a family: a part of the words after `hunt`, `shrink` and `fences`.

@@ -1,5 +1,6 @@
 -- The command line, as a command of clap.
-use Rattle.std.specs.Prelude.{List, [], ◌∷◌, Some, true, codes, fold, pos}
+use Rattle.std.specs.Prelude.{List, [], ◌∷◌, Some, true, codes, fold, if◌then◌else◌, pos}
+use Rattle.std.specs.Str.{bytes_eq}
 use Rattle.clap.specs.Words.{App, Rule, Text, new_app, new_rule, with_rule, with_subcommand}
 use Rattle.clap.specs.declared.builder.action.ArgAction.TheVariants.{Append, SetTrue}
 use Rattle.clap.specs.declared.builder.value_parser.ValueParser.{ValueParser}
@@ -126,9 +127,12 @@ print_rules =
     ∷ flag_rule (codes "strict")
     ∷ []
 
--- where a recording goes, and which registers it has
+-- where a recording goes, which registers it has, and whether it ends where all harts have stopped
 abbrev pub record_rules : List Rule
-record_rules = positional_rule (codes "out") ∷ number_rule (codes "every") (codes "0") ∷ []
+record_rules = positional_rule (codes "out")
+    ∷ number_rule (codes "every") (codes "0")
+    ∷ flag_rule (codes "until-stopped")
+    ∷ []
 
 -- what is drawn
 abbrev pub draw_rules : List Rule
@@ -348,6 +352,25 @@ other_commands = plan_app ∷ draw_app ∷ trace_app ∷ []
 -- those of executions
 abbrev pub execution_commands : List App
 execution_commands = execution_app ∷ check_app ∷ []
+
+-- the one of a name
+abbrev pub named_app : Text → App
+named_app name = if bytes_eq name (codes "run") then run_app
+    else if bytes_eq name (codes "order") then order_app
+    else if bytes_eq name (codes "record") then record_app
+    else if bytes_eq name (codes "replay") then replay_app
+    else if bytes_eq name (codes "watch") then watch_app
+    else if bytes_eq name (codes "migrate") then migrate_app
+    else if bytes_eq name (codes "gdb") then gdb_app
+    else if bytes_eq name (codes "hunt") then hunt_app
+    else if bytes_eq name (codes "shrink") then shrink_app
+    else if bytes_eq name (codes "merge") then merge_app
+    else if bytes_eq name (codes "fences") then fences_app
+    else if bytes_eq name (codes "plan") then plan_app
+    else if bytes_eq name (codes "draw") then draw_app
+    else if bytes_eq name (codes "trace") then trace_app
+    else if bytes_eq name (codes "execution") then execution_app
+    else check_app
 
 -- the command with these subcommands too
 abbrev pub with_commands : App → List App → App

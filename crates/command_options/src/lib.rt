@@ -8,4 +8,4 @@ mod program_options;
 mod recording_options;
 mod run_options;
 
-pub use options::dethart_command;
+pub use options::{dethart_command, subcommand_named};

@@ -2,7 +2,7 @@
 ghost use Rattle.std.specs.Prelude.{◌≡◌, IfOk, IsOkAnd, false};
 ghost use Rattle.clap.specs.Words.{AddsSubcommand, app_of};
 ghost use Rattle.clap.specs.declared.builder.command.Command.TheViews.{out-Command};
-ghost use Rattle.command_options.specs.Options.{bare_app, dethart_app, hunting_commands, run_commands, with_commands, with_other_commands, with_recording_commands};
+ghost use Rattle.command_options.specs.Options.{bare_app, dethart_app, hunting_commands, named_app, run_commands, with_commands, with_other_commands, with_recording_commands};
 
 use crate::family_options::{
     fences_command, hunt_command, merge_command, plan_command, shrink_command,
@@ -28,6 +28,45 @@ pub fn dethart_command<'a>(alloc: Global) -> Result<Command<'a>, AllocError>
     let others = with_other_commands(alloc);
     let executing = with_subcommand(others, execution_command(alloc));
     with_subcommand(executing, check_command(alloc))
+}
+
+/// The subcommand of a name alone, whose usage is told of a line that it doesn't take. There is no other than these.
+pub fn subcommand_named<'a>(alloc: Global, name: &str) -> Result<Command<'a>, AllocError>
+    ensures { IfOk result (λ command. app_of command ≡ named_app name.now) }
+{
+    if name == "run" {
+        run_command(alloc)
+    } else if name == "order" {
+        order_command(alloc)
+    } else if name == "record" {
+        record_command(alloc)
+    } else if name == "replay" {
+        replay_command(alloc)
+    } else if name == "watch" {
+        watch_command(alloc)
+    } else if name == "migrate" {
+        migrate_command(alloc)
+    } else if name == "gdb" {
+        gdb_command(alloc)
+    } else if name == "hunt" {
+        hunt_command(alloc)
+    } else if name == "shrink" {
+        shrink_command(alloc)
+    } else if name == "merge" {
+        merge_command(alloc)
+    } else if name == "fences" {
+        fences_command(alloc)
+    } else if name == "plan" {
+        plan_command(alloc)
+    } else if name == "draw" {
+        draw_command(alloc)
+    } else if name == "trace" {
+        trace_command(alloc)
+    } else if name == "execution" {
+        execution_command(alloc)
+    } else {
+        check_command(alloc)
+    }
 }
 
 /// The command without the subcommands of executions.

@@ -56,8 +56,8 @@ static PRINTING: [Argument<'static>; 3] = [
     ),
 ];
 
-/// Where a recording goes, and which registers it has.
-static RECORDED: [Argument<'static>; 2] = [
+/// Where a recording goes, which registers it has, and whether it ends where all harts have stopped.
+static RECORDED: [Argument<'static>; 3] = [
     Argument::Positional("out", "OUT", "The file that the recording is written to"),
     Argument::Number(
         NARROW,
@@ -65,6 +65,7 @@ static RECORDED: [Argument<'static>; 2] = [
         "0",
         "Registers after each N-th round; 0 never",
     ),
+    Argument::Flag("until-stopped", "No round after all harts have stopped"),
 ];
 
 /// Which bytes and rounds are drawn.
@@ -100,7 +101,7 @@ pub(crate) fn order_command<'a>(alloc: Global) -> Result<Command<'a>, AllocError
     running_command(alloc, "order", ORDER_ABOUT, ORDER_AFTER_HELP)
 }
 
-/// The subcommand `record`: how the program is run, where the recording goes, and which registers it has.
+/// The subcommand `record`: how the program is run, where the recording goes, and what it has.
 pub(crate) fn record_command<'a>(alloc: Global) -> Result<Command<'a>, AllocError>
     ensures app { IfOk result (λ command. app_of command ≡ record_app) }
     ensures local { IfOk result (λ command. (out-Command command).has_globals ≡ false) }

@@ -9,6 +9,7 @@ mod printing;
 mod recordings;
 mod refusal;
 mod run;
+mod unfit;
 mod unread;
 
 use command_line::{Command, asked_by_options, parse_line};
@@ -21,6 +22,7 @@ use recordings::{make_recording, migrate_file};
 use std::process::ExitCode;
 use std::sync::Wait;
 use std::thread::Threads;
+use unfit::tell_unfit;
 use unread::tell_unread;
 
 fn main(rt: HostRuntime) -> ExitCode {
@@ -70,11 +72,14 @@ fn obey<R: Threads + Wait + Sync>(
     threads: &R,
     command: &Command<'_>,
 ) -> ExitStatus {
-    tell_unread(rt, command);
-    match command {
+    let status = match command {
         Command::Record(asked) => make_recording(rt, threads, asked),
         Command::Migrate(asked) => migrate_file(rt, asked),
         Command::Gdb(asked) => serve_debugger(rt, threads, asked),
         command => print_answer(rt, threads, command),
-    }
+    };
+    // What refuses the command comes first.
+    tell_unread(rt, command);
+    tell_unfit(rt, command);
+    status
 }

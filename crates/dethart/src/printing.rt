@@ -116,6 +116,7 @@ fn put_replay<R: Threads + Wait + Sync>(
         asked,
         &mut progress,
         out,
+        &HostMessages { rt },
     );
     finish_printing(rt, out.reader_is_gone, answer)
 }
@@ -238,6 +239,7 @@ fn put_drawing<R: Threads + Wait + Sync>(
         asked,
         &mut progress,
         out,
+        &HostMessages { rt },
     );
     finish_printing(rt, out.reader_is_gone, answer)
 }

@@ -3,7 +3,7 @@
 use crate::refusal::finish;
 use crate::run::progress_of;
 use command_line::{Migrate, Record};
-use host_world::HostFiles;
+use host_world::{HostFiles, HostMessages};
 use program_files::ExitStatus;
 use run_commands::{migrate_command, record_command};
 use std::sync::Wait;
@@ -17,7 +17,14 @@ pub(crate) fn make_recording<R: Threads + Wait + Sync>(
 ) -> ExitStatus {
     let mut files = HostFiles { rt };
     let mut progress = progress_of(rt, &asked.run.program);
-    let recorded = record_command(threads, rt.alloc(), &mut files, asked, &mut progress);
+    let recorded = record_command(
+        threads,
+        rt.alloc(),
+        &mut files,
+        asked,
+        &mut progress,
+        &HostMessages { rt },
+    );
     finish(rt, recorded)
 }
 

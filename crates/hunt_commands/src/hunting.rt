@@ -6,7 +6,7 @@ ghost use Rattle.hunt_commands.specs.Status.{hunt_status};
 use crate::failure::HuntFailure;
 use crate::refusing::refused_for;
 use crate::repeating::{tell_endings, tell_weak_running};
-use crate::settings::{named_in, settings_of};
+use crate::settings::{named_in, settings_of, tell_decimals};
 use crate::status::hunt_status;
 use crate::tabling::write_rows;
 use crate::weak_hunts::WeakHunts;
@@ -57,8 +57,9 @@ pub fn hunt_command<
     let rows = hunt_given(threads, alloc, weakly, &given, asked, progress, out)?;
     out.hand_on()?;
     // What was asked for is out.
-    let _untold = tell_endings(alloc, asked, &rows, messages);
+    let _untold = tell_endings(threads, alloc, asked, &given, &rows, messages);
     tell_weak_running(asked, &rows, messages);
+    tell_decimals(&asked.search, &given, messages);
     Ok(hunt_status(asked.fail_on, &rows))
 }
 

@@ -25,7 +25,7 @@ pub use neighbours::Apart;
 pub use planning::plan_command;
 pub use refusing::refused_for;
 pub use repeating::{tell_bounds, weak_line_of};
-pub use settings::{named_in, program_settings, settings_of};
+pub use settings::{named_in, program_settings, settings_of, tell_decimals};
 pub use shrinking::shrink_command;
 pub use status::hunt_status;
 pub use table_files::TableFile;

@@ -1,32 +1,77 @@
 //! Lines that repeat a run which was found. They are told when what was asked for is out already, so it is no failure where they
 //! can't be written, or there is no memory for them.
 
-use command_line::{Hunt, Plan, Program, Shrink};
+use command_line::{Hunt, Program, Shrink};
+use machine::Unobserved;
+use pages::OutOfMemory;
 use plan_hunt::{HartEnding, Row};
-use program_files::Messages;
+use program_files::{
+    AskedPlan, Messages, ProgramFiles, family_plan, guest_files, needed_rounds, settings_of,
+};
+use round_planner::{Family, Plan};
+use round_schedule::MOST_HARTS;
 use std::alloc::{AllocError, Global};
+use std::sync::Wait;
+use std::thread::Threads;
 
 /// Says on standard error, for each ending of a table, the line that runs the program by its first plan, or that writes its first
 /// execution.
-pub(crate) fn tell_endings<M: Messages>(
+pub(crate) fn tell_endings<M: Messages, R: Threads + Wait + Sync>(
+    threads: &R,
     alloc: Global,
     asked: &Hunt<'_>,
+    files: &ProgramFiles,
     rows: &[Row],
     messages: &M,
 ) -> Result<(), AllocError> {
-    let program = if asked.weak {
-        weak_line_of(alloc, &asked.search.program, asked.steps)?
-    } else {
-        line_of(alloc, "run", &asked.search.program)?
-    };
     let seed = asked.search.seed;
     for (index, row) in rows.iter().enumerate() {
+        let program = line_of_row(threads, alloc, asked, files, row)?;
         let (number, first) = (index.saturating_add(1), row.first);
         messages.tell(format_args!(
             "ending {number}: {program} --plan-number {first} --seed {seed}"
         ));
     }
     Ok(())
+}
+
+/// The line that leads to the ending of a row, but for the number and the seed.
+fn line_of_row<R: Threads + Wait + Sync>(
+    threads: &R,
+    alloc: Global,
+    asked: &Hunt<'_>,
+    files: &ProgramFiles,
+    row: &Row,
+) -> Result<String, AllocError> {
+    let program = &asked.search.program;
+    if asked.weak {
+        return weak_line_of(alloc, program, asked.steps);
+    }
+    let family = Family {
+        seed: asked.search.seed,
+        harts: program.harts,
+    };
+    let mut rounds = program.rounds;
+    // A hunt with rows has such a number of harts.
+    if family.harts >= 1 && family.harts <= MOST_HARTS {
+        if let Ok(plan) = family_plan(alloc, family, row.first) {
+            rounds = rounds_for(threads, alloc, program, files, &plan);
+        }
+    }
+    line_of(alloc, "run", program, rounds)
+}
+
+/// How many rounds a run of a program by a plan needs; all that the line gives where that can't be told.
+fn rounds_for<R: Threads + Wait + Sync>(
+    threads: &R,
+    alloc: Global,
+    program: &Program<'_>,
+    files: &ProgramFiles,
+    plan: &AskedPlan,
+) -> u32 {
+    let settings = settings_of(program, plan);
+    let guest = guest_files(files);
+    needed_rounds(threads, alloc, &guest, &settings, &mut Unobserved).unwrap_or(program.rounds)
 }
 
 /// Says on standard error how far executions were followed that still ran then, if there are some.
@@ -45,19 +90,28 @@ pub fn tell_bounds<M: Messages>(steps: u32, rounds: u32, messages: &M) {
 }
 
 /// Says on standard error the budget of the plan that was printed, and the line that runs the program by it, once it is in a file.
-pub(crate) fn tell_shrunk<M: Messages>(
+pub(crate) fn tell_shrunk<M: Messages, R: Threads + Wait + Sync>(
+    threads: &R,
     alloc: Global,
     asked: &Shrink<'_>,
-    budget: u32,
+    files: &ProgramFiles,
+    plan: &Plan,
     messages: &M,
-) -> Result<(), AllocError> {
-    let program = line_of(alloc, "run", &asked.search.program)?;
-    messages.tell(format_args!("budget {budget}\n{program} --plan FILE --budget {budget}"));
+) -> Result<(), OutOfMemory> {
+    let (program, budget) = (&asked.search.program, plan.budget());
+    let asked_plan = AskedPlan {
+        text: plan.text(alloc)?,
+        budget,
+        is_file: false,
+    };
+    let rounds = rounds_for(threads, alloc, program, files, &asked_plan);
+    let line = line_of(alloc, "run", program, rounds)?;
+    messages.tell(format_args!("budget {budget}\n{line} --plan FILE --budget {budget}"));
     Ok(())
 }
 
 /// Says on standard error the budget of a plan of the family, and the line that runs any program by it.
-pub(crate) fn tell_plan<M: Messages>(asked: &Plan, budget: u32, messages: &M) {
+pub(crate) fn tell_plan<M: Messages>(asked: &command_line::Plan, budget: u32, messages: &M) {
     let harts = asked.harts;
     messages.tell(format_args!(
         "budget {budget}\ndethart run IMAGE --harts {harts} --plan FILE --budget {budget}"
@@ -74,15 +128,20 @@ pub fn weak_line_of(
     program: &Program<'_>,
     steps: u32,
 ) -> Result<String, AllocError> {
-    let line = line_of(alloc, "execution", program)?;
+    let line = line_of(alloc, "execution", program, program.rounds)?;
     format!(in alloc; "{line} --steps {steps} --weak")
 }
 
-/// The line of a command on a program, but for its plan: each option that the outcome depends on.
-fn line_of(alloc: Global, command: &str, program: &Program<'_>) -> Result<String, AllocError> {
+/// The line of a command on a program for so many rounds, but for its plan: each option that the outcome depends on.
+fn line_of(
+    alloc: Global,
+    command: &str,
+    program: &Program<'_>,
+    rounds: u32,
+) -> Result<String, AllocError> {
     let image = quoted_path(alloc, program.image)?;
     let flat = if program.flat { " --flat" } else { "" };
-    let (harts, pages, rounds) = (program.harts, program.pages, program.rounds);
+    let (harts, pages) = (program.harts, program.pages);
     let mut line = format!(in alloc;
         "dethart {command} {image}{flat} --harts {harts} --pages {pages} --rounds {rounds}"
     )?;

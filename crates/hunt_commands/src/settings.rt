@@ -5,7 +5,9 @@ ghost use Rattle.program_files.specs.Naming.{IsNaming, named_in, seen_ranges};
 use command_line::{Bytes, Program, Search};
 use hunt_table::Header;
 use hunter::HuntSettings;
-use program_files::{NamedBytes, ProgramFiles, format_of, named_bytes, seen_ranges};
+use program_files::{
+    Messages, NamedBytes, ProgramFiles, format_of, named_bytes, seen_ranges, tell_of_decimals,
+};
 use std::alloc::{AllocError, Global};
 
 /// The bytes that are looked at when a run ends.
@@ -30,6 +32,11 @@ pub fn named_in(
         &search.seen,
         &search.objects,
     )
+}
+
+/// Says on standard error how a decimal address was read that would be one of the image in hexadecimal, too.
+pub fn tell_decimals<M: Messages>(search: &Search<'_>, files: &ProgramFiles, messages: &M) {
+    tell_of_decimals(messages, &files.image, search.program.flat, &search.seen);
 }
 
 /// What the line says of a hunt by so many plans from a first one on, with these bytes, which the line names, to be looked at when a

@@ -8,7 +8,7 @@ ghost use Rattle.round_planner.specs.PlanText.{plan_text};
 use crate::failure::HuntFailure;
 use crate::refusing::refused_for_guest;
 use crate::repeating::tell_shrunk;
-use crate::settings::{named_in, settings_of};
+use crate::settings::{named_in, settings_of, tell_decimals};
 use command_line::Shrink;
 use host_io::put_all;
 use hunter::{ShrinkObserver, shrink};
@@ -56,7 +56,8 @@ pub fn shrink_command<
     put_plan(alloc, &plan, out)?;
     out.hand_on()?;
     // What was asked for is out.
-    let _untold = tell_shrunk(alloc, asked, plan.budget(), messages);
+    let _untold = tell_shrunk(threads, alloc, asked, &given, &plan, messages);
+    tell_decimals(&asked.search, &given, messages);
     Ok(ExitStatus::Done)
 }
 

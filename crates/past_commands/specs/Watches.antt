@@ -29,10 +29,10 @@ use Rattle.round_schedule.specs.declared.event.Event.{Event}
 
 -- ---- bytes
 
--- the bytes from an address on, where the line says one
-abbrev pub at_address : Option ℕ → ℕ → List Bytes
-at_address None length = []
-at_address (Some address) length = record { address = address; length = length } ∷ []
+-- the bytes from an address on, where the line says one, in decimal or not
+abbrev pub at_address : Option ℕ → ℕ → Bool → List Bytes
+at_address None length is_decimal = []
+at_address (Some address) length is_decimal = record { address = address; length = length; is_decimal = is_decimal } ∷ []
 
 -- the names of the objects that are watched
 abbrev pub names_watched : Watch → List (List ℕ)
@@ -40,7 +40,7 @@ names_watched asked = map (λ s. s.now) asked.objects.items
 
 -- the bytes that are watched: those that are named by addresses, and those of the image's objects
 abbrev pub watched_bytes : List ℕ → Watch → List Bytes
-watched_bytes image asked = (asked.more.items ++ at_address asked.address asked.length) ++ objects_in image (names_watched asked)
+watched_bytes image asked = (asked.more.items ++ at_address asked.address asked.length asked.is_decimal) ++ objects_in image (names_watched asked)
 
 abbrev pub as_range : Bytes → Range
 as_range b = record { start = b.address; len = b.length }

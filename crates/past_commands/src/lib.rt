@@ -8,6 +8,7 @@ mod failure;
 mod files;
 mod looking;
 mod naming;
+mod noting;
 mod past;
 mod placing;
 mod positions;

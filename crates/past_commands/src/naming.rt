@@ -7,7 +7,7 @@ ghost use Rattle.past_commands.specs.Watches.{as_range, at_address, names_watche
 use crate::failure::PastFailure;
 use command_line::{Bytes, Watch};
 use pages::{OutOfMemory, Range};
-use program_files::{Messages, is_in_memory, no_object, one_object};
+use program_files::{no_object, one_object};
 use std::alloc::{AllocError, Global};
 
 /// The bytes that a line watches: those that it names by addresses, and those of objects of the image.
@@ -32,13 +32,14 @@ pub(crate) fn watched_bytes(
 
 /// The bytes that are named by addresses.
 fn addressed(alloc: Global, asked: &Watch<'_>) -> Result<Vec<Bytes>, OutOfMemory>
-    ensures { IfOk result (λ v. v.items ≡ asked.now.more.items ++ at_address asked.now.address asked.now.length) }
+    ensures { IfOk result (λ v. v.items ≡ asked.now.more.items ++ at_address asked.now.address asked.now.length asked.now.is_decimal) }
 {
     let mut bytes = Vec::from_slice(alloc, &asked.more)?;
     if let Some(address) = asked.address {
         bytes.push(Bytes {
             address,
             length: asked.length,
+            is_decimal: asked.is_decimal,
         })?;
     }
     Ok(bytes)
@@ -56,6 +57,7 @@ fn object_bytes(alloc: Global, image: &[u8], names: &[&str]) -> Result<Vec<Bytes
             Some(object) => bytes.push(Bytes {
                 address: object.address,
                 length: object.length,
+                is_decimal: false,
             })?,
             None => return Err(unnamed(alloc, image, name)),
         }
@@ -82,19 +84,4 @@ pub fn access_ranges(alloc: Global, named: &[Bytes]) -> Result<Vec<Range>, Alloc
         len: bytes.length,
     };
     named.iter().map(range_of).collect(alloc)
-}
-
-/// Says on standard error which of the bytes there aren't, or aren't all in memory of so many pages: so that nobody takes a wrong address
-/// for one that is never touched.
-pub(crate) fn tell_of_bytes<M: Messages>(messages: &M, named: &[Bytes], pages: u32) {
-    for bytes in named {
-        let (address, length) = (bytes.address, bytes.length);
-        if length == 0 {
-            messages.tell(format_args!("the range from 0x{address:x} on is empty"));
-        } else if !is_in_memory(bytes, pages) {
-            messages.tell(format_args!(
-                "the {length} bytes from 0x{address:x} on aren't all in guest memory"
-            ));
-        }
-    }
 }

@@ -7,24 +7,22 @@ ghost use Rattle.past_commands.specs.Watches.{AreExecutionHits, IsCheckedWatch, 
 use crate::checked::check_answer;
 use crate::executions::{execution_of, refuse_some_rounds, refuse_workers};
 use crate::failure::PastFailure;
-use crate::naming::{access_ranges, tell_of_bytes, watched_bytes};
+use crate::naming::{access_ranges, watched_bytes};
 use crate::watched::{Hits, Watched};
 use byte_sources::no_event;
 use command_line::Watch;
 use execution_commands::is_allowed;
 use execution_file::ExecutionFile;
 use execution_scripts::{Checked, check_file, positions_sought};
-use program_files::Messages;
 use round_schedule::Event;
 use std::alloc::{AllocError, Global};
 
 /// What came of watching the execution that a text says: the operations that touch one of the ranges, in the order of memory or, where
 /// RVWMO doesn't allow the execution, what is told of it.
-pub(crate) fn watch_execution<M: Messages>(
+pub(crate) fn watch_execution(
     alloc: Global,
     text: &[u8],
     asked: &Watch<'_>,
-    messages: &M,
 ) -> Result<Watched, PastFailure>
     ensures watches { IfOk result (IsExecutionWatch text.now asked.now) }
     ensures errors { IfErr result (EndsExecutionWatch text.now asked.now) }
@@ -33,16 +31,15 @@ pub(crate) fn watch_execution<M: Messages>(
     refuse_some_rounds(asked.from, asked.to)?;
     refuse_workers(asked.workers)?;
     let checked = check_file(alloc, &file, None)?;
-    watch_checked(alloc, &file, &checked, asked, messages)
+    watch_checked(alloc, &file, &checked, asked)
 }
 
 /// The same of an execution that was checked.
-fn watch_checked<M: Messages>(
+fn watch_checked(
     alloc: Global,
     file: &ExecutionFile,
     checked: &Checked,
     asked: &Watch<'_>,
-    messages: &M,
 ) -> Result<Watched, PastFailure>
     ensures watches { IfOk result (IsCheckedWatch (as_recorded file.now) asked.now checked.now) }
     ensures errors { IfErr result (EndsLooking (as_recorded file.now) asked.now) }
@@ -51,7 +48,6 @@ fn watch_checked<M: Messages>(
         return Ok(Watched::Refused(check_answer(alloc, checked)?));
     }
     let named = watched_bytes(alloc, &file.image, asked)?;
-    tell_of_bytes(messages, &named, file.pages);
     let ranges = access_ranges(alloc, &named)?;
     let events = checked.execution.events();
     let (hart, stores) = (asked.hart, asked.stores);

@@ -9,6 +9,7 @@ use crate::answer::{Answer, verdict_answer};
 use crate::failure::PastFailure;
 use crate::files::PastFiles;
 use crate::looking::replay_execution;
+use crate::noting::tell_of_seen;
 use crate::past::{Past, read_past};
 use crate::question::{Question, question_of};
 use crate::refusing::refused_for;
@@ -16,7 +17,9 @@ use crate::telling::{tell, told_line};
 use command_line::Replay;
 use host_io::put_all;
 use machine::Observer;
-use program_files::{ExitStatus, NamedBytes, Output, ProgressLine, named_bytes, seen_ranges};
+use program_files::{
+    ExitStatus, Messages, NamedBytes, Output, ProgressLine, named_bytes, seen_ranges,
+};
 use recording::Recording;
 use replayer::replay_observed;
 use std::alloc::Global;
@@ -34,6 +37,7 @@ use std::thread::Threads;
 pub fn replay_command<
     F: PastFiles,
     O: Output,
+    M: Messages,
     P: Observer + ProgressLine,
     R: Threads + Wait + Sync,
 >(
@@ -43,6 +47,7 @@ pub fn replay_command<
     asked: &Replay<'_>,
     progress: &mut P,
     out: &mut O,
+    messages: &M,
 ) -> Result<ExitStatus, PastFailure>
     // All that was printed is the answer to what the line asks of what the file holds, and the status is that of this answer.
     ensures answers { IfOk result (λ status. (a : AskedReplay (F.either files.now) asked.now) ×
@@ -53,11 +58,14 @@ pub fn replay_command<
     ensures errors { IfErr result (EndsReplay (F.either files.now) asked.now) }
 {
     let past = read_past(files, alloc, asked.recording)?;
-    let answer = replay_past(threads, alloc, &past, asked, progress);
-    drop(past);
-    let answer = answer?;
+    let answer = replay_past(threads, alloc, &past, asked, progress)?;
     let status = print_answer(&answer, out);
     drop(answer);
+    if status.is_ok() {
+        // What was asked for is out.
+        let _untold = tell_of_seen(alloc, &past, asked, messages);
+    }
+    drop(past);
     status
 }
 

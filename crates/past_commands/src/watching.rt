@@ -11,7 +11,8 @@ ghost use Rattle.replayer.specs.Replayed.{IsPlanFor, start_of};
 
 use crate::failure::PastFailure;
 use crate::files::PastFiles;
-use crate::naming::{access_ranges, tell_of_bytes, watched_bytes};
+use crate::naming::{access_ranges, watched_bytes};
+use crate::noting::tell_of_watched;
 use crate::past::{Past, read_past};
 use crate::positions::watch_execution;
 use crate::refusing::refused_for;
@@ -58,11 +59,14 @@ pub fn watch_command<
     ensures errors { IfErr result (EndsWatch (F.either files.now) asked.now) }
 {
     let past = read_past(files, alloc, asked.recording)?;
-    let watched = watch_past(threads, alloc, &past, asked, progress, messages);
-    drop(past);
-    let watched = watched?;
+    let watched = watch_past(threads, alloc, &past, asked, progress)?;
     let status = hand_on_watched(alloc, &watched, out);
     drop(watched);
+    if status.is_ok() {
+        // What was asked for is out.
+        let _untold = tell_of_watched(alloc, &past, asked, messages);
+    }
+    drop(past);
     status
 }
 
@@ -83,33 +87,29 @@ fn hand_on_watched<O: Output>(
 }
 
 /// What came of watching a recording or an execution.
-fn watch_past<M: Messages, P: Observer + ProgressLine, R: Threads + Wait + Sync>(
+fn watch_past<P: Observer + ProgressLine, R: Threads + Wait + Sync>(
     threads: &R,
     alloc: Global,
     past: &Past,
     asked: &Watch<'_>,
     progress: &mut P,
-    messages: &M,
 ) -> Result<Watched, PastFailure>
     ensures watches { IfOk result (IsWatch past.now asked.now) }
     ensures errors { IfErr result (EndsWatchOf past.now asked.now) }
 {
     match past {
-        Past::Recording(recorded) => {
-            watch_recording(threads, alloc, recorded, asked, progress, messages)
-        }
-        Past::Execution(text) => watch_execution(alloc, text, asked, messages),
+        Past::Recording(recorded) => watch_recording(threads, alloc, recorded, asked, progress),
+        Past::Execution(text) => watch_execution(alloc, text, asked),
     }
 }
 
 /// What came of watching a recording.
-fn watch_recording<M: Messages, P: Observer + ProgressLine, R: Threads + Wait + Sync>(
+fn watch_recording<P: Observer + ProgressLine, R: Threads + Wait + Sync>(
     threads: &R,
     alloc: Global,
     recorded: &Recording,
     asked: &Watch<'_>,
     progress: &mut P,
-    messages: &M,
 ) -> Result<Watched, PastFailure>
     ensures watches { IfOk result (IsRecordingWatch recorded.now asked.now) }
     ensures errors { IfErr result (EndsWatching recorded.now asked.now) }
@@ -121,7 +121,6 @@ fn watch_recording<M: Messages, P: Observer + ProgressLine, R: Threads + Wait + 
         }
         Err(failure) => return Err(failure),
     };
-    tell_of_bytes(messages, &named, recorded.pages());
     let hits = watch_bytes(threads, alloc, recorded, &named, asked, progress)?;
     Ok(Watched::Hits(hits))
 }

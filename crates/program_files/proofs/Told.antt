@@ -46,13 +46,13 @@ told_refused (Err e) (Ok w) P q h = absurd q
 told_refused (Err e) (Err f) P q h = h
 
 -- a refusal is one, whatever there would have been else
-err_at : {X : Type 0} (a b : RunError) → ◌≡◌ {A = Result X RunError} (Err a) (Err b) → ◌≡◌ {A = Result (Unit {0}) RunError} (Err a) (Err b)
+err_at : {X Y : Type 0} (a b : RunError) → ◌≡◌ {A = Result X RunError} (Err a) (Err b) → ◌≡◌ {A = Result Y RunError} (Err a) (Err b)
 err_at a b q = ap Err (same a b q)
   where
     same : {X : Type 0} (a b : RunError) → ◌≡◌ {A = Result X RunError} (Err a) (Err b) → a ≡ b
     same a b q = cc
 
-pub in_order_at : {X : Type 0} (s : Settings) (image : List ℕ) (e : RunError) → RefusedInOrder {X = X} s image (Err e) → RefusedInOrder {X = Unit {0}} s image (Err e)
+pub in_order_at : {X Y : Type 0} (s : Settings) (image : List ℕ) (e : RunError) → RefusedInOrder {X = X} s image (Err e) → RefusedInOrder {X = Y} s image (Err e)
 in_order_at s image e o = record {
   settings = λ d q. err_at e d (o.settings d q);
   image = λ cause q i. ⊎_elim (λ p. inl (err_at e (refusals.Image cause) p)) (λ p. inr (err_at e refusals.OutOfMemory p)) (o.image cause q i);

@@ -1,4 +1,5 @@
 pub mod Asked
 pub mod Failures
 pub mod Naming
+pub mod Needed
 pub mod Status

@@ -25,7 +25,7 @@ one_object image name = without_other image name (object_of image name)
 -- the bytes of an object, if there is one, before others
 abbrev pub with_object : Option Object → List Bytes → List Bytes
 with_object None bytes = bytes
-with_object (Some o) bytes = record { address = o.address; length = o.length } ∷ bytes
+with_object (Some o) bytes = record { address = o.address; length = o.length; is_decimal = false } ∷ bytes
 
 -- the bytes of the image's objects of these names, as far as each stands for one
 abbrev pub objects_in : List ℕ → List (List ℕ) → List Bytes

@@ -9,12 +9,15 @@
 //! addresses or as objects of the image's symbol table.
 #![tactic(auto)]
 
+mod decimals;
 mod exit_status;
 mod failure;
 mod fault;
 mod files;
+mod flags;
 mod messages;
 mod naming;
+mod needed;
 mod objects;
 mod output;
 mod plan_lines;
@@ -24,12 +27,15 @@ mod reading;
 mod runs;
 mod settings;
 
+pub use decimals::tell_of_decimals;
 pub use exit_status::ExitStatus;
 pub use failure::RunFailure;
 pub use fault::NamingFault;
 pub use files::{FileFault, FileText, Files};
+pub use flags::tell_of_flags;
 pub use messages::{Messages, ProgressLine};
 pub use naming::{NamedBytes, is_in_memory, named_bytes};
+pub use needed::needed_rounds;
 pub use objects::{no_object, one_object};
 pub use output::Output;
 pub use plan_lines::{BadLine, LineFault};

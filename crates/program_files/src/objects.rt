@@ -34,6 +34,7 @@ pub(crate) fn add_objects(
             bytes.push(Bytes {
                 address: object.address,
                 length: object.length,
+                is_decimal: false,
             })?;
         }
     }

@@ -1,10 +1,11 @@
 -- What `record` and `migrate` write, and why they end without it.
-use Rattle.std.specs.Prelude.{◌⊎◌, ℕ, List}
+use Rattle.std.specs.Prelude.{◌≡◌, ◌⊎◌, ℕ, Bool, false, true, List}
 use Rattle.command_line.specs.declared.settings.Migrate.{Migrate}
 use Rattle.command_line.specs.declared.settings.Record.{Record}
 use Rattle.round_planner.specs.declared.settings.Settings.{Settings}
 use Rattle.program_files.specs.Asked.{RefusedRun}
 use Rattle.program_files.specs.Failures.{IsFileFailure}
+use Rattle.program_files.specs.Needed.{Needs}
 use Rattle.run_commands.specs.Failures.{IsUnwritten}
 use Rattle.run_commands.specs.Reading.{EndsReading}
 use Rattle.run_commands.specs.declared.failure.RecordFailure.{RecordFailure}
@@ -13,6 +14,15 @@ use Rattle.recording.specs.Grammar.{recording}
 use Rattle.recording.specs.Recorded.{Recorded}
 use Rattle.replayer.specs.Replayed.{recorded_of}
 use Rattle.round_planner.specs.Quotas.{Planned}
+
+-- so many rounds of a run are recorded: all that it is asked for, or as many as it needs
+abbrev pub AreRecorded : Bool → Settings → List ℕ → List ℕ → ℕ → Type 0
+AreRecorded false s image input n = n ≡ s.rounds
+AreRecorded true s image input n = Needs s image input n
+
+-- the settings of a run of so many rounds
+abbrev pub for_rounds : ℕ → Settings → Settings
+for_rounds n s = record s { rounds = n }
 
 -- the text of the recording of a run, with registers after each round that is a multiple of `every`
 abbrev pub recorded_text : Settings → ℕ → List ℕ → List ℕ → Planned → List ℕ

@@ -1,37 +1,47 @@
-ghost use Rattle.std.specs.Prelude.{◌≡◌, ◌⊎◌, IfErr, IfOk};
+ghost use Rattle.std.specs.Prelude.{◌≡◌, ◌⊎◌, ℕ, None, IfErr, IfOk, OnErr};
 ghost use Rattle.program_files.specs.Asked.{AskedRun, RefusedSetRun, SetRun};
 ghost use Rattle.program_files.specs.declared.exit_status.ExitStatus.TheVariants as statuses;
 ghost use Rattle.run_commands.specs.Failures.{IsUnwritten};
-ghost use Rattle.run_commands.specs.Made.{EndsRecord, recorded_text};
+ghost use Rattle.run_commands.specs.Made.{AreRecorded, EndsRecord, for_rounds, recorded_text};
 ghost use Rattle.replayer.specs.Replayed.{recorded_of};
+ghost use Rattle.round_planner.specs.Quotas.{Planned};
+ghost use Rattle.round_planner.specs.Settings.{IsPlan, IsReason, RefusedInOrder, settings_fault};
 
 use crate::failure::RecordFailure;
 use crate::saving::save;
 use command_line::Record;
-use machine::Observer;
-use program_files::{ExitStatus, Files, ProgressLine, RunFailure, RunFiles, read_run, settings_of};
-use recording::Recording;
+use host_io::RunError;
+use machine::{GuestFiles, Observer, Settings};
+use program_files::{
+    ExitStatus, Files, Messages, ProgressLine, RunFailure, RunFiles, guest_files, needed_rounds,
+    read_run, settings_of,
+};
+use recording::{Checkpoint, Recording};
 use replayer::record_observed;
 use std::alloc::Global;
 use std::sync::Wait;
 use std::thread::Threads;
 
-/// Runs a guest program, and writes its recording to a file.
+/// Runs a guest program, and writes its recording to a file. Standard error says where all harts had stopped before a half of its rounds
+/// was done.
 ///
 /// # Errors
 ///
 /// `Run` where a file can't be read, for the refusals of the run, and for want of memory: no file is written then. `Unwritten` where the
 /// recording can't be written: its file holds what it held before.
-pub fn record_command<F: Files, P: Observer + ProgressLine, R: Threads + Wait + Sync>(
+pub fn record_command<F: Files, M: Messages, P: Observer + ProgressLine, R: Threads + Wait + Sync>(
     threads: &R,
     alloc: Global,
     files: &mut F,
     asked: &Record<'_>,
     progress: &mut P,
+    messages: &M,
 ) -> Result<ExitStatus, RecordFailure>
-    // The file that the line names was given the recording of the run that the line asks for.
-    ensures records { IfOk result (λ status. (a : AskedRun (F.holds files.old) (F.begins files.old) asked.now.run) ×
-        F.was_given files.old files.new asked.now.out.now (recorded_text a.made.settings asked.now.every a.image a.input a.made.plan) ×
+    // The file that the line names was given the recording of the run that the line asks for, of all its rounds or of those that it needs.
+    ensures records { IfOk result (λ status. (a : AskedRun (F.holds files.old) (F.begins files.old) asked.now.run) × (n : ℕ) ×
+        AreRecorded asked.now.until_stopped a.made.settings a.image a.input n ×
+        F.was_given files.old files.new asked.now.out.now
+        (recorded_text (for_rounds n a.made.settings) asked.now.every a.image a.input a.made.plan) ×
         (status ≡ statuses.Done)) }
     // Else no file was written, or this one couldn't be.
     ensures unwritten { IfErr result (λ f. (files.new ≡ files.old) ⊎ IsUnwritten asked.now.out.now f) }
@@ -40,6 +50,7 @@ pub fn record_command<F: Files, P: Observer + ProgressLine, R: Threads + Wait + 
     let given = read_run(files, alloc, &asked.run)?;
     let recorded = record_given(threads, alloc, &given, asked, progress)?;
     save(files, alloc, &recorded, asked.out)?;
+    tell_of_rounds(&recorded, messages);
     Ok(ExitStatus::Done)
 }
 
@@ -52,22 +63,92 @@ fn record_given<P: Observer + ProgressLine, R: Threads + Wait + Sync>(
     progress: &mut P,
 ) -> Result<Recording, RunFailure>
     ensures records { IfOk result (λ recorded.
-        (r : SetRun asked.now.run.program given.now.plan.text.items given.now.plan.budget) ×
-        (recorded ≡ recorded_of r.settings asked.now.every given.now.program.image.items
+        (r : SetRun asked.now.run.program given.now.plan.text.items given.now.plan.budget) × (n : ℕ) ×
+        AreRecorded asked.now.until_stopped r.settings given.now.program.image.items given.now.program.input.items n ×
+        (recorded ≡ recorded_of (for_rounds n r.settings) asked.now.every given.now.program.image.items
         given.now.program.input.items r.plan)) }
     ensures errors { IfErr result (RefusedSetRun asked.now.run.program given.now.plan.text.items
         given.now.plan.budget given.now.program.image.items) }
 {
     let settings = settings_of(&asked.run.program, &given.plan);
-    let answer = record_observed(
-        threads,
-        alloc,
-        &given.program.image,
-        &given.program.input,
-        &settings,
-        asked.every,
-        progress,
-    );
+    let guest = guest_files(&given.program);
+    let answer = record_guest(threads, alloc, &guest, &settings, asked, progress);
     progress.end();
     given.plan.explain(alloc, settings.harts, answer)
+}
+
+/// Records the run of a guest by these settings.
+fn record_guest<P: Observer, R: Threads + Wait + Sync>(
+    threads: &R,
+    alloc: Global,
+    guest: &GuestFiles<'_>,
+    settings: &Settings<'_>,
+    asked: &Record<'_>,
+    progress: &mut P,
+) -> Result<Recording, RunError>
+    ensures records { IfOk result (λ recorded. (plan : Planned) × IsPlan settings.now plan × (n : ℕ) ×
+        AreRecorded asked.now.until_stopped settings.now guest.now.image.now guest.now.input.now n ×
+        (recorded ≡ recorded_of (for_rounds n settings.now) asked.now.every guest.now.image.now guest.now.input.now plan)) }
+    ensures in_order { RefusedInOrder settings.now guest.now.image.now result }
+    ensures errors { settings_fault settings.now ≡ None →
+        IfErr result (IsReason settings.now guest.now.image.now) }
+{
+    match rounds_recorded(threads, alloc, guest, settings, asked, progress) {
+        Ok(rounds) => {
+            let settings = Settings {
+                rounds,
+                ..*settings
+            };
+            let (image, input) = (guest.image, guest.input);
+            record_observed(
+                threads,
+                alloc,
+                image,
+                input,
+                &settings,
+                asked.every,
+                progress,
+            )
+        }
+        Err(error) => Err(error),
+    }
+}
+
+/// How many rounds of the run are recorded.
+fn rounds_recorded<P: Observer, R: Threads + Wait + Sync>(
+    threads: &R,
+    alloc: Global,
+    guest: &GuestFiles<'_>,
+    settings: &Settings<'_>,
+    asked: &Record<'_>,
+    progress: &mut P,
+) -> Result<u32, RunError>
+    ensures rounds { IfOk result (AreRecorded asked.now.until_stopped settings.now guest.now.image.now guest.now.input.now) }
+    ensures in_order { OnErr result (RefusedInOrder settings.now guest.now.image.now result) }
+    ensures errors { settings_fault settings.now ≡ None →
+        IfErr result (IsReason settings.now guest.now.image.now) }
+{
+    if asked.until_stopped {
+        needed_rounds(threads, alloc, guest, settings, progress)
+    } else {
+        Ok(settings.rounds)
+    }
+}
+
+/// Says on standard error where all harts had stopped before a half of the rounds of a recording was done.
+fn tell_of_rounds<M: Messages>(recorded: &Recording, messages: &M) {
+    let (rounds, checkpoints) = (recorded.rounds(), recorded.checkpoints());
+    if let Some(index) = checkpoints.iter().position(have_stopped) {
+        let done = index.saturating_add(1);
+        if done.saturating_mul(2) < rounds as usize {
+            messages.tell(format_args!(
+                "all harts had stopped after round {done} of {rounds}: --until-stopped records no more than these"
+            ));
+        }
+    }
+}
+
+/// Whether no hart runs after the round of a checkpoint.
+fn have_stopped(checkpoint: &Checkpoint) -> bool {
+    checkpoint.summary.harts.iter().all(|hart| hart.code != 0)
 }

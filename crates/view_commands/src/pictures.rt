@@ -7,7 +7,9 @@ use crate::guests::draw_guest;
 use command_line::Draw;
 use execution_commands::is_execution;
 use machine::Observer;
-use program_files::{ExitStatus, Files, Output, ProgressLine, RunFiles, read_run};
+use program_files::{
+    ExitStatus, Files, Messages, Output, ProgressLine, RunFiles, read_run, tell_of_decimals,
+};
 use std::alloc::Global;
 use std::sync::Wait;
 use std::thread::Threads;
@@ -20,13 +22,20 @@ use std::thread::Threads;
 /// `Run` where a file can't be read. Of a run, `Run` for the settings, the image and the plan in this order, and then `Naming` for bytes
 /// that can't be looked at. Of an execution `NoExecution`, `NoRounds` where the line has --from or --to, `Run` for the number of workers and
 /// then for its guest, and `Naming`. `Run` for the refusal of memory at any time, and where the output can't be written.
-pub fn draw_command<F: Files, O: Output, P: Observer + ProgressLine, R: Threads + Wait + Sync>(
+pub fn draw_command<
+    F: Files,
+    O: Output,
+    M: Messages,
+    P: Observer + ProgressLine,
+    R: Threads + Wait + Sync,
+>(
     threads: &R,
     alloc: Global,
     files: &F,
     asked: &Draw<'_>,
     progress: &mut P,
     out: &mut O,
+    messages: &M,
 ) -> Result<ExitStatus, DrawFailure>
     // All that was printed is the picture that the line asks for, or else what is found of the execution.
     ensures draws { IfOk result (λ status. (a : AskedDraw (F.holds files.now) (F.begins files.now) asked.now) ×
@@ -40,6 +49,8 @@ pub fn draw_command<F: Files, O: Output, P: Observer + ProgressLine, R: Threads 
     let given = read_run(files, alloc, &asked.run)?;
     let status = draw_given(threads, alloc, &given, asked, progress, out)?;
     out.hand_on()?;
+    let program = &asked.run.program;
+    tell_of_decimals(messages, &given.program.image, program.flat, &asked.seen);
     Ok(status)
 }
 

@@ -17,7 +17,7 @@ use crate::telling::{tell_compared, tell_missing, tell_running};
 use command_line::Fences;
 use fence_finder::{FenceObserver, FenceSettings, FoundFences};
 use fence_table::Accepted;
-use hunt_commands::{named_in, refused_for, settings_of};
+use hunt_commands::{named_in, refused_for, settings_of, tell_decimals};
 use program_files::{
     ExitStatus, Files, Messages, NamedBytes, Output, ProgramFiles, ProgressLine, RunFailure,
     read_file, read_program,
@@ -76,6 +76,7 @@ pub fn fences_command<
     let _untold = tell_missing(alloc, asked, &found.table.missing, messages);
     tell_running(asked, &found.table, messages);
     tell_compared(found.compared, messages);
+    tell_decimals(&asked.search, &given, messages);
     Ok(fences_status(asked.fail_on, &found.table))
 }
 

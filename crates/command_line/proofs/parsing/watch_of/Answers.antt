@@ -11,6 +11,7 @@ returns c =
     record {
       recording = text_or c.get_str.result _ _ _ c.unwrap_or.ensures (c.get_str.ensures ∙ first_value-rows f (codes "recording"));
       address = c.address_given.ensures;
+      is_decimal = c.address_is_decimal.ensures;
       length = c.wide_number_of.ensures ∙ ap (wide_number_or 0) (one_text-rows f (codes "length"));
       more = c.in_ok-more.ensures;
       objects = c.in_ok-objects.ensures;

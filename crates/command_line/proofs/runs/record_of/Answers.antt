@@ -12,4 +12,5 @@ returns c =
       run = c.run_of.ensures;
       out = text_or c.get_str.result _ _ _ c.unwrap_or.ensures (c.get_str.ensures ∙ first_value-rows f (codes "out"));
       every = c.number_of.ensures ∙ ap (number_or 0) (one_text-rows f (codes "every"));
+      until_stopped = c.is_set.ensures;
     }

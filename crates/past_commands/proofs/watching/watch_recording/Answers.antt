@@ -14,5 +14,5 @@ returns-clause-watches g c =
       named = rw c.image.ensures at c.in-Ok.ensures.named;
       plan = found.0;
       planned = found.1;
-      found = subst (λ (named : List Bytes). AreRunHits asked named r (start_of r found.0) c.in_ok-hits.hits) (c.deref-2.ensures.value ∙ (rw c.image.ensures at c.in-Ok.ensures.bytes)) found.2;
+      found = subst (λ (named : List Bytes). AreRunHits asked named r (start_of r found.0) c.in_ok-hits.hits) (c.deref.ensures.value ∙ (rw c.image.ensures at c.in-Ok.ensures.bytes)) found.2;
     }

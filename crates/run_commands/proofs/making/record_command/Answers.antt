@@ -8,6 +8,8 @@ returns-clause-records g c =
     let f = c.in_ok-given.given in
     let done = c.in_ok-recorded.ensures.records in (
       record { image = f.program.image.items; input = f.program.input.items; text = f.plan.text.items; budget = f.plan.budget; given = c.in_ok-given.ensures.given; made = done.0 },
-      subst (λ (r : Recorded). g.F.Files.was_given c.args.files.now c.save.new.files c.args.asked.now.out.now (recording.spelled r)) done.1 c.in_ok-save.ensures.given,
+      done.1,
+      done.2,
+      subst (λ (r : Recorded). g.F.Files.was_given c.args.files.now c.save.new.files c.args.asked.now.out.now (recording.spelled r)) done.3 c.in_ok-save.ensures.given,
       refl,
     )
