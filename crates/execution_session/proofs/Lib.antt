@@ -1,3 +1,4 @@
 pub mod Arriving
 pub mod Going
 pub mod Texts
+mod OpenedAs

@@ -6,7 +6,7 @@ use Rattle.execution_checker.specs.Allowed.{Allows, IsVerdict}
 use Rattle.execution_checker.specs.declared.verdict.Verdict.{Verdict}
 use Rattle.execution_checker.specs.declared.verdict.Verdict.TheVariants.{Allowed}
 use Rattle.execution_file.specs.Recorded.{Recorded}
-use Rattle.execution_scripts.specs.Findings.{guest_in, start_of}
+use Rattle.execution_scripts.specs.Findings.{IsAsSaid, guest_in, start_of}
 use Rattle.execution_scripts.specs.declared.checking.Checked.{Checked}
 use Rattle.execution_scripts.specs.declared.checking.Finding.TheVariants.{Judged}
 use Rattle.execution_moments.specs.Courses.{IsCourse}
@@ -20,9 +20,10 @@ pub record IsPast (g : Guest) (p : Past) : Type 0 where
   pub course : IsCourse g.shared.memory (start_of g) p.execution.standing p.order.0.items p.course
   pub opening : (x : ℕ) → opening_at p.opening.opening x ≡ slice_index g.shared.memory.bytes x
 
--- of a file
+-- the one that a file says: its harts do what the file says of them, and the order is the one that the file's turns name
 pub record IsPastOf (r : Recorded) (p : Past) : Type 0 where
   pub past : IsPast (guest_in r) p
+  pub as_said : IsAsSaid r.harts r.order p.execution.standing p.order.0.items
   pub harts : p.harts ≡ length r.harts
   pub size : p.size ≡ r.pages * 4096
 

@@ -1,9 +1,11 @@
-ghost use Rattle.std.specs.Prelude.{◌≡◌, ◌≢◌, ◌≤◌, ℕ, if◌then◌else◌, length, slice_index, IfOk, MatchOption, OnOk};
+ghost use Rattle.std.specs.Prelude.{◌≡◌, ◌≢◌, ◌≤◌, ℕ, if◌then◌else◌, length, slice_index, true, IfOk, MatchOption, OnOk};
 ghost use Rattle.execution_checker.specs.Allowed.{IsVerdict};
+ghost use Rattle.execution_checker.specs.declared.verdict.Verdict.{Verdict};
 ghost use Rattle.execution_checker.specs.declared.verdict.Verdict.TheVariants.{Allowed};
 ghost use Rattle.execution_file.specs.Views.{as_recorded};
 ghost use Rattle.execution_moments.specs.Courses.{IsCourse};
-ghost use Rattle.execution_scripts.specs.Findings.{guest_in, image_in, start_of};
+ghost use Rattle.execution_scripts.specs.Findings.{IsAsSaid, guest_in, image_in, start_of};
+ghost use Rattle.execution_scripts.specs.declared.checking.Finding.TheVariants.{Judged};
 ghost use Rattle.execution_session.specs.Opening.{IsOpened};
 ghost use Rattle.trace.specs.Traced.{opening_at};
 
@@ -12,10 +14,13 @@ use elf_loader::Image;
 use execution_checker::{Execution, Verdict};
 use execution_file::ExecutionFile;
 use execution_moments::{Course, check_moments};
-use execution_scripts::{Checked, Finding, Sights, check_file, open_execution};
+use execution_scripts::{
+    Checked, Fault, Finding, Misfit, Said, Sights, check_file, open_execution, order_said,
+};
 use host_io::RunError;
 use machine::{Format, load};
-use pages::MOST_PAGES;
+use memory_order::Order;
+use pages::{MOST_PAGES, OutOfMemory};
 use round_schedule::MOST_HARTS;
 use std::alloc::Global;
 
@@ -53,7 +58,7 @@ fn open_allowed(alloc: Global, file: &ExecutionFile, checked: Checked) -> Result
     let followed = follow(alloc, file, &checked)?;
     let Followed {
         execution,
-        verdict,
+        finding,
         course,
     } = followed;
     match course {
@@ -66,7 +71,7 @@ fn open_allowed(alloc: Global, file: &ExecutionFile, checked: Checked) -> Result
             size: file.pages * 4096,
         })),
         None => Ok(Opened::Refused(Checked {
-            finding: Finding::Judged(verdict),
+            finding,
             execution,
             script: checked.script,
             order: checked.order,
@@ -83,30 +88,59 @@ fn open_allowed(alloc: Global, file: &ExecutionFile, checked: Checked) -> Result
 #[derive(Drop)]
 struct Followed {
     execution: Execution,
-    verdict: Verdict,
-    /// Its moments, where RVWMO allows it.
+    finding: Finding,
+    /// Its moments, where it is the one that the file says and RVWMO allows it.
     course: Option<Course>,
 }
 
 /// Follows the script of a file that was checked anew, and judges what it leads to.
 fn follow(alloc: Global, file: &ExecutionFile, checked: &Checked) -> Result<Followed, RunError>
     ensures verdict { IfOk result (λ f. let g = guest_in (as_recorded file.now) in
-        IsVerdict f.verdict g.shared.memory (opening_at checked.now.opening.opening) checked.now.script.items
-        checked.now.order.0.items (start_of g) f.execution.standing) }
+        (v : Verdict) → f.finding ≡ Judged v → IsVerdict v g.shared.memory (opening_at checked.now.opening.opening)
+        checked.now.script.items checked.now.order.0.items (start_of g) f.execution.standing) }
     ensures course { IfOk result (λ f. let g = guest_in (as_recorded file.now) in
-        MatchOption f.course (f.verdict ≢ Allowed) (λ c. (f.verdict ≡ Allowed) ×
+        MatchOption f.course (f.finding ≢ Judged Allowed) (λ c. (f.finding ≡ Judged Allowed) ×
         IsCourse g.shared.memory (start_of g) f.execution.standing checked.now.order.0.items c)) }
+    ensures as_said { IfOk result (λ f. (v : Verdict) → f.finding ≡ Judged v → IsAsSaid (as_recorded file.now).harts
+        (as_recorded file.now).order f.execution.standing checked.now.order.0.items) }
     ensures harts { OnOk result (length file.now.harts.items ≤ MOST_HARTS) }
     ensures pages { OnOk result (file.now.pages ≤ MOST_PAGES) }
 {
     let mut execution = start(alloc, file)?;
     let (script, opening) = (&checked.script, &checked.opening);
     let (verdict, course) = check_moments(alloc, &mut execution, script, opening, &checked.order)?;
+    if is_said(alloc, file, &execution, &checked.order)? {
+        return Ok(Followed {
+            execution,
+            finding: Finding::Judged(verdict),
+            course,
+        });
+    }
     Ok(Followed {
         execution,
-        verdict,
-        course,
+        finding: Finding::Fault(Fault {
+            hart: 0,
+            step: 0,
+            misfit: Misfit::Otherwise,
+        }),
+        course: None,
     })
+}
+
+/// Whether an execution is the one that a file says, and an order the one that its turns name.
+fn is_said(
+    alloc: Global,
+    file: &ExecutionFile,
+    execution: &Execution,
+    order: &Order,
+) -> Result<bool, OutOfMemory>
+    ensures { IfOk result (λ yes. yes ≡ true → IsAsSaid (as_recorded file.now).harts (as_recorded file.now).order
+        execution.now.standing order.now.0.items) }
+{
+    match order_said(alloc, file, execution)? {
+        Said::Order(said) => Ok(said.0.as_slice() == order.0.as_slice()),
+        Said::Fault(_) => Ok(false),
+    }
 }
 
 /// The execution of a file in which nothing is done yet.

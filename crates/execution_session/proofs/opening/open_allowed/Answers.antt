@@ -14,21 +14,16 @@ use Rattle.execution_session.proofs.opening.open_allowed.Goals as goal
 at_none : {X : Type 0} (o : Option X) (A : Type 0) (B : X → Type 0) → o ≡ None → MatchOption o A B → A
 at_none o A B e h = subst (λ x. MatchOption x A B) e h
 
-judged_is : (v w : Verdict) → ◌≡◌ {A = Finding} (Judged v) (Judged w) → v ≡ w
-judged_is v w e = cc
-
 pub returns-in-None : goal.returns-in-None
 returns-in-None c =
     let g = guest_in (as_recorded c.args.file.now) in
     let checked = c.args.checked in
     let followed = c.in_ok-followed.followed in
     let q = followed.execution.standing in
-    let unallowed = at_none followed.course _ _ c.in-None.is c.in_ok-followed.ensures.course in
-    let O : (ℕ → ℕ) → Type 0 = λ o. IsVerdict followed.verdict g.shared.memory o checked.script.items checked.order.0.items (start_of g) q in
-    let judged = subst O (λ i. λ x. c.requires x i) c.in_ok-followed.ensures.verdict in
     record {
-      against = λ e. unallowed (judged_is followed.verdict Allowed e);
-      verdict = λ w e. rw (judged_is followed.verdict w e) at judged;
+      against = at_none followed.course _ _ c.in-None.is c.in_ok-followed.ensures.course;
+      verdict = λ w e.
+          subst (λ (o : ℕ → ℕ). IsVerdict w g.shared.memory o checked.script.items checked.order.0.items (start_of g) q) (λ i. λ x. c.requires x i) (c.in_ok-followed.ensures.verdict w e);
     }
 
 pub returns-in-Some : goal.returns-in-Some
@@ -39,8 +34,7 @@ returns-in-Some c =
     let followed = c.in_ok-followed.followed in
     let q = followed.execution.standing in
     let both = at_some followed.course _ _ c.in-Some.course c.in-Some.is c.in_ok-followed.ensures.course in
-    let V : Verdict → Type 0 = λ v. IsVerdict v g.shared.memory (opening_at checked.opening.opening) checked.script.items checked.order.0.items (start_of g) q in
-    let judged = subst V both.0 c.in_ok-followed.ensures.verdict in
+    let judged = c.in_ok-followed.ensures.verdict Allowed both.0 in
     let A : (ℕ → ℕ) → Type 0 = λ o. Allows o q checked.order.0.items in
     let count : c.len.result ≡ length f.harts.items = omega (arith, c.len.ensures, f.harts.ok.0) in
     record {
@@ -49,6 +43,7 @@ returns-in-Some c =
         course = both.1;
         opening = c.requires;
       };
+      as_said = c.in_ok-followed.ensures.as_said Allowed both.0;
       harts = count ∙ sym (length-map f.harts.items hart_view);
       size = refl;
     }
