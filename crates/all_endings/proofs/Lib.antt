@@ -8,6 +8,7 @@ mod Endings
 mod Factors
 mod Following
 mod Halting
+mod Judging
 mod LoadMoves
 mod Locality
 mod Lowering

@@ -4,6 +4,7 @@ pub mod Endings
 pub mod Factorizing
 pub mod Halting
 pub mod HartRuns
+pub mod Judging
 pub mod Locality
 pub mod Lowering
 pub mod Offering

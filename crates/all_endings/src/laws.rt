@@ -2,7 +2,8 @@
 
 ghost use Rattle.all_endings.specs.Decoded.{RegistersAreRegisters};
 ghost use Rattle.all_endings.specs.Earlier.{EarlierMovesAreLower};
-ghost use Rattle.all_endings.specs.Endings.{EndsAreLast};
+ghost use Rattle.all_endings.specs.Endings.{BoundsSuffice, EndsAreLast};
+ghost use Rattle.all_endings.specs.Judging.{JudgedExecutionsCount};
 ghost use Rattle.all_endings.specs.Lowering.{LowerStatesDoAsMuch};
 ghost use Rattle.all_endings.specs.Offering.{ClosedListsHaveAll};
 ghost use Rattle.all_endings.specs.Sources.{LoadsReadInTime, PreservedInTime, SeenStays};
@@ -115,4 +116,14 @@ pub fn walked_tables_are_whole()
 /// Of moves that do the same the earliest leaves the lowest state: so a load takes the least time at which it reads what it reads.
 pub fn earlier_moves_are_lower()
     ensures { EarlierMovesAreLower }
+{}
+
+/// What the checker of executions allows, over the bytes of the image, is one of the executions that a table has to have the ending of.
+pub fn judged_executions_count()
+    ensures { JudgedExecutionsCount }
+{}
+
+/// A table that has the endings of all executions of at most k instructions a hart, for each k, has all endings.
+pub fn bounds_suffice()
+    ensures { BoundsSuffice }
 {}
