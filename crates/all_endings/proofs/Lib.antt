@@ -2,6 +2,7 @@ mod Bare
 mod Blocking
 mod Closing
 mod DecodedRegisters
+mod Determined
 mod Earlier
 mod Effects
 mod Endings

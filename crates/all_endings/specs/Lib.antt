@@ -1,4 +1,5 @@
 pub mod Decoded
+pub mod Determined
 pub mod Earlier
 pub mod Endings
 pub mod Factorizing

@@ -1,6 +1,7 @@
 //! Laws of the definitions, each the contract of a function that does nothing.
 
 ghost use Rattle.all_endings.specs.Decoded.{RegistersAreRegisters};
+ghost use Rattle.all_endings.specs.Determined.{LoadsAreDetermined};
 ghost use Rattle.all_endings.specs.Earlier.{EarlierMovesAreLower};
 ghost use Rattle.all_endings.specs.Endings.{BoundsSuffice, EndsAreLast};
 ghost use Rattle.all_endings.specs.Judging.{JudgedExecutionsCount};
@@ -126,4 +127,9 @@ pub fn judged_executions_count()
 /// A table that has the endings of all executions of at most k instructions a hart, for each k, has all endings.
 pub fn bounds_suffice()
     ensures { BoundsSuffice }
+{}
+
+/// At one time a load gets one number, from the same stores: so its choices are its times.
+pub fn loads_are_determined()
+    ensures { LoadsAreDetermined }
 {}
