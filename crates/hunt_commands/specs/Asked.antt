@@ -7,8 +7,8 @@ use Rattle.host_io.specs.declared.error.RunError.TheVariants as refusals
 use Rattle.host_io.specs.declared.load_error.LoadError.{LoadError as ImageCause}
 use Rattle.hunt_commands.specs.declared.failure.HuntFailure.{HuntFailure}
 use Rattle.hunt_commands.specs.declared.failure.HuntFailure.TheVariants.{Naming, Refused, Run}
-use Rattle.hunt_commands.specs.Settings.{HasNumbers, HasRanges, IsNamed}
-use Rattle.hunt_table.specs.Text.{table_text}
+use Rattle.hunt_commands.specs.Settings.{HasEnd, HasNumbers, HasRanges, IsNamed}
+use Rattle.hunt_table.specs.Text.{table_text, with_count}
 use Rattle.hunter.specs.Hunts.{IsHuntReason, IsHunted, IsImageCause, hunt_fault}
 use Rattle.hunter.specs.declared.error.HuntError.{HuntError}
 use Rattle.hunter.specs.declared.error.HuntError.TheVariants as hunting
@@ -24,26 +24,29 @@ use Rattle.weak_hunter.specs.declared.error.WeakHuntError.TheVariants as hunts
 
 -- ---- tables
 
--- the rows are the table of the hunt: of its runs or, if it is weak, of executions of so many steps that RVWMO allows
-abbrev pub IsTableBy : (HuntSettings → List ℕ → List ℕ → ℕ → List Row → Type 0) → ℕ → Bool → HuntSettings → List ℕ → List ℕ → List Row → Type 0
-IsTableBy weakly steps false s image input rows = IsHunted s image input rows
-IsTableBy weakly steps true s image input rows = IsWeaklyHunted s image input rows × weakly s image input steps rows
+-- the rows are the table of the hunt, which is over after so many numbers: of its runs or, if it is weak, of executions of so many steps
+-- that RVWMO allows
+abbrev pub IsTableBy : (HuntSettings → List ℕ → List ℕ → ℕ → ℕ → List Row → Type 0) → ℕ → Bool → HuntSettings → List ℕ → List ℕ → ℕ → List Row → Type 0
+IsTableBy weakly steps false s image input n rows = IsHunted s image input n rows
+IsTableBy weakly steps true s image input n rows = IsWeaklyHunted s image input n rows × weakly s image input steps n rows
 
--- a hunt by what the line says: its settings, and its table
-pub record SetHunt (weakly : HuntSettings → List ℕ → List ℕ → ℕ → List Row → Type 0) (asked : Hunt) (image input : List ℕ) : Type 0 where
+-- a hunt by what the line says: its settings, after how many numbers it is over, and its table
+pub record SetHunt (weakly : HuntSettings → List ℕ → List ℕ → ℕ → ℕ → List Row → Type 0) (asked : Hunt) (image input : List ℕ) : Type 0 where
   pub settings : HuntSettings
+  pub done : ℕ
   pub rows : List Row
   pub numbers : HasNumbers asked.search asked.first asked.plans asked.weak settings
+  pub ends : HasEnd asked settings
   pub ranges : HasRanges asked.search image settings
-  pub table : IsTableBy weakly asked.steps asked.weak settings image input rows
+  pub table : IsTableBy weakly asked.steps asked.weak settings image input done rows
 
 -- the text of its table
-abbrev pub hunt_text : {weakly : HuntSettings → List ℕ → List ℕ → ℕ → List Row → Type 0} {asked : Hunt} {image input : List ℕ} → SetHunt weakly asked image input → List ℕ
-hunt_text h = table_text h.settings.header h.rows
+abbrev pub hunt_text : {weakly : HuntSettings → List ℕ → List ℕ → ℕ → ℕ → List Row → Type 0} {asked : Hunt} {image input : List ℕ} → SetHunt weakly asked image input → List ℕ
+hunt_text h = table_text (with_count h.settings.header h.done) h.rows
 
 -- the hunt that a line asks for
 pub record AskedHunt (holds : List ℕ → List ℕ → Type 0) (begins : List ℕ → ℕ → List ℕ → Type 0)
-    (weakly : HuntSettings → List ℕ → List ℕ → ℕ → List Row → Type 0) (asked : Hunt) : Type 0 where
+    (weakly : HuntSettings → List ℕ → List ℕ → ℕ → ℕ → List Row → Type 0) (asked : Hunt) : Type 0 where
   pub image : List ℕ
   pub input : List ℕ
   pub given : IsProgramOf holds begins asked.search.program image input

@@ -1,8 +1,13 @@
 -- The settings of the hunts and other searches that a line asks for.
-use Rattle.std.specs.Prelude.{◌≡◌, ◌++◌, ℕ, List, map, Bool, if◌then◌else◌, Option, None}
+use Rattle.std.specs.Prelude.{◌≡◌, ◌++◌, ℕ, List, map, Bool, if◌then◌else◌, Option, None, Some, is_some}
+use Rattle.command_line.specs.declared.settings.Hunt.{Hunt}
+use Rattle.command_line.specs.declared.settings.HuntUntil.{HuntUntil}
+use Rattle.command_line.specs.declared.settings.HuntUntil.TheVariants as asked
 use Rattle.command_line.specs.declared.settings.Program.{Program}
 use Rattle.command_line.specs.declared.settings.Search.{Search}
 use Rattle.hunter.specs.declared.settings.HuntSettings.{HuntSettings}
+use Rattle.plan_hunt.specs.declared.extent.Until.{Until}
+use Rattle.plan_hunt.specs.declared.extent.Until.TheVariants.{Bad, Differ, Done}
 use Rattle.round_planner.specs.declared.settings.Format.TheVariants.{Elf, Flat}
 use Rattle.program_files.specs.Naming.{IsNaming, by_address, by_name, objects_in}
 use Rattle.program_files.specs.declared.fault.NamingFault.{NamingFault}
@@ -22,6 +27,17 @@ pub record HasNumbers (search : Search) (first count : ℕ) (weak : Bool) (s : H
   pub is_first : s.header.first ≡ first
   pub is_count : s.header.count ≡ count
   pub is_weak : s.header.is_weak ≡ weak
+
+-- with which ending a hunt is over before its last number
+abbrev pub until_of : Option HuntUntil → Until
+until_of None = Done
+until_of (Some asked.Bad) = Bad
+until_of (Some asked.Differ) = Differ
+
+-- the hunt is over where the line says: with such an ending, or where the seconds that it gives are
+pub record HasEnd (hunt : Hunt) (s : HuntSettings) : Type 0 where
+  pub until : s.until ≡ until_of hunt.until
+  pub is_timed : s.is_timed ≡ is_some hunt.seconds
 
 -- the names of the objects that are looked at
 abbrev pub names_of : Search → List (List ℕ)

@@ -6,12 +6,12 @@ ghost use Rattle.hunt_commands.specs.Status.{hunt_status};
 use crate::failure::HuntFailure;
 use crate::refusing::refused_for;
 use crate::repeating::{tell_endings, tell_weak_running};
-use crate::settings::{named_in, settings_of, tell_decimals};
+use crate::settings::{hunt_settings, named_in, tell_decimals};
 use crate::status::hunt_status;
 use crate::tabling::write_rows;
 use crate::weak_hunts::WeakHunts;
 use command_line::Hunt;
-use plan_hunt::{HuntObserver, Row};
+use plan_hunt::{HuntObserver, Tally};
 use program_files::{
     ExitStatus, Files, Messages, NamedBytes, Output, ProgramFiles, ProgressLine, read_program,
 };
@@ -31,7 +31,7 @@ pub fn hunt_command<
     O: Output,
     M: Messages,
     W: WeakHunts,
-    P: HuntObserver + ProgressLine,
+    P: HuntObserver + ProgressLine + Sync,
     R: Threads + Wait + Sync,
 >(
     threads: &R,
@@ -39,7 +39,7 @@ pub fn hunt_command<
     files: &F,
     weakly: &W,
     asked: &Hunt<'_>,
-    progress: &mut P,
+    progress: &P,
     out: &mut O,
     messages: &M,
 ) -> Result<ExitStatus, HuntFailure>
@@ -54,41 +54,36 @@ pub fn hunt_command<
     ensures errors { IfErr result (EndsHunt (F.holds files.now) (F.begins files.now) asked.now) }
 {
     let given = read_program(files, alloc, &asked.search.program)?;
-    let rows = hunt_given(threads, alloc, weakly, &given, asked, progress, out)?;
+    let answer = hunt_given(threads, alloc, weakly, &given, asked, progress, out);
+    progress.end();
+    let tally = answer?;
     out.hand_on()?;
     // What was asked for is out.
-    let _untold = tell_endings(threads, alloc, asked, &given, &rows, messages);
-    tell_weak_running(asked, &rows, messages);
+    let _untold = tell_endings(threads, alloc, asked, &given, &tally.rows, messages);
+    tell_weak_running(asked, &tally.rows, messages);
     tell_decimals(&asked.search, &given, messages);
-    Ok(hunt_status(asked.fail_on, &rows))
+    Ok(hunt_status(asked.fail_on, &tally.rows))
 }
 
-/// Hunts in what the files gave, and prints the table. Answers its rows.
-fn hunt_given<O: Output, W: WeakHunts, P: HuntObserver + ProgressLine, R: Threads + Wait + Sync>(
+/// Hunts in what the files gave, and prints the table. Answers it.
+fn hunt_given<O: Output, W: WeakHunts, P: HuntObserver + Sync, R: Threads + Wait + Sync>(
     threads: &R,
     alloc: Global,
     weakly: &W,
     files: &ProgramFiles,
     asked: &Hunt<'_>,
-    progress: &mut P,
+    observer: &P,
     out: &mut O,
-) -> Result<Vec<Row>, HuntFailure>
-    ensures hunts { IfOk result (λ rows. (h : SetHunt W.hunts asked.now files.now.image.items files.now.input.items) ×
-        (O.took out.new ≡ O.took out.old ++ hunt_text h) × (rows.items ≡ h.rows)) }
+) -> Result<Tally, HuntFailure>
+    ensures hunts { IfOk result (λ t. (h : SetHunt W.hunts asked.now files.now.image.items files.now.input.items) ×
+        (O.took out.new ≡ O.took out.old ++ hunt_text h) × (t.rows.items ≡ h.rows)) }
     ensures begun { OnErr result ((O.took out.new ≡ O.took out.old) ⊎
         ((h : SetHunt W.hunts asked.now files.now.image.items files.now.input.items) ×
         BeganText (O.took out.old) (O.took out.new) (hunt_text h))) }
     ensures errors { IfErr result (IsHuntEnd asked.now files.now.image.items) }
 {
     let NamedBytes { bytes, fault } = named_in(alloc, &asked.search, files)?;
-    let settings = settings_of(
-        alloc,
-        &asked.search,
-        &bytes,
-        asked.first,
-        asked.plans,
-        asked.weak,
-    )?;
+    let settings = hunt_settings(alloc, asked, &bytes)?;
     match fault {
         Some(fault) => Err(refused_for(alloc, &files.image, &settings, fault)),
         None => {
@@ -99,10 +94,9 @@ fn hunt_given<O: Output, W: WeakHunts, P: HuntObserver + ProgressLine, R: Thread
                 files,
                 &settings,
                 asked.steps,
-                progress,
+                observer,
                 out,
             );
-            progress.end();
             Ok(answer?)
         }
     }

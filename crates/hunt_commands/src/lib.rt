@@ -3,6 +3,7 @@
 #![tactic(auto)]
 
 mod failure;
+mod finds;
 mod hunting;
 mod merge_failure;
 mod merging;
@@ -18,6 +19,7 @@ mod tabling;
 mod weak_hunts;
 
 pub use failure::HuntFailure;
+pub use finds::Finds;
 pub use hunting::hunt_command;
 pub use merge_failure::MergeFailure;
 pub use merging::merge_command;
@@ -29,4 +31,4 @@ pub use settings::{named_in, program_settings, settings_of, tell_decimals};
 pub use shrinking::shrink_command;
 pub use status::hunt_status;
 pub use table_files::TableFile;
-pub use weak_hunts::{WeakHunter, WeakHunts};
+pub use weak_hunts::WeakHunts;

@@ -2,6 +2,7 @@
 //! can't be written, or there is no memory for them.
 
 use command_line::{Hunt, Program, Shrink};
+use hunt_table::Table;
 use machine::Unobserved;
 use pages::OutOfMemory;
 use plan_hunt::{HartEnding, Row};
@@ -13,6 +14,16 @@ use round_schedule::MOST_HARTS;
 use std::alloc::{AllocError, Global};
 use std::sync::Wait;
 use std::thread::Threads;
+
+/// The line that runs a program by the number of an ending, or writes its execution, but for the number.
+pub(crate) fn ending_line_of(alloc: Global, asked: &Hunt<'_>) -> Result<String, AllocError> {
+    if asked.weak {
+        weak_line_of(alloc, &asked.search.program, asked.steps)
+    } else {
+        let program = &asked.search.program;
+        line_of(alloc, "run", program, program.rounds)
+    }
+}
 
 /// Says on standard error, for each ending of a table, the line that runs the program by its first plan, or that writes its first
 /// execution.
@@ -35,7 +46,8 @@ pub(crate) fn tell_endings<M: Messages, R: Threads + Wait + Sync>(
     Ok(())
 }
 
-/// The line that leads to the ending of a row, but for the number and the seed.
+/// The line that leads to the ending of a row, but for the number and the seed. A run whose harts all stop is given no more rounds than
+/// it needs.
 fn line_of_row<R: Threads + Wait + Sync>(
     threads: &R,
     alloc: Global,
@@ -44,21 +56,27 @@ fn line_of_row<R: Threads + Wait + Sync>(
     row: &Row,
 ) -> Result<String, AllocError> {
     let program = &asked.search.program;
-    if asked.weak {
-        return weak_line_of(alloc, program, asked.steps);
-    }
     let family = Family {
         seed: asked.search.seed,
         harts: program.harts,
     };
-    let mut rounds = program.rounds;
     // A hunt with rows has such a number of harts.
-    if family.harts >= 1 && family.harts <= MOST_HARTS {
-        if let Ok(plan) = family_plan(alloc, family, row.first) {
-            rounds = rounds_for(threads, alloc, program, files, &plan);
-        }
+    let is_family = family.harts >= 1 && family.harts <= MOST_HARTS;
+    if asked.weak || !is_family || !have_stopped(row.ending.stops()) {
+        return ending_line_of(alloc, asked);
+    }
+    let mut rounds = program.rounds;
+    if let Ok(plan) = family_plan(alloc, family, row.first) {
+        rounds = rounds_for(threads, alloc, program, files, &plan);
     }
     line_of(alloc, "run", program, rounds)
+}
+
+/// Whether no hart runs when the rounds are over.
+fn have_stopped(stops: &[HartEnding]) -> bool {
+    stops
+        .iter()
+        .all(|stop| matches!(*stop, HartEnding::Stopped(_)))
 }
 
 /// How many rounds a run of a program by a plan needs; all that the line gives where that can't be told.
@@ -72,6 +90,33 @@ fn rounds_for<R: Threads + Wait + Sync>(
     let settings = settings_of(program, plan);
     let guest = guest_files(files);
     needed_rounds(threads, alloc, &guest, &settings, &mut Unobserved).unwrap_or(program.rounds)
+}
+
+/// The same of a table that was merged, which doesn't know the program's file nor all options of the hunts, and where harts loop or run on.
+pub(crate) fn tell_merged<M: Messages>(table: &Table, messages: &M) {
+    let seed = table.header.seed;
+    let (command, weak) = if table.header.is_weak {
+        ("execution", " --weak")
+    } else {
+        ("run", "")
+    };
+    for (index, row) in table.rows.iter().enumerate() {
+        let (number, first) = (index.saturating_add(1), row.first);
+        let harts = row.ending.stops().len();
+        messages.tell(format_args!(
+            "ending {number}: dethart {command} IMAGE --harts {harts}{weak} --plan-number {first} --seed {seed} with the hunts' other options"
+        ));
+        if row.ending.stops().contains(&HartEnding::Loops) {
+            messages.tell(format_args!(
+                "ending {number}: a hart loops: it runs for ever under this plan"
+            ));
+        }
+        if row.ending.stops().contains(&HartEnding::Runs) {
+            messages.tell(format_args!(
+                "ending {number}: a hart runs on: what it does after the last round isn't known"
+            ));
+        }
+    }
 }
 
 /// Says on standard error how far executions were followed that still ran then, if there are some.

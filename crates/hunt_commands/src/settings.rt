@@ -1,10 +1,11 @@
 ghost use Rattle.std.specs.Prelude.{◌≡◌, [], IfOk, false};
-ghost use Rattle.hunt_commands.specs.Settings.{HasNumbers, IsOfProgram, names_of};
+ghost use Rattle.hunt_commands.specs.Settings.{HasEnd, HasNumbers, IsOfProgram, names_of, until_of};
 ghost use Rattle.program_files.specs.Naming.{IsNaming, named_in, seen_ranges};
 
-use command_line::{Bytes, Program, Search};
+use command_line::{Bytes, Hunt, HuntUntil, Program, Search};
 use hunt_table::Header;
 use hunter::HuntSettings;
+use plan_hunt::Until;
 use program_files::{
     Messages, NamedBytes, ProgramFiles, format_of, named_bytes, seen_ranges, tell_of_decimals,
 };
@@ -66,6 +67,45 @@ pub fn settings_of(
     Ok(settings)
 }
 
+/// What the line says of a hunt, with these bytes, which it names, to be looked at when a run ends.
+///
+/// # Errors
+///
+/// The allocator's alone.
+pub(crate) fn hunt_settings(
+    alloc: Global,
+    asked: &Hunt<'_>,
+    named: &[Bytes],
+) -> Result<HuntSettings, AllocError>
+    ensures numbers { IfOk result (HasNumbers asked.now.search asked.now.first asked.now.plans asked.now.weak) }
+    ensures ends { IfOk result (HasEnd asked.now) }
+    ensures ranges { IfOk result (λ s. s.header.ranges.items ≡
+        seen_ranges named.now (names_of asked.now.search)) }
+{
+    let mut settings = settings_of(
+        alloc,
+        &asked.search,
+        named,
+        asked.first,
+        asked.plans,
+        asked.weak,
+    )?;
+    settings.until = until_of(asked.until);
+    settings.is_timed = asked.seconds.is_some();
+    Ok(settings)
+}
+
+/// With which ending a hunt is over before its last number.
+fn until_of(asked: Option<HuntUntil>) -> Until
+    ensures { result ≡ until_of asked }
+{
+    match asked {
+        None => Until::Done,
+        Some(HuntUntil::Bad) => Until::Bad,
+        Some(HuntUntil::Differ) => Until::Differ,
+    }
+}
+
 /// What the line says of a program, as settings of a hunt by no plan of a seed, in which no bytes are looked at.
 pub fn program_settings(alloc: Global, program: &Program<'_>, seed: u64) -> HuntSettings
     ensures program { IsOfProgram program.now seed result }
@@ -85,5 +125,7 @@ pub fn program_settings(alloc: Global, program: &Program<'_>, seed: u64) -> Hunt
             count: 0,
             ranges: Vec::new(alloc),
         },
+        until: Until::Done,
+        is_timed: false,
     }
 }

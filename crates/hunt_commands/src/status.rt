@@ -6,7 +6,7 @@ use hunter::{all_end_well, is_one_exit};
 use plan_hunt::Row;
 use program_files::ExitStatus;
 
-/// The exit status of a hunt with this table.
+/// The exit status of a hunt, or of a merge, with this table.
 pub fn hunt_status(fail_on: FailOn, rows: &[Row]) -> ExitStatus
     ensures { result ≡ hunt_status fail_on rows.now }
 {
@@ -24,6 +24,7 @@ fn is_doubtful(fail_on: FailOn, rows: &[Row]) -> bool
     match fail_on {
         FailOn::Differ => !is_one_exit(rows),
         FailOn::Bad => !all_end_well(rows),
+        FailOn::Either => !is_one_exit(rows) || !all_end_well(rows),
         FailOn::Never => false,
     }
 }

@@ -1,9 +1,9 @@
-ghost use Rattle.std.specs.Prelude.{◌≡◌, ◌⊎◌, ◌++◌, Err, IfErr, IfOk, List, None, OnErr, Some, false};
+ghost use Rattle.std.specs.Prelude.{◌≡◌, ◌⊎◌, ◌++◌, Err, IfErr, IfOk, List, None, OnErr, Some, false, ℕ};
 ghost use Rattle.host_io.specs.Taken.{BeganText};
 ghost use Rattle.host_io.specs.declared.load_error.LoadError.{LoadError as ImageCause};
 ghost use Rattle.host_io.specs.declared.error.RunError.TheVariants as refusals;
 ghost use Rattle.hunt_commands.specs.Asked.{IsHuntRefusal, IsTableBy};
-ghost use Rattle.hunt_table.specs.Text.{table_text};
+ghost use Rattle.hunt_table.specs.Text.{table_text, with_count};
 ghost use Rattle.hunter.specs.Hunts.{IsImageCause, has_bad_range, hunt_fault};
 ghost use Rattle.hunter.specs.declared.error.HuntError.{HuntError as Refusal};
 ghost use Rattle.hunter.specs.declared.error.HuntError.TheVariants as hunting;
@@ -13,32 +13,31 @@ ghost use Rattle.weak_hunter.specs.declared.error.WeakHuntError.TheVariants.{Hun
 use crate::weak_hunts::WeakHunts;
 use host_io::Sink;
 use hunter::{HuntSettings, hunt};
-use plan_hunt::{HuntObserver, Row};
+use plan_hunt::{HuntObserver, Tally};
 use program_files::ProgramFiles;
 use std::alloc::Global;
 use std::sync::Wait;
 use std::thread::Threads;
 use weak_hunter::WeakHuntError;
 
-/// Hunts by plans or, where the table is to be a weak one, by executions of so many steps, and writes the table of endings. Answers its
-/// rows.
-pub(crate) fn write_rows<S: Sink, W: WeakHunts, O: HuntObserver, R: Threads + Wait + Sync>(
+/// Hunts by plans or, where the table is to be a weak one, by executions of so many steps, and writes the table of endings. Answers it.
+pub(crate) fn write_rows<S: Sink, W: WeakHunts, O: HuntObserver + Sync, R: Threads + Wait + Sync>(
     threads: &R,
     alloc: Global,
     weakly: &W,
     files: &ProgramFiles,
     settings: &HuntSettings,
     steps: u32,
-    observer: &mut O,
+    observer: &O,
     out: &mut S,
-) -> Result<Vec<Row>, WeakHuntError>
-    ensures hunts { IfOk result (λ rows. IsTableBy W.hunts steps settings.now.header.is_weak settings.now
-        files.now.image.items files.now.input.items rows.items ×
-        (S.took out.new ≡ S.took out.old ++ table_text settings.now.header rows.items)) }
+) -> Result<Tally, WeakHuntError>
+    ensures hunts { IfOk result (λ t. IsTableBy W.hunts steps settings.now.header.is_weak settings.now
+        files.now.image.items files.now.input.items t.done t.rows.items ×
+        (S.took out.new ≡ S.took out.old ++ table_text (with_count settings.now.header t.done) t.rows.items)) }
     ensures begun { OnErr result ((S.took out.new ≡ S.took out.old) ⊎
-        ((rows : List TableRow) × IsTableBy W.hunts steps settings.now.header.is_weak settings.now
-        files.now.image.items files.now.input.items rows ×
-        BeganText (S.took out.old) (S.took out.new) (table_text settings.now.header rows))) }
+        ((n : ℕ) × (rows : List TableRow) × IsTableBy W.hunts steps settings.now.header.is_weak settings.now
+        files.now.image.items files.now.input.items n rows ×
+        BeganText (S.took out.old) (S.took out.new) (table_text (with_count settings.now.header n) rows))) }
     ensures settings { (e : Refusal) → hunt_fault settings.now ≡ Some e → result ≡ Err (Hunt e) }
     ensures errors { hunt_fault settings.now ≡ None → IfErr result
         (IsHuntRefusal settings.now.header.is_weak settings.now files.now.image.items) }
@@ -50,10 +49,10 @@ pub(crate) fn write_rows<S: Sink, W: WeakHunts, O: HuntObserver, R: Threads + Wa
 {
     let (image, input) = (files.image.as_slice(), files.input.as_slice());
     if settings.header.is_weak {
-        return weakly.hunt_weakly(threads, alloc, image, input, settings, steps, observer, out);
+        return weakly.hunt_weakly(threads, alloc, image, input, settings, steps, out);
     }
     match hunt(threads, alloc, image, input, settings, observer, out) {
-        Ok(rows) => Ok(rows),
+        Ok(tally) => Ok(tally),
         Err(error) => Err(WeakHuntError::Hunt(error)),
     }
 }

@@ -12,5 +12,5 @@ pub trait ProgressLine {
     fn expect(&mut self, all: u32);
 
     /// Ends the line, where one was written.
-    fn end(&mut self);
+    fn end(&self);
 }

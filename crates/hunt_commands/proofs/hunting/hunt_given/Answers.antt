@@ -39,12 +39,14 @@ returns-in_err-answer-in-None-clause-begun g c =
     on_err c.from_residual-in_err-answer-in-None.result _ (⊎_elim (λ same. inl same) (λ b. inr (
       record {
         settings = s;
-        rows = b.0;
+        done = b.0;
+        rows = b.1;
         numbers = numbers;
+        ends = c.in_ok-settings.ensures.ends;
         ranges = ranges_so asked.search image bytes s there named ranges;
-        table = table_so g.W.WeakHunts.hunts asked.steps asked.weak s image input b.0 numbers.is_weak b.1;
+        table = table_so g.W.WeakHunts.hunts asked.steps asked.weak s image input b.0 b.1 numbers.is_weak b.2;
       },
-      b.2,
+      b.3,
     )) c.in_err-answer-in-None.ensures.begun)
 
 pub returns-in_err-answer-in-None-clause-errors : goal.returns-in_err-answer-in-None-clause-errors
@@ -82,13 +84,15 @@ returns-clause-hunts g c =
     let named = subst (λ (f : Option NamingFault). IsNamed asked.search image f) is c.in_ok-bytes.ensures.fault in
     let ranges = rw c.deref.ensures.value at c.in_ok-settings.ensures.ranges in
     let h = c.in_ok-answer-in-None.ensures.hunts in
-    let rows = c.in_ok-answer-in-None.field-0.items in (
+    let tally = c.in_ok-answer-in-None.field-0 in (
       record {
         settings = s;
-        rows = rows;
+        done = tally.done;
+        rows = tally.rows.items;
         numbers = numbers;
+        ends = c.in_ok-settings.ensures.ends;
         ranges = ranges_so asked.search image bytes s there named ranges;
-        table = table_so g.W.WeakHunts.hunts asked.steps asked.weak s image input rows numbers.is_weak h.0;
+        table = table_so g.W.WeakHunts.hunts asked.steps asked.weak s image input tally.done tally.rows.items numbers.is_weak h.0;
       },
       h.1,
       refl,
