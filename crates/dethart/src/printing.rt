@@ -9,8 +9,8 @@ use command_line::{
 };
 use execution_commands::check_command;
 use host_io::RunError;
-use host_world::{HostFiles, HostMessages, HostOutput, Progress};
-use hunt_commands::{WeakHunter, hunt_command, merge_command, plan_command, shrink_command};
+use host_world::{HostFiles, HostMessages, HostOutput, Progress, WeakHunter};
+use hunt_commands::{Finds, hunt_command, merge_command, plan_command, shrink_command};
 use past_commands::{replay_command, watch_command};
 use program_files::ExitStatus;
 use run_commands::{order_command, run_command};
@@ -150,16 +150,26 @@ fn put_hunt<R: Threads + Wait + Sync>(
     asked: &Hunt<'_>,
     out: &mut HostOutput<'_>,
 ) -> ExitStatus {
-    let mut progress = Progress::new(rt, asked.search.program.progress, asked.plans);
+    let progress = Progress::of_hunt(
+        rt,
+        asked.search.program.progress,
+        asked.plans,
+        asked.search.program.workers,
+        asked.seconds,
+    );
+    let messages = HostMessages { rt };
+    let Ok(finds) = Finds::new(rt.alloc(), asked, &progress, &messages) else {
+        return finish::<RunError>(rt, Err(RunError::OutOfMemory));
+    };
     let answer = hunt_command(
         threads,
         rt.alloc(),
         &HostFiles { rt },
-        &WeakHunter,
+        &WeakHunter { observer: &finds },
         asked,
-        &mut progress,
+        &finds,
         out,
-        &HostMessages { rt },
+        &messages,
     );
     finish_printing(rt, out.reader_is_gone, answer)
 }
@@ -212,7 +222,13 @@ fn put_shrunk<R: Threads + Wait + Sync>(
 /// Prints the table of all plans of the tables in some files.
 #[inline(never)]
 fn put_merged(rt: &HostRuntime, asked: &Merge<'_>, out: &mut HostOutput<'_>) -> ExitStatus {
-    let answer = merge_command(rt.alloc(), &HostFiles { rt }, asked, out);
+    let answer = merge_command(
+        rt.alloc(),
+        &HostFiles { rt },
+        asked,
+        out,
+        &HostMessages { rt },
+    );
     finish_printing(rt, out.reader_is_gone, answer)
 }
 

@@ -7,8 +7,10 @@ mod messages;
 mod output;
 mod progress;
 mod saving;
+mod weak_hunts;
 
 pub use files::HostFiles;
 pub use messages::HostMessages;
 pub use output::HostOutput;
-pub use progress::{Clock, Progress};
+pub use progress::Progress;
+pub use weak_hunts::WeakHunter;

@@ -7,45 +7,40 @@ use hunter::{HuntObserver, ShrinkObserver};
 use machine::{Observer, UntracedMachine};
 use plan_hunt::{Row, are_well};
 use program_files::ProgressLine;
+use std::sync::atomic::{AtomicBool, AtomicU32, AtomicU64, Ordering};
 use std::time::Instant;
 
-/// How many plans the first block of a hunt has, where it is told how far that is.
+/// How many numbers the first block of a search has, where it is told how far that is.
 const FIRST_BLOCK: u32 = 64;
 
 /// Tells once a second how far a command is, in a line that is written over the one before it. Where nobody asks for that, it
-/// tells nothing.
+/// tells nothing. The threads of a hunt share it.
 #[derive(Drop)]
 pub struct Progress<'a> {
     rt: &'a HostRuntime,
     /// When the command began, where it is told how far it is.
-    pub clock: Option<Clock>,
+    pub clock: Option<Instant>,
     /// How many rounds or plans there are in all.
     pub all: u32,
-    /// How many plans the last block of a hunt had at most.
-    block: u32,
-    /// How many plans were run in the search for a smaller one.
-    runs: u64,
-}
-
-/// When a command began, and what was told since.
-#[derive(Clone, Copy, Drop)]
-pub struct Clock {
-    start: Instant,
+    /// When the command began, and for how many seconds it begins plans, where there is such a limit.
+    limit: Option<(Option<Instant>, u32)>,
     /// After so many seconds the last line was written; 0: none was.
-    told: u64,
-    /// After so many milliseconds the last block of a hunt ended.
-    block_ended: u128,
-}
-
-impl Clock {
-    /// A clock of a command that begins now, where the time can be read.
-    fn started(rt: &HostRuntime) -> Option<Clock> {
-        Some(Clock {
-            start: Instant::now(rt).ok()?,
-            told: 0,
-            block_ended: 0,
-        })
-    }
+    told: AtomicU64,
+    /// Whether a line was written and not ended.
+    is_open: AtomicBool,
+    /// How many plans a block of a hunt has at least, so that each worker has one.
+    least: u32,
+    /// How many plans the last block of a hunt had at most.
+    block: AtomicU32,
+    /// After so many milliseconds it ended.
+    block_ended: AtomicU64,
+    /// How many plans were run, or tried in the search for a smaller one.
+    plans: AtomicU64,
+    /// How many rounds the runs of a hunt have done.
+    rounds: AtomicU64,
+    /// How many endings a hunt had found before its last block, and how many of them were bad.
+    endings: AtomicU64,
+    bad: AtomicU64,
 }
 
 impl<'a> Progress<'a> {
@@ -56,41 +51,89 @@ impl<'a> Progress<'a> {
     {
         Progress {
             rt,
-            clock: if asked { Clock::started(rt) } else { None },
+            clock: if asked { now(rt) } else { None },
             all,
-            block: FIRST_BLOCK,
-            runs: 0,
+            limit: None,
+            told: AtomicU64::new(0),
+            is_open: AtomicBool::new(false),
+            least: 1,
+            block: AtomicU32::new(FIRST_BLOCK),
+            block_ended: AtomicU64::new(0),
+            plans: AtomicU64::new(0),
+            rounds: AtomicU64::new(0),
+            endings: AtomicU64::new(0),
+            bad: AtomicU64::new(0),
         }
     }
 
-    /// How many seconds ago the command began, where that is another number than when a line was last written.
-    fn next_second(&mut self) -> Option<u64> {
-        let clock = self.clock.as_mut()?;
-        let seconds = clock.start.elapsed(self.rt).ok()?.as_secs();
-        if seconds == clock.told {
+    /// Tells it of a hunt by so many workers, whose first block has a plan for each, and which begins no plan after so many seconds, if
+    /// there is such a limit. Where the time can't be read there is none left.
+    pub fn of_hunt(
+        rt: &'a HostRuntime,
+        asked: bool,
+        all: u32,
+        workers: u32,
+        seconds: Option<u32>,
+    ) -> Progress<'a> {
+        let mut progress = Progress::new(rt, asked, all);
+        progress.least = workers;
+        progress.block = AtomicU32::new(workers);
+        if let Some(seconds) = seconds {
+            progress.limit = Some((now(rt), seconds));
+        }
+        progress
+    }
+
+    /// How many seconds ago the command began, where that is a greater number than when a line was last written.
+    fn next_second(&self) -> Option<u64> {
+        let seconds = self.clock?.elapsed(self.rt).ok()?.as_secs();
+        if self.told.fetch_max(seconds, Ordering::SeqCst) >= seconds {
             return None;
         }
-        clock.told = seconds;
+        self.is_open.store(true, Ordering::SeqCst);
         Some(seconds)
     }
 
     /// How many plans the next block of a hunt has: about as many as a second has time for.
-    fn next_block(&mut self) -> u32 {
-        let Some(clock) = self.clock.as_mut() else {
+    fn next_block(&self) -> u32 {
+        let block = self.block.load(Ordering::SeqCst);
+        let Some(start) = self.clock else {
             return u32::MAX;
         };
-        let Ok(passed) = clock.start.elapsed(self.rt) else {
-            return self.block;
+        let Ok(passed) = start.elapsed(self.rt) else {
+            return block;
         };
-        let took = passed.as_millis().saturating_sub(clock.block_ended);
-        clock.block_ended = passed.as_millis();
-        if took < 500 {
-            self.block = self.block.saturating_mul(2);
+        let passed = passed.as_millis() as u64;
+        let took = passed.saturating_sub(self.block_ended.swap(passed, Ordering::SeqCst));
+        let next = if took < 500 {
+            block.saturating_mul(2)
         } else if took > 2000 {
-            self.block = self.block / 2;
-        }
-        self.block
+            (block / 2).max(self.least)
+        } else {
+            block
+        };
+        self.block.store(next, Ordering::SeqCst);
+        next
     }
+
+    /// Tells how far a hunt is.
+    fn tell_hunt(&self) {
+        let Some(seconds) = self.next_second() else {
+            return;
+        };
+        let (done, all) = (self.plans.load(Ordering::SeqCst), self.all);
+        let endings = self.endings.load(Ordering::SeqCst);
+        let bad = self.bad.load(Ordering::SeqCst);
+        let rounds = self.rounds.load(Ordering::SeqCst);
+        let _unwritten = eprint!(self.rt;
+            "\rplan {done} of {all}, {endings} endings, {bad} of them bad, {rounds} rounds, {seconds} s\x1b[K"
+        );
+    }
+}
+
+/// The time, where it can be read.
+fn now(rt: &HostRuntime) -> Option<Instant> {
+    Instant::now(rt).ok()
 }
 
 impl ProgressLine for Progress<'_> {
@@ -98,8 +141,8 @@ impl ProgressLine for Progress<'_> {
         self.all = all;
     }
 
-    fn end(&mut self) {
-        if self.clock.is_some_and(|clock| clock.told != 0) {
+    fn end(&self) {
+        if self.is_open.swap(false, Ordering::SeqCst) {
             let _unwritten = eprintln!(self.rt);
         }
     }
@@ -124,18 +167,40 @@ impl Observer for Progress<'_> {
 }
 
 impl HuntObserver for Progress<'_> {
-    fn before_block(&mut self, done: u32, rows: &[Row]) -> u32 {
-        if let Some(seconds) = self.next_second() {
-            let (all, endings) = (self.all, rows.len());
-            let bad = rows
-                .iter()
-                .filter(|row| !are_well(row.ending.stops()))
-                .count();
-            let _unwritten = eprint!(self.rt;
-                "\rplan {done} of {all}, {endings} endings, {bad} of them bad, {seconds} s\x1b[K"
-            );
-        }
+    fn before_block(&self, _done: u32, rows: &[Row]) -> u32 {
+        let bad = rows
+            .iter()
+            .filter(|row| !are_well(row.ending.stops()))
+            .count();
+        self.endings.store(rows.len() as u64, Ordering::SeqCst);
+        self.bad.store(bad as u64, Ordering::SeqCst);
+        self.tell_hunt();
         self.next_block()
+    }
+
+    fn has_time(&self) -> bool {
+        match self.limit {
+            None => true,
+            Some((None, _)) => false,
+            Some((Some(start), seconds)) => match start.elapsed(self.rt) {
+                Ok(passed) => passed.as_secs() < u64::from(seconds),
+                Err(_) => false,
+            },
+        }
+    }
+
+    fn after_plan(&self) {
+        if self.clock.is_some() {
+            let _before = self.plans.fetch_add(1, Ordering::SeqCst);
+            self.tell_hunt();
+        }
+    }
+
+    fn after_rounds(&self, rounds: u32) {
+        if self.clock.is_some() {
+            let _before = self.rounds.fetch_add(u64::from(rounds), Ordering::SeqCst);
+            self.tell_hunt();
+        }
     }
 }
 
@@ -153,9 +218,8 @@ impl FenceObserver for Progress<'_> {
 
 impl ShrinkObserver for Progress<'_> {
     fn after_run(&mut self, rows: usize) {
-        self.runs = self.runs.wrapping_add(1);
+        let runs = self.plans.fetch_add(1, Ordering::SeqCst).saturating_add(1);
         if let Some(seconds) = self.next_second() {
-            let runs = self.runs;
             let _unwritten = eprint!(self.rt; "\r{runs} runs, {rows} rows, {seconds} s\x1b[K");
         }
     }
