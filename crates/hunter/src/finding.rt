@@ -8,6 +8,7 @@ use crate::looking::look;
 use crate::settling::settle;
 use machine::UntracedMachine;
 use pages::OutOfMemory;
+use plan_hunt::HuntObserver;
 use std::alloc::Global;
 use std::sync::Wait;
 use std::thread::Threads;
@@ -23,8 +24,9 @@ const FIRST_KEPT: u32 = 64;
 /// # Errors
 ///
 /// `OutOfMemory` alone.
-pub fn run_or_loop<R: Threads + Wait + Sync>(
+pub fn run_or_loop<O: HuntObserver, R: Threads + Wait + Sync>(
     rt: &R,
+    observer: &O,
     alloc: Global,
     machine: &mut UntracedMachine,
     rounds: u32,
@@ -38,16 +40,21 @@ pub fn run_or_loop<R: Threads + Wait + Sync>(
 {
     let half = rounds / 2;
     let mut done = FIRST_KEPT.min(half);
-    go_on(rt, machine, done)?;
+    go_on(rt, observer, machine, done)?;
     while done < rounds {
         if !has_running_hart(machine) {
-            go_on(rt, machine, rounds - done)?;
+            go_on(rt, observer, machine, rounds - done)?;
             return Ok(false);
         }
         let part = next_part(done, half, rounds);
-        let gone = settle(rt, alloc, machine, part, done < half)?;
-        if let Some(period) = look(rt, machine, part - gone)? {
-            go_on(rt, machine, (rounds - done - gone - period) % period)?;
+        let gone = settle(rt, observer, alloc, machine, part, done < half)?;
+        if let Some(period) = look(rt, observer, machine, part - gone)? {
+            go_on(
+                rt,
+                observer,
+                machine,
+                (rounds - done - gone - period) % period,
+            )?;
             return Ok(has_running_hart(machine));
         }
         done += part;

@@ -9,15 +9,38 @@ ghost use Rattle.serial_phase.specs.Forgetting.{asks_number};
 ghost use Rattle.hunter.specs.Finding.{AreSame, asks_within, some_run};
 
 use crate::comparing::{are_same_harts, are_same_pages};
-use machine::UntracedMachine;
+use machine::{Observer, UntracedMachine};
 use pages::OutOfMemory;
 use past_harts::asks_number;
+use plan_hunt::HuntObserver;
 use std::sync::Wait;
 use std::thread::Threads;
 
+/// After how many rounds a hunt's observer is told of them.
+const TOLD_AT_ONCE: u32 = 64;
+
+/// Counts a run's rounds, and tells a hunt's observer of them.
+#[derive(Drop)]
+struct Counted<'a, O> {
+    observer: &'a O,
+    /// How many it wasn't told of yet.
+    untold: u32,
+}
+
+impl<O: HuntObserver> Observer for Counted<'_, O> {
+    fn after_round(&mut self, _machine: &UntracedMachine) {
+        self.untold = self.untold.saturating_add(1);
+        if self.untold >= TOLD_AT_ONCE {
+            self.observer.after_rounds(self.untold);
+            self.untold = 0;
+        }
+    }
+}
+
 /// Does so many rounds.
-pub(crate) fn go_on<R: Threads + Wait + Sync>(
+pub(crate) fn go_on<O: HuntObserver, R: Threads + Wait + Sync>(
     rt: &R,
+    observer: &O,
     machine: &mut UntracedMachine,
     rounds: u32,
 ) -> Result<(), OutOfMemory>
@@ -25,8 +48,14 @@ pub(crate) fn go_on<R: Threads + Wait + Sync>(
     ensures run { OnOk result (IsAfter rounds machine.old machine.new) }
     ensures counted { OnOk result (machine.new.rounds ≡ machine.old.rounds + rounds) }
 {
+    let mut counted = Counted {
+        observer,
+        untold: 0,
+    };
+    let answer = machine.run_observed(rt, rounds, 1, &mut counted);
+    observer.after_rounds(counted.untold);
     // No other refusal is left.
-    match machine.run(rt, rounds, 1) {
+    match answer {
         Ok(()) => Ok(()),
         Err(_) => Err(OutOfMemory),
     }
@@ -74,8 +103,9 @@ fn are_same(one: &UntracedMachine, other: &UntracedMachine) -> bool
 
 /// Whether a hart asks for the number of a round in one of the next so many rounds. They are done up to the first in which one
 /// does.
-pub(crate) fn asks_within<R: Threads + Wait + Sync>(
+pub(crate) fn asks_within<O: HuntObserver, R: Threads + Wait + Sync>(
     rt: &R,
+    observer: &O,
     machine: &mut UntracedMachine,
     rounds: u32,
 ) -> Result<bool, OutOfMemory>
@@ -88,7 +118,7 @@ pub(crate) fn asks_within<R: Threads + Wait + Sync>(
         if asks_in_next(rt, machine)? {
             return Ok(true);
         }
-        go_on(rt, machine, 1)?;
+        go_on(rt, observer, machine, 1)?;
     }
     Ok(false)
 }

@@ -14,7 +14,7 @@ use host_io::RunError;
 use hunt_table::SeenRange;
 use machine::{UntracedMachine, load};
 use pages::OutOfMemory;
-use plan_hunt::{Ending, HartEnding, PlanRuns, Runs};
+use plan_hunt::{Ending, HartEnding, HuntObserver, PlanRuns, Runs};
 use round_planner::{Family, Plan};
 use std::alloc::Global;
 use std::sync::Wait;
@@ -22,15 +22,17 @@ use std::thread::Threads;
 
 /// A guest program that is run under the plans of a family.
 #[derive(Drop)]
-pub(crate) struct Guest<'a> {
+pub(crate) struct Guest<'a, O> {
     pub alloc: Global,
     pub settings: &'a HuntSettings,
     pub input: &'a [u8],
     pub image: Image,
+    /// It is told how far runs are.
+    pub observer: &'a O,
     ghost range: { IsGuest settings.now },
 }
 
-impl Runs for Guest<'_> {
+impl<O: HuntObserver> Runs for Guest<'_, O> {
     ghost use Rattle.round_planner.specs.Families.{family_plan};
     ghost use Rattle.hunter.specs.Hunts.{ends_from, family_of};
 
@@ -41,7 +43,7 @@ impl Runs for Guest<'_> {
     }
 }
 
-impl PlanRuns for Guest<'_> {
+impl<O: HuntObserver> PlanRuns for Guest<'_, O> {
     ghost use Rattle.hunter.specs.Hunts.{ends_from};
 
     ghost ends = { λ g. ends_from g.settings.now g.image g.input.now };
@@ -52,12 +54,18 @@ impl PlanRuns for Guest<'_> {
         plan: Plan,
     ) -> Result<Ending, OutOfMemory> {
         let mut machine = self.opening(plan)?;
-        let loops = run_or_loop(rt, self.alloc, &mut machine, self.settings.rounds)?;
+        let loops = run_or_loop(
+            rt,
+            self.observer,
+            self.alloc,
+            &mut machine,
+            self.settings.rounds,
+        )?;
         ending_of(self.alloc, &machine, loops, &self.settings.header.ranges)
     }
 }
 
-impl<'a> Guest<'a> {
+impl<'a, O> Guest<'a, O> {
     /// The guest of a file, which is loaded once.
     ///
     /// # Errors
@@ -68,7 +76,8 @@ impl<'a> Guest<'a> {
         file: &[u8],
         input: &'a [u8],
         settings: &'a HuntSettings,
-    ) -> Result<Guest<'a>, RunError>
+        observer: &'a O,
+    ) -> Result<Guest<'a, O>, RunError>
         requires range { IsGuest settings.now }
         ensures image { IfOk result (λ g. g.image ≡
             image_of settings.now.format file.now settings.now.pages) }
@@ -85,6 +94,7 @@ impl<'a> Guest<'a> {
             settings,
             input,
             image,
+            observer,
         })
     }
 

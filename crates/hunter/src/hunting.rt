@@ -41,7 +41,7 @@ pub fn tabulate_hunt<O: HuntObserver + Sync, R: Threads + Wait + Sync>(
     ensures ranges { IfOk result (λ _. has_bad_range settings.now ≡ false) }
 {
     check_hunt(settings)?;
-    let guest = Guest::load(alloc, image, input, settings)?;
+    let guest = Guest::load(alloc, image, input, settings, observer)?;
     check_ranges(settings)?;
     Ok(tabulate(
         rt,

@@ -7,13 +7,15 @@ ghost use Rattle.hunter.specs.Finding.{Moves, is_back_after, is_back_within};
 use crate::going::{are_alike, asks_within, go_on, shared_copy};
 use machine::UntracedMachine;
 use pages::OutOfMemory;
+use plan_hunt::HuntObserver;
 use std::sync::Wait;
 use std::thread::Threads;
 
 /// Does up to so many rounds: as many as bring the machine back where it is now, and all where none do. Answers how many bring it
 /// back.
-pub(crate) fn look<R: Threads + Wait + Sync>(
+pub(crate) fn look<O: HuntObserver, R: Threads + Wait + Sync>(
     rt: &R,
+    observer: &O,
     machine: &mut UntracedMachine,
     rounds: u32,
 ) -> Result<Option<u32>, OutOfMemory>
@@ -28,18 +30,19 @@ pub(crate) fn look<R: Threads + Wait + Sync>(
         (is_back_within rounds m ≡ false) (λ p. is_back_after p m ≡ true)) }
 {
     if rounds < machine.plan().row_count() {
-        go_on(rt, machine, rounds)?;
+        go_on(rt, observer, machine, rounds)?;
         return Ok(None);
     }
     let mut start = shared_copy(machine)?;
-    let period = look_from(rt, machine, &mut start, rounds);
+    let period = look_from(rt, observer, machine, &mut start, rounds);
     drop(start);
     period
 }
 
 /// The same with an equal machine, of which the rounds in between are done once more.
-fn look_from<R: Threads + Wait + Sync>(
+fn look_from<O: HuntObserver, R: Threads + Wait + Sync>(
     rt: &R,
+    observer: &O,
     machine: &mut UntracedMachine,
     start: &mut UntracedMachine,
     rounds: u32,
@@ -57,21 +60,22 @@ fn look_from<R: Threads + Wait + Sync>(
 {
     let rows = machine.plan().row_count();
     let turns = rounds / rows;
-    let Some(turn) = go_back(rt, machine, start, turns, rows)? else {
-        go_on(rt, machine, rounds - turns * rows)?;
+    let Some(turn) = go_back(rt, observer, machine, start, turns, rows)? else {
+        go_on(rt, observer, machine, rounds - turns * rows)?;
         return Ok(None);
     };
     let period = turn * rows;
-    if asks_within(rt, start, period)? {
-        go_on(rt, machine, rounds - period)?;
+    if asks_within(rt, observer, start, period)? {
+        go_on(rt, observer, machine, rounds - period)?;
         return Ok(None);
     }
     Ok(Some(period))
 }
 
 /// Does up to so many turns of the plan's rows, until the machine is like it was at their start. Answers how many that takes.
-fn go_back<R: Threads + Wait + Sync>(
+fn go_back<O: HuntObserver, R: Threads + Wait + Sync>(
     rt: &R,
+    observer: &O,
     machine: &mut UntracedMachine,
     start: &UntracedMachine,
     turns: u32,
@@ -89,7 +93,7 @@ fn go_back<R: Threads + Wait + Sync>(
         (are_alike m.state (after_rounds (t * rows) m).state ≡ true))) }
 {
     for turn in 0..turns {
-        go_on(rt, machine, rows)?;
+        go_on(rt, observer, machine, rows)?;
         if are_alike(start, machine) {
             return Ok(Some(turn + 1));
         }

@@ -8,7 +8,7 @@ use crate::finding::run_or_loop;
 use crate::guest::stops_by;
 use host_io::RunError;
 use machine::{GuestFiles, Settings, prepare_untraced};
-use plan_hunt::HartEnding;
+use plan_hunt::{HartEnding, UnobservedHunt};
 use std::alloc::Global;
 use std::sync::Wait;
 use std::thread::Threads;
@@ -36,7 +36,7 @@ pub fn find_run_endings<R: Threads + Wait + Sync>(
         IfErr result (λ e. IsReason settings.now files.now.image.now e) }
 {
     let mut machine = prepare_untraced(alloc, files.image, files.input, settings)?;
-    let loops = run_or_loop(rt, alloc, &mut machine, settings.rounds)?;
+    let loops = run_or_loop(rt, &UnobservedHunt, alloc, &mut machine, settings.rounds)?;
     let endings = stops_by(alloc, loops, machine.harts())?;
     Ok(endings)
 }

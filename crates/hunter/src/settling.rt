@@ -5,6 +5,7 @@ use crate::comparing::are_same_harts;
 use crate::going::go_on;
 use machine::UntracedMachine;
 use pages::OutOfMemory;
+use plan_hunt::HuntObserver;
 use std::alloc::Global;
 use std::sync::Wait;
 use std::thread::Threads;
@@ -16,8 +17,9 @@ const FEW: u32 = 16;
 /// does none.
 ///
 /// A run whose harts come back may go round: only then it is worth a look at all of the machine. So this decides nothing.
-pub(crate) fn settle<R: Threads + Wait + Sync>(
+pub(crate) fn settle<O: HuntObserver, R: Threads + Wait + Sync>(
     rt: &R,
+    observer: &O,
     alloc: Global,
     machine: &mut UntracedMachine,
     rounds: u32,
@@ -37,13 +39,13 @@ pub(crate) fn settle<R: Threads + Wait + Sync>(
     let step = turns_of(machine.plan().row_count());
     let mut left = rounds;
     while left >= step {
-        go_on(rt, machine, step)?;
+        go_on(rt, observer, machine, step)?;
         left -= step;
         if are_same_harts(&harts, machine.harts()) {
             return Ok(rounds - left);
         }
     }
-    go_on(rt, machine, left)?;
+    go_on(rt, observer, machine, left)?;
     Ok(rounds)
 }
 

@@ -11,7 +11,7 @@ use crate::error::HuntError;
 use crate::guest::Guest;
 use crate::settings::{HuntSettings, check_ranges, check_shrink};
 use pages::OutOfMemory;
-use plan_hunt::ShrinkObserver;
+use plan_hunt::{ShrinkObserver, UnobservedHunt};
 use round_planner::{Plan, serial_budget};
 use std::alloc::Global;
 use std::sync::Wait;
@@ -48,7 +48,7 @@ pub fn shrink<O: ShrinkObserver, R: Threads + Wait + Sync>(
     ensures ranges { IfOk result (λ _. has_bad_range settings.now ≡ false) }
 {
     check_shrink(settings)?;
-    let guest = Guest::load(alloc, image, input, settings)?;
+    let guest = Guest::load(alloc, image, input, settings, &UnobservedHunt)?;
     check_ranges(settings)?;
     Ok(shrunk(rt, &guest, number, observer)?)
 }
@@ -56,7 +56,7 @@ pub fn shrink<O: ShrinkObserver, R: Threads + Wait + Sync>(
 /// The same of a guest.
 fn shrunk<O: ShrinkObserver, R: Threads + Wait + Sync>(
     rt: &R,
-    guest: &Guest<'_>,
+    guest: &Guest<'_, UnobservedHunt>,
     number: u32,
     observer: &mut O,
 ) -> Result<Plan, OutOfMemory>
