@@ -8,9 +8,11 @@ _dethart() {
         2:'help help') words='run order record replay watch migrate gdb hunt shrink merge fences plan draw trace execution check' ;;
         *:'run --show') words='report output harts' ;;
         *:'hunt --fail-on') words='differ bad never' ;;
+        *:'hunt --until') words='bad differ' ;;
+        *:'merge --fail-on') words='differ bad never' ;;
         *:'fences --fail-on') words='missing never' ;;
         *:'trace --as') words='perfetto' ;;
-        *:*' --harts' | *:*' --pages' | *:*' --rounds' | *:*' --workers' | *:*' --quota' | *:*' --budget' | *:*' --plan-number' | *:*' --seed' | *:*' --every' | *:*' --round' | *:*' --hart' | *:*' --count' | *:*' --place' | *:*' --see' | *:*' --see-object' | *:*' --from' | *:*' --to' | *:*' --plans' | *:*' --first' | *:*' --steps' | *:*' --as-if-fence') return ;;
+        *:*' --harts' | *:*' --pages' | *:*' --rounds' | *:*' --workers' | *:*' --quota' | *:*' --budget' | *:*' --plan-number' | *:*' --seed' | *:*' --every' | *:*' --round' | *:*' --hart' | *:*' --count' | *:*' --place' | *:*' --see' | *:*' --see-object' | *:*' --from' | *:*' --to' | *:*' --plans' | *:*' --first' | *:*' --seconds' | *:*' --steps' | *:*' --as-if-fence') return ;;
         *) [ "${COMP_WORDS[COMP_CWORD - 2]}" != --see ] || return ;;
     esac
     [[ $word == -* && -z $words ]] && case $command in
@@ -21,9 +23,9 @@ _dethart() {
         watch) words='--see --see-object --hart --stores --pc --from --to --workers --progress --help' ;;
         migrate) words='--help' ;;
         gdb) words='--help' ;;
-        hunt) words='--flat --harts --pages --rounds --workers --input --progress --seed --see --see-object --plans --first --fail-on --weak --steps --help' ;;
+        hunt) words='--flat --harts --pages --rounds --workers --input --progress --seed --see --see-object --plans --first --fail-on --until --seconds --weak --steps --help' ;;
         shrink) words='--flat --harts --pages --rounds --workers --input --progress --seed --see --see-object --plan-number --help' ;;
-        merge) words='--help' ;;
+        merge) words='--fail-on --help' ;;
         fences) words='--flat --harts --pages --rounds --workers --input --progress --seed --see --see-object --plans --first --steps --fail-on --keep --accept --as-if-fence --help' ;;
         plan) words='--harts --seed --help' ;;
         draw) words='--flat --harts --pages --rounds --workers --input --progress --quota --plan --budget --plan-number --seed --see --see-object --from --to --help' ;;
