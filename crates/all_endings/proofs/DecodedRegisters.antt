@@ -117,7 +117,7 @@ chosen_fits : (rs : List Row) (w : ℕ) (i : Instr) → RowsFit rs → first_of 
 chosen_fits [] w i fit-none e = cc
 chosen_fits (r ∷ rs) w i (fit row rest) e = one_fits (bit_and w r.mask == r.value) (r.make w) i (first_of rs w) (row w) (λ d. chosen_fits rs w i rest d) e
 
-word_fits : (w : ℕ) (i : Instr) → instr_of w ≡ Some i → AreRegisters (registers_of i)
+pub word_fits : (w : ℕ) (i : Instr) → instr_of w ≡ Some i → AreRegisters (registers_of i)
 unfolding instr_of
 word_fits w i e = chosen_fits rows w i rows_fit e
 

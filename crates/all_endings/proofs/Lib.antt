@@ -24,6 +24,7 @@ mod SourceRegisters
 mod Sources
 mod Starting
 mod StepTimes
+mod Stopping
 mod StoreLists
 mod StoreMoves
 mod Tables

@@ -308,7 +308,7 @@ filled_refines v r n e = by_test (r == 0) e
     by_test true e = some_value 0 n e
     by_test false e = filled_at v r n e
 
-known_same : (v : List (Option ℕ)) (x : List ℕ) (r : ℕ) → Refines v x → is_some (view v r) ≡ true → reg (filled v) r ≡ reg x r
+pub known_same : (v : List (Option ℕ)) (x : List ℕ) (r : ℕ) → Refines v x → is_some (view v r) ≡ true → reg (filled v) r ≡ reg x r
 known_same v x r refines known = by_view (view v r) refl known
   where
     by_view : (o : Option ℕ) → view v r ≡ o → is_some o ≡ true → reg (filled v) r ≡ reg x r

@@ -11,6 +11,7 @@ pub mod Lowering
 pub mod Offering
 pub mod RunStates
 pub mod Sources
+pub mod Stopping
 pub mod StoreLists
 pub mod Tables
 pub mod Times

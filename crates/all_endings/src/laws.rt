@@ -8,6 +8,7 @@ ghost use Rattle.all_endings.specs.Judging.{JudgedExecutionsCount};
 ghost use Rattle.all_endings.specs.Lowering.{LowerStatesDoAsMuch};
 ghost use Rattle.all_endings.specs.Offering.{ClosedListsHaveAll};
 ghost use Rattle.all_endings.specs.Sources.{LoadsReadInTime, PreservedInTime, SeenStays};
+ghost use Rattle.all_endings.specs.Stopping.{StopsAreKnown};
 ghost use Rattle.all_endings.specs.StoreLists.{StoresStandAtTimes};
 ghost use Rattle.all_endings.specs.Tables.{ClosedTablesAreWhole};
 ghost use Rattle.all_endings.specs.Times.{OperationsStandInTime};
@@ -132,4 +133,9 @@ pub fn bounds_suffice()
 /// At one time a load gets one number, from the same stores: so its choices are its times.
 pub fn loads_are_determined()
     ensures { LoadsAreDetermined }
+{}
+
+/// Where all its registers are known, a run can halt in one way: as the instruction at its pc says.
+pub fn stops_are_known()
+    ensures { StopsAreKnown }
 {}
