@@ -6,7 +6,7 @@ use Rattle.past_commands.proofs.Asking.{clash, neither, no_workers}
 use Rattle.past_commands.proofs.positions.watch_execution.Goals as goal
 
 pub returns-clause-watches : goal.returns-clause-watches
-returns-clause-watches g c =
+returns-clause-watches c =
     IfOk-weaker c.watch_checked.result _ _ (λ w h. record {
       file = as_recorded c.in_ok-file.file;
       says = c.in_ok-file.ensures.says;
@@ -19,7 +19,7 @@ returns-clause-watches g c =
     }) c.watch_checked.ensures.watches
 
 pub returns-clause-errors : goal.returns-clause-errors
-returns-clause-errors g c =
+returns-clause-errors c =
     let asked = c.args.asked.now in
     let none = neither asked.from asked.to c.in_ok-refuse_some_rounds.ensures.from c.in_ok-refuse_some_rounds.ensures.to in
     on_error c.watch_checked.result _ _ (λ f h. inr (

@@ -8,4 +8,4 @@ returns-in-Some c =
 
 pub returns-in-None : goal.returns-in-None
 returns-in-None c =
-    (None, split_text_parts (codes "=") c.args.word.now None c.in-None.ensures.cases, c.instruction_of.result, c.instruction_of.ensures, c.full.ensures)
+    (None, split_text_parts (codes "=") c.args.word.now None c.in-None.ensures.cases, (c.instruction_of.result, c.instruction_of.ensures, c.full.ensures))
