@@ -103,7 +103,7 @@ impl<'a> Progress<'a> {
         let Ok(passed) = start.elapsed(self.rt) else {
             return block;
         };
-        let passed = passed.as_millis() as u64;
+        let passed = u64::try_from(passed.as_millis()).unwrap_or(u64::MAX);
         let took = passed.saturating_sub(self.block_ended.swap(passed, Ordering::SeqCst));
         let next = if took < 500 {
             block.saturating_mul(2)
