@@ -5,6 +5,7 @@ use Rattle.pages.specs.Memory.{byte_of}
 use Rattle.rv64_decode.specs.declared.instruction.Instr.{Instr}
 use Rattle.round_schedule.specs.declared.access.Access.{Access}
 use Rattle.round_schedule.specs.declared.access.Access.TheVariants.{Load, Store, LoadReserved, StoreConditional, Atomic, Fence}
+use Rattle.round_schedule.specs.declared.span.Span.{Span}
 use Rattle.round_schedule.specs.Accesses.{address_of, is_lr, is_sc, loads, stores, writes}
 use Rattle.round_schedule.specs.Held.{held_after_own}
 use Rattle.memory_order.specs.Operations.{covers, is_amo}
@@ -17,7 +18,7 @@ use Rattle.rule_checker.specs.declared.carried.Carried.{Carried}
 use Rattle.execution.specs.Progressing.{step_event}
 use Rattle.all_endings.specs.Earlier.{EarlierMovesAreLower, IsNoLater}
 use Rattle.all_endings.specs.Locality.{set_view}
-use Rattle.all_endings.specs.Lowering.{CarriedAtMost, IsLower, KindsAtMost, OwnAtMost, own-both, own-none}
+use Rattle.all_endings.specs.Lowering.{CarriedAtMost, IsLower, KindsAtMost, OwnAtMost, is_held, own-both, own-none}
 use Rattle.all_endings.specs.RunStates.{Move, OwnByte, RunState, answers_to, behind, moved, operates, puts_out}
 use Rattle.all_endings.specs.StoreLists.{Stored}
 use Rattle.all_endings.proofs.Lowering.{carried_down, carried_most, kinds_below, kinds_most, rises, same}
@@ -50,6 +51,15 @@ lr_operates (LoadReserved w o p x r) e = refl
 lr_operates (StoreConditional w o p x v) e = absurd (cc)
 lr_operates (Atomic w o p x r v) e = absurd (cc)
 lr_operates (Fence before after mode p) e = absurd (cc)
+
+-- an LR reserves what it covers
+lr_covers : (y : Access) (s : Option Span) (x : ℕ) → is_lr y ≡ true → is_held (held_after_own y s) x ≡ true → covers y x ≡ true
+lr_covers (Load w p z r) s x e k = absurd (cc)
+lr_covers (Store w p z v) s x e k = absurd (cc)
+lr_covers (LoadReserved w o p z r) s x e k = k
+lr_covers (StoreConditional w o p z v) s x e k = absurd (cc)
+lr_covers (Atomic w o p z r v) s x e k = absurd (cc)
+lr_covers (Fence before after mode p) s x e k = absurd (cc)
 
 or_true : (a b : Bool) → a ≡ true → (a || b) ≡ true
 or_true true b e = refl
@@ -121,11 +131,11 @@ module _ (h : ℕ) (m : List Stored) (a : RunState) (v w : Move) (sound : IsLowe
     kinds = kinds_low (operates v) refl;
     carried = carried_low (operates v) refl;
     touched = λ x. touched_low (operates v && covers v.access x) (a.touched x) (λ e. earlier.time (and_parts (operates v) (covers v.access x) e).0);
-    seen = λ x. seen_low (loads v.access && covers v.access x) (a.seen x) (v.source x) (w.source x) (λ e. earlier.source (and_parts (loads v.access) (covers v.access x) e).0 x);
+    seen = λ x. seen_low (loads v.access && covers v.access x) (a.seen x) (v.source x) (w.source x) (λ e. earlier.source (and_parts (loads v.access) (covers v.access x) e).0 x (and_parts (loads v.access) (covers v.access x) e).1);
     own = λ x. own_low (writes v.access x) x (λ e. let s = (and_parts (stores v.access) (covers v.access x) e).0 in (earlier.place s, earlier.written s));
     held = refl;
     reserved = reserved_low (is_lr v.access) (λ e. earlier.time (or_true (loads v.access) (stores v.access) (lr_operates v.access e)));
-    sources = λ x. sources_low (is_lr v.access) x (λ e. earlier.source (lr_operates v.access e) x);
+    sources = λ x s. sources_low (is_lr v.access) x (λ e. earlier.source (lr_operates v.access e) x (lr_covers v.access a.held x e s));
     output = refl;
   }
 
@@ -153,7 +163,7 @@ lower_self a size = record {
   own = λ x. own_self (a.own x);
   held = refl;
   reserved = omega arith;
-  sources = λ x. omega arith;
+  sources = λ x s. omega arith;
   output = refl;
 }
 

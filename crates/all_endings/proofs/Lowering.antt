@@ -2,6 +2,10 @@
 use Rattle.std.proofs.Common.{◌≡◌, ℕ, ◌+◌, ◌≤◌, ◌&&◌, max, Bool, true, false, if◌then◌else◌, List, ◌++◌, length, Option, Some, None, option_map, refl, sym, ap, ◌∙◌, subst, arith}
 use Rattle.pages.specs.declared.access.Width.{Width}
 use Rattle.pages.specs.Memory.{Memory}
+use Rattle.rv64_decode.specs.declared.ordering.AcquireRelease.{AcquireRelease}
+use Rattle.round_schedule.specs.declared.access.Access.{Access}
+use Rattle.round_schedule.specs.declared.access.Access.TheVariants.{Load, Store, LoadReserved, StoreConditional, Atomic, Fence}
+use Rattle.round_schedule.specs.declared.span.Span.{Span}
 use Rattle.round_schedule.specs.Accesses.{is_lr, loads, writes}
 use Rattle.round_schedule.specs.Held.{held_after_own}
 use Rattle.hart_step.specs.DecodedCode.{decoded}
@@ -15,7 +19,7 @@ use Rattle.rule_checker.specs.declared.annotated.KindBounds.{KindBounds}
 use Rattle.rule_checker.specs.declared.carried.Carried.{Carried}
 use Rattle.all_endings.specs.HartRuns.{Acts, Gets, IsPast, IsPlaced, IsRead, KnowsAll, KnowsMost, Runs, Stands, acts, branches, calls, exchanges, exchanges-unknown, fails, forwarded, gets, gets-later, jumps, orders, puts, puts-unknown, reads, remembered, reserves, runs-more, runs-none, stores, succeeds}
 use Rattle.all_endings.specs.Locality.{Knows, KnowsButData, filled, set_view, view, without_data}
-use Rattle.all_endings.specs.Lowering.{CarriedAtMost, IsLower, KindsAtMost, LowerStatesDoAsMuch, OwnAtMost, own-both, own-none}
+use Rattle.all_endings.specs.Lowering.{CarriedAtMost, IsLower, KindsAtMost, LowerStatesDoAsMuch, OwnAtMost, is_held, own-both, own-none}
 use Rattle.all_endings.specs.RunStates.{Move, OwnByte, RunState, answers_to, behind, moved, operates, puts_out}
 use Rattle.all_endings.specs.StoreLists.{Stored}
 use Rattle.execution.specs.Progressing.{step_event}
@@ -59,6 +63,20 @@ pub carried_most : (a b : Carried) → CarriedBelow same a b → CarriedAtMost a
 carried_most a b k = record { small = k.small; size = k.size; registers = k.registers; steered = k.steered; addressed = k.addressed }
 
 -- ---- one move
+
+-- where it isn't an LR, an access leaves of a reservation's bytes those that were there
+still_held : (y : Access) (s : Option Span) (x : ℕ) → is_lr y ≡ false → is_held (held_after_own y s) x ≡ true → is_held s x ≡ true
+still_held (Load w p z r) s x e k = k
+still_held (Store w p z v) s x e k = k
+still_held (LoadReserved w o p z r) s x e k = absurd (cc)
+still_held (StoreConditional w o p z v) s x e k = absurd (cc)
+still_held (Atomic w o p z r v) s x e k = k
+still_held (Fence before after mode p) s x e k = k
+
+-- an SC's bytes are those of the reservation that it needs
+covered_held : {y : Access} {s : Option Span} {w : Width} {o : AcquireRelease} {address : ℕ} → y ≡ StoreConditional w o 0 address (Some 0) →
+    s ≡ Some (record { address = address; width = w }) → (x : ℕ) → covers y x ≡ true → is_held s x ≡ true
+covered_held e held x c = ap (λ (u : Option Span). is_held u x) held ∙ (sym (ap (λ (z : Access). covers z x) e) ∙ c)
 
 module _ (image : Memory) (h : ℕ) (m : List Stored) (opening : ℕ → ℕ) (a b : RunState) (v : Move) (low : IsLower a b) where
   acts_same : acts a v ≡ acts b v
@@ -127,7 +145,7 @@ module _ (image : Memory) (h : ℕ) (m : List Stored) (opening : ℕ → ℕ) (a
   acts_low P (succeeds rd address w o k is safe e d held reserved p unbroken r x) =
       succeeds rd address w o (most k) (ap without_data acts_same ∙ is) safe e (d ∙ ap (λ (y : Option ℕ). option_map (cut w) y) (sym (view_same (registers_of v.instruction).value)))
       (low.held ∙ held) (let l = low.reserved in omega (arith, l, reserved)) p
-      (λ k y within before c wet other. let l = unbroken k y within before c wet other in let q = low.sources y in omega (arith, l, q)) r (following v.next x)
+      (λ k y within before c wet other. let l = unbroken k y within before c wet other in let q = low.sources y (covered_held e held y c) in omega (arith, l, q)) r (following v.next x)
   acts_low P (exchanges rd address w f o number k is safe e g r d p x) = exchanges rd address w f o number (all k) (acts_same ∙ is) safe e (gets_low address w number g) r d p (following v.next x)
   acts_low P (exchanges-unknown rd address w o k none is safe e g r d x) =
       exchanges-unknown rd address w o (most k) (view_same (registers_of v.instruction).value ∙ none) (ap without_data acts_same ∙ is) safe e (gets_low address w None g) r d (following v.next x)
@@ -158,9 +176,9 @@ module _ (image : Memory) (h : ℕ) (m : List Stored) (opening : ℕ → ℕ) (a
     chosen true n u w l = omega arith
     chosen false n u w l = l
 
-    kept : (c : Bool) (f u w : ℕ → ℕ) (x : ℕ) → w x ≤ u x → (if c then f else w) x ≤ (if c then f else u) x
+    kept : (c : Bool) (f u w : ℕ → ℕ) (x : ℕ) → (c ≡ false → w x ≤ u x) → (if c then f else w) x ≤ (if c then f else u) x
     kept true f u w x l = omega arith
-    kept false f u w x l = l
+    kept false f u w x l = l refl
 
     pub moved_low : IsLower (moved h m a v) (moved h m b v)
     moved_low = record {
@@ -174,7 +192,7 @@ module _ (image : Memory) (h : ℕ) (m : List Stored) (opening : ℕ → ℕ) (a
       own = λ x. own_moved (writes v.access x) (behind m v) _ _ (a.own x) (b.own x) (low.own x);
       held = ap (held_after_own v.access) low.held;
       reserved = chosen (is_lr v.access) (behind m v) a.reserved b.reserved low.reserved;
-      sources = λ x. kept (is_lr v.access) v.source a.sources b.sources x (low.sources x);
+      sources = λ x s. kept (is_lr v.access) v.source a.sources b.sources x (λ plain. low.sources x (still_held v.access b.held x plain s));
       output = ap (λ (o : List (Option ℕ)). o ++ puts_out a.registers v.instruction) low.output ∙ ap (λ (r : List (Option ℕ)). b.output ++ puts_out r v.instruction) low.registers;
     }
 

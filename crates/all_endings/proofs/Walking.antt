@@ -1,28 +1,29 @@
 -- Places that are walked cover the runs.
-use Rattle.std.proofs.Common.{◌≡◌, ℕ, ◌+◌, ◌<◌, ◌≤◌, ◌==◌, ◌&&◌, ◌⊎◌, Bool, true, List, [], ◌∷◌, ◌++◌, length, get_or, Contains, Option, Some, None, sym, ap, ◌∙◌, subst, inl, inr, arith, is_some}
+use Rattle.std.proofs.Common.{◌≡◌, ℕ, ◌+◌, ◌<◌, ◌≤◌, ◌==◌, ◌&&◌, ◌||◌, ◌⊎◌, zero, suc, Bool, true, false, List, [], ◌∷◌, ◌++◌, length, map, get_or, Contains, Option, Some, None, refl, sym, ap, ◌∙◌, subst, inl, inr, arith, is_some}
 use Rattle.all_endings.proofs.Closing.{hart_in}
 use Rattle.all_endings.proofs.Sources.{both}
 use Rattle.std.proofs.Math.Seq.{get_or-append_seam}
-use Rattle.std.proofs.lemmas.Bool.{cases_lt, eq-eqb}
+use Rattle.std.proofs.lemmas.Bool.{and_parts, cases_lt, eq-eqb, eqb-true}
 use Rattle.std.proofs.lemmas.List.{append-nil, append_assoc, get_or_append_left, length-append}
 use Rattle.pages.specs.declared.access.Range.{Range}
 use Rattle.pages.specs.Memory.{Memory}
+use Rattle.round_schedule.specs.declared.span.Span.{Span}
 use Rattle.round_schedule.specs.Accesses.{stores as writing}
 use Rattle.hart_step.specs.declared.hart.Hart.{Hart}
 use Rattle.hart_step.specs.declared.hart.Stop.{Stop}
 use Rattle.hart_step.specs.DecodedCode.{decoded}
-use Rattle.memory_order.proofs.Facts.{or_left, or_right}
+use Rattle.memory_order.proofs.Facts.{or_cases, or_left, or_right}
 use Rattle.all_endings.specs.Endings.{Ending, opening_bytes}
 use Rattle.all_endings.specs.Factorizing.{IsOpenCall}
 use Rattle.all_endings.specs.Halting.{Halts, KnowsRegisters}
 use Rattle.all_endings.specs.HartRuns.{IsPlaced, Runs, runs-more, runs-none, Acts, Stands}
 use Rattle.all_endings.specs.Locality.{Refines, view}
-use Rattle.all_endings.specs.Lowering.{IsLower, OwnAtMost, own-both, own-none}
-use Rattle.all_endings.specs.Offering.{IsClosed, IsOffered}
+use Rattle.all_endings.specs.Lowering.{IsLower, OwnAtMost, is_held, own-both, own-none}
+use Rattle.all_endings.specs.Offering.{IsClosed, IsOffered, Pays}
 use Rattle.all_endings.specs.RunStates.{Move, OwnByte, RunState, moved, run_start, operates}
 use Rattle.all_endings.specs.StoreLists.{Stored}
-use Rattle.all_endings.specs.Tables.{HartEnds, HasEndings}
-use Rattle.all_endings.specs.Walking.{AreWalked, HasPlaceEndings, IsPaid, IsWalked, Place, PlaceEnds, WalkedTablesAreWhole}
+use Rattle.all_endings.specs.Tables.{HartsEnd, HasEndings}
+use Rattle.all_endings.specs.Walking.{AreEndsOf, EndsAt, HartEnding, IsLookedThrough, IsWalked, Place, WalkedTablesAreWhole, seen_after}
 use Rattle.all_endings.proofs.DecodedRegisters.{decoded_fits}
 use Rattle.all_endings.proofs.Factors.{Paid}
 use Rattle.all_endings.proofs.Lowering.{acts_low, lower_do_as_much, moved_low, stands_low}
@@ -66,16 +67,16 @@ lower_on a b c l m = record {
   own = λ x. own_on (a.own x) (b.own x) (c.own x) (l.own x) (m.own x);
   held = l.held ∙ m.held;
   reserved = at_most _ _ _ l.reserved m.reserved;
-  sources = λ x. at_most _ _ _ (m.sources x) (l.sources x);
+  sources = λ x s. at_most _ _ _ (m.sources x s) (l.sources x (ap (λ (u : Option Span). is_held u x) m.held ∙ s));
   output = l.output ∙ m.output;
 }
 
 -- ---- a place that stands for a run
 
-pub record ForRun (p : Place) (vs : List Move) (c : RunState) (chosen : Option Stored) : Type 0 where
+pub record ForRun (m : List Stored) (p : Place) (vs : List Move) (c : RunState) (chosen : Option Stored) : Type 0 where
   pub state : IsLower p.state c
   pub count : p.count ≤ length vs
-  pub paid : (j : ℕ) → Paid vs j → p.paid j ≡ true
+  pub paid : (j : ℕ) → j < length m → Paid vs j → p.paid j ≡ true
   pub next : p.next ≡ chosen
 
 paid_split : (vs : List Move) (v : Move) (j : ℕ) → Paid (vs ++ v ∷ []) j → Paid vs j ⊎ ((writing v.access ≡ true) × (v.time ≡ j))
@@ -89,13 +90,14 @@ paid_split vs v j p = elim (cases_lt p.1.0 (length vs)) [
       inr (ap (λ (u : Move). writing u.access) same ∙ p.2, ap (λ (u : Move). u.time) same ∙ p.3)
 ]
 
-module _ (k : ℕ) (image : Memory) (h : ℕ) (m : List Stored) (start : Hart) (ps : List Place) (walked : IsWalked k image h m start ps) where
+module _ (k : ℕ) (image : Memory) (h : ℕ) (m : List Stored) (start : Hart) (offered : List Stored) (ended : List HartEnding) (ps : List Place)
+    (walked : IsWalked k image h m start offered ended ps) where
   For : List Move → RunState → Option Stored → Type 0
-  For vs c next = (p : Place) × Contains ps p × ForRun p vs c next
+  For vs c next = (p : Place) × Contains ps p × ForRun m p vs c next
 
   one_more : (vs : List Move) (c : RunState) (v : Move) (next : Option Stored) → length vs < k → decoded image c.pc ≡ Some v.instruction →
-      Acts image h m (opening_bytes image) (IsPlaced h m) c v → (operates v ≡ true → Stands c v) → (p : Place) → Contains ps p → ForRun p vs c next →
-      (q : Place) × Contains ps q × ForRun q (vs ++ v ∷ []) (moved h m c v) next
+      Acts image h m (opening_bytes image) (IsPlaced h m) c v → (operates v ≡ true → Stands c v) → (p : Place) → Contains ps p → ForRun m p vs c next →
+      (q : Place) × Contains ps q × ForRun m q (vs ++ v ∷ []) (moved h m c v) next
   one_more vs c v next l at doing stand p there f =
       let fit = decoded_fits image c.pc v.instruction at in
       let q = walked.moves p v there (let n = f.count in omega (arith, n, l)) (ap (decoded image) f.state.pc ∙ at) (acts_low image h m (opening_bytes image) p.state c v f.state (IsPlaced h m) doing)
@@ -105,48 +107,125 @@ module _ (k : ℕ) (image : Memory) (h : ℕ) (m : List Stored) (start : Hart) (
         record {
           state = lower_on q.0.state (moved h m p.state v) (moved h m c v) q.2.state (moved_low image h m (opening_bytes image) p.state c v f.state fit);
           count = (let a = q.2.count in let b = f.count in let size = length-append vs (v ∷ []) in omega (arith, a, b, size));
-          paid = λ j paid. elim (paid_split vs v j paid) [
-            | inl old ↦ q.2.paid j (or_left (p.paid j) (writing v.access && v.time == j) (f.paid j old))
-            | inr new ↦ q.2.paid j (or_right (p.paid j) (writing v.access && v.time == j) (both (writing v.access) (v.time == j) new.0 (eq-eqb v.time j new.1)))
+          paid = λ j small paid. elim (paid_split vs v j paid) [
+            | inl old ↦ q.2.paid j small (or_left (p.paid j) (writing v.access && v.time == j) (f.paid j small old))
+            | inr new ↦ q.2.paid j small (or_right (p.paid j) (writing v.access && v.time == j) (both (writing v.access) (v.time == j) new.0 (eq-eqb v.time j new.1)))
           ];
           next = q.2.next ∙ f.next;
         },
       )
 
-  along : (a : RunState) (us : List Move) (next : Option Stored) → (p : Place) → Contains ps p → ForRun p us a next → (vs : List Move) (c : RunState) →
+  along : (a : RunState) (us : List Move) (next : Option Stored) → (p : Place) → Contains ps p → ForRun m p us a next → (vs : List Move) (c : RunState) →
       Runs image h m (opening_bytes image) a vs c →
-      length us + length vs ≤ k → (q : Place) × Contains ps q × ForRun q (us ++ vs) c next
-  along a us next p there f _ _ (runs-none _) short = (p, there, subst (λ (ws : List Move). ForRun p ws a next) (sym (append-nil us)) f)
+      length us + length vs ≤ k → (q : Place) × Contains ps q × ForRun m q (us ++ vs) c next
+  along a us next p there f _ _ (runs-none _) short = (p, there, subst (λ (ws : List Move). ForRun m p ws a next) (sym (append-nil us)) f)
   along a us next p there f _ _ (runs-more _ c vs v r at doing stand) short =
       let size = length-append vs (v ∷ []) in
       let joined = length-append us vs in
       let q = along a us next p there f vs c r (omega (arith, short, size)) in
       let w = one_more (us ++ vs) c v next (omega (arith, short, size, joined)) at doing stand q.0 q.1 q.2 in
-      (w.0, w.1, subst (λ (ws : List Move). ForRun w.0 ws (moved h m c v) next) (append_assoc us vs (v ∷ [])) w.2)
+      (w.0, w.1, subst (λ (ws : List Move). ForRun m w.0 ws (moved h m c v) next) (append_assoc us vs (v ∷ [])) w.2)
 
-  first_for : (q : Place) × Contains ps q × ForRun q [] (run_start start) None
+  first_for : (q : Place) × Contains ps q × ForRun m q [] (run_start start) None
   first_for =
       let b = walked.begins in
-      (b.0, b.1, record { state = b.2.state; count = b.2.count; paid = λ j p. absurd (let l = p.1.1 in omega (arith, l)); next = b.2.next })
+      (b.0, b.1, record { state = b.2.state; count = b.2.count; paid = λ j small p. absurd (let l = p.1.1 in omega (arith, l)); next = b.2.next })
 
-  pub from_start : (vs : List Move) (c : RunState) → Runs image h m (opening_bytes image) (run_start start) vs c → length vs ≤ k → (q : Place) × Contains ps q × ForRun q vs c None
+  pub from_start : (vs : List Move) (c : RunState) → Runs image h m (opening_bytes image) (run_start start) vs c → length vs ≤ k → (q : Place) × Contains ps q × ForRun m q vs c None
   from_start vs c r short = let b = first_for in along (run_start start) [] None b.0 b.1 b.2 vs c r (omega (arith, short))
 
-  pub offered_place : (s : Stored) → IsOffered k image h m (opening_bytes image) start s → (q : Place) × Contains ps q × (q.next ≡ Some s) × IsPaid h m q
-  offered_place s o =
+  pub offered_all : (s : Stored) → IsOffered k image h m (opening_bytes image) start s → Contains offered s
+  offered_all s o =
       let joined = length-append o.before o.rest in
       let short = o.short in
       let p = from_start o.before o.at o.leads (omega (arith, joined, short)) in
       let offers = (lower_do_as_much image h m (opening_bytes image) p.0.state o.at p.2.state).1 s o.offers in
-      let w = walked.offers p.0 s p.1 p.2.next offers in
-      let chosen : ForRun w.0 o.before o.at (Some s) = record {
-        state = lower_on w.0.state p.0.state o.at w.2.state p.2.state;
-        count = (let a = w.2.count in let b = p.2.count in omega (arith, a, b));
-        paid = λ j paid. w.2.paid j (p.2.paid j paid);
-        next = w.2.next;
-      } in
-      let q = along o.at o.before (Some s) w.0 w.1 chosen o.rest o.state o.runs (omega (arith, joined, short)) in
-      (q.0, q.1, q.2.next, λ j l here. q.2.paid j (let t = o.pays j l here in (t.0, t.1, t.2, t.3)))
+      elim (walked.offers p.0 s p.1 p.2.next offers) [
+        | inl here ↦ here
+        | inr w ↦
+            let chosen : ForRun m w.0 o.before o.at (Some s) = record {
+              state = lower_on w.0.state p.0.state o.at w.2.state p.2.state;
+              count = (let a = w.2.count in let b = p.2.count in omega (arith, a, b));
+              paid = λ j small paid. w.2.paid j small (p.2.paid j small paid);
+              next = w.2.next;
+            } in
+            let q = along o.at o.before (Some s) w.0 w.1 chosen o.rest o.state o.runs (omega (arith, joined, short)) in
+            walked.grows q.0 s q.1 q.2.next (λ j l here. q.2.paid j l (let t = o.pays j l here in (t.0, t.1, t.2, t.3)))
+      ]
+
+-- ---- lists that are among others, as a test
+
+same_store : Stored → Stored → Bool
+same_store s u = s.hart == u.hart && (s.address == u.address && (s.bytes == u.bytes && s.number == u.number))
+
+same_list : List Stored → List Stored → Bool
+same_list [] [] = true
+same_list (s ∷ m) (u ∷ n) = same_store s u && same_list m n
+same_list [] (u ∷ n) = false
+same_list (s ∷ m) [] = false
+
+is_listed : List (List Stored) → List Stored → Bool
+is_listed [] m = false
+is_listed (n ∷ ns) m = same_list n m || is_listed ns m
+
+abbrev stored : ℕ → ℕ → ℕ → ℕ → Stored
+stored h a m p = record { hart = h; address = a; bytes = m; number = p }
+
+stores_equal : (h i a b m n p q : ℕ) → h ≡ i → a ≡ b → m ≡ n → p ≡ q →
+    stored h a m p ≡ stored i b n q
+stores_equal h i a b m n p q e f g k = cc
+
+store_self : (s : Stored) → same_store s s ≡ true
+unfolding same_store
+store_self s =
+    both (s.hart == s.hart) (s.address == s.address && (s.bytes == s.bytes && s.number == s.number)) (eq-eqb s.hart s.hart refl)
+    (both (s.address == s.address) (s.bytes == s.bytes && s.number == s.number) (eq-eqb s.address s.address refl)
+    (both (s.bytes == s.bytes) (s.number == s.number) (eq-eqb s.bytes s.bytes refl) (eq-eqb s.number s.number refl)))
+
+store_same : (s u : Stored) → same_store s u ≡ true → s ≡ u
+unfolding same_store
+store_same s u e =
+    let hart = and_parts (s.hart == u.hart) (s.address == u.address && (s.bytes == u.bytes && s.number == u.number)) e in
+    let address = and_parts (s.address == u.address) (s.bytes == u.bytes && s.number == u.number) hart.1 in
+    let rest = and_parts (s.bytes == u.bytes) (s.number == u.number) address.1 in
+    let a : s.hart ≡ u.hart = eqb-true s.hart u.hart hart.0 in
+    let b : s.address ≡ u.address = eqb-true s.address u.address address.0 in
+    let c : s.bytes ≡ u.bytes = eqb-true s.bytes u.bytes rest.0 in
+    let d : s.number ≡ u.number = eqb-true s.number u.number rest.1 in
+    stores_equal s.hart u.hart s.address u.address s.bytes u.bytes s.number u.number a b c d
+
+list_self : (m : List Stored) → same_list m m ≡ true
+unfolding same_list
+list_self [] = refl
+list_self (s ∷ m) = both (same_store s s) (same_list m m) (store_self s) (list_self m)
+
+list_same : (m n : List Stored) → same_list m n ≡ true → m ≡ n
+unfolding same_list
+list_same [] [] e = refl
+list_same (s ∷ m) (u ∷ n) e =
+    let parts = and_parts (same_store s u) (same_list m n) e in
+    let first : s ≡ u = store_same s u parts.0 in
+    let rest : m ≡ n = list_same m n parts.1 in
+    cc
+list_same [] (u ∷ n) e = absurd (cc)
+list_same (s ∷ m) [] e = absurd (cc)
+
+listed_at : (ns : List (List Stored)) (m : List Stored) (k : ℕ) → k < length ns → get_or ns k m ≡ m → is_listed ns m ≡ true
+unfolding is_listed
+listed_at [] m k l e = absurd (omega (arith, l))
+listed_at (n ∷ ns) m zero l e = or_left (same_list n m) (is_listed ns m) (subst (λ (x : List Stored). same_list n x ≡ true) e (list_self n))
+listed_at (n ∷ ns) m (suc k) l e = or_right (same_list n m) (is_listed ns m) (listed_at ns m k (omega (arith, l)) e)
+
+listed : (ns : List (List Stored)) (m : List Stored) → Contains ns m → is_listed ns m ≡ true
+listed ns m c = listed_at ns m c.0 c.1 c.2
+
+unlisted : (ns : List (List Stored)) (m : List Stored) → is_listed ns m ≡ true → Contains ns m
+unfolding is_listed
+unlisted [] m e = absurd (cc)
+unlisted (n ∷ ns) m e = elim (or_cases (same_list n m) (is_listed ns m) e) [
+  | inl here ↦ (0, omega arith, list_same n m here)
+  | inr there ↦ let c = unlisted ns m there in let l = c.1 in (suc c.0, omega (arith, l), c.2)
+]
 
 -- ---- together
 
@@ -170,36 +249,89 @@ halts_low image a b stop l x = record {
 open_low : (image : Memory) (a b : RunState) → IsLower a b → IsOpenCall image b → IsOpenCall image a
 open_low image a b l o = (ap (decoded image) l.pc ∙ o.0, ap (λ (x : List (Option ℕ)). view x 17) l.registers ∙ o.1)
 
-module _ (k : ℕ) (image : Memory) (hs : List Hart) (is_node : List Stored → Bool) (places : List Stored → ℕ → List Place) (walked : AreWalked k image hs is_node places) where
-  closed : IsClosed k image hs is_node
+ends_low : (image : Memory) (h : ℕ) (m : List Stored) (p : Place) (vs : List Move) (a : RunState) (stop : Stop) (output : List ℕ) → ForRun m p vs a None → Pays h m vs →
+    KnowsRegisters a → Halts image a stop → a.output ≡ map (λ (n : ℕ). Some n) output → EndsAt image h m p (record { stop = stop; output = output })
+ends_low image h m p vs a stop output f pays knows halts puts = record {
+  pays = λ j l here. f.paid j l (let t = pays j l here in (t.0, t.1, t.2, t.3));
+  knows = knows_low p.state a f.state knows;
+  halts = halts_low image p.state a stop f.state halts;
+  puts = f.state.output ∙ puts;
+}
+
+abbrev ending_of_parts : List (Option Stop) → List (List ℕ) → List (List ℕ) → Ending
+ending_of_parts ss os seen = record { stops = ss; outputs = os; seen = seen }
+
+each_more : (w : List HartEnding) (ws : List (List HartEnding)) (e : HartEnding) (es : List HartEnding) → Contains w e → AreEndsOf ws es →
+    (h : ℕ) (d : HartEnding) → h < length (w ∷ ws) → Contains (get_or (w ∷ ws) h []) (get_or (e ∷ es) h d)
+each_more w ws e es here rest zero d l = here
+each_more w ws e es here rest (suc h) d l = rest.each h d (omega (arith, l))
+
+endings_equal : (ss ts : List (Option Stop)) (os ps seen : List (List ℕ)) → ss ≡ ts → os ≡ ps →
+    ending_of_parts ss os seen ≡ ending_of_parts ts ps seen
+endings_equal ss ts os ps seen e f = cc
+
+-- ends that there are, one of each hart, as a list
+choice : (n : ℕ) (ways : List (List HartEnding)) (stops : List (Option Stop)) (outputs : List (List ℕ)) → length ways ≡ n → length stops ≡ n → length outputs ≡ n →
+    ((h : ℕ) → h < n → (e : HartEnding) × Contains (get_or ways h []) e × (get_or stops h None ≡ Some e.stop) × (get_or outputs h [] ≡ e.output)) →
+    (es : List HartEnding) × AreEndsOf ways es × (map (λ (e : HartEnding). Some e.stop) es ≡ stops) × (map (λ (e : HartEnding). e.output) es ≡ outputs)
+choice _ [] [] [] _ _ _ f = ([], record { as_many = refl; each = λ h d l. absurd (omega (arith, l)) }, refl, refl)
+choice n [] (s ∷ ss) os e f g at = absurd (cc (e, f))
+choice n [] [] (o ∷ os) e f g at = absurd (cc (e, g))
+choice n (w ∷ ws) [] os e f g at = absurd (cc (e, f))
+choice n (w ∷ ws) (s ∷ ss) [] e f g at = absurd (cc (e, g))
+choice n (w ∷ ws) (s ∷ ss) (o ∷ os) e f g at =
+    let first = at zero (let k : suc (length ws) ≡ n = e in omega (arith, k)) in
+    let rest = choice (length ws) ws ss os refl (let k : suc (length ws) ≡ n = e in let l : suc (length ss) ≡ n = f in omega (arith, k, l))
+    (let k : suc (length ws) ≡ n = e in let l : suc (length os) ≡ n = g in omega (arith, k, l))
+    (λ h l. at (suc h) (let k : suc (length ws) ≡ n = e in omega (arith, k, l))) in (
+      first.0 ∷ rest.0,
+      record { as_many = ap (λ (i : ℕ). suc i) rest.1.as_many; each = each_more w ws first.0 rest.0 first.1 rest.1 },
+      (let k = first.2 in let l = rest.2 in cc),
+      (let k = first.3 in let l = rest.3 in cc),
+    )
+
+module _ (k : ℕ) (image : Memory) (hs : List Hart) (see : List Range) (nodes : List (List Stored)) (table : List Ending) (begins : Contains nodes [])
+    (looked : (m : List Stored) → Contains nodes m → IsLookedThrough k image hs see nodes table m) where
+  closed : IsClosed k image hs (is_listed nodes)
   closed = record {
-    begins = walked.begins;
+    begins = listed nodes [] begins;
     grows = λ m h start s node small at o.
-        let p = offered_place k image h m start (places m h) (walked.walks m h start node small at) s o in
-        walked.grows m h p.0 s node small p.1 p.2 p.3;
+        let l = looked m (unlisted nodes m node) in
+        let w = l.walks h start small at in
+        listed nodes (m ++ s ∷ []) (l.grows h s small (offered_all k image h m start (l.offered h) (get_or l.ways h []) w.0 w.1 s o));
     calls = λ m h start node small at vs a short runs call.
-        let p = from_start k image h m start (places m h) (walked.walks m h start node small at) vs a runs short in
-        walked.calls m h p.0 node small p.1 (open_low image p.0.state a p.2.state call);
+        let l = looked m (unlisted nodes m node) in
+        let w = l.walks h start small at in
+        let p = from_start k image h m start (l.offered h) (get_or l.ways h []) w.0 w.1 vs a runs short in
+        w.1.calls p.0 p.1 (open_low image p.0.state a p.2.state call);
   }
 
-  place_ends : (m : List Stored) (h : ℕ) (start : Hart) (stop : Option Stop) (output : List ℕ) → is_node m ≡ true → h < length hs → start ≡ get_or hs h start →
-      HartEnds k image h m (opening_bytes image) start stop output → PlaceEnds image h m (places m h) stop output
-  place_ends m h start stop output node small at e =
-      let p = from_start k image h m start (places m h) (walked.walks m h start node small at) e.moves e.state e.runs e.short in record {
-        place = p.0;
-        there = p.1;
-        pays = λ j l here. p.2.paid j (let t = e.pays j l here in (t.0, t.1, t.2, t.3));
-        knows = knows_low p.0.state e.state p.2.state e.knows;
-        reason = e.reason;
-        stops = e.stops;
-        halts = halts_low image p.0.state e.state e.reason p.2.state e.halts;
-        puts = p.2.state.output ∙ e.puts;
-      }
+  module _ (m : List Stored) (node : Contains nodes m) where
+    end_at : (stops : List (Option Stop)) (outputs : List (List ℕ)) → HartsEnd k image hs m stops outputs → (h : ℕ) → h < length hs →
+        (e : HartEnding) × Contains (get_or (looked m node).ways h []) e × (get_or stops h None ≡ Some e.stop) × (get_or outputs h [] ≡ e.output)
+    end_at stops outputs ends h small =
+        let l = looked m node in
+        let start = hart_in hs h small in
+        let e = ends.each h start.0 small start.1 in
+        let w = l.walks h start.0 small start.1 in
+        let p = from_start k image h m start.0 (l.offered h) (get_or l.ways h []) w.0 w.1 e.moves e.state e.runs e.short in (
+          record { stop = e.reason; output = get_or outputs h [] },
+          w.1.endings p.0 (record { stop = e.reason; output = get_or outputs h [] }) p.1
+              (ends_low image h m p.0 e.moves e.state e.reason (get_or outputs h []) p.2 e.pays e.knows e.halts e.puts),
+          e.stops,
+          refl,
+        )
 
-  has_endings : (see : List Range) (table : List Ending) → HasPlaceEndings image hs see is_node places table → HasEndings k image hs see is_node table
-  has_endings see table has m stops outputs node ends = has m stops outputs node ends.as_many_stops ends.as_many_outputs
-      (λ h small. let start = hart_in hs h small in place_ends m h start.0 (get_or stops h None) (get_or outputs h []) node small start.1 (ends.each h start.0 small start.1))
+    has_ending : (stops : List (Option Stop)) (outputs : List (List ℕ)) → HartsEnd k image hs m stops outputs →
+        Contains table (record { stops = stops; outputs = outputs; seen = seen_after image see m })
+    has_ending stops outputs ends =
+        let l = looked m node in
+        let c = choice (length hs) l.ways stops outputs l.as_many ends.as_many_stops ends.as_many_outputs (end_at stops outputs ends) in
+        subst (λ (e : Ending). Contains table e) (endings_equal _ stops _ outputs (seen_after image see m) c.2 c.3) (l.has c.0 c.1)
+
+  has_endings : HasEndings k image hs see (is_listed nodes) table
+  has_endings m stops outputs node ends = has_ending m (unlisted nodes m node) stops outputs ends
 
 pub walked_whole : WalkedTablesAreWhole
-walked_whole k image hs c see is_node places table fresh enough walked has =
-    tables_whole k image hs c see is_node table fresh enough (closed k image hs is_node places walked) (has_endings k image hs is_node places walked see table has)
+walked_whole k image hs c see nodes table fresh enough begins looked =
+    tables_whole k image hs c see (is_listed nodes) table fresh enough (closed k image hs see nodes table begins looked) (has_endings k image hs see nodes table begins looked)

@@ -2,6 +2,7 @@
 use Rattle.std.specs.Prelude.{◌≡◌, ℕ, ◌≤◌, true, List, length}
 use Rattle.round_schedule.specs.Accesses.{loads}
 use Rattle.round_schedule.specs.Accesses.{stores as writing}
+use Rattle.memory_order.specs.Operations.{covers}
 use Rattle.memory_order.specs.Registers.{registers_of}
 use Rattle.rule_checker.specs.CarriedBounds.{AreRegisters}
 use Rattle.all_endings.specs.Locality.{set_view}
@@ -17,7 +18,7 @@ pub record IsNoLater (m : List Stored) (a : RunState) (v w : Move) : Type 0 wher
   pub next : v.next ≡ w.next
   pub registers : set_view a.registers (answers_to v.instruction) v.result ≡ set_view a.registers (answers_to v.instruction) w.result
   pub time : operates v ≡ true → behind m v ≤ behind m w
-  pub source : loads v.access ≡ true → (x : ℕ) → v.source x ≡ w.source x
+  pub source : loads v.access ≡ true → (x : ℕ) → covers v.access x ≡ true → v.source x ≡ w.source x
   pub place : writing v.access ≡ true → behind m v ≡ behind m w
   pub written : writing v.access ≡ true → v.written ≡ w.written
 

@@ -1,6 +1,7 @@
 -- States with lower bounds: what a state can do, each lower one can.
-use Rattle.std.specs.Prelude.{◌≡◌, ℕ, ◌<◌, ◌≤◌, List, length, Option, Some, None}
-use Rattle.pages.specs.Memory.{Memory}
+use Rattle.std.specs.Prelude.{◌≡◌, ℕ, ◌<◌, ◌≤◌, Bool, true, false, List, length, Option, Some, None}
+use Rattle.pages.specs.Memory.{Memory, in_range, width_bytes}
+use Rattle.round_schedule.specs.declared.span.Span.{Span}
 use Rattle.hart_step.specs.Registers.{reg}
 use Rattle.rule_checker.specs.declared.annotated.KindBounds.{KindBounds}
 use Rattle.rule_checker.specs.declared.carried.Carried.{Carried}
@@ -33,7 +34,13 @@ pub data OwnAtMost : Option OwnByte → Option OwnByte → Type 0 where
   own-none : OwnAtMost None None
   own-both : (o p : OwnByte) → o.place ≡ p.place → o.byte ≡ p.byte → o.atomic ≡ p.atomic → o.needs ≤ p.needs → OwnAtMost (Some o) (Some p)
 
--- a state is lower than another: all its bounds are at most the other's, and what isn't a bound is the same
+-- the byte at an address is one of the reservation's
+abbrev pub is_held : Option Span → ℕ → Bool
+is_held None x = false
+is_held (Some s) x = in_range s.address (width_bytes s.width) x
+
+-- a state is lower than another: all its bounds are at most the other's, and what isn't a bound is the same. Of the sources those of the
+-- reservation's bytes count
 pub record IsLower (a b : RunState) : Type 0 where
   pub pc : a.pc ≡ b.pc
   pub registers : a.registers ≡ b.registers
@@ -44,7 +51,7 @@ pub record IsLower (a b : RunState) : Type 0 where
   pub own : (x : ℕ) → OwnAtMost (a.own x) (b.own x)
   pub held : a.held ≡ b.held
   pub reserved : a.reserved ≤ b.reserved
-  pub sources : (x : ℕ) → b.sources x ≤ a.sources x
+  pub sources : (x : ℕ) → is_held b.held x ≡ true → b.sources x ≤ a.sources x
   pub output : a.output ≡ b.output
 
 -- a run from a state is one from each lower one, to a lower one; and what is offered there is offered here

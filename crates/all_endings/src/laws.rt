@@ -109,8 +109,9 @@ pub fn lower_states_do_as_much()
     ensures { LowerStatesDoAsMuch }
 {}
 
-/// If places of the harts' runs cover what each move of each of them leads to, and a table has the endings to which places lead, then it has
-/// the ending of every execution that RVWMO allows of at most so many instructions a hart.
+/// If in each of some lists places of the harts' runs cover what each move of each of them leads to, with a list stand those that it can be
+/// followed by, and a table has the endings to which places lead, then it has the ending of every execution that RVWMO allows of at most so
+/// many instructions a hart.
 pub fn walked_tables_are_whole()
     ensures { WalkedTablesAreWhole }
 {}
