@@ -41,7 +41,7 @@ own_on _ _ q (own-both o p place byte atomic needs) r = by_other q r
 at_most : (u v w : ℕ) → u ≤ v → v ≤ w → u ≤ w
 at_most u v w l m = omega (arith, l, m)
 
-lower_on : (a b c : RunState) → IsLower a b → IsLower b c → IsLower a c
+pub lower_on : (a b c : RunState) → IsLower a b → IsLower b c → IsLower a c
 lower_on a b c l m = record {
   pc = l.pc ∙ m.pc;
   registers = l.registers ∙ m.registers;
