@@ -143,7 +143,7 @@ own_self : (o : Option OwnByte) → OwnAtMost o o
 own_self None = own-none
 own_self (Some o) = own-both o o refl refl refl (omega arith)
 
-lower_self : (a : RunState) → length a.carried.registers ≡ 32 → IsLower a a
+pub lower_self : (a : RunState) → length a.carried.registers ≡ 32 → IsLower a a
 lower_self a size = record {
   pc = refl;
   registers = refl;
