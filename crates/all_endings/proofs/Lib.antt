@@ -1,32 +1,32 @@
 mod Bare
 mod Blocking
-mod Closing
-mod DecodedRegisters
-mod Determined
+pub mod Closing
+pub mod DecodedRegisters
+pub mod Determined
 mod Earlier
 mod Effects
 mod Endings
-mod Factors
+pub mod Factors
 mod Following
 mod Halting
 mod Judging
 mod LoadMoves
-mod Locality
-mod Lowering
+pub mod Locality
+pub mod Lowering
 mod Memories
-mod Moves
+pub mod Moves
 mod Offers
 mod OwnSteps
 mod Pairs
-mod PlainMoves
+pub mod PlainMoves
 mod Seen
-mod SourceRegisters
-mod Sources
+pub mod SourceRegisters
+pub mod Sources
 mod Starting
 mod StepTimes
 mod Stopping
 mod StoreLists
 mod StoreMoves
-mod Tables
-mod Times
-mod Walking
+pub mod Tables
+pub mod Times
+pub mod Walking

@@ -301,7 +301,7 @@ filled_at [] r n e = cc
 filled_at (o ∷ v) zero n e = ap (λ p. unwrap_or p 0) e
 filled_at (o ∷ v) (suc r) n e = filled_at v r n e
 
-filled_refines : (v : List (Option ℕ)) → Refines v (filled v)
+pub filled_refines : (v : List (Option ℕ)) → Refines v (filled v)
 filled_refines v r n e = by_test (r == 0) e
   where
     by_test : (b : Bool) → (if b then Some 0 else get_or v r None) ≡ Some n → (if b then 0 else get_or (filled v) r 0) ≡ n
@@ -334,7 +334,7 @@ not_both m o p q =
     let b : is_some o ≡ true = ap (λ x. is_some x) q in
     cc
 
-past_end : (w : List (Option ℕ)) (j : ℕ) → length w ≤ j → get_or w j None ≡ None
+pub past_end : (w : List (Option ℕ)) (j : ℕ) → length w ≤ j → get_or w j None ≡ None
 past_end [] j l = refl
 past_end (a ∷ w) zero l = absurd (omega (arith, l))
 past_end (a ∷ w) (suc j) l = past_end w j (omega (arith, l))

@@ -33,7 +33,7 @@ use Rattle.all_endings.proofs.SourceRegisters.{all_known, fits, none_known, regi
 use Rattle.all_endings.proofs.StepTimes.{behind_other}
 
 -- whether an action puts a number into a register, and whether it is a call: of an instruction, whatever registers hold
-abbrev is_put : Action → Bool
+abbrev pub is_put : Action → Bool
 is_put (Put rd v) = true
 is_put _ = false
 
@@ -41,11 +41,11 @@ abbrev is_call : Action → Bool
 is_call Call = true
 is_call _ = false
 
-puts_alike : (instr : Instr) (x y : List ℕ) (pc qc : ℕ) → is_put (action instr x pc) ≡ is_put (action instr y qc)
+pub puts_alike : (instr : Instr) (x y : List ℕ) (pc qc : ℕ) → is_put (action instr x pc) ≡ is_put (action instr y qc)
 puts_alike Ecall x y pc qc = refl
 puts_alike _ x y pc qc = refl
 
-put_of : (b : Action) → is_put b ≡ true → (rd : ℕ) × (n : ℕ) × (b ≡ Put rd n)
+pub put_of : (b : Action) → is_put b ≡ true → (rd : ℕ) × (n : ℕ) × (b ≡ Put rd n)
 put_of (Put rd n) e = (rd, n, refl)
 put_of _ e = absurd (cc)
 

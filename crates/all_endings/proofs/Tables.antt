@@ -1,5 +1,5 @@
 -- Closed lists leave the ending of every execution in a table.
-use Rattle.std.proofs.Common.{◌≡◌, ℕ, zero, suc, ◌+◌, ◌*◌, ◌<◌, ◌≤◌, ◌⊎◌, Bool, true, false, List, [], ◌∷◌, length, map, get_or, Contains, Option, Some, None, is_some, refl, sym, ap, ◌∙◌, subst, inl, inr, arith}
+use Rattle.std.proofs.Common.{◌≡◌, ℕ, zero, suc, ◌+◌, ◌*◌, ◌<◌, ◌≤◌, ◌==◌, ◌&&◌, ◌⊎◌, max, Bool, true, false, if◌then◌else◌, List, [], ◌∷◌, length, map, get_or, Contains, Option, Some, None, is_some, refl, sym, ap, ◌∙◌, subst, inl, inr, arith}
 use Rattle.std.proofs.lemmas.List.{length-map, length-take, take_all}
 use Rattle.pages.specs.declared.access.Range.{Range}
 use Rattle.pages.specs.Memory.{Memory}
@@ -8,6 +8,8 @@ use Rattle.round_schedule.specs.Positions.{event}
 use Rattle.hart_step.specs.declared.hart.Hart.{Hart}
 use Rattle.hart_step.specs.declared.hart.Stop.{Stop}
 use Rattle.hart_step.specs.Console.{ConsoleState, output_room}
+use Rattle.memory_order.specs.Operations.{covers, is_operation}
+use Rattle.memory_order.specs.Orders.{order_position}
 use Rattle.memory_order.specs.Registers.{registers_of}
 use Rattle.memory_order.proofs.Facts.{store_is_operation, within}
 use Rattle.execution.specs.Executions.{Executes, Standing}
@@ -21,11 +23,11 @@ use Rattle.all_endings.specs.Offering.{AreFresh, AreShort, IsClosed}
 use Rattle.all_endings.specs.RunStates.{RunState}
 use Rattle.all_endings.specs.StoreLists.{Stored, all_stores, stores_of}
 use Rattle.all_endings.specs.Tables.{ClosedTablesAreWhole, HartEnds, HartsEnd, memory_of}
-use Rattle.all_endings.specs.Times.{stores_before, timed}
+use Rattle.all_endings.specs.Times.{stores_before, timed, touched_before}
 use Rattle.all_endings.proofs.Closing.{has_room, moves_few, nodes_all, pays_all, stores_counted}
 use Rattle.all_endings.proofs.DecodedRegisters.{all_registers_are, decoded_fits}
 use Rattle.all_endings.proofs.Factors.{Total, all_along, harts_stay, knows_all, the}
-use Rattle.all_endings.proofs.Following.{Setting}
+use Rattle.all_endings.proofs.Following.{Setting, after}
 use Rattle.all_endings.proofs.Memories.{memories_same}
 
 -- ---- no store is behind all
@@ -37,6 +39,16 @@ before_all t (a ∷ g) (suc p) = let r = before_all t g p in omega (arith, r)
 
 none_later : (t : List Event) (g : List ℕ) (p : ℕ) → timed (length (all_stores t g)) t g p ≤ length (all_stores t g)
 none_later t g p = let b = before_all t g p in let c = stores_counted t g in omega (arith, b, c)
+
+touched_early : (s : Setting) (h x : ℕ) → Total s → (i : ℕ) → touched_before (after s) s.t h x i ≤ s.n
+touched_early s h x total zero = omega arith
+touched_early s h x total (suc i) =
+    raised_early (h == (event s.t i).hart && (is_operation (event s.t i) && covers (event s.t i).access x)) (touched_early s h x total i) (total (order_position s.g i + 1))
+  where
+    raised_early : (c : Bool) → touched_before (after s) s.t h x i ≤ s.n → after s i ≤ s.n →
+        (if c then max (touched_before (after s) s.t h x i) (after s i) else touched_before (after s) s.t h x i) ≤ s.n
+    raised_early true l k = omega (arith, l, k)
+    raised_early false l k = l
 
 -- ---- what is known isn't unknown
 
@@ -147,6 +159,7 @@ module _ (k : ℕ) (image : Memory) (hs : List Hart) (c : ConsoleState) (is_node
                 (λ b l wh wet. let p = within q.events b (store_is_operation (event q.events b) wet) in absurd (omega (arith, l, p)));
             short = few;
             knows = knows_all s h (length q.events) _ w.state _ w.follows total;
+            settled = λ x. let t = w.follows.touched x in let l = touched_early s h x total (length q.events) in omega (arith, t, l, many);
             reason = stops.0;
             stops = stop_is ∙ stops.1;
             halts = stops.2;

@@ -22,7 +22,7 @@ use Rattle.all_endings.specs.Lowering.{IsLower, OwnAtMost, is_held, own-both, ow
 use Rattle.all_endings.specs.Offering.{IsClosed, IsOffered, Pays}
 use Rattle.all_endings.specs.RunStates.{Move, OwnByte, RunState, moved, run_start, operates}
 use Rattle.all_endings.specs.StoreLists.{Stored}
-use Rattle.all_endings.specs.Tables.{HartsEnd, HasEndings}
+use Rattle.all_endings.specs.Tables.{HartsEnd, HasEndings, IsSettled}
 use Rattle.all_endings.specs.Walking.{AreEndsOf, EndsAt, HartEnding, IsLookedThrough, IsWalked, Place, WalkedTablesAreWhole, seen_after}
 use Rattle.all_endings.proofs.DecodedRegisters.{decoded_fits}
 use Rattle.all_endings.proofs.Factors.{Paid}
@@ -164,7 +164,7 @@ same_list (s ∷ m) (u ∷ n) = same_store s u && same_list m n
 same_list [] (u ∷ n) = false
 same_list (s ∷ m) [] = false
 
-is_listed : List (List Stored) → List Stored → Bool
+pub is_listed : List (List Stored) → List Stored → Bool
 is_listed [] m = false
 is_listed (n ∷ ns) m = same_list n m || is_listed ns m
 
@@ -216,10 +216,10 @@ listed_at [] m k l e = absurd (omega (arith, l))
 listed_at (n ∷ ns) m zero l e = or_left (same_list n m) (is_listed ns m) (subst (λ (x : List Stored). same_list n x ≡ true) e (list_self n))
 listed_at (n ∷ ns) m (suc k) l e = or_right (same_list n m) (is_listed ns m) (listed_at ns m k (omega (arith, l)) e)
 
-listed : (ns : List (List Stored)) (m : List Stored) → Contains ns m → is_listed ns m ≡ true
+pub listed : (ns : List (List Stored)) (m : List Stored) → Contains ns m → is_listed ns m ≡ true
 listed ns m c = listed_at ns m c.0 c.1 c.2
 
-unlisted : (ns : List (List Stored)) (m : List Stored) → is_listed ns m ≡ true → Contains ns m
+pub unlisted : (ns : List (List Stored)) (m : List Stored) → is_listed ns m ≡ true → Contains ns m
 unfolding is_listed
 unlisted [] m e = absurd (cc)
 unlisted (n ∷ ns) m e = elim (or_cases (same_list n m) (is_listed ns m) e) [
@@ -250,10 +250,11 @@ open_low : (image : Memory) (a b : RunState) → IsLower a b → IsOpenCall imag
 open_low image a b l o = (ap (decoded image) l.pc ∙ o.0, ap (λ (x : List (Option ℕ)). view x 17) l.registers ∙ o.1)
 
 ends_low : (image : Memory) (h : ℕ) (m : List Stored) (p : Place) (vs : List Move) (a : RunState) (stop : Stop) (output : List ℕ) → ForRun m p vs a None → Pays h m vs →
-    KnowsRegisters a → Halts image a stop → a.output ≡ map (λ (n : ℕ). Some n) output → EndsAt image h m p (record { stop = stop; output = output })
-ends_low image h m p vs a stop output f pays knows halts puts = record {
+    KnowsRegisters a → IsSettled m a → Halts image a stop → a.output ≡ map (λ (n : ℕ). Some n) output → EndsAt image h m p (record { stop = stop; output = output })
+ends_low image h m p vs a stop output f pays knows settled halts puts = record {
   pays = λ j l here. f.paid j l (let t = pays j l here in (t.0, t.1, t.2, t.3));
   knows = knows_low p.state a f.state knows;
+  settled = λ x. at_most _ _ _ (f.state.touched x) (settled x);
   halts = halts_low image p.state a stop f.state halts;
   puts = f.state.output ∙ puts;
 }
@@ -266,12 +267,12 @@ each_more : (w : List HartEnding) (ws : List (List HartEnding)) (e : HartEnding)
 each_more w ws e es here rest zero d l = here
 each_more w ws e es here rest (suc h) d l = rest.each h d (omega (arith, l))
 
-endings_equal : (ss ts : List (Option Stop)) (os ps seen : List (List ℕ)) → ss ≡ ts → os ≡ ps →
+pub endings_equal : (ss ts : List (Option Stop)) (os ps seen : List (List ℕ)) → ss ≡ ts → os ≡ ps →
     ending_of_parts ss os seen ≡ ending_of_parts ts ps seen
 endings_equal ss ts os ps seen e f = cc
 
 -- ends that there are, one of each hart, as a list
-choice : (n : ℕ) (ways : List (List HartEnding)) (stops : List (Option Stop)) (outputs : List (List ℕ)) → length ways ≡ n → length stops ≡ n → length outputs ≡ n →
+pub choice : (n : ℕ) (ways : List (List HartEnding)) (stops : List (Option Stop)) (outputs : List (List ℕ)) → length ways ≡ n → length stops ≡ n → length outputs ≡ n →
     ((h : ℕ) → h < n → (e : HartEnding) × Contains (get_or ways h []) e × (get_or stops h None ≡ Some e.stop) × (get_or outputs h [] ≡ e.output)) →
     (es : List HartEnding) × AreEndsOf ways es × (map (λ (e : HartEnding). Some e.stop) es ≡ stops) × (map (λ (e : HartEnding). e.output) es ≡ outputs)
 choice _ [] [] [] _ _ _ f = ([], record { as_many = refl; each = λ h d l. absurd (omega (arith, l)) }, refl, refl)
@@ -317,7 +318,7 @@ module _ (k : ℕ) (image : Memory) (hs : List Hart) (see : List Range) (nodes :
         let p = from_start k image h m start.0 (l.offered h) (get_or l.ways h []) w.0 w.1 e.moves e.state e.runs e.short in (
           record { stop = e.reason; output = get_or outputs h [] },
           w.1.endings p.0 (record { stop = e.reason; output = get_or outputs h [] }) p.1
-              (ends_low image h m p.0 e.moves e.state e.reason (get_or outputs h []) p.2 e.pays e.knows e.halts e.puts),
+              (ends_low image h m p.0 e.moves e.state e.reason (get_or outputs h []) p.2 e.pays e.knows e.settled e.halts e.puts),
           e.stops,
           refl,
         )

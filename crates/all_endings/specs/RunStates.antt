@@ -110,25 +110,28 @@ abbrev pub puts_out : List (Option ℕ) → Instr → List (Option ℕ)
 puts_out v Ecall = put_byte (view v 17) (view v 10)
 puts_out v i = []
 
--- what a move of hart h leaves
-abbrev pub moved : ℕ → List Stored → RunState → Move → RunState
-moved h m a v = record {
+-- what a move of hart h leaves, where this is the time behind it
+abbrev pub moved_at : ℕ → ℕ → RunState → Move → RunState
+moved_at h after a v = record {
   pc = v.next;
   registers = set_view a.registers (answers_to v.instruction) v.result;
-  kinds = kinds_after a.kinds v.access (operates v) (behind m v);
-  carried = carried_after a.carried (registers_of v.instruction) (step_event h (Some v.access)) (behind m v);
-  touched = λ x. if operates v && covers v.access x then max (a.touched x) (behind m v) else a.touched x;
+  kinds = kinds_after a.kinds v.access (operates v) after;
+  carried = carried_after a.carried (registers_of v.instruction) (step_event h (Some v.access)) after;
+  touched = λ x. if operates v && covers v.access x then max (a.touched x) after else a.touched x;
   seen = λ x. if loads v.access && covers v.access x then max (a.seen x) (v.source x) else a.seen x;
   own = λ x. if writes v.access x
       then Some (record {
-        place = behind m v;
+        place = after;
         byte = option_map (λ n. byte_of n (x - address_of v.access)) v.written;
         atomic = is_amo v.access || is_sc v.access;
         needs = operand_bound a.carried (registers_of v.instruction);
       })
       else a.own x;
   held = held_after_own v.access a.held;
-  reserved = (if is_lr v.access then behind m v else a.reserved);
+  reserved = (if is_lr v.access then after else a.reserved);
   sources = (if is_lr v.access then v.source else a.sources);
   output = a.output ++ puts_out a.registers v.instruction;
 }
+
+abbrev pub moved : ℕ → List Stored → RunState → Move → RunState
+moved h m a v = moved_at h (behind m v) a v

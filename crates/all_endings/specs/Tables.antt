@@ -16,8 +16,12 @@ use Rattle.all_endings.specs.StoreLists.{Stored, byte_at, last_place}
 abbrev pub memory_of : List Stored → (ℕ → ℕ) → ℕ → ℕ
 memory_of m opening x = byte_at m opening x (last_place m x (length m))
 
--- hart h, which begins as start, has a run of at most k instructions that does all its stores of the list, and in which nothing is unknown:
--- it stops so, and has put this out
+-- nothing that a run did is LATER
+abbrev pub IsSettled : List Stored → RunState → Type 0
+IsSettled m a = (x : ℕ) → a.touched x ≤ length m
+
+-- hart h, which begins as start, has a run of at most k instructions that does all its stores of the list, and in which nothing is unknown
+-- or LATER: it stops so, and has put this out
 pub record HartEnds (k : ℕ) (image : Memory) (h : ℕ) (m : List Stored) (opening : ℕ → ℕ) (start : Hart) (stop : Option Stop) (output : List ℕ) : Type 0 where
   pub moves : List Move
   pub state : RunState
@@ -25,6 +29,7 @@ pub record HartEnds (k : ℕ) (image : Memory) (h : ℕ) (m : List Stored) (open
   pub pays : Pays h m moves
   pub short : length moves ≤ k
   pub knows : KnowsRegisters state
+  pub settled : IsSettled m state
   pub reason : Stop
   pub stops : stop ≡ Some reason
   pub halts : Halts image state reason

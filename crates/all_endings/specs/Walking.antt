@@ -15,7 +15,7 @@ use Rattle.all_endings.specs.Lowering.{IsLower}
 use Rattle.all_endings.specs.Offering.{AreFresh, Offers}
 use Rattle.all_endings.specs.RunStates.{Move, RunState, moved, operates, run_start}
 use Rattle.all_endings.specs.StoreLists.{Stored, no_store}
-use Rattle.all_endings.specs.Tables.{memory_of}
+use Rattle.all_endings.specs.Tables.{IsSettled, memory_of}
 
 -- where a run of a hart is: its state, how many instructions it did, which stores of the list, and the store that comes next, if it was offered one
 pub record Place : Type 0 where
@@ -57,10 +57,11 @@ pub record HartEnding : Type 0 where
   pub stop : Stop
   pub output : List ℕ
 
--- hart h, which owes nothing and of which nothing is unknown, ends so at a place
+-- hart h, which owes nothing and of which nothing is unknown or LATER, ends so at a place
 pub record EndsAt (image : Memory) (h : ℕ) (m : List Stored) (p : Place) (e : HartEnding) : Type 0 where
   pub pays : IsPaid h m p
   pub knows : KnowsRegisters p.state
+  pub settled : IsSettled m p.state
   pub halts : Halts image p.state e.stop
   pub puts : p.state.output ≡ map (λ n. Some n) e.output
 
@@ -94,14 +95,18 @@ ending_with es seen = record { stops = map (λ (e : HartEnding). Some e.stop) es
 abbrev pub seen_after : Memory → List Range → List Stored → List (List ℕ)
 seen_after image see m = map (λ (r : Range). bytes_from (memory_of m (opening_bytes image)) r.start r.len) see
 
--- a list is looked through: each hart is walked, the lists that it can be followed by are nodes, and a table has each ending over it
-pub record IsLookedThrough (k : ℕ) (image : Memory) (hs : List Hart) (see : List Range) (nodes : List (List Stored)) (table : List Ending) (m : List Stored) : Type 0 where
+-- a list is looked through: each hart is walked, in the sense of `Walks`, the lists that it can be followed by are nodes, and a table has each
+-- ending over it
+pub record IsLookedThroughBy (Walks : ℕ → Hart → List Stored → List HartEnding → Type 0) (image : Memory) (hs : List Hart) (see : List Range) (nodes : List (List Stored)) (table : List Ending) (m : List Stored) : Type 0 where
   pub offered : ℕ → List Stored
   pub ways : List (List HartEnding)
   pub as_many : length ways ≡ length hs
-  pub walks : (h : ℕ) (start : Hart) → h < length hs → start ≡ slice_index_or hs h start → HasWalk k image h m start (offered h) (slice_index_or ways h [])
+  pub walks : (h : ℕ) (start : Hart) → h < length hs → start ≡ slice_index_or hs h start → Walks h start (offered h) (slice_index_or ways h [])
   pub grows : (h : ℕ) (s : Stored) → h < length hs → Contains (offered h) s → Contains nodes (m ++ s ∷ [])
   pub has : (es : List HartEnding) → AreEndsOf ways es → Contains table (ending_with es (seen_after image see m))
+
+abbrev pub IsLookedThrough : ℕ → Memory → List Hart → List Range → List (List Stored) → List Ending → List Stored → Type 0
+IsLookedThrough k image hs see nodes table m = IsLookedThroughBy (λ h start offered ends. HasWalk k image h m start offered ends) image hs see nodes table m
 
 -- if the empty list is a node, and each node is looked through, the table has the ending of every execution that RVWMO allows of at most k
 -- instructions a hart
