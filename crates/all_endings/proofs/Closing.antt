@@ -1,5 +1,5 @@
 -- Closed lists have the first stores of each order that RVWMO allows.
-use Rattle.std.proofs.Common.{◌≡◌, ◌≢◌, ℕ, zero, suc, ◌+◌, ◌<◌, ◌≤◌, ◌==◌, Bool, true, false, cond, if◌then◌else◌, List, [], ◌∷◌, ◌++◌, length, map, filter, take, get_or, get_or-take, count_by, refl, sym, ap, ◌∙◌, subst, inl, inr, arith, ◌*◌, nat_lt}
+use Rattle.std.proofs.Common.{◌≡◌, ◌≢◌, ℕ, zero, suc, ◌+◌, ◌<◌, ◌≤◌, ◌==◌, ◌&&◌, max, Bool, true, false, cond, if◌then◌else◌, List, [], ◌∷◌, ◌++◌, length, map, filter, take, get_or, get_or-take, count_by, refl, sym, ap, ◌∙◌, subst, inl, inr, arith, ◌*◌, nat_lt}
 use Rattle.std.proofs.Math.Nat.{mul-suc}
 use Rattle.std.specs.List.{AllPairs}
 use Rattle.std.proofs.Math.Seq.{get_or-append_seam, take-suc}
@@ -11,7 +11,7 @@ use Rattle.round_schedule.specs.declared.event.Event.{Event}
 use Rattle.round_schedule.specs.Positions.{event, no_event}
 use Rattle.hart_step.specs.declared.hart.Hart.{Hart}
 use Rattle.hart_step.specs.Console.{ConsoleState, output_room}
-use Rattle.memory_order.specs.Operations.{is_store}
+use Rattle.memory_order.specs.Operations.{covers, is_operation, is_store}
 use Rattle.memory_order.specs.Orders.{order_position}
 use Rattle.memory_order.proofs.Facts.{store_is_operation, within}
 use Rattle.execution.specs.Executions.{Executes, Standing, begins, goes, stops}
@@ -20,15 +20,16 @@ use Rattle.execution_checker.specs.Allowed.{Allows}
 use Rattle.all_endings.specs.Endings.{opening_bytes}
 use Rattle.all_endings.specs.Factorizing.{AreMoves, moves-none, moves-other, moves-own, HasRoom}
 use Rattle.all_endings.specs.HartRuns.{Runs}
-use Rattle.all_endings.specs.Offering.{AreShort, ClosedListsHaveAll, AreFresh, IsClosed, IsOffered, Pays}
+use Rattle.all_endings.specs.Offering.{AreShort, ClosedListsHaveAll, AreFresh, IsClosed, IsOffered, MayPay, Pays}
 use Rattle.all_endings.specs.RunStates.{Move, RunState, run_start}
-use Rattle.all_endings.specs.StoreLists.{Stored, all_stores, no_store, stores_of, told}
-use Rattle.all_endings.specs.Times.{stores_before, time_of}
+use Rattle.all_endings.specs.StoreLists.{Stored, all_stores, has_byte, no_store, stores_of, told}
+use Rattle.all_endings.specs.Times.{stores_before, time_of, touched_before}
 use Rattle.all_endings.proofs.DecodedRegisters.{all_registers_are}
 use Rattle.all_endings.proofs.Factors.{SoFar, all_along, harts_stay, the}
-use Rattle.all_endings.proofs.Following.{Setting, list, time}
+use Rattle.all_endings.proofs.Following.{Setting, after, list, time}
 use Rattle.all_endings.proofs.Sources.{once_at, place_of_time}
 use Rattle.all_endings.proofs.StoreLists.{stands_at}
+use Rattle.all_endings.proofs.Times.{stand_in_time}
 
 -- ---- the stores of an order
 
@@ -209,6 +210,43 @@ hart_in [] h l = absurd (omega (arith, l))
 hart_in (x ∷ hs) zero l = (x, refl)
 hart_in (x ∷ hs) (suc h) l = hart_in hs h (omega (arith, l))
 
+-- ---- stores that are still to be done
+
+touched_more : (s : Setting) (h x i j : ℕ) → i ≤ j → touched_before (after s) s.t h x i ≤ touched_before (after s) s.t h x j
+touched_more s h x i zero l = let e : i ≡ 0 = omega (arith, l) in omega (arith, ap (touched_before (after s) s.t h x) e)
+touched_more s h x i (suc j) l = elim (cases_lt j i) [
+  | inl k ↦ let e : i ≡ suc j = omega (arith, k, l) in omega (arith, ap (touched_before (after s) s.t h x) e)
+  | inr k ↦ let r = touched_more s h x i j k in
+      let g = raised (h == (event s.t j).hart && (is_operation (event s.t j) && covers (event s.t j).access x)) (touched_before (after s) s.t h x j) (after s j) in
+      omega (arith, r, g)
+]
+  where
+    raised : (c : Bool) (u w : ℕ) → u ≤ (if c then max u w else u)
+    raised true u w = omega arith
+    raised false u w = omega arith
+
+-- what was done up to an index leaves what its hart does from there on
+pub may_pay : (s : Setting) (h i : ℕ) (start : Hart) (moves : List Move) (state : RunState) → SoFar s h start i moves state →
+    ((x : ℕ) → state.touched x ≡ touched_before (after s) s.t h x i) → MayPay h (list s) moves state
+may_pay s h i start moves state so_far touched p l here =
+    let m = s.many in
+    let total = length-take s.n (all_stores s.t s.g) in
+    let f = store_at s.t s.g p s.meets.lists.once (omega (arith, m, l, total)) in
+    let is : get_or (list s) p no_store ≡ told (event s.t f.index) = get_or-take s.n (all_stores s.t s.g) p no_store (omega (arith, m, l)) ∙ f.told in
+    let h_is : (event s.t f.index).hart ≡ h = ap (λ (y : Stored). y.hart) (sym is) ∙ here in
+    let pos = f.position in
+    let t_is : time s f.index ≡ p = omega (arith, pos, m, l) in
+    elim (cases_lt f.index i) [
+      | inl earlier ↦ let paid = so_far.paid f.index earlier h_is f.stores (omega (arith, t_is, m, l)) in inl (paid.0, paid.1, paid.2, paid.3 ∙ t_is)
+      | inr later ↦ inr (λ x wet.
+          let t = touched x in
+          let g = touched_more s h x i f.index later in
+          let q : touched_before (after s) s.t (event s.t f.index).hart x f.index ≡ touched_before (after s) s.t h x f.index = ap (λ (y : ℕ). touched_before (after s) s.t y x f.index) h_is in
+          let stands = stand_in_time s.is s.t (opening_bytes s.image) s.g s.fit s.meets s.n f.index (store_is_operation (event s.t f.index) f.stores) in
+          let b = stands.touched x f.stores (ap (λ (y : Stored). has_byte y x) (sym is) ∙ wet) in
+          omega (arith, t, g, q, b, t_is))
+    ]
+
 -- ---- the next store
 
 -- what a run has done and what it was offered, up to an index from which its hart stores nothing among these
@@ -269,7 +307,8 @@ module _ (k : ℕ) (image : Memory) (hs : List Hart) (c : ConsoleState) (is_node
         | inl stuck ↦ elim stuck.breaks [
           | inl unknown ↦
               is_offered the_setting k h stuck.index start stuck.moves stuck.state stuck.runs (moves_few k n h q g stuck.index stuck.moves short stuck.within stuck.are) stuck.so_far unknown.1 w here store now
-          | inr call ↦ absurd (closed.calls (stores_of n q.events g) h start node small at stuck.moves stuck.state (moves_few k n h q g stuck.index stuck.moves short stuck.within stuck.are) stuck.runs call)
+          | inr call ↦ absurd (closed.calls (stores_of n q.events g) h start node small at stuck.moves stuck.state (moves_few k n h q g stuck.index stuck.moves short stuck.within stuck.are) stuck.runs
+              (may_pay the_setting h stuck.index start stuck.moves stuck.state stuck.so_far stuck.touched) call)
         ]
       ])
     where

@@ -2,7 +2,7 @@
 use Rattle.std.proofs.Common.{◌≡◌, ◌≢◌, ℕ, zero, suc, ◌<◌, ◌≤◌, ◌==◌, ◌⊎◌, Bool, true, false, if◌then◌else◌, List, [], ◌∷◌, ◌++◌, length, map, get_or, slice_index_or, slice_set, length-set, Option, Some, None, is_some, unwrap_or, refl, sym, ap, ◌∙◌, subst, inl, inr, arith, Contains, drop, nat_lt, ◌%◌, ◌^◌, ◌+◌}
 use Rattle.std.proofs.lemmas.Bool.Decides.{nat_tests}
 use Rattle.all_endings.proofs.Times.{carried_below, timed_rises}
-use Rattle.all_endings.specs.Times.{carried_before, timed}
+use Rattle.all_endings.specs.Times.{carried_before, timed, touched_before}
 use Rattle.all_endings.specs.Halting.{Halts, KnowsRegisters}
 use Rattle.execution.proofs.Answering.{stopped_console}
 use Rattle.rule_checker.specs.declared.carried.Carried.{Carried}
@@ -44,7 +44,7 @@ use Rattle.all_endings.proofs.Bare.{stores_bare}
 use Rattle.all_endings.proofs.Blocking.{address_later, target_later}
 use Rattle.all_endings.proofs.DecodedRegisters.{all_registers_are}
 use Rattle.all_endings.proofs.Effects.{Did, did-branch, did-call, did-exchange, did-fail, did-jump, did-order, did-put, did-read, did-reserve, did-succeed, did-write, step_did, put_at, put_in, step_puts}
-use Rattle.all_endings.proofs.Following.{Follows, Setting, follows_other, list, not_it, time, carried_at_index}
+use Rattle.all_endings.proofs.Following.{Follows, Setting, after, follows_other, list, not_it, time, carried_at_index}
 use Rattle.all_endings.proofs.Halting.{stop_rests}
 use Rattle.all_endings.proofs.LoadMoves.{read_moves, reserve_moves}
 use Rattle.all_endings.proofs.Moves.{Blocked, MovesOrBlocks, blocked-address, blocked-call, blocked-target, registers_are}
@@ -97,6 +97,7 @@ pub record Stuck (s : Setting) (q : Standing) (h : ℕ) (start : Hart) : Type 0 
   pub are : AreMoves s.n h q s.g index moves
   pub so_far : SoFar s h start index moves state
   pub known : Total s → KnowsRegisters state
+  pub touched : (x : ℕ) → state.touched x ≡ touched_before (after s) s.t h x index
   pub breaks : (IsUnknown s.image state × StoresLater s.n h q s.g index) ⊎ IsOpenCall s.image state
 
 contains_more : (vs ws : List Move) (v : Move) → Contains vs v → Contains (vs ++ ws) v
@@ -303,7 +304,7 @@ module _ (image : Memory) (q : Standing) (g : List ℕ) (n : ℕ) (fit : (i : �
           ∙ sym (map-append (λ n. Some n) out (put_in instr k.x));
       halting = inl running;
     })
-    | inr b ↦ inl (record { index = i; within = small; moves = w.moves; state = w.state; runs = w.runs; are = w.are; so_far = w.so_far; known = knows_all the h i held w.state k w.follows; breaks = blocked b })
+    | inr b ↦ inl (record { index = i; within = small; moves = w.moves; state = w.state; runs = w.runs; are = w.are; so_far = w.so_far; known = knows_all the h i held w.state k w.follows; touched = w.follows.touched; breaks = blocked b })
   ]
     where
       at : decoded image w.state.pc ≡ Some instr

@@ -24,7 +24,7 @@ use Rattle.all_endings.specs.RunStates.{RunState}
 use Rattle.all_endings.specs.StoreLists.{Stored, all_stores, stores_of}
 use Rattle.all_endings.specs.Tables.{ClosedTablesAreWhole, HartEnds, HartsEnd, memory_of}
 use Rattle.all_endings.specs.Times.{stores_before, timed, touched_before}
-use Rattle.all_endings.proofs.Closing.{has_room, moves_few, nodes_all, pays_all, stores_counted}
+use Rattle.all_endings.proofs.Closing.{has_room, may_pay, moves_few, nodes_all, pays_all, stores_counted}
 use Rattle.all_endings.proofs.DecodedRegisters.{all_registers_are, decoded_fits}
 use Rattle.all_endings.proofs.Factors.{Total, all_along, harts_stay, knows_all, the}
 use Rattle.all_endings.proofs.Following.{Setting, after}
@@ -147,7 +147,8 @@ module _ (k : ℕ) (image : Memory) (hs : List Hart) (c : ConsoleState) (is_node
     hart_ends = elim (all_along image hs c q g e meets room n h start many small at (fresh h start small at)) [
       | inl stuck ↦ absurd (elim stuck.breaks [
         | inl unknown ↦ known_knows image stuck.state (stuck.known total) unknown.0
-        | inr call ↦ closed.calls (stores_of n q.events g) h start node small at stuck.moves stuck.state (moves_few k n h q g stuck.index stuck.moves short stuck.within stuck.are) stuck.runs call
+        | inr call ↦ closed.calls (stores_of n q.events g) h start node small at stuck.moves stuck.state (moves_few k n h q g stuck.index stuck.moves short stuck.within stuck.are) stuck.runs
+            (may_pay s h stuck.index start stuck.moves stuck.state stuck.so_far stuck.touched) call
       ])
       | inr w ↦
           let few = moves_few k n h q g (length q.events) w.moves short (omega arith) w.are in

@@ -300,7 +300,7 @@ module _ (k : ℕ) (image : Memory) (hs : List Hart) (see : List Range) (nodes :
         let l = looked m (unlisted nodes m node) in
         let w = l.walks h start small at in
         listed nodes (m ++ s ∷ []) (l.grows h s small (offered_all k image h m start (l.offered h) (get_or l.ways h []) w.0 w.1 s o));
-    calls = λ m h start node small at vs a short runs call.
+    calls = λ m h start node small at vs a short runs may call.
         let l = looked m (unlisted nodes m node) in
         let w = l.walks h start small at in
         let p = from_start k image h m start (l.offered h) (get_or l.ways h []) w.0 w.1 vs a runs short in

@@ -1,5 +1,5 @@
 -- The stores that may come next: what a list of stores can be followed by.
-use Rattle.std.specs.Prelude.{◌≡◌, ℕ, ◌<◌, ◌≤◌, ◌==◌, Bool, true, List, [], ◌∷◌, ◌++◌, length, slice_index_or, count_by, Contains, Some, ◌+◌, ◌*◌}
+use Rattle.std.specs.Prelude.{◌≡◌, ℕ, ◌<◌, ◌≤◌, ◌==◌, ◌⊎◌, Bool, true, List, [], ◌∷◌, ◌++◌, length, slice_index_or, count_by, Contains, Some, ◌+◌, ◌*◌}
 use Rattle.pages.specs.Memory.{Memory}
 use Rattle.round_schedule.specs.declared.event.Event.{Event}
 use Rattle.round_schedule.specs.Accesses.{address_of, bytes_of}
@@ -14,7 +14,7 @@ use Rattle.all_endings.specs.Endings.{opening_bytes}
 use Rattle.all_endings.specs.Factorizing.{IsOpenCall, IsFresh}
 use Rattle.all_endings.specs.HartRuns.{Acts, Runs, Stands}
 use Rattle.all_endings.specs.RunStates.{Move, RunState, run_start}
-use Rattle.all_endings.specs.StoreLists.{Stored, no_store, stores_of}
+use Rattle.all_endings.specs.StoreLists.{Stored, has_byte, no_store, stores_of}
 
 -- where a run stands, hart h may store this right behind the list: all that the store hangs on is known, and its bounds let it stand there
 pub record Offers (image : Memory) (h : ℕ) (m : List Stored) (opening : ℕ → ℕ) (a : RunState) (s : Stored) : Type 0 where
@@ -47,10 +47,16 @@ pub record IsOffered (k : ℕ) (image : Memory) (h : ℕ) (m : List Stored) (ope
   pub pays : Pays h m (before ++ rest)
   pub short : length (before ++ rest) ≤ k
 
--- no run of at most k instructions comes to a call whose number is unknown
+-- a run may still come to do each store that hart h has in the list: it did it, or touched each of its bytes before it alone (rule 1)
+abbrev pub MayPay : ℕ → List Stored → List Move → RunState → Type 0
+MayPay h m vs a =
+    (k : ℕ) → k < length m → (slice_index_or m k no_store).hart ≡ h →
+    ((v : Move) × Contains vs v × (writing v.access ≡ true) × (v.time ≡ k)) ⊎ ((x : ℕ) → has_byte (slice_index_or m k no_store) x ≡ true → a.touched x ≤ k)
+
+-- no run of at most k instructions, which may still do its stores of the list, comes to a call whose number is unknown
 abbrev pub KnowsCalls : ℕ → Memory → ℕ → List Stored → (ℕ → ℕ) → Hart → Type 0
 KnowsCalls k image h m opening start =
-    (vs : List Move) (a : RunState) → length vs ≤ k → Runs image h m opening (run_start start) vs a → IsOpenCall image a → ⊥
+    (vs : List Move) (a : RunState) → length vs ≤ k → Runs image h m opening (run_start start) vs a → MayPay h m vs a → IsOpenCall image a → ⊥
 
 -- lists of stores that are closed: the empty one, and with each one those that it can be followed by
 pub record IsClosed (k : ℕ) (image : Memory) (hs : List Hart) (is_node : List Stored → Bool) : Type 0 where
