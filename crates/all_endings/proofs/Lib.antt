@@ -3,7 +3,7 @@ mod Blocking
 pub mod Closing
 pub mod DecodedRegisters
 pub mod Determined
-mod Earlier
+pub mod Earlier
 mod Effects
 mod Endings
 pub mod Factors
@@ -23,7 +23,7 @@ mod Seen
 pub mod SourceRegisters
 pub mod Sources
 mod Starting
-mod StepTimes
+pub mod StepTimes
 mod Stopping
 mod StoreLists
 mod StoreMoves

@@ -211,7 +211,7 @@ read_byte s h i x held a k f here r known =
           (forwarded o.0 (byte_read (event s.t i).access x) o.1 behind_it plain needs (omega (arith, seen, place_is)) byte_is)
     ]
 
-within_range : (a n k : ℕ) → k < n → in_range a n (a + k) ≡ true
+pub within_range : (a n k : ℕ) → k < n → in_range a n (a + k) ≡ true
 within_range a n k l =
     let p : a ≤ a + k = omega arith in
     let q : a + k < a + n = omega (arith, l) in
