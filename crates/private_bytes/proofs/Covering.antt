@@ -1,0 +1,404 @@
+-- Spots that are walked cover the runs against the list of all stores.
+use Rattle.std.proofs.Common.{◌≡◌, ℕ, zero, suc, ◌+◌, ◌<◌, ◌≤◌, ◌==◌, ◌&&◌, ◌||◌, not, Bool, true, false, if◌then◌else◌, List, [], ◌∷◌, ◌++◌, length, map, drop, replicate, get_or, Contains, Option, Some, None, is_some, refl, sym, ap, ◌∙◌, subst, inl, inr, arith}
+use Rattle.std.proofs.lemmas.Bool.{and_parts, cases_lt, cond-false, eq-eqb, eqb-true, eqb-false, ne_eqb}
+use Rattle.std.proofs.lemmas.List.{append-nil, append_assoc, length-append, length-map}
+use Rattle.std.proofs.lemmas.List.Elements.{Contains-push_cases}
+use Rattle.pages.specs.Memory.{Memory}
+use Rattle.rv64_decode.specs.declared.instruction.Instr.TheVariants.{Ecall}
+use Rattle.round_schedule.specs.Accesses.{address_of, loads}
+use Rattle.round_schedule.specs.Accesses.{stores as writing}
+use Rattle.hart_step.specs.declared.hart.Hart.{Hart}
+use Rattle.hart_step.specs.declared.hart.Stop.{Stop}
+use Rattle.hart_step.specs.DecodedCode.{decoded}
+use Rattle.hart_step.specs.Effect.{Action}
+use Rattle.hart_step.specs.Registers.{reg}
+use Rattle.memory_order.specs.Registers.{registers_of}
+use Rattle.memory_order.proofs.Facts.{or_left, or_right}
+use Rattle.rule_checker.specs.CarriedBounds.{AreRegisters}
+use Rattle.all_endings.specs.Endings.{opening_bytes}
+use Rattle.all_endings.specs.Factorizing.{IsOpenCall}
+use Rattle.all_endings.specs.Halting.{Halts, KnowsRegisters}
+use Rattle.all_endings.specs.HartRuns.{Acts, IsPlaced, Runs, Stands, runs-more, runs-none}
+use Rattle.all_endings.specs.Locality.{Refines, set_view, view}
+use Rattle.all_endings.specs.Offering.{IsOffered, Offers, Pays}
+use Rattle.all_endings.specs.RunStates.{Move, RunState, answers_to, moved, operates, run_start}
+use Rattle.all_endings.specs.StoreLists.{Stored, no_store}
+use Rattle.all_endings.specs.Tables.{HartEnds}
+use Rattle.all_endings.specs.Walking.{HartEnding, IsPaid, Place, place_after}
+use Rattle.all_endings.proofs.DecodedRegisters.{decoded_fits}
+use Rattle.all_endings.proofs.Factors.{Paid}
+use Rattle.all_endings.proofs.Locality.{not_both, past_end, some_value}
+use Rattle.all_endings.proofs.Sources.{both}
+use Rattle.private_bytes.specs.Ahead.{OutputTells, TellsAll, tells-more, tells-nothing}
+use Rattle.private_bytes.specs.Owners.{Touches, is_own, is_private}
+use Rattle.private_bytes.specs.PrivateMoves.{moved_privately}
+use Rattle.private_bytes.specs.PrivateWalks.{IsWalkedApart, StandsForApart, Spot, constant_after, looks_at_none, place_apart}
+use Rattle.private_bytes.proofs.ApartMoves.{f_all, most, same_most, shared_acts, up}
+use Rattle.private_bytes.proofs.KeptLists.{IsInOne, Keeps, are_kept, is_shared}
+use Rattle.private_bytes.proofs.Mirroring.{Mirrors, as_apart, mirrors-none, mirrors_ahead}
+use Rattle.private_bytes.proofs.OwnStores.{Fits, Kept, fits_along, fits_before, fits_paid, kept_along, placed}
+use Rattle.private_bytes.proofs.SharedLists.{found, passed, passing, those}
+use Rattle.private_bytes.proofs.SpotMoves.{StoreTouches, constant_known, did_private, did_shared, private_is, stands_apart, stored_touches, view_other, view_same}
+
+-- ---- runs
+
+runs_joined : (image : Memory) (h : ℕ) (m : List Stored) (opening : ℕ → ℕ) (a : RunState) (us : List Move) (b : RunState) (vs : List Move) (c : RunState) →
+    Runs image h m opening a us b → Runs image h m opening b vs c → Runs image h m opening a (us ++ vs) c
+runs_joined image h m opening a us b _ _ r (runs-none _) = subst (λ (ws : List Move). Runs image h m opening a ws b) (sym (append-nil us)) r
+runs_joined image h m opening a us b _ _ r (runs-more _ c vs v more at doing stand) =
+    subst (λ (ws : List Move). Runs image h m opening a ws (moved h m c v)) (append_assoc us vs (v ∷ []))
+    (runs-more a c (us ++ vs) v (runs_joined image h m opening a us b vs c r more) at doing stand)
+
+-- ---- the start
+
+zeros : (n r : ℕ) → get_or (replicate {A = ℕ} n 0) r 0 ≡ 0
+zeros zero r = refl
+zeros (suc n) zero = refl
+zeros (suc n) (suc r) = zeros n r
+
+zero_register : (r : ℕ) → reg (replicate {A = ℕ} 32 0) r ≡ 0
+zero_register r = by_test (r == 0) (zeros 32 r)
+  where
+    by_test : (b : Bool) → get_or (replicate {A = ℕ} 32 0) r 0 ≡ 0 → (if b then 0 else get_or (replicate {A = ℕ} 32 0) r 0) ≡ 0
+    by_test true e = refl
+    by_test false e = e
+
+known_at : (xs : List ℕ) (r : ℕ) → r < length xs → is_some (get_or (map (λ v. Some v) xs) r None) ≡ true
+known_at [] r l = absurd (omega (arith, l))
+known_at (x ∷ xs) zero l = refl
+known_at (x ∷ xs) (suc r) l = known_at xs r (omega (arith, l))
+
+start_mirrors : (owns : ℕ → ℕ → Bool) (h : ℕ) (f : ℕ → ℕ) (start : Hart) → length start.x ≡ 32 → Mirrors owns h f (run_start start) (run_start start)
+start_mirrors owns h f start sized = record {
+  pc = refl;
+  registers = λ r n e. e;
+  small = length-map start.x (λ v. Some v) ∙ sized;
+  size = length-map start.x (λ v. Some v) ∙ sized;
+  kinds = record {
+    loads = omega arith;
+    stores = omega arith;
+    acquires = omega arith;
+    annotated = omega arith;
+    load_load = omega arith;
+    load_store = omega arith;
+    store_load = omega arith;
+    store_store = omega arith;
+  };
+  carried = record {
+    small = refl;
+    size = refl;
+    registers = λ r l. let z = zero_register r in omega (arith, z);
+    steered = omega arith;
+    addressed = omega arith;
+  };
+  touched = λ x. omega arith;
+  seen = λ x. omega arith;
+  own = λ x. mirrors-none;
+  held = refl;
+  reserved = omega arith;
+  sources = λ x e. absurd (cc);
+  output = tells-nothing;
+}
+
+-- ---- what is known at the end
+
+known_too : (v w : List (Option ℕ)) → TellsAll v w → (r : ℕ) → is_some (view v r) ≡ true → (n : ℕ) × (view v r ≡ Some n) × (view w r ≡ Some n)
+known_too v w tells r e = by_view (view v r) refl e
+  where
+    by_view : (o : Option ℕ) → view v r ≡ o → is_some o ≡ true → (n : ℕ) × (view v r ≡ Some n) × (view w r ≡ Some n)
+    by_view None is s = absurd (cc)
+    by_view (Some n) is s = (n, is, tells r n is)
+
+refines_too : (v w : List (Option ℕ)) (x : List ℕ) → length w ≡ 32 → TellsAll v w → ((r : ℕ) → r < 32 → is_some (view v r) ≡ true) → Refines v x → Refines w x
+refines_too v w x size tells knows refines r n e = elim (cases_lt r 32) [
+  | inl l ↦
+      let k = known_too v w tells r (knows r l) in
+      refines r k.0 k.1 ∙ some_value k.0 n (sym k.2 ∙ e)
+  | inr l ↦
+      let z : (r == 0) ≡ false = ne_eqb r 0 (λ q. omega (arith, q, l)) in
+      absurd (not_both n (get_or w r None) (past_end w r (omega (arith, size, l))) (sym (cond-false (r == 0) (Some 0) (get_or w r None) z) ∙ e))
+]
+
+outputs_known : (os ps : List (Option ℕ)) → OutputTells os ps → (ns : List ℕ) → os ≡ map (λ n. Some n) ns → ps ≡ map (λ n. Some n) ns
+outputs_known _ _ tells-nothing ns e = e
+outputs_known _ _ (tells-more o p os ps t rest) [] e = absurd (let l = ap length e in omega (arith, l))
+outputs_known _ _ (tells-more o p os ps t rest) (n ∷ ns) e =
+    let first : o ≡ Some n = ap (λ (xs : List (Option ℕ)). get_or xs 0 None) e in
+    let more : os ≡ map (λ n. Some n) ns = ap (drop 1) e in
+    ap (λ (y : Option ℕ). y ∷ ps) (t n first) ∙ ap (λ (ys : List (Option ℕ)). Some n ∷ ys) (outputs_known os ps rest ns more)
+
+or_none : (b : Bool) → (b || false) ≡ true → b ≡ true
+or_none true e = refl
+or_none false e = e
+
+-- ---- runs that spots stand for
+
+module _ (owns : ℕ → ℕ → Bool) (k : ℕ) (image : Memory) (harts h : ℕ) (m : List Stored) (kept : are_kept owns harts m ≡ true) (inside : h < harts) (start : Hart) (sized : length start.x ≡ 32)
+    (offered : List Stored) (ends : List HartEnding) (ps : List Spot) (walked : IsWalkedApart owns k image harts h (those (is_shared owns) m) start offered ends ps) where
+  abbrev t : ℕ → ℕ
+  t = passed (is_shared owns) m
+
+  abbrev n : List Stored
+  n = those (is_shared owns) m
+
+  abbrev opening : ℕ → ℕ
+  opening = opening_bytes image
+
+  passed_small : (j : ℕ) → j < length m → is_shared owns (get_or m j no_store) ≡ true → t j < length n
+  passed_small j l shared = (passing (is_shared owns) m j l shared).2
+
+  pub record ForRun (p : Spot) (vs : List Move) (c : RunState) (chosen : Option Stored) : Type 0 where
+    pub mirrors : Mirrors owns h t p.place.state c
+    pub count : p.place.count ≤ length vs
+    pub paid : (j : ℕ) → j < length m → is_shared owns (get_or m j no_store) ≡ true → Paid vs j → p.place.paid (t j) ≡ true
+    pub next : p.place.next ≡ chosen
+    pub constant : p.constant ≡ true → is_some (view c.registers 17) ≡ true
+
+  abbrev pub For : List Move → RunState → Option Stored → Type 0
+  For vs c chosen = (p : Spot) × Contains ps p × ForRun p vs c chosen
+
+  abbrev AllFit : List Move → RunState → Type 0
+  AllFit vs c = (x : ℕ) → Fits image h m opening x vs c
+
+  module _ (vs : List Move) (c : RunState) (v : Move) (chosen : Option Stored) (few : length vs < k) (runs : Runs image h m opening (run_start start) vs c) (at : decoded image c.pc ≡ Some v.instruction)
+      (doing : Acts image h m opening (IsPlaced h m) c v) (stand : operates v ≡ true → Stands c v) (fits : AllFit (vs ++ v ∷ []) (moved h m c v)) (p : Spot) (there : Contains ps p) (r : ForRun p vs c chosen) where
+    fit : AreRegisters (registers_of v.instruction)
+    fit = decoded_fits image c.pc v.instruction at
+
+    keeps_own : (x : ℕ) → Kept image h m opening x vs c
+    keeps_own x = kept_along image h m opening x start vs c runs
+
+    constant_on : constant_after p.constant v ≡ true → is_some (view (moved h m c v).registers 17) ≡ true
+    constant_on e = by_register (answers_to v.instruction == 17) refl e
+      where
+        by_register : (b : Bool) → (answers_to v.instruction == 17) ≡ b → (if b then looks_at_none (registers_of v.instruction) && not (operates v) else p.constant) ≡ true →
+            is_some (view (set_view c.registers (answers_to v.instruction) v.result) 17) ≡ true
+        by_register true is e =
+            let to = eqb-true (answers_to v.instruction) 17 is in
+            let q = and_parts (looks_at_none (registers_of v.instruction)) (not (operates v)) e in
+            let size = r.mirrors.size in
+            ap (λ (d : ℕ). is_some (view (set_view c.registers d v.result) 17)) to
+            ∙ ap (λ (o : Option ℕ). is_some o) (view_same c.registers 17 v.result (λ z. omega (arith, z)) (omega (arith, size)))
+            ∙ constant_known image h m opening (IsPlaced h m) c v doing to q.0 q.1
+        by_register false is e =
+            ap (λ (o : Option ℕ). is_some o) (view_other c.registers (answers_to v.instruction) 17 v.result (λ z. eqb-false (answers_to v.instruction) 17 is (sym z))) ∙ r.constant e
+
+    -- of the stores of the shorter list, those that were paid
+    paid_on : (more : Bool) → (j : ℕ) → j < length m → is_shared owns (get_or m j no_store) ≡ true → Paid (vs ++ v ∷ []) j → (writing v.access ≡ true → v.time ≡ j → more ≡ true) →
+        (p.place.paid (t j) || more) ≡ true
+    paid_on more j l shared paid new = elim (Contains-push_cases vs v paid.0 paid.1) [
+      | inl old ↦ or_left (p.place.paid (t j)) more (r.paid j l shared (paid.0, old, paid.2, paid.3))
+      | inr same ↦ or_right (p.place.paid (t j)) more (new (ap (λ (u : Move). writing u.access) same ∙ paid.2) (ap (λ (u : Move). u.time) same ∙ paid.3))
+    ]
+
+    on_shared : is_private owns h v.access ≡ false → For (vs ++ v ∷ []) (moved h m c v) chosen
+    on_shared public =
+        let d = did_shared owns image harts h m opening kept inside p.place.state c v vs r.mirrors keeps_own (walked.apart p there) at fit doing public in
+        let u = as_apart v (t v.time) d.result d.written d.source in
+        let q = walked.moves p u there (let i = r.count in omega (arith, i, few)) (ap (decoded image) r.mirrors.pc ∙ at) d.acts
+        (λ op. stands_apart owns image harts h m opening kept inside p.place.state c v vs r.mirrors keeps_own (walked.apart p there) at fit d.result d.written d.source (stand op)) in
+        let to : place_apart owns h n p.place u ≡ place_after h n p.place u =
+        ap (λ (b : Bool). if b then record p.place { state = moved_privately h n p.place.state u; count = p.place.count + 1 } else place_after h n p.place u) public in
+        let s = subst (λ (z : Place). StandsForApart n q.0 (record { place = z; constant = constant_after p.constant u })) to q.2 in (
+          q.0,
+          q.1,
+          record {
+            mirrors = mirrors_ahead owns h t q.0.place.state (moved h n p.place.state u) (moved h m c v) s.state d.leaves;
+            count = (let i = s.count in let j = r.count in let size = length-append vs (v ∷ []) in omega (arith, i, j, size));
+            paid = λ j l shared paid. s.paid (t j) (passed_small j l shared) (paid_on (writing v.access && t v.time == t j) j l shared paid (λ w e. both (writing v.access) (t v.time == t j) w (eq-eqb (t v.time) (t j) (ap t e))));
+            next = s.next ∙ r.next;
+            constant = λ e. constant_on (s.constant e);
+          },
+        )
+
+    not_shared : is_private owns h v.access ≡ true → (j : ℕ) → j < length m → is_shared owns (get_or m j no_store) ≡ true → writing v.access ≡ true → v.time ≡ j → false ≡ true
+    not_shared private j l shared w e = elim (placed image h m opening c v doing w) [
+      | inl late ↦ absurd (omega (arith, late, e, l))
+      | inr is ↦
+          let own : is_own owns h (address_of v.access) ≡ true = (and_parts (loads v.access || writing v.access) (is_own owns h (address_of v.access)) private).1 in
+          let dry : is_shared owns (get_or m v.time no_store) ≡ false = ap (λ (j : ℕ). not (is_own owns j (get_or m v.time no_store).address)) is.hart ∙ ap (λ (j : ℕ). not (is_own owns h j)) is.address ∙ ap not own in
+          let wet : is_shared owns (get_or m v.time no_store) ≡ true = ap (λ (i : ℕ). is_shared owns (get_or m i no_store)) e ∙ shared in
+          sym dry ∙ wet
+    ]
+
+    on_private : is_private owns h v.access ≡ true → For (vs ++ v ∷ []) (moved h m c v) chosen
+    on_private private =
+        let d = did_private owns image harts h m opening kept inside p.place.state c v vs r.mirrors keeps_own (walked.apart p there) at fit doing private fits in
+        let u = as_apart v (t v.time) d.result d.written d.source in
+        let q = walked.moves p u there (let i = r.count in omega (arith, i, few)) (ap (decoded image) r.mirrors.pc ∙ at) d.acts
+        (λ op. stands_apart owns image harts h m opening kept inside p.place.state c v vs r.mirrors keeps_own (walked.apart p there) at fit d.result d.written d.source (stand op)) in
+        let to : place_apart owns h n p.place u ≡ record p.place { state = moved_privately h n p.place.state u; count = p.place.count + 1 } =
+        ap (λ (b : Bool). if b then record p.place { state = moved_privately h n p.place.state u; count = p.place.count + 1 } else place_after h n p.place u) private in
+        let s = subst (λ (z : Place). StandsForApart n q.0 (record { place = z; constant = constant_after p.constant u })) to q.2 in (
+          q.0,
+          q.1,
+          record {
+            mirrors = mirrors_ahead owns h t q.0.place.state (moved_privately h n p.place.state u) (moved h m c v) s.state d.leaves;
+            count = (let i = s.count in let j = r.count in let size = length-append vs (v ∷ []) in omega (arith, i, j, size));
+            paid = λ j l shared paid. s.paid (t j) (passed_small j l shared) (or_none (p.place.paid (t j)) (paid_on false j l shared paid (λ w e. not_shared private j l shared w e)));
+            next = s.next ∙ r.next;
+            constant = λ e. constant_on (s.constant e);
+          },
+        )
+
+    one_more : For (vs ++ v ∷ []) (moved h m c v) chosen
+    one_more = by_test (is_private owns h v.access) refl
+      where
+        by_test : (b : Bool) → is_private owns h v.access ≡ b → For (vs ++ v ∷ []) (moved h m c v) chosen
+        by_test true e = on_private e
+        by_test false e = on_shared e
+
+  along : (a : RunState) (us : List Move) (chosen : Option Stored) → Runs image h m opening (run_start start) us a → (p : Spot) → Contains ps p → ForRun p us a chosen →
+      (vs : List Move) (c : RunState) → Runs image h m opening a vs c → AllFit (us ++ vs) c → length us + length vs ≤ k → For (us ++ vs) c chosen
+  along a us chosen before p there r _ _ (runs-none _) fits short = (p, there, subst (λ (ws : List Move). ForRun p ws a chosen) (sym (append-nil us)) r)
+  along a us chosen before p there r _ _ (runs-more _ c vs v runs at doing stand) fits short =
+      let size = length-append vs (v ∷ []) in
+      let joined = length-append us vs in
+      let here : AllFit ((us ++ vs) ++ v ∷ []) (moved h m c v) = λ x. subst (λ (ws : List Move). Fits image h m opening x ws (moved h m c v)) (sym (append_assoc us vs (v ∷ []))) (fits x) in
+      let q = along a us chosen before p there r vs c runs (λ x. fits_before image h m opening x (us ++ vs) c v stand (here x)) (omega (arith, short, size)) in
+      let w = one_more (us ++ vs) c v chosen (omega (arith, short, size, joined)) (runs_joined image h m opening (run_start start) us a vs c before runs) at doing stand here q.0 q.1 q.2 in
+      (w.0, w.1, subst (λ (ws : List Move). ForRun w.0 ws (moved h m c v) chosen) (append_assoc us vs (v ∷ [])) w.2)
+
+  first_for : For [] (run_start start) None
+  first_for =
+      let b = walked.begins in (
+        b.0,
+        b.1,
+        record {
+          mirrors = mirrors_ahead owns h t b.0.place.state (run_start start) (run_start start) b.2.state (start_mirrors owns h t start sized);
+          count = b.2.count;
+          paid = λ j l shared paid. absurd (let i = paid.1.1 in omega (arith, i));
+          next = b.2.next;
+          constant = λ e. known_at start.x 17 (omega (arith, sized));
+        },
+      )
+
+  pub from_start : (vs : List Move) (c : RunState) → Runs image h m opening (run_start start) vs c → AllFit vs c → length vs ≤ k → For vs c None
+  from_start vs c runs fits short = let b = first_for in along (run_start start) [] None (runs-none (run_start start)) b.0 b.1 b.2 vs c runs fits (omega (arith, short))
+
+  -- a call's number is known
+  pub no_open_call : (p : Spot) (vs : List Move) (c : RunState) (chosen : Option Stored) → ForRun p vs c chosen → (decoded image p.place.state.pc ≡ Some Ecall → p.constant ≡ true) → IsOpenCall image c → ⊥
+  no_open_call p vs c chosen r constant call =
+      let some = r.constant (constant (ap (decoded image) r.mirrors.pc ∙ call.0)) in
+      let none : is_some (view c.registers 17) ≡ false = ap (λ (o : Option ℕ). is_some o) call.1 in
+      cc
+
+  -- a run that did its stores of the list did those of the shorter one
+  pub paid_apart : (q : Spot) (vs : List Move) (c : RunState) (chosen : Option Stored) → ForRun q vs c chosen → Pays h m vs → IsPaid h n q.place
+  paid_apart q vs c chosen r pays j l here =
+      let end = f_all owns image harts h m opening kept inside in
+      let w = found (is_shared owns) m (length m) j (omega arith) (omega (arith, l, end)) in
+      let same : get_or n j no_store ≡ get_or m w.0 no_store = ap (λ (i : ℕ). get_or n i no_store) (sym w.3) ∙ (passing (is_shared owns) m w.0 w.1 w.2).1 in
+      subst (λ (i : ℕ). q.place.paid i ≡ true) w.3 (r.paid w.0 w.1 w.2 (pays w.0 w.1 (ap (λ (y : Stored). y.hart) (sym same) ∙ here)))
+
+  -- ---- a store that is offered
+
+  module _ (s : Stored) (o : IsOffered k image h m opening start s) where
+    all_fit : AllFit (o.before ++ o.rest) o.state
+    all_fit x = fits_paid image h m opening x (run_start start) (o.before ++ o.rest) o.state (runs_joined image h m opening (run_start start) o.before o.at o.rest o.state o.leads o.runs) o.pays
+
+    fit_before : AllFit o.before o.at
+    fit_before x = fits_along image h m opening x o.before o.at o.rest o.state o.runs (all_fit x)
+
+    at_it : For o.before o.at None
+    at_it =
+        let joined = length-append o.before o.rest in
+        let short = o.short in
+        from_start o.before o.at o.leads fit_before (omega (arith, joined, short))
+
+    own_before : (x : ℕ) → Kept image h m opening x o.before o.at
+    own_before x = kept_along image h m opening x start o.before o.at o.leads
+
+    touching : StoreTouches image h m opening (λ v. v.time ≡ length m) o.at o.offers.move
+    touching = stored_touches image h m opening (λ v. v.time ≡ length m) o.at o.offers.move o.offers.acts o.offers.stores
+
+    -- it touches no byte that is another hart's own
+    pub offered_keeps : Keeps owns harts s
+    offered_keeps =
+        let p = at_it in
+        let apart = walked.apart p.0 p.1 in
+        let same = same_most owns image harts h m opening kept inside p.0.place.state o.at o.offers.move o.before p.2.mirrors own_before apart o.offers.decodes touching.knows in
+        let knows = most owns image harts h m opening kept inside p.0.place.state o.at o.offers.move o.before p.2.mirrors own_before apart o.offers.decodes touching.knows in
+        record {
+          hart = subst (λ (j : ℕ). j < harts) (sym o.offers.hart) inside;
+          one = subst (λ (j : ℕ). IsInOne j s.bytes) (sym o.offers.address) (subst (IsInOne (address_of o.offers.move.access)) (sym o.offers.bytes) touching.one);
+          owner = λ j l own.
+              (apart o.offers.move.instruction touching.plain (address_of o.offers.move.access) j (ap (decoded image) p.2.mirrors.pc ∙ o.offers.decodes) knows
+              (subst (λ (y : Action). Touches image y touching.plain (address_of o.offers.move.access)) (sym same) touching.touches) l (ap (is_own owns j) (sym o.offers.address) ∙ own)).0
+              ∙ sym o.offers.hart;
+        }
+
+    -- to nobody's own bytes it is offered apart as well
+    pub offered_apart : is_own owns h s.address ≡ false → Contains offered s
+    offered_apart public =
+        let p = at_it in
+        let v = o.offers.move in
+        let apart = walked.apart p.0 p.1 in
+        let fit = decoded_fits image o.at.pc v.instruction o.offers.decodes in
+        let now = o.offers.time in
+        let end = f_all owns image harts h m opening kept inside in
+        let none : is_private owns h v.access ≡ false =
+        private_is owns image harts h m opening kept inside p.0.place.state o.at v o.before p.2.mirrors own_before apart o.offers.decodes fit o.offers.stores ∙ ap (is_own owns h) (sym o.offers.address) ∙ public in
+        let a = shared_acts owns image harts h m opening kept inside p.0.place.state o.at v o.before p.2.mirrors own_before apart o.offers.decodes (λ u. u.time ≡ length m) (λ u. u.time ≡ length n)
+        (λ result written none store tells e. ap t e ∙ end) (λ result written late. absurd (omega (arith, late, now))) none o.offers.acts in
+        let offers : Offers image h n opening p.0.place.state s = record {
+          move = as_apart v (t v.time) a.result a.written (λ x. t (v.source x));
+          decodes = ap (decoded image) p.2.mirrors.pc ∙ o.offers.decodes;
+          acts = a.acts;
+          stands = stands_apart owns image harts h m opening kept inside p.0.place.state o.at v o.before p.2.mirrors own_before apart o.offers.decodes fit a.result a.written (λ x. t (v.source x)) o.offers.stands;
+          time = ap t now ∙ end;
+          stores = o.offers.stores;
+          hart = o.offers.hart;
+          address = o.offers.address;
+          bytes = o.offers.bytes;
+          number = a.puts s.number o.offers.number;
+        } in
+        elim (walked.offers p.0 s p.1 p.2.next public offers) [
+          | inl here ↦ here
+          | inr w ↦
+              let chosen : ForRun w.0 o.before o.at (Some s) = record {
+                mirrors = mirrors_ahead owns h t w.0.place.state p.0.place.state o.at w.2.state p.2.mirrors;
+                count = (let i = w.2.count in let j = p.2.count in omega (arith, i, j));
+                paid = λ j l shared paid. w.2.paid (t j) (passed_small j l shared) (p.2.paid j l shared paid);
+                next = w.2.next;
+                constant = λ e. p.2.constant (w.2.constant e);
+              } in
+              let joined = length-append o.before o.rest in
+              let short = o.short in
+              let q = along o.at o.before (Some s) o.leads w.0 w.1 chosen o.rest o.state o.runs all_fit (omega (arith, joined, short)) in
+              walked.grows q.0 s q.1 q.2.next (paid_apart q.0 (o.before ++ o.rest) o.state (Some s) q.2 o.pays)
+        ]
+
+  -- ---- ends
+
+  -- the hart has this end apart
+  pub ends_apart : (stop : Option Stop) (output : List ℕ) → HartEnds k image h m opening start stop output → (e : HartEnding) × Contains ends e × (stop ≡ Some e.stop) × (output ≡ e.output)
+  ends_apart stop output e =
+      let p = from_start e.moves e.state e.runs (λ x. fits_paid image h m opening x (run_start start) e.moves e.state e.runs e.pays) e.short in
+      let end = f_all owns image harts h m opening kept inside in
+      let to : HartEnding = record { stop = e.reason; output = output } in (
+        to,
+        walked.endings p.0 to p.1 (record {
+          pays = paid_apart p.0 e.moves e.state None p.2 e.pays;
+          knows = λ r l. let w = known_too e.state.registers p.0.place.state.registers p.2.mirrors.registers r (e.knows r l) in ap (λ (o : Option ℕ). is_some o) w.2;
+          settled = λ x. let a = p.2.mirrors.touched x in let b = up owns image harts h m opening kept inside (e.state.touched x) (length m) (e.settled x) in omega (arith, a, b, end);
+          halts = halts_too p.0.place.state p.2.mirrors e.knows e.halts;
+          puts = outputs_known e.state.output p.0.place.state.output p.2.mirrors.output output e.puts;
+        }),
+        e.stops,
+        refl,
+      )
+    where
+      halts_too : (a : RunState) → Mirrors owns h t a e.state → KnowsRegisters e.state → Halts image e.state e.reason → Halts image a e.reason
+      halts_too a r knows x = record {
+        hart = x.hart;
+        lags = record { pc = r.pc ∙ x.lags.pc; registers = refines_too e.state.registers a.registers x.hart.x r.small r.registers knows x.lags.registers };
+        round = x.round;
+        own = x.own;
+        before = x.before;
+        behind = x.behind;
+        after = x.after;
+        code = x.code;
+        step = x.step;
+        stopped = x.stopped;
+      }

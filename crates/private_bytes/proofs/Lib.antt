@@ -1,0 +1,9 @@
+mod ApartMoves
+mod Covering
+mod KeptLists
+mod Mirroring
+mod OwnStores
+mod PrivateTimes
+mod SharedLists
+mod SpotMoves
+mod Together

@@ -1,0 +1,5 @@
+pub mod Ahead
+pub mod Owners
+pub mod PrivateMoves
+pub mod PrivateTimes
+pub mod PrivateWalks

@@ -1,0 +1,6 @@
+//! Bytes that one hart alone touches: how they stay out of the lists of stores that a table of all endings is checked over.
+#![tactic(auto)]
+
+mod laws;
+
+pub use laws::{earliest_private_move_is_lowest, lower_states_are_ahead, private_tables_are_whole};
