@@ -1,6 +1,7 @@
 mod ApartMoves
 mod Covering
 mod KeptLists
+mod LaterLoads
 mod Mirroring
 mod OwnStores
 mod PrivateTimes

@@ -61,7 +61,7 @@ set_tells v w rd o p even put tells r m e = elim (cases_eq rd 0) [
     by_zero true z f = f
     by_zero false z f = by_place z f
 
-set_size : (v : List (Option ℕ)) (rd : ℕ) (o : Option ℕ) → length (set_view v rd o) ≡ length v
+pub set_size : (v : List (Option ℕ)) (rd : ℕ) (o : Option ℕ) → length (set_view v rd o) ≡ length v
 set_size v rd o = by_test (rd == 0)
   where
     by_test : (b : Bool) → length (if b then v else slice_set v rd o) ≡ length v
@@ -243,7 +243,7 @@ own_of : (o p : Option OwnByte) → OwnAtMost o p → OwnAhead o p
 own_of _ _ own-none = ahead-none
 own_of _ _ (own-both o p place byte atomic needs) = ahead-both o p place (λ n is. byte ∙ is) atomic needs
 
-outputs_same : (os : List (Option ℕ)) → OutputTells os os
+pub outputs_same : (os : List (Option ℕ)) → OutputTells os os
 outputs_same [] = tells-nothing
 outputs_same (o ∷ os) = tells-more o o os os (λ n is. is) (outputs_same os)
 

@@ -39,32 +39,33 @@ record Alike (a : RunState) (v w : Move) : Type 0 where
   source : loads v.access ≡ true → (x : ℕ) → v.source x ≡ w.source x
   plain : is_lr v.access ≡ false
 
-abbrev move_of : Instr → Access → ℕ → Option ℕ → Option ℕ → (ℕ → ℕ) → ℕ → Move
+abbrev pub move_of : Instr → Access → ℕ → Option ℕ → Option ℕ → (ℕ → ℕ) → ℕ → Move
 move_of i y t r w s n = record { instruction = i; access = y; time = t; result = r; written = w; source = s; next = n }
 
-move_same : (i j : Instr) (y z : Access) (t : ℕ) (r w : Option ℕ) (s : ℕ → ℕ) (n k : ℕ) → i ≡ j → y ≡ z → n ≡ k → move_of i y t r w s n ≡ move_of j z t r w s k
+pub move_same : (i j : Instr) (y z : Access) (t : ℕ) (r w : Option ℕ) (s : ℕ → ℕ) (n k : ℕ) → i ≡ j → y ≡ z → n ≡ k → move_of i y t r w s n ≡ move_of j z t r w s k
 move_same i j y z t r w s n k e f g = cc
+
+-- a state's bounds are at most its own
+pub kinds_self : (a : RunState) → KindsBelow same a.kinds a.kinds
+kinds_self a = record {
+  loads = omega arith;
+  stores = omega arith;
+  acquires = omega arith;
+  annotated = omega arith;
+  load_load = omega arith;
+  load_store = omega arith;
+  store_load = omega arith;
+  store_store = omega arith;
+}
+
+pub carried_self : (a : RunState) → IsSized a → CarriedBelow same a.carried a.carried
+carried_self a sized = record { small = sized; size = sized; registers = λ r l. omega arith; steered = omega arith; addressed = omega arith }
 
 -- ---- what they leave
 
 module _ (h : ℕ) (m : List Stored) (a : RunState) (v w : Move) (sized : IsSized a) (fit : AreRegisters (registers_of w.instruction)) (alike : Alike a v w) (sooner : v.time ≤ w.time) where
   after : min v.time (later m) ≤ min w.time (later m)
   after = omega (arith, sooner)
-
-  kinds_self : KindsBelow same a.kinds a.kinds
-  kinds_self = record {
-    loads = omega arith;
-    stores = omega arith;
-    acquires = omega arith;
-    annotated = omega arith;
-    load_load = omega arith;
-    load_store = omega arith;
-    store_load = omega arith;
-    store_store = omega arith;
-  }
-
-  carried_self : CarriedBelow same a.carried a.carried
-  carried_self = record { small = sized; size = sized; registers = λ r l. omega arith; steered = omega arith; addressed = omega arith }
 
   raised : (c : Bool) (u : ℕ) → (if c then max u (min v.time (later m)) else u) ≤ (if c then max u (min w.time (later m)) else u)
   raised true u = let l = after in omega (arith, l)
@@ -107,8 +108,8 @@ module _ (h : ℕ) (m : List Stored) (a : RunState) (v w : Move) (sized : IsSize
   other_lower = record {
     pc = refl;
     registers = registers_same;
-    kinds = kinds_most _ _ (kinds_below_after same rises a.kinds a.kinds w.access (operates w) (min v.time (later m)) (min w.time (later m)) after kinds_self);
-    carried = carried_most _ _ (carried_below_after same rises a.carried a.carried (registers_of w.instruction) (step_event h (Some w.access)) (min v.time (later m)) (min w.time (later m)) fit after carried_self);
+    kinds = kinds_most _ _ (kinds_below_after same rises a.kinds a.kinds w.access (operates w) (min v.time (later m)) (min w.time (later m)) after (kinds_self a));
+    carried = carried_most _ _ (carried_below_after same rises a.carried a.carried (registers_of w.instruction) (step_event h (Some w.access)) (min v.time (later m)) (min w.time (later m)) fit after (carried_self a sized));
     touched = λ x. raised (operates w && covers w.access x) (a.touched x);
     seen = λ x. seen_at (loads w.access && covers w.access x) x (λ e. alike.source (ap loads alike.access ∙ (and_parts (loads w.access) (covers w.access x) e).0) x);
     own = λ x. own_at x (writes w.access x) v.written w.written (λ e. alike.written (ap stores alike.access ∙ (and_parts (stores w.access) (covers w.access x) e).0));

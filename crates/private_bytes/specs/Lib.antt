@@ -1,4 +1,5 @@
 pub mod Ahead
+pub mod LaterLoads
 pub mod Owners
 pub mod PrivateMoves
 pub mod PrivateTimes

@@ -1,6 +1,7 @@
 //! Laws of the definitions, each the contract of a function that does nothing.
 
 ghost use Rattle.private_bytes.specs.Ahead.{LowerStatesAreAhead};
+ghost use Rattle.private_bytes.specs.LaterLoads.{EarlyLoadsAreAhead};
 ghost use Rattle.private_bytes.specs.PrivateTimes.{EarliestPrivateMoveIsLowest};
 ghost use Rattle.private_bytes.specs.PrivateWalks.{PrivateTablesAreWhole};
 
@@ -18,4 +19,9 @@ pub fn earliest_private_move_is_lowest()
 /// A lower state is ahead, and so can stand for the other one.
 pub fn lower_states_are_ahead()
     ensures { LowerStatesAreAhead }
+{}
+
+/// A load that may read, earlier, no store behind what its hart has seen need not be followed LATER as well.
+pub fn early_loads_are_ahead()
+    ensures { EarlyLoadsAreAhead }
 {}

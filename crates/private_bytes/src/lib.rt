@@ -3,4 +3,7 @@
 
 mod laws;
 
-pub use laws::{earliest_private_move_is_lowest, lower_states_are_ahead, private_tables_are_whole};
+pub use laws::{
+    earliest_private_move_is_lowest, early_loads_are_ahead, lower_states_are_ahead,
+    private_tables_are_whole,
+};
