@@ -15,7 +15,8 @@ pub(crate) fn choices_of_ends(
     alloc: Global,
     ways: &[Vec<HartEnd>],
 ) -> Result<Vec<Vec<HartEnd>>, OutOfMemory>
-    ensures { IfOk result (λ v. (es : List HartEnding) → AreEndsOf (ways_told ways.now) es → Contains (ways_told v.items) es) }
+    ensures { IfOk result (λ v. (es : List HartEnding) → AreEndsOf (ways_told ways.now) es →
+        Contains (ways_told v.items) es) }
 {
     let mut chosen = Vec::new(alloc);
     chosen.push(Vec::new(alloc))?;
@@ -32,8 +33,9 @@ fn extended(
     chosen: &[Vec<HartEnd>],
     way: &[HartEnd],
 ) -> Result<Vec<Vec<HartEnd>>, OutOfMemory>
-    ensures { IfOk result (λ v. (es : List HartEnding) (e : HartEnding) → Contains (ways_told chosen.now) es →
-        Contains (ends_told way.now) e → Contains (ways_told v.items) (es ++ e ∷ [])) }
+    ensures { IfOk result (λ v. (es : List HartEnding) (e : HartEnding) →
+        Contains (ways_told chosen.now) es → Contains (ends_told way.now) e →
+        Contains (ways_told v.items) (es ++ e ∷ [])) }
 {
     let mut longer = Vec::new(alloc);
     for before in chosen {

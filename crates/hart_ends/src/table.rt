@@ -19,7 +19,8 @@ pub fn add_endings(
     ways: &[Vec<HartEnd>],
     seen: &[Vec<u8>],
 ) -> Result<(), OutOfMemory>
-    ensures kept { OnOk result ((e : Ending) → Contains (table_told table.old.items) e → Contains (table_told table.new.items) e) }
+    ensures kept { OnOk result ((e : Ending) → Contains (table_told table.old.items) e →
+        Contains (table_told table.new.items) e) }
     ensures added { OnOk result ((es : List HartEnding) → AreEndsOf (ways_told ways.now) es →
         Contains (table_told table.new.items) (ending_with es (bytes_told seen.now))) }
 {
