@@ -1,0 +1,9 @@
+pub mod Allowed
+pub mod Choices
+pub mod Computes
+pub mod Found
+pub mod Inverting
+pub mod Kept
+pub mod Lower
+pub mod Readings
+pub mod Touched
