@@ -1,3 +1,4 @@
 pub mod Told
 pub mod Begun
 pub mod NextRound
+pub mod Unprinted

@@ -1,0 +1,6 @@
+use Rattle.endings_finder.specs.AllEndings.{guest_of_script}
+use Rattle.endings_finder.proofs.Confirmed.{one_more}
+use Rattle.endings_finder.proofs.confirming.Confirmed.add.Goals as goal
+
+pub returns-in-Some : goal.returns-in-Some
+returns-in-Some c = ?
