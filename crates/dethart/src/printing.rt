@@ -21,7 +21,7 @@ use std::sync::Wait;
 use std::thread::Threads;
 use view_commands::{draw_command, trace_command};
 use weak_commands::{
-    FenceSearcher, FencesFailure, WeakExecuter, execution_command, fences_command,
+    FenceFinds, FenceSearcher, FencesFailure, WeakExecuter, execution_command, fences_command,
 };
 
 /// Does what a command says that prints to standard output.
@@ -187,16 +187,26 @@ fn put_fences<R: Threads + Wait + Sync>(
     asked: &Fences<'_>,
     out: &mut HostOutput<'_>,
 ) -> ExitStatus {
-    let mut progress = Progress::new(rt, asked.search.program.progress, asked.plans);
+    let progress = Progress::of_hunt(
+        rt,
+        asked.search.program.progress,
+        asked.plans,
+        asked.search.program.workers,
+        asked.seconds,
+    );
+    let messages = HostMessages { rt };
+    let Ok(finds) = FenceFinds::new(rt.alloc(), asked, &progress, &messages) else {
+        return finish::<RunError>(rt, Err(RunError::OutOfMemory));
+    };
     let answer = fences_command(
         threads,
         rt.alloc(),
         &mut HostFiles { rt },
         &FenceSearcher,
         asked,
-        &mut progress,
+        &finds,
         out,
-        &HostMessages { rt },
+        &messages,
     );
     // A file that can't be written is no fault of the output.
     let is_of_output = !matches!(answer, Err(FencesFailure::Unwritten(_)));
