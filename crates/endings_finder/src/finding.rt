@@ -10,7 +10,7 @@ ghost use Rattle.endings_finder.specs.AllEndings.{AreAllowed, HasAll, IsSearchTe
 
 use crate::confirming::{Confirmed, has_waiting};
 use crate::guest::{Guest, searched_guest, searched_ranges};
-use crate::others::others_than;
+use crate::others::{Reach, others_than};
 use crate::searching::{EndingsObserver, search_through};
 use crate::settings::EndingsSettings;
 use all_search::{Guest as SearchedGuest, Limits, Search};
@@ -175,7 +175,11 @@ fn findings_of<O: EndingsObserver>(
         confirmed,
         why,
     } = proposals;
-    let others = others_than(guest, settings.steps, &confirmed.endings, why);
+    let reach = Reach {
+        steps: settings.steps,
+        nodes: settings.nodes,
+    };
+    let others = others_than(guest, image, reach, &confirmed.endings, why, observer)?;
     Ok(Findings {
         nodes,
         confirmed,
