@@ -1,1 +1,2 @@
 mod Confirmed
+mod Opened

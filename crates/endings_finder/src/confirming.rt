@@ -44,7 +44,7 @@ impl Confirmed {
         ensures { OnOk result (AreAllowed (guest_of_script guest.now.scripted) guest.now.ranges.now
             self.new.endings.items) }
     {
-        match confirmed(guest, found)? {
+        match allowed_ending(guest, found)? {
             Some(ending) => self.put(guest, found, ending),
             None => {
                 self.refused = self.refused.saturating_add(1);
@@ -71,7 +71,7 @@ impl Confirmed {
 }
 
 /// An ending that was found, as the judge finds it, if RVWMO allows its execution.
-fn confirmed(guest: &Guest<'_>, found: &Ending) -> Result<Option<FoundEnding>, OutOfMemory>
+fn allowed_ending(guest: &Guest<'_>, found: &Ending) -> Result<Option<FoundEnding>, OutOfMemory>
     ensures { IfOk result (λ o. IfSome o (CanEnd (guest_of_script guest.now.scripted)
         guest.now.ranges.now)) }
 {
